@@ -1,0 +1,4 @@
+-- The laws of `words`, for its own proofs and for the crates above it.
+pub mod Lists
+pub mod Bytes
+pub mod Examples

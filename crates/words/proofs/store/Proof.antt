@@ -1,0 +1,84 @@
+-- `words::store` meets its contract: a turn puts the four bytes of one more word behind those of the words before it.
+use borrow.Author.Needs.{needs}
+use native.Mathlib.Omega.{arith}
+use Prim.Native.Nat.{_-_, _/_, _≤_, min}
+use mathlib.Core.Path.{_≡_, refl}
+use lib.ListN.{length, take}
+use lib.Seq.{sets}
+use Rattle.words.specs.Bytes.{bytesOf}
+use Rattle.words.proofs.Lists.{take-min}
+use Rattle.words.proofs.Bytes.{sets-bytesOf-turn}
+use Rattle.words.proofs.store.Statement.{statement}
+use Rattle.words.proofs.store.Tie as tie
+
+abbrev Inv-loop : tie.InvT-loop
+Inv-loop list bytes₀ count i₀ bytes i = (i ≤ count) × (bytes ≡ sets bytes₀ 0 (bytesOf (take i list))) × (length bytes ≡ length bytes₀)
+
+abbrev μ-loop : tie.MeasureT-loop
+μ-loop list bytes₀ count i₀ bytes i = count - i
+
+least-requires : tie.Need-least-requires Inv-loop μ-loop
+least-requires c κs = search needs
+
+loop-holds : tie.Need-loop-holds Inv-loop μ-loop
+unfolding bytesOf
+loop-holds c = (omega arith, refl, refl)
+
+mul-wide-word : tie.Need-mul-wide-word Inv-loop μ-loop
+mul-wide-word c = search needs
+
+shared-slice-read-wide-word : tie.Need-shared-slice-read-wide-word Inv-loop μ-loop
+shared-slice-read-wide-word c = search needs
+
+wide-word-requires : tie.Need-wide-word-requires Inv-loop μ-loop
+wide-word-requires c κs = search needs
+
+mul-put : tie.Need-mul-put Inv-loop μ-loop
+mul-put c = search needs
+
+put-requires : tie.Need-put-requires Inv-loop μ-loop
+put-requires c κs = search needs
+
+add-i : tie.Need-add-i Inv-loop μ-loop
+add-i c = search needs
+
+loop-less : tie.Need-loop-less Inv-loop μ-loop
+loop-less c = search needs
+
+loop-again : tie.Need-loop-again Inv-loop μ-loop
+loop-again c =
+    let put = c .before .before .put in
+    let at = c .before .before .before .before .before .before .before in
+    let args = at .before .before .before .before .args in
+    let turn = sets-bytesOf-turn (args .bytes .now) (args .list .now) (at .loop .i) (omega (arith, at)) in
+    let size : length (put .last .1 .1 .0) ≡ length (at .loop .bytes) = put .kept .1 .1 .0 in
+    (omega (arith, at), (cc), (cc))
+
+same-length : tie.Need-same-length Inv-loop μ-loop
+same-length c = search needs
+
+returns : tie.Need-returns Inv-loop μ-loop
+returns c =
+    let at = c .before in
+    let args = at .before .before .before .before .args in
+    let all : at .loop .i ≡ min (length (args .list .now)) (length (args .bytes .now) / 4) = omega arith in
+    cc (take-min (length (args .bytes .now) / 4) (args .list .now))
+
+pub store-spec : {M : Type 1} → statement M
+store-spec =
+    tie.close
+    (tie.spec
+    Inv-loop
+    μ-loop
+    least-requires
+    loop-holds
+    mul-wide-word
+    shared-slice-read-wide-word
+    wide-word-requires
+    mul-put
+    put-requires
+    add-i
+    loop-less
+    loop-again
+    same-length
+    returns)

@@ -1,0 +1,7 @@
+pub mod NumberLaws
+pub mod SheetLaws
+pub mod DecodeLoop
+pub mod PutLoop
+pub mod SheetLoops
+pub mod Promises
+pub mod Examples

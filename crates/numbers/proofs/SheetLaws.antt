@@ -1,0 +1,115 @@
+-- Laws of whole sheets: their sizes and ranges, and that reading and writing undo each other.
+use mathlib.Core.Path.{_≡_, refl, sym, ap, _∙_}
+use mathlib.Core.List.{List, [], _∷_, _++_}
+use Prim.Native.Nat.{ℕ, zero, suc, _+_, _*_, _^_, _≤_, _<_}
+use native.Mathlib.Omega.{arith}
+use lib.ListN.{length, getD, drop, length-append, length-drop}
+use lib.Seq.{drop-append-seam, getD-drop, drop-cons}
+use borrow.Author.Tests.{lt-ltb}
+use Rattle.words.specs.Lists.{AllBelow}
+use Rattle.words.proofs.Lists.{cons-below, drop-below, append-below}
+use Rattle.numbers.specs.Number.{Front, good, bad, number, form}
+use Rattle.numbers.specs.Sheet.{whole, Sheet, onto, sheetFrom, sheetOf, bytesOf, unlessTooLarge, fitted, written}
+use Rattle.numbers.specs.declared.Written.{Written}
+use Rattle.numbers.proofs.NumberLaws.{number-form, number-good, groups-below, 1≤length-form, length-form≤4}
+
+-- ---- the bytes of words
+
+-- From an index on: the word there, then the others.
+pub bytesOf-drop : (words : List ℕ) (index : ℕ) → index < length words
+    → bytesOf (drop index words) ≡ form (getD words index 0) ++ bytesOf (drop (suc index) words)
+unfolding bytesOf
+bytesOf-drop words index h = rw (drop-cons words index 0 h)
+
+pub length-bytesOf≤ : (words : List ℕ) → length (bytesOf words) ≤ 4 * length words
+unfolding bytesOf
+length-bytesOf≤ [] = omega arith
+length-bytesOf≤ (w ∷ words) = omega (arith, length-append (form w) (bytesOf words), length-form≤4 w, length-bytesOf≤ words)
+
+pub bytesOf-below : (words : List ℕ) → AllBelow (2 ^ 28) words → AllBelow 256 (bytesOf words)
+unfolding bytesOf
+bytesOf-below [] all i = omega arith
+bytesOf-below (w ∷ words) all i = append-below 256 (form w) (bytesOf words) (groups-below 4 w (all 0)) (bytesOf-below words (λ j. all (suc j))) i
+
+-- ---- the words of bytes
+
+pub sheetFrom-end : (fuel at : ℕ) → sheetFrom fuel at [] ≡ record { words = []; ending = whole }
+unfolding sheetFrom
+sheetFrom-end zero at = refl
+sheetFrom-end (suc fuel) at = refl
+
+-- Where there is a byte, a number stands first.
+pub sheetFrom-some : (fuel at : ℕ) (bytes : List ℕ) → 0 < length bytes
+    → sheetFrom (suc fuel) at bytes ≡ onto at (number bytes) (λ size. sheetFrom fuel (at + size) (drop size bytes))
+unfolding sheetFrom
+sheetFrom-some fuel at [] h = absurd (omega arith)
+sheetFrom-some fuel at (b ∷ bytes) h = refl
+
+-- ---- what was written is read back
+
+sheetFrom-bytesOf : (fuel at : ℕ) (words : List ℕ) → length (bytesOf words) ≤ fuel → AllBelow (2 ^ 28) words
+    → sheetFrom fuel at (bytesOf words) ≡ record { words = words; ending = whole }
+unfolding bytesOf
+sheetFrom-bytesOf fuel at [] h all = sheetFrom-end fuel at
+sheetFrom-bytesOf zero at (w ∷ words) h all = absurd (omega (arith, length-append (form w) (bytesOf words), 1≤length-form w))
+sheetFrom-bytesOf (suc fuel) at (w ∷ words) h all =
+    let l = length-append (form w) (bytesOf words) in
+    let p = 1≤length-form w in
+    sheetFrom-some fuel at (form w ++ bytesOf words) (omega arith)
+    ∙ rw (
+      number-form w (bytesOf words) (all 0),
+      drop-append-seam (form w) (bytesOf words),
+      sheetFrom-bytesOf fuel (at + length (form w)) words (omega arith) (λ i. all (suc i)),
+    )
+
+pub sheetOf-bytesOf : (words : List ℕ) → AllBelow (2 ^ 28) words → sheetOf (bytesOf words) ≡ record { words = words; ending = whole }
+sheetOf-bytesOf words all = sheetFrom-bytesOf (length (bytesOf words)) 0 words (omega arith) all
+
+-- ---- what was read is written as it was
+
+-- What the numbers of some bytes say of them.
+record Read (bytes : List ℕ) (sheet : Sheet) : Type 0 where
+  pub back : sheet .ending ≡ whole → bytesOf (sheet .words) ≡ bytes
+  pub below : AllBelow (2 ^ 28) (sheet .words)
+  pub few : length (sheet .words) ≤ length bytes
+
+read-from : (fuel at : ℕ) (bytes : List ℕ) → length bytes ≤ fuel → AllBelow 256 bytes → Read bytes (sheetFrom fuel at bytes)
+unfolding sheetFrom bytesOf
+read-from zero at [] h all = record { back = λ e. refl; below = λ i. omega arith; few = omega arith }
+read-from zero at (b ∷ bytes) h all = absurd (omega arith)
+read-from (suc fuel) at [] h all = record { back = λ e. refl; below = λ i. omega arith; few = omega arith }
+read-from (suc fuel) at (b ∷ bytes) h all =
+    go (number (b ∷ bytes)) refl
+    (λ n p. read-from fuel (at + n) (drop n (b ∷ bytes)) (omega (arith, length-drop n (b ∷ bytes))) (drop-below 256 (b ∷ bytes) n all))
+  where
+    go : (f : Front) → number (b ∷ bytes) ≡ f → ((n : ℕ) → 0 < n → Read (drop n (b ∷ bytes)) (sheetFrom fuel (at + n) (drop n (b ∷ bytes))))
+        → Read (b ∷ bytes) (onto at f (λ n. sheetFrom fuel (at + n) (drop n (b ∷ bytes))))
+    go (bad fault) e ih = record { back = λ d. (let z : _≡_ {A = ℕ} 0 1 = cc in absurd (omega arith)); below = λ i. omega arith; few = omega arith }
+    go (good value size) e ih =
+        let g = number-good (b ∷ bytes) value size all e in
+        let r = ih size (g .some) in
+        record {
+          back = λ d. rw (r .back d) (g .whole);
+          below = cons-below (2 ^ 28) value (sheetFrom fuel (at + size) (drop size (b ∷ bytes)) .words) (g .bound) (r .below);
+          few = omega (arith, r .few, g .within, g .some, length-drop size (b ∷ bytes));
+        }
+
+pub bytesOf-sheetOf : (bytes : List ℕ) → AllBelow 256 bytes → sheetOf bytes .ending ≡ whole → bytesOf (sheetOf bytes .words) ≡ bytes
+bytesOf-sheetOf bytes all = read-from (length bytes) 0 bytes (omega arith) all .back
+
+pub words-below : (bytes : List ℕ) → AllBelow 256 bytes → AllBelow (2 ^ 28) (sheetOf bytes .words)
+words-below bytes all = read-from (length bytes) 0 bytes (omega arith) all .below
+
+pub length-words≤ : (bytes : List ℕ) → AllBelow 256 bytes → length (sheetOf bytes .words) ≤ length bytes
+length-words≤ bytes all = read-from (length bytes) 0 bytes (omega arith) all .few
+
+-- ---- the answer on words that all have forms
+
+unlessTooLarge-forms : (index : ℕ) (words : List ℕ) (other : Written) → AllBelow (2 ^ 28) words → unlessTooLarge index words other ≡ other
+unfolding unlessTooLarge
+unlessTooLarge-forms index [] other h = refl
+unlessTooLarge-forms index (w ∷ words) other h = rw (lt-ltb w (2 ^ 28) (h 0)) (unlessTooLarge-forms (suc index) words other (λ i. h (suc i)))
+
+-- Words that all have forms are written where there is room.
+pub written-forms : (words : List ℕ) (room : ℕ) → AllBelow (2 ^ 28) words → written words room ≡ fitted (length (bytesOf words)) room
+written-forms words room h = unlessTooLarge-forms 0 words (fitted (length (bytesOf words)) room) h

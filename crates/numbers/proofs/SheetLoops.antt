@@ -1,0 +1,204 @@
+-- The loops over a whole sheet: of `decode_sheet`, of `put_all` and of `encode_sheet`.
+use mathlib.Core.Path.{_≡_, refl, sym, ap, _∙_}
+use mathlib.Core.Bool.{Bool, true, false}
+use mathlib.Core.List.{List, []}
+use Prim.Native.Nat.{ℕ, zero, suc, _+_, _-_, _*_, _^_, _≤_, _<_}
+use native.Mathlib.Omega.{arith}
+use native.Mathlib.Numerals.{add-one}
+use lib.ListN.{length, getD, drop, set, length-append, length-drop, length-set, drop-of-length-le, List·getD-eq-default}
+use lib.Seq.{sets, length-sets, drop-cons, drop-drop}
+use lib.Dec.{ltb}
+use borrow.Author.Count.{below-more}
+use borrow.Author.Tests.{lt-ltb, le-ltb, le-leb, lt-leb, ltb-true, ltb-false}
+use Rattle.numbers.specs.Number.{Front, good, bad, number, decoded, form}
+use Rattle.numbers.specs.Sheet.{whole, onto, sheetFrom, sheetOf, answer, judged, bytesOf, unlessTooLarge, fitted, written}
+use Rattle.words.specs.Lists.{AllBelow}
+use Rattle.numbers.specs.declared.Fault.{Fault}
+use Rattle.numbers.specs.declared.Decoded.the-variants.{Number, Refused}
+use Rattle.numbers.specs.declared.Judged.the-variants.{Words, Refused as Turned}
+use Rattle.numbers.specs.declared.Written.{Written}
+use Rattle.numbers.specs.declared.Written.the-variants.{Bytes, TooLarge, TooShort}
+use Rattle.numbers.proofs.NumberLaws.{Good, number-good, length-form≤4}
+use Rattle.words.proofs.Lists.{drop-below, sets-append}
+use Rattle.numbers.proofs.SheetLaws.{sheetFrom-end, sheetFrom-some, bytesOf-drop}
+
+-- ---- `decode_sheet`: the numbers in front of `at` are stored; those from there on complete the answer and the list
+
+-- What an answer of `decode` says of the bytes.
+decoded-good : (at value next : ℕ) (f : Front) → Number value next ≡ decoded at f → (f ≡ good value (next - at)) × (at ≤ next)
+decoded-good at value next (good v size) e =
+    let ev : value ≡ v = cc in
+    let en : next ≡ at + size = cc in
+    let d : size ≡ next - at = omega arith in
+    (rw (ev, d), omega arith)
+decoded-good at value next (bad fault) e = let z : _≡_ {A = ℕ} 0 1 = cc in absurd (omega arith)
+
+decoded-bad : (at : ℕ) (fault : Fault) (place : ℕ) (f : Front) → Refused fault place ≡ decoded at f → (f ≡ bad fault) × (place ≡ at)
+decoded-bad at fault place (good v size) e = let z : _≡_ {A = ℕ} 0 1 = cc in absurd (omega arith)
+decoded-bad at fault place (bad g) e = let eg : fault ≡ g = cc in (rw eg, cc)
+
+pub record Reading (sheet words₀ words : List ℕ) (at count : ℕ) : Type 0 where
+  pub bytes : AllBelow 256 sheet
+  pub fuel : ℕ
+  pub enough : length sheet ≤ at + fuel
+  pub within : at ≤ length sheet
+  pub counted : count ≤ at
+  pub size : length words ≡ length words₀
+  pub answered : answer (count + length (sheetFrom fuel at (drop at sheet) .words)) (sheetFrom fuel at (drop at sheet) .ending) ≡ judged (sheetOf sheet)
+  pub stored : sets words count (sheetFrom fuel at (drop at sheet) .words) ≡ sets words₀ 0 (sheetOf sheet .words)
+
+pub reading-begin : (sheet words : List ℕ) → AllBelow 256 sheet → Reading sheet words words 0 0
+reading-begin sheet words all =
+    record {
+      bytes = all;
+      fuel = length sheet;
+      enough = omega arith;
+      within = omega arith;
+      counted = omega arith;
+      size = refl;
+      answered = ap (λ (n : ℕ). answer n (sheetOf sheet .ending)) (omega arith);
+      stored = refl;
+    }
+
+module _ (sheet words₀ words : List ℕ) (at count : ℕ) (inv : Reading sheet words₀ words at count) where
+  pub reading-end : length sheet ≤ at → (Words count ≡ judged (sheetOf sheet)) × (words ≡ sets words₀ 0 (sheetOf sheet .words))
+  reading-end h =
+      let e : sheetFrom (inv .fuel) at (drop at sheet) ≡ record { words = []; ending = whole } = rw (drop-of-length-le sheet h) (sheetFrom-end (inv .fuel) at) in
+      (ap Words (omega arith) ∙ (rw e at (inv .answered)), rw e at (inv .stored))
+
+  module _ (h : at < length sheet) where
+    -- What the bytes from `at` on hold is what stands there, and then what follows that. There is fuel for it.
+    rest : (f : Front) → number (drop at sheet) ≡ f → (fuel : ℕ) → length sheet ≤ at + fuel
+        → sheetFrom fuel at (drop at sheet) ≡ onto at f (λ size. sheetFrom (fuel - 1) (at + size) (drop (at + size) sheet))
+    rest f e zero enough = absurd (omega arith)
+    rest f e (suc fuel) enough =
+        let l : suc fuel - 1 ≡ fuel = omega arith in
+        rw (← e, l) (sheetFrom-some fuel at (drop at sheet) (omega (arith, length-drop at sheet)) ∙ simp drop-drop)
+
+    pub reading-stop : (fault : Fault) (place : ℕ) → Refused fault place ≡ decoded at (number (drop at sheet))
+        → (Turned fault place ≡ judged (sheetOf sheet)) × (words ≡ sets words₀ 0 (sheetOf sheet .words))
+    reading-stop fault place d =
+        let b = decoded-bad at fault place (number (drop at sheet)) d in
+        let e = rest (bad fault) (b .0) (inv .fuel) (inv .enough) in
+        (ap (Turned fault) (b .1) ∙ (rw e at (inv .answered)), rw e at (inv .stored))
+
+    module _ (value next : ℕ) (d : Number value next ≡ decoded at (number (drop at sheet))) where
+      is-good : Good 4 (drop at sheet) value (next - at)
+      is-good = number-good (drop at sheet) value (next - at) (drop-below 256 sheet at (inv .bytes)) (decoded-good at value next (number (drop at sheet)) d .0)
+
+      pub reading-falls : length sheet - next < length sheet - at
+      reading-falls = omega (arith, is-good .some)
+
+      pub reading-again : (words′ : List ℕ) → words′ ≡ set words count value → Reading sheet words₀ words′ next (count + 1)
+      reading-again words′ w =
+          let b = decoded-good at value next (number (drop at sheet)) d in
+          let n : at + (next - at) ≡ next = omega arith in
+          let e = rw n at (rest (good value (next - at)) (b .0) (inv .fuel) (inv .enough)) in
+          let after = sheetFrom (inv .fuel - 1) next (drop next sheet) in
+          let k : count + 1 + length (after .words) ≡ count + suc (length (after .words)) = omega arith in
+          rw w
+          (record {
+            bytes = inv .bytes;
+            fuel = inv .fuel - 1;
+            enough = omega (arith, inv .enough, is-good .some);
+            within = omega (arith, is-good .within, length-drop at sheet);
+            counted = omega (arith, inv .counted, is-good .some);
+            size = rw length-set (inv .size);
+            answered = rw k (rw e at (inv .answered));
+            stored = rw add-one (rw e at (inv .stored));
+          })
+
+-- ---- `put_all`: the words in front of `index` are written; those from there on complete the sheet
+
+pub record Writing (words sheet₀ sheet : List ℕ) (index at : ℕ) : Type 0 where
+  pub within : index ≤ length words
+  pub end : at + length (bytesOf (drop index words)) ≡ length (bytesOf words)
+  pub size : length sheet ≡ length sheet₀
+  pub same : sets sheet at (bytesOf (drop index words)) ≡ sets sheet₀ 0 (bytesOf words)
+
+pub writing-begin : (words sheet : List ℕ) → Writing words sheet sheet 0 0
+writing-begin words sheet = record { within = omega arith; end = omega arith; size = refl; same = refl }
+
+-- The length of the words' bytes from an index on.
+length-bytesOf-drop : (words : List ℕ) (index : ℕ) → index < length words
+    → length (bytesOf (drop index words)) ≡ length (form (getD words index 0)) + length (bytesOf (drop (suc index) words))
+length-bytesOf-drop words index h = rw (bytesOf-drop words index h) (length-append (form (getD words index 0)) (bytesOf (drop (suc index) words)))
+
+module _ (words sheet₀ sheet : List ℕ) (index at : ℕ) (inv : Writing words sheet₀ sheet index at) where
+  pub writing-end : length words ≤ index → sheet ≡ sets sheet₀ 0 (bytesOf words)
+  unfolding bytesOf
+  writing-end h = rw (drop-of-length-le words h) at (inv .same)
+
+  module _ (h : index < length words) where
+    pub writing-fits : length (bytesOf words) ≤ length sheet₀ → at + length (form (getD words index 0)) ≤ length sheet
+    writing-fits f = omega (arith, inv .end, inv .size, length-bytesOf-drop words index h)
+
+    pub writing-again : (sheet′ : List ℕ) (at′ : ℕ) → at′ ≡ at + length (form (getD words index 0))
+        → sheet′ ≡ sets sheet at (form (getD words index 0))
+        → Writing words sheet₀ sheet′ (index + 1) at′
+    writing-again sheet′ at′ a s =
+        rw (a, s, add-one)
+        (record {
+          within = h;
+          end = omega (arith, inv .end, length-bytesOf-drop words index h);
+          size = length-sets sheet at (form (getD words index 0)) ∙ inv .size;
+          same = sym (sets-append sheet at (form (getD words index 0)) (bytesOf (drop (suc index) words))) ∙ (rw (bytesOf-drop words index h) at (inv .same));
+        })
+
+-- ---- `encode_sheet`: the words in front of `index` have forms, of `needed` bytes
+
+pub record Sizing (words : List ℕ) (needed index : ℕ) : Type 0 where
+  pub within : index ≤ length words
+  pub small : needed ≤ 4 * index
+  pub total : needed + length (bytesOf (drop index words)) ≡ length (bytesOf words)
+  pub forms : (i : ℕ) → i < index → getD words i 0 < 2 ^ 28
+  pub same : (other : Written) → unlessTooLarge index (drop index words) other ≡ unlessTooLarge 0 words other
+
+pub sizing-begin : (words : List ℕ) → Sizing words 0 0
+sizing-begin words = record { within = omega arith; small = omega arith; total = omega arith; forms = λ i l. absurd (omega arith); same = λ other. refl }
+
+module _ (words : List ℕ) (needed index : ℕ) (inv : Sizing words needed index) where
+  pub sizing-again : (size : ℕ) → index < length words → getD words index 0 < 2 ^ 28 → size ≡ length (form (getD words index 0))
+      → Sizing words (needed + size) (index + 1)
+  unfolding unlessTooLarge
+  sizing-again size h w e =
+      record {
+        within = omega arith;
+        small = omega (arith, inv .small, length-form≤4 (getD words index 0));
+        total = rw add-one (omega (arith, inv .total, length-bytesOf-drop words index h));
+        forms = below-more _ index (inv .forms) w;
+        same = λ other. rw add-one (rw (drop-cons words index 0 h, lt-ltb (getD words index 0) (2 ^ 28) w) at (inv .same other));
+      }
+
+  pub sizing-stop : index < length words → 2 ^ 28 ≤ getD words index 0 → (room : ℕ) → TooLarge index ≡ written words room
+  unfolding unlessTooLarge
+  sizing-stop h w room = rw (drop-cons words index 0 h, le-ltb (getD words index 0) (2 ^ 28) w) at (inv .same (fitted (length (bytesOf words)) room))
+
+  module _ (h : length words ≤ index) where
+    sizing-total : needed ≡ length (bytesOf words)
+    unfolding bytesOf
+    sizing-total = let t = rw (drop-of-length-le words h) at (inv .total) in omega arith
+
+    pub sizing-room : (room : ℕ) → needed ≤ room → length (bytesOf words) ≤ room
+    sizing-room room l = omega (arith, sizing-total)
+
+    pub sizing-forms : AllBelow (2 ^ 28) words
+    sizing-forms i = go (ltb i (length words)) refl
+      where
+        go : (t : Bool) → ltb i (length words) ≡ t → getD words i 0 < 2 ^ 28
+        go true e = inv .forms i (omega (arith, ltb-true i (length words) e))
+        go false e = rw (List·getD-eq-default words 0 (ltb-false i (length words) e)) (omega arith)
+
+    fitted-all : (room : ℕ) → fitted (length (bytesOf words)) room ≡ written words room
+    unfolding unlessTooLarge
+    fitted-all room = rw (drop-of-length-le words h) at (inv .same (fitted (length (bytesOf words)) room))
+
+    pub sizing-short : (room : ℕ) → room < needed → TooShort needed ≡ written words room
+    sizing-short room l =
+        let f : TooShort needed ≡ fitted (length (bytesOf words)) room = rw (← sizing-total, lt-leb needed room l) in
+        f ∙ fitted-all room
+
+    pub sizing-fits : (room : ℕ) → needed ≤ room → Bytes needed ≡ written words room
+    sizing-fits room l =
+        let f : Bytes needed ≡ fitted (length (bytesOf words)) room = rw (← sizing-total, le-leb needed room l) in
+        f ∙ fitted-all room

@@ -1,0 +1,77 @@
+-- `decode_sheet` meets its contract: the numbers that are still to be read complete the answer and the list at every turn (`Reading`).
+use borrow.Author.Needs.{needs}
+use mathlib.Core.Path.{sym, _∙_}
+use Prim.Native.Nat.{_-_}
+use lib.ListN.{length}
+use Rattle.numbers.proofs.SheetLoops.{Reading, reading-begin, reading-end, reading-stop, reading-falls, reading-again}
+use Rattle.numbers.proofs.decode_sheet.Statement.{statement}
+use Rattle.numbers.proofs.decode_sheet.Tie as tie
+
+abbrev Inv-loop : tie.InvT-loop
+Inv-loop sheet words₀ at₀ count₀ words at count = Reading sheet words₀ words at count
+
+abbrev μ-loop : tie.MeasureT-loop
+μ-loop sheet words₀ at₀ count₀ words at count = length sheet - at
+
+loop-holds : tie.Need-loop-holds Inv-loop μ-loop
+loop-holds c = reading-begin _ _ (λ i. c .before .shared-slice-known .given i .fits)
+
+decode-requires : tie.Need-decode-requires Inv-loop μ-loop
+decode-requires c κs = search needs
+
+enum-known-value : tie.Need-enum-known-value Inv-loop μ-loop
+enum-known-value c = search needs
+
+store-requires : tie.Need-store-requires Inv-loop μ-loop
+store-requires c κs = search needs
+
+add-count : tie.Need-add-count Inv-loop μ-loop
+add-count c = search needs
+
+loop-less : tie.Need-loop-less Inv-loop μ-loop
+loop-less c =
+    let got = c .before .before .before .before .before in
+    let turn = got .before .before .before .before .loop in
+    reading-falls _ _ _ _ _ (turn .inv) (search needs) _ _ (sym (got .value .given .1) ∙ got .before .before .decode .ensures)
+
+loop-again : tie.Need-loop-again Inv-loop μ-loop
+loop-again c =
+    let got = c .before .before .before .before .before in
+    let turn = got .before .before .before .before .loop in
+    reading-again _ _ _ _ _ (turn .inv) (search needs) _ _ (sym (got .value .given .1) ∙ got .before .before .decode .ensures) _ (c .before .before .store .ensures)
+
+enum-known-fault : tie.Need-enum-known-fault Inv-loop μ-loop
+enum-known-fault c = search needs
+
+same-length : tie.Need-same-length Inv-loop μ-loop
+same-length c = search needs
+
+returns : tie.Need-returns Inv-loop μ-loop
+returns c =
+    let turn = c .before .before .before .before .before .loop in
+    reading-stop _ _ _ _ _ (turn .inv) (search needs) _ _ (sym (c .before .fault .given .1) ∙ c .before .before .before .decode .ensures)
+
+same-length-2 : tie.Need-same-length-2 Inv-loop μ-loop
+same-length-2 c = search needs
+
+returns-2 : tie.Need-returns-2 Inv-loop μ-loop
+returns-2 c = reading-end _ _ _ _ _ (c .before .loop .inv) (search needs)
+
+pub decode-sheet-spec : {M : Type 1} → statement M
+decode-sheet-spec =
+    tie.close
+    (tie.spec
+    Inv-loop
+    μ-loop
+    loop-holds
+    decode-requires
+    enum-known-value
+    store-requires
+    add-count
+    loop-less
+    loop-again
+    enum-known-fault
+    same-length
+    returns
+    same-length-2
+    returns-2)

@@ -1,0 +1,81 @@
+-- Numbers on the sheet (document 01): one to four bytes. Each byte carries seven bits, lowest group first; its top bit is
+-- set on every byte but the last. Only the shortest form is good.
+use mathlib.Core.Bool.{Bool, cond}
+use mathlib.Core.List.{List, [], _∷_}
+use Prim.Native.Nat.{ℕ, zero, suc, _+_, _-_, _*_, _/_, _%_, _^_}
+use lib.ListN.{length}
+use lib.Seq.{sets}
+use lib.Dec.{ltb, leb, eqb}
+use Rattle.numbers.specs.declared.Fault.{Fault}
+use Rattle.numbers.specs.declared.Fault.the-variants.{TooLong, NotShortest, CutShort}
+use Rattle.numbers.specs.declared.Decoded.{Decoded}
+use Rattle.numbers.specs.declared.Decoded.the-variants.{Number, Refused}
+use Rattle.numbers.specs.declared.Encoded.{Encoded}
+use Rattle.numbers.specs.declared.Encoded.the-variants.{Next, TooLarge, TooShort}
+
+-- The refusal's number.
+abbrev pub faultNumber : Fault → ℕ
+faultNumber TooLong = 1
+faultNumber NotShortest = 2
+faultNumber CutShort = 3
+
+-- ---- reading
+
+-- What stands at the front of some bytes: a number, with the count of its bytes, or why there is none.
+pub data Front : Type 0 where
+  good : ℕ → ℕ → Front
+  bad : Fault → Front
+
+-- A byte that carries `low` and has its top bit set, in front of the rest of its number.
+abbrev pub above : ℕ → Front → Front
+above low (good value size) = good (low + 128 * value) (suc size)
+above low (bad fault) = bad fault
+
+-- The rest of a number, after its first byte: at most `left` bytes.
+unfoldable pub later : ℕ → List ℕ → Front
+later zero bytes = bad TooLong
+later (suc left) [] = bad CutShort
+later (suc left) (b ∷ bytes) =
+    cond (eqb b 0) (bad NotShortest)
+    (cond (ltb b 128) (good b 1)
+    (above (b - 128) (later left bytes)))
+
+-- The number at the front of some bytes.
+unfoldable pub number : List ℕ → Front
+number [] = bad CutShort
+number (b ∷ bytes) =
+    cond (ltb b 128) (good b 1)
+    (above (b - 128) (later 3 bytes))
+
+-- A number that starts at a place, with the place after it, or its refusal, whose place is where the number starts.
+abbrev pub decoded : ℕ → Front → Decoded
+decoded at (good value size) = Number value (at + size)
+decoded at (bad fault) = Refused fault at
+
+-- ---- writing
+
+-- A value's groups of seven bits as bytes, in at most `left` of them.
+unfoldable pub groups : ℕ → ℕ → List ℕ
+groups zero value = []
+groups (suc left) value = cond (ltb value 128) (value ∷ []) ((128 + value % 128) ∷ groups left (value / 128))
+
+-- The shortest form of a number, the only good one.
+abbrev pub form : ℕ → List ℕ
+form value = groups 4 value
+
+-- A value has a form if four groups of seven bits carry it.
+abbrev pub hasForm : ℕ → Bool
+hasForm value = ltb value (2 ^ 28)
+
+-- What becomes of a number that is to stand at a place of a sheet of `room` bytes.
+unfoldable pub encoded : ℕ → ℕ → ℕ → Encoded
+encoded value room at =
+    cond (hasForm value)
+    (cond (leb (at + length (form value)) room) (Next (at + length (form value))) TooShort)
+    TooLarge
+
+-- The sheet after that answer: a number that was not written left it unchanged.
+abbrev pub afterEncode : Encoded → ℕ → List ℕ → ℕ → List ℕ
+afterEncode (Next next) value sheet at = sets sheet at (form value)
+afterEncode TooLarge value sheet at = sheet
+afterEncode TooShort value sheet at = sheet

@@ -1,0 +1,203 @@
+// The number form of the sheet: whole numbers below 2^28 in one to four bytes of seven bits each.
+// The definitions that the contracts cite stand in specs/Number.antt and specs/Sheet.antt.
+ghost use mathlib.Core.Path.{_≡_};
+ghost use Prim.Native.Nat.{_+_, _^_, _<_, _≤_};
+ghost use lib.ListN.{length, drop, set};
+ghost use lib.Seq.{sets};
+ghost use Rattle.numbers.specs.Number.{number, decoded, form, encoded, afterEncode};
+ghost use Rattle.numbers.specs.Sheet.{sheetOf, judged, bytesOf, written, afterEncodeSheet};
+ghost use Rattle.words.specs.Lists.{AllBelow};
+
+// Why bytes are no number: four bytes that all say another follows; a last byte of 0 after others; the bytes end inside.
+pub enum Fault {
+    TooLong,
+    NotShortest,
+    CutShort,
+}
+
+// A number and the place after it, or its fault and the place where it starts.
+pub enum Decoded {
+    Number(u32, usize),
+    Refused(Fault, usize),
+}
+
+// What became of a number to be written: the place after it, or why nothing was written.
+pub enum Encoded {
+    Next(usize),
+    TooLarge,
+    TooShort,
+}
+
+// How many numbers a sheet has, or the first fault in it and the place where that number starts.
+pub enum Judged {
+    Words(usize),
+    Refused(Fault, usize),
+}
+
+// What became of words to be written: the count of bytes written, the index of the first word that has no form, or the
+// count of bytes needed.
+pub enum Written {
+    Bytes(usize),
+    TooLarge(usize),
+    TooShort(usize),
+}
+
+// The first value that has no form: 2^28.
+const FORM_LIMIT: u32 = 268435456;
+
+// A byte as a number that sums and products fit.
+fn wide(byte: u8) -> u32
+    ensures { λ r. ⌜ (r ≡ byte) × (r < 256) ⌝ }
+{
+    byte as u32
+}
+
+// The number that starts at a place of the sheet.
+pub fn decode(sheet: &[u8], at: usize) -> Decoded
+    ensures { λ r. ⌜ r ≡ decoded at (number (drop at (now (sheet .entry)))) ⌝ }
+{
+    if sheet.len() <= at {
+        return Decoded::Refused(Fault::CutShort, at);
+    }
+    let first = wide(sheet[at]);
+    if first < 128 {
+        return Decoded::Number(first, at + 1);
+    }
+    let mut value: u32 = first - 128;
+    let mut unit: u32 = 128;
+    let mut next = at + 1;
+    let mut left: u32 = 3;
+    while 0 < left {
+        if sheet.len() <= next {
+            return Decoded::Refused(Fault::CutShort, at);
+        }
+        let byte = wide(sheet[next]);
+        if byte == 0 {
+            return Decoded::Refused(Fault::NotShortest, at);
+        }
+        if byte < 128 {
+            return Decoded::Number(value + unit * byte, next + 1);
+        }
+        value += unit * (byte - 128);
+        unit *= 128;
+        next += 1;
+        left -= 1;
+    }
+    Decoded::Refused(Fault::TooLong, at)
+}
+
+// The count of bytes in a number's form.
+fn size(value: u32) -> usize
+    ensures { λ r. ⌜ r ≡ length (form value) ⌝ }
+{
+    if value < 128 {
+        1
+    } else if value < 16384 {
+        2
+    } else if value < 2097152 {
+        3
+    } else {
+        4
+    }
+}
+
+// Writes a number where it has a form and there is room for it, and gives the place after it.
+fn put(value: u32, sheet: &mut [u8], at: usize) -> usize
+    requires { ⌜ value < 2 ^ 28 ⌝ }
+    requires { ⌜ at + length (form value) ≤ length (now sheet) ⌝ }
+    ensures { λ r. ⌜ r ≡ at + length (form value) ⌝ }
+    ensures { λ r. ⌜ now (sheet .exit) ≡ sets (now (sheet .entry)) at (form value) ⌝ }
+{
+    let mut rest = value;
+    let mut next = at;
+    while 128 <= rest {
+        sheet[next] = (128 + rest % 128) as u8;
+        rest /= 128;
+        next += 1;
+    }
+    sheet[next] = rest as u8;
+    next + 1
+}
+
+// Writes a number in its form from a place of the sheet on. Refused, it leaves the sheet unchanged.
+pub fn encode(value: u32, sheet: &mut [u8], at: usize) -> Encoded
+    ensures { λ r. ⌜ r ≡ encoded value (length (now (sheet .entry))) at ⌝ }
+    ensures { λ r. ⌜ now (sheet .exit) ≡ afterEncode r value (now (sheet .entry)) at ⌝ }
+{
+    if FORM_LIMIT <= value {
+        return Encoded::TooLarge;
+    }
+    let room = sheet.len();
+    if room < at {
+        return Encoded::TooShort;
+    }
+    if room - at < size(value) {
+        return Encoded::TooShort;
+    }
+    Encoded::Next(put(value, sheet, at))
+}
+
+// Stores a word at an index of a list, if the list has it.
+fn store(words: &mut [u32], index: usize, word: u32)
+    ensures { λ r. ⌜ now (words .exit) ≡ set (now (words .entry)) index word ⌝ }
+{
+    if index < words.len() {
+        words[index] = word;
+    }
+}
+
+// Reads a sheet to its end or its first fault. The numbers go to the front of `words`, as many as it has room for.
+pub fn decode_sheet(sheet: &[u8], words: &mut [u32]) -> Judged
+    ensures { λ r. ⌜ r ≡ judged (sheetOf (now (sheet .entry))) ⌝ }
+    ensures { λ r. ⌜ now (words .exit) ≡ sets (now (words .entry)) 0 (sheetOf (now (sheet .entry)) .words) ⌝ }
+{
+    let mut at = 0;
+    let mut count = 0;
+    while at < sheet.len() {
+        match decode(sheet, at) {
+            Decoded::Number(value, next) => {
+                store(words, count, value);
+                count += 1;
+                at = next;
+            }
+            Decoded::Refused(fault, place) => return Judged::Refused(fault, place),
+        }
+    }
+    Judged::Words(count)
+}
+
+// Writes words that all have forms to the front of a sheet that has room for them.
+fn put_all(words: &[u32], sheet: &mut [u8])
+    requires { ⌜ AllBelow (2 ^ 28) (now words) ⌝ }
+    requires { ⌜ length (bytesOf (now words)) ≤ length (now sheet) ⌝ }
+    ensures { λ r. ⌜ now (sheet .exit) ≡ sets (now (sheet .entry)) 0 (bytesOf (now (words .entry))) ⌝ }
+{
+    let mut index = 0;
+    let mut at = 0;
+    while index < words.len() {
+        at = put(words[index], sheet, at);
+        index += 1;
+    }
+}
+
+// Writes words as numbers to the front of a sheet. Refused, it leaves the sheet unchanged.
+pub fn encode_sheet(words: &[u32], sheet: &mut [u8]) -> Written
+    ensures { λ r. ⌜ r ≡ written (now (words .entry)) (length (now (sheet .entry))) ⌝ }
+    ensures { λ r. ⌜ now (sheet .exit) ≡ afterEncodeSheet r (now (words .entry)) (now (sheet .entry)) ⌝ }
+{
+    let mut needed = 0;
+    let mut index = 0;
+    while index < words.len() {
+        let word = words[index];
+        if FORM_LIMIT <= word {
+            return Written::TooLarge(index);
+        }
+        needed += size(word);
+        index += 1;
+    }
+    if sheet.len() < needed {
+        return Written::TooShort(needed);
+    }
+    put_all(words, sheet);
+    Written::Bytes(needed)
+}

@@ -1,0 +1,182 @@
+-- Laws of figures credited to nodes: each credit counts once in the sum of all figures, and once at every node that it hangs beneath.
+use mathlib.Core.Path.{_≡_, refl, sym, ap, ap₂, _∙_}
+use mathlib.Core.Bool.{Bool, true, false, _||_}
+use mathlib.Core.List.{List, [], _∷_}
+use Prim.Native.Nat.{ℕ, zero, suc, _+_, _-_, _≤_, _<_}
+use native.Mathlib.Omega.{arith}
+use lib.ListN.{length, getD, set, replicate, length-set}
+use lib.Seq.{getD-set-same, getD-set-other}
+use lib.Dec.{eqb, eqb·zero-suc, eqb·suc-suc}
+use borrow.Author.Tests.{eqb-true, eqb-false, eq-eqb, ne-eqb}
+use Rattle.rooms.specs.Sums.{on, sum}
+use Rattle.rooms.specs.Part.{total}
+use Rattle.rooms.specs.Table.{Cord, Server}
+use Rattle.rooms.specs.Limits.{low, beneath, serverLows, lows}
+use Rattle.rooms.specs.Credits.{figures, sumBeneath, credited, creditedCords, creditedServers}
+use Rattle.rooms.proofs.Sums.{on-yes, on-no, sum-cong, sum-add, sum-le, sum-one, sum-zero}
+use Rattle.rooms.proofs.Trees.{kids, kids-cong, own, below, below-step, under, under-is}
+use Rattle.rooms.proofs.All.{All}
+use Rattle.rooms.proofs.Rows.{CordHangs, ServerHangs}
+
+on-most : (t : Bool) (a : ℕ) → on t a ≤ a
+on-most true a = omega arith
+on-most false a = omega arith
+
+on-add-on : (t s : Bool) (a b : ℕ) → on t (a + on s b) ≡ on t a + on s (on t b)
+on-add-on true s a b = refl
+on-add-on false true a b = refl
+on-add-on false false a b = refl
+
+eqb-sym : (m n : ℕ) → eqb m n ≡ eqb n m
+eqb-sym m n = go (eqb m n) refl
+  where
+    go : (t : Bool) → eqb m n ≡ t → eqb m n ≡ eqb n m
+    go true e = e ∙ sym (eq-eqb n m (sym (eqb-true m n e)))
+    go false e = e ∙ sym (ne-eqb n m (λ q. eqb-false m n e (sym q)))
+
+-- ---- One credit
+
+pub credited-none : (node figure : ℕ) (l : List ℕ) → node ≡ 0 → l ≡ credited node figure l
+unfolding credited
+credited-none zero figure l e = refl
+credited-none (suc m) figure l e = absurd (omega arith)
+
+pub credited-some : (node figure : ℕ) (l : List ℕ) → (node ≡ 0 → ⊥) → set l (node - 1) (getD l (node - 1) 0 + figure) ≡ credited node figure l
+unfolding credited
+credited-some zero figure l e = absurd (e refl)
+credited-some (suc m) figure l e = let q : suc m - 1 ≡ m = omega arith in rw q
+
+pub credited-length : (node figure : ℕ) (l : List ℕ) → length (credited node figure l) ≡ length l
+unfolding credited
+credited-length zero figure l = refl
+credited-length (suc m) figure l = length-set l m (getD l m 0 + figure)
+
+pub credited-at : (node figure : ℕ) (l : List ℕ) (i : ℕ) → node ≤ length l → getD (credited node figure l) i 0 ≡ getD l i 0 + on (eqb node (suc i)) figure
+unfolding credited
+credited-at zero figure l i h = omega (arith, on-no (eqb 0 (suc i)) figure (eqb·zero-suc i))
+credited-at (suc m) figure l i h = go (eqb m i) refl
+  where
+    go : (t : Bool) → eqb m i ≡ t → getD (set l m (getD l m 0 + figure)) i 0 ≡ getD l i 0 + on (eqb (suc m) (suc i)) figure
+    go true e =
+        let q : m ≡ i = eqb-true m i e in
+        let o = on-yes (eqb (suc m) (suc i)) figure (eqb·suc-suc m i ∙ e) in
+        omega (
+          arith,
+          getD-set-same l m (getD l m 0 + figure) 0 (omega arith),
+          ap (λ (x : ℕ). getD (set l m (getD l m 0 + figure)) x 0) q,
+          ap (λ (x : ℕ). getD l x 0) q,
+        )
+    go false e =
+        let o = on-no (eqb (suc m) (suc i)) figure (eqb·suc-suc m i ∙ e) in
+        omega (arith, getD-set-other l m i (getD l m 0 + figure) 0 (λ q. eqb-false m i e (sym q)))
+
+-- The same with the node by its place.
+placed : (m figure : ℕ) (l : List ℕ) (i : ℕ) → m < length l → getD (credited (suc m) figure l) i 0 ≡ getD l i 0 + on (eqb m i) figure
+placed m figure l i h = credited-at (suc m) figure l i h ∙ ap (λ (t : Bool). getD l i 0 + on t figure) (eqb·suc-suc m i)
+
+-- ---- The sum of all figures
+
+pub figure-in-sum : (count i : ℕ) (l : List ℕ) → i < count → getD l i 0 ≤ sum count (figures l)
+figure-in-sum count i l h =
+    omega (
+      arith,
+      sum-one count i (figures l) h,
+      sum-le count (λ m. on (eqb i m) (figures l m)) (figures l) (λ m r. on-most (eqb i m) (figures l m)),
+    )
+
+-- A list of zeros has 0 at every place, also past its end.
+pub zeros-at : (n i : ℕ) → _≡_ {A = ℕ} (getD (replicate n 0) i 0) 0
+zeros-at zero i = refl
+zeros-at (suc n) zero = refl
+zeros-at (suc n) (suc i) = zeros-at n i
+
+pub sum-zeros : (count : ℕ) (l : List ℕ) → ((i : ℕ) → getD l i 0 ≡ 0) → sum count (figures l) ≡ 0
+sum-zeros count l z = sum-cong count (figures l) (λ i. 0) (λ i g. z i) ∙ sum-zero count
+
+pub sum-credited : (count node figure : ℕ) (l : List ℕ) → 1 ≤ node → node ≤ count → count ≤ length l
+    → sum count (figures (credited node figure l)) ≡ sum count (figures l) + figure
+sum-credited count zero figure l one h k = absurd (omega arith)
+sum-credited count (suc m) figure l one h k =
+    sum-cong count _ _ (λ i r. placed m figure l i (omega arith))
+    ∙ sum-add count (figures l) (λ i. on (eqb m i) figure)
+    ∙ ap (λ (x : ℕ). sum count (figures l) + x) (sum-one count m (λ i. figure) h)
+
+-- ---- The sum beneath a node
+
+pub sumBeneath-most : (count : ℕ) (parent figure : ℕ → ℕ) (n : ℕ) → sumBeneath parent count figure n ≤ sum count figure
+unfolding sumBeneath
+sumBeneath-most count parent figure n = sum-le count _ _ (λ m l. on-most (beneath parent count n (suc m)) (figure m))
+
+pub sumBeneath-zero : (count : ℕ) (parent figure : ℕ → ℕ) (n : ℕ) → ((i : ℕ) → figure i ≡ 0) → sumBeneath parent count figure n ≡ 0
+sumBeneath-zero count parent figure n z =
+    omega (arith, sumBeneath-most count parent figure n, sum-cong count figure (λ i. 0) (λ i g. z i), sum-zero count)
+
+-- A node's sum is its own figure and its children's sums.
+pub sumBeneath-step : (count : ℕ) (parent : ℕ → ℕ) → ((m : ℕ) → m < count → parent m ≤ m) → (figure : ℕ → ℕ) (n : ℕ) → n < count
+    → sumBeneath parent count figure n ≡ figure n + kids count parent n (sumBeneath parent count figure)
+unfolding sumBeneath under own
+sumBeneath-step count parent rises figure n l =
+    whole n
+    ∙ below-step count parent rises count suc (λ c h. h) n figure
+    ∙ ap₂ _+_
+    (sum-cong count _ _ (λ c h. ap (λ (t : Bool). on t (figure c)) (eqb·suc-suc c n ∙ eqb-sym c n)) ∙ sum-one count n figure l)
+    (kids-cong count parent n _ _ (λ m h e. sym (whole m)))
+  where
+    whole : (m : ℕ) → sumBeneath parent count figure m ≡ below count parent count suc m figure
+    whole m = under-is count parent rises count suc (λ c h. h) m figure
+
+-- What is credited to a node counts at every node that it hangs beneath.
+pub sumBeneath-credited : (count : ℕ) (parent : ℕ → ℕ) (node figure : ℕ) (l : List ℕ) (n : ℕ) → 1 ≤ node → node ≤ count → count ≤ length l
+    → sumBeneath parent count (figures (credited node figure l)) n ≡ sumBeneath parent count (figures l) n + on (beneath parent count n node) figure
+unfolding sumBeneath
+sumBeneath-credited count parent zero figure l n one h k = absurd (omega arith)
+sumBeneath-credited count parent (suc m) figure l n one h k =
+    sum-cong count _ _ (λ i r. ap (on (under-n i)) (placed m figure l i (omega arith)) ∙ on-add-on (under-n i) (eqb m i) (getD l i 0) figure)
+    ∙ sum-add count (λ i. on (under-n i) (getD l i 0)) (λ i. on (eqb m i) (on (under-n i) figure))
+    ∙ ap (λ (x : ℕ). sum count (λ i. on (under-n i) (getD l i 0)) + x) (sum-one count m (λ i. on (under-n i) figure) h)
+  where
+    under-n : ℕ → Bool
+    under-n i = beneath parent count n (suc i)
+
+-- ---- The sum beneath goes by the parents of the nodes alone
+
+beneath-cong : (count : ℕ) (p q : ℕ → ℕ) → ((m : ℕ) → m < count → p m ≡ q m) → ((m : ℕ) → m < count → p m ≤ m) → (steps n v : ℕ) → v ≤ count
+    → beneath p steps n v ≡ beneath q steps n v
+unfolding beneath
+beneath-cong count p q e rises zero n v h = refl
+beneath-cong count p q e rises (suc steps) n zero h = refl
+beneath-cong count p q e rises (suc steps) n (suc m) h =
+    ap (λ (t : Bool). eqb m n || t)
+    (beneath-cong count p q e rises steps n (p m) (omega (arith, rises m h)) ∙ ap (beneath q steps n) (e m h))
+
+pub sumBeneath-cong : (count : ℕ) (p q figure : ℕ → ℕ) → ((m : ℕ) → m < count → p m ≡ q m) → ((m : ℕ) → m < count → p m ≤ m) → (n : ℕ)
+    → sumBeneath p count figure n ≡ sumBeneath q count figure n
+unfolding sumBeneath
+sumBeneath-cong count p q figure e rises n =
+    sum-cong count _ _ (λ m l. ap (λ (t : Bool). on t (figure m)) (beneath-cong count p q e rises count n (suc m) l))
+
+-- ---- The credits of cords and of servers
+
+pub creditedCords-length : (least : ℕ) (cs : List Cord) (l : List ℕ) → length (creditedCords least cs l) ≡ length l
+unfolding creditedCords
+creditedCords-length least [] l = refl
+creditedCords-length least (c ∷ cs) l =
+    creditedCords-length least cs (credited (c .node) (low least c) l) ∙ credited-length (c .node) (low least c) l
+
+module _ (count : ℕ) (parent : ℕ → ℕ) (n : ℕ) where
+  sumBeneath-cords : (least : ℕ) (cs : List Cord) (l : List ℕ) → count ≤ length l → All (CordHangs count) cs
+      → sumBeneath parent count (figures (creditedCords least cs l)) n
+      ≡ sumBeneath parent count (figures l) n + total (λ c. on (beneath parent count n (c .node)) (low least c)) cs
+  unfolding creditedCords All total
+  sumBeneath-cords least [] l h g = omega arith
+  sumBeneath-cords least (c ∷ cs) l h g =
+      sumBeneath-cords least cs (credited (c .node) (low least c) l) (omega (arith, credited-length (c .node) (low least c) l)) (g .1)
+      ∙ omega (arith, sumBeneath-credited count parent (c .node) (low least c) l n (g .0 .0) (g .0 .1) h)
+
+  pub sumBeneath-servers : (ss : List Server) (l : List ℕ) → count ≤ length l → All (ServerHangs count) ss
+      → sumBeneath parent count (figures (creditedServers ss l)) n ≡ sumBeneath parent count (figures l) n + lows (beneath parent count n) ss
+  unfolding creditedServers All lows serverLows total
+  sumBeneath-servers [] l h g = omega arith
+  sumBeneath-servers (s ∷ ss) l h g =
+      sumBeneath-servers ss (creditedCords (s .least) (s .cords) l) (omega (arith, creditedCords-length (s .least) (s .cords) l)) (g .1)
+      ∙ omega (arith, sumBeneath-cords (s .least) (s .cords) l h (g .0))

@@ -1,0 +1,134 @@
+-- Sums gathered from the last node to the first, each node's passed on to its parent: what the loop keeps, and that the lowest node
+-- above its limit is found. A parent's number is below its child's, so a node's sum is whole when its turn comes.
+use mathlib.Core.Path.{_≡_, refl, sym, ap, _∙_}
+use mathlib.Core.Bool.{cond}
+use mathlib.Core.List.{List}
+use Prim.Native.Nat.{ℕ, zero, suc, _+_, _-_, _≤_, _<_}
+use native.Mathlib.Omega.{arith}
+use lib.ListN.{length, getD}
+use lib.Dec.{eqb, ltb}
+use borrow.Author.Tests.{ne-eqb}
+use Rattle.rooms.specs.Sums.{on, sum}
+use Rattle.rooms.specs.Limits.{firstNode}
+use Rattle.rooms.specs.Credits.{parentAt, limitAt, figures, sumBeneath, exceeds, credited}
+use Rattle.rooms.proofs.Sums.{on-no, sum-cong, sum-zero, up, sum-up}
+use Rattle.rooms.proofs.Trees.{kids}
+use Rattle.rooms.proofs.Credits.{credited-at, credited-length, sumBeneath-step, sumBeneath-most}
+
+-- ---- What stands on the nodes, where each has its own figure and passes `passed` on to its parent
+
+module _ (count : ℕ) (parent own passed : ℕ → ℕ) where
+  -- On each node stand its own figure and what its children among the `done` nodes from place n on passed to it.
+  unfoldable pub Holds : ℕ → ℕ → (ℕ → ℕ) → Type 0
+  Holds done n now = (i : ℕ) → i < count → now i ≡ own i + up done n (λ m. on (eqb (parent m) (suc i)) (passed m))
+
+  pub holds-start : Holds 0 count own
+  unfolding Holds up
+  holds-start i l = omega arith
+
+  pub holds-turn : (done m : ℕ) (now next : ℕ → ℕ) → Holds done (suc m) now
+      → ((i : ℕ) → i < count → next i ≡ now i + on (eqb (parent m) (suc i)) (passed m)) → Holds (suc done) m next
+  unfolding Holds up
+  holds-turn done m now next h e i l = omega (arith, h i l, e i l)
+
+  -- It is never more than with all children.
+  pub holds-most : (done n : ℕ) (now : ℕ → ℕ) → n + done ≡ count → Holds done n now → (i : ℕ) → i < count → now i ≤ own i + kids count parent i passed
+  unfolding Holds kids
+  holds-most done n now e h i l = omega (arith, h i l, sum-up done n count (λ m. on (eqb (parent m) (suc i)) (passed m)) e)
+
+  module _ (rises : (m : ℕ) → m < count → parent m ≤ m) where
+    kids-later : (done m : ℕ) → suc m + done ≡ count → kids count parent m passed ≡ up done (suc m) (λ h. on (eqb (parent h) (suc m)) (passed h))
+    unfolding kids
+    kids-later done m e =
+        let f : ℕ → ℕ = λ h. on (eqb (parent h) (suc m)) (passed h) in
+        let z : sum (suc m) f ≡ 0
+        = sum-cong (suc m) f (λ h. 0)
+        (λ h l. on-no (eqb (parent h) (suc m)) (passed h) (ne-eqb (parent h) (suc m) (λ q. omega (arith, rises h (omega arith)))))
+        ∙ sum-zero (suc m) in
+        omega (arith, sum-up done (suc m) count f e)
+
+    -- When its turn comes, a node has what all its children passed to it.
+    pub holds-whole : (done m : ℕ) (now : ℕ → ℕ) → suc m + done ≡ count → Holds done (suc m) now → now m ≡ own m + kids count parent m passed
+    unfolding Holds
+    holds-whole done m now e h = omega (arith, h m (omega arith), kids-later done m e)
+
+-- ---- The loop over the nodes of a table
+
+-- Every parent's number is below its child's.
+abbrev pub Rises : List ℕ → ℕ → Type 0
+Rises w count = (m : ℕ) → m < count → parentAt w m ≤ m
+
+-- The sum that a node has when its turn comes.
+abbrev pub whole : List ℕ → ℕ → List ℕ → ℕ → ℕ
+whole w count start = sumBeneath (parentAt w) count (figures start)
+
+-- Before the turn of the node at place n - 1: the nodes from n on have passed their sums on, and the lowest of them above its limit is found.
+pub record Gathered (w : List ℕ) (count : ℕ) (start : List ℕ) (found n : ℕ) (sums : List ℕ) : Type 0 where
+  pub done : ℕ
+  pub all : n + done ≡ count
+  pub held : Holds count (parentAt w) (figures start) (whole w count start) done n (figures sums)
+  pub size : length sums ≡ length start
+  pub first : found ≡ firstNode done n (exceeds w count start)
+
+pub gathered-start : (w : List ℕ) (count : ℕ) (start : List ℕ) → Gathered w count start 0 count start
+unfolding firstNode
+gathered-start w count start =
+    record {
+      done = 0;
+      all = omega arith;
+      held = holds-start count (parentAt w) (figures start) (whole w count start);
+      size = refl;
+      first = refl;
+    }
+
+module _ {w : List ℕ} {count : ℕ} {start : List ℕ} where
+  pub gathered-end : {found n : ℕ} {sums : List ℕ} → Gathered w count start found n sums → n ≤ 0 → found ≡ firstNode count 0 (exceeds w count start)
+  gathered-end {n = zero} inv z =
+      let e : inv .done ≡ count = omega (arith, inv .all) in
+      inv .first ∙ ap (λ (k : ℕ). firstNode k 0 (exceeds w count start)) e
+  gathered-end {n = suc m} inv z = absurd (omega arith)
+
+  module _ (rises : Rises w count) where
+    gathered-whole : (found n : ℕ) (sums : List ℕ) → Gathered w count start found n sums → 0 < n → getD sums (n - 1) 0 ≡ whole w count start (n - 1)
+    gathered-whole found zero sums inv p = absurd (omega arith)
+    gathered-whole found (suc m) sums inv p =
+        let e : suc m - 1 ≡ m = omega arith in
+        rw e
+        (holds-whole count (parentAt w) (figures start) (whole w count start) rises (inv .done) m (figures sums) (inv .all) (inv .held)
+        ∙ sym (sumBeneath-step count (parentAt w) rises (figures start) m (omega (arith, inv .all))))
+
+    -- No figure ever passes the sum of all, so no credit overflows.
+    pub gathered-most : {found n : ℕ} {sums : List ℕ} → Gathered w count start found n sums → (i : ℕ) → i < count → getD sums i 0 ≤ sum count (figures start)
+    gathered-most {n = n} {sums = sums} inv i l =
+        omega (
+          arith,
+          holds-most count (parentAt w) (figures start) (whole w count start) (inv .done) n (figures sums) (inv .all) (inv .held) i l,
+          sumBeneath-step count (parentAt w) rises (figures start) i l,
+          sumBeneath-most count (parentAt w) (figures start) i,
+        )
+
+    turned : (found n : ℕ) (sums : List ℕ) → Gathered w count start found n sums → 0 < n → count ≤ length start
+        → Gathered w count start (cond (exceeds w count start (n - 1)) (suc (n - 1)) found) (n - 1) (credited (parentAt w (n - 1)) (whole w count start (n - 1)) sums)
+    unfolding firstNode
+    turned found zero sums inv p h = absurd (omega arith)
+    turned found (suc m) sums inv p h =
+        let e : suc m - 1 ≡ m = omega arith in
+        let r = rises m (omega (arith, inv .all)) in
+        let figure : ℕ = whole w count start m in
+        rw e
+        (record {
+          done = suc (inv .done);
+          all = omega (arith, inv .all);
+          held = holds-turn count (parentAt w) (figures start) (whole w count start) (inv .done) m (figures sums) (figures (credited (parentAt w m) figure sums)) (inv .held)
+              (λ i l. credited-at (parentAt w m) figure sums i (omega (arith, inv .all, inv .size)));
+          size = credited-length (parentAt w m) figure sums ∙ inv .size;
+          first = rw (← inv .first);
+        })
+
+    -- One turn, in the terms of the code.
+    pub gathered-turn : {found n : ℕ} {sums : List ℕ} {limit figure parent found′ : ℕ} {sums′ : List ℕ} → Gathered w count start found n sums → 0 < n
+        → count ≤ length start
+        → limit ≡ limitAt w (n - 1) → figure ≡ getD sums (n - 1) 0 → parent ≡ parentAt w (n - 1)
+        → found′ ≡ cond (ltb limit figure) (suc (n - 1)) found → sums′ ≡ credited parent figure sums → Gathered w count start found′ (n - 1) sums′
+    gathered-turn {found} {n} {sums} inv p h el ef ep en es =
+        rw (es, en, el, ep, ef ∙ gathered-whole found n sums inv p) (turned found n sums inv p h)

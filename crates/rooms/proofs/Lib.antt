@@ -1,0 +1,27 @@
+-- The laws of `rooms`, from the ground up.
+
+-- Sums over places, and sums over what hangs beneath a node.
+pub mod Sums
+pub mod Trees
+-- What a good part of a table is, and what a good table and its room are as a whole.
+pub mod Inversion
+pub mod All
+pub mod Rows
+pub mod Whole
+pub mod Reach
+-- The check of the words.
+pub mod Steps
+-- The lows against the limits.
+pub mod Credits
+pub mod CreditTurns
+pub mod Gather
+pub mod Search
+pub mod Found
+pub mod Overloaded
+pub mod Accepted
+-- Read and Write.
+pub mod Outcomes
+pub mod Lent
+-- What the crate promises, and document 01's own rooms.
+pub mod Promises
+pub mod WorkedRooms

@@ -1,0 +1,159 @@
+-- `check_table` tells the whole table: version, nodes, servers and the end.
+use mathlib.Core.Path.{sym}
+use Rattle.rooms.specs.Table.{table, roomCords}
+use Rattle.rooms.specs.Told.{told}
+use Rattle.rooms.specs.declared.Checked.{Checked}
+use Rattle.rooms.proofs.Steps.{Reached, known, stop, pass, pass-known, pass-word, left-over, ended, gives, word-most}
+use borrow.Author.Needs.{needs}
+use Rattle.rooms.proofs.table.check_table.Statement.{statement}
+use Rattle.rooms.proofs.table.check_table.Tie as tie
+
+-- What is to be told, after each of the first four parts.
+abbrev goal : tie.After-known-told → Checked
+goal c = told roomCords (table (c .before .before .before .before .before .args .w .now) 0)
+
+abbrev goal2 : tie.After-known-told2 → Checked
+goal2 c = goal (c .before .before .before .before)
+
+abbrev goal3 : tie.After-known-told3 → Checked
+goal3 c = goal2 (c .before .before .before .before)
+
+abbrev goal4 : tie.After-known-told4 → Checked
+goal4 c = goal3 (c .before .before .before .before)
+
+-- The version is passed.
+abbrev version-passed : (c : tie.After-known-told) → Reached roomCords (goal c)
+unfolding table
+version-passed c = record {
+  left = _;
+  decides = λ h. pass-word _ _ _ (c .before .before .before .check-word .ensures) (c .before .version .given .1) h;
+}
+
+-- The count of nodes is passed.
+abbrev node-count-passed : (c : tie.After-known-told2) → Reached roomCords (goal2 c)
+unfolding table
+node-count-passed c = record {
+  left = _;
+  decides = λ h. version-passed (c .before .before .before .before) .decides (pass-word _ _ _ (c .before .before .before .check-word2 .ensures) (c .before .first .given .1) h);
+}
+
+-- The nodes are passed.
+abbrev nodes-passed : (c : tie.After-known-told3) → Reached roomCords (goal3 c)
+unfolding table
+nodes-passed c = record {
+  left = _;
+  decides = λ h. node-count-passed (c .before .before .before .before) .decides
+      (pass-known _ _ _ _ (known _ _ (c .before .before .before .check-nodes .ensures) (c .before .nodes .given .1)) h);
+}
+
+-- The count of servers is passed.
+abbrev server-count-passed : (c : tie.After-known-told4) → Reached roomCords (goal4 c)
+unfolding table
+server-count-passed c = record {
+  left = _;
+  decides = λ h. nodes-passed (c .before .before .before .before) .decides (pass-word _ _ _ (c .before .before .before .check-word3 .ensures) (c .before .second .given .1) h);
+}
+
+check-word-requires : tie.Need-check-word-requires
+check-word-requires c κs = search needs
+
+enum-known-version : tie.Need-enum-known-version
+enum-known-version c = search needs
+
+enum-told : tie.Need-enum-told
+enum-told c = search needs
+
+returns : tie.Need-returns
+unfolding table
+returns c = stop _ _ _ _ (c .before .before .check-word .ensures) (c .enum-told .given .1)
+
+check-word-requires-2 : tie.Need-check-word-requires-2
+check-word-requires-2 c κs = search needs
+
+enum-known-first : tie.Need-enum-known-first
+enum-known-first c = search needs
+
+enum-told-2 : tie.Need-enum-told-2
+enum-told-2 c = search needs
+
+returns-2 : tie.Need-returns-2
+unfolding table
+returns-2 c = version-passed (c .before .before .before) .decides (stop _ _ _ _ (c .before .before .check-word2 .ensures) (c .enum-told2 .given .1))
+
+check-nodes-requires : tie.Need-check-nodes-requires
+check-nodes-requires c κs = word-most _ _ _ _ (c .before .before .before .check-word2 .ensures) (c .before .first .given .1)
+
+enum-known-nodes : tie.Need-enum-known-nodes
+enum-known-nodes c = search needs
+
+enum-told-3 : tie.Need-enum-told-3
+enum-told-3 c = search needs
+
+returns-3 : tie.Need-returns-3
+unfolding table
+returns-3 c = node-count-passed (c .before .before .before) .decides (stop _ _ _ _ (c .before .before .check-nodes .ensures) (c .enum-told3 .given .1))
+
+check-word-requires-3 : tie.Need-check-word-requires-3
+check-word-requires-3 c κs = search needs
+
+enum-known-second : tie.Need-enum-known-second
+enum-known-second c = search needs
+
+enum-told-4 : tie.Need-enum-told-4
+enum-told-4 c = search needs
+
+returns-4 : tie.Need-returns-4
+unfolding table
+returns-4 c = nodes-passed (c .before .before .before) .decides (stop _ _ _ _ (c .before .before .check-word3 .ensures) (c .enum-told4 .given .1))
+
+check-servers-requires : tie.Need-check-servers-requires
+check-servers-requires c κs = search needs
+
+enum-known-servers : tie.Need-enum-known-servers
+enum-known-servers c = search needs
+
+enum-told-5 : tie.Need-enum-told-5
+enum-told-5 c = search needs
+
+returns-5 : tie.Need-returns-5
+unfolding table
+returns-5 c = server-count-passed (c .before .before .before) .decides (stop _ _ _ _ (c .before .before .check-servers .ensures) (c .enum-told5 .given .1))
+
+returns-6 : tie.Need-returns-6
+unfolding table
+returns-6 c = server-count-passed (c .before .before .before .before .before) .decides
+    (pass _ _ _ _ (c .before .before .before .before .check-servers .ensures) (c .before .before .servers .given .1) (λ servers is cords.
+    left-over _ _ _ _ (c .if1 .taken)))
+
+returns-7 : tie.Need-returns-7
+unfolding table
+returns-7 c = server-count-passed (c .before .before .before .before .before) .decides
+    (pass _ _ _ _ (c .before .before .before .before .check-servers .ensures) (c .before .before .servers .given .1) (λ servers is cords.
+    ended _ _ _ _ (c .if1 .left) (gives _ _ _ (sym cords))))
+
+pub check-table-spec : {M : Type 1} → statement M
+check-table-spec =
+    tie.close
+    (tie.spec
+    check-word-requires
+    enum-known-version
+    enum-told
+    returns
+    check-word-requires-2
+    enum-known-first
+    enum-told-2
+    returns-2
+    check-nodes-requires
+    enum-known-nodes
+    enum-told-3
+    returns-3
+    check-word-requires-3
+    enum-known-second
+    enum-told-4
+    returns-4
+    check-servers-requires
+    enum-known-servers
+    enum-told-5
+    returns-5
+    returns-6
+    returns-7)

@@ -1,0 +1,79 @@
+-- `write` meets its contract: the table is checked, and only the sheet's length is left to decide.
+use Rattle.rooms.proofs.Steps.{known}
+use Rattle.rooms.proofs.Outcomes.{refused-so, refused-done, accepted-done, writing-refused, writing-bytes, writing-short, writing-large}
+use mathlib.Core.Path.{_∙_}
+use borrow.Author.Needs.{needs}
+use Rattle.rooms.proofs.write.Statement.{statement}
+use Rattle.rooms.proofs.write.Tie as tie
+
+check-requires : tie.Need-check-requires
+check-requires c κs = search needs
+
+enum-known-checked : tie.Need-enum-known-checked
+enum-known-checked c = search needs
+
+returns : tie.Need-returns
+returns c = refused-done _ _ (writing-refused _ _ (refused-so _ _ (c .before .before .before .check .ensures) (c .before .checked .given .1)))
+
+enum-told : tie.Need-enum-told
+enum-told c = search needs
+
+encode-sheet-requires : tie.Need-encode-sheet-requires
+encode-sheet-requires c κs = search needs
+
+enum-known-count : tie.Need-enum-known-count
+enum-known-count c = search needs
+
+enum-known-needed : tie.Need-enum-known-needed
+enum-known-needed c = search needs
+
+enum-known-index : tie.Need-enum-known-index
+enum-known-index c = search needs
+
+same-length : tie.Need-same-length
+same-length c = search needs
+
+returns-2 : tie.Need-returns-2
+returns-2 c =
+    let call = c .before .before .before .before .before in
+    let table = known _ _ (call .before .before .before .before .check .ensures) (call .before .before .enum-told .given .1) in
+    let done = writing-bytes _ _ (table .is) (call .encode-sheet .ensures .0) (c .before .count .given .1) in
+    accepted-done _ _ _ _ (done .0) (done .1) (rw (c .before .count .given .1) at (call .encode-sheet .ensures .1))
+
+same-length-2 : tie.Need-same-length-2
+same-length-2 c = search needs
+
+returns-3 : tie.Need-returns-3
+returns-3 c =
+    let call = c .before .before .before .before .before in
+    let table = known _ _ (call .before .before .before .before .check .ensures) (call .before .before .enum-told .given .1) in
+    let done = refused-done _ _ (writing-short _ _ (table .is) (call .encode-sheet .ensures .0) (c .before .needed .given .1)) in
+    (done .0, (rw (c .before .needed .given .1) at (call .encode-sheet .ensures .1)) ∙ done .1)
+
+same-length-3 : tie.Need-same-length-3
+same-length-3 c = search needs
+
+returns-4 : tie.Need-returns-4
+returns-4 c =
+    let call = c .before .before .before .before .before in
+    let table = known _ _ (call .before .before .before .before .check .ensures) (call .before .before .enum-told .given .1) in
+    absurd (writing-large _ _ (table .is) (call .encode-sheet .ensures .0) (c .before .index .given .1))
+
+pub write-spec : {M : Type 1} → statement M
+write-spec =
+    tie.close
+    (tie.spec
+    check-requires
+    enum-known-checked
+    returns
+    enum-told
+    encode-sheet-requires
+    enum-known-count
+    enum-known-needed
+    enum-known-index
+    same-length
+    returns-2
+    same-length-2
+    returns-3
+    same-length-3
+    returns-4)

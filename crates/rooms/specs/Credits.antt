@@ -1,0 +1,49 @@
+-- Figures credited to nodes: what the contracts of the private functions behind refusal 9 cite. No public contract does.
+use mathlib.Core.Bool.{Bool}
+use mathlib.Core.List.{List, [], _∷_}
+use Prim.Native.Nat.{ℕ, zero, suc, _+_, _*_, _/_}
+use lib.ListN.{getD, set}
+use lib.Dec.{ltb}
+use Rattle.rooms.specs.Sums.{on, sum}
+use Rattle.rooms.specs.Part.{Step, good, bad}
+pub use Rattle.rooms.specs.Part.{Good}
+use Rattle.rooms.specs.Table.{Cord, Server}
+use Rattle.rooms.specs.Limits.{low, percent, beneath}
+
+-- A node's parent and limit, by its place, in the words of a table.
+abbrev pub parentAt : List ℕ → ℕ → ℕ
+parentAt w m = getD w (2 + 2 * m) 0
+
+abbrev pub limitAt : List ℕ → ℕ → ℕ
+limitAt w m = getD w (3 + 2 * m) 0 * percent / 100
+
+-- The figures of a list, by place.
+abbrev pub figures : List ℕ → ℕ → ℕ
+figures l m = getD l m 0
+
+-- Figures that stand on nodes, summed over a node and all nodes beneath it, at any depth.
+unfoldable pub sumBeneath : (ℕ → ℕ) → ℕ → (ℕ → ℕ) → ℕ → ℕ
+sumBeneath parent count figure n = sum count (λ m. on (beneath parent count n (suc m)) (figure m))
+
+-- Whether what stands on a node and beneath it exceeds its limit.
+abbrev pub exceeds : List ℕ → ℕ → List ℕ → ℕ → Bool
+exceeds w count sums n = ltb (limitAt w n) (sumBeneath (parentAt w) count (figures sums) n)
+
+-- A figure added to the one that stands on a node, by the node's number; 0 is no node.
+unfoldable pub credited : ℕ → ℕ → List ℕ → List ℕ
+credited zero figure l = l
+credited (suc m) figure l = set l m (getD l m 0 + figure)
+
+-- The lows of a server's cords, by its least, and of all servers' cords, credited to the cords' nodes.
+unfoldable pub creditedCords : ℕ → List Cord → List ℕ → List ℕ
+creditedCords least [] l = l
+creditedCords least (c ∷ cs) l = creditedCords least cs (credited (c .node) (low least c) l)
+
+unfoldable pub creditedServers : List Server → List ℕ → List ℕ
+creditedServers [] l = l
+creditedServers (s ∷ ss) l = creditedServers ss (creditedCords (s .least) (s .cords) l)
+
+-- What a good row of parts gives.
+abbrev pub rowOf : {A : Type 0} → Step (List A) → List A
+rowOf (good l j) = l
+rowOf (bad refusal) = []

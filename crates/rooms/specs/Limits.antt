@@ -1,0 +1,72 @@
+-- What a node may carry: limits, lows, and the cords beneath a node at any depth.
+use mathlib.Core.Bool.{Bool, false, cond, _||_}
+use mathlib.Core.List.{List}
+use Prim.Native.Nat.{ℕ, zero, suc, _+_, _-_, _*_, _/_}
+use lib.ListN.{length, getD}
+use lib.Dec.{eqb, ltb}
+use Rattle.rooms.specs.Part.{Part, _>>=_, give, ensure, total}
+use Rattle.rooms.specs.Sums.{on}
+use Rattle.rooms.specs.Table.{Node, Cord, Server, Room, scale, table}
+use Rattle.rooms.specs.declared.Refusal.the-variants.{LowsAboveLimit}
+
+-- The percent of its rating that a node may carry.
+abbrev pub percent : ℕ
+percent = 80
+
+-- A node's limit: floor(rating × 80 / 100).
+abbrev pub limit : Node → ℕ
+limit n = n .rating * percent / 100
+
+-- The watts of a load that a share of it carries, rounded up: ceil(share × load / whole).
+abbrev pub carried : ℕ → ℕ → ℕ → ℕ
+carried whole share load = (share * load + (whole - 1)) / whole
+
+-- A cord's low, by its server's least: ceil(share × least / 1000).
+abbrev pub low : ℕ → Cord → ℕ
+low least c = carried scale (c .share) least
+
+-- Whether the climb from node number v along the parents, of at most so many steps, meets the node at place n.
+-- A place counts from 0 and a number from 1; number 0 is no node, and ends the climb.
+unfoldable pub beneath : (ℕ → ℕ) → ℕ → ℕ → ℕ → Bool
+beneath parent zero n v = false
+beneath parent (suc steps) n zero = false
+beneath parent (suc steps) n (suc m) = eqb m n || beneath parent steps n (parent m)
+
+-- The node at a place, and its parent's number.
+abbrev pub nodeAt : Room → ℕ → Node
+nodeAt r m = getD (r .nodes) m (record { parent = 0; rating = 0 })
+
+abbrev pub parentOf : Room → ℕ → ℕ
+parentOf r m = nodeAt r m .parent
+
+-- Whether what hangs on node number v is beneath the node at place n, at any depth.
+-- A climb is no longer than the count of nodes, since a parent's number is below its child's.
+abbrev pub hangsBeneath : Room → ℕ → ℕ → Bool
+hangsBeneath r n v = beneath (parentOf r) (length (r .nodes)) n v
+
+-- The lows of the cords of some servers that hang on nodes of which a test holds.
+unfoldable pub serverLows : (ℕ → Bool) → Server → ℕ
+serverLows test s = total (λ c. on (test (c .node)) (low (s .least) c)) (s .cords)
+
+unfoldable pub lows : (ℕ → Bool) → List Server → ℕ
+lows test = total (serverLows test)
+
+-- The lows of all cords beneath the node at place n.
+abbrev pub lowsBeneath : Room → ℕ → ℕ
+lowsBeneath r n = lows (hangsBeneath r n) (r .servers)
+
+-- The number of the first node, of so many from place n on, of which a test holds; 0 if there is none.
+unfoldable pub firstNode : ℕ → ℕ → (ℕ → Bool) → ℕ
+firstNode zero n test = 0
+firstNode (suc count) n test = cond (test n) (suc n) (firstNode count (suc n) test)
+
+-- The lowest node whose limit the lows beneath it exceed; 0 if there is none.
+unfoldable pub overloaded : Room → ℕ
+overloaded r = firstNode (length (r .nodes)) 0 (λ n. ltb (limit (nodeAt r n)) (lowsBeneath r n))
+
+-- The whole check of a table. Refused last: lows beneath a node exceed its limit (9), at the lowest such node.
+unfoldable pub checked : Part Room
+checked = do
+  r ← table
+  _ ← ensure (eqb (overloaded r) 0) (LowsAboveLimit (overloaded r))
+  give r

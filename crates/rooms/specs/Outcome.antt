@@ -1,0 +1,91 @@
+-- Read and Write: what each comes to, as an answer and in the list or buffer lent.
+use mathlib.Core.Bool.{cond}
+use mathlib.Core.List.{List}
+use Prim.Native.Nat.{ℕ}
+use lib.ListN.{length}
+use lib.Seq.{sets}
+use lib.Dec.{leb}
+use Rattle.numbers.specs.Number.{faultNumber}
+use Rattle.numbers.specs.Sheet.{Ending, whole, sheetOf, bytesOf}
+use Rattle.numbers.specs.Sheet as sheet
+use Rattle.rooms.specs.Part.{Step, good, bad}
+use Rattle.rooms.specs.Table.{Room}
+use Rattle.rooms.specs.Limits.{checked}
+use Rattle.rooms.specs.declared.Refusal.{Refusal}
+use Rattle.rooms.specs.declared.Refusal.the-variants.{BadNumber, WordMissing, WordOutOfRange, GreatestBelowLeast, SharesNotWhole, WordsLeftOver, LowsAboveLimit, OutputTooShort}
+use Rattle.rooms.specs.declared.Answer.{Answer}
+use Rattle.rooms.specs.declared.Answer.the-variants.{Accepted, Refused}
+
+-- ---- Numbers and places
+
+-- A refusal's number.
+abbrev pub refusalNumber : Refusal → ℕ
+refusalNumber (BadNumber fault place) = faultNumber fault
+refusalNumber (WordMissing place) = 4
+refusalNumber (WordOutOfRange place) = 5
+refusalNumber (GreatestBelowLeast place) = 6
+refusalNumber (SharesNotWhole place) = 7
+refusalNumber (WordsLeftOver place) = 8
+refusalNumber (LowsAboveLimit place) = 9
+refusalNumber (OutputTooShort place) = 12
+
+-- A refusal's place.
+abbrev pub refusalPlace : Refusal → ℕ
+refusalPlace (BadNumber fault place) = place
+refusalPlace (WordMissing place) = place
+refusalPlace (WordOutOfRange place) = place
+refusalPlace (GreatestBelowLeast place) = place
+refusalPlace (SharesNotWhole place) = place
+refusalPlace (WordsLeftOver place) = place
+refusalPlace (LowsAboveLimit place) = place
+refusalPlace (OutputTooShort place) = place
+
+-- An answer's number, 0 if accepted, and its figure: the count written, or the refusal's place.
+abbrev pub answerNumber : Answer → ℕ
+answerNumber (Accepted count) = 0
+answerNumber (Refused refusal) = refusalNumber refusal
+
+abbrev pub answerFigure : Answer → ℕ
+answerFigure (Accepted count) = count
+answerFigure (Refused refusal) = refusalPlace refusal
+
+-- ---- Outcomes
+
+-- What an operation comes to: accepted with what it writes, or refused.
+pub data Outcome : Type 0 where
+  accepted : List ℕ → Outcome
+  refused : Refusal → Outcome
+
+-- The answer to an outcome.
+abbrev pub answerOf : Outcome → Answer
+answerOf (accepted output) = Accepted (length output)
+answerOf (refused refusal) = Refused refusal
+
+-- The list or buffer after an outcome: what is written stands at its front; entries past it, and all where refused, are unchanged.
+abbrev pub after : Outcome → List ℕ → List ℕ
+after (accepted output) list = sets list 0 output
+after (refused refusal) list = list
+
+-- The table's refusal, or what comes after a good table.
+abbrev pub unlessRefused : Step Room → Outcome → Outcome
+unlessRefused (good room next) outcome = outcome
+unlessRefused (bad refusal) outcome = refused refusal
+
+-- An output for a list or buffer of so many entries. Refused: too short (12), at the length needed.
+abbrev pub fitting : List ℕ → ℕ → Outcome
+fitting output entries = cond (leb (length output) entries) (accepted output) (refused (OutputTooShort (length output)))
+
+-- ---- Read and Write
+
+-- The words of a sheet, all bytes judged before any word. Refused: the first number that is bad (1 to 3), where it starts.
+abbrev pub readWords : List ℕ → Ending → ℕ → Outcome
+readWords words whole entries = unlessRefused (checked words 0) (fitting words entries)
+readWords words (sheet.refused fault place) entries = refused (BadNumber fault place)
+
+-- Read: sheet bytes into a list of so many words.
+unfoldable pub reading : List ℕ → ℕ → Outcome
+reading bytes entries = readWords (sheetOf bytes .words) (sheetOf bytes .ending) entries
+
+-- Write: a table into a buffer of so many bytes.
+unfoldable pub writing : List ℕ → ℕ → Outcome
+writing table entries = unlessRefused (checked table 0) (fitting (bytesOf table) entries)

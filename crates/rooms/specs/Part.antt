@@ -1,0 +1,73 @@
+-- Reading a table word by word: a part of a table gives a value and the index of the next word,
+-- or the first refusal that is met.
+use mathlib.Core.Path.{_≡_}
+use mathlib.Core.Bool.{Bool, true, cond, _&&_}
+use mathlib.Core.List.{List, [], _∷_}
+use Prim.Native.Nat.{ℕ, zero, suc, _+_}
+use lib.ListN.{length, getD}
+use lib.Dec.{leb, ltb}
+use Rattle.rooms.specs.declared.Refusal.{Refusal}
+use Rattle.rooms.specs.declared.Refusal.the-variants.{WordMissing, WordOutOfRange, WordsLeftOver}
+
+-- What a part comes to: a value and the index of the next word, or a refusal.
+pub data Step (A : Type 0) : Type 0 where
+  good : A → ℕ → Step A
+  bad : Refusal → Step A
+
+-- A step that is good, with its value and the index of the next word.
+pub record Good {A : Type 0} (s : Step A) : Type 0 where
+  pub value : A
+  pub next : ℕ
+  pub is : s ≡ good value next
+
+-- A part of a table, read from an index on.
+abbrev pub Part : Type 0 → Type 0
+Part A = List ℕ → ℕ → Step A
+
+-- What follows a good step; a refusal stands.
+unfoldable pub follow : {A B : Type 0} → Step A → (A → ℕ → Step B) → Step B
+follow (good a j) k = k a j
+follow (bad refusal) k = bad refusal
+
+-- One part after the other.
+abbrev pub _>>=_ : {A B : Type 0} → Part A → (A → Part B) → Part B
+_>>=_ p k = λ w i. follow (p w i) (λ a j. k a w j)
+
+-- A value that takes no word.
+abbrev pub give : {A : Type 0} → A → Part A
+give a = λ w i. good a i
+
+-- The index of the next word.
+abbrev pub here : Part ℕ
+here = λ w i. good i i
+
+-- A word from low to high.
+abbrev pub within : ℕ → ℕ → ℕ → Bool
+within low high v = leb low v && leb v high
+
+-- The next word. Refused: word missing (4), at the table's length; word out of range (5), at its index.
+unfoldable pub word : (ℕ → Bool) → Part ℕ
+word inRange w i =
+    cond (leb (length w) i) (bad (WordMissing (length w)))
+    (cond (inRange (getD w i 0)) (good (getD w i 0) (suc i)) (bad (WordOutOfRange i)))
+
+-- A test on what was read, with the refusal where it fails.
+unfoldable pub ensure : Bool → Refusal → Part Bool
+ensure test refusal w i = cond test (good true i) (bad refusal)
+
+-- The end of the table. Refused: words left over (8), at the first of them.
+unfoldable pub end : Part Bool
+end w i = cond (ltb i (length w)) (bad (WordsLeftOver i)) (good true i)
+
+-- So many parts in a row. Each is given a number, which `next` changes from one to the next.
+unfoldable pub many : {A : Type 0} → ℕ → (ℕ → Part A) → (ℕ → A → ℕ) → ℕ → Part (List A)
+many zero part next given = give []
+many (suc count) part next given = do
+  first ← part given
+  rest ← many count part next (next given first)
+  give (first ∷ rest)
+
+-- A figure, added up over a list.
+unfoldable pub total : {A : Type 0} → (A → ℕ) → List A → ℕ
+total figure [] = 0
+total figure (a ∷ rest) = figure a + total figure rest

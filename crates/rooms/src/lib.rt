@@ -1,0 +1,183 @@
+// The room table and its rules: the check of a table, Read and Write.
+ghost use mathlib.Core.Path.{_≡_};
+ghost use Prim.Native.Nat.{_≤_, min};
+ghost use lib.ListN.{length};
+ghost use Rattle.numbers.specs.Number.{faultNumber};
+ghost use Rattle.rooms.specs.Limits.{checked};
+ghost use Rattle.rooms.specs.Table.{roomCords};
+ghost use Rattle.rooms.specs.Told.{told};
+ghost use Rattle.rooms.specs.Outcome.{refusalNumber, refusalPlace, answerNumber, answerFigure, answerOf, after, reading, writing};
+use numbers::Fault;
+use numbers::Judged;
+use numbers::Written;
+
+mod lows;
+mod table;
+
+// Why an input is turned back, and where: a byte or a word by its place, a node by its number, or a length.
+pub enum Refusal {
+    BadNumber(Fault, usize),
+    WordMissing(usize),
+    WordOutOfRange(usize),
+    GreatestBelowLeast(usize),
+    SharesNotWhole(usize),
+    WordsLeftOver(usize),
+    LowsAboveLimit(usize),
+    OutputTooShort(usize),
+}
+
+// What a check tells of a part of a table: a figure of it and the index of the next word, or its refusal.
+pub enum Checked {
+    Good(u32, usize),
+    Refused(Refusal),
+}
+
+// The answer of Read and Write: accepted with the count written, or refused.
+pub enum Answer {
+    Accepted(usize),
+    Refused(Refusal),
+}
+
+// A table has at most 5,123 words, so that many and one more decide every check.
+const DECIDING_WORDS: usize = 5124;
+
+// The number of a fault.
+fn fault_number(fault: Fault) -> u64
+    ensures { λ r. ⌜ r ≡ faultNumber fault ⌝ }
+{
+    match fault {
+        Fault::TooLong => 1,
+        Fault::NotShortest => 2,
+        Fault::CutShort => 3,
+    }
+}
+
+impl Refusal {
+    // The refusal's number.
+    pub fn number(self) -> u64
+        ensures { λ r. ⌜ r ≡ refusalNumber self ⌝ }
+    {
+        match self {
+            Refusal::BadNumber(fault, _) => fault_number(fault),
+            Refusal::WordMissing(_) => 4,
+            Refusal::WordOutOfRange(_) => 5,
+            Refusal::GreatestBelowLeast(_) => 6,
+            Refusal::SharesNotWhole(_) => 7,
+            Refusal::WordsLeftOver(_) => 8,
+            Refusal::LowsAboveLimit(_) => 9,
+            Refusal::OutputTooShort(_) => 12,
+        }
+    }
+
+    // The refusal's place.
+    pub fn place(self) -> usize
+        ensures { λ r. ⌜ r ≡ refusalPlace self ⌝ }
+    {
+        match self {
+            Refusal::BadNumber(_, place) => place,
+            Refusal::WordMissing(place) => place,
+            Refusal::WordOutOfRange(place) => place,
+            Refusal::GreatestBelowLeast(place) => place,
+            Refusal::SharesNotWhole(place) => place,
+            Refusal::WordsLeftOver(place) => place,
+            Refusal::LowsAboveLimit(place) => place,
+            Refusal::OutputTooShort(place) => place,
+        }
+    }
+}
+
+impl Answer {
+    // The refusal's number, or 0.
+    pub fn number(self) -> u64
+        ensures { λ r. ⌜ r ≡ answerNumber self ⌝ }
+    {
+        match self {
+            Answer::Accepted(_) => 0,
+            Answer::Refused(refusal) => refusal.number(),
+        }
+    }
+
+    // The count written, or the refusal's place.
+    pub fn figure(self) -> usize
+        ensures { λ r. ⌜ r ≡ answerFigure self ⌝ }
+    {
+        match self {
+            Answer::Accepted(count) => count,
+            Answer::Refused(refusal) => refusal.place(),
+        }
+    }
+}
+
+// The whole check of a table: the count of its cords and its length, or its refusal.
+pub fn check(table: &[u32]) -> Checked
+    ensures { λ r. ⌜ r ≡ told roomCords (checked (now (table .entry)) 0) ⌝ }
+{
+    let words = table::check_table(table);
+    let Checked::Good(cords, length) = words else {
+        return words;
+    };
+    let mut sums = [0u64; 512];
+    let node = lows::overloaded(table, &mut sums);
+    if node != 0 {
+        return Checked::Refused(Refusal::LowsAboveLimit(node));
+    }
+    Checked::Good(cords, length)
+}
+
+// The lesser of two lengths.
+fn lesser(a: usize, b: usize) -> usize
+    ensures { λ r. ⌜ r ≡ min a b ⌝ }
+{
+    if a < b { a } else { b }
+}
+
+// Read by way of a list of its own, which takes the words until all is checked.
+fn read_by(sheet: &[u8], words: &mut [u32], table: &mut [u32]) -> Answer
+    requires { ⌜ 5124 ≤ length (now words) ⌝ }
+    ensures { λ r. ⌜ r ≡ answerOf (reading (now (sheet .entry)) (length (now (table .entry)))) ⌝ }
+    ensures { λ _. ⌜ now (table .exit) ≡ after (reading (now (sheet .entry)) (length (now (table .entry)))) (now (table .entry)) ⌝ }
+{
+    let judged = numbers::decode_sheet(sheet, words);
+    let count = match judged {
+        Judged::Words(count) => count,
+        Judged::Refused(fault, place) => {
+            return Answer::Refused(Refusal::BadNumber(fault, place));
+        }
+    };
+    let front = lesser(count, words.len());
+    let checked = check(&words[..front]);
+    if let Checked::Refused(refusal) = checked {
+        return Answer::Refused(refusal);
+    }
+    if table.len() < count {
+        return Answer::Refused(Refusal::OutputTooShort(count));
+    }
+    words::copy(&words[..front], table);
+    Answer::Accepted(count)
+}
+
+// Read: the words of a sheet, at the front of the table. Refused, it leaves the table unchanged.
+pub fn read(sheet: &[u8], table: &mut [u32]) -> Answer
+    ensures { λ r. ⌜ r ≡ answerOf (reading (now (sheet .entry)) (length (now (table .entry)))) ⌝ }
+    ensures { λ _. ⌜ now (table .exit) ≡ after (reading (now (sheet .entry)) (length (now (table .entry)))) (now (table .entry)) ⌝ }
+{
+    let mut words = [0u32; DECIDING_WORDS];
+    read_by(sheet, &mut words, table)
+}
+
+// Write: the words of a table as numbers, at the front of the sheet. Refused, it leaves the sheet unchanged.
+pub fn write(table: &[u32], sheet: &mut [u8]) -> Answer
+    ensures { λ r. ⌜ r ≡ answerOf (writing (now (table .entry)) (length (now (sheet .entry)))) ⌝ }
+    ensures { λ _. ⌜ now (sheet .exit) ≡ after (writing (now (table .entry)) (length (now (sheet .entry)))) (now (sheet .entry)) ⌝ }
+{
+    let checked = check(table);
+    if let Checked::Refused(refusal) = checked {
+        return Answer::Refused(refusal);
+    }
+    match numbers::encode_sheet(table, sheet) {
+        Written::Bytes(count) => Answer::Accepted(count),
+        Written::TooShort(needed) => Answer::Refused(Refusal::OutputTooShort(needed)),
+        // No word of a good table is too large to be written.
+        Written::TooLarge(index) => Answer::Refused(Refusal::WordOutOfRange(index)),
+    }
+}

@@ -1,0 +1,219 @@
+// The words of a table, checked one by one in their order: refusals 4 to 8.
+ghost use mathlib.Core.Path.{_≡_};
+ghost use Prim.Native.Nat.{_<_, _≤_, min};
+ghost use lib.ListN.{length};
+ghost use Rattle.rooms.specs.Part.{word, within, total};
+ghost use Rattle.rooms.specs.Table.{node, nodes, cord, cords, shareOf, shareSum, range, load, server, servers, cordCount, table, roomCords};
+ghost use Rattle.rooms.specs.Told.{told, itself, nothing};
+use crate::Checked;
+use crate::Refusal;
+
+// The figures of the table, as specs/Table.antt names them.
+const VERSION: u32 = 1;
+
+const MOST_NODES: u32 = 512;
+
+const MOST_SERVERS: u32 = 512;
+
+const MOST_CORDS: u32 = 1024;
+
+const MOST_SERVER_CORDS: u32 = 4;
+
+const HIGHEST_RANK: u32 = 16;
+
+const MOST_WATTS: u32 = 16_777_215;
+
+const SCALE: u32 = 1000;
+
+// The word at i, from low to high.
+fn check_word(w: &[u32], i: usize, low: u32, high: u32) -> Checked
+    ensures { λ r. ⌜ r ≡ told itself (word (within low high) (now (w .entry)) i) ⌝ }
+{
+    if w.len() <= i {
+        return Checked::Refused(Refusal::WordMissing(w.len()));
+    }
+    let v = w[i];
+    if v < low {
+        return Checked::Refused(Refusal::WordOutOfRange(i));
+    }
+    if high < v {
+        return Checked::Refused(Refusal::WordOutOfRange(i));
+    }
+    Checked::Good(v, i + 1)
+}
+
+// The node at i, with its own number.
+fn check_node(w: &[u32], i: usize, own: u32) -> Checked
+    requires { ⌜ 0 < own ⌝ }
+    ensures { λ r. ⌜ r ≡ told nothing (node own (now (w .entry)) i) ⌝ }
+{
+    let parent = check_word(w, i, 0, own - 1);
+    let Checked::Good(_, at_rating) = parent else {
+        return parent;
+    };
+    let rating = check_word(w, at_rating, 0, MOST_WATTS);
+    let Checked::Good(_, next) = rating else {
+        return rating;
+    };
+    Checked::Good(0, next)
+}
+
+// So many nodes from i on, numbered from 1.
+fn check_nodes(w: &[u32], i: usize, count: u32) -> Checked
+    requires { ⌜ count ≤ 512 ⌝ }
+    ensures { λ r. ⌜ r ≡ told nothing (nodes count 1 (now (w .entry)) i) ⌝ }
+{
+    let mut left = count;
+    let mut own: u32 = 1;
+    let mut j = i;
+    while 0 < left {
+        let node = check_node(w, j, own);
+        let Checked::Good(_, next) = node else {
+            return node;
+        };
+        j = next;
+        own += 1;
+        left -= 1;
+    }
+    Checked::Good(0, j)
+}
+
+// The cord at i, and its share.
+fn check_cord(w: &[u32], i: usize, node_count: u32) -> Checked
+    ensures { λ r. ⌜ r ≡ told shareOf (cord «node_count» (now (w .entry)) i) ⌝ }
+{
+    let node = check_word(w, i, 1, node_count);
+    let Checked::Good(_, at_share) = node else {
+        return node;
+    };
+    check_word(w, at_share, 0, SCALE)
+}
+
+// So many cords from i on, and the sum of their shares.
+fn check_cords(w: &[u32], i: usize, node_count: u32, count: u32) -> Checked
+    requires { ⌜ count ≤ 4 ⌝ }
+    ensures { λ r. ⌜ r ≡ told shareSum (cords «node_count» count (now (w .entry)) i) ⌝ }
+{
+    let mut left = count;
+    let mut sum: u32 = 0;
+    let mut j = i;
+    while 0 < left {
+        let cord = check_cord(w, j, node_count);
+        let Checked::Good(share, next) = cord else {
+            return cord;
+        };
+        sum += share;
+        j = next;
+        left -= 1;
+    }
+    Checked::Good(sum, j)
+}
+
+// The least and the greatest of a server, from i on.
+fn check_range(w: &[u32], i: usize) -> Checked
+    ensures { λ r. ⌜ r ≡ told nothing (range (now (w .entry)) i) ⌝ }
+{
+    let first = check_word(w, i, 0, MOST_WATTS);
+    let Checked::Good(least, at_greatest) = first else {
+        return first;
+    };
+    let second = check_word(w, at_greatest, 0, MOST_WATTS);
+    let Checked::Good(greatest, next) = second else {
+        return second;
+    };
+    if greatest < least {
+        return Checked::Refused(Refusal::GreatestBelowLeast(at_greatest));
+    }
+    Checked::Good(0, next)
+}
+
+// The lesser of two numbers.
+fn lesser(a: u32, b: u32) -> u32
+    ensures { λ r. ⌜ r ≡ min a b ⌝ }
+{
+    if a < b { a } else { b }
+}
+
+// The count of a server's cords, and the cords, from i on; `start` is the index of the server's rank.
+fn check_load(w: &[u32], i: usize, node_count: u32, before: u32, start: usize) -> Checked
+    requires { ⌜ before ≤ 1024 ⌝ }
+    ensures { λ r. ⌜ r ≡ told length (load «node_count» before start (now (w .entry)) i) ⌝ }
+{
+    let first = check_word(w, i, 1, lesser(MOST_SERVER_CORDS, MOST_CORDS - before));
+    let Checked::Good(count, at_cords) = first else {
+        return first;
+    };
+    let cords = check_cords(w, at_cords, node_count, count);
+    let Checked::Good(shares, next) = cords else {
+        return cords;
+    };
+    if shares != SCALE {
+        return Checked::Refused(Refusal::SharesNotWhole(start));
+    }
+    Checked::Good(count, next)
+}
+
+// The server at i, and the count of its cords; the room has `before` cords so far.
+fn check_server(w: &[u32], i: usize, node_count: u32, before: u32) -> Checked
+    requires { ⌜ before ≤ 1024 ⌝ }
+    ensures { λ r. ⌜ r ≡ told cordCount (server «node_count» before (now (w .entry)) i) ⌝ }
+{
+    let rank = check_word(w, i, 1, HIGHEST_RANK);
+    let Checked::Good(_, at_range) = rank else {
+        return rank;
+    };
+    let range = check_range(w, at_range);
+    let Checked::Good(_, at_load) = range else {
+        return range;
+    };
+    check_load(w, at_load, node_count, before, i)
+}
+
+// So many servers from i on, and the count of all their cords.
+fn check_servers(w: &[u32], i: usize, node_count: u32, count: u32) -> Checked
+    ensures { λ r. ⌜ r ≡ told (total cordCount) (servers «node_count» count 0 (now (w .entry)) i) ⌝ }
+{
+    let mut left = count;
+    let mut before: u32 = 0;
+    let mut j = i;
+    while 0 < left {
+        let server = check_server(w, j, node_count, before);
+        let Checked::Good(cords, next) = server else {
+            return server;
+        };
+        before += cords;
+        j = next;
+        left -= 1;
+    }
+    Checked::Good(before, j)
+}
+
+// The whole table, and the count of its cords.
+pub(crate) fn check_table(w: &[u32]) -> Checked
+    ensures { λ r. ⌜ r ≡ told roomCords (table (now (w .entry)) 0) ⌝ }
+{
+    let version = check_word(w, 0, VERSION, VERSION);
+    let Checked::Good(_, at_nodes) = version else {
+        return version;
+    };
+    let first = check_word(w, at_nodes, 1, MOST_NODES);
+    let Checked::Good(node_count, first_node) = first else {
+        return first;
+    };
+    let nodes = check_nodes(w, first_node, node_count);
+    let Checked::Good(_, at_servers) = nodes else {
+        return nodes;
+    };
+    let second = check_word(w, at_servers, 0, MOST_SERVERS);
+    let Checked::Good(server_count, first_server) = second else {
+        return second;
+    };
+    let servers = check_servers(w, first_server, node_count, server_count);
+    let Checked::Good(cords, next) = servers else {
+        return servers;
+    };
+    if next < w.len() {
+        return Checked::Refused(Refusal::WordsLeftOver(next));
+    }
+    Checked::Good(cords, next)
+}

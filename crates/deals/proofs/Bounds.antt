@@ -1,0 +1,156 @@
+-- The figures that code holds fit their words: every sum over cords is within the sum of all wants.
+use mathlib.Core.Path.{_≡_, sym, ap, _∙_, subst}
+use mathlib.Core.List.{List, []}
+use Prim.Native.Nat.{ℕ, suc, _+_, _*_, _-_, _≤_, _<_, _^_}
+use native.Mathlib.Nat.{le-trans, le-of-eq, mul-le-mul, mul-le-mul-right}
+use native.Mathlib.Numerals.{add-one}
+use native.Mathlib.Omega.{arith}
+use mathlib.Core.Bool.{Bool, true, false}
+use lib.Dec.{eqb}
+use lib.ListN.{length, getD, take, drop}
+use Rattle.rooms.specs.Sums.{on, sum}
+use Rattle.rooms.specs.Table.{Room, mostWatts, mostCords, scale, roomCords}
+use Rattle.rooms.specs.Limits.{beneath, limit, nodeAt}
+use Rattle.rooms.proofs.Accepted.{Accepted}
+use Rattle.rooms.proofs.Sums.{up}
+use Rattle.rooms.proofs.Trees.{kids, own, below, under, under-is}
+use Rattle.deals.specs.Figures.{at, cell, sumOf}
+use Rattle.deals.specs.Cords.{cordAt}
+use Rattle.deals.specs.Wants.{needs, lowsOf, firstWants}
+use Rattle.deals.specs.Metrics.{Deal, dealOf, atLevel, metrics, pcapminsFrom, childSums, excess}
+use Rattle.deals.specs.Dealing.{weightSum, amount}
+use Rattle.deals.specs.SecondDeal.{stranded, firstGrants, firstUsed, freed, secondWants}
+use Rattle.deals.specs.Promises.{mostSum, DealBounded, Bounded}
+use Rattle.deals.proofs.Equations.{Dealable, asked, weights, pcapmin-request, requests-fit, requests-left, asked-wants, amount-within, weights-asked}
+use Rattle.deals.proofs.Computed.{childSums-at, requestsFrom-length, pcapmins-levels, requests-levels, pcapmin, request, amountOf, measured, dealt}
+use Rattle.deals.proofs.Lists.{total-drop, total-sum, sum-most, sum-one-le, sumOf-take, sumOf-most}
+use Rattle.deals.proofs.Loads.{carried-most}
+use Rattle.deals.proofs.BothDeals.{server-facts, cord-facts, carriedBy-at, stranded-at, stranded-count, need-le, first-most, firstWants-lows, secondWants-lows, secondWants-wants, room-dealable}
+use Rattle.deals.proofs.RoomDeals.{roomDeal, dealOf-is}
+
+on-most : (t : Bool) (a most : ℕ) → a ≤ most → on t a ≤ most
+on-most true a most h = h
+on-most false a most h = omega arith
+
+-- ---- A deal
+
+module _ (d : Deal) (ok : Dealable d) (few : d .cords ≤ mostCords) (limits : (n : ℕ) → n < d .nodes → d .limit n ≤ mostWatts)
+    (wants : (c : ℕ) → c < d .cords → d .want c ≤ mostWatts) where
+  wants-most : (n j : ℕ) → below (d .nodes) (d .parent) (d .cords) (d .node) n (atLevel d j (d .want)) ≤ mostSum
+  unfolding under
+  wants-most n j =
+      le-trans (le-of-eq (sym (under-is (d .nodes) (d .parent) (ok .rises) (d .cords) (d .node) (ok .here) n (atLevel d j (d .want)))))
+      (le-trans
+      (sum-most (d .cords) mostWatts _ (λ c l. on-most (beneath (d .parent) (d .nodes) n (d .node c)) _ mostWatts (on-most (eqb (d .level c) j) (d .want c) mostWatts (wants c l))))
+      (mul-le-mul-right mostWatts few))
+
+  pub asked-most : (n j : ℕ) → n < d .nodes → j < d .levels → asked d (request d) n j ≤ mostSum
+  asked-most n j l h = le-trans (asked-wants d ok (pcapmin d) (request d) (measured d ok) n j l h) (wants-most n j)
+
+  children-most : (n j : ℕ) → n < d .nodes → j < d .levels → at (childSums d n (drop (n + 1) (metrics d .requests)) (d .want)) j ≤ mostSum
+  unfolding metrics request asked
+  children-most n j l h =
+      le-trans
+      (le-of-eq
+      (ap (λ (z : ℕ). at (childSums d n (drop z (metrics d .requests)) (d .want)) j) (add-one n)
+      ∙ childSums-at d (ok .rises) n j (metrics d .requests) (d .want) l (requestsFrom-length d (pcapminsFrom d (d .nodes) 0) (d .nodes) 0) h))
+      (asked-most n j l h)
+
+  weights-most : (n j : ℕ) → n < d .nodes → j < d .levels → weightSum d (metrics d) n j ≤ mostSum
+  unfolding weightSum weights kids own pcapmin request
+  weights-most n j l h =
+      le-trans (weights-asked d ok (pcapmin d) (request d) (measured d ok) (amountOf d) _ (dealt d ok) n j l h) (asked-most n j l h)
+
+  amount-most : (n j : ℕ) → n < d .nodes → j < d .levels → amount d (metrics d) (n + 1) n j ≤ excess (metrics d) n j
+  unfolding amountOf pcapmin request
+  amount-most n j l h =
+      le-trans (le-of-eq (ap (λ (z : ℕ). amount d (metrics d) z n j) (add-one n)))
+      (amount-within d ok (pcapmin d) (request d) (measured d ok) (amountOf d) _ (dealt d ok) n l j h)
+
+  requests-most : (n : ℕ) → n < d .nodes → sumOf (getD (metrics d .requests) n []) ≤ d .limit n
+  unfolding request
+  requests-most n l =
+      le-trans
+      (le-of-eq (total-sum (λ a. a) 0 (getD (metrics d .requests) n []) ∙ ap (λ (k : ℕ). sum k (at (getD (metrics d .requests) n []))) (requests-levels d n l)))
+      (requests-fit d ok (pcapmin d) (request d) (measured d ok) n l)
+
+  pub request-most : (n j : ℕ) → n < d .nodes → j < d .levels → cell (metrics d .requests) n j ≤ mostWatts
+  unfolding request
+  request-most n j l h =
+      le-trans (sum-one-le (d .levels) j (request d n) h) (le-trans (requests-fit d ok (pcapmin d) (request d) (measured d ok) n l) (limits n l))
+
+  left-most : (n j : ℕ) → n < d .nodes → j < d .levels
+      → sumOf (take j (getD (metrics d .pcapmins) n [])) + sumOf (drop (j + 1) (getD (metrics d .requests) n [])) ≤ d .limit n
+  unfolding pcapmin request
+  left-most n j l h =
+      let k : ℕ = d .levels - (j + 1) in
+      let pl : length (getD (metrics d .pcapmins) n []) ≡ d .levels = pcapmins-levels d n l in
+      let rl : length (getD (metrics d .requests) n []) ≡ d .levels = requests-levels d n l in
+      let a : sumOf (take j (getD (metrics d .pcapmins) n [])) ≡ sum j (pcapmin d n) = sumOf-take (getD (metrics d .pcapmins) n []) j (omega arith) in
+      let b : sumOf (drop (j + 1) (getD (metrics d .requests) n [])) ≡ up k (j + 1) (request d n)
+      = total-drop (λ a. a) 0 (getD (metrics d .requests) n []) k (j + 1) (omega arith) in
+      let e : up k (j + 1) (request d n) ≡ up k (suc j) (request d n) = ap (λ (z : ℕ). up k z (request d n)) (add-one j) in
+      omega (arith, requests-left d ok (pcapmin d) (request d) (measured d ok) n l k j (omega arith))
+
+  product-most : (n j : ℕ) → n < d .nodes → j < d .levels → amount d (metrics d) (n + 1) n j * weightSum d (metrics d) n j < 2 ^ 58
+  product-most n j l h =
+      let a : amount d (metrics d) (n + 1) n j ≤ mostWatts = omega (arith, amount-most n j l h, request-most n j l h) in
+      omega (arith, mul-le-mul a (weights-most n j l h))
+
+  pub deal-bounded : DealBounded d
+  unfolding pcapmin request
+  deal-bounded = record {
+    limits = limits;
+    wants = wants;
+    lows = ok .wants;
+    left = left-most;
+    pcapmins = λ n j l h. pcapmin-request d ok (pcapmin d) (request d) (measured d ok) n l j h;
+    requests = requests-most;
+    children = children-most;
+    weights = weights-most;
+    amounts = amount-most;
+    products = product-most;
+  }
+
+-- ---- A plan
+
+module _ (r : Room) (ok : Accepted r) (demands : List ℕ) where
+  limit-most : (n : ℕ) → n < length (r .nodes) → limit (nodeAt r n) ≤ mostWatts
+  limit-most n l = omega (arith, ok .nodes n l .ratingTo)
+
+  needs-most : (v : ℕ) → v < length (r .servers) → at (needs r demands) v ≤ mostWatts
+  needs-most v l = le-trans (need-le r ok demands v l) (server-facts r ok v l .greatestTo)
+
+  firstWants-most : (c : ℕ) → c < roomCords r → at (firstWants r demands) c ≤ mostWatts
+  unfolding firstWants
+  firstWants-most c l =
+      le-trans (le-of-eq (carriedBy-at r (needs r demands) c l))
+      (le-trans (carried-most scale (cordAt r c .share) (at (needs r demands) (cordAt r c .server)) (omega arith) (cord-facts r ok c l .3))
+      (needs-most (cordAt r c .server) (cord-facts r ok c l .0)))
+
+  freed-most : freed r demands ≤ mostSum
+  unfolding freed
+  freed-most =
+      le-trans
+      (sumOf-most (stranded r (firstGrants r demands) (firstUsed r demands)) mostWatts (λ c l.
+      let q : c < roomCords r = omega (arith, stranded-length) in
+      omega (arith, stranded-at r (firstGrants r demands) (firstUsed r demands) c q, first-most r ok demands c q, firstWants-most c q)))
+      (le-trans (le-of-eq (ap (λ (k : ℕ). k * mostWatts) stranded-length)) (mul-le-mul-right mostWatts (ok .fewCords)))
+    where
+      stranded-length : length (stranded r (firstGrants r demands) (firstUsed r demands)) ≡ roomCords r
+      stranded-length = stranded-count r (firstGrants r demands) (firstUsed r demands)
+
+  -- A deal by wants at or above the lows that fit their words.
+  room-bounded : (wants : List ℕ) → ((c : ℕ) → c < roomCords r → at (lowsOf r) c ≤ at wants c) → ((c : ℕ) → c < roomCords r → at wants c ≤ mostWatts)
+      → DealBounded (dealOf r wants)
+  room-bounded wants h most =
+      subst DealBounded (sym (dealOf-is r wants)) (deal-bounded (roomDeal r wants) (room-dealable r ok wants h) (ok .fewCords) limit-most most)
+
+  pub bounded : Bounded r demands
+  bounded = record {
+    needs = needs-most;
+    freed = freed-most;
+    first = room-bounded (firstWants r demands) (firstWants-lows r ok demands) firstWants-most;
+    second = room-bounded (secondWants r demands) (secondWants-lows r ok demands)
+        (λ c l. le-trans (secondWants-wants r ok demands c l) (firstWants-most c l));
+  }

@@ -1,0 +1,223 @@
+-- The computed metrics and grants meet the deal's equations, so that what follows from these holds of the computed grants.
+use mathlib.Core.Path.{_≡_, refl, sym, ap, _∙_, subst}
+use mathlib.Core.List.{List, [], _∷_}
+use Prim.Native.Nat.{ℕ, zero, suc, _+_, _-_, _≤_, _<_, min}
+use native.Mathlib.Nat.{le-refl, le-trans, le-of-eq, zero-add, add-comm, not-suc-le-zero, le-of-suc-le-suc}
+use native.Mathlib.Omega.{arith}
+use lib.Dec.{eqb, leb}
+use lib.ListN.{length, getD, drop, drop-of-length-le}
+use lib.Seq.{drop-cons, drop-drop}
+use borrow.Author.Tests.{ne-eqb}
+use Rattle.rooms.specs.Sums.{on, sum}
+use Rattle.rooms.proofs.Sums.{on-no, sum-cong, sum-zero, sum-up, up}
+use Rattle.rooms.proofs.Trees.{kids, own, below, below-cong}
+use Rattle.deals.specs.Figures.{at, cell, sumOf}
+use Rattle.deals.specs.Metrics.{Deal, atLevel, overRows, childSums, pcapminsFrom, requestsAbove, requestsFrom, metrics, overCords}
+use Rattle.deals.specs.Split.{part}
+use Rattle.deals.specs.Dealing.{byNumber, nodeWeight, weightSum, beforeNode, beforeCord, amount, reached, granted}
+use Rattle.deals.specs.Promises.{GivesAll}
+use Rattle.deals.proofs.Lists.{figures-at, figures-length, total-drop}
+use Rattle.deals.proofs.Rows.{IsRow}
+use Rattle.deals.proofs.Equations.{Dealable, WholeWay, Measured, Dealt, fromLevel, asked, weights, grant, amount-within, gives-all, reached-excess, ours, most-above}
+
+-- ---- The rows of the nodes, from the last to the first
+
+module _ (d : Deal) where
+  overRows-drop : (n j : ℕ) (l : List (List ℕ)) (k a : ℕ) → a + k ≡ length l
+      → overRows d n j a (drop a l) ≡ up k a (λ m. on (eqb (d .parent m) (suc n)) (cell l m j))
+  unfolding overRows up
+  overRows-drop n j l zero a e = ap (overRows d n j a) (drop-of-length-le l {i = a} (omega arith))
+  overRows-drop n j l (suc k) a e =
+      ap (overRows d n j a) (drop-cons l a [] (omega arith))
+      ∙ ap (λ (z : ℕ). on (eqb (d .parent a) (suc n)) (cell l a j) + z) (overRows-drop n j l k (suc a) (omega arith))
+
+  -- No child stands before its parent: the rows after a node have all of its child nodes.
+  overRows-kids : ((m : ℕ) → m < d .nodes → d .parent m ≤ m) → (n j : ℕ) (l : List (List ℕ)) → n < d .nodes → length l ≡ d .nodes
+      → overRows d n j (suc n) (drop (suc n) l) ≡ kids (d .nodes) (d .parent) n (λ m. cell l m j)
+  unfolding kids
+  overRows-kids rises n j l h e =
+      let g : ℕ → ℕ = λ m. on (eqb (d .parent m) (suc n)) (cell l m j) in
+      let k : ℕ = d .nodes - suc n in
+      let z : sum (suc n) g ≡ 0
+      = sum-cong (suc n) g (λ m. 0) (λ m lm. on-no (eqb (d .parent m) (suc n)) (cell l m j) (ne-eqb (d .parent m) (suc n) (λ q. omega (arith, rises m (omega arith)))))
+      ∙ sum-zero (suc n) in
+      let u : suc n + k ≡ d .nodes = omega arith in
+      overRows-drop n j l k (suc n) (u ∙ sym e) ∙ omega (arith, sum-up k (suc n) (d .nodes) g u)
+
+  -- The children's sums, by the rows of all nodes.
+  pub childSums-at : ((m : ℕ) → m < d .nodes → d .parent m ≤ m) → (n j : ℕ) (l : List (List ℕ)) (w : ℕ → ℕ) → n < d .nodes → length l ≡ d .nodes
+      → j < d .levels
+      → at (childSums d n (drop (suc n) l) w) j ≡ kids (d .nodes) (d .parent) n (λ m. cell l m j) + own (d .cords) (d .node) n (atLevel d j w)
+  unfolding childSums own
+  childSums-at rises n j l w h e q =
+      figures-at (d .levels) j _ q ∙ ap (λ (z : ℕ). z + overCords d n j w) (overRows-kids rises n j l h e)
+
+  pub pcapminsFrom-length : (k a : ℕ) → length (pcapminsFrom d k a) ≡ k
+  unfolding pcapminsFrom
+  pcapminsFrom-length zero a = refl
+  pcapminsFrom-length (suc k) a = ap suc (pcapminsFrom-length k (suc a))
+
+  pcapminsFrom-at : (k a i n : ℕ) → a + i ≡ n → i < k
+      → getD (pcapminsFrom d k a) i [] ≡ childSums d n (drop (suc i) (pcapminsFrom d k a)) (d .low)
+  unfolding pcapminsFrom
+  pcapminsFrom-at zero a i n e h = absurd (not-suc-le-zero h)
+  pcapminsFrom-at (suc k) a zero n e h =
+      ap (λ (z : ℕ). childSums d z (pcapminsFrom d k (suc a)) (d .low)) (let q : a ≡ n = omega arith in q)
+  pcapminsFrom-at (suc k) a (suc i) n e h = pcapminsFrom-at k (suc a) i n (omega arith) (le-of-suc-le-suc h)
+
+  -- A node's row of Requests, by the rows after it.
+  requestRow : List (List ℕ) → ℕ → List (List ℕ) → List ℕ
+  requestRow pp n rows = requestsAbove (d .levels) 0 (d .limit n) 0 (cell pp n) (at (childSums d n rows (d .want)))
+
+  pub requestsFrom-length : (pp : List (List ℕ)) (k a : ℕ) → length (requestsFrom d pp k a) ≡ k
+  unfolding requestsFrom
+  requestsFrom-length pp zero a = refl
+  requestsFrom-length pp (suc k) a = ap suc (requestsFrom-length pp k (suc a))
+
+  requestsFrom-at : (pp : List (List ℕ)) (k a i n : ℕ) → a + i ≡ n → i < k
+      → getD (requestsFrom d pp k a) i [] ≡ requestRow pp n (drop (suc i) (requestsFrom d pp k a))
+  unfolding requestsFrom requestRow
+  requestsFrom-at pp zero a i n e h = absurd (not-suc-le-zero h)
+  requestsFrom-at pp (suc k) a zero n e h = ap (λ (z : ℕ). requestRow pp z (requestsFrom d pp k (suc a))) (let q : a ≡ n = omega arith in q)
+  requestsFrom-at pp (suc k) a (suc i) n e h = requestsFrom-at pp k (suc a) i n (omega arith) (le-of-suc-le-suc h)
+
+-- ---- One row of Requests
+
+module _ (mm limit : ℕ) (p s : ℕ → ℕ) where
+  row : List ℕ
+  row = requestsAbove mm 0 limit 0 p s
+
+  requestsAbove-length : (k j lower : ℕ) → length (requestsAbove k j limit lower p s) ≡ k
+  unfolding requestsAbove
+  requestsAbove-length zero j lower = refl
+  requestsAbove-length (suc k) j lower = ap suc (requestsAbove-length k (suc j) (lower + p j))
+
+  row-drop : (j k : ℕ) → j + k ≡ mm → drop j row ≡ requestsAbove k j limit (sum j p) p s
+  unfolding row requestsAbove sum
+  row-drop zero k e = ap (λ (z : ℕ). requestsAbove z 0 limit 0 p s) (let q : mm ≡ k = omega arith in q)
+  row-drop (suc j) k e =
+      ap (λ (z : ℕ). drop z row) (let q : suc j ≡ j + 1 = omega arith in q) ∙ sym (drop-drop 1 j row) ∙ ap (drop 1) (row-drop j (suc k) (omega arith))
+
+  -- The computed row is the row by its rule.
+  row-is : IsRow mm limit p s (at row)
+  unfolding row requestsAbove
+  row-is k j e =
+      let len : length row ≡ mm = requestsAbove-length mm 0 0 in
+      let a : drop j row ≡ requestsAbove (suc k) j limit (sum j p) p s = row-drop j (suc k) (omega arith) in
+      let c : drop j row ≡ at row j ∷ drop (suc j) row = drop-cons row j 0 (omega arith) in
+      ap (λ (l : List ℕ). at l 0) (sym c ∙ a)
+      ∙ ap (λ (z : ℕ). min (limit - z - sum j p) (s j))
+      (ap (λ (l : List ℕ). sumOf (drop 1 l)) (sym a ∙ c) ∙ total-drop (λ a. a) 0 row k (suc j) (omega arith))
+
+row-cong : (mm limit : ℕ) (p s q r : ℕ → ℕ) → ((j : ℕ) → j < mm → s j ≡ q j) → IsRow mm limit p s r → IsRow mm limit p q r
+row-cong mm limit p s q r e row k j h = row k j h ∙ ap (λ (z : ℕ). min (limit - up k (suc j) r - sum j p) z) (e j (omega arith))
+
+-- ---- The dealing
+
+byNumber-zero : (v a : ℕ) (f : ℕ → ℕ) → v ≡ 0 → byNumber v a f ≡ a
+byNumber-zero v a f e = ap (λ (z : ℕ). byNumber z a f) e
+
+byNumber-suc : (v a : ℕ) (f : ℕ → ℕ) (n : ℕ) → v ≡ suc n → byNumber v a f ≡ f n
+byNumber-suc v a f n e = ap (λ (z : ℕ). byNumber z a f) e
+
+-- Pcapmin, Request and amount of a deal, as functions of place and level.
+unfoldable pub pcapmin : Deal → ℕ → ℕ → ℕ
+pcapmin d = cell (metrics d .pcapmins)
+
+unfoldable pub request : Deal → ℕ → ℕ → ℕ
+request d = cell (metrics d .requests)
+
+unfoldable pub amountOf : Deal → ℕ → ℕ → ℕ
+amountOf d m j = amount d (metrics d) (suc m) m j
+
+-- Each row has a place for each level.
+pub pcapmins-levels : (d : Deal) (n : ℕ) → n < d .nodes → length (getD (metrics d .pcapmins) n []) ≡ d .levels
+unfolding metrics childSums
+pcapmins-levels d n l = ap length (pcapminsFrom-at d (d .nodes) 0 n n (zero-add n) l) ∙ figures-length (d .levels) _
+
+pub requests-levels : (d : Deal) (n : ℕ) → n < d .nodes → length (getD (metrics d .requests) n []) ≡ d .levels
+unfolding metrics requestRow
+requests-levels d n l =
+    ap length (requestsFrom-at d (pcapminsFrom d (d .nodes) 0) (d .nodes) 0 n n (zero-add n) l)
+    ∙ requestsAbove-length (d .levels) (d .limit n) _ _ (d .levels) 0 0
+
+module _ (d : Deal) (ok : Dealable d) where
+  pub measured : Measured d (pcapmin d) (request d)
+  unfolding pcapmin request metrics requestRow asked row
+  measured = record {
+    lowest = λ n j l h.
+        ap (λ (z : List ℕ). at z j) (pcapminsFrom-at d (d .nodes) 0 n n (zero-add n) l)
+        ∙ childSums-at d (ok .rises) n j (pcapminsFrom d (d .nodes) 0) (d .low) l (pcapminsFrom-length d (d .nodes) 0) h;
+    request = λ n l.
+        let rows : List (List ℕ) = requestsFrom d (pcapminsFrom d (d .nodes) 0) (d .nodes) 0 in
+        let sums : List ℕ = childSums d n (drop (suc n) rows) (d .want) in
+        row-cong (d .levels) (d .limit n) (pcapmin d n) (at sums) (asked d (request d) n) (request d n)
+        (λ j h. childSums-at d (ok .rises) n j rows (d .want) l (requestsFrom-length d (pcapminsFrom d (d .nodes) 0) (d .nodes) 0) h)
+        (subst (λ (z : List ℕ). IsRow (d .levels) (d .limit n) (pcapmin d n) (at sums) (at z))
+        (sym (requestsFrom-at d (pcapminsFrom d (d .nodes) 0) (d .nodes) 0 n n (zero-add n) l))
+        (row-is (d .levels) (d .limit n) (pcapmin d n) (at sums)));
+  }
+
+  -- What the node at place m has of its parent's amount z.
+  nodePart : ℕ → ℕ → ℕ → ℕ → ℕ
+  nodePart m n j z = part z (weightSum d (metrics d) n j) (beforeNode d (metrics d) n m j) (nodeWeight d (metrics d) m j)
+
+  -- Steps beyond the node's place change nothing.
+  amount-steps : (j k l m : ℕ) → m < d .nodes → m < k → m < l → amount d (metrics d) k m j ≡ amount d (metrics d) l m j
+  unfolding amount nodePart
+  amount-steps j zero l m h a b = absurd (not-suc-le-zero a)
+  amount-steps j (suc k) zero m h a b = absurd (not-suc-le-zero b)
+  amount-steps j (suc k) (suc l) m h a b = go (d .parent m) refl (λ n. amount-steps j k l n)
+    where
+      go : (v : ℕ) → d .parent m ≡ v
+          → ((n : ℕ) → n < d .nodes → n < k → n < l → amount d (metrics d) k n j ≡ amount d (metrics d) l n j)
+          → amount d (metrics d) (suc k) m j ≡ amount d (metrics d) (suc l) m j
+      go zero e ih = byNumber-zero (d .parent m) _ _ e ∙ sym (byNumber-zero (d .parent m) _ _ e)
+      go (suc n) e ih =
+          let u : n < m = subst (λ (z : ℕ). z ≤ m) e (ok .rises m h) in
+          byNumber-suc (d .parent m) _ _ n e ∙ ap (nodePart m n j) (ih n (omega arith) (omega arith) (omega arith))
+          ∙ sym (byNumber-suc (d .parent m) _ _ n e)
+
+  pub dealt : Dealt d (pcapmin d) (request d) (amountOf d) (reached d (metrics d))
+  unfolding amountOf amount reached nodePart weightSum weights beforeNode beforeCord kids own pcapmin request
+  dealt = record {
+    root = λ m j l e. byNumber-zero (d .parent m) _ _ e;
+    inner = λ m n j l e.
+        let u : n < m = subst (λ (z : ℕ). z ≤ m) e (ok .rises m l) in
+        byNumber-suc (d .parent m) _ _ n e ∙ ap (nodePart m n j) (amount-steps j m (suc n) n (omega arith) u (le-refl (suc n)));
+    leaf = λ c n l e. byNumber-suc (d .node c) _ _ n e;
+  }
+
+  pub granted-at : (c : ℕ) → c < d .cords → at (granted d) c ≡ d .low c + reached d (metrics d) c
+  unfolding granted
+  granted-at c l = figures-at (d .cords) c _ l
+
+  -- The computed grants are a way of dealing.
+  pub granted-way : WholeWay d (at (granted d))
+  unfolding grant
+  granted-way =
+      let o : WholeWay d (grant d ok (pcapmin d) (request d) measured (amountOf d) (reached d (metrics d)) dealt)
+      = ours d ok (pcapmin d) (request d) measured (amountOf d) (reached d (metrics d)) dealt in
+      record {
+        least = λ c l. le-trans (o .least c l) (le-of-eq (sym (granted-at c l)));
+        most = λ c l. le-trans (le-of-eq (granted-at c l)) (o .most c l);
+        within = λ n l. le-trans (le-of-eq (below-cong (d .nodes) (d .parent) (d .cords) (d .node) n (at (granted d)) _ granted-at)) (o .within n l);
+      }
+
+  -- No other way gives the cords beneath a root, of a level and above, more.
+  pub granted-most : (f : ℕ → ℕ) → WholeWay d f → (n : ℕ) → n < d .nodes → d .parent n ≡ 0 → (j : ℕ) → j ≤ d .levels
+      → below (d .nodes) (d .parent) (d .cords) (d .node) n (fromLevel d j f)
+      ≤ below (d .nodes) (d .parent) (d .cords) (d .node) n (fromLevel d j (at (granted d)))
+  unfolding grant
+  granted-most f wf n l e j h =
+      le-trans (most-above d ok (pcapmin d) (request d) measured (amountOf d) (reached d (metrics d)) dealt f wf n l e j h)
+      (le-of-eq (below-cong (d .nodes) (d .parent) (d .cords) (d .node) n _ _ (λ c lc. ap (λ (z : ℕ). on (leb j (d .level c)) z) (sym (granted-at c lc)))))
+
+  -- Every node gives its children all of its amount, and none of them more than its excess.
+  pub deal-gives-all : GivesAll d
+  unfolding amountOf pcapmin request kids own
+  deal-gives-all = record {
+    all = λ n j l h. add-comm _ _ ∙ gives-all d ok (pcapmin d) (request d) measured (amountOf d) (reached d (metrics d)) dealt n j l h;
+    toNode = λ m j l h. amount-within d ok (pcapmin d) (request d) measured (amountOf d) (reached d (metrics d)) dealt m l j h;
+    toCord = reached-excess d ok (pcapmin d) (request d) measured (amountOf d) (reached d (metrics d)) dealt;
+  }

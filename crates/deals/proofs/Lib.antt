@@ -1,0 +1,38 @@
+-- The laws of `deals`, from the ground up.
+
+-- Lists of figures, one node's row of Requests, and the split.
+pub mod Lists
+pub mod Rows
+pub mod Splits
+-- One deal: what follows from its equations, and that the computed figures meet them.
+pub mod Equations
+pub mod Computed
+pub mod Inside
+pub mod OneTree
+-- The deals of a room whose table is accepted.
+pub mod Cords
+pub mod Loads
+pub mod RoomDeals
+pub mod BothDeals
+pub mod LowerRanks
+pub mod Bounds
+-- The whole plan, the promises, and the rooms worked by hand.
+pub mod Plans
+pub mod Lent
+pub mod Promises
+pub mod WorkedRooms
+-- The passes of the code: over the nodes and cords of a rank, rank by rank, and over the servers of a table.
+pub mod NodeSums
+pub mod Gathering
+pub mod Serving
+pub mod NodeTurns
+pub mod CordTurns
+pub mod Marks
+pub mod Ranks
+pub mod RankLoop
+pub mod Filled
+pub mod Walk
+pub mod Loading
+pub mod Reclaiming
+pub mod Planning
+pub mod PlanCall

@@ -1,0 +1,272 @@
+-- Laws of figures summed on nodes: of a list that is cleared, of cords' figures credited to their nodes, and of the pass from the last
+-- node to the first that sums over all nodes beneath each.
+use mathlib.Core.Path.{_≡_, refl, sym, ap, ap₂, _∙_}
+use mathlib.Core.Bool.{Bool, true, false}
+use mathlib.Core.List.{List}
+use mathlib.Core.Logic.{_⊎_, inl, inr}
+use Prim.Native.Nat.{ℕ, zero, suc, _+_, _-_, _*_, _^_, _≤_, _<_}
+use native.Mathlib.Nat.{eq-or-lt-of-le}
+use native.Mathlib.Numerals.{add-one}
+use native.Mathlib.Omega.{arith}
+use lib.Dec.{eqb, eqb·suc-suc}
+use lib.ListN.{length, set, replicate, length-set, length-replicate}
+use lib.Seq.{getD-set-same, getD-set-other, ext-getD}
+use borrow.Author.Tests.{eq-eqb, ne-eqb}
+use Rattle.rooms.specs.Sums.{on, sum}
+use Rattle.rooms.specs.Table.{mostCords, mostWatts}
+use Rattle.rooms.specs.Limits.{beneath}
+use Rattle.rooms.specs.Credits.{sumBeneath, credited}
+use Rattle.rooms.proofs.Sums.{on-yes, on-no, sum-suc, sum-none, sum-cong, sum-le, sum-one, sum-swap, sum-up}
+use Rattle.rooms.proofs.Trees.{kids, kids-cong, own, below-step, down, under, under-is}
+use Rattle.rooms.proofs.Credits.{credited-at, credited-length, zeros-at, sumBeneath-step, sumBeneath-most}
+use Rattle.rooms.proofs.Gather.{Holds, holds-start, holds-turn, holds-most, holds-whole}
+use Rattle.deals.specs.Figures.{at}
+use Rattle.deals.specs.Passes.{onNode}
+use Rattle.deals.proofs.Lists.{sum-most}
+
+-- ---- A list that is cleared
+
+-- The places below i hold 0.
+pub record Cleared (start : List ℕ) (i : ℕ) (list : List ℕ) : Type 0 where
+  pub size : length list ≡ length start
+  pub zeros : (k : ℕ) → k < i → at list k ≡ 0
+
+pub cleared-start : (start : List ℕ) → Cleared start 0 start
+cleared-start start = record { size = refl; zeros = λ k l. absurd (omega arith) }
+
+module _ {start list : List ℕ} {i : ℕ} where
+  pub cleared-turn : Cleared start i list → i < length start → Cleared start (i + 1) (set list i 0)
+  cleared-turn inv h =
+      record {
+        size = length-set list i 0 ∙ inv .size;
+        zeros = λ k l. go k (eq-or-lt-of-le {n = k} {m = i} (omega arith));
+      }
+    where
+      go : (k : ℕ) → (k ≡ i) ⊎ (k < i) → at (set list i 0) k ≡ 0
+      go k (inl e) = rw e (getD-set-same list i 0 0 (omega (arith, inv .size)))
+      go k (inr l) = getD-set-other list i k 0 0 (λ e. omega arith) ∙ inv .zeros k l
+
+  pub cleared-end : Cleared start i list → length start ≤ i → list ≡ replicate (length start) 0
+  cleared-end inv h =
+      ext-getD 0 list (replicate (length start) 0) (inv .size ∙ sym (length-replicate (length start) 0))
+      (λ k l. inv .zeros k (omega (arith, inv .size)) ∙ sym (zeros-at (length start) k))
+
+-- ---- Figures of cords, summed on the cords' nodes
+
+on-most : (t : Bool) (a : ℕ) → on t a ≤ a
+on-most true a = omega arith
+on-most false a = omega arith
+
+on-zero : (t : Bool) (a : ℕ) → a ≡ 0 → on t a ≡ 0
+on-zero true a e = e
+on-zero false a e = refl
+
+-- What hangs on one node is within the sum of all.
+own-most : (kk : ℕ) (node : ℕ → ℕ) (n : ℕ) (figure : ℕ → ℕ) → own kk node n figure ≤ sum kk figure
+unfolding own
+own-most kk node n figure = sum-le kk _ figure (λ c l. on-most (eqb (node c) (suc n)) (figure c))
+
+-- Each cord hangs on one node, so the nodes' sums have each cord's figure once.
+pub sum-own : (count kk : ℕ) (node figure : ℕ → ℕ) → ((c : ℕ) → c < kk → (1 ≤ node c) × (node c ≤ count))
+    → sum count (λ n. own kk node n figure) ≡ sum kk figure
+unfolding own
+sum-own count kk node figure hangs =
+    sum-swap count kk (λ n c. on (eqb (node c) (suc n)) (figure c)) ∙ sum-cong kk _ figure (λ c l. one (node c) (figure c) (hangs c l .0) (hangs c l .1))
+  where
+    one : (x a : ℕ) → 1 ≤ x → x ≤ count → sum count (λ n. on (eqb x (suc n)) a) ≡ a
+    one zero a p l = absurd (omega arith)
+    one (suc m) a p l = sum-cong count _ _ (λ n h. ap (λ (t : Bool). on t a) (eqb·suc-suc m n)) ∙ sum-one count m (λ n. a) l
+
+-- A figure of the cords of a level: 0 at every other cord.
+unfoldable pub ofLevel : List ℕ → List ℕ → ℕ → ℕ → ℕ
+ofLevel levels figures level c = on (eqb (at levels c) level) (at figures c)
+
+module _ (levels figures : List ℕ) (level c : ℕ) where
+  pub ofLevel-most : ofLevel levels figures level c ≤ at figures c
+  unfolding ofLevel
+  ofLevel-most = on-most (eqb (at levels c) level) (at figures c)
+
+  pub ofLevel-yes : at levels c ≡ level → at figures c ≡ ofLevel levels figures level c
+  unfolding ofLevel
+  ofLevel-yes e = sym (on-yes (eqb (at levels c) level) (at figures c) (eq-eqb (at levels c) level e))
+
+  pub ofLevel-no : (at levels c ≡ level → ⊥) → ofLevel levels figures level c ≡ 0
+  unfolding ofLevel
+  ofLevel-no d = on-no (eqb (at levels c) level) (at figures c) (ne-eqb (at levels c) level d)
+
+-- The sum on a node is that of its own cords of the level.
+pub onNode-own : (nodes levels figures : List ℕ) (level n : ℕ) → onNode nodes levels figures level n ≡ own (length nodes) (at nodes) n (ofLevel levels figures level)
+unfolding own ofLevel
+onNode-own nodes levels figures level n = refl
+
+-- Each of so many cords hangs on a node, and its figure is within the watts of a word.
+abbrev pub Hangs : ℕ → ℕ → (ℕ → ℕ) → (ℕ → ℕ) → Type 0
+Hangs count kk node figure = (c : ℕ) → c < kk → (1 ≤ node c) × (node c ≤ count) × (figure c ≤ mostWatts)
+
+-- The figures of the first c cords are summed on their nodes.
+pub record Credited (count : ℕ) (node figure : ℕ → ℕ) (c : ℕ) (sums : List ℕ) : Type 0 where
+  pub size : length sums ≡ count
+  pub sums-are : (n : ℕ) → n < count → at sums n ≡ own c node n figure
+
+-- Before the first cord the sums are cleared.
+pub credited-start : (node figure : ℕ → ℕ) (start : List ℕ) {sums : List ℕ} → sums ≡ replicate (length start) 0 → Credited (length sums) node figure 0 sums
+unfolding own
+credited-start node figure start e =
+    record {
+      size = refl;
+      sums-are = λ n l. ap (λ (x : List ℕ). at x n) e ∙ zeros-at (length start) n ∙ sym (sum-none (λ c. on (eqb (node c) (suc n)) (figure c)));
+    }
+
+module _ {count : ℕ} {node figure : ℕ → ℕ} {c : ℕ} {sums : List ℕ} (inv : Credited count node figure c sums) where
+  -- One cord more, whose figure is credited to its node.
+  pub credited-more : {x a : ℕ} {sums′ : List ℕ} → node c ≤ count → x ≡ node c → a ≡ figure c → sums′ ≡ credited x a sums → Credited count node figure (c + 1) sums′
+  unfolding own
+  credited-more {sums′ = sums′} h ex ea es =
+      let r : sums′ ≡ credited (node c) (figure c) sums = es ∙ ap₂ (λ (y b : ℕ). credited y b sums) ex ea in
+      rw (add-one, r)
+      (record {
+        size = credited-length (node c) (figure c) sums ∙ inv .size;
+        sums-are = λ n l. credited-at (node c) (figure c) sums n (omega (arith, inv .size))
+            ∙ ap (λ (z : ℕ). z + on (eqb (node c) (suc n)) (figure c)) (inv .sums-are n l)
+            ∙ sym (sum-suc c (λ i. on (eqb (node i) (suc n)) (figure i)));
+      })
+
+  -- One cord more, whose figure does not count.
+  pub credited-none : figure c ≡ 0 → Credited count node figure (c + 1) sums
+  unfolding own
+  credited-none e =
+      rw add-one
+      (record {
+        size = inv .size;
+        sums-are = λ n l. omega (
+          arith,
+          inv .sums-are n l,
+          sum-suc c (λ i. on (eqb (node i) (suc n)) (figure i)),
+          on-zero (eqb (node c) (suc n)) (figure c) e,
+        );
+      })
+
+  -- After the last cord each node has the sum of its own.
+  pub credited-end : (kk : ℕ) → c ≡ kk → (n : ℕ) → n < count → at sums n ≡ own kk node n figure
+  credited-end kk e n l = inv .sums-are n l ∙ ap (λ (k : ℕ). own k node n figure) e
+
+  module _ {kk : ℕ} (few : kk ≤ mostCords) where
+    -- The next cord's credit has a place, and does not overflow: no sum passes the most that so many cords have.
+    pub credited-fits : {whole : ℕ → ℕ} → Hangs count kk node whole → ((i : ℕ) → figure i ≤ whole i) → c < kk → {x a : ℕ} → x ≡ node c → a ≡ whole c
+        → (x ≤ length sums) × (at sums (x - 1) + a < 2 ^ 64)
+    credited-fits {whole} hangs part l {x} ex ea =
+        let h = hangs c l in
+        let most : own c node (x - 1) figure ≤ c * mostWatts
+        = omega (arith, own-most c node (x - 1) figure, sum-most c mostWatts figure (λ i g. omega (arith, hangs i (omega arith), part i))) in (
+          omega (arith, inv .size, h .1),
+          omega (arith, h .0, h .1, h .2, inv .sums-are (x - 1) (omega (arith, h .0, h .1))),
+        )
+
+    -- All nodes' sums together do not pass it either.
+    pub credited-sum : c ≡ kk → Hangs count kk node figure → {size : ℕ} → count ≡ size → (length sums ≡ size) × (sum size (at sums) ≤ mostCords * mostWatts)
+    credited-sum e hangs z = (
+      inv .size ∙ z,
+      omega (
+        arith,
+        ap (λ (k : ℕ). sum k (at sums)) z,
+        sum-cong count (at sums) (λ n. own c node n figure) (λ n l. inv .sums-are n l),
+        sum-own count c node figure (λ i l. (hangs i (omega arith) .0, hangs i (omega arith) .1)),
+        sum-most c mostWatts figure (λ i l. hangs i (omega arith) .2),
+      ),
+    )
+
+-- The sums of a level on all nodes together do not pass the most that all cords have.
+pub onNode-sum : (count : ℕ) (nodes levels figures : List ℕ) (level : ℕ) (sums : ℕ → ℕ) → length nodes ≤ mostCords → Hangs count (length nodes) (at nodes) (at figures)
+    → ((n : ℕ) → n < count → sums n ≡ onNode nodes levels figures level n) → sum count sums ≤ mostCords * mostWatts
+onNode-sum count nodes levels figures level sums few hangs are =
+    let figure : ℕ → ℕ = ofLevel levels figures level in
+    omega (
+      arith,
+      sum-cong count sums (λ n. own (length nodes) (at nodes) n figure) (λ n l. are n l ∙ onNode-own nodes levels figures level n),
+      sum-own count (length nodes) (at nodes) figure (λ c l. (hangs c l .0, hangs c l .1)),
+      sum-most (length nodes) mostWatts figure (λ c l. omega (arith, ofLevel-most levels figures level c, hangs c l)),
+    )
+
+-- ---- Sums over all nodes beneath a node
+
+-- A node's own cords, summed over all nodes beneath it, are the cords beneath it.
+pub sumBeneath-own : (count : ℕ) (parent : ℕ → ℕ) → ((m : ℕ) → m < count → parent m ≤ m) → (kk : ℕ) (node : ℕ → ℕ) → ((c : ℕ) → c < kk → node c ≤ count)
+    → (figure sums : ℕ → ℕ) → ((n : ℕ) → n < count → sums n ≡ own kk node n figure)
+    → (n : ℕ) → n < count → sumBeneath parent count sums n ≡ sum kk (λ c. on (beneath parent count n (node c)) (figure c))
+unfolding under
+sumBeneath-own count parent rises kk node here figure sums are =
+    down count (λ n. sumBeneath parent count sums n ≡ under count parent kk node n figure)
+    (λ n l later.
+    sumBeneath-step count parent rises sums n l
+    ∙ ap₂ _+_ (are n l)
+    (kids-cong count parent n _ _ (λ m h e. later m h (omega (arith, rises m h)) ∙ under-is count parent rises kk node here m figure))
+    ∙ sym (below-step count parent rises kk node here n figure)
+    ∙ sym (under-is count parent rises kk node here n figure))
+
+-- When all nodes had their turns, each has what all its children passed to it.
+pub holds-end : (count : ℕ) (parent own passed : ℕ → ℕ) (done : ℕ) (now : ℕ → ℕ) → 0 + done ≡ count → Holds count parent own passed done 0 now
+    → (i : ℕ) → i < count → now i ≡ own i + kids count parent i passed
+unfolding Holds kids
+holds-end count parent own passed done now e h i l =
+    let f : ℕ → ℕ = λ m. on (eqb (parent m) (suc i)) (passed m) in
+    omega (arith, h i l, sum-up done 0 count f e, sum-none f)
+
+-- The figures that stand on the nodes, summed over each node and all beneath it.
+abbrev pub beneathAll : List ℕ → List ℕ → ℕ → ℕ
+beneathAll parents start = sumBeneath (at parents) (length parents) (at start)
+
+-- Every parent's number is below its child's.
+abbrev pub Rises : List ℕ → Type 0
+Rises parents = (m : ℕ) → m < length parents → at parents m ≤ m
+
+-- Before the turn of the node at place n - 1: the nodes from n on have passed their sums on.
+pub record Summing (parents start : List ℕ) (n : ℕ) (sums : List ℕ) : Type 0 where
+  pub done : ℕ
+  pub all : n + done ≡ length parents
+  pub held : Holds (length parents) (at parents) (at start) (beneathAll parents start) done n (at sums)
+  pub size : length sums ≡ length start
+
+pub summing-start : (parents start : List ℕ) → Summing parents start (length parents) start
+summing-start parents start =
+    record { done = 0; all = omega arith; held = holds-start (length parents) (at parents) (at start) (beneathAll parents start); size = refl }
+
+module _ {parents start : List ℕ} (rises : Rises parents) where
+  pub summing-end : {n : ℕ} {sums : List ℕ} → Summing parents start n sums → n ≤ 0 → (m : ℕ) → m < length parents → at sums m ≡ beneathAll parents start m
+  summing-end {n = zero} {sums = sums} inv z m l =
+      holds-end (length parents) (at parents) (at start) (beneathAll parents start) (inv .done) (at sums) (inv .all) (inv .held) m l
+      ∙ sym (sumBeneath-step (length parents) (at parents) rises (at start) m l)
+  summing-end {n = suc k} inv z m l = absurd (omega arith)
+
+  -- No sum ever passes the sum of all, so no credit overflows.
+  pub summing-most : {n : ℕ} {sums : List ℕ} → Summing parents start n sums → (m : ℕ) → m < length parents → at sums m ≤ sum (length parents) (at start)
+  summing-most {n} {sums} inv m l =
+      omega (
+        arith,
+        holds-most (length parents) (at parents) (at start) (beneathAll parents start) (inv .done) n (at sums) (inv .all) (inv .held) m l,
+        sumBeneath-step (length parents) (at parents) rises (at start) m l,
+        sumBeneath-most (length parents) (at parents) (at start) m,
+      )
+
+  turned : (m : ℕ) (sums : List ℕ) → length start ≡ length parents → Summing parents start (suc m) sums → Summing parents start m (credited (at parents m) (at sums m) sums)
+  turned m sums h inv =
+      let r = rises m (omega (arith, inv .all)) in
+      let own : ℕ → ℕ = at start in
+      let passed : ℕ → ℕ = beneathAll parents start in
+      let whole : at sums m ≡ passed m
+      = holds-whole (length parents) (at parents) own passed rises (inv .done) m (at sums) (inv .all) (inv .held)
+      ∙ sym (sumBeneath-step (length parents) (at parents) rises own m (omega (arith, inv .all))) in
+      let sums′ : List ℕ = credited (at parents m) (at sums m) sums in
+      record {
+        done = suc (inv .done);
+        all = omega (arith, inv .all);
+        held = holds-turn (length parents) (at parents) own passed (inv .done) m (at sums) (at sums′) (inv .held)
+            (λ i l. credited-at (at parents m) (at sums m) sums i (omega (arith, inv .all, inv .size))
+            ∙ ap (λ (x : ℕ). at sums i + on (eqb (at parents m) (suc i)) x) whole);
+        size = credited-length (at parents m) (at sums m) sums ∙ inv .size;
+      }
+
+  -- One turn, in the terms of the code.
+  pub summing-turn : {n : ℕ} {sums : List ℕ} {parent : ℕ} {sums′ : List ℕ} → length start ≡ length parents → Summing parents start n sums → 0 < n
+      → parent ≡ at parents (n - 1) → sums′ ≡ credited parent (at sums (n - 1)) sums → Summing parents start (n - 1) sums′
+  summing-turn {n = zero} h inv p ep es = absurd (omega arith)
+  summing-turn {n = suc m} {sums = sums} h inv p ep es = let e : suc m - 1 ≡ m = omega arith in rw (es, ep, e) (turned m sums h inv)

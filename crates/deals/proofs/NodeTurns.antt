@@ -1,0 +1,178 @@
+-- The turns of a rank's dealing to the nodes, from the first place to the last: a node's amount is set before any child of it is served.
+use mathlib.Core.Path.{_≡_, sym, ap, ap₂, subst, _∙_}
+use mathlib.Core.List.{List}
+use Prim.Native.Nat.{ℕ, suc, _+_, _*_, _-_, _≤_, _<_}
+use native.Mathlib.Nat.{le-trans}
+use native.Mathlib.Numerals.{add-one}
+use native.Mathlib.Omega.{arith}
+use lib.Dec.{eqb}
+use lib.ListN.{length, set, length-set}
+use lib.Seq.{getD-set-same, getD-set-other}
+use borrow.Author.Count.{below-more}
+use borrow.Author.Tests.{eq-eqb, ne-eqb}
+use Rattle.rooms.specs.Sums.{on}
+use Rattle.rooms.specs.Table.{mostNodes, mostWatts, mostCords, highestRank}
+use Rattle.rooms.proofs.Sums.{on-yes, on-no, sum-suc, sum-cong, sum-zero}
+use Rattle.deals.specs.Figures.{at, cell}
+use Rattle.deals.specs.Split.{part}
+use Rattle.deals.specs.Passes.{weightOf, wholeOf, childrenBefore, overChildren, NodesDealt}
+use Rattle.deals.proofs.Serving.{part-le-amount, sum-within, MayServe, HasServed, Served, served-same, served-amount, served-part, served-next, may-serve}
+
+-- What the pass takes of the nodes.
+pub record NodesReady (parents : List ℕ) (level : ℕ) (rows : List (List ℕ)) (pcapmins asked : List ℕ) : Type 0 where
+  pub few : length parents ≤ mostNodes
+  pub ranked : level < highestRank
+  pub rises : (m : ℕ) → m < length parents → at parents m ≤ m
+  pub pcapmins-size : length pcapmins ≡ length parents
+  pub asked-size : length asked ≡ length parents
+  pub bounds : (n : ℕ) → n < length parents
+      → (at pcapmins n ≤ cell rows n level)
+      × (cell rows n level ≤ mostWatts)
+      × (at pcapmins n ≤ at asked n)
+      × (at asked n ≤ mostCords * mostWatts)
+      × (overChildren parents (weightOf rows level pcapmins) n ≤ wholeOf pcapmins asked n)
+
+-- The weights of the children of the node at place n that stand before place m.
+abbrev pub weightsBefore : List ℕ → ℕ → List (List ℕ) → List ℕ → ℕ → ℕ → ℕ
+weightsBefore parents level rows pcapmins m n = childrenBefore parents (weightOf rows level pcapmins) n m
+
+-- The amount of the node at place h.
+pub record NodeDealt (parents : List ℕ) (level : ℕ) (rows : List (List ℕ)) (pcapmins asked amounts : List ℕ) (h : ℕ) : Type 0 where
+  pub root : at parents h ≡ 0 → at amounts h ≡ weightOf rows level pcapmins h
+  pub inner : (n : ℕ) → at parents h ≡ suc n
+      → at amounts h ≡ part (at amounts n) (wholeOf pcapmins asked n) (weightsBefore parents level rows pcapmins h n) (weightOf rows level pcapmins h)
+  pub most : at amounts h ≤ mostWatts
+
+-- Before the turn at place m: the nodes before it have their amounts, and are served as children.
+pub record NodeTurn (parents : List ℕ) (level : ℕ) (rows : List (List ℕ)) (pcapmins asked : List ℕ) (m : ℕ) (amounts before dealt : List ℕ) : Type 0 where
+  pub ready : NodesReady parents level rows pcapmins asked
+  pub reached : m ≤ length parents
+  pub amounts-size : length amounts ≡ length parents
+  pub nodes : (h : ℕ) → h < m → NodeDealt parents level rows pcapmins asked amounts h
+  pub served : Served (length parents) (wholeOf pcapmins asked) amounts (weightsBefore parents level rows pcapmins m) before dealt
+
+module _ {parents : List ℕ} {level : ℕ} {rows : List (List ℕ)} {pcapmins asked : List ℕ} where
+  pub nodes-start : {amounts before dealt : List ℕ} → NodesReady parents level rows pcapmins asked → length amounts ≡ length parents
+      → Served (length parents) (wholeOf pcapmins asked) amounts (weightsBefore parents level rows pcapmins 0) before dealt
+      → NodeTurn parents level rows pcapmins asked 0 amounts before dealt
+  nodes-start ready size served = record { ready = ready; reached = omega arith; amounts-size = size; nodes = λ h l. absurd (omega arith); served = served }
+
+  pub nodes-end : {m : ℕ} {amounts before dealt : List ℕ} → NodeTurn parents level rows pcapmins asked m amounts before dealt → length parents ≤ m
+      → NodesDealt parents level rows pcapmins asked amounts before dealt
+  nodes-end {m} turn end =
+      let e : m ≡ length parents = omega (arith, turn .reached) in
+      record {
+        root = λ h l. turn .nodes h (le-trans l end) .root;
+        inner = λ h n l. turn .nodes h (le-trans l end) .inner n;
+        most = λ h l. turn .nodes h (le-trans l end) .most;
+        served = λ n l. turn .served .before-is n l ∙ ap (childrenBefore parents (weightOf rows level pcapmins) n) e;
+        dealt-is = turn .served .dealt-is;
+      }
+
+  module _ {m : ℕ} {amounts before dealt : List ℕ} (turn : NodeTurn parents level rows pcapmins asked m amounts before dealt) (more : m < length parents) where
+    -- The node's children stand after it.
+    children-none : weightsBefore parents level rows pcapmins (m + 1) m ≡ 0
+    children-none =
+        sum-cong (m + 1) (λ i. on (eqb (at parents i) (suc m)) (weightOf rows level pcapmins i)) (λ i. 0) (λ i l. on-no (eqb (at parents i) (suc m)) (weightOf rows level pcapmins i) (ne-eqb (at parents i) (suc m) (λ e. omega (arith, turn .ready .rises i (omega arith)))))
+        ∙ sum-zero (m + 1)
+
+    weights-next : (n : ℕ)
+        → weightsBefore parents level rows pcapmins (m + 1) n ≡ weightsBefore parents level rows pcapmins m n + on (eqb (at parents m) (suc n)) (weightOf rows level pcapmins m)
+    weights-next n =
+        ap (childrenBefore parents (weightOf rows level pcapmins) n) (add-one m)
+        ∙ sum-suc m (λ h. on (eqb (at parents h) (suc n)) (weightOf rows level pcapmins h))
+
+    -- The node's amount is stored.
+    module _ (a : ℕ) {amounts′ : List ℕ} (e : amounts′ ≡ set amounts m a) where
+      stored : at amounts′ m ≡ a
+      stored = ap (λ (l : List ℕ). at l m) e ∙ getD-set-same amounts m a 0 (omega (arith, turn .amounts-size))
+
+      kept : (h : ℕ) → h < m → at amounts′ h ≡ at amounts h
+      kept h l = ap (λ (k : List ℕ). at k h) e ∙ getD-set-other amounts m h a 0 (λ q. omega arith)
+
+      node-kept : (h : ℕ) → h < m → NodeDealt parents level rows pcapmins asked amounts′ h
+      node-kept h l =
+          let node = turn .nodes h l in
+          record {
+            root = λ z. kept h l ∙ node .root z;
+            inner = λ n z. kept h l
+                ∙ node .inner n z
+                ∙ ap (λ (x : ℕ). part x (wholeOf pcapmins asked n) (weightsBefore parents level rows pcapmins h n) (weightOf rows level pcapmins h)) (sym (kept n (omega (arith, turn .ready .rises h (omega arith)))));
+            most = omega (arith, kept h l, node .most);
+          }
+
+      node-next : {before′ dealt′ : List ℕ} → NodeDealt parents level rows pcapmins asked amounts′ m
+          → Served (length parents) (wholeOf pcapmins asked) amounts (weightsBefore parents level rows pcapmins (m + 1)) before′ dealt′
+          → NodeTurn parents level rows pcapmins asked (m + 1) amounts′ before′ dealt′
+      node-next node served =
+          record {
+            ready = turn .ready;
+            reached = omega arith;
+            amounts-size = ap length e ∙ length-set amounts m a ∙ turn .amounts-size;
+            nodes = below-more (NodeDealt parents level rows pcapmins asked amounts′) m node-kept node;
+            served = served-amount served m a e children-none;
+          }
+
+    module _ (request parent : ℕ) (request-is : request ≡ cell rows m level) (parent-is : parent ≡ at parents m) where
+      weight-is : request - at pcapmins m ≡ weightOf rows level pcapmins m
+      weight-is = ap (λ (x : ℕ). x - at pcapmins m) request-is
+
+      pub root-next : {amounts′ before′ dealt′ : List ℕ} → parent ≡ 0 → amounts′ ≡ set amounts m (request - at pcapmins m) → before′ ≡ before → dealt′ ≡ dealt
+          → NodeTurn parents level rows pcapmins asked (m + 1) amounts′ before′ dealt′
+      root-next top e b d =
+          node-next (request - at pcapmins m) e
+          (record {
+            root = λ z. stored (request - at pcapmins m) e ∙ weight-is;
+            inner = λ n z. absurd (omega arith);
+            most = omega (arith, stored (request - at pcapmins m) e, weight-is, turn .ready .bounds m more .1);
+          })
+          (served-same (turn .served) (weightsBefore parents level rows pcapmins (m + 1))
+          (λ n. omega (arith, weights-next n, on-no (eqb (at parents m) (suc n)) (weightOf rows level pcapmins m) (ne-eqb (at parents m) (suc n) (λ q. omega arith))))
+          b d)
+
+      module _ (has-parent : parent ≡ 0 → ⊥) where
+        hangs : at parents m ≡ suc (parent - 1)
+        hangs = omega (arith, has-parent)
+
+        earlier : parent - 1 < m
+        earlier = omega (arith, hangs, turn .ready .rises m more)
+
+        pub parent-within : parent - 1 < length parents
+        parent-within = omega (arith, earlier)
+
+        room : weightsBefore parents level rows pcapmins m (parent - 1) + (request - at pcapmins m) ≤ wholeOf pcapmins asked (parent - 1)
+        room =
+            omega (
+              arith,
+              sum-within m (length parents) (λ h. on (eqb (at parents h) (suc (parent - 1))) (weightOf rows level pcapmins h)) more,
+              on-yes (eqb (at parents m) (suc (parent - 1))) (weightOf rows level pcapmins m) (eq-eqb (at parents m) (suc (parent - 1)) hangs),
+              weight-is,
+              turn .ready .bounds (parent - 1) parent-within .4,
+            )
+
+        -- What `serve` asks at the parent.
+        pub node-may-serve : MayServe (at amounts (parent - 1)) (wholeOf pcapmins asked (parent - 1)) (request - at pcapmins m) (parent - 1) before dealt
+        node-may-serve =
+            may-serve (turn .served) (parent - 1) (request - at pcapmins m) parent-within room (turn .nodes (parent - 1) earlier .most) (omega (arith, turn .ready .bounds (parent - 1) parent-within .3))
+
+        pub inner-next : (watts : ℕ) {amounts′ before′ dealt′ : List ℕ}
+            → HasServed (at amounts (parent - 1)) (wholeOf pcapmins asked (parent - 1)) (request - at pcapmins m) (parent - 1) before dealt watts before′ dealt′
+            → amounts′ ≡ set amounts m watts
+            → NodeTurn parents level rows pcapmins asked (m + 1) amounts′ before′ dealt′
+        inner-next watts {amounts′} has e =
+            let p : ℕ = parent - 1 in
+            let w : ℕ = request - at pcapmins m in
+            let x : at amounts′ m ≡ part (at amounts p) (wholeOf pcapmins asked p) (weightsBefore parents level rows pcapmins m p) w
+            = stored watts e ∙ has .0 ∙ served-part (turn .served) p w parent-within in
+            let y : at amounts′ m ≡ part (at amounts′ p) (wholeOf pcapmins asked p) (weightsBefore parents level rows pcapmins m p) (weightOf rows level pcapmins m)
+            = x
+            ∙ ap₂ (λ (z u : ℕ). part z (wholeOf pcapmins asked p) (weightsBefore parents level rows pcapmins m p) u) (sym (kept watts e p earlier)) weight-is in
+            node-next watts e
+            (record {
+              root = λ z. absurd (omega (arith, hangs));
+              inner = λ n z. subst (λ (k : ℕ). at amounts′ m ≡ part (at amounts′ k) (wholeOf pcapmins asked k) (weightsBefore parents level rows pcapmins m k) (weightOf rows level pcapmins m)) (omega (arith, hangs)) y;
+              most = omega (arith, x, part-le-amount (at amounts p) (wholeOf pcapmins asked p) (weightsBefore parents level rows pcapmins m p) w room, turn .nodes p earlier .most);
+            })
+            (served-next (turn .served) p w parent-within (weightsBefore parents level rows pcapmins (m + 1))
+            (λ n. weights-next n ∙ ap₂ (λ (k u : ℕ). weightsBefore parents level rows pcapmins m n + on (eqb k (suc n)) u) hangs (sym weight-is))
+            has)

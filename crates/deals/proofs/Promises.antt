@@ -1,0 +1,193 @@
+-- The promises, each proved under its name.
+use mathlib.Core.Path.{_≡_, refl, sym, ap, _∙_, subst}
+use mathlib.Core.Bool.{Bool, true, false}
+use mathlib.Core.List.{List}
+use Prim.Native.Nat.{ℕ, _-_, _≤_, _<_, min}
+use native.Mathlib.Nat.{le-trans, le-of-eq}
+use native.Mathlib.Omega.{arith}
+use lib.Dec.{leb}
+use lib.ListN.{length}
+use borrow.Author.Tests.{leb-true, leb-false, le-leb, lt-leb}
+use Rattle.rooms.specs.Part.{good}
+use Rattle.rooms.specs.Sums.{on}
+use Rattle.rooms.specs.Table.{Room, highestRank, roomCords}
+use Rattle.rooms.specs.Limits.{parentOf, checked}
+use Rattle.rooms.proofs.Accepted.{Accepted, accepted}
+use Rattle.rooms.proofs.Sums.{sum-cong}
+use Rattle.rooms.proofs.Trees.{below, under, under-is}
+use Rattle.deals.specs.Figures.{at}
+use Rattle.deals.specs.Cords.{cordAt, rankOf}
+use Rattle.deals.specs.Wants.{carriedBy, lowsOf}
+use Rattle.deals.specs.Dealing.{grantsBy}
+use Rattle.deals.specs.SecondDeal.{firstGrants, secondWants, secondGrants, caps}
+use Rattle.deals.specs.Ways.{cordBeneath, sumBeneath, fromRank}
+use Rattle.deals.specs.Promises.{AcceptedPlan, Answered, AnswerOfBothDeals, Kept, FirstKept, SecondKept, Greatest, FirstGreatest, SecondGreatest, LowerRanksApart, CapsInRange, UsedGranted, SecondWantsInRange, SplitWhole, SplitWithin, FirstGivesAll, SecondGivesAll, FiguresFit}
+use Rattle.deals.proofs.Equations.{WholeWay, fromLevel}
+use Rattle.deals.proofs.Computed.{deal-gives-all}
+use Rattle.deals.proofs.OneTree.{tree-granted-most}
+use Rattle.deals.proofs.Splits.{split-sum, split-le}
+use Rattle.deals.proofs.RoomDeals.{levelsOf-at, roomDeal, grantsBy-is}
+use Rattle.deals.proofs.BothDeals.{parents-below, server-facts, cord-facts, room-dealable, grants-way, first-dealable, second-dealable, firstWants-lows, secondWants-lows, firstUsed-granted, capsUsed-granted, secondWants-wants, caps-least, caps-need}
+use Rattle.deals.proofs.LowerRanks.{firstGrants-same, secondGrants-same, caps-same}
+use Rattle.deals.proofs.Bounds.{bounded}
+use Rattle.deals.proofs.Plans.{plan-good-table, plan-answer, secondGrants-length, caps-length}
+
+-- The levels from that of a rank on are the ranks from it on.
+rank-level : (rank own : ℕ) → 1 ≤ own → own ≤ highestRank → leb rank own ≡ leb (min (rank - 1) highestRank) (own - 1)
+rank-level rank own h q = go (leb (min (rank - 1) highestRank) (own - 1)) refl
+  where
+    go : (t : Bool) → leb (min (rank - 1) highestRank) (own - 1) ≡ t → leb rank own ≡ t
+    go true e =
+        let a : min (rank - 1) highestRank ≤ own - 1 = leb-true (min (rank - 1) highestRank) (own - 1) e in
+        le-leb rank own (omega arith)
+    go false e =
+        let a : own - 1 < min (rank - 1) highestRank = leb-false (min (rank - 1) highestRank) (own - 1) e in
+        lt-leb rank own (omega arith)
+
+module _ (r : Room) (ok : Accepted r) (wants : List ℕ) (lows : (c : ℕ) → c < roomCords r → at (lowsOf r) c ≤ at wants c) where
+  -- The sum beneath a node by the test is the sum by the count.
+  sumBeneath-below : (n : ℕ) (figure : ℕ → ℕ)
+      → sumBeneath r n figure ≡ below (length (r .nodes)) (parentOf r) (roomCords r) (λ c. cordAt r c .node) n figure
+  unfolding sumBeneath under
+  sumBeneath-below n figure =
+      under-is (length (r .nodes)) (parentOf r) (parents-below r ok) (roomCords r) (λ c. cordAt r c .node) (λ c l. cord-facts r ok c l .2) n figure
+
+  -- A deal by wants at or above the lows keeps them, the wants and the limits.
+  kept : Kept r wants (grantsBy r wants)
+  kept =
+      let w : WholeWay (roomDeal r wants) (at (grantsBy r wants)) = grants-way r ok wants lows in
+      record {
+        least = w .least;
+        most = w .most;
+        within = λ n l. le-trans (le-of-eq (sumBeneath-below n (at (grantsBy r wants)))) (w .within n l);
+      }
+
+  -- The cords of a rank and above, by their levels.
+  fromRank-level : (n rank : ℕ) (watts : List ℕ)
+      → sumBeneath r n (fromRank r rank watts)
+      ≡ under (length (r .nodes)) (parentOf r) (roomCords r) (λ c. cordAt r c .node) n (fromLevel (roomDeal r wants) (min (rank - 1) highestRank) (at watts))
+  unfolding sumBeneath under
+  fromRank-level n rank watts = sum-cong (roomCords r) _ _ (λ c l.
+      let s = server-facts r ok (cordAt r c .server) (cord-facts r ok c l .0) in
+      ap (λ (t : Bool). on (cordBeneath r n c) (on t (at watts c)))
+      (rank-level rank (rankOf r c) (s .rankFrom) (s .rankTo) ∙ ap (leb (min (rank - 1) highestRank)) (sym (levelsOf-at r c l))))
+
+  greatest : Greatest r wants (grantsBy r wants)
+  unfolding sumBeneath under
+  greatest root top rank watts way =
+      le-trans (le-of-eq (fromRank-level root rank watts))
+      (le-trans
+      (tree-granted-most (roomDeal r wants) (room-dealable r ok wants lows) root (top .top) (at watts)
+      (record { least = way .least; most = way .most; within = way .within })
+      (top .node) (min (rank - 1) highestRank) (omega arith))
+      (le-of-eq
+      (ap (λ (g : List ℕ). under (length (r .nodes)) (parentOf r) (roomCords r) (λ c. cordAt r c .node) root (fromLevel (roomDeal r wants) (min (rank - 1) highestRank) (at g)))
+      (sym (grantsBy-is r wants))
+      ∙ sym (fromRank-level root rank (grantsBy r wants)))))
+
+-- ---- An accepted plan
+
+module _ (p : AcceptedPlan) where
+  accepted-room : Accepted (p .room)
+  accepted-room = accepted (p .table) (p .room) (p .end) (p .isRoom)
+
+  answered : Answered p
+  answered =
+      let e = plan-good-table (p .table) (p .demands) (p .grantsLength) (p .capsLength) (p .room) (p .end) (p .isRoom) in
+      let a = plan-answer (p .room) (p .demands) (p .grantsLength) (p .capsLength) (p .freed) (p .grants) (p .caps) (sym e ∙ p .isAnswer) in
+      record {
+        freed = a .0;
+        grants = a .1;
+        caps = a .2;
+        eachCord = ap length (a .1) ∙ secondGrants-length (p .room) (p .demands);
+        eachServer = ap length (a .2) ∙ caps-length (p .room) (p .demands);
+      }
+
+  -- What holds of the second grants of an accepted room holds of the answer's grants.
+  of-grants : (P : Room → List ℕ → List ℕ → Type 0) → ((r : Room) → Accepted r → (demands : List ℕ) → P r demands (secondGrants r demands))
+      → P (p .room) (p .demands) (p .grants)
+  of-grants P h = subst (P (p .room) (p .demands)) (sym (answered .grants)) (h (p .room) accepted-room (p .demands))
+
+pub answer-of-both-deals : AnswerOfBothDeals
+answer-of-both-deals = answered
+
+-- ---- 1
+
+pub first-kept : FirstKept
+unfolding firstGrants
+first-kept p = kept (p .room) (accepted-room p) _ (firstWants-lows (p .room) (accepted-room p) (p .demands))
+
+pub second-kept : SecondKept
+unfolding secondGrants
+second-kept p = of-grants p (λ r demands. Kept r (secondWants r demands)) (λ r ok demands. kept r ok _ (secondWants-lows r ok demands))
+
+-- ---- 2
+
+pub first-greatest : FirstGreatest
+unfolding firstGrants
+first-greatest p = greatest (p .room) (accepted-room p) _ (firstWants-lows (p .room) (accepted-room p) (p .demands))
+
+pub second-greatest : SecondGreatest
+unfolding secondGrants
+second-greatest p = of-grants p (λ r demands. Greatest r (secondWants r demands)) (λ r ok demands. greatest r ok _ (secondWants-lows r ok demands))
+
+-- ---- 3
+
+-- One table has one room.
+same-room : (w v : List ℕ) (r s : Room) (i j : ℕ) → checked w 0 ≡ good r i → checked v 0 ≡ good s j → w ≡ v → s ≡ r
+same-room w v r s i j e d q = let h : good r i ≡ good s j = sym e ∙ ap (λ (z : List ℕ). checked z 0) q ∙ d in cc
+
+pub lower-ranks-apart : LowerRanksApart
+lower-ranks-apart rank p q one same =
+    let e = same-room (p .table) (q .table) (p .room) (q .room) (p .end) (q .end) (p .isRoom) (q .isRoom) one in
+    let alike : (figures : Room → List ℕ → List ℕ) (l : List ℕ) → l ≡ figures (q .room) (q .demands) → figures (p .room) (q .demands) ≡ l
+    = λ figures l d. sym (d ∙ ap (λ (r : Room). figures r (q .demands)) e) in
+    record {
+      first = λ c l k. firstGrants-same (p .room) (accepted-room p) rank (p .demands) (q .demands) same c l k
+          ∙ ap (λ (z : List ℕ). at z c) (alike firstGrants _ refl);
+      second = λ c l k. ap (λ (z : List ℕ). at z c) (answered p .grants)
+          ∙ secondGrants-same (p .room) (accepted-room p) rank (p .demands) (q .demands) same c l k
+          ∙ ap (λ (z : List ℕ). at z c) (alike secondGrants _ (answered q .grants));
+      caps = λ v l k. ap (λ (z : List ℕ). at z v) (answered p .caps)
+          ∙ caps-same (p .room) (accepted-room p) rank (p .demands) (q .demands) same v l k
+          ∙ ap (λ (z : List ℕ). at z v) (alike caps _ (answered q .caps));
+    }
+
+-- ---- 4
+
+pub caps-in-range : CapsInRange
+caps-in-range p v l =
+    let e : at (p .caps) v ≡ at (caps (p .room) (p .demands)) v = ap (λ (z : List ℕ). at z v) (answered p .caps) in (
+      le-trans (caps-least (p .room) (accepted-room p) (p .demands) v l) (le-of-eq (sym e)),
+      le-trans (le-of-eq e) (caps-need (p .room) (accepted-room p) (p .demands) v l),
+    )
+
+pub used-granted : UsedGranted
+used-granted p c l =
+    let e : at (carriedBy (p .room) (p .caps)) c ≡ at (carriedBy (p .room) (caps (p .room) (p .demands))) c
+    = ap (λ (z : List ℕ). at (carriedBy (p .room) z) c) (answered p .caps) in
+    let d : at (p .grants) c ≡ at (secondGrants (p .room) (p .demands)) c = ap (λ (z : List ℕ). at z c) (answered p .grants) in (
+      firstUsed-granted (p .room) (accepted-room p) (p .demands) c l,
+      le-trans (le-of-eq e) (le-trans (capsUsed-granted (p .room) (accepted-room p) (p .demands) c l) (le-of-eq (sym d))),
+    )
+
+pub second-wants-in-range : SecondWantsInRange
+second-wants-in-range p c l =
+    (secondWants-lows (p .room) (accepted-room p) (p .demands) c l, secondWants-wants (p .room) (accepted-room p) (p .demands) c l)
+
+pub split-whole : SplitWhole
+split-whole = split-sum
+
+pub split-within : SplitWithin
+split-within = split-le
+
+pub first-gives-all : FirstGivesAll
+first-gives-all p = deal-gives-all _ (first-dealable (p .room) (accepted-room p) (p .demands))
+
+pub second-gives-all : SecondGivesAll
+second-gives-all p = deal-gives-all _ (second-dealable (p .room) (accepted-room p) (p .demands))
+
+-- ---- 5
+
+pub figures-fit : FiguresFit
+figures-fit table r end e demands = bounded r (accepted table r end e) demands

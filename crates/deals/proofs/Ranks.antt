@@ -1,0 +1,336 @@
+-- A deal made rank by rank, in lists: what a rank's passes leave is what the deal's definition says of that rank.
+use mathlib.Core.Path.{_≡_, refl, sym, ap, ap₂, _∙_, subst}
+use mathlib.Core.Bool.{Bool, true, false}
+use mathlib.Core.List.{List, []}
+use Prim.Native.Nat.{ℕ, zero, suc, _+_, _-_, _*_, _/_, _≤_, _<_, min}
+use native.Mathlib.Nat.{le-trans, le-of-eq, le-refl, mul-le-mul-right}
+use native.Mathlib.Omega.{arith}
+use lib.Dec.{eqb, ltb}
+use lib.ListN.{length, getD}
+use lib.Seq.{ext-getD}
+use borrow.Author.Tests.{eq-eqb, ne-eqb, eqb-true, eqb-false}
+use Rattle.rooms.specs.Sums.{on, sum}
+use Rattle.rooms.specs.Table.{mostWatts, mostCords, highestRank}
+use Rattle.rooms.specs.Limits.{beneath}
+use Rattle.rooms.specs.Credits.{sumBeneath}
+use Rattle.rooms.proofs.Sums.{on-no, on-yes, sum-cong, sum-le, sum-zero, sum-swap, sum-one, sum-suc, sum-up, up, up-suc}
+use Rattle.rooms.proofs.Trees.{kids, own, below, under, under-is, kids-cong, down, rise}
+use Rattle.rooms.proofs.Credits.{sumBeneath-step}
+use Rattle.deals.specs.Figures.{figures, at, cell}
+use Rattle.deals.specs.Metrics.{Deal, dealFrom, metrics, atLevel}
+use Rattle.deals.specs.Split.{part}
+use Rattle.deals.specs.Dealing.{granted, reached}
+use Rattle.deals.specs.Passes.{NodeLists, CordLists, LowsWithin, onNode, childrenBefore, overChildren, Gathered, weightOf, wholeOf, NodesDealt, cordsBefore, CordsDealt}
+use Rattle.deals.proofs.Lists.{sum-most, sum-one-le, figures-length}
+use Rattle.deals.proofs.Equations.{Dealable, Measured, Dealt, asked, weights, pcapmin-request, pcapmin-asked, request-asked, requests-fit, requests-left, pcapmin-all, weights-are}
+use Rattle.deals.proofs.Computed.{pcapmin, request, amountOf, measured, dealt, granted-at}
+use Rattle.deals.proofs.Bounds.{asked-most, request-most}
+
+-- ---- One rank of a deal, over functions of the places
+
+module _ (d : Deal) (ok : Dealable d) where
+  open Deal d using (nodes, parent, limit, cords, node, level, low, want, levels)
+
+  -- Pcapmin at a level is the sum over the nodes beneath, of the lows of that level that hang on each.
+  pub pcapmin-beneath : (j : ℕ) → j < levels → (n : ℕ) → n < nodes → pcapmin d n j ≡ sumBeneath parent nodes (λ m. own cords node m (atLevel d j low)) n
+  pcapmin-beneath j h = down nodes (λ n. pcapmin d n j ≡ sumBeneath parent nodes (λ m. own cords node m (atLevel d j low)) n) (λ n l ih.
+      let f : ℕ → ℕ = λ m. own cords node m (atLevel d j low) in
+      let k : kids nodes parent n (λ m. pcapmin d m j) ≡ kids nodes parent n (sumBeneath parent nodes f)
+      = kids-cong nodes parent n _ _ (λ m lm q. ih m lm (subst (λ (z : ℕ). z ≤ m) q (ok .rises m lm))) in
+      omega (arith, measured d ok .lowest n j l h, sumBeneath-step nodes parent (ok .rises) f n l))
+
+  -- What hangs on the nodes is no more than what the cords have.
+  pub own-sum : (f : ℕ → ℕ) (most : ℕ) → ((c : ℕ) → c < cords → f c ≤ most) → sum nodes (λ n. own cords node n f) ≤ cords * most
+  unfolding own
+  own-sum f most h =
+      le-trans (le-of-eq (sum-swap nodes cords (λ n c. on (eqb (node c) (suc n)) (f c))))
+      (sum-most cords most _ (λ c l. le-trans (once c l (node c) refl) (h c l)))
+    where
+      once : (c : ℕ) → c < cords → (v : ℕ) → node c ≡ v → sum nodes (λ n. on (eqb (node c) (suc n)) (f c)) ≤ f c
+      once c l zero e = absurd (omega (arith, ok .hangs c l))
+      once c l (suc p) e =
+          le-of-eq
+          (sum-cong nodes _ _ (λ n ln. ap (λ (t : Bool). on t (f c)) (ap (λ (v : ℕ). eqb v (suc n)) e ∙ lib.Dec.eqb·suc-suc p n))
+          ∙ sum-one nodes p (λ n. f c) (omega (arith, ok .here c l)))
+
+  -- A level that no cord has: no Pcapmin and no Request.
+  module _ (j : ℕ) (h : j < levels) (none : (c : ℕ) → c < cords → level c ≡ j → ⊥) where
+    own-none : (f : ℕ → ℕ) (n : ℕ) → own cords node n (atLevel d j f) ≡ 0
+    unfolding own
+    own-none f n = sum-cong cords _ _ (λ c l. zero-at c l) ∙ sum-zero cords
+      where
+        zero-on : (t : Bool) → on t 0 ≡ 0
+        zero-on true = refl
+        zero-on false = refl
+
+        zero-at : (c : ℕ) → c < cords → on (eqb (node c) (suc n)) (atLevel d j f c) ≡ 0
+        zero-at c l = ap (λ (z : ℕ). on (eqb (node c) (suc n)) z) (on-no (eqb (level c) j) (f c) (ne-eqb (level c) j (none c l))) ∙ zero-on (eqb (node c) (suc n))
+
+    kids-none : (n : ℕ) (g : ℕ → ℕ) → ((m : ℕ) → m < nodes → parent m ≡ suc n → g m ≡ 0) → kids nodes parent n g ≡ 0
+    unfolding kids
+    kids-none n g z = sum-cong nodes _ _ (λ m l. go m l (eqb (parent m) (suc n)) refl) ∙ sum-zero nodes
+      where
+        go : (m : ℕ) → m < nodes → (t : Bool) → eqb (parent m) (suc n) ≡ t → on t (g m) ≡ 0
+        go m l true e = z m l (eqb-true (parent m) (suc n) e)
+        go m l false e = refl
+
+    pub pcapmin-none : (n : ℕ) → n < nodes → pcapmin d n j ≡ 0
+    pcapmin-none = down nodes (λ n. pcapmin d n j ≡ 0) (λ n l ih.
+        omega (arith, measured d ok .lowest n j l h, own-none low n, kids-none n (λ m. pcapmin d m j) (λ m lm q. ih m lm (subst (λ (z : ℕ). z ≤ m) q (ok .rises m lm)))))
+
+    pub request-none : (n : ℕ) → n < nodes → request d n j ≡ 0
+    unfolding asked
+    request-none = down nodes (λ n. request d n j ≡ 0) (λ n l ih.
+        omega (
+          arith,
+          request-asked d ok (pcapmin d) (request d) (measured d ok) n l j h,
+          own-none want n,
+          kids-none n (λ m. request d m j) (λ m lm q. ih m lm (subst (λ (z : ℕ). z ≤ m) q (ok .rises m lm))),
+        ))
+
+-- ---- The deal of lists
+
+module _ (parents limits nodes levels lows wants : List ℕ) (ns : NodeLists parents limits) (cs : CordLists (length parents) nodes levels lows wants) (lw : LowsWithin parents limits nodes lows) where
+  abbrev theDeal : Deal
+  theDeal = dealFrom parents limits nodes levels lows wants
+
+  pub dealable : Dealable theDeal
+  unfolding dealFrom under
+  dealable = record {
+    rises = ns .rises;
+    here = cs .within;
+    hangs = λ c l. omega (arith, cs .hangs c l);
+    ranks = cs .ranked;
+    wants = cs .ordered;
+    lows = λ n l. le-trans (le-of-eq (sym (under-is (length parents) (at parents) (ns .rises) (length nodes) (at nodes) (cs .within) n (at lows)))) (lw n l);
+  }
+
+  abbrev pcap : ℕ → ℕ → ℕ
+  pcap = pcapmin theDeal
+
+  abbrev req : ℕ → ℕ → ℕ
+  req = request theDeal
+
+  -- Before the ranks below `above`: what is left of each limit, the lows of the ranks to come, and the grants of the ranks dealt.
+  pub record State (above : ℕ) (left lower grants : List ℕ) : Type 0 where
+    pub higher : ℕ
+    pub sum-is : above + higher ≡ highestRank
+    pub left-is : (n : ℕ) → n < length parents → at left n + up higher above (req n) ≡ at limits n
+    pub lower-is : (n : ℕ) → n < length parents → at lower n ≡ sum above (pcap n)
+    pub grants-are : (c : ℕ) → c < length nodes → above ≤ at levels c → at grants c ≡ at (granted theDeal) c
+
+  -- Before the first rank.
+  pub state-start : (left lower grants : List ℕ) → left ≡ limits
+      → ((n : ℕ) → n < length parents → at lower n ≡ sum (length nodes) (λ c. on (beneath (at parents) (length parents) n (at nodes c)) (at lows c)))
+      → State highestRank left lower grants
+  unfolding dealFrom under up
+  state-start left lower grants el es = record {
+    higher = 0;
+    sum-is = omega arith;
+    left-is = λ n l. omega (arith, ap (λ (z : List ℕ). at z n) el);
+    lower-is = λ n l. es n l ∙ under-is (length parents) (at parents) (ns .rises) (length nodes) (at nodes) (cs .within) n (at lows)
+        ∙ sym (pcapmin-all theDeal dealable (pcapmin theDeal) (request theDeal) (measured theDeal dealable) n l);
+    grants-are = λ c l h. absurd (omega (arith, cs .ranked c l));
+  }
+
+  -- After the last.
+  pub state-end : (left lower grants : List ℕ) → length grants ≡ length nodes → State 0 left lower grants → grants ≡ granted theDeal
+  unfolding dealFrom granted
+  state-end left lower grants size s =
+      ext-getD 0 grants (granted theDeal) (size ∙ sym (figures-length (length nodes) _)) (λ c l. s .grants-are c (omega arith) (omega arith))
+
+  -- ---- A level that no cord has
+
+  pub state-skip : (j : ℕ) (left lower grants : List ℕ) → ((c : ℕ) → c < length nodes → at levels c ≡ j → ⊥) → State (suc j) left lower grants → State j left lower grants
+  unfolding dealFrom
+  state-skip j left lower grants none s = record {
+    higher = suc (s .higher);
+    sum-is = omega (arith, s .sum-is);
+    left-is = λ n l. omega (arith, s .left-is n l, up-suc (s .higher) j (req n), request-none theDeal dealable j (omega (arith, s .sum-is)) none n l);
+    lower-is = λ n l. omega (arith, s .lower-is n l, sum-suc j (pcap n), pcapmin-none theDeal dealable j (omega (arith, s .sum-is)) none n l);
+    grants-are = λ c l h. go c l (eqb (at levels c) j) refl h;
+  }
+    where
+      go : (c : ℕ) → c < length nodes → (t : Bool) → eqb (at levels c) j ≡ t → j ≤ at levels c → at grants c ≡ at (granted theDeal) c
+      go c l true e h = absurd (none c l (eqb-true (at levels c) j e))
+      go c l false e h = s .grants-are c l (let q : at levels c ≡ j → ⊥ = eqb-false (at levels c) j e in omega arith)
+
+  -- ---- A level that some cord has: what its passes ask, and what they leave
+
+  module _ (j : ℕ) (left lower grants : List ℕ) (s : State (suc j) left lower grants) (pcapmins₀ asked₀ : List ℕ)
+      (own-lows : (n : ℕ) → n < length parents → at pcapmins₀ n ≡ onNode nodes levels lows j n)
+      (own-wants : (n : ℕ) → n < length parents → at asked₀ n ≡ onNode nodes levels wants j n) where
+    level-fits : j < highestRank
+    level-fits = omega (arith, s .sum-is)
+
+    level-most : (figures : ℕ → ℕ) → ((c : ℕ) → c < length nodes → figures c ≤ mostWatts) → (c : ℕ) → c < length nodes → on (eqb (at levels c) j) (figures c) ≤ mostWatts
+    level-most figures h c l = go (eqb (at levels c) j)
+      where
+        go : (t : Bool) → on t (figures c) ≤ mostWatts
+        go true = h c l
+        go false = omega arith
+
+    cords-most : length nodes * mostWatts ≤ mostCords * mostWatts
+    cords-most = mul-le-mul-right mostWatts (cs .few)
+
+    pub lows-sum : sum (length parents) (at pcapmins₀) ≤ mostCords * mostWatts
+    unfolding dealFrom own
+    lows-sum =
+        le-trans (le-of-eq (sum-cong (length parents) _ _ own-lows))
+        (le-trans (own-sum theDeal dealable (atLevel theDeal j (at lows)) mostWatts (level-most (at lows) (λ c l. le-trans (cs .ordered c l) (cs .most c l)))) cords-most)
+
+    pub wants-sum : sum (length parents) (at asked₀) ≤ mostCords * mostWatts
+    unfolding dealFrom own
+    wants-sum =
+        le-trans (le-of-eq (sum-cong (length parents) _ _ own-wants))
+        (le-trans (own-sum theDeal dealable (atLevel theDeal j (at wants)) mostWatts (level-most (at wants) (cs .most))) cords-most)
+
+    beneath-is : (n : ℕ) → n < length parents → sumBeneath (at parents) (length parents) (at pcapmins₀) n ≡ pcap n j
+    unfolding dealFrom own sumBeneath
+    beneath-is n l =
+        sum-cong (length parents) _ _ (λ m h. ap (λ (z : ℕ). on (beneath (at parents) (length parents) n (suc m)) z) (own-lows m h))
+        ∙ sym (pcapmin-beneath theDeal dealable j level-fits n l)
+
+    left-over : (n : ℕ) → n < length parents → sum j (pcap n) + up (s .higher) (suc j) (req n) ≤ at limits n
+    unfolding dealFrom
+    left-over n l = requests-left theDeal dealable (pcapmin theDeal) (request theDeal) (measured theDeal dealable) n l (s .higher) j (s .sum-is)
+
+    pub gather-asks : (n : ℕ) → n < length parents → (at left n ≤ mostWatts) × (sumBeneath (at parents) (length parents) (at pcapmins₀) n ≤ at lower n)
+        × (at lower n ≤ at left n + sumBeneath (at parents) (length parents) (at pcapmins₀) n)
+    gather-asks n l =
+        let b = beneath-is n l in
+        let lo : at lower n ≡ sum j (pcap n) + pcap n j = s .lower-is n l ∙ sum-suc j (pcap n) in
+        let le = s .left-is n l in
+        let o = left-over n l in
+        (omega (arith, ns .most n l), omega arith, omega arith)
+
+    module _ (rows rows′ : List (List ℕ)) (left′ lower′ pcapmins asks : List ℕ) (g : Gathered parents j left lower pcapmins₀ asked₀ rows left′ lower′ pcapmins asks rows′) where
+      pcapmins-are : (n : ℕ) → n < length parents → at pcapmins n ≡ pcap n j
+      pcapmins-are n l = g .pcapmin n l ∙ beneath-is n l
+
+      asks-by : (n : ℕ) → n < length parents → ((m : ℕ) → m < length parents → n < m → cell rows′ m j ≡ req m j) → at asks n ≡ asked theDeal req n j
+      unfolding dealFrom asked kids own
+      asks-by n l ih =
+          let c : overChildren parents (λ m. cell rows′ m j) n ≡ overChildren parents (λ m. req m j) n
+          = kids-same n (λ m lm q. ih m lm (subst (λ (z : ℕ). z ≤ m) q (ns .rises m lm))) in
+          omega (arith, g .children n l, own-wants n l)
+        where
+          kids-same : (n : ℕ) → ((m : ℕ) → m < length parents → at parents m ≡ suc n → cell rows′ m j ≡ req m j)
+              → overChildren parents (λ m. cell rows′ m j) n ≡ overChildren parents (λ m. req m j) n
+          kids-same n h = kids-cong (length parents) (at parents) n _ _ h
+
+      pub requests-are : (n : ℕ) → n < length parents → cell rows′ n j ≡ req n j
+      unfolding dealFrom
+      requests-are = down (length parents) (λ n. cell rows′ n j ≡ req n j) (λ n l ih.
+          let a : at asks n ≡ asked theDeal req n j = asks-by n l ih in
+          let lo : at lower n ≡ sum j (pcap n) + pcap n j = s .lower-is n l ∙ sum-suc j (pcap n) in
+          let b : at left n - (at lower n - at pcapmins n) ≡ at limits n - up (s .higher) (suc j) (req n) - sum j (pcap n)
+          = omega (arith, pcapmins-are n l, s .left-is n l) in
+          g .request n l ∙ ap₂ min b a ∙ sym (measured theDeal dealable .request n l (s .higher) j (s .sum-is)))
+
+      asks-are : (n : ℕ) → n < length parents → at asks n ≡ asked theDeal req n j
+      asks-are n l = asks-by n l (λ m lm q. requests-are m lm)
+
+      weight-is : (n : ℕ) → n < length parents → weightOf rows′ j pcapmins n ≡ req n j - pcap n j
+      weight-is n l = ap₂ _-_ (requests-are n l) (pcapmins-are n l)
+
+      whole-is : (n : ℕ) → n < length parents → wholeOf pcapmins asks n ≡ weights theDeal pcap req n j
+      unfolding dealFrom
+      whole-is n l =
+          let w = weights-are theDeal dealable (pcapmin theDeal) (request theDeal) (measured theDeal dealable) (amountOf theDeal) (reached theDeal (metrics theDeal)) (dealt theDeal dealable) n j l level-fits in
+          omega (arith, asks-are n l, pcapmins-are n l)
+
+      children-is : (n m : ℕ) → m ≤ length parents → childrenBefore parents (weightOf rows′ j pcapmins) n m ≡ sum m (λ h. on (eqb (at parents h) (suc n)) (req h j - pcap h j))
+      children-is n m h = sum-cong m _ _ (λ i l. ap (λ (z : ℕ). on (eqb (at parents i) (suc n)) z) (weight-is i (omega arith)))
+
+      pub nodes-ask : (n : ℕ) → n < length parents → (at pcapmins n ≤ cell rows′ n j) × (cell rows′ n j ≤ mostWatts) × (at pcapmins n ≤ at asks n)
+          × (at asks n ≤ mostCords * mostWatts) × (overChildren parents (weightOf rows′ j pcapmins) n ≤ wholeOf pcapmins asks n)
+      unfolding dealFrom weights kids request
+      nodes-ask n l =
+          let p = pcapmins-are n l in
+          let r = requests-are n l in
+          let a = asks-are n l in
+          let pr : pcap n j ≤ req n j = pcapmin-request theDeal dealable (pcapmin theDeal) (request theDeal) (measured theDeal dealable) n l j level-fits in
+          let pa : pcap n j ≤ asked theDeal req n j = pcapmin-asked theDeal dealable (pcapmin theDeal) (request theDeal) (measured theDeal dealable) n l j level-fits in
+          let rm : req n j ≤ mostWatts = request-small n l in
+          let am : asked theDeal req n j ≤ mostCords * mostWatts = asked-most theDeal dealable (cs .few) (ns .most) (cs .most) n j l level-fits in
+          let w = whole-is n l in
+          let c = children-is n (length parents) (le-refl (length parents)) in
+          (omega arith, omega arith, omega arith, omega arith, omega arith)
+        where
+          request-small : (n : ℕ) → n < length parents → req n j ≤ mostWatts
+          request-small n l = request-most theDeal dealable (cs .few) (ns .most) (cs .most) n j l level-fits
+
+      module _ (amounts before dealts : List ℕ) (nd : NodesDealt parents j rows′ pcapmins asks amounts before dealts) where
+        amounts-are : (m : ℕ) → m < length parents → at amounts m ≡ amountOf theDeal m j
+        unfolding dealFrom
+        amounts-are = rise (length parents) (λ m. at amounts m ≡ amountOf theDeal m j) (λ m l ih. go m l ih (at parents m) refl)
+          where
+            go : (m : ℕ) → m < length parents → ((i : ℕ) → i < m → at amounts i ≡ amountOf theDeal i j) → (v : ℕ) → at parents m ≡ v → at amounts m ≡ amountOf theDeal m j
+            go m l ih zero e = nd .root m l e ∙ weight-is m l ∙ sym (dealt theDeal dealable .root m j l e)
+            go m l ih (suc n) e =
+                let u : n < m = subst (λ (z : ℕ). z ≤ m) e (ns .rises m l) in
+                nd .inner m n l e
+                ∙ ap (λ (z : ℕ). part (at amounts n) (wholeOf pcapmins asks n) (childrenBefore parents (weightOf rows′ j pcapmins) n m) z) (weight-is m l)
+                ∙ ap (λ (z : ℕ). part (at amounts n) (wholeOf pcapmins asks n) z (req m j - pcap m j)) (children-is n m (omega arith))
+                ∙ ap₂ (λ (x w : ℕ). part x w (sum m (λ h. on (eqb (at parents h) (suc n)) (req h j - pcap h j))) (req m j - pcap m j)) (ih n u) (whole-is n (omega arith))
+                ∙ sym (dealt theDeal dealable .inner m n j l e)
+
+        served-is : (n : ℕ) → n < length parents → at before n ≡ kids (length parents) (at parents) n (λ m. req m j - pcap m j)
+        unfolding kids
+        served-is n l = nd .served n l ∙ children-is n (length parents) (le-refl (length parents))
+
+        pub cords-ask : (n : ℕ) → n < length parents → (at amounts n ≤ mostWatts) × (at pcapmins n ≤ at asks n) × (at asks n ≤ mostCords * mostWatts)
+            × (at dealts n ≡ at amounts n * at before n / wholeOf pcapmins asks n)
+        cords-ask n l = (nd .most n l, nodes-ask n l .2, nodes-ask n l .3, nd .dealt-is n l)
+
+        pub cords-room : (n : ℕ) → n < length parents → at before n + cordsBefore nodes levels lows wants j n (length nodes) ≤ wholeOf pcapmins asks n
+        unfolding dealFrom weights own
+        cords-room n l = omega (arith, served-is n l, whole-is n l)
+
+        -- What reaches a cord of this level.
+        reached-is : (c n i : ℕ) → c < length nodes → at nodes c ≡ suc n → at levels c ≡ i
+            → reached theDeal (metrics theDeal) c
+            ≡ part (amountOf theDeal n i) (weights theDeal pcap req n i)
+            (kids (length parents) (at parents) n (λ m. req m i - pcap m i) + cordsBefore nodes levels lows wants i n c) (at wants c - at lows c)
+        unfolding dealFrom
+        reached-is c n i l q e =
+            subst
+            (λ (i : ℕ). reached theDeal (metrics theDeal) c
+            ≡ part (amountOf theDeal n i) (weights theDeal pcap req n i)
+            (kids (length parents) (at parents) n (λ m. req m i - pcap m i) + cordsBefore nodes levels lows wants i n c) (at wants c - at lows c)) e
+            (dealt theDeal dealable .leaf c n l q)
+
+        module _ (grants′ : List ℕ) (cd : CordsDealt nodes levels lows wants j pcapmins asks amounts before grants grants′) where
+          pub state-turn : State j left′ lower′ grants′
+          unfolding dealFrom kids
+          state-turn = record {
+            higher = suc (s .higher);
+            sum-is = omega (arith, s .sum-is);
+            left-is = λ n l.
+                let r = requests-are n l in
+                let o = left-over n l in
+                let q : req n j ≤ at left n = request-left n l in
+                omega (arith, g .left-is n l, s .left-is n l, up-suc (s .higher) j (req n));
+            lower-is = λ n l. omega (arith, g .lower-is n l, pcapmins-are n l, s .lower-is n l, sum-suc j (pcap n));
+            grants-are = λ c l h. go c l (eqb (at levels c) j) refl h (at nodes c) refl;
+          }
+            where
+              request-left : (n : ℕ) → n < length parents → req n j ≤ at left n
+              request-left n l = omega (arith, sym (requests-are n l), g .request n l)
+
+              go : (c : ℕ) → c < length nodes → (t : Bool) → eqb (at levels c) j ≡ t → j ≤ at levels c → (v : ℕ) → at nodes c ≡ v → at grants′ c ≡ at (granted theDeal) c
+              go c l false e h v q =
+                  let ne : at levels c ≡ j → ⊥ = eqb-false (at levels c) j e in
+                  cd .others c l ne ∙ s .grants-are c l (omega arith)
+              go c l true e h zero q = absurd (omega (arith, cs .hangs c l))
+              go c l true e h (suc n) q = ours c n l (eqb-true (at levels c) j e) q (omega (arith, cs .within c l))
+                where
+                  ours : (c n : ℕ) → c < length nodes → at levels c ≡ j → at nodes c ≡ suc n → n < length parents → at grants′ c ≡ at (granted theDeal) c
+                  ours c n l e q ln =
+                      cd .ours c n l e q
+                      ∙ ap (λ (z : ℕ). at lows c + z)
+                      (ap₂ (λ (x w : ℕ). part x w (at before n + cordsBefore nodes levels lows wants j n c) (at wants c - at lows c)) (amounts-are n ln) (whole-is n ln)
+                      ∙ ap (λ (z : ℕ). part (amountOf theDeal n j) (weights theDeal pcap req n j) (z + cordsBefore nodes levels lows wants j n c) (at wants c - at lows c)) (served-is n ln)
+                      ∙ sym (reached-is c n j l q e))
+                      ∙ sym (granted-at theDeal dealable c l)

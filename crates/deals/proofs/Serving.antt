@@ -1,0 +1,173 @@
+-- A node's children served in turn: the parts that they get of its amount, and the weights served and the watts dealt there.
+use mathlib.Core.Path.{_≡_, refl, sym, ap, subst, _∙_}
+use mathlib.Core.Logic.{_⊎_, inl, inr}
+use mathlib.Core.Bool.{Bool, true, false}
+use mathlib.Core.List.{List}
+use Prim.Native.Nat.{ℕ, suc, _+_, _*_, _-_, _/_, _^_, _≤_, _<_}
+use native.Mathlib.Nat.{mul-zero, zero-div, div-zero, mul-div-cancel, mul-le-mul, mul-le-mul-left, eq-zero-or-pos, lt-of-le-of-lt}
+use native.Mathlib.Omega.{arith}
+use lib.Dec.{eqb, lit<}
+use lib.ListN.{length, set, replicate, length-set, length-replicate, getD-replicate}
+use lib.Seq.{set-getD, getD-set-same, getD-set-other}
+use borrow.Author.Tests.{eq-eqb, ne-eqb, eqb-true, eqb-false}
+use Rattle.rooms.specs.Sums.{on, sum}
+use Rattle.rooms.specs.Table.{mostWatts, mostCords}
+use Rattle.rooms.proofs.Sums.{on-yes, on-no, sum-suc, sum-up}
+use Rattle.deals.specs.Figures.{at}
+use Rattle.deals.specs.Split.{part}
+use Rattle.deals.proofs.Splits.{div-mono, part-none}
+
+-- ---- One child
+
+pub part-le-amount : (x e c d : ℕ) → c + d ≤ e → part x e c d ≤ x
+unfolding part
+part-le-amount x e c d h = go (eq-zero-or-pos e)
+  where
+    go : (e ≡ 0) ⊎ (0 < e) → x * (c + d) / e - x * c / e ≤ x
+    go (inl z) = rw z (simp div-zero (omega arith))
+    go (inr q) = omega (arith, div-mono (x * (c + d)) (x * e) e (mul-le-mul-left x h), mul-div-cancel x q)
+
+-- The watts dealt grow by the next child's part.
+module _ (x e b w d : ℕ) (dealt-is : d ≡ x * b / e) where
+  pub serve-grows : d ≤ x * (b + w) / e
+  serve-grows = omega (arith, div-mono (x * b) (x * (b + w)) e (mul-le-mul-left x (omega arith)))
+
+  pub serve-part : x * (b + w) / e - d ≡ part x e b w
+  unfolding part
+  serve-part = ap (λ (y : ℕ). x * (b + w) / e - y) dealt-is
+
+-- What `serve` asks and what it leaves, of an amount x, a whole weight e and a child of weight w.
+abbrev pub MayServe : ℕ → ℕ → ℕ → ℕ → List ℕ → List ℕ → Type 0
+MayServe x e w p before dealt =
+    ((p < length before) × (p < length dealt) × (at before p + w ≤ e) × (x * e < 2 ^ 64) × (e < 2 ^ 63)) × (at dealt p ≡ x * at before p / e)
+
+abbrev pub HasServed : ℕ → ℕ → ℕ → ℕ → List ℕ → List ℕ → ℕ → List ℕ → List ℕ → Type 0
+HasServed x e w p before dealt watts before′ dealt′ =
+    (watts ≡ part x e (at before p) w) × ((before′ ≡ set before p (at before p + w)) × (dealt′ ≡ set dealt p (x * (at before p + w) / e)))
+
+-- A child of weight 0 gets nothing and changes nothing.
+pub serve-none : (x e w p : ℕ) (before dealt : List ℕ) → at dealt p ≡ x * at before p / e → w ≡ 0 → HasServed x e w p before dealt 0 before dealt
+serve-none x e w p before dealt dealt-is z =
+    let a : at before p + w ≡ at before p = omega arith in (
+      sym (ap (part x e (at before p)) z ∙ part-none x e (at before p)),
+      (
+        sym (ap (set before p) a ∙ set-getD before p 0),
+        sym (ap (λ (y : ℕ). set dealt p (x * y / e)) a ∙ ap (set dealt p) (sym dealt-is) ∙ set-getD dealt p 0),
+      ),
+    )
+
+-- ---- The children served so far
+
+-- Of each node: the weights of its children that were served, and the watts dealt to them.
+pub record Served (count : ℕ) (whole : ℕ → ℕ) (amounts : List ℕ) (weights : ℕ → ℕ) (before dealt : List ℕ) : Type 0 where
+  pub before-size : length before ≡ count
+  pub dealt-size : length dealt ≡ count
+  pub before-is : (n : ℕ) → n < count → at before n ≡ weights n
+  pub dealt-is : (n : ℕ) → n < count → at dealt n ≡ at amounts n * at before n / whole n
+
+-- Nothing is dealt where nothing was served.
+dealt-none : (x e b : ℕ) → b ≡ 0 → x * b / e ≡ 0
+dealt-none x e b z = ap (λ (y : ℕ). x * y / e) z ∙ ap (λ (y : ℕ). y / e) (mul-zero x) ∙ zero-div e
+
+cleared-at : (l₀ l : List ℕ) (n : ℕ) → l ≡ replicate (length l₀) 0 → n < length l₀ → at l n ≡ 0
+cleared-at l₀ l n e h = ap (λ (k : List ℕ). at k n) e ∙ getD-replicate (length l₀) n 0 0 h
+
+pub served-none : (count : ℕ) (whole : ℕ → ℕ) (amounts : List ℕ) (weights : ℕ → ℕ) (before₀ dealt₀ : List ℕ) {before dealt : List ℕ}
+    → length before₀ ≡ count
+    → length dealt₀ ≡ count
+    → before ≡ replicate (length before₀) 0
+    → dealt ≡ replicate (length dealt₀) 0
+    → ((n : ℕ) → weights n ≡ 0)
+    → Served count whole amounts weights before dealt
+served-none count whole amounts weights before₀ dealt₀ {before} {dealt} b d b-is d-is z =
+    let at-before : (n : ℕ) → n < count → at before n ≡ 0 = λ n h. cleared-at before₀ before n b-is (omega arith) in
+    record {
+      before-size = ap length b-is ∙ length-replicate (length before₀) 0 ∙ b;
+      dealt-size = ap length d-is ∙ length-replicate (length dealt₀) 0 ∙ d;
+      before-is = λ n h. at-before n h ∙ sym (z n);
+      dealt-is = λ n h. cleared-at dealt₀ dealt n d-is (omega arith) ∙ sym (dealt-none (at amounts n) (whole n) (at before n) (at-before n h));
+    }
+
+module _ {count : ℕ} {whole : ℕ → ℕ} {amounts : List ℕ} {weights : ℕ → ℕ} {before dealt : List ℕ} (is : Served count whole amounts weights before dealt) where
+  -- Nothing is served.
+  pub served-same : (weights′ : ℕ → ℕ) {before′ dealt′ : List ℕ} → ((n : ℕ) → weights′ n ≡ weights n) → before′ ≡ before → dealt′ ≡ dealt
+      → Served count whole amounts weights′ before′ dealt′
+  served-same weights′ e b d =
+      record {
+        before-size = ap length b ∙ is .before-size;
+        dealt-size = ap length d ∙ is .dealt-size;
+        before-is = λ n h. ap (λ (l : List ℕ). at l n) b ∙ is .before-is n h ∙ sym (e n);
+        dealt-is = λ n h. ap (λ (l : List ℕ). at l n) d ∙ is .dealt-is n h ∙ ap (λ (l : List ℕ). at amounts n * at l n / whole n) (sym b);
+      }
+
+  -- The amount of a node may be set while none of its children is served.
+  pub served-amount : (m a : ℕ) {amounts′ : List ℕ} → amounts′ ≡ set amounts m a → weights m ≡ 0 → Served count whole amounts′ weights before dealt
+  served-amount m a {amounts′} e z =
+      record {
+        before-size = is .before-size;
+        dealt-size = is .dealt-size;
+        before-is = is .before-is;
+        dealt-is = λ n h. is .dealt-is n h ∙ dealt-same n h (eqb n m) refl;
+      }
+    where
+      dealt-same : (n : ℕ) → n < count → (t : Bool) → eqb n m ≡ t → at amounts n * at before n / whole n ≡ at amounts′ n * at before n / whole n
+      dealt-same n h true q =
+          let b : at before n ≡ 0 = is .before-is n h ∙ ap weights (eqb-true n m q) ∙ z in
+          dealt-none (at amounts n) (whole n) (at before n) b ∙ sym (dealt-none (at amounts′ n) (whole n) (at before n) b)
+      dealt-same n h false q =
+          ap (λ (y : ℕ). y * at before n / whole n) (sym (ap (λ (l : List ℕ). at l n) e ∙ getD-set-other amounts m n a 0 (eqb-false n m q)))
+
+  -- The next child of the node at place p.
+  module _ (p w : ℕ) (within : p < count) where
+    -- What `serve` asks.
+    pub may-serve : weights p + w ≤ whole p → at amounts p ≤ mostWatts → whole p ≤ mostCords * mostWatts → MayServe (at amounts p) (whole p) w p before dealt
+    may-serve room most few = (
+      (
+        omega (arith, is .before-size),
+        omega (arith, is .dealt-size),
+        omega (arith, is .before-is p within),
+        lt-of-le-of-lt (mul-le-mul most few) (lit< tt),
+        lt-of-le-of-lt few (lit< tt),
+      ),
+      is .dealt-is p within,
+    )
+
+    pub served-part : part (at amounts p) (whole p) (at before p) w ≡ part (at amounts p) (whole p) (weights p) w
+    served-part = ap (λ (b : ℕ). part (at amounts p) (whole p) b w) (is .before-is p within)
+
+    -- What `serve` leaves.
+    pub served-next : (weights′ : ℕ → ℕ) {watts : ℕ} {before′ dealt′ : List ℕ}
+        → ((n : ℕ) → weights′ n ≡ weights n + on (eqb (suc p) (suc n)) w)
+        → HasServed (at amounts p) (whole p) w p before dealt watts before′ dealt′
+        → Served count whole amounts weights′ before′ dealt′
+    served-next weights′ {watts} {before′} {dealt′} more has =
+        record {
+          before-size = ap length (has .1 .0) ∙ length-set before p (at before p + w) ∙ is .before-size;
+          dealt-size = ap length (has .1 .1) ∙ length-set dealt p (at amounts p * (at before p + w) / whole p) ∙ is .dealt-size;
+          before-is = λ n h. here-or-not n h (eqb n p) refl .0;
+          dealt-is = λ n h. here-or-not n h (eqb n p) refl .1;
+        }
+      where
+        here : (at before′ p ≡ weights′ p) × (at dealt′ p ≡ at amounts p * at before′ p / whole p)
+        here =
+            let b-is : at before′ p ≡ at before p + w = ap (λ (l : List ℕ). at l p) (has .1 .0) ∙ getD-set-same before p (at before p + w) 0 (omega (arith, is .before-size)) in (
+              omega (arith, is .before-is p within, more p, on-yes (eqb (suc p) (suc p)) w (eq-eqb (suc p) (suc p) refl)),
+              ap (λ (l : List ℕ). at l p) (has .1 .1)
+                  ∙ getD-set-same dealt p (at amounts p * (at before p + w) / whole p) 0 (omega (arith, is .dealt-size))
+                  ∙ ap (λ (y : ℕ). at amounts p * y / whole p) (sym b-is),
+            )
+
+        here-or-not : (n : ℕ) → n < count → (t : Bool) → eqb n p ≡ t → (at before′ n ≡ weights′ n) × (at dealt′ n ≡ at amounts n * at before′ n / whole n)
+        here-or-not n h true q = subst (λ (k : ℕ). (at before′ k ≡ weights′ k) × (at dealt′ k ≡ at amounts k * at before′ k / whole k)) (sym (eqb-true n p q)) here
+        here-or-not n h false q =
+            let b-is : at before′ n ≡ at before n = ap (λ (l : List ℕ). at l n) (has .1 .0) ∙ getD-set-other before p n (at before p + w) 0 (eqb-false n p q) in (
+              omega (arith, is .before-is n h, more n, on-no (eqb (suc p) (suc n)) w (ne-eqb (suc p) (suc n) (λ e. eqb-false n p q (omega arith)))),
+              ap (λ (l : List ℕ). at l n) (has .1 .1)
+                  ∙ getD-set-other dealt p n (at amounts p * (at before p + w) / whole p) 0 (eqb-false n p q)
+                  ∙ is .dealt-is n h
+                  ∙ ap (λ (y : ℕ). at amounts n * y / whole n) (sym b-is),
+            )
+
+-- One more figure is within a sum over more places.
+pub sum-within : (k m : ℕ) (g : ℕ → ℕ) → k < m → sum k g + g k ≤ sum m g
+sum-within k m g h = omega (arith, sum-suc k g, sum-up (m - suc k) (suc k) m g (omega arith))

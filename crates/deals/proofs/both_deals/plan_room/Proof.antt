@@ -1,0 +1,89 @@
+-- `plan_room` meets its contract: it lends lists of zeros as long as the room's nodes and cords are many.
+use mathlib.Core.Path.{sym}
+use Rattle.deals.proofs.RankLoop.{zeros-front}
+use Rattle.deals.proofs.Planning.{table-begun, nodes-most, cords-most, nodes-lent, cords-lent}
+use borrow.Author.Needs.{needs}
+use Rattle.deals.proofs.both_deals.plan_room.Statement.{statement}
+use Rattle.deals.proofs.both_deals.plan_room.Tie as tie
+
+shared-slice-read-index : tie.Need-shared-slice-read-index
+shared-slice-read-index c = table-begun _ (c .before .before .before .before .before .pre .0)
+
+index-requires : tie.Need-index-requires
+index-requires c κs = search needs
+
+array-borrow-prefix-parents : tie.Need-array-borrow-prefix-parents
+array-borrow-prefix-parents c = nodes-most _ (c .before .before .before .before .before .before .pre .0) _ (c .index .ensures .0)
+
+slice-aggregate-plan-lists : tie.Need-slice-aggregate-plan-lists
+slice-aggregate-plan-lists c = sym (zeros-front 512 _ (nodes-most _ (c .before .before .before .before .before .before .before .pre .0) _ (c .before .index .ensures .0)))
+
+array-borrow-prefix-limits : tie.Need-array-borrow-prefix-limits
+array-borrow-prefix-limits c = nodes-most _ (c .before .before .before .before .before .before .before .pre .0) _ (c .before .index .ensures .0)
+
+slice-aggregate-plan-lists-2 : tie.Need-slice-aggregate-plan-lists-2
+slice-aggregate-plan-lists-2 c = sym (zeros-front 512 _ (nodes-most _ (c .before .before .before .before .before .before .before .before .pre .0) _ (c .before .before .index .ensures .0)))
+
+array-borrow-prefix-nodes : tie.Need-array-borrow-prefix-nodes
+array-borrow-prefix-nodes c = cords-most _ (c .before .before .before .before .before .before .before .before .pre .0) _ (c .before .before .before .before .before .before .before .before .pre .1 .1)
+
+slice-aggregate-plan-lists-3 : tie.Need-slice-aggregate-plan-lists-3
+slice-aggregate-plan-lists-3 c = sym (zeros-front 1024 _ (cords-most _ (c .before .before .before .before .before .before .before .before .before .pre .0) _ (c .before .before .before .before .before .before .before .before .before .pre .1 .1)))
+
+array-borrow-prefix-levels : tie.Need-array-borrow-prefix-levels
+array-borrow-prefix-levels c = cords-most _ (c .before .before .before .before .before .before .before .before .before .pre .0) _ (c .before .before .before .before .before .before .before .before .before .pre .1 .1)
+
+slice-aggregate-plan-lists-4 : tie.Need-slice-aggregate-plan-lists-4
+slice-aggregate-plan-lists-4 c = sym (zeros-front 1024 _ (cords-most _ (c .before .before .before .before .before .before .before .before .before .before .pre .0) _ (c .before .before .before .before .before .before .before .before .before .before .pre .1 .1)))
+
+array-borrow-prefix-lows : tie.Need-array-borrow-prefix-lows
+array-borrow-prefix-lows c = cords-most _ (c .before .before .before .before .before .before .before .before .before .before .pre .0) _ (c .before .before .before .before .before .before .before .before .before .before .pre .1 .1)
+
+slice-aggregate-plan-lists-5 : tie.Need-slice-aggregate-plan-lists-5
+slice-aggregate-plan-lists-5 c = sym (zeros-front 1024 _ (cords-most _ (c .before .before .before .before .before .before .before .before .before .before .before .pre .0) _ (c .before .before .before .before .before .before .before .before .before .before .before .pre .1 .1)))
+
+array-borrow-prefix-wants : tie.Need-array-borrow-prefix-wants
+array-borrow-prefix-wants c = cords-most _ (c .before .before .before .before .before .before .before .before .before .before .before .pre .0) _ (c .before .before .before .before .before .before .before .before .before .before .before .pre .1 .1)
+
+slice-aggregate-plan-lists-6 : tie.Need-slice-aggregate-plan-lists-6
+slice-aggregate-plan-lists-6 c = sym (zeros-front 1024 _ (cords-most _ (c .before .before .before .before .before .before .before .before .before .before .before .before .pre .0) _ (c .before .before .before .before .before .before .before .before .before .before .before .before .pre .1 .1)))
+
+plan-lists-requires : tie.Need-plan-lists-requires
+plan-lists-requires c κs =
+    let start = c .before .before .before .before .before .before .before .before .before .before .before .before .before .before in
+    let g = start .pre .0 in
+    let nodes = nodes-lent (start .args .table .now) g _ (c .before .before .before .before .before .before .before .before .index .ensures .0) in
+    let cords = cords-lent (start .args .table .now) g _ (start .pre .1 .1) in
+    (g, ((start .pre .1 .0, nodes, nodes), ((cords, cords, cords, cords), (start .pre .1 .1, start .pre .1 .2))))
+
+same-length : tie.Need-same-length
+same-length c = search needs
+
+same-length-2 : tie.Need-same-length-2
+same-length-2 c = search needs
+
+returns : tie.Need-returns
+returns c = search needs
+
+pub plan-room-spec : {M : Type 1} → statement M
+plan-room-spec =
+    tie.close
+    (tie.spec
+    shared-slice-read-index
+    index-requires
+    array-borrow-prefix-parents
+    slice-aggregate-plan-lists
+    array-borrow-prefix-limits
+    slice-aggregate-plan-lists-2
+    array-borrow-prefix-nodes
+    slice-aggregate-plan-lists-3
+    array-borrow-prefix-levels
+    slice-aggregate-plan-lists-4
+    array-borrow-prefix-lows
+    slice-aggregate-plan-lists-5
+    array-borrow-prefix-wants
+    slice-aggregate-plan-lists-6
+    plan-lists-requires
+    same-length
+    same-length-2
+    returns)

@@ -1,0 +1,82 @@
+-- `deal` meets its contract: it lends lists of zeros, one figure a node, and rows of zeros.
+use mathlib.Core.Path.{sym}
+use Rattle.deals.proofs.RankLoop.{zeros-front, zeros-rows}
+use borrow.Author.Needs.{needs}
+use Rattle.deals.proofs.deal.deal.Statement.{statement}
+use Rattle.deals.proofs.deal.deal.Tie as tie
+
+array-borrow-prefix-left : tie.Need-array-borrow-prefix-left
+array-borrow-prefix-left c = search needs
+
+slice-aggregate-deal-ranks : tie.Need-slice-aggregate-deal-ranks
+slice-aggregate-deal-ranks c = sym (zeros-front 512 _ (c .before .before .before .before .before .before .before .before .before .pre .0 .few))
+
+array-borrow-prefix-lower : tie.Need-array-borrow-prefix-lower
+array-borrow-prefix-lower c = search needs
+
+slice-aggregate-deal-ranks-2 : tie.Need-slice-aggregate-deal-ranks-2
+slice-aggregate-deal-ranks-2 c = sym (zeros-front 512 _ (c .before .before .before .before .before .before .before .before .before .before .pre .0 .few))
+
+array-borrow-prefix-pcapmins : tie.Need-array-borrow-prefix-pcapmins
+array-borrow-prefix-pcapmins c = search needs
+
+slice-aggregate-deal-ranks-3 : tie.Need-slice-aggregate-deal-ranks-3
+slice-aggregate-deal-ranks-3 c = sym (zeros-front 512 _ (c .before .before .before .before .before .before .before .before .before .before .before .pre .0 .few))
+
+array-borrow-prefix-asked : tie.Need-array-borrow-prefix-asked
+array-borrow-prefix-asked c = search needs
+
+slice-aggregate-deal-ranks-4 : tie.Need-slice-aggregate-deal-ranks-4
+slice-aggregate-deal-ranks-4 c = sym (zeros-front 512 _ (c .before .before .before .before .before .before .before .before .before .before .before .before .pre .0 .few))
+
+array-borrow-prefix-amounts : tie.Need-array-borrow-prefix-amounts
+array-borrow-prefix-amounts c = search needs
+
+slice-aggregate-deal-ranks-5 : tie.Need-slice-aggregate-deal-ranks-5
+slice-aggregate-deal-ranks-5 c = sym (zeros-front 512 _ (c .before .before .before .before .before .before .before .before .before .before .before .before .before .pre .0 .few))
+
+array-borrow-prefix-before : tie.Need-array-borrow-prefix-before
+array-borrow-prefix-before c = search needs
+
+slice-aggregate-deal-ranks-6 : tie.Need-slice-aggregate-deal-ranks-6
+slice-aggregate-deal-ranks-6 c = sym (zeros-front 512 _ (c .before .before .before .before .before .before .before .before .before .before .before .before .before .before .pre .0 .few))
+
+array-borrow-prefix-dealt : tie.Need-array-borrow-prefix-dealt
+array-borrow-prefix-dealt c = search needs
+
+slice-aggregate-deal-ranks-7 : tie.Need-slice-aggregate-deal-ranks-7
+slice-aggregate-deal-ranks-7 c = sym (zeros-front 512 _ (c .before .before .before .before .before .before .before .before .before .before .before .before .before .before .before .pre .0 .few))
+
+deal-ranks-requires : tie.Need-deal-ranks-requires
+deal-ranks-requires c κs =
+    let pre = c .before .before .before .before .before .before .before .before .before .before .before .before .before .before .before .before .pre in
+    let size = zeros-front 512 _ (pre .0 .few) in
+    (pre .0, (pre .1 .0, (pre .1 .1 .0, ((size, size, size, size, size, size, size), (pre .1 .1 .1, zeros-rows)))))
+
+same-length : tie.Need-same-length
+same-length c = search needs
+
+returns : tie.Need-returns
+returns c = search needs
+
+pub deal-spec : {M : Type 1} → statement M
+deal-spec =
+    tie.close
+    (tie.spec
+    array-borrow-prefix-left
+    slice-aggregate-deal-ranks
+    array-borrow-prefix-lower
+    slice-aggregate-deal-ranks-2
+    array-borrow-prefix-pcapmins
+    slice-aggregate-deal-ranks-3
+    array-borrow-prefix-asked
+    slice-aggregate-deal-ranks-4
+    array-borrow-prefix-amounts
+    slice-aggregate-deal-ranks-5
+    array-borrow-prefix-before
+    slice-aggregate-deal-ranks-6
+    array-borrow-prefix-dealt
+    slice-aggregate-deal-ranks-7
+    deal-ranks-requires
+    same-length
+    returns)

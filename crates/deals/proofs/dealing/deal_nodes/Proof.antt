@@ -1,0 +1,194 @@
+-- `deal_nodes` meets its contract: before each turn the nodes passed have their amounts and are served as children.
+use mathlib.Core.Path.{_∙_}
+use mathlib.Core.Logic.{⊎-elim}
+use Prim.Native.Nat.{_-_}
+use native.Mathlib.Omega.{arith}
+use lib.ListN.{length}
+use borrow.Author.Needs.{needs}
+use Rattle.rooms.proofs.Sums.{sum-none}
+use Rattle.deals.proofs.Serving.{served-none}
+use Rattle.deals.proofs.NodeTurns.{NodeTurn, nodes-start, nodes-end, parent-within, node-may-serve, root-next, inner-next}
+use Rattle.deals.proofs.dealing.deal_nodes.Statement.{statement}
+use Rattle.deals.proofs.dealing.deal_nodes.Tie as tie
+
+abbrev Inv-loop : tie.InvT-loop
+Inv-loop parents level requests pcapmins asked amounts₀ before₀ dealt₀ m₀ m-end amounts before dealt m =
+    NodeTurn parents level requests pcapmins asked m amounts before dealt
+
+abbrev μ-loop : tie.MeasureT-loop
+μ-loop parents level requests pcapmins asked amounts₀ before₀ dealt₀ m₀ m-end amounts before dealt m = length parents - m
+
+clear-requires : tie.Need-clear-requires Inv-loop μ-loop
+clear-requires c κs = search needs
+
+clear-requires-2 : tie.Need-clear-requires-2 Inv-loop μ-loop
+clear-requires-2 c κs = search needs
+
+loop-holds : tie.Need-loop-holds Inv-loop μ-loop
+loop-holds c =
+    let s = c .before .before .before .before .before .before .before .before .before .before .before .before .before .before in
+    let pre = s .pre in
+    nodes-start
+    (record {
+      few = pre .0 .0;
+      ranked = pre .0 .1;
+      rises = pre .0 .2;
+      pcapmins-size = pre .1 .0 .0;
+      asked-size = pre .1 .0 .1;
+      bounds = pre .1 .1;
+    })
+    (pre .1 .0 .2)
+    (served-none _ _ _ _ (s .args .before .now) (s .args .dealt .now) (pre .1 .0 .3) (pre .1 .0 .4) (c .before .before .before .before .before .before .clear .ensures) (c .before .before .clear2 .ensures) (λ n. sum-none _))
+
+mul-wide : tie.Need-mul-wide Inv-loop μ-loop
+mul-wide c = search needs
+
+mul-wide-2 : tie.Need-mul-wide-2 Inv-loop μ-loop
+mul-wide-2 c = search needs
+
+index-1-wide : tie.Need-index-1-wide Inv-loop μ-loop
+index-1-wide c = search needs
+
+index-2-wide : tie.Need-index-2-wide Inv-loop μ-loop
+index-2-wide c = c .before .loop .inv .ready .ranked
+
+wide-requires : tie.Need-wide-requires Inv-loop μ-loop
+wide-requires c κs = search needs
+
+mul-weight : tie.Need-mul-weight Inv-loop μ-loop
+mul-weight c = search needs
+
+shared-slice-read-weight : tie.Need-shared-slice-read-weight Inv-loop μ-loop
+shared-slice-read-weight c = search needs
+
+sub-weight : tie.Need-sub-weight Inv-loop μ-loop
+sub-weight c =
+    let l = c .before .before .before .before .loop in
+    omega (arith, l .inv .ready .bounds (l .m) (omega arith) .0, c .before .wide .ensures .0)
+
+mul-index : tie.Need-mul-index Inv-loop μ-loop
+mul-index c = search needs
+
+shared-slice-read-index : tie.Need-shared-slice-read-index Inv-loop μ-loop
+shared-slice-read-index c = search needs
+
+index-requires : tie.Need-index-requires Inv-loop μ-loop
+index-requires c κs = search needs
+
+mul-amounts : tie.Need-mul-amounts Inv-loop μ-loop
+mul-amounts c = search needs
+
+slice-write-amounts : tie.Need-slice-write-amounts Inv-loop μ-loop
+slice-write-amounts c = search needs
+
+sub-p : tie.Need-sub-p Inv-loop μ-loop
+sub-p c = search needs
+
+mul-serve : tie.Need-mul-serve Inv-loop μ-loop
+mul-serve c = search needs
+
+slice-read-serve : tie.Need-slice-read-serve Inv-loop μ-loop
+slice-read-serve c =
+    let l = c .before .before .before .before .before .before .before .before .loop in
+    omega (arith, parent-within (l .inv) (c .before .before .before .before .before .before .before .loop-test .taken) _ _ (c .before .before .before .before .before .wide .ensures .0) (c .before .before .index .ensures .0) (c .before .if1 .left), l .inv .ready .asked-size, l .inv .ready .pcapmins-size, l .inv .amounts-size)
+
+mul-serve-2 : tie.Need-mul-serve-2 Inv-loop μ-loop
+mul-serve-2 c = search needs
+
+shared-slice-read-serve : tie.Need-shared-slice-read-serve Inv-loop μ-loop
+shared-slice-read-serve c =
+    let l = c .before .before .before .before .before .before .before .before .before .loop in
+    omega (arith, parent-within (l .inv) (c .before .before .before .before .before .before .before .before .loop-test .taken) _ _ (c .before .before .before .before .before .before .wide .ensures .0) (c .before .before .before .index .ensures .0) (c .before .before .if1 .left), l .inv .ready .asked-size, l .inv .ready .pcapmins-size, l .inv .amounts-size)
+
+mul-serve-3 : tie.Need-mul-serve-3 Inv-loop μ-loop
+mul-serve-3 c = search needs
+
+shared-slice-read-serve-2 : tie.Need-shared-slice-read-serve-2 Inv-loop μ-loop
+shared-slice-read-serve-2 c =
+    let l = c .before .before .before .before .before .before .before .before .before .before .loop in
+    omega (arith, parent-within (l .inv) (c .before .before .before .before .before .before .before .before .before .loop-test .taken) _ _ (c .before .before .before .before .before .before .before .wide .ensures .0) (c .before .before .before .before .index .ensures .0) (c .before .before .before .if1 .left), l .inv .ready .asked-size, l .inv .ready .pcapmins-size, l .inv .amounts-size)
+
+sub-serve : tie.Need-sub-serve Inv-loop μ-loop
+sub-serve c =
+    let l = c .before .before .before .before .before .before .before .before .before .before .loop in
+    l .inv .ready .bounds _ (parent-within (l .inv) (c .before .before .before .before .before .before .before .before .before .loop-test .taken) _ _ (c .before .before .before .before .before .before .before .wide .ensures .0) (c .before .before .before .before .index .ensures .0) (c .before .before .before .if1 .left)) .2
+
+serve-requires : tie.Need-serve-requires Inv-loop μ-loop
+serve-requires c κs =
+    node-may-serve (c .before .before .before .before .before .before .before .before .before .before .before .before .loop .inv) (c .before .before .before .before .before .before .before .before .before .before .before .loop-test .taken) _ _ (c .before .before .before .before .before .before .before .before .before .wide .ensures .0) (c .before .before .before .before .before .before .index .ensures .0) (c .before .before .before .before .before .if1 .left)
+
+mul-amounts-2 : tie.Need-mul-amounts-2 Inv-loop μ-loop
+mul-amounts-2 c = search needs
+
+slice-write-amounts-2 : tie.Need-slice-write-amounts-2 Inv-loop μ-loop
+slice-write-amounts-2 c = search needs
+
+add-m : tie.Need-add-m Inv-loop μ-loop
+add-m c = search needs
+
+loop-less : tie.Need-loop-less Inv-loop μ-loop
+loop-less c = search needs
+
+loop-again : tie.Need-loop-again Inv-loop μ-loop
+loop-again c =
+    let inv = c .before .before .before .before .before .before .before .loop .inv in
+    let more = c .before .before .before .before .before .before .loop-test .taken in
+    let parent = c .before .index .ensures .0 in
+    let request = c .before .before .before .before .wide .ensures .0 in
+    ⊎-elim
+    (λ w. root-next inv more _ _ request parent (w .0 .taken) (w .1) (w .2) (w .3))
+    (λ w. inner-next inv more _ _ request parent (w .0 .left) _ (w .6 .ensures .0, (w .12 ∙ w .6 .ensures .1 .0, w .13 ∙ w .6 .ensures .1 .1)) (w .11))
+    (c .if1 .came)
+
+same-length : tie.Need-same-length Inv-loop μ-loop
+same-length c = search needs
+
+same-length-2 : tie.Need-same-length-2 Inv-loop μ-loop
+same-length-2 c = search needs
+
+same-length-3 : tie.Need-same-length-3 Inv-loop μ-loop
+same-length-3 c = search needs
+
+returns : tie.Need-returns Inv-loop μ-loop
+returns c = nodes-end (c .before .loop .inv) (c .loop-test .left)
+
+pub deal-nodes-spec : {M : Type 1} → statement M
+deal-nodes-spec =
+    tie.close
+    (tie.spec
+    Inv-loop
+    μ-loop
+    clear-requires
+    clear-requires-2
+    loop-holds
+    mul-wide
+    mul-wide-2
+    index-1-wide
+    index-2-wide
+    wide-requires
+    mul-weight
+    shared-slice-read-weight
+    sub-weight
+    mul-index
+    shared-slice-read-index
+    index-requires
+    mul-amounts
+    slice-write-amounts
+    sub-p
+    mul-serve
+    slice-read-serve
+    mul-serve-2
+    shared-slice-read-serve
+    mul-serve-3
+    shared-slice-read-serve-2
+    sub-serve
+    serve-requires
+    mul-amounts-2
+    slice-write-amounts-2
+    add-m
+    loop-less
+    loop-again
+    same-length
+    same-length-2
+    same-length-3
+    returns)

@@ -1,0 +1,78 @@
+-- `serve` meets its contract: the watts dealt on the node grow from one quotient of the split to the next, and a weight of 0 leaves all as it was.
+use mathlib.Core.Path.{refl}
+use native.Mathlib.Nat.{mul-le-mul-left, lt-of-le-of-lt}
+use borrow.Author.Needs.{needs}
+use Rattle.deals.proofs.Serving.{serve-none, serve-grows, serve-part}
+use Rattle.deals.proofs.dealing.serve.Statement.{statement}
+use Rattle.deals.proofs.dealing.serve.Tie as tie
+
+returns : tie.Need-returns
+returns c = serve-none _ _ _ _ _ _ (c .before .pre .1) (c .if1 .taken)
+
+mul-upto : tie.Need-mul-upto
+mul-upto c = search needs
+
+slice-read-upto : tie.Need-slice-read-upto
+slice-read-upto c = search needs
+
+add-upto : tie.Need-add-upto
+add-upto c = search needs
+
+mul-watts : tie.Need-mul-watts
+mul-watts c =
+    let pre = c .before .before .pre .0 in
+    record { fits = lt-of-le-of-lt (mul-le-mul-left _ (pre .2)) (pre .3) }
+
+div-watts : tie.Need-div-watts
+div-watts c = search needs
+
+mul-given : tie.Need-mul-given
+mul-given c = search needs
+
+slice-read-given : tie.Need-slice-read-given
+slice-read-given c = search needs
+
+sub-given : tie.Need-sub-given
+sub-given c = serve-grows _ _ _ _ _ (c .before .before .before .pre .1)
+
+mul-before : tie.Need-mul-before
+mul-before c = search needs
+
+slice-write-before : tie.Need-slice-write-before
+slice-write-before c = search needs
+
+mul-dealt : tie.Need-mul-dealt
+mul-dealt c = search needs
+
+slice-write-dealt : tie.Need-slice-write-dealt
+slice-write-dealt c = search needs
+
+same-length : tie.Need-same-length
+same-length c = search needs
+
+same-length-2 : tie.Need-same-length-2
+same-length-2 c = search needs
+
+returns-2 : tie.Need-returns-2
+returns-2 c = (serve-part _ _ _ _ _ (c .before .before .before .pre .1), (refl, refl))
+
+pub serve-spec : {M : Type 1} → statement M
+serve-spec =
+    tie.close
+    (tie.spec
+    returns
+    mul-upto
+    slice-read-upto
+    add-upto
+    mul-watts
+    div-watts
+    mul-given
+    slice-read-given
+    sub-given
+    mul-before
+    slice-write-before
+    mul-dealt
+    slice-write-dealt
+    same-length
+    same-length-2
+    returns-2)

@@ -1,0 +1,17 @@
+-- What a reader must believe of `deals`.
+pub mod Figures
+-- The room's cords, and the wants of the first deal.
+pub mod Cords
+pub mod Wants
+-- One deal: metrics, split and dealing.
+pub mod Metrics
+pub mod Split
+pub mod Dealing
+-- Both deals, and the whole plan with its refusals.
+pub mod SecondDeal
+pub mod Plan
+-- What is promised: trees and other ways of dealing them, and the statements.
+pub mod Ways
+pub mod Promises
+-- Cited by contracts of private functions alone.
+pub mod Passes

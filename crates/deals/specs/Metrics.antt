@@ -1,0 +1,133 @@
+-- Metrics of a deal: Pcapmin, Request and excess, at each node for each rank.
+use mathlib.Core.List.{List, [], _∷_}
+use Prim.Native.Nat.{ℕ, zero, suc, _+_, _-_, min}
+use lib.Dec.{eqb}
+use lib.ListN.{length, getD}
+use Rattle.rooms.specs.Part.{total}
+use Rattle.rooms.specs.Sums.{on, sum}
+use Rattle.rooms.specs.Table.{Room, highestRank, roomCords}
+use Rattle.rooms.specs.Limits.{limit, nodeAt, parentOf}
+use Rattle.deals.specs.Figures.{figuresFrom, figures, at, cell, sumOf}
+use Rattle.deals.specs.Cords.{cordsFrom, cordAt, rankOf}
+use Rattle.deals.specs.Wants.{lowsOf}
+
+-- What a deal goes by: nodes and cords by their places, counted from 0. A parent, and a cord's node, is a node's number:
+-- its place plus one, or 0 for none. A level is a rank counted from 0, as the places of a row are; there are `levels` of them.
+pub record Deal : Type 0 where
+  pub nodes : ℕ
+  pub parent : ℕ → ℕ
+  pub limit : ℕ → ℕ
+  pub cords : ℕ
+  pub node : ℕ → ℕ
+  pub level : ℕ → ℕ
+  pub low : ℕ → ℕ
+  pub want : ℕ → ℕ
+  pub levels : ℕ
+
+-- The deal of lists of figures: parents and limits, one a node; nodes, levels, lows and wants, one a cord.
+unfoldable pub dealFrom : (parents limits nodes levels lows wants : List ℕ) → Deal
+dealFrom parents limits nodes levels lows wants = record {
+  nodes = length parents;
+  parent = at parents;
+  limit = at limits;
+  cords = length nodes;
+  node = at nodes;
+  level = at levels;
+  low = at lows;
+  want = at wants;
+  levels = highestRank;
+}
+
+-- The parent and the limit of each node of a room.
+unfoldable pub parentsOf : Room → List ℕ
+unfolding figuresFrom
+parentsOf r = figures (length (r .nodes)) (parentOf r)
+
+unfoldable pub limitsOf : Room → List ℕ
+unfolding figuresFrom
+limitsOf r = figures (length (r .nodes)) (λ m. limit (nodeAt r m))
+
+-- The node and the level of each cord.
+unfoldable pub nodesOf : Room → List ℕ
+unfolding figuresFrom cordsFrom
+nodesOf r = figures (roomCords r) (λ c. cordAt r c .node)
+
+unfoldable pub levelsOf : Room → List ℕ
+unfolding figuresFrom cordsFrom
+levelsOf r = figures (roomCords r) (λ c. rankOf r c - 1)
+
+-- The deal of a room by given wants, one a cord.
+unfoldable pub dealOf : Room → List ℕ → Deal
+unfolding dealFrom parentsOf limitsOf nodesOf levelsOf lowsOf
+dealOf r wants = dealFrom (parentsOf r) (limitsOf r) (nodesOf r) (levelsOf r) (lowsOf r) wants
+
+-- A figure of a cord at a level: 0 where that is not the cord's.
+abbrev pub atLevel : Deal → ℕ → (ℕ → ℕ) → ℕ → ℕ
+atLevel d j figure c = on (eqb (d .level c) j) (figure c)
+
+-- ---- Sums over a node's children: its child nodes, and its own cords
+
+-- A figure of the nodes, summed over the child nodes of the node at place n.
+abbrev pub overNodes : Deal → ℕ → (ℕ → ℕ) → ℕ
+overNodes d n figure = sum (d .nodes) (λ m. on (eqb (d .parent m) (suc n)) (figure m))
+
+-- A figure of the cords at a level, summed over the cords that hang on the node at place n itself.
+abbrev pub overCords : Deal → ℕ → ℕ → (ℕ → ℕ) → ℕ
+overCords d n j figure = sum (d .cords) (λ c. on (eqb (d .node c) (suc n)) (atLevel d j figure c))
+
+-- The figures at level j of the rows of the nodes from place m on, summed over the child nodes of the node at place n.
+unfoldable pub overRows : Deal → ℕ → ℕ → ℕ → List (List ℕ) → ℕ
+overRows d n j m [] = 0
+overRows d n j m (row ∷ rows) = on (eqb (d .parent m) (suc n)) (at row j) + overRows d n j (suc m) rows
+
+-- The children's figures at each level, summed: `rows` are those of the nodes after place n, where its child nodes are.
+unfoldable pub childSums : Deal → ℕ → List (List ℕ) → (ℕ → ℕ) → List ℕ
+unfolding figuresFrom sum overRows
+childSums d n rows figure = figures (d .levels) (λ j. overRows d n j (suc n) rows + overCords d n j figure)
+
+-- ---- Pcapmin and Request
+
+-- The Pcapmin rows of the k nodes from place n on: at each rank the sum over the node's children, a cord's being its low.
+unfoldable pub pcapminsFrom : Deal → ℕ → ℕ → List (List ℕ)
+unfolding childSums
+pcapminsFrom d zero n = []
+pcapminsFrom d (suc k) n =
+    let rows = pcapminsFrom d k (suc n) in
+    childSums d n rows (d .low) ∷ rows
+
+-- The Requests of a node at k levels from level j on, where the Pcapmin of the lower ranks sum to `lower`. From the
+-- highest rank down, each is the lesser of limit − (Requests of higher ranks) − (Pcapmin of lower ranks) and the children's.
+unfoldable pub requestsAbove : ℕ → ℕ → ℕ → ℕ → (ℕ → ℕ) → (ℕ → ℕ) → List ℕ
+unfolding total
+requestsAbove zero j limit lower pcapmin children = []
+requestsAbove (suc k) j limit lower pcapmin children =
+    let higher = requestsAbove k (suc j) limit (lower + pcapmin j) pcapmin children in
+    min (limit - sumOf higher - lower) (children j) ∷ higher
+
+-- The Request rows of the k nodes from place n on, a cord's Request being its want.
+unfoldable pub requestsFrom : Deal → List (List ℕ) → ℕ → ℕ → List (List ℕ)
+unfolding childSums requestsAbove
+requestsFrom d pcapmins zero n = []
+requestsFrom d pcapmins (suc k) n =
+    let rows = requestsFrom d pcapmins k (suc n) in
+    let children = childSums d n rows (d .want) in
+    let pcapmin = getD pcapmins n [] in
+    requestsAbove (d .levels) 0 (d .limit n) 0 (at pcapmin) (at children) ∷ rows
+
+-- The metrics of a deal: for each node, its row of Pcapmin and its row of Requests.
+pub record Metrics : Type 0 where
+  pub pcapmins : List (List ℕ)
+  pub requests : List (List ℕ)
+
+unfoldable pub metrics : Deal → Metrics
+unfolding pcapminsFrom requestsFrom
+metrics d =
+    let pcapmins = pcapminsFrom d (d .nodes) 0 in
+    record { pcapmins = pcapmins; requests = requestsFrom d pcapmins (d .nodes) 0 }
+
+-- The excess of a node at a level: Request − Pcapmin. That of a cord, at its own level: want − low.
+abbrev pub excess : Metrics → ℕ → ℕ → ℕ
+excess f m j = cell (f .requests) m j - cell (f .pcapmins) m j
+
+abbrev pub cordExcess : Deal → ℕ → ℕ
+cordExcess d c = d .want c - d .low c

@@ -1,0 +1,162 @@
+-- The passes of a deal over nodes and cords, one rank at a time: what the contracts of private functions cite. No public
+-- contract does. Figures stand in lists, by the places of nodes or cords.
+use mathlib.Core.Path.{_≡_}
+use mathlib.Core.Bool.{cond}
+use mathlib.Core.List.{List, []}
+use Prim.Native.Nat.{ℕ, zero, suc, _+_, _-_, _*_, _/_, _≤_, _<_, min, max}
+use lib.Dec.{eqb, ltb}
+use lib.ListN.{length, getD}
+use Rattle.rooms.specs.Sums.{on, sum}
+use Rattle.rooms.specs.Part.{good}
+use Rattle.rooms.specs.Table.{Room, roomCords, mostNodes, mostCords, mostWatts, highestRank, scale}
+use Rattle.rooms.specs.Limits.{carried, beneath, checked}
+use Rattle.rooms.specs.Credits.{sumBeneath}
+use Rattle.deals.specs.Figures.{at, cell}
+use Rattle.deals.specs.Metrics.{Deal}
+use Rattle.deals.specs.Split.{part}
+use Rattle.deals.specs.SecondDeal.{leastOver, freed, secondGrants}
+use Rattle.deals.specs.SecondDeal as second
+
+-- ---- What the lists hold
+
+-- The cords of a room of so many nodes: for each its node's number, its level (rank − 1), its low and its want.
+pub record CordLists (nodeCount : ℕ) (nodes levels lows wants : List ℕ) : Type 0 where
+  pub few : length nodes ≤ mostCords
+  pub levels-size : length levels ≡ length nodes
+  pub lows-size : length lows ≡ length nodes
+  pub wants-size : length wants ≡ length nodes
+  pub hangs : (c : ℕ) → c < length nodes → 1 ≤ at nodes c
+  pub within : (c : ℕ) → c < length nodes → at nodes c ≤ nodeCount
+  pub ranked : (c : ℕ) → c < length nodes → at levels c < highestRank
+  pub ordered : (c : ℕ) → c < length nodes → at lows c ≤ at wants c
+  pub most : (c : ℕ) → c < length nodes → at wants c ≤ mostWatts
+
+-- The nodes of a room: for each its parent's number and its limit.
+pub record NodeLists (parents limits : List ℕ) : Type 0 where
+  pub few : length parents ≤ mostNodes
+  pub limits-size : length limits ≡ length parents
+  pub rises : (m : ℕ) → m < length parents → at parents m ≤ m
+  pub most : (m : ℕ) → m < length parents → at limits m ≤ mostWatts
+
+-- No node whose limit the lows beneath it exceed.
+abbrev pub LowsWithin : List ℕ → List ℕ → List ℕ → List ℕ → Type 0
+LowsWithin parents limits nodes lows =
+    (n : ℕ) → n < length parents → sum (length nodes) (λ c. on (beneath (at parents) (length parents) n (at nodes c)) (at lows c)) ≤ at limits n
+
+-- A list is as long as a good table's count of nodes, of servers or of cords.
+abbrev pub NodesFit : List ℕ → ℕ → Type 0
+NodesFit table size = (r : Room) (end : ℕ) → checked table 0 ≡ good r end → size ≡ length (r .nodes)
+
+abbrev pub ServersFit : List ℕ → ℕ → Type 0
+ServersFit table size = (r : Room) (end : ℕ) → checked table 0 ≡ good r end → size ≡ length (r .servers)
+
+abbrev pub CordsFit : List ℕ → ℕ → Type 0
+CordsFit table size = (r : Room) (end : ℕ) → checked table 0 ≡ good r end → size ≡ roomCords r
+
+-- A row for each place of a node, with a figure for each level.
+abbrev pub FullRows : List (List ℕ) → Type 0
+FullRows rows = (length rows ≡ mostNodes) × ((m : ℕ) → m < mostNodes → length (getD rows m []) ≡ highestRank)
+
+-- ---- The words of one server, whose rank stands at index `start` of a table
+
+-- Its count of cords, and the node and the share of the k-th.
+abbrev pub countWord : List ℕ → ℕ → ℕ
+countWord table start = at table (start + 3)
+
+abbrev pub nodeWord : List ℕ → ℕ → ℕ → ℕ
+nodeWord table start k = at table (start + 4 + 2 * k)
+
+abbrev pub shareWord : List ℕ → ℕ → ℕ → ℕ
+shareWord table start k = at table (start + 5 + 2 * k)
+
+-- The words are there and in range.
+pub record ServerWords (table : List ℕ) (start : ℕ) : Type 0 where
+  pub there : start + (4 + 2 * countWord table start) ≤ length table
+  pub ranked : 1 ≤ at table start
+  pub least : at table (start + 1) ≤ mostWatts
+  pub shares : (k : ℕ) → k < countWord table start → shareWord table start k ≤ scale
+
+-- Its need by a demand, and its usable watts, where the grants of its cords stand from place c on: the least of the need and,
+-- over the cords with share above 0, of the loads at which they carry their grants.
+abbrev pub serverNeed : List ℕ → ℕ → ℕ → ℕ
+serverNeed table start demand = min (max demand (at table (start + 1))) (at table (start + 2))
+
+abbrev pub serverUsable : List ℕ → ℕ → ℕ → List ℕ → ℕ → ℕ
+serverUsable table start demand grants c =
+    leastOver (countWord table start) (λ k. ltb 0 (shareWord table start k)) (λ k. scale * at grants (c + k) / shareWord table start k) (serverNeed table start demand)
+
+-- The used and the stranded watts of its k-th cord, and the cord's want in the next deal.
+abbrev pub cordUsed : List ℕ → ℕ → ℕ → ℕ → ℕ
+cordUsed table start usable k = carried scale (shareWord table start k) usable
+
+abbrev pub cordStranded : List ℕ → ℕ → ℕ → List ℕ → ℕ → ℕ → ℕ
+cordStranded table start usable grants c k = at grants (c + k) - cordUsed table start usable k
+
+abbrev pub cordWant : List ℕ → ℕ → ℕ → List ℕ → List ℕ → ℕ → ℕ → ℕ
+cordWant table start usable grants wants c k =
+    cond (ltb 0 (cordStranded table start usable grants c k)) (cordUsed table start usable k) (at wants (c + k))
+
+-- ---- Sums on the nodes
+
+-- A figure of the cords of a level, summed over those that hang on the node at place n.
+abbrev pub onNode : List ℕ → List ℕ → List ℕ → ℕ → ℕ → ℕ
+onNode nodes levels figures level n = sum (length nodes) (λ c. on (eqb (at nodes c) (suc n)) (on (eqb (at levels c) level) (at figures c)))
+
+-- A figure of the nodes, summed over the child nodes of the node at place n that stand before place m.
+abbrev pub childrenBefore : List ℕ → (ℕ → ℕ) → ℕ → ℕ → ℕ
+childrenBefore parents figure n m = sum m (λ h. on (eqb (at parents h) (suc n)) (figure h))
+
+-- Over all its child nodes.
+abbrev pub overChildren : List ℕ → (ℕ → ℕ) → ℕ → ℕ
+overChildren parents figure n = childrenBefore parents figure n (length parents)
+
+-- ---- Gathering a rank from the last node to the first
+
+-- From what is left of each limit, the Pcapmin of this rank and those below, and the cords' lows and wants on each node: the
+-- Pcapmin and the children's Requests at this rank, the Requests in their column of the rows, and what is left for the next.
+pub record Gathered (parents : List ℕ) (level : ℕ) (left lower lows wants : List ℕ) (rows : List (List ℕ)) (left′ lower′ pcapmins asked : List ℕ) (rows′ : List (List ℕ)) : Type 0 where
+  pub pcapmin : (n : ℕ) → n < length parents → at pcapmins n ≡ sumBeneath (at parents) (length parents) (at lows) n
+  pub children : (n : ℕ) → n < length parents → at asked n ≡ at wants n + overChildren parents (λ m. cell rows′ m level) n
+  pub request : (n : ℕ) → n < length parents → cell rows′ n level ≡ min (at left n - (at lower n - at pcapmins n)) (at asked n)
+  pub others : (n j : ℕ) → (j ≡ level → ⊥) → cell rows′ n j ≡ cell rows n j
+  pub left-is : (n : ℕ) → n < length parents → at left′ n ≡ at left n - cell rows′ n level
+  pub lower-is : (n : ℕ) → n < length parents → at lower′ n ≡ at lower n - at pcapmins n
+  pub full : FullRows rows′
+
+-- ---- Dealing a rank from the first node to the last, then to the cords
+
+-- The weight of the node at place m in the split at its parent: its excess at this rank.
+abbrev pub weightOf : List (List ℕ) → ℕ → List ℕ → ℕ → ℕ
+weightOf rows level pcapmins m = cell rows m level - at pcapmins m
+
+-- The weights of the children of the node at place n, summed.
+abbrev pub wholeOf : List ℕ → List ℕ → ℕ → ℕ
+wholeOf pcapmins asked n = at asked n - at pcapmins n
+
+-- What each node has to give, the weights of its child nodes, and what these were dealt together.
+pub record NodesDealt (parents : List ℕ) (level : ℕ) (rows : List (List ℕ)) (pcapmins asked amounts before dealt : List ℕ) : Type 0 where
+  pub root : (m : ℕ) → m < length parents → at parents m ≡ 0 → at amounts m ≡ weightOf rows level pcapmins m
+  pub inner : (m n : ℕ) → m < length parents → at parents m ≡ suc n
+      → at amounts m ≡ part (at amounts n) (wholeOf pcapmins asked n) (childrenBefore parents (weightOf rows level pcapmins) n m) (weightOf rows level pcapmins m)
+  pub most : (m : ℕ) → m < length parents → at amounts m ≤ mostWatts
+  pub served : (n : ℕ) → n < length parents → at before n ≡ overChildren parents (weightOf rows level pcapmins) n
+  pub dealt-is : (n : ℕ) → n < length parents → at dealt n ≡ at amounts n * at before n / wholeOf pcapmins asked n
+
+-- The weights of the cords of a level on the node at place n that stand before place c: want less low.
+abbrev pub cordsBefore : List ℕ → List ℕ → List ℕ → List ℕ → ℕ → ℕ → ℕ → ℕ
+cordsBefore nodes levels lows wants level n c =
+    sum c (λ h. on (eqb (at nodes h) (suc n)) (on (eqb (at levels h) level) (at wants h - at lows h)))
+
+-- The grants after a rank: a cord of it has its low and its part of its node's amount, every other what it had.
+pub record CordsDealt (nodes levels lows wants : List ℕ) (level : ℕ) (pcapmins asked amounts before grants grants′ : List ℕ) : Type 0 where
+  pub ours : (c n : ℕ) → c < length nodes → at levels c ≡ level → at nodes c ≡ suc n
+      → at grants′ c ≡ at lows c + part (at amounts n) (wholeOf pcapmins asked n) (at before n + cordsBefore nodes levels lows wants level n c) (at wants c - at lows c)
+  pub others : (c : ℕ) → c < length nodes → (at levels c ≡ level → ⊥) → at grants′ c ≡ at grants c
+
+-- ---- Both deals
+
+-- The freed watts, the grants and the caps of a good table with given demands.
+pub record Planning (table demands : List ℕ) (watts : ℕ) (grants caps : List ℕ) : Type 0 where
+  pub freed-is : (r : Room) (end : ℕ) → checked table 0 ≡ good r end → watts ≡ freed r demands
+  pub grants-are : (r : Room) (end : ℕ) → checked table 0 ≡ good r end → grants ≡ secondGrants r demands
+  pub caps-are : (r : Room) (end : ℕ) → checked table 0 ≡ good r end → caps ≡ second.caps r demands

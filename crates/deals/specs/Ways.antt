@@ -1,0 +1,42 @@
+-- Trees, and ways of dealing them: what ours is compared with.
+use mathlib.Core.Path.{_≡_}
+use mathlib.Core.Bool.{Bool, true}
+use mathlib.Core.List.{List}
+use Prim.Native.Nat.{ℕ, suc, _≤_, _<_}
+use lib.Dec.{leb}
+use lib.ListN.{length}
+use Rattle.rooms.specs.Sums.{on, sum}
+use Rattle.rooms.specs.Table.{Room, roomCords}
+use Rattle.rooms.specs.Limits.{limit, nodeAt, parentOf, hangsBeneath}
+use Rattle.deals.specs.Figures.{at}
+use Rattle.deals.specs.Cords.{cordAt, rankOf}
+use Rattle.deals.specs.Wants.{lowsOf}
+
+-- A root is a node with parent 0. Its tree is the root with every node beneath it.
+pub record Root (r : Room) (n : ℕ) : Type 0 where
+  pub node : n < length (r .nodes)
+  pub top : parentOf r n ≡ 0
+
+-- Whether the cord at place c is beneath the node at place n, at any depth.
+abbrev pub cordBeneath : Room → ℕ → ℕ → Bool
+cordBeneath r n c = hangsBeneath r n (cordAt r c .node)
+
+-- Whether the node at place m is the node at place n or beneath it, at any depth.
+abbrev pub nodeBeneath : Room → ℕ → ℕ → Bool
+nodeBeneath r n m = hangsBeneath r n (suc m)
+
+-- A figure, summed over all cords beneath the node at place n, at any depth.
+unfoldable pub sumBeneath : Room → ℕ → (ℕ → ℕ) → ℕ
+sumBeneath r n figure = sum (roomCords r) (λ c. on (cordBeneath r n c) (figure c))
+
+-- The figures of the cords of a rank and above; 0 for the others.
+abbrev pub fromRank : Room → ℕ → List ℕ → ℕ → ℕ
+fromRank r rank watts c = on (leb rank (rankOf r c)) (at watts c)
+
+-- A way of dealing the tree of a root, by given wants: whole watts for the cords, by their places in the table, where each of
+-- the tree's cords has at least its low and at most its want, and at every node of the tree the watts of all cords beneath it
+-- sum to no more than its limit. Nothing is asked of the watts of other cords.
+pub record Way (r : Room) (root : ℕ) (wants watts : List ℕ) : Type 0 where
+  pub least : (c : ℕ) → c < roomCords r → cordBeneath r root c ≡ true → at (lowsOf r) c ≤ at watts c
+  pub most : (c : ℕ) → c < roomCords r → cordBeneath r root c ≡ true → at watts c ≤ at wants c
+  pub within : (n : ℕ) → n < length (r .nodes) → nodeBeneath r root n ≡ true → sumBeneath r n (at watts) ≤ limit (nodeAt r n)

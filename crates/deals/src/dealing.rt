@@ -1,0 +1,105 @@
+// One rank's dealing: from the first node to the last, then to the cords in table order. One split serves both.
+ghost use mathlib.Core.Path.{_≡_};
+ghost use Prim.Native.Nat.{ℕ, _+_, _-_, _*_, _/_, _^_, _≤_, _<_};
+ghost use lib.ListN.{length, set};
+ghost use Rattle.rooms.specs.Table.{mostWatts, mostCords, highestRank};
+ghost use Rattle.deals.specs.Figures.{at, cell};
+ghost use Rattle.deals.specs.Split.{part};
+ghost use Rattle.deals.specs.Passes.{CordLists, weightOf, wholeOf, childrenBefore, overChildren, cordsBefore, NodesDealt, CordsDealt};
+use crate::metrics::clear;
+use crate::widths::index;
+use crate::widths::narrow;
+use crate::widths::wide;
+
+// The part of the next child of the node at place p, by its weight. The weights served and the watts dealt there grow by it.
+fn serve(
+    amount: u64,
+    whole: u64,
+    weight: u64,
+    p: usize,
+    before: &mut [u64],
+    dealt: &mut [u64],
+) -> u64
+    requires { ⌜ (p < length (now before)) × (p < length (now dealt)) × (at (now before) p + weight ≤ whole) × (amount * whole < 2 ^ 64) × (whole < 2 ^ 63) ⌝ }
+    requires { ⌜ at (now dealt) p ≡ amount * at (now before) p / whole ⌝ }
+    ensures { λ r. ⌜ r ≡ part amount whole (at (now (before .entry)) p) weight ⌝ }
+    ensures { λ _. ⌜ now (before .exit) ≡ set (now (before .entry)) p (at (now (before .entry)) p + weight) ⌝ }
+    ensures { λ _. ⌜ now (dealt .exit) ≡ set (now (dealt .entry)) p (amount * (at (now (before .entry)) p + weight) / whole) ⌝ }
+{
+    if weight == 0 {
+        return 0;
+    }
+    let upto = before[p] + weight;
+    let watts = amount * upto / whole;
+    let given = watts - dealt[p];
+    before[p] = upto;
+    dealt[p] = watts;
+    given
+}
+
+// What each node has to give at a level: a root its excess, any other its part of its parent's.
+pub(crate) fn deal_nodes(
+    parents: &[u32],
+    level: usize,
+    requests: &[[u32; 16]; 512],
+    pcapmins: &[u64],
+    asked: &[u64],
+    amounts: &mut [u64],
+    before: &mut [u64],
+    dealt: &mut [u64],
+)
+    requires { ⌜ (length (now parents) ≤ 512) × (level < highestRank) × ((m : ℕ) → m < length (now parents) → at (now parents) m ≤ m) ⌝ }
+    requires { ⌜ (length (now pcapmins) ≡ length (now parents)) × (length (now asked) ≡ length (now parents)) × (length (now amounts) ≡ length (now parents)) × (length (now before) ≡ length (now parents)) × (length (now dealt) ≡ length (now parents)) ⌝ }
+    requires { ⌜ ((n : ℕ) → n < length (now parents) → (at (now pcapmins) n ≤ cell (now requests) n level) × (cell (now requests) n level ≤ mostWatts) × (at (now pcapmins) n ≤ at (now asked) n) × (at (now asked) n ≤ mostCords * mostWatts) × (overChildren (now parents) (weightOf (now requests) level (now pcapmins)) n ≤ wholeOf (now pcapmins) (now asked) n)) ⌝ }
+    ensures { λ _. ⌜ NodesDealt (now (parents .entry)) level (now (requests .entry)) (now (pcapmins .entry)) (now (asked .entry)) (now (amounts .exit)) (now (before .exit)) (now (dealt .exit)) ⌝ }
+{
+    clear(before);
+    clear(dealt);
+    for m in 0..parents.len() {
+        let weight = wide(requests[m][level]) - pcapmins[m];
+        let parent = index(parents[m]);
+        if parent == 0 {
+            amounts[m] = weight;
+        } else {
+            let p = parent - 1;
+            amounts[m] = serve(amounts[p], asked[p] - pcapmins[p], weight, p, before, dealt);
+        }
+    }
+}
+
+// The grants of the cords of a level: each its low and its part of its node's amount.
+pub(crate) fn deal_cords(
+    nodes: &[u32],
+    levels: &[u32],
+    lows: &[u32],
+    wants: &[u32],
+    level: usize,
+    pcapmins: &[u64],
+    asked: &[u64],
+    amounts: &[u64],
+    before: &mut [u64],
+    dealt: &mut [u64],
+    grants: &mut [u32],
+)
+    requires { ⌜ CordLists (length (now amounts)) (now nodes) (now levels) (now lows) (now wants) ⌝ }
+    requires { ⌜ (length (now pcapmins) ≡ length (now amounts)) × (length (now asked) ≡ length (now amounts)) × (length (now before) ≡ length (now amounts)) × (length (now dealt) ≡ length (now amounts)) × (length (now grants) ≡ length (now nodes)) ⌝ }
+    requires { ⌜ ((n : ℕ) → n < length (now amounts) → (at (now amounts) n ≤ mostWatts) × (at (now pcapmins) n ≤ at (now asked) n) × (at (now asked) n ≤ mostCords * mostWatts) × (at (now dealt) n ≡ at (now amounts) n * at (now before) n / wholeOf (now pcapmins) (now asked) n)) ⌝ }
+    requires { ⌜ ((n : ℕ) → n < length (now amounts) → at (now before) n + cordsBefore (now nodes) (now levels) (now lows) (now wants) level n (length (now nodes)) ≤ wholeOf (now pcapmins) (now asked) n) ⌝ }
+    ensures { λ _. ⌜ CordsDealt (now (nodes .entry)) (now (levels .entry)) (now (lows .entry)) (now (wants .entry)) level (now (pcapmins .entry)) (now (asked .entry)) (now (amounts .entry)) (now (before .entry)) (now (grants .entry)) (now (grants .exit)) ⌝ }
+{
+    for c in 0..nodes.len() {
+        if index(levels[c]) == level {
+            let p = index(nodes[c]) - 1;
+            let low = lows[c];
+            let watts = serve(
+                amounts[p],
+                asked[p] - pcapmins[p],
+                wide(wants[c] - low),
+                p,
+                before,
+                dealt,
+            );
+            grants[c] = low + narrow(watts);
+        }
+    }
+}

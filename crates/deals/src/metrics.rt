@@ -1,0 +1,130 @@
+// One rank's Pcapmin and Requests: summed from the cords onto their nodes, then gathered from the last node to the first.
+ghost use mathlib.Core.Path.{_≡_};
+ghost use Prim.Native.Nat.{ℕ, _+_, _-_, _*_, _^_, _≤_, _<_};
+ghost use lib.ListN.{length, replicate};
+ghost use Rattle.rooms.specs.Sums.{on, sum};
+ghost use Rattle.rooms.specs.Table.{mostWatts, mostCords, highestRank};
+ghost use Rattle.rooms.specs.Limits.{beneath};
+ghost use Rattle.rooms.specs.Credits.{sumBeneath, credited};
+ghost use Rattle.deals.specs.Figures.{at};
+ghost use Rattle.deals.specs.Passes.{CordLists, onNode, FullRows, Gathered};
+use crate::widths::index;
+use crate::widths::least;
+use crate::widths::narrow;
+use crate::widths::wide;
+
+// Zeros throughout.
+pub(crate) fn clear(list: &mut [u64])
+    ensures { λ _. ⌜ now (list .exit) ≡ replicate (length (now (list .entry))) 0 ⌝ }
+{
+    for i in 0..list.len() {
+        list[i] = 0;
+    }
+}
+
+// A figure added to the one that stands on a node, by the node's number; 0 is no node.
+fn credit(sums: &mut [u64], node: usize, figure: u64)
+    requires { ⌜ node ≤ length (now sums) ⌝ }
+    requires { ⌜ at (now sums) (node - 1) + figure < 2 ^ 64 ⌝ }
+    ensures { λ _. ⌜ now (sums .exit) ≡ credited node figure (now (sums .entry)) ⌝ }
+{
+    if node == 0 {
+        return;
+    }
+    let place = node - 1;
+    let sum = sums[place];
+    sums[place] = sum + figure;
+}
+
+// A figure of the cords of a level, summed on the cords' nodes.
+fn sum_level(nodes: &[u32], levels: &[u32], figures: &[u32], level: usize, sums: &mut [u64])
+    requires { ⌜ (length (now nodes) ≤ mostCords) × (length (now levels) ≡ length (now nodes)) × (length (now figures) ≡ length (now nodes)) ⌝ }
+    requires { ⌜ ((c : ℕ) → c < length (now nodes) → (1 ≤ at (now nodes) c) × (at (now nodes) c ≤ length (now sums)) × (at (now figures) c ≤ mostWatts)) ⌝ }
+    ensures { λ _. ⌜ ((n : ℕ) → n < length (now (sums .entry)) → at (now (sums .exit)) n ≡ onNode (now (nodes .entry)) (now (levels .entry)) (now (figures .entry)) level n) ⌝ }
+{
+    clear(sums);
+    for c in 0..nodes.len() {
+        if index(levels[c]) == level {
+            credit(sums, index(nodes[c]), wide(figures[c]));
+        }
+    }
+}
+
+// The lows and the wants of the cords of a level, each summed on its cord's node.
+pub(crate) fn sum_cords(
+    nodes: &[u32],
+    levels: &[u32],
+    lows: &[u32],
+    wants: &[u32],
+    level: usize,
+    pcapmins: &mut [u64],
+    asked: &mut [u64],
+)
+    requires { ⌜ CordLists (length (now pcapmins)) (now nodes) (now levels) (now lows) (now wants) ⌝ }
+    requires { ⌜ length (now asked) ≡ length (now pcapmins) ⌝ }
+    ensures { λ _. ⌜ ((n : ℕ) → n < length (now (pcapmins .entry)) → at (now (pcapmins .exit)) n ≡ onNode (now (nodes .entry)) (now (levels .entry)) (now (lows .entry)) level n) ⌝ }
+    ensures { λ _. ⌜ ((n : ℕ) → n < length (now (pcapmins .entry)) → at (now (asked .exit)) n ≡ onNode (now (nodes .entry)) (now (levels .entry)) (now (wants .entry)) level n) ⌝ }
+{
+    sum_level(nodes, levels, lows, level, pcapmins);
+    sum_level(nodes, levels, wants, level, asked);
+}
+
+// From the last node to the first, each node's sum is added to its parent's: a parent's number is below its child's.
+fn sum_beneath(parents: &[u32], sums: &mut [u64])
+    requires { ⌜ (length (now sums) ≡ length (now parents)) × (sum (length (now parents)) (at (now sums)) ≤ mostCords * mostWatts) ⌝ }
+    requires { ⌜ ((m : ℕ) → m < length (now parents) → at (now parents) m ≤ m) ⌝ }
+    ensures { λ _. ⌜ ((n : ℕ) → n < length (now (parents .entry)) → at (now (sums .exit)) n ≡ sumBeneath (at (now (parents .entry))) (length (now (parents .entry))) (at (now (sums .entry))) n) ⌝ }
+{
+    let mut n = parents.len();
+    while 0 < n {
+        n -= 1;
+        let figure = sums[n];
+        credit(sums, index(parents[n]), figure);
+    }
+}
+
+// All lows beneath each node, at any depth.
+pub(crate) fn sum_lows(parents: &[u32], nodes: &[u32], lows: &[u32], sums: &mut [u64])
+    requires { ⌜ (length (now lows) ≡ length (now nodes)) × (length (now nodes) ≤ mostCords) × (length (now sums) ≡ length (now parents)) ⌝ }
+    requires { ⌜ ((m : ℕ) → m < length (now parents) → at (now parents) m ≤ m) ⌝ }
+    requires { ⌜ ((c : ℕ) → c < length (now nodes) → (1 ≤ at (now nodes) c) × (at (now nodes) c ≤ length (now parents)) × (at (now lows) c ≤ mostWatts)) ⌝ }
+    ensures { λ _. ⌜ ((n : ℕ) → n < length (now (parents .entry)) → at (now (sums .exit)) n ≡ sum (length (now (nodes .entry))) (λ c. on (beneath (at (now (parents .entry))) (length (now (parents .entry))) n (at (now (nodes .entry)) c)) (at (now (lows .entry)) c))) ⌝ }
+{
+    clear(sums);
+    for c in 0..nodes.len() {
+        credit(sums, index(nodes[c]), wide(lows[c]));
+    }
+    sum_beneath(parents, sums);
+}
+
+// From the last node to the first: a node's Request is the lesser of what is left for this rank and of what its children ask;
+// its Pcapmin and its Request are its parent's to add up.
+pub(crate) fn gather(
+    parents: &[u32],
+    level: usize,
+    left: &mut [u64],
+    lower: &mut [u64],
+    pcapmins: &mut [u64],
+    asked: &mut [u64],
+    requests: &mut [[u32; 16]; 512],
+)
+    requires { ⌜ (length (now parents) ≤ 512) × (level < highestRank) × ((m : ℕ) → m < length (now parents) → at (now parents) m ≤ m) ⌝ }
+    requires { ⌜ (length (now left) ≡ length (now parents)) × (length (now lower) ≡ length (now parents)) × (length (now pcapmins) ≡ length (now parents)) × (length (now asked) ≡ length (now parents)) ⌝ }
+    requires { ⌜ (sum (length (now parents)) (at (now pcapmins)) ≤ mostCords * mostWatts) × (sum (length (now parents)) (at (now asked)) ≤ mostCords * mostWatts) ⌝ }
+    requires { ⌜ ((n : ℕ) → n < length (now parents) → (at (now left) n ≤ mostWatts) × (sumBeneath (at (now parents)) (length (now parents)) (at (now pcapmins)) n ≤ at (now lower) n) × (at (now lower) n ≤ at (now left) n + sumBeneath (at (now parents)) (length (now parents)) (at (now pcapmins)) n)) ⌝ }
+    requires { ⌜ FullRows (now requests) ⌝ }
+    ensures { λ _. ⌜ Gathered (now (parents .entry)) level (now (left .entry)) (now (lower .entry)) (now (pcapmins .entry)) (now (asked .entry)) (now (requests .entry)) (now (left .exit)) (now (lower .exit)) (now (pcapmins .exit)) (now (asked .exit)) (now (requests .exit)) ⌝ }
+{
+    sum_beneath(parents, pcapmins);
+    let mut n = parents.len();
+    while 0 < n {
+        n -= 1;
+        let below = lower[n] - pcapmins[n];
+        lower[n] = below;
+        let room = left[n];
+        let request = least(room - below, asked[n]);
+        left[n] = room - request;
+        requests[n][level] = narrow(request);
+        credit(asked, index(parents[n]), request);
+    }
+}

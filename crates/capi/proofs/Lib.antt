@@ -1,0 +1,3 @@
+-- The laws of `capi`: what the calls return and leave.
+pub mod CallLaws
+pub mod PlanLaws

@@ -1,0 +1,71 @@
+-- `plan_loaded` meets its contract: the words that are loaded decide, and the rest is what `plan_words` ensures.
+use Rattle.capi.proofs.CallLaws.{loaded-length}
+use Rattle.capi.proofs.PlanLaws.{plan-loaded}
+use borrow.Author.Needs.{needs}
+use Rattle.capi.proofs.plan_loaded.Statement.{statement}
+use Rattle.capi.proofs.plan_loaded.Tie as tie
+
+load-requires : tie.Need-load-requires
+load-requires c κs = search needs
+
+load-requires-2 : tie.Need-load-requires-2
+load-requires-2 c κs = search needs
+
+slice-reshare-prefix-plan-words : tie.Need-slice-reshare-prefix-plan-words
+slice-reshare-prefix-plan-words c = search needs
+
+slice-aggregate-plan-words : tie.Need-slice-aggregate-plan-words
+slice-aggregate-plan-words c =
+    let load = c .before .before .before .before .before .before .before .load .ensures in
+    loaded-length _ _ (load .0) (load .1)
+
+slice-reshare-prefix-plan-words-2 : tie.Need-slice-reshare-prefix-plan-words-2
+slice-reshare-prefix-plan-words-2 c = search needs
+
+slice-aggregate-plan-words-2 : tie.Need-slice-aggregate-plan-words-2
+slice-aggregate-plan-words-2 c =
+    let load = c .before .before .before .before .load2 .ensures in
+    loaded-length _ _ (load .0) (load .1)
+
+plan-words-requires : tie.Need-plan-words-requires
+plan-words-requires c κs = search needs
+
+same-length : tie.Need-same-length
+same-length c = search needs
+
+same-length-2 : tie.Need-same-length-2
+same-length-2 c = search needs
+
+same-length-3 : tie.Need-same-length-3
+same-length-3 c = search needs
+
+same-length-4 : tie.Need-same-length-4
+same-length-4 c = search needs
+
+same-length-5 : tie.Need-same-length-5
+same-length-5 c = search needs
+
+returns : tie.Need-returns
+returns c =
+    let load = c .before .before .before .before .before .before .before .before .before .before .before .before .before .before .before .before .before .before in
+    let start = load .before .before .before .before .before .before .before .before .before in
+    let figures = c .before .before .before .before .before .before .before .before .before .before .before .before .before .before .load2 .ensures in
+    plan-loaded _ _ _ _ _ _ _ (start .pre .0) (start .pre .1) (load .load .ensures .0) (load .load .ensures .1) (figures .0) (figures .1) (c .before .before .before .before .before .before .plan-words .ensures)
+
+pub plan-loaded-spec : {M : Type 1} → statement M
+plan-loaded-spec =
+    tie.close
+    (tie.spec
+    load-requires
+    load-requires-2
+    slice-reshare-prefix-plan-words
+    slice-aggregate-plan-words
+    slice-reshare-prefix-plan-words-2
+    slice-aggregate-plan-words-2
+    plan-words-requires
+    same-length
+    same-length-2
+    same-length-3
+    same-length-4
+    same-length-5
+    returns)

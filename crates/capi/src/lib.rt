@@ -1,0 +1,246 @@
+// The C calls of Read, Write and Plan: bytes to words, the operation, words and the answer to bytes.
+//
+// A slice passes as a pointer and a length:
+//     uint32_t hutplan_read(const uint8_t *sheet, size_t sheet_len,
+//                           uint8_t *table, size_t table_len,
+//                           uint8_t *answer, size_t answer_len);
+//     uint32_t hutplan_write(const uint8_t *table, size_t table_len,
+//                            uint8_t *sheet, size_t sheet_len,
+//                            uint8_t *answer, size_t answer_len);
+//     uint32_t hutplan_plan(const uint8_t *table, size_t table_len,
+//                           const uint8_t *demands, size_t demands_len,
+//                           uint8_t *grants, size_t grants_len,
+//                           uint8_t *caps, size_t caps_len,
+//                           uint8_t *answer, size_t answer_len);
+ghost use mathlib.Core.Path.{_≡_};
+ghost use Prim.Native.Nat.{_≤_, min};
+ghost use lib.ListN.{length};
+ghost use Rattle.words.specs.Bytes.{wordsOf, answered};
+ghost use Rattle.rooms.specs.Outcome.{answerNumber, answerFigure};
+ghost use Rattle.capi.specs.Calls.{ReadCall, WriteCall, PlanCall, writtenCount, cordCount, grantCount, capCount};
+use deals::Planned;
+use rooms::Answer;
+use rooms::Checked;
+
+// An answer is two numbers of eight bytes each.
+const ANSWER_BYTES: usize = 16;
+
+// A table has at most 5,123 words, so that many and one more decide every check.
+const DECIDING_WORDS: usize = 5124;
+
+// A room has at most 512 servers, so one demand more decides every demand list.
+const DECIDING_DEMANDS: usize = 513;
+
+// A plan writes at most 1,024 grants and 512 caps.
+const MOST_GRANTS: usize = 1024;
+
+const MOST_CAPS: usize = 512;
+
+// Read: the words of the sheet, at the front of the table.
+#[no_mangle]
+pub extern "C" fn hutplan_read(sheet: &[u8], table: &mut [u8], answer: &mut [u8]) -> u32
+    ensures { λ r. ⌜ ReadCall (now (sheet .entry)) (now (table .entry)) (now (answer .entry)) r (now (table .exit)) (now (answer .exit)) ⌝ }
+{
+    let mut words = [0u32; DECIDING_WORDS];
+    read_by(sheet, &mut words, table, answer)
+}
+
+// Write: the words of the table as numbers, at the front of the sheet.
+#[no_mangle]
+pub extern "C" fn hutplan_write(table: &[u8], sheet: &mut [u8], answer: &mut [u8]) -> u32
+    ensures { λ r. ⌜ WriteCall (now (table .entry)) (now (sheet .entry)) (now (answer .entry)) r (now (sheet .exit)) (now (answer .exit)) ⌝ }
+{
+    let mut words = [0u32; DECIDING_WORDS];
+    write_by(table, &mut words, sheet, answer)
+}
+
+// Plan: a grant for each cord and a cap for each server, at the fronts of their lists.
+#[no_mangle]
+pub extern "C" fn hutplan_plan(
+    table: &[u8],
+    demands: &[u8],
+    grants: &mut [u8],
+    caps: &mut [u8],
+    answer: &mut [u8],
+) -> u32
+    ensures { λ r. ⌜ PlanCall (wordsOf (now (table .entry))) (wordsOf (now (demands .entry))) (now (grants .entry)) (now (caps .entry)) (now (answer .entry)) r (now (grants .exit)) (now (caps .exit)) (now (answer .exit)) ⌝ }
+{
+    let mut words = [0u32; DECIDING_WORDS];
+    let mut figures = [0u32; DECIDING_DEMANDS];
+    plan_loaded(
+        table,
+        &mut words,
+        demands,
+        &mut figures,
+        grants,
+        caps,
+        answer,
+    )
+}
+
+// Read by way of a list of words, of which no more are lent than the table has room for.
+fn read_by(sheet: &[u8], words: &mut [u32], table: &mut [u8], answer: &mut [u8]) -> u32
+    requires { ⌜ 5124 ≤ length (now words) ⌝ }
+    ensures { λ r. ⌜ ReadCall (now (sheet .entry)) (now (table .entry)) (now (answer .entry)) r (now (table .exit)) (now (answer .exit)) ⌝ }
+{
+    if answer.len() < ANSWER_BYTES {
+        return 0;
+    }
+    let room = least(table.len() / 4, words.len());
+    let read = rooms::read(sheet, &mut words[..room]);
+    let count = written_count(read);
+    words::store(&words[..count], table);
+    tell(read, answer);
+    1
+}
+
+// Write by way of a list of words, which takes the first of the table.
+fn write_by(table: &[u8], words: &mut [u32], sheet: &mut [u8], answer: &mut [u8]) -> u32
+    requires { ⌜ 5124 ≤ length (now words) ⌝ }
+    ensures { λ r. ⌜ WriteCall (now (table .entry)) (now (sheet .entry)) (now (answer .entry)) r (now (sheet .exit)) (now (answer .exit)) ⌝ }
+{
+    if answer.len() < ANSWER_BYTES {
+        return 0;
+    }
+    let count = words::load(table, words);
+    let written = rooms::write(&words[..count], sheet);
+    tell(written, answer);
+    1
+}
+
+// Plan by way of lists of words, which take the first of the table and of the demands.
+fn plan_loaded(
+    table: &[u8],
+    words: &mut [u32],
+    demands: &[u8],
+    figures: &mut [u32],
+    grants: &mut [u8],
+    caps: &mut [u8],
+    answer: &mut [u8],
+) -> u32
+    requires { ⌜ 5124 ≤ length (now words) ⌝ }
+    requires { ⌜ 513 ≤ length (now figures) ⌝ }
+    ensures { λ r. ⌜ PlanCall (wordsOf (now (table .entry))) (wordsOf (now (demands .entry))) (now (grants .entry)) (now (caps .entry)) (now (answer .entry)) r (now (grants .exit)) (now (caps .exit)) (now (answer .exit)) ⌝ }
+{
+    let word_count = words::load(table, words);
+    let figure_count = words::load(demands, figures);
+    plan_words(
+        &words[..word_count],
+        &figures[..figure_count],
+        grants,
+        caps,
+        answer,
+    )
+}
+
+// Plan of a table and demands in words.
+fn plan_words(
+    table: &[u32],
+    demands: &[u32],
+    grants: &mut [u8],
+    caps: &mut [u8],
+    answer: &mut [u8],
+) -> u32
+    ensures { λ r. ⌜ PlanCall (now (table .entry)) (now (demands .entry)) (now (grants .entry)) (now (caps .entry)) (now (answer .entry)) r (now (grants .exit)) (now (caps .exit)) (now (answer .exit)) ⌝ }
+{
+    let mut granted = [0u32; MOST_GRANTS];
+    let mut capped = [0u32; MOST_CAPS];
+    plan_by(
+        table,
+        demands,
+        &mut granted,
+        grants,
+        &mut capped,
+        caps,
+        answer,
+    )
+}
+
+// Plan by way of lists of grants and caps, of which no more are lent than the caller's lists have room for.
+fn plan_by(
+    table: &[u32],
+    demands: &[u32],
+    granted: &mut [u32],
+    grants: &mut [u8],
+    capped: &mut [u32],
+    caps: &mut [u8],
+    answer: &mut [u8],
+) -> u32
+    requires { ⌜ 1024 ≤ length (now granted) ⌝ }
+    requires { ⌜ 512 ≤ length (now capped) ⌝ }
+    ensures { λ r. ⌜ PlanCall (now (table .entry)) (now (demands .entry)) (now (grants .entry)) (now (caps .entry)) (now (answer .entry)) r (now (grants .exit)) (now (caps .exit)) (now (answer .exit)) ⌝ }
+{
+    if answer.len() < ANSWER_BYTES {
+        return 0;
+    }
+    let grants_room = least(grants.len() / 4, granted.len());
+    let caps_room = least(caps.len() / 4, capped.len());
+    let planned = deals::plan(
+        table,
+        demands,
+        &mut granted[..grants_room],
+        &mut capped[..caps_room],
+    );
+    let grants_count = grant_count(planned, rooms::check(table));
+    let caps_count = cap_count(planned, demands.len());
+    words::store(&granted[..grants_count], grants);
+    words::store(&capped[..caps_count], caps);
+    words::store_answer(planned.number(), planned.figure(), answer);
+    1
+}
+
+// The answer's number and figure, into its buffer.
+fn tell(told: Answer, answer: &mut [u8])
+    ensures { λ _. ⌜ now (answer .exit) ≡ answered (answerNumber told) (answerFigure told) (now (answer .entry)) ⌝ }
+{
+    let number = told.number();
+    let figure = told.figure() as u64;
+    words::store_answer(number, figure, answer);
+}
+
+// How many entries an answer says were written: none where refused.
+fn written_count(told: Answer) -> usize
+    ensures { λ r. ⌜ r ≡ writtenCount told ⌝ }
+{
+    match told {
+        Answer::Accepted(count) => count,
+        Answer::Refused(_) => 0,
+    }
+}
+
+// How many grants a plan wrote, by its table's check: one a cord, none where refused.
+fn grant_count(planned: Planned, checked: Checked) -> usize
+    ensures { λ r. ⌜ r ≡ grantCount planned checked ⌝ }
+{
+    match planned {
+        Planned::Accepted(_) => cord_count(checked),
+        Planned::Refused(_) => 0,
+    }
+}
+
+// The cords of a good table.
+fn cord_count(checked: Checked) -> usize
+    ensures { λ r. ⌜ r ≡ cordCount checked ⌝ }
+{
+    match checked {
+        Checked::Good(cords, _) => cords as usize,
+        Checked::Refused(_) => 0,
+    }
+}
+
+// How many caps a plan wrote: one a demand, none where refused.
+fn cap_count(planned: Planned, demands: usize) -> usize
+    ensures { λ r. ⌜ r ≡ capCount planned demands ⌝ }
+{
+    match planned {
+        Planned::Accepted(_) => demands,
+        Planned::Refused(_) => 0,
+    }
+}
+
+// The lesser of two counts.
+fn least(a: usize, b: usize) -> usize
+    ensures { λ r. ⌜ r ≡ min a b ⌝ }
+{
+    if a < b { a } else { b }
+}

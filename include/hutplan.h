@@ -1,0 +1,157 @@
+/*
+ * hutplan: room sheets, room tables and power plans of equipment huts.
+ *
+ * Link with libcapi.a (made by `rt staticlib capi`). The calls keep no state, take no memory from
+ * the heap and call nothing of the C library but memcpy and memset, so threads may call them at
+ * the same time on buffers of their own.
+ *
+ * A sheet is bytes. A table is a list of words (unsigned, 32 bits); so are demands, grants and caps,
+ * which are watts. Every list of words passes as bytes: four bytes a word, low byte first, at any alignment. Its length is given in bytes; one to
+ * three bytes over at its end are neither read nor written.
+ *
+ * The answer is sixteen bytes, two numbers of eight bytes each, low byte first:
+ *   bytes 0 to 7    0 if the input was accepted, else the number of the refusal (see below);
+ *   bytes 8 to 15   accepted: the count written, of words (hutplan_read) or bytes (hutplan_write), or
+ *                   the freed watts (hutplan_plan);
+ *                   refused: the refusal's place.
+ * Bytes past the sixteenth are not touched. If the answer buffer is shorter than sixteen bytes, a
+ * call returns 0 and changes nothing. In every other case it returns 1.
+ *
+ * Accepted: what is written stands at the front of the output buffer; bytes past it are not touched.
+ * Refused: nothing but the answer is changed.
+ *
+ * The caller's duties:
+ *   - each pointer is valid for the length given with it: all those bytes may be read, and those
+ *     of an output or answer buffer may be written;
+ *   - no buffer that is written (output, answer) overlaps another buffer of the same call, and no
+ *     other thread touches the buffers during the call;
+ *   - a pointer is NULL only if its length is 0;
+ *   - a length is at most PTRDIFF_MAX, as of any object in C.
+ * There is no other duty: any bytes, of any length, are good input.
+ */
+#ifndef HUTPLAN_H
+#define HUTPLAN_H
+
+#include <stddef.h>
+#include <stdint.h>
+
+#ifdef __cplusplus
+extern "C" {
+#endif
+
+/*
+ * Refusal numbers, in the order in which they are checked; the first that is met is told. All bytes
+ * of a sheet are judged (1 to 3) before any word. Places count from 0; a node's number counts from 1.
+ */
+enum hutplan_refusal {
+    HUTPLAN_ACCEPTED = 0,
+
+    /* Bytes of a sheet, number by number (hutplan_read).
+       Place: the index of the byte where the number starts. */
+    HUTPLAN_NUMBER_TOO_LONG = 1,       /* four bytes all with the top bit set */
+    HUTPLAN_NUMBER_NOT_SHORTEST = 2,   /* longer than one byte, and its last byte is 0 */
+    HUTPLAN_NUMBER_CUT_SHORT = 3,      /* the bytes end inside a number */
+
+    /* Words of a table, word by word (all calls). */
+    HUTPLAN_WORD_MISSING = 4,          /* place: the table's length in words */
+    HUTPLAN_WORD_OUT_OF_RANGE = 5,     /* place: the word's index */
+    HUTPLAN_GREATEST_BELOW_LEAST = 6,  /* place: the index of the word `greatest` */
+    HUTPLAN_SHARES_NOT_WHOLE = 7,      /* a server's shares do not sum to 1,000;
+                                          place: the index of the server's rank */
+    HUTPLAN_WORDS_LEFT_OVER = 8,       /* place: the index of the first word after the last server */
+    HUTPLAN_LOWS_ABOVE_LIMIT = 9,      /* the lows of the cords beneath a node exceed its limit;
+                                          place: the lowest number of such a node */
+
+    /* Demands (hutplan_plan). */
+    HUTPLAN_DEMAND_COUNT = 10,         /* not one demand a server; place: the count of servers */
+    HUTPLAN_DEMAND_TOO_LARGE = 11,     /* a demand above 16,777,215; place: the first such index */
+
+    /* The output buffers. */
+    HUTPLAN_OUTPUT_TOO_SHORT = 12,     /* place: the length needed, in words (hutplan_read),
+                                          bytes (hutplan_write) or grants (hutplan_plan) */
+    HUTPLAN_CAPS_TOO_SHORT = 13        /* the cap list; place: the count of servers */
+};
+
+/*
+ * Sizes to lend, enough for every accepted input.
+ *
+ * A table has at most 5,123 words: version and count of nodes (2), two for each of at most 512 nodes
+ * (1,024), the count of servers (1), four for each of at most 512 servers (2,048) and two for each of
+ * at most 1,024 cords (2,048). A word takes four bytes of a word list, and one to four bytes of a
+ * sheet, so a table's list and its sheet both have at most 20,492 bytes.
+ *
+ * A plan takes one demand a server, at most 512, and gives one grant a cord, at most 1,024, and one cap
+ * a server.
+ */
+#define HUTPLAN_TABLE_WORDS 5123
+#define HUTPLAN_TABLE_BYTES 20492
+#define HUTPLAN_SHEET_BYTES 20492
+#define HUTPLAN_DEMANDS_BYTES 2048
+#define HUTPLAN_GRANTS_BYTES 4096
+#define HUTPLAN_CAPS_BYTES 2048
+#define HUTPLAN_ANSWER_BYTES 16
+
+/*
+ * Read: turns the bytes of a sheet into the words of its table.
+ *
+ * Refusals: 1 to 9 of the sheet; then 12 if table_len / 4 is less than the count of words.
+ */
+uint32_t hutplan_read(const uint8_t *sheet, size_t sheet_len,
+                      uint8_t *table, size_t table_len,
+                      uint8_t *answer, size_t answer_len);
+
+/*
+ * Write: turns the words of a table into the bytes of its sheet.
+ *
+ * Refusals: 4 to 9 of the table; then 12 if sheet_len is less than the count of bytes.
+ * Writing a table that was read gives the sheet that it was read from, byte for byte, and reading a
+ * sheet that was written gives the table that it was written from.
+ */
+uint32_t hutplan_write(const uint8_t *table, size_t table_len,
+                       uint8_t *sheet, size_t sheet_len,
+                       uint8_t *answer, size_t answer_len);
+
+/*
+ * Plan: deals a room's power, from the words of its table and a demand in watts for each server.
+ *
+ * Refusals: 4 to 9 of the table; 10 and 11 of the demands; then 12 if grants_len / 4 is less than the
+ * count of cords, and 13 if caps_len / 4 is less than the count of servers.
+ * Accepted, the grants stand in the table's order of cords and the caps in its order of servers. The
+ * answer's figure is the freed watts: what the first deal left stranded and the second dealt again.
+ */
+uint32_t hutplan_plan(const uint8_t *table, size_t table_len,
+                      const uint8_t *demands, size_t demands_len,
+                      uint8_t *grants, size_t grants_len,
+                      uint8_t *caps, size_t caps_len,
+                      uint8_t *answer, size_t answer_len);
+
+/*
+ * Example: how many words a sheet has, or -1 if it is refused.
+ *
+ *     static uint64_t number_at(const uint8_t *bytes, size_t count)
+ *     {
+ *         uint64_t value = 0;
+ *         while (count > 0)
+ *             value = 256 * value + bytes[--count];
+ *         return value;
+ *     }
+ *
+ *     long words_of(const uint8_t *sheet, size_t sheet_len)
+ *     {
+ *         static uint8_t table[HUTPLAN_TABLE_BYTES];
+ *         uint8_t answer[HUTPLAN_ANSWER_BYTES];
+ *
+ *         hutplan_read(sheet, sheet_len, table, sizeof table, answer, sizeof answer);
+ *         if (number_at(answer, 8) != HUTPLAN_ACCEPTED)
+ *             return -1;
+ *         return (long)number_at(answer + 8, 8);
+ *     }
+ *
+ * The word at index i is then number_at(table + 4 * i, 4).
+ */
+
+#ifdef __cplusplus
+}
+#endif
+
+#endif

@@ -1,0 +1,47 @@
+-- `Reading::finish` meets its contract: a line that has a byte ends with the text.
+use mathlib.Core.Path.{sym, ap, _∙_}
+use Rattle.demands.specs.Reading.{Held, countIn}
+use Rattle.demands.proofs.Bytes.{finished-inside, finished-between}
+use borrow.Author.Needs.{needs}
+use Rattle.demands.proofs.Reading.finish.Statement.{statement}
+use Rattle.demands.proofs.Reading.finish.Tie as tie
+
+has-byte-requires : tie.Need-has-byte-requires
+has-byte-requires c κs = search needs
+
+close-requires : tie.Need-close-requires
+close-requires c κs = search needs
+
+least-requires : tie.Need-least-requires
+least-requires c κs = search needs
+
+same-length : tie.Need-same-length
+same-length c = search needs
+
+returns : tie.Need-returns
+returns c =
+    let last = c .before .before .before in
+    let args = last .before .before .before .before .before .args in
+    let is = last .close .ensures ∙ sym (finished-inside (args .self) (args .list .now) (sym (last .before .before .before .has-byte .ensures) ∙ last .before .before .if1 .taken)) in
+    (ap (λ (h : Held). h .list) is, c .least .ensures ∙ ap countIn is)
+
+least-requires-2 : tie.Need-least-requires-2
+least-requires-2 c κs = search needs
+
+returns-2 : tie.Need-returns-2
+returns-2 c =
+    let args = c .before .before .before .before .args in
+    let is = sym (finished-between (args .self) (args .list .now) (sym (c .before .before .has-byte .ensures) ∙ c .before .if1 .left)) in
+    (ap (λ (h : Held). h .list) is, c .least2 .ensures ∙ ap countIn is)
+
+pub finish-spec : {M : Type 1} → statement M
+finish-spec =
+    tie.close
+    (tie.spec
+    has-byte-requires
+    close-requires
+    least-requires
+    same-length
+    returns
+    least-requires-2
+    returns-2)

@@ -1,0 +1,157 @@
+// Demands in decimal, one a line: a text, read in pieces of any size, turned into words.
+ghost use mathlib.Core.Path.{_≡_};
+ghost use Prim.Native.Nat.{min};
+ghost use Rattle.demands.specs.Reading.{emptyLine, extended, hasByte, lineDemand, held, with, closed, fedByte, fed, finished, countIn, isFull};
+
+// At most so many lines are read.
+const MOST_LINES: usize = 513;
+
+// A demand has at most so many digits.
+const MOST_DIGITS: u32 = 8;
+
+// What a line counts as that isn't one to eight digits.
+const NO_DEMAND: u32 = 16_777_216;
+
+// What a line has come to so far.
+pub enum Line {
+    // Digits alone: how many, and their number.
+    Digits(u32, u32),
+    // Not one to eight digits, whatever may follow.
+    Other,
+}
+
+// How many lines have ended, their demands being at the front of the list, and the line that is open.
+pub struct Reading {
+    pub count: usize,
+    pub line: Line,
+}
+
+impl Line {
+    // The line with a byte more.
+    fn extend(self, byte: u8) -> Line
+        ensures { λ r. ⌜ r ≡ extended self byte ⌝ }
+    {
+        match self {
+            Line::Digits(count, number) => {
+                if b'0' <= byte {
+                    if byte <= b'9' {
+                        if count < MOST_DIGITS {
+                            if number < 10_000_000 {
+                                return Line::Digits(
+                                    count + 1,
+                                    number * 10 + ((byte - b'0') as u32),
+                                );
+                            }
+                        }
+                    }
+                }
+                Line::Other
+            }
+            Line::Other => Line::Other,
+        }
+    }
+
+    // Whether the line has a byte.
+    fn has_byte(self) -> bool
+        ensures { λ r. ⌜ r ≡ hasByte self ⌝ }
+    {
+        match self {
+            Line::Digits(count, _) => 1 <= count,
+            Line::Other => true,
+        }
+    }
+
+    // The line's demand.
+    fn demand(self) -> u32
+        ensures { λ r. ⌜ r ≡ lineDemand self ⌝ }
+    {
+        match self {
+            Line::Digits(count, number) => { if 1 <= count { number } else { NO_DEMAND } }
+            Line::Other => NO_DEMAND,
+        }
+    }
+}
+
+impl Reading {
+    // A reading before the first byte.
+    pub fn start() -> Reading
+        ensures { λ r. ⌜ r ≡ with 0 emptyLine ⌝ }
+    {
+        Reading {
+            count: 0,
+            line: Line::Digits(0, 0),
+        }
+    }
+
+    // The reading after a piece of the text, whose lines that end go into the list.
+    pub fn feed(self, piece: &[u8], list: &mut [u32]) -> Reading
+        ensures { λ r. ⌜ held r (now (list .exit)) ≡ fed (held self (now (list .entry))) (now (piece .entry)) ⌝ }
+    {
+        let mut reading = self;
+        for i in 0..piece.len() {
+            let next = reading.feed_byte(piece[i], list);
+            reading = next;
+        }
+        reading
+    }
+
+    // The end of the text: how many demands stand at the front of the list.
+    pub fn finish(self, list: &mut [u32]) -> usize
+        ensures { λ r. ⌜ now (list .exit) ≡ finished (held self (now (list .entry))) .list ⌝ }
+        ensures { λ r. ⌜ r ≡ countIn (finished (held self (now (list .entry)))) ⌝ }
+    {
+        let line = self.line;
+        if line.has_byte() {
+            let last = self.close(list);
+            return least(last.count, list.len());
+        }
+        least(self.count, list.len())
+    }
+
+    // Whether 513 lines are read, so that no further byte makes a difference.
+    pub fn is_full(self) -> bool
+        ensures { λ r. ⌜ r ≡ isFull self ⌝ }
+    {
+        MOST_LINES <= self.count
+    }
+
+    // The reading after a byte.
+    fn feed_byte(self, byte: u8, list: &mut [u32]) -> Reading
+        ensures { λ r. ⌜ held r (now (list .exit)) ≡ fedByte (held self (now (list .entry))) byte ⌝ }
+    {
+        if byte == b'\n' {
+            return self.close(list);
+        }
+        let line = self.line;
+        Reading {
+            count: self.count,
+            line: line.extend(byte),
+        }
+    }
+
+    // The reading after the open line's end.
+    fn close(self, list: &mut [u32]) -> Reading
+        ensures { λ r. ⌜ held r (now (list .exit)) ≡ closed (held self (now (list .entry))) ⌝ }
+    {
+        let count = self.count;
+        let line = self.line;
+        if count < least(MOST_LINES, list.len()) {
+            list[count] = line.demand();
+            return Reading {
+                count: count + 1,
+                line: Line::Digits(0, 0),
+            };
+        }
+        Reading {
+            count,
+            line: Line::Digits(0, 0),
+        }
+    }
+}
+
+// The lesser of two counts.
+fn least(a: usize, b: usize) -> usize
+    ensures { λ r. ⌜ r ≡ min a b ⌝ }
+{
+    if a < b { a } else { b }
+}

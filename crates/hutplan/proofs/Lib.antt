@@ -1,0 +1,4 @@
+-- The laws of `hutplan`.
+pub mod Inputs
+pub mod Prints
+pub mod Fits

@@ -1,0 +1,119 @@
+-- The print of each outcome is the one that the definition gives.
+use mathlib.Core.Path.{_≡_, refl, sym, ap, _∙_}
+use mathlib.Core.Bool.{Bool, true, false, cond}
+use mathlib.Core.List.{List}
+use Prim.Native.Nat.{ℕ, _≤_}
+use native.Mathlib.Omega.{arith}
+use lib.ListN.{length, take}
+use lib.Dec.{leb}
+use lib.Seq.{sets, length-sets, take-length}
+use borrow.Author.Tests.{leb-true}
+use Rattle.numbers.specs.Sheet.{Ending, whole, sheetOf}
+use Rattle.numbers.specs.Sheet as numbers
+use Rattle.words.proofs.Lists.{take-sets}
+use Rattle.rooms.specs.Part.{Step, good, bad}
+use Rattle.rooms.specs.Table.{Room, mostServers, mostCords}
+use Rattle.rooms.specs.Limits.{checked}
+use Rattle.rooms.specs.Outcome.{reading, readWords, unlessRefused, refusalNumber, refusalPlace}
+use Rattle.rooms.specs.Outcome as read
+use Rattle.rooms.specs.declared.Refusal.{Refusal}
+use Rattle.rooms.specs.declared.Refusal.the-variants.{OutputTooShort}
+use Rattle.rooms.specs.declared.Answer.the-variants as answer
+use Rattle.rooms.proofs.Accepted.{accepted}
+use Rattle.deals.specs.Plan.{plan, planRoom, planStep, Outcome, answerOf, grantsAfter, capsAfter, planRefusalNumber, planRefusalPlace}
+use Rattle.deals.specs.Plan as plan
+use Rattle.deals.specs.declared.PlanRefusal.{PlanRefusal}
+use Rattle.deals.specs.declared.Planned.the-variants.{Accepted, Refused}
+use Rattle.deals.specs.declared.PlanRefusal.the-variants.{Table}
+use Rattle.deals.proofs.Plans.{plan-good-table, plan-bad-table}
+use Rattle.deals.proofs.Promises.{answer-of-both-deals}
+use Rattle.print.specs.Line.{refusedLine}
+use Rattle.print.specs.Walk.{planPrint}
+use Rattle.print.proofs.Room.{planPrint-room, printOf-front}
+use Rattle.hutplan.specs.Printed.{mostWords, tableText, roomText, stepText, sheetText, readText}
+
+module _ (table demands : List ℕ) (g c : ℕ) where
+  -- A refused plan.
+  pub table-refused : {q : PlanRefusal} → g ≡ mostCords → c ≡ mostServers → Refused q ≡ answerOf (plan table demands g c)
+      → tableText table demands ≡ refusedLine (planRefusalNumber q) (planRefusalPlace q)
+  unfolding tableText plan planStep
+  table-refused {q} hg hc e = go (checked table 0) (rw (hg, hc) at e)
+    where
+      room : (r : Room) (o : Outcome) → Refused q ≡ answerOf o → roomText r o ≡ refusedLine (planRefusalNumber q) (planRefusalPlace q)
+      room r (plan.accepted f gs cs) e = let z : _≡_ {A = ℕ} 0 1 = cc in absurd (omega arith)
+      room r (plan.refused p) e = let same : q ≡ p = cc in rw same
+
+      go : (s : Step Room) → Refused q ≡ answerOf (planStep s demands mostCords mostServers) → stepText s demands ≡ refusedLine (planRefusalNumber q) (planRefusalPlace q)
+      go (good r end) e = room r (planRoom r demands mostCords mostServers) e
+      go (bad refusal) e = let same : q ≡ Table refusal = cc in rw same
+
+  -- An accepted plan, whose figures stand at the front of the lists.
+  pub table-accepted : (grants caps grants' caps' : List ℕ) {f : ℕ} → length grants ≡ g → length caps ≡ c → g ≡ mostCords → c ≡ mostServers
+      → Accepted f ≡ answerOf (plan table demands g c) → grants' ≡ grantsAfter (plan table demands g c) grants → caps' ≡ capsAfter (plan table demands g c) caps
+      → planPrint f table caps' grants' ≡ tableText table demands
+  unfolding tableText
+  table-accepted grants caps grants' caps' {f} lg lc hg hc e eg ec = go (plan table demands g c) refl e eg ec
+    where
+      in-room : (f : ℕ) (gs cs : List ℕ) → plan table demands g c ≡ plan.accepted f gs cs → (s : Step Room) → checked table 0 ≡ s
+          → planPrint f table (sets caps 0 cs) (sets grants 0 gs) ≡ stepText s demands
+      in-room f gs cs is (bad refusal) q =
+          let same = sym (plan-bad-table table demands g c refusal q) ∙ is in
+          let z : _≡_ {A = ℕ} 0 1 = cc in
+          absurd (omega arith)
+      in-room f gs cs is (good r end) q =
+          let few = accepted table r end q in
+          let whole =
+          answer-of-both-deals
+          (record { table = table; demands = demands; grantsLength = g; capsLength = c; room = r; end = end; freed = f; grants = gs; caps = cs; isRoom = q; isAnswer = is }) in
+          let room : planRoom r demands mostCords mostServers ≡ plan.accepted f gs cs = rw (← hg, ← hc) (sym (plan-good-table table demands g c r end q) ∙ is) in
+          rw room
+          (planPrint-room table r end f (sets caps 0 cs) (sets grants 0 gs) q
+          ∙ printOf-front r f cs gs caps grants (whole .eachServer) (whole .eachCord) (omega (arith, few .fewServers, whole .eachServer)) (omega (arith, few .fewCords, whole .eachCord)))
+
+      go : (o : Outcome) → plan table demands g c ≡ o → Accepted f ≡ answerOf o → grants' ≡ grantsAfter o grants → caps' ≡ capsAfter o caps
+          → planPrint f table caps' grants' ≡ stepText (checked table 0) demands
+      go (plan.refused q) is e eg ec = let z : _≡_ {A = ℕ} 0 1 = cc in absurd (omega arith)
+      go (plan.accepted f' gs cs) is e eg ec = let same : f ≡ f' = cc in rw (same, eg, ec) (in-room f' gs cs is (checked table 0) refl)
+
+-- ---- Read
+
+-- A refused sheet.
+pub sheet-refused : (sheet demands : List ℕ) (n : ℕ) {q : Refusal} → n ≡ mostWords → answer.Refused q ≡ read.answerOf (reading sheet n)
+    → sheetText sheet demands ≡ refusedLine (refusalNumber q) (refusalPlace q)
+unfolding sheetText
+sheet-refused sheet demands n {q} h e = go (reading sheet mostWords) (rw h at e)
+  where
+    go : (o : read.Outcome) → answer.Refused q ≡ read.answerOf o → readText o demands ≡ refusedLine (refusalNumber q) (refusalPlace q)
+    go (read.accepted words) e = let z : _≡_ {A = ℕ} 0 1 = cc in absurd (omega arith)
+    go (read.refused p) e = let same : q ≡ p = cc in rw same
+
+-- What Read accepts fits the list.
+read-fits : (sheet : List ℕ) (n : ℕ) (words : List ℕ) → reading sheet n ≡ read.accepted words → length words ≤ n
+unfolding reading
+read-fits sheet n words e = go (sheetOf sheet .ending) e
+  where
+    fitted : (s : Step Room) (output : List ℕ) (test : Bool) → leb (length output) n ≡ test
+        → unlessRefused s (cond test (read.accepted output) (read.refused (OutputTooShort (length output)))) ≡ read.accepted words → length words ≤ n
+    fitted (good r j) output true t e = let same : output ≡ words = cc in rw (← same) (leb-true (length output) n t)
+    fitted (good r j) output false t e = let z : _≡_ {A = ℕ} 0 1 = cc in absurd (omega arith)
+    fitted (bad q) output test t e = let z : _≡_ {A = ℕ} 0 1 = cc in absurd (omega arith)
+
+    go : (ending : Ending) → readWords (sheetOf sheet .words) ending n ≡ read.accepted words → length words ≤ n
+    go whole e = fitted (checked (sheetOf sheet .words) 0) (sheetOf sheet .words) (leb (length (sheetOf sheet .words)) n) refl e
+    go (numbers.refused fault place) e = let z : _≡_ {A = ℕ} 0 1 = cc in absurd (omega arith)
+
+-- An accepted sheet: its words stand at the front of the list.
+pub sheet-accepted : (sheet demands list list' : List ℕ) {count : ℕ} → length list ≡ mostWords → answer.Accepted count ≡ read.answerOf (reading sheet (length list))
+    → list' ≡ read.after (reading sheet (length list)) list
+    → (count ≤ length list') × (tableText (take count list') demands ≡ sheetText sheet demands)
+unfolding sheetText
+sheet-accepted sheet demands list list' {count} h e l = go (reading sheet mostWords) refl (rw h at e) (rw h at l)
+  where
+    go : (o : read.Outcome) → reading sheet mostWords ≡ o → answer.Accepted count ≡ read.answerOf o → list' ≡ read.after o list
+        → (count ≤ length list') × (tableText (take count list') demands ≡ readText o demands)
+    go (read.refused q) is e l = let z : _≡_ {A = ℕ} 0 1 = cc in absurd (omega arith)
+    go (read.accepted words) is e l =
+        let n : count ≡ length words = cc in
+        let fits : length words ≤ length list = rw h (read-fits sheet mostWords words is) in
+        let size : length list' ≡ length list = ap length l ∙ length-sets list 0 words in
+        (omega arith, rw (l, n, take-sets (length words) list words fits (omega arith), take-length words))

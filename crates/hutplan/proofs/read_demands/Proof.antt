@@ -1,0 +1,69 @@
+-- `read_demands` meets its contract: the pieces read so far always make up one text.
+use borrow.Author.Needs.{needs}
+use mathlib.Core.Path.{_≡_, refl, ap}
+use lib.ListN.{length}
+use Rattle.demands.specs.Reading.{held, with, emptyLine}
+use Rattle.demands.specs.declared.Reading.{Reading}
+use Rattle.hutplan.specs.Input.{FedPiece}
+use Rattle.hutplan.proofs.Inputs.{fed-none, fed-more, read-text}
+use Rattle.hutplan.proofs.read_demands.Statement.{statement}
+use Rattle.hutplan.proofs.read_demands.Tie as tie
+
+abbrev Inv-loop : tie.InvT-loop
+Inv-loop list₀ reading₀ turns₀ list reading turns = FedPiece (held (with 0 emptyLine) list₀) (held reading list) × (length list ≡ length list₀)
+
+abbrev μ-loop : tie.MeasureT-loop
+μ-loop list₀ reading₀ turns₀ list reading turns = turns
+
+start-requires : tie.Need-start-requires Inv-loop μ-loop
+start-requires c κs = search needs
+
+loop-holds : tie.Need-loop-holds Inv-loop μ-loop
+loop-holds c = (fed-none (ap (λ (r : Reading). held r (c .before .before .args .list .now)) (c .start .ensures)), refl)
+
+read-piece-requires : tie.Need-read-piece-requires Inv-loop μ-loop
+read-piece-requires c κs = search needs
+
+sub-turns : tie.Need-sub-turns Inv-loop μ-loop
+sub-turns c = search needs
+
+loop-less : tie.Need-loop-less Inv-loop μ-loop
+loop-less c = search needs
+
+loop-again : tie.Need-loop-again Inv-loop μ-loop
+loop-again c = (fed-more (c .before .before .before .before .before .before .before .loop .inv .0) (c .before .before .before .before .read-piece .ensures), search needs)
+
+loop-less-2 : tie.Need-loop-less-2 Inv-loop μ-loop
+loop-less-2 c = search needs
+
+loop-again-2 : tie.Need-loop-again-2 Inv-loop μ-loop
+loop-again-2 c = (fed-more (c .before .before .before .before .before .before .before .loop .inv .0) (c .before .before .before .before .read-piece .ensures), search needs)
+
+finish-requires : tie.Need-finish-requires Inv-loop μ-loop
+finish-requires c κs = search needs
+
+same-length : tie.Need-same-length Inv-loop μ-loop
+same-length c = search needs
+
+returns : tie.Need-returns Inv-loop μ-loop
+returns c =
+    let end = c .before .before in
+    read-text _ _ (end .before .before .before .loop .inv .0) (end .finish .ensures .0) (end .finish .ensures .1)
+
+pub read-demands-spec : {M : Type 1} → statement M
+read-demands-spec =
+    tie.close
+    (tie.spec
+    Inv-loop
+    μ-loop
+    start-requires
+    loop-holds
+    read-piece-requires
+    sub-turns
+    loop-less
+    loop-again
+    loop-less-2
+    loop-again-2
+    finish-requires
+    same-length
+    returns)

@@ -1,0 +1,122 @@
+// `hutplan`: reads a room from the file `room.bin` and its servers' demands from standard input, plans, and prints.
+use deals::Planned;
+use demands::Reading;
+use libc::STDIN_FILENO;
+use libc::STDOUT_FILENO;
+use rooms::Answer;
+ghost use mathlib.Core.Path.{_≡_};
+ghost use Prim.Native.Nat.{_≤_};
+ghost use lib.ListN.{length, take};
+ghost use Rattle.io.specs.Counts.{Counts};
+ghost use Rattle.demands.specs.Reading.{held};
+ghost use Rattle.print.specs.Line.{Put};
+ghost use Rattle.hutplan.specs.Input.{FedPiece, ReadText};
+ghost use Rattle.hutplan.specs.Printed.{mostText, tableText, sheetText};
+
+// What one read of standard input leaves: the reading, and whether there may be more to read.
+pub struct Turn {
+    pub reading: Reading,
+    pub more: bool,
+}
+
+// The bytes of the room's sheet, as many as fit, at the front of the buffer; a missing file is empty.
+fn read_sheet(sheet: &mut [u8]) -> usize
+    ensures { λ r. ⌜ Counts r (now (sheet .exit)) ⌝ }
+{
+    let file = os::open_read(b"room.bin");
+    if file < 0 {
+        return 0;
+    }
+    let count = io::read_full(file, sheet);
+    libc::close(file);
+    count
+}
+
+// One piece of standard input. No more is asked for once the last line that counts is read.
+fn read_piece(reading: Reading, list: &mut [u32]) -> Turn
+    ensures { λ r. ⌜ FedPiece (held reading (now (list .entry))) (held (r .reading) (now (list .exit))) ⌝ }
+{
+    let mut piece = io::buffer();
+    let got = libc::read(STDIN_FILENO, &mut piece);
+    if got <= 0 {
+        return Turn {
+            reading,
+            more: false,
+        };
+    }
+    let count = io::count(got, &piece);
+    let next = reading.feed(&piece[..count], list);
+    Turn {
+        reading: next,
+        more: !next.is_full(),
+    }
+}
+
+// The demands of standard input, at the front of the list; how many.
+fn read_demands(list: &mut [u32]) -> usize
+    ensures { λ r. ⌜ ReadText (now (list .entry)) (now (list .exit)) r ⌝ }
+    ensures { λ r. ⌜ Counts r (now (list .exit)) ⌝ }
+{
+    let mut reading = Reading::start();
+    // A loop has to end, and nothing says that the input does: no run uses up so many turns.
+    let mut turns = u64::MAX;
+    while turns > 0 {
+        let turn = read_piece(reading, list);
+        let next = turn.reading;
+        reading = next;
+        if turn.more {
+            turns -= 1;
+        } else {
+            turns = 0;
+        }
+    }
+    reading.finish(list)
+}
+
+// The print of a table with demands, by way of lists for the grants and the caps of any room.
+fn print_table(
+    table: &[u32],
+    demands: &[u32],
+    grants: &mut [u32],
+    caps: &mut [u32],
+    buffer: &mut [u8],
+) -> usize
+    requires { ⌜ (length (now grants) ≡ 1024) × (length (now caps) ≡ 512) ⌝ }
+    ensures { λ r. ⌜ Put (now (buffer .entry)) 0 (now (buffer .exit)) r (tableText (now (table .entry)) (now (demands .entry))) ⌝ }
+    ensures { λ r. ⌜ Counts r (now (buffer .exit)) ⌝ }
+{
+    let planned = deals::plan(table, demands, grants, caps);
+    match planned {
+        Planned::Accepted(freed) => print::plan(freed, table, caps, grants, buffer),
+        Planned::Refused(refusal) => print::refusal(refusal.number(), refusal.place(), buffer),
+    }
+}
+
+// The print of a sheet with demands, whole, by way of a list for the words of any table.
+fn print_sheet(sheet: &[u8], demands: &[u32], table: &mut [u32], buffer: &mut [u8]) -> usize
+    requires { ⌜ (length (now table) ≡ 5123) × (mostText ≤ length (now buffer)) ⌝ }
+    ensures { λ r. ⌜ take r (now (buffer .exit)) ≡ sheetText (now (sheet .entry)) (now (demands .entry)) ⌝ }
+    ensures { λ r. ⌜ Counts r (now (buffer .exit)) ⌝ }
+{
+    let answer = rooms::read(sheet, table);
+    let count = match answer {
+        Answer::Accepted(count) => count,
+        Answer::Refused(refusal) => {
+            return print::refusal(refusal.number(), refusal.place(), buffer);
+        }
+    };
+    let mut grants = [0u32; 1024];
+    let mut caps = [0u32; 512];
+    print_table(&table[..count], demands, &mut grants, &mut caps, buffer)
+}
+
+fn main() {
+    let mut sheet = [0u8; 32768];
+    let bytes = read_sheet(&mut sheet);
+    let mut demands = [0u32; 513];
+    let count = read_demands(&mut demands);
+    let mut table = [0u32; 5123];
+    let mut buffer = io::large_buffer();
+    let length = print_sheet(&sheet[..bytes], &demands[..count], &mut table, &mut buffer);
+    io::write_all(STDOUT_FILENO, &buffer[..length]);
+}

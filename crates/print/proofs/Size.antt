@@ -1,0 +1,104 @@
+-- How long a print is: the print of a room is at most 47,131 bytes.
+use mathlib.Core.Path.{_≡_}
+use mathlib.Core.Bool.{Bool, true, false, cond}
+use mathlib.Core.List.{List, [], _∷_, _++_}
+use Prim.Native.Nat.{ℕ, zero, suc, _+_, _*_, _/_, _%_, _^_, _≤_, _<_}
+use native.Mathlib.Nat.{pow-suc, zero-lt-suc, div-lt-iff-lt-mul}
+use native.Mathlib.Omega.{arith}
+use borrow.Author.Tests.{lt-ltb}
+use lib.Dec.{ltb}
+use lib.ListN.{length, length-append}
+use Rattle.words.specs.Lists.{AllBelow}
+use Rattle.rooms.specs.Part.{total}
+use Rattle.rooms.specs.Table.{Server, Room, mostServers, mostNodes, cordCount}
+use Rattle.rooms.proofs.All.{All, all-head, all-tail, all-at}
+use Rattle.rooms.proofs.Accepted.{ServerAccepted, Accepted}
+use Rattle.print.specs.Line.{numeral, freedLine, serverLine, cordLine, refusedLine}
+use Rattle.print.specs.Print.{linesFrom, at, nodeAt, serverPrint, serversPrint, printOf}
+
+-- A number below 10 ^ k has at most k digits.
+length-numeral : (k most n : ℕ) → n < 10 ^ suc k → length (numeral most n) ≤ suc k
+unfolding numeral
+length-numeral k zero n h = omega arith
+length-numeral zero (suc most) n h = rw (lt-ltb n 10 h) (omega arith)
+length-numeral (suc k) (suc most) n h = go (ltb n 10) (length-numeral k most (n / 10) (div-lt-iff-lt-mul (zero-lt-suc 9) .1 (rw (pow-suc 10 (suc k)) at h)))
+  where
+    go : (test : Bool) → length (numeral most (n / 10)) ≤ suc k → length (cond test ((48 + n) ∷ []) (numeral most (n / 10) ++ ((48 + n % 10) ∷ []))) ≤ suc (suc k)
+    go true rec = omega arith
+    go false rec = omega (arith, length-append (numeral most (n / 10)) ((48 + n % 10) ∷ []))
+
+-- No numeral has more digits than it may have.
+length-most : (most n : ℕ) → length (numeral most n) ≤ most
+unfolding numeral
+length-most zero n = omega arith
+length-most (suc most) n = go (ltb n 10) (length-most most (n / 10))
+  where
+    go : (test : Bool) → length (numeral most (n / 10)) ≤ most → length (cond test ((48 + n) ∷ []) (numeral most (n / 10) ++ ((48 + n % 10) ∷ []))) ≤ suc most
+    go true rec = omega arith
+    go false rec = omega (arith, length-append (numeral most (n / 10)) ((48 + n % 10) ∷ []))
+
+-- ---- the lines
+
+pub length-refusedLine : (number place : ℕ) → length (refusedLine number place) ≤ 53
+unfolding refusedLine
+length-refusedLine number place = simp length-append (omega (arith, length-most 20 number, length-most 20 place))
+
+length-freedLine : (watts : ℕ) → watts < 10 ^ 20 → length (freedLine watts) ≤ 27
+unfolding freedLine
+length-freedLine watts h = simp length-append (omega (arith, length-numeral 19 20 watts h))
+
+length-serverLine : (number cap : ℕ) → number < 10 ^ 3 → cap < 10 ^ 10 → length (serverLine number cap) ≤ 26
+unfolding serverLine
+length-serverLine number cap h k = simp length-append (omega (arith, length-numeral 2 20 number h, length-numeral 9 20 cap k))
+
+length-cordLine : (number node grant : ℕ) → number < 10 ^ 1 → node < 10 ^ 3 → grant < 10 ^ 10 → length (cordLine number node grant) ≤ 33
+unfolding cordLine
+length-cordLine number node grant h k l =
+    simp length-append (omega (arith, length-numeral 0 20 number h, length-numeral 2 20 node k, length-numeral 9 20 grant l))
+
+length-linesFrom : (most : ℕ) (line : ℕ → List ℕ) (count k : ℕ) → ((m : ℕ) → m < k + count → length (line m) ≤ most) → length (linesFrom count k line) ≤ most * count
+unfolding linesFrom
+length-linesFrom most line zero k h = omega arith
+length-linesFrom most line (suc count) k h =
+    let one = h k (omega arith) in
+    let rest = length-linesFrom most line count (k + 1) (λ m l. h m (omega arith)) in
+    let n : most * suc count ≡ most + most * count = mul-suc' in
+    simp length-append (omega arith)
+  where
+    mul-suc' : most * suc count ≡ most + most * count
+    mul-suc' = omega arith
+
+-- ---- the servers
+
+module _ (caps grants : List ℕ) (below : AllBelow (2 ^ 32) caps) (below' : AllBelow (2 ^ 32) grants) (nodeCount : ℕ) (few : nodeCount ≤ mostNodes) where
+  length-serverPrint : (v c : ℕ) (s : Server) → v < mostServers → ServerAccepted nodeCount s
+      → length (serverPrint (v + 1) (at caps v) (cordCount s) (nodeAt (s .cords)) (λ k. at grants (c + k))) ≤ 26 + 33 * cordCount s
+  unfolding serverPrint
+  length-serverPrint v c s h a =
+      let server = length-serverLine (v + 1) (at caps v) (omega arith) (omega (arith, below v)) in
+      let cords = length-linesFrom 33 (λ k. cordLine (k + 1) (nodeAt (s .cords) k) (at grants (c + k))) (cordCount s) 0 cord in
+      simp length-append (omega arith)
+    where
+      cord : (k : ℕ) → k < 0 + cordCount s → length (cordLine (k + 1) (nodeAt (s .cords) k) (at grants (c + k))) ≤ 33
+      cord k h =
+          let there : k < cordCount s = omega arith in
+          let is = all-at _ (s .cords) (a .cords) k (record { node = 0; share = 0 }) there in
+          length-cordLine (k + 1) (nodeAt (s .cords) k) (at grants (c + k)) (omega (arith, a .fewCords)) (omega (arith, is .nodeTo)) (omega (arith, below' (c + k)))
+
+  length-serversPrint : (v c : ℕ) (ss : List Server) → v + length ss ≤ mostServers → All (ServerAccepted nodeCount) ss
+      → length (serversPrint caps grants v c ss) ≤ 26 * length ss + 33 * total cordCount ss
+  unfolding serversPrint total
+  length-serversPrint v c [] h a = omega arith
+  length-serversPrint v c (s ∷ ss) h a =
+      let first = length-serverPrint v c s (omega arith) (all-head _ s ss a) in
+      let rest = length-serversPrint (v + 1) (c + cordCount s) ss (omega arith) (all-tail _ s ss a) in
+      simp length-append (omega arith)
+
+-- The print of an accepted room, with words for figures and 64 bits of freed watts.
+pub length-printOf : (r : Room) (freed : ℕ) (caps grants : List ℕ) → Accepted r → freed < 2 ^ 64 → AllBelow (2 ^ 32) caps → AllBelow (2 ^ 32) grants
+    → length (printOf freed (r .servers) caps grants) ≤ 47131
+unfolding printOf
+length-printOf r freed caps grants a h below below' =
+    let first = length-freedLine freed (omega arith) in
+    let rest = length-serversPrint caps grants below below' (length (r .nodes)) (a .fewNodes) 0 0 (r .servers) (omega (arith, a .fewServers)) (a .servers) in
+    simp length-append (omega (arith, a .fewServers, a .fewCords))

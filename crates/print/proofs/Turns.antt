@@ -1,0 +1,96 @@
+-- Turns of the loops that put one line, or one server's lines, after another.
+use mathlib.Core.Path.{_≡_, refl, _∙_}
+use mathlib.Core.List.{List, [], _++_}
+use Prim.Native.Nat.{ℕ, suc, _+_, _-_, _*_, _^_, _≤_, _<_, min}
+use native.Mathlib.Omega.{arith}
+use lib.ListN.{length}
+use Rattle.rooms.specs.Table.{mostServers}
+use Rattle.print.specs.Line.{serverLine, cordLine, Put}
+use Rattle.print.specs.Print.{linesFrom, at, serverPrint}
+use Rattle.print.specs.Walk.{cordsAt, serversAt, serverCount}
+use Rattle.print.proofs.Putting.{then, put-size, Putting, putting-first, putting-next, putting-last}
+
+-- ---- lines by place
+
+module _ (line : ℕ → List ℕ) where
+  -- One line more.
+  linesFrom-turn : (count k : ℕ) → k < count → linesFrom (count - k) k line ≡ line k ++ linesFrom (count - (k + 1)) (k + 1) line
+  unfolding linesFrom
+  linesFrom-turn count k h =
+      let left : count - k ≡ suc (count - (k + 1)) = omega arith in
+      rw left
+
+  -- None is left.
+  linesFrom-end : (count k : ℕ) → count ≤ k → linesFrom (count - k) k line ≡ []
+  unfolding linesFrom
+  linesFrom-end count k h =
+      let none : count - k ≡ 0 = omega arith in
+      rw none
+
+  pub lines-next : {a b c : List ℕ} {start next past : ℕ} {whole : List ℕ} (count k : ℕ) → k < count
+      → Putting a start b next (linesFrom (count - k) k line) whole → Put b next c past (line k)
+      → Putting a start c past (linesFrom (count - (k + 1)) (k + 1) line) whole
+  lines-next count k h g p = putting-next (rw (linesFrom-turn count k h) at g) p
+
+  pub lines-last : {a b : List ℕ} {start next : ℕ} {whole : List ℕ} (count k : ℕ) → count ≤ k
+      → Putting a start b next (linesFrom (count - k) k line) whole → Put a start b next whole
+  lines-last count k h g = putting-last (rw (linesFrom-end count k h) at g)
+
+-- ---- servers
+
+-- The line of the cord at place k of those whose words start at an index and whose grants start at a place.
+abbrev pub cordLineAt : List ℕ → List ℕ → ℕ → ℕ → ℕ → List ℕ
+cordLineAt table grants index first k = cordLine (k + 1) (at table (index + 2 * k)) (at grants (first + k))
+
+-- The walk over the servers, at its place v: what is put, followed by the servers that are left, is the whole; the index
+-- and the first grant are no further than so many servers can take them.
+pub record Walking (table caps grants a : List ℕ) (start count index₀ : ℕ) (b : List ℕ) (index first next v : ℕ) : Type 0 where
+  pub bound : v ≤ count
+  pub most : count ≤ mostServers
+  pub index-bound : index ≤ 2 ^ 33 + 3 + 12 * v
+  pub first-bound : first ≤ 4 * v
+  pub put : Putting a start b next (serversAt table caps grants (count - v) v first index) (serversAt table caps grants count 0 0 index₀)
+  pub size : length b ≡ length a
+
+module _ (table caps grants a : List ℕ) (start count index₀ : ℕ) where
+  pub walking-first : start ≤ length a → count ≤ mostServers → index₀ ≤ 2 ^ 33 + 3
+      → Walking table caps grants a start count index₀ a index₀ 0 start 0
+  walking-first h k l =
+      let all : count - 0 ≡ count = omega arith in
+      record {
+        bound = omega arith;
+        most = k;
+        index-bound = omega arith;
+        first-bound = omega arith;
+        put = rw all (putting-first a start (serversAt table caps grants count 0 0 index₀) h);
+        size = refl;
+      }
+
+  -- One server more.
+  pub walking-next : (b : List ℕ) (index first next v : ℕ) {b' b'' : List ℕ} {line past cap cords : ℕ}
+      → Walking table caps grants a start count index₀ b index first next v → v < count
+      → cap ≡ at caps v → cords ≡ cordsAt table index
+      → Put b next b' line (serverLine (v + 1) cap) → Put b' line b'' past (linesFrom cords 0 (cordLineAt table grants (index + 4) first))
+      → Walking table caps grants a start count index₀ b'' (index + 4 + 2 * cords) (first + cords) past (v + 1)
+  unfolding serversAt serverPrint
+  walking-next b index first next v {b'} {b''} {line} {past} {cap} {cords} g h ec es p q =
+      let left : count - v ≡ suc (count - (v + 1)) = omega arith in
+      let both = then p q in
+      record {
+        bound = omega arith;
+        most = g .most;
+        index-bound = omega (arith, g .index-bound);
+        first-bound = omega (arith, g .first-bound);
+        put = rw es (putting-next (rw left at (g .put)) (rw (ec, es) at both));
+        size = put-size both ∙ g .size;
+      }
+
+-- No server is left, of those that the table says there are.
+pub walked : {table caps grants a : List ℕ} {start count place said : ℕ} {b : List ℕ} {index first next v : ℕ}
+    → Walking table caps grants a start count (place + 1) b index first next v → count ≤ v
+    → place ≡ serverCount table → said ≡ at table place → count ≡ min said mostServers
+    → Put a start b next (serversAt table caps grants (min (at table (serverCount table)) mostServers) 0 0 (serverCount table + 1))
+unfolding serversAt
+walked {count = count} {v = v} g h ep es ec =
+    let none : count - v ≡ 0 = omega arith in
+    rw (← ep, ← es, ← ec) (putting-last (rw none at (g .put)))

@@ -1,0 +1,82 @@
+-- `put_cords` meets its contract: what is put, followed by the lines of the cords that are left, is always the whole.
+use borrow.Author.Needs.{needs}
+use native.Mathlib.Omega.{arith}
+use mathlib.Core.Path.{_≡_, refl}
+use Prim.Native.Nat.{_-_, _≤_}
+use lib.ListN.{length}
+use Rattle.print.specs.Print.{linesFrom}
+use Rattle.print.proofs.Putting.{Putting, putting-first, putting-within}
+use Rattle.print.proofs.Turns.{cordLineAt, lines-next, lines-last}
+use Rattle.print.proofs.put_cords.Statement.{statement}
+use Rattle.print.proofs.put_cords.Tie as tie
+
+abbrev Inv-loop : tie.InvT-loop
+Inv-loop count table index grants first buffer₀ start next₀ k₀ buffer next k = (k ≤ count) × Putting buffer₀ start buffer next (linesFrom (count - k) k (cordLineAt table grants index first)) (linesFrom count 0 (cordLineAt table grants index first)) × (length buffer ≡ length buffer₀)
+
+abbrev μ-loop : tie.MeasureT-loop
+μ-loop count table index grants first buffer₀ start next₀ k₀ buffer next k = count - k
+
+loop-holds : tie.Need-loop-holds Inv-loop μ-loop
+loop-holds c =
+    let all : c .before .before .before .args .count - 0 ≡ c .before .before .before .args .count = omega arith in
+    (omega arith, rw all (putting-first _ _ _ (search needs)), refl)
+
+add-put-cord : tie.Need-add-put-cord Inv-loop μ-loop
+add-put-cord c = search needs
+
+mul-word : tie.Need-mul-word Inv-loop μ-loop
+mul-word c = search needs
+
+add-word : tie.Need-add-word Inv-loop μ-loop
+add-word c = search needs
+
+word-requires : tie.Need-word-requires Inv-loop μ-loop
+word-requires c κs = search needs
+
+add-word-2 : tie.Need-add-word-2 Inv-loop μ-loop
+add-word-2 c = search needs
+
+word-requires-2 : tie.Need-word-requires-2 Inv-loop μ-loop
+word-requires-2 c κs = search needs
+
+put-cord-requires : tie.Need-put-cord-requires Inv-loop μ-loop
+put-cord-requires c κs = putting-within (c .before .before .before .before .loop .inv .1)
+
+add-k : tie.Need-add-k Inv-loop μ-loop
+add-k c = search needs
+
+loop-less : tie.Need-loop-less Inv-loop μ-loop
+loop-less c = search needs
+
+loop-again : tie.Need-loop-again Inv-loop μ-loop
+loop-again c =
+    let put = c .before .before in
+    let at = put .before .before .before .before .before in
+    let args = at .before .before .before .before .args in
+    (omega arith, lines-next (cordLineAt (args .table .now) (args .grants .now) (args .index) (args .first)) (args .count) (at .loop .k) (omega (arith, at)) (at .loop .inv .1) (rw (put .before .before .before .word .ensures .0, put .before .before .word2 .ensures .0) at (put .put-cord .ensures)), search needs)
+
+same-length : tie.Need-same-length Inv-loop μ-loop
+same-length c = search needs
+
+returns : tie.Need-returns Inv-loop μ-loop
+returns c = lines-last _ _ _ (omega arith) (c .before .loop .inv .1)
+
+pub put-cords-spec : {M : Type 1} → statement M
+put-cords-spec =
+    tie.close
+    (tie.spec
+    Inv-loop
+    μ-loop
+    loop-holds
+    add-put-cord
+    mul-word
+    add-word
+    word-requires
+    add-word-2
+    word-requires-2
+    put-cord-requires
+    add-k
+    loop-less
+    loop-again
+    same-length
+    returns)

@@ -1,0 +1,4 @@
+-- What a reader must believe of `print`.
+pub mod Line
+pub mod Print
+pub mod Walk

@@ -1,0 +1,164 @@
+// What `hutplan` prints, in bytes.
+ghost use mathlib.Core.Path.{_≡_};
+ghost use Prim.Native.Nat.{_+_, _*_, _^_, _≤_, _<_, min};
+ghost use lib.ListN.{length};
+ghost use Rattle.io.specs.Counts.{Counts};
+ghost use Rattle.print.specs.Line.{decimal, freedLine, serverLine, cordLine, refusedLine, Put};
+ghost use Rattle.print.specs.Print.{linesFrom, at};
+ghost use Rattle.print.specs.Walk.{serverCount, serversAt, planPrint};
+
+// The most servers of a room, and the most cords of a server.
+const MOST_SERVERS: usize = 512;
+
+const MOST_SERVER_CORDS: usize = 4;
+
+// The print of a plan, at the front of the buffer: as much as fits. The result is how many bytes that is.
+pub fn plan(freed: u64, table: &[u32], caps: &[u32], grants: &[u32], buffer: &mut [u8]) -> usize
+    ensures { λ r. ⌜ Put (now (buffer .entry)) 0 (now (buffer .exit)) r (planPrint freed (now (table .entry)) (now (caps .entry)) (now (grants .entry))) ⌝ }
+    ensures { λ r. ⌜ Counts r (now (buffer .exit)) ⌝ }
+{
+    let next = put_freed(freed as usize, buffer, 0);
+    put_servers(table, caps, grants, buffer, next)
+}
+
+// The print of a refusal, at the front of the buffer: as much as fits. The result is how many bytes that is.
+pub fn refusal(number: u64, place: usize, buffer: &mut [u8]) -> usize
+    ensures { λ r. ⌜ Put (now (buffer .entry)) 0 (now (buffer .exit)) r (refusedLine number place) ⌝ }
+    ensures { λ r. ⌜ Counts r (now (buffer .exit)) ⌝ }
+{
+    let a = put(b"refused ", buffer, 0);
+    let b = put_decimal(number as usize, buffer, a);
+    let c = put(b" at ", buffer, b);
+    let d = put_decimal(place, buffer, c);
+    put(b"\n", buffer, d)
+}
+
+// The lines of all servers and their cords.
+fn put_servers(
+    table: &[u32],
+    caps: &[u32],
+    grants: &[u32],
+    buffer: &mut [u8],
+    start: usize,
+) -> usize
+    requires { ⌜ start ≤ length (now buffer) ⌝ }
+    ensures { λ r. ⌜ Put (now (buffer .entry)) start (now (buffer .exit)) r (serversAt (now (table .entry)) (now (caps .entry)) (now (grants .entry)) (min (at (now (table .entry)) (serverCount (now (table .entry)))) 512) 0 0 (serverCount (now (table .entry)) + 1)) ⌝ }
+{
+    let place = 2 + 2 * word(table, 1);
+    let count = least(word(table, place), MOST_SERVERS);
+    let mut index = place + 1;
+    let mut first = 0usize;
+    let mut next = start;
+    for v in 0..count {
+        let cords = least(word(table, index + 3), MOST_SERVER_CORDS);
+        let line = put_server(v + 1, word(caps, v), buffer, next);
+        let past = put_cords(cords, table, index + 4, grants, first, buffer, line);
+        next = past;
+        index = index + 4 + 2 * cords;
+        first += cords;
+    }
+    next
+}
+
+// The lines of a server's cords: their words start at `index`, their grants at `first`.
+fn put_cords(
+    count: usize,
+    table: &[u32],
+    index: usize,
+    grants: &[u32],
+    first: usize,
+    buffer: &mut [u8],
+    start: usize,
+) -> usize
+    requires { ⌜ (count ≤ 4) × (index < 2 ^ 34) × (first < 2 ^ 34) × (start ≤ length (now buffer)) ⌝ }
+    ensures { λ r. ⌜ Put (now (buffer .entry)) start (now (buffer .exit)) r (linesFrom count 0 (λ k. cordLine (k + 1) (at (now (table .entry)) (index + 2 * k)) (at (now (grants .entry)) (first + k)))) ⌝ }
+{
+    let mut next = start;
+    for k in 0..count {
+        let past = put_cord(
+            k + 1,
+            word(table, index + 2 * k),
+            word(grants, first + k),
+            buffer,
+            next,
+        );
+        next = past;
+    }
+    next
+}
+
+// `freed F`.
+fn put_freed(watts: usize, buffer: &mut [u8], start: usize) -> usize
+    requires { ⌜ start ≤ length (now buffer) ⌝ }
+    ensures { λ r. ⌜ Put (now (buffer .entry)) start (now (buffer .exit)) r (freedLine watts) ⌝ }
+{
+    let a = put(b"freed ", buffer, start);
+    let b = put_decimal(watts, buffer, a);
+    put(b"\n", buffer, b)
+}
+
+// `server N cap W`.
+fn put_server(number: usize, cap: usize, buffer: &mut [u8], start: usize) -> usize
+    requires { ⌜ start ≤ length (now buffer) ⌝ }
+    ensures { λ r. ⌜ Put (now (buffer .entry)) start (now (buffer .exit)) r (serverLine number cap) ⌝ }
+{
+    let a = put(b"server ", buffer, start);
+    let b = put_decimal(number, buffer, a);
+    let c = put(b" cap ", buffer, b);
+    let d = put_decimal(cap, buffer, c);
+    put(b"\n", buffer, d)
+}
+
+// `cord K node M grant G`.
+fn put_cord(number: usize, node: usize, grant: usize, buffer: &mut [u8], start: usize) -> usize
+    requires { ⌜ start ≤ length (now buffer) ⌝ }
+    ensures { λ r. ⌜ Put (now (buffer .entry)) start (now (buffer .exit)) r (cordLine number node grant) ⌝ }
+{
+    let a = put(b"cord ", buffer, start);
+    let b = put_decimal(number, buffer, a);
+    let c = put(b" node ", buffer, b);
+    let d = put_decimal(node, buffer, c);
+    let e = put(b" grant ", buffer, d);
+    let f = put_decimal(grant, buffer, e);
+    put(b"\n", buffer, f)
+}
+
+// A number in decimal, from a place on.
+fn put_decimal(number: usize, buffer: &mut [u8], start: usize) -> usize
+    requires { ⌜ start ≤ length (now buffer) ⌝ }
+    ensures { λ r. ⌜ Put (now (buffer .entry)) start (now (buffer .exit)) r (decimal number) ⌝ }
+{
+    let mut digits = [0u8; 20];
+    let count = io::decimal(number as u64, &mut digits);
+    put(&digits[..count], buffer, start)
+}
+
+// Some bytes, from a place on: as many as fit.
+fn put(text: &[u8], buffer: &mut [u8], start: usize) -> usize
+    requires { ⌜ start ≤ length (now buffer) ⌝ }
+    ensures { λ r. ⌜ Put (now (buffer .entry)) start (now (buffer .exit)) r (now (text .entry)) ⌝ }
+{
+    let count = least(text.len(), buffer.len() - start);
+    for i in 0..count {
+        buffer[start + i] = text[i];
+    }
+    start + count
+}
+
+// A word of a list; 0 past its end.
+fn word(list: &[u32], place: usize) -> usize
+    ensures { λ r. ⌜ (r ≡ at (now (list .entry)) place) × (r < 4294967296) ⌝ }
+{
+    if place < list.len() {
+        list[place] as usize
+    } else {
+        0
+    }
+}
+
+// The lesser of two counts.
+fn least(a: usize, b: usize) -> usize
+    ensures { λ r. ⌜ r ≡ min a b ⌝ }
+{
+    if a < b { a } else { b }
+}

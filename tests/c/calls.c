@@ -123,30 +123,36 @@ static size_t sheet_of(const uint32_t *words, size_t count, uint8_t *sheet)
     return size;
 }
 
+/* The next number of a text, in a base, and whether there is one. */
+static int next_number(const char **text, int base, unsigned long *value)
+{
+    char *next;
+
+    *value = strtoul(*text, &next, base);
+    if (next == *text)
+        return 0;
+    *text = next;
+    return 1;
+}
+
 /* Bytes in hexadecimal, words in decimal: parted by spaces. */
 static size_t parse_bytes(const char *text, uint8_t *bytes)
 {
     size_t count = 0;
-    char *next;
     unsigned long value;
 
-    for (value = strtoul(text, &next, 16); next != text; value = strtoul(text, &next, 16)) {
+    while (next_number(&text, 16, &value))
         bytes[count++] = (uint8_t)value;
-        text = next;
-    }
     return count;
 }
 
 static size_t parse_words(const char *text, uint32_t *words)
 {
     size_t count = 0;
-    char *next;
     unsigned long value;
 
-    for (value = strtoul(text, &next, 10); next != text; value = strtoul(text, &next, 10)) {
+    while (next_number(&text, 10, &value))
         words[count++] = (uint32_t)value;
-        text = next;
-    }
     return count;
 }
 

@@ -1,5 +1,7 @@
 -- The laws of `deals`, from the ground up.
 
+-- The rooms worked by hand: the definitions alone.
+pub mod WorkedRooms
 -- Lists of figures, one node's row of Requests, and the split.
 pub mod Lists
 pub mod Rows
@@ -16,11 +18,10 @@ pub mod RoomDeals
 pub mod BothDeals
 pub mod LowerRanks
 pub mod Bounds
--- The whole plan, the promises, and the rooms worked by hand.
+-- The whole plan, and the promises.
 pub mod Plans
 pub mod Lent
 pub mod Promises
-pub mod WorkedRooms
 -- The passes of the code: over the nodes and cords of a rank, rank by rank, and over the servers of a table.
 pub mod NodeSums
 pub mod Gathering

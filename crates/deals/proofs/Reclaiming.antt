@@ -18,7 +18,7 @@ use Rattle.deals.specs.Figures.{figures, at, sumOf}
 use Rattle.deals.specs.Cords.{RoomCord, cordAt}
 use Rattle.deals.specs.Wants.{needs, carriedBy}
 use Rattle.deals.specs.SecondDeal.{leastOver, loaded, loadOf, usable, stranded, wantsAfter}
-use Rattle.deals.specs.Passes.{ServersFit, CordsFit, countWord, shareWord, serverNeed, serverUsable, cordUsed, cordStranded, cordWant}
+use Rattle.deals.specs.Passes.{ServersFit, CordsFit, usedBy, countWord, shareWord, serverNeed, serverUsable, cordUsed, cordStranded, cordWant}
 use Rattle.deals.proofs.Lists.{total-sum, sum-append, sum-most}
 use Rattle.deals.proofs.Loads.{leastOver-cong, leastOver-next, leastOver-zero, leastOver-none, leastOver-start, leastOver-append}
 use Rattle.deals.proofs.BothDeals.{carriedBy-at, usable-at, stranded-at, stranded-count, wantsAfter-at}
@@ -78,14 +78,14 @@ module _ {table : List ℕ} {start usable : ℕ} {grants : List ℕ} {c : ℕ} {
     )
 
     -- One cord more: it leaves watts stranded and wants its used watts, or it leaves none and wants what it did.
-    pub reclaimed-more : {watts : ℕ} → used < at grants (c + k) → watts ≡ at grants (c + k) - used
+    pub reclaimed-more : {watts : ℕ} → watts ≡ at grants (c + k) - used → 0 < watts
         → ReclaimedBy table start usable grants c old (k + 1) (freed + watts) (set wants (c + k) used)
-    reclaimed-more h e =
+    reclaimed-more e h =
         let m = more-stranded true (lt-ltb 0 (cordStranded table start usable grants c k) (omega arith)) in
         record { freed-is = omega (arith, m .0); put = row-one (by .put) (sym (m .1)) }
 
-    pub reclaimed-kept : at grants (c + k) ≤ used → ReclaimedBy table start usable grants c old (k + 1) freed wants
-    reclaimed-kept h =
+    pub reclaimed-kept : {watts : ℕ} → watts ≡ at grants (c + k) - used → watts ≤ 0 → ReclaimedBy table start usable grants c old (k + 1) (freed + watts) wants
+    reclaimed-kept e h =
         let m = more-stranded false (le-ltb 0 (cordStranded table start usable grants c k) (omega arith)) in
         record { freed-is = omega (arith, m .0); put = row-kept (by .put) (m .1) }
 
@@ -209,15 +209,11 @@ module _ {table demands grants : List ℕ} where
 
 -- ---- The wants of the second deal, and the watts freed
 
--- The used watts of the cords, where each server uses what it can.
-abbrev usedOf : Room → List ℕ → List ℕ → List ℕ
-usedOf r demands grants = carriedBy r (usable r (needs r demands) grants)
-
 pub record Reclaiming (table demands grants first : List ℕ) (v start c freed : ℕ) (wants : List ℕ) : Type 0 where
   pub room : Room
   pub serving : Serving table demands grants room v start c
-  pub freed-is : freed ≡ sum c (at (stranded room grants (usedOf room demands grants)))
-  pub wants-done : Filled (at (wantsAfter room first grants (usedOf room demands grants))) (roomCords room) c wants
+  pub freed-is : freed ≡ sum c (at (stranded room grants (usedBy room demands grants)))
+  pub wants-done : Filled (at (wantsAfter room first grants (usedBy room demands grants))) (roomCords room) c wants
   pub wants-left : (h : ℕ) → c ≤ h → at wants h ≡ at first h
 
 -- The figures of the k-th cord of the server that stands next.
@@ -226,20 +222,20 @@ module _ {table demands grants : List ℕ} {r : Room} {v start c : ℕ} (serving
   within : c + k < roomCords r
   within = server-here serving more .cord k l .within
 
-  used-here : cordUsed table start load k ≡ at (usedOf r demands grants) (c + k)
+  used-here : cordUsed table start load k ≡ at (usedBy r demands grants) (c + k)
   used-here =
       carried-is (server-here serving more) k l (usable r (needs r demands) grants) load (is ∙ usable-here serving more)
       ∙ sym (carriedBy-at r (usable r (needs r demands) grants) (c + k) within)
 
-  stranded-here : cordStranded table start load grants c k ≡ at (stranded r grants (usedOf r demands grants)) (c + k)
-  stranded-here = ap (λ (x : ℕ). at grants (c + k) - x) used-here ∙ sym (stranded-at r grants (usedOf r demands grants) (c + k) within)
+  stranded-here : cordStranded table start load grants c k ≡ at (stranded r grants (usedBy r demands grants)) (c + k)
+  stranded-here = ap (λ (x : ℕ). at grants (c + k) - x) used-here ∙ sym (stranded-at r grants (usedBy r demands grants) (c + k) within)
 
   want-here : (first wants : List ℕ) → at wants (c + k) ≡ at first (c + k)
-      → cordWant table start load grants wants c k ≡ at (wantsAfter r first grants (usedOf r demands grants)) (c + k)
+      → cordWant table start load grants wants c k ≡ at (wantsAfter r first grants (usedBy r demands grants)) (c + k)
   want-here first wants e =
       ap₂ (λ (x y : ℕ). cond (ltb 0 x) y (at wants (c + k))) stranded-here used-here
-      ∙ ap (λ (w : ℕ). cond (ltb 0 (at (stranded r grants (usedOf r demands grants)) (c + k))) (at (usedOf r demands grants) (c + k)) w) e
-      ∙ sym (wantsAfter-at r first grants (usedOf r demands grants) (c + k) within)
+      ∙ ap (λ (w : ℕ). cond (ltb 0 (at (stranded r grants (usedBy r demands grants)) (c + k))) (at (usedBy r demands grants) (c + k)) w) e
+      ∙ sym (wantsAfter-at r first grants (usedBy r demands grants) (c + k) within)
 
 module _ {table demands grants first : List ℕ} where
   pub reclaiming-start : Good (checked table 0) → ServersFit table (length demands) → CordsFit table (length grants) → CordsFit table (length first)
@@ -274,31 +270,21 @@ module _ {table demands grants first : List ℕ} where
           wants-left = λ i l. row-after wants c _ _ i l ∙ reclaiming .wants-left i (omega arith);
         })
 
-    -- What is freed so far is far below 2^64.
-    pub freed-most : ((h : ℕ) → at grants h ≤ mostWatts) → freed ≤ mostCords * mostWatts
-    freed-most most =
-        let r = reclaiming .room in
-        let n : c ≤ roomCords r = omega (arith, reclaiming .serving .walk .cords-left) in
-        let a : sum c (at (stranded r grants (usedOf r demands grants))) ≤ c * mostWatts
-        = sum-most c mostWatts (at (stranded r grants (usedOf r demands grants)))
-        (λ h l. omega (arith, stranded-at r grants (usedOf r demands grants) h (omega arith), most h)) in
-        omega (arith, reclaiming .freed-is, begun (reclaiming .serving .read) .cords-most)
-
-    freed-all : length demands ≤ v → freed ≡ sumOf (stranded (reclaiming .room) grants (usedOf (reclaiming .room) demands grants))
+    freed-all : length demands ≤ v → freed ≡ sumOf (stranded (reclaiming .room) grants (usedBy (reclaiming .room) demands grants))
     freed-all h =
-        let last : List ℕ = stranded (reclaiming .room) grants (usedOf (reclaiming .room) demands grants) in
-        let all : c ≡ length last = serving-end (reclaiming .serving) h ∙ sym (stranded-count (reclaiming .room) grants (usedOf (reclaiming .room) demands grants)) in
+        let last : List ℕ = stranded (reclaiming .room) grants (usedBy (reclaiming .room) demands grants) in
+        let all : c ≡ length last = serving-end (reclaiming .serving) h ∙ sym (stranded-count (reclaiming .room) grants (usedBy (reclaiming .room) demands grants)) in
         reclaiming .freed-is ∙ ap (λ (n : ℕ). sum n (at last)) all ∙ sym (total-sum (λ a. a) 0 last)
 
-    wants-all : length demands ≤ v → wants ≡ wantsAfter (reclaiming .room) first grants (usedOf (reclaiming .room) demands grants)
+    wants-all : length demands ≤ v → wants ≡ wantsAfter (reclaiming .room) first grants (usedBy (reclaiming .room) demands grants)
     unfolding wantsAfter
     wants-all h =
         filled-all _ _ (reclaiming .wants-done) refl (omega (arith, serving-end (reclaiming .serving) h))
-        (λ i l. wantsAfter-at (reclaiming .room) first grants (usedOf (reclaiming .room) demands grants) i l)
+        (λ i l. wantsAfter-at (reclaiming .room) first grants (usedBy (reclaiming .room) demands grants) i l)
 
     pub reclaiming-end : length demands ≤ v
-        → ((r : Room) (end : ℕ) → checked table 0 ≡ good r end → freed ≡ sumOf (stranded r grants (usedOf r demands grants)))
-        × ((r : Room) (end : ℕ) → checked table 0 ≡ good r end → wants ≡ wantsAfter r first grants (usedOf r demands grants))
+        → ((r : Room) (end : ℕ) → checked table 0 ≡ good r end → freed ≡ sumOf (stranded r grants (usedBy r demands grants)))
+        × ((r : Room) (end : ℕ) → checked table 0 ≡ good r end → wants ≡ wantsAfter r first grants (usedBy r demands grants))
     reclaiming-end h = (
       λ r end e. rw (← serving-same (reclaiming .serving) r end e) (freed-all h),
       λ r end e. rw (← serving-same (reclaiming .serving) r end e) (wants-all h),

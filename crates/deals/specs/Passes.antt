@@ -7,14 +7,15 @@ use Prim.Native.Nat.{ℕ, zero, suc, _+_, _-_, _*_, _/_, _≤_, _<_, min, max}
 use lib.Dec.{eqb, ltb}
 use lib.ListN.{length, getD}
 use Rattle.rooms.specs.Sums.{on, sum}
-use Rattle.rooms.specs.Part.{good}
+use Rattle.rooms.specs.Part.{good, Good}
 use Rattle.rooms.specs.Table.{Room, roomCords, mostNodes, mostCords, mostWatts, highestRank, scale}
 use Rattle.rooms.specs.Limits.{carried, beneath, checked}
 use Rattle.rooms.specs.Credits.{sumBeneath}
 use Rattle.deals.specs.Figures.{at, cell}
-use Rattle.deals.specs.Metrics.{Deal}
+use Rattle.deals.specs.Metrics.{Deal, parentsOf, limitsOf, nodesOf, levelsOf}
+use Rattle.deals.specs.Wants.{needs, carriedBy, lowsOf}
 use Rattle.deals.specs.Split.{part}
-use Rattle.deals.specs.SecondDeal.{leastOver, freed, secondGrants}
+use Rattle.deals.specs.SecondDeal.{leastOver, usable, freed, secondGrants}
 use Rattle.deals.specs.SecondDeal as second
 
 -- ---- What the lists hold
@@ -43,19 +44,49 @@ abbrev pub LowsWithin : List ℕ → List ℕ → List ℕ → List ℕ → Type
 LowsWithin parents limits nodes lows =
     (n : ℕ) → n < length parents → sum (length nodes) (λ c. on (beneath (at parents) (length parents) n (at nodes c)) (at lows c)) ≤ at limits n
 
--- A list is as long as a good table's count of nodes, of servers or of cords.
+-- What a deal asks of its lists, the grants' among them.
+pub record DealLists (parents limits nodes levels lows wants : List ℕ) (grantCount : ℕ) : Type 0 where
+  pub of-nodes : NodeLists parents limits
+  pub of-cords : CordLists (length parents) nodes levels lows wants
+  pub lows-within : LowsWithin parents limits nodes lows
+  pub grants-size : grantCount ≡ length nodes
+
+-- What is claimed of the room that a good table gives.
+abbrev pub OfRoom : List ℕ → (Room → Type 0) → Type 0
+OfRoom table claim = (r : Room) (end : ℕ) → checked table 0 ≡ good r end → claim r
+
+-- A list is as long as the room's count of nodes, of servers or of cords.
 abbrev pub NodesFit : List ℕ → ℕ → Type 0
-NodesFit table size = (r : Room) (end : ℕ) → checked table 0 ≡ good r end → size ≡ length (r .nodes)
+NodesFit table size = OfRoom table (λ r. size ≡ length (r .nodes))
 
 abbrev pub ServersFit : List ℕ → ℕ → Type 0
-ServersFit table size = (r : Room) (end : ℕ) → checked table 0 ≡ good r end → size ≡ length (r .servers)
+ServersFit table size = OfRoom table (λ r. size ≡ length (r .servers))
 
 abbrev pub CordsFit : List ℕ → ℕ → Type 0
-CordsFit table size = (r : Room) (end : ℕ) → checked table 0 ≡ good r end → size ≡ roomCords r
+CordsFit table size = OfRoom table (λ r. size ≡ roomCords r)
+
+-- What the caps ask: a good table, and lists as long as its servers and cords are many.
+pub record CapLists (table demands grants caps : List ℕ) : Type 0 where
+  pub good-table : Good (checked table 0)
+  pub demands-fit : ServersFit table (length demands)
+  pub grants-fit : CordsFit table (length grants)
+  pub caps-fit : ServersFit table (length caps)
+
+-- The lists are the room's: its nodes' parents and limits, its cords' nodes, levels and lows.
+pub record RoomLists (r : Room) (parents limits nodes levels lows : List ℕ) : Type 0 where
+  pub parents-are : parents ≡ parentsOf r
+  pub limits-are : limits ≡ limitsOf r
+  pub nodes-are : nodes ≡ nodesOf r
+  pub levels-are : levels ≡ levelsOf r
+  pub lows-are : lows ≡ lowsOf r
 
 -- A row for each place of a node, with a figure for each level.
 abbrev pub FullRows : List (List ℕ) → Type 0
 FullRows rows = (length rows ≡ mostNodes) × ((m : ℕ) → m < mostNodes → length (getD rows m []) ≡ highestRank)
+
+-- The used watts of each cord by given grants.
+abbrev pub usedBy : Room → List ℕ → List ℕ → List ℕ
+usedBy r demands grants = carriedBy r (usable r (needs r demands) grants)
 
 -- ---- The words of one server, whose rank stands at index `start` of a table
 
@@ -157,6 +188,6 @@ pub record CordsDealt (nodes levels lows wants : List ℕ) (level : ℕ) (pcapmi
 
 -- The freed watts, the grants and the caps of a good table with given demands.
 pub record Planning (table demands : List ℕ) (watts : ℕ) (grants caps : List ℕ) : Type 0 where
-  pub freed-is : (r : Room) (end : ℕ) → checked table 0 ≡ good r end → watts ≡ freed r demands
-  pub grants-are : (r : Room) (end : ℕ) → checked table 0 ≡ good r end → grants ≡ secondGrants r demands
-  pub caps-are : (r : Room) (end : ℕ) → checked table 0 ≡ good r end → caps ≡ second.caps r demands
+  pub freed-is : OfRoom table (λ r. watts ≡ freed r demands)
+  pub grants-are : OfRoom table (λ r. grants ≡ secondGrants r demands)
+  pub caps-are : OfRoom table (λ r. caps ≡ second.caps r demands)

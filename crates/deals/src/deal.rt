@@ -7,7 +7,7 @@ ghost use Rattle.rooms.specs.Table.{highestRank};
 ghost use Rattle.deals.specs.Figures.{at};
 ghost use Rattle.deals.specs.Metrics.{dealFrom};
 ghost use Rattle.deals.specs.Dealing.{granted};
-ghost use Rattle.deals.specs.Passes.{CordLists, NodeLists, LowsWithin, FullRows};
+ghost use Rattle.deals.specs.Passes.{CordLists, NodeLists, LowsWithin, DealLists, FullRows};
 use crate::dealing::deal_cords;
 use crate::dealing::deal_nodes;
 use crate::metrics::gather;
@@ -110,10 +110,7 @@ pub(crate) fn deal(
     wants: &[u32],
     grants: &mut [u32],
 )
-    requires { ⌜ NodeLists (now parents) (now limits) ⌝ }
-    requires { ⌜ CordLists (length (now parents)) (now nodes) (now levels) (now lows) (now wants) ⌝ }
-    requires { ⌜ LowsWithin (now parents) (now limits) (now nodes) (now lows) ⌝ }
-    requires { ⌜ length (now grants) ≡ length (now nodes) ⌝ }
+    requires { ⌜ DealLists (now parents) (now limits) (now nodes) (now levels) (now lows) (now wants) (length (now grants)) ⌝ }
     ensures { λ _. ⌜ now (grants .exit) ≡ granted (dealFrom (now (parents .entry)) (now (limits .entry)) (now (nodes .entry)) (now (levels .entry)) (now (lows .entry)) (now (wants .entry))) ⌝ }
 {
     let mut requests = [[0u32; 16]; 512];

@@ -1,6 +1,6 @@
 // What servers can use of their grants: usable, used and stranded watts, the second deal's wants, and the caps.
 ghost use mathlib.Core.Path.{_≡_};
-ghost use Prim.Native.Nat.{ℕ, _+_, _≤_};
+ghost use Prim.Native.Nat.{ℕ, _+_, _*_, _≤_};
 ghost use lib.ListN.{length};
 ghost use lib.Seq.{sets};
 ghost use Rattle.rooms.specs.Part.{good, Good};
@@ -8,14 +8,15 @@ ghost use Rattle.rooms.specs.Sums.{sum};
 ghost use Rattle.rooms.specs.Table.{Room, mostWatts};
 ghost use Rattle.rooms.specs.Limits.{checked};
 ghost use Rattle.deals.specs.Figures.{at, figures, sumOf};
-ghost use Rattle.deals.specs.Wants.{needs, carriedBy};
+ghost use Rattle.deals.specs.Wants.{needs};
 ghost use Rattle.deals.specs.SecondDeal.{usable, stranded, wantsAfter};
-ghost use Rattle.deals.specs.Passes.{CordsFit, ServersFit, ServerWords, countWord, serverUsable, cordStranded, cordWant};
+ghost use Rattle.deals.specs.Passes.{OfRoom, CordsFit, ServersFit, CapLists, usedBy, ServerWords, countWord, serverUsable, cordStranded, cordWant};
 use crate::room::carried_by;
 use crate::room::need_of;
 use crate::widths::index;
 use crate::widths::least;
 use crate::widths::narrow;
+use crate::widths::over;
 use crate::widths::wide;
 
 // The usable watts, by a demand, of the server whose words start at an index of the table and whose cords' grants stand from
@@ -48,14 +49,15 @@ fn reclaim_server(
     requires { ⌜ (c + countWord (now table) start ≤ length (now grants)) × (c + countWord (now table) start ≤ length (now wants)) ⌝ }
     ensures { λ freed. ⌜ freed ≡ sum (countWord (now (table .entry)) start) (cordStranded (now (table .entry)) start usable (now (grants .entry)) c) ⌝ }
     ensures { λ _. ⌜ now (wants .exit) ≡ sets (now (wants .entry)) c (figures (countWord (now (table .entry)) start) (cordWant (now (table .entry)) start usable (now (grants .entry)) (now (wants .entry)) c)) ⌝ }
+    ensures { λ freed. ⌜ freed ≤ countWord (now (table .entry)) start * 4294967295 ⌝ }
 {
     let mut freed: u64 = 0;
     let count = index(table[start + 3]);
     for k in 0..count {
         let used = carried_by(table[start + 5 + 2 * k], usable);
-        let grant = grants[c + k];
-        if used < grant {
-            freed += wide(grant - used);
+        let stranded = over(grants[c + k], used);
+        freed += wide(stranded);
+        if 0 < stranded {
             wants[c + k] = used;
         }
     }
@@ -66,9 +68,8 @@ fn reclaim_server(
 pub(crate) fn reclaim(table: &[u32], demands: &[u32], grants: &[u32], wants: &mut [u32]) -> u64
     requires { ⌜ Good (checked (now table) 0) ⌝ }
     requires { ⌜ ServersFit (now table) (length (now demands)) × CordsFit (now table) (length (now grants)) × CordsFit (now table) (length (now wants)) ⌝ }
-    requires { ⌜ ((c : ℕ) → at (now grants) c ≤ mostWatts) ⌝ }
-    ensures { λ freed. ⌜ ((r : Room) (end : ℕ) → checked (now (table .entry)) 0 ≡ good r end → freed ≡ sumOf (stranded r (now (grants .entry)) (carriedBy r (usable r (needs r (now (demands .entry))) (now (grants .entry)))))) ⌝ }
-    ensures { λ _. ⌜ ((r : Room) (end : ℕ) → checked (now (table .entry)) 0 ≡ good r end → now (wants .exit) ≡ wantsAfter r (now (wants .entry)) (now (grants .entry)) (carriedBy r (usable r (needs r (now (demands .entry))) (now (grants .entry))))) ⌝ }
+    ensures { λ freed. ⌜ OfRoom (now (table .entry)) (λ r. freed ≡ sumOf (stranded r (now (grants .entry)) (usedBy r (now (demands .entry)) (now (grants .entry))))) ⌝ }
+    ensures { λ _. ⌜ OfRoom (now (table .entry)) (λ r. now (wants .exit) ≡ wantsAfter r (now (wants .entry)) (now (grants .entry)) (usedBy r (now (demands .entry)) (now (grants .entry)))) ⌝ }
 {
     let mut freed: u64 = 0;
     let mut start = 3 + 2 * index(table[1]);
@@ -85,10 +86,8 @@ pub(crate) fn reclaim(table: &[u32], demands: &[u32], grants: &[u32], wants: &mu
 
 // The caps: each server's usable watts by the grants.
 pub(crate) fn caps_of(table: &[u32], demands: &[u32], grants: &[u32], caps: &mut [u32])
-    requires { ⌜ Good (checked (now table) 0) ⌝ }
-    requires { ⌜ ServersFit (now table) (length (now demands)) × ServersFit (now table) (length (now caps)) × CordsFit (now table) (length (now grants)) ⌝ }
-    requires { ⌜ ((c : ℕ) → at (now grants) c ≤ mostWatts) ⌝ }
-    ensures { λ _. ⌜ ((r : Room) (end : ℕ) → checked (now (table .entry)) 0 ≡ good r end → now (caps .exit) ≡ usable r (needs r (now (demands .entry))) (now (grants .entry))) ⌝ }
+    requires { ⌜ CapLists (now table) (now demands) (now grants) (now caps) ⌝ }
+    ensures { λ _. ⌜ OfRoom (now (table .entry)) (λ r. now (caps .exit) ≡ usable r (needs r (now (demands .entry))) (now (grants .entry))) ⌝ }
 {
     let mut start = 3 + 2 * index(table[1]);
     let mut c = 0;

@@ -9,7 +9,7 @@ ghost use Rattle.rooms.specs.Limits.{checked, carried};
 ghost use Rattle.deals.specs.Figures.{at, figures};
 ghost use Rattle.deals.specs.Metrics.{parentsOf, limitsOf, nodesOf, levelsOf};
 ghost use Rattle.deals.specs.Wants.{lowsOf, firstWants};
-ghost use Rattle.deals.specs.Passes.{NodesFit, CordsFit, ServersFit, ServerWords, countWord, nodeWord, shareWord};
+ghost use Rattle.deals.specs.Passes.{OfRoom, NodesFit, CordsFit, ServersFit, ServerWords, countWord, nodeWord, shareWord};
 use crate::widths::index;
 use crate::widths::narrow;
 use crate::widths::wide;
@@ -34,7 +34,7 @@ pub(crate) fn carried_by(share: u32, load: u32) -> u32
 pub(crate) fn load_nodes(table: &[u32], parents: &mut [u32], limits: &mut [u32])
     requires { ⌜ Good (checked (now table) 0) ⌝ }
     requires { ⌜ NodesFit (now table) (length (now parents)) × NodesFit (now table) (length (now limits)) ⌝ }
-    ensures { λ _. ⌜ ((r : Room) (end : ℕ) → checked (now (table .entry)) 0 ≡ good r end → (now (parents .exit) ≡ parentsOf r) × (now (limits .exit) ≡ limitsOf r)) ⌝ }
+    ensures { λ _. ⌜ OfRoom (now (table .entry)) (λ r. (now (parents .exit) ≡ parentsOf r) × (now (limits .exit) ≡ limitsOf r)) ⌝ }
 {
     for m in 0..parents.len() {
         parents[m] = table[2 + 2 * m];
@@ -85,7 +85,7 @@ pub(crate) fn load_cords(
     requires { ⌜ Good (checked (now table) 0) ⌝ }
     requires { ⌜ ServersFit (now table) (length (now demands)) ⌝ }
     requires { ⌜ CordsFit (now table) (length (now nodes)) × CordsFit (now table) (length (now levels)) × CordsFit (now table) (length (now lows)) × CordsFit (now table) (length (now wants)) ⌝ }
-    ensures { λ _. ⌜ ((r : Room) (end : ℕ) → checked (now (table .entry)) 0 ≡ good r end → (now (nodes .exit) ≡ nodesOf r) × (now (levels .exit) ≡ levelsOf r) × (now (lows .exit) ≡ lowsOf r) × (now (wants .exit) ≡ firstWants r (now (demands .entry)))) ⌝ }
+    ensures { λ _. ⌜ OfRoom (now (table .entry)) (λ r. (now (nodes .exit) ≡ nodesOf r) × (now (levels .exit) ≡ levelsOf r) × (now (lows .exit) ≡ lowsOf r) × (now (wants .exit) ≡ firstWants r (now (demands .entry)))) ⌝ }
 {
     let mut start = 3 + 2 * index(table[1]);
     let mut c = 0;

@@ -9,49 +9,49 @@ array-borrow-prefix-left : tie.Need-array-borrow-prefix-left
 array-borrow-prefix-left c = search needs
 
 slice-aggregate-deal-ranks : tie.Need-slice-aggregate-deal-ranks
-slice-aggregate-deal-ranks c = sym (zeros-front 512 _ (c .before .before .before .before .before .before .before .before .before .pre .0 .few))
+slice-aggregate-deal-ranks c = sym (zeros-front 512 _ (c .before .before .before .before .before .before .before .before .before .pre .of-nodes .few))
 
 array-borrow-prefix-lower : tie.Need-array-borrow-prefix-lower
 array-borrow-prefix-lower c = search needs
 
 slice-aggregate-deal-ranks-2 : tie.Need-slice-aggregate-deal-ranks-2
-slice-aggregate-deal-ranks-2 c = sym (zeros-front 512 _ (c .before .before .before .before .before .before .before .before .before .before .pre .0 .few))
+slice-aggregate-deal-ranks-2 c = sym (zeros-front 512 _ (c .before .before .before .before .before .before .before .before .before .before .pre .of-nodes .few))
 
 array-borrow-prefix-pcapmins : tie.Need-array-borrow-prefix-pcapmins
 array-borrow-prefix-pcapmins c = search needs
 
 slice-aggregate-deal-ranks-3 : tie.Need-slice-aggregate-deal-ranks-3
-slice-aggregate-deal-ranks-3 c = sym (zeros-front 512 _ (c .before .before .before .before .before .before .before .before .before .before .before .pre .0 .few))
+slice-aggregate-deal-ranks-3 c = sym (zeros-front 512 _ (c .before .before .before .before .before .before .before .before .before .before .before .pre .of-nodes .few))
 
 array-borrow-prefix-asked : tie.Need-array-borrow-prefix-asked
 array-borrow-prefix-asked c = search needs
 
 slice-aggregate-deal-ranks-4 : tie.Need-slice-aggregate-deal-ranks-4
-slice-aggregate-deal-ranks-4 c = sym (zeros-front 512 _ (c .before .before .before .before .before .before .before .before .before .before .before .before .pre .0 .few))
+slice-aggregate-deal-ranks-4 c = sym (zeros-front 512 _ (c .before .before .before .before .before .before .before .before .before .before .before .before .pre .of-nodes .few))
 
 array-borrow-prefix-amounts : tie.Need-array-borrow-prefix-amounts
 array-borrow-prefix-amounts c = search needs
 
 slice-aggregate-deal-ranks-5 : tie.Need-slice-aggregate-deal-ranks-5
-slice-aggregate-deal-ranks-5 c = sym (zeros-front 512 _ (c .before .before .before .before .before .before .before .before .before .before .before .before .before .pre .0 .few))
+slice-aggregate-deal-ranks-5 c = sym (zeros-front 512 _ (c .before .before .before .before .before .before .before .before .before .before .before .before .before .pre .of-nodes .few))
 
 array-borrow-prefix-before : tie.Need-array-borrow-prefix-before
 array-borrow-prefix-before c = search needs
 
 slice-aggregate-deal-ranks-6 : tie.Need-slice-aggregate-deal-ranks-6
-slice-aggregate-deal-ranks-6 c = sym (zeros-front 512 _ (c .before .before .before .before .before .before .before .before .before .before .before .before .before .before .pre .0 .few))
+slice-aggregate-deal-ranks-6 c = sym (zeros-front 512 _ (c .before .before .before .before .before .before .before .before .before .before .before .before .before .before .pre .of-nodes .few))
 
 array-borrow-prefix-dealt : tie.Need-array-borrow-prefix-dealt
 array-borrow-prefix-dealt c = search needs
 
 slice-aggregate-deal-ranks-7 : tie.Need-slice-aggregate-deal-ranks-7
-slice-aggregate-deal-ranks-7 c = sym (zeros-front 512 _ (c .before .before .before .before .before .before .before .before .before .before .before .before .before .before .before .pre .0 .few))
+slice-aggregate-deal-ranks-7 c = sym (zeros-front 512 _ (c .before .before .before .before .before .before .before .before .before .before .before .before .before .before .before .pre .of-nodes .few))
 
 deal-ranks-requires : tie.Need-deal-ranks-requires
 deal-ranks-requires c κs =
     let pre = c .before .before .before .before .before .before .before .before .before .before .before .before .before .before .before .before .pre in
-    let size = zeros-front 512 _ (pre .0 .few) in
-    (pre .0, (pre .1 .0, (pre .1 .1 .0, ((size, size, size, size, size, size, size), (pre .1 .1 .1, zeros-rows)))))
+    let size = zeros-front 512 _ (pre .of-nodes .few) in
+    (pre .of-nodes, (pre .of-cords, (pre .lows-within, ((size, size, size, size, size, size, size), (pre .grants-size, zeros-rows)))))
 
 same-length : tie.Need-same-length
 same-length c = search needs

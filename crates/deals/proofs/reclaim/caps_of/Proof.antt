@@ -17,7 +17,7 @@ abbrev μ-loop : tie.MeasureT-loop
 μ-loop table demands grants caps₀ start₀ c₀ v₀ v-end caps start c v = v-end - v
 
 shared-slice-read-index : tie.Need-shared-slice-read-index Inv-loop μ-loop
-shared-slice-read-index c = omega (arith, begun (c .before .before .before .before .before .pre .0 .is) .there)
+shared-slice-read-index c = omega (arith, begun (c .before .before .before .before .before .pre .good-table .is) .there)
 
 index-requires : tie.Need-index-requires Inv-loop μ-loop
 index-requires c κs = search needs
@@ -31,8 +31,7 @@ add-start c = search needs
 loop-holds : tie.Need-loop-holds Inv-loop μ-loop
 loop-holds c =
     let pre = c .before .before .before .before .before .before .pre in
-    let fit = pre .1 .0 in
-    (search needs, capping-start (pre .0) (fit .0) (fit .1) (fit .2) _ (c .index .ensures .0))
+    (search needs, capping-start (pre .good-table) (pre .demands-fit) (pre .caps-fit) (pre .grants-fit) _ (c .index .ensures .0))
 
 mul-usable-of : tie.Need-mul-usable-of Inv-loop μ-loop
 mul-usable-of c = search needs
@@ -104,7 +103,7 @@ loop-again c = (search needs, capping-turn (c .before .before .before .before .b
 same-length : tie.Need-same-length Inv-loop μ-loop
 same-length c =
     let capping = c .before .loop .inv .1 in
-    capping .caps-done .size-is ∙ sym (c .before .before .before .before .before .before .before .before .pre .1 .0 .1 (capping .room) (capping .serving .end) (capping .serving .read))
+    capping .caps-done .size-is ∙ sym (c .before .before .before .before .before .before .before .before .pre .caps-fit (capping .room) (capping .serving .end) (capping .serving .read))
 
 returns : tie.Need-returns Inv-loop μ-loop
 returns c = capping-end (c .before .loop .inv .1) (search needs)

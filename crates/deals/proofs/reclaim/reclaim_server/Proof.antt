@@ -50,17 +50,17 @@ carried-by-requires c κs =
     let pre = c .before .before .before .before .before .before .before .before .pre .0 in
     (pre .0 .shares (c .before .before .loop .k) (omega (arith, c .before .before .before .index .ensures .0)), pre .1)
 
-add-grant : tie.Need-add-grant Inv-loop μ-loop
-add-grant c = search needs
+add-over : tie.Need-add-over Inv-loop μ-loop
+add-over c = search needs
 
-mul-grant : tie.Need-mul-grant Inv-loop μ-loop
-mul-grant c = search needs
+mul-over : tie.Need-mul-over Inv-loop μ-loop
+mul-over c = search needs
 
-shared-slice-read-grant : tie.Need-shared-slice-read-grant Inv-loop μ-loop
-shared-slice-read-grant c = search needs
+shared-slice-read-over : tie.Need-shared-slice-read-over Inv-loop μ-loop
+shared-slice-read-over c = search needs
 
-sub-wide : tie.Need-sub-wide Inv-loop μ-loop
-sub-wide c = search needs
+over-requires : tie.Need-over-requires Inv-loop μ-loop
+over-requires c κs = search needs
 
 wide-requires : tie.Need-wide-requires Inv-loop μ-loop
 wide-requires c κs = search needs
@@ -85,11 +85,13 @@ loop-less c = search needs
 
 loop-again : tie.Need-loop-again Inv-loop μ-loop
 loop-again c =
-    let by = c .before .before .before .before .before .loop .inv .2 in
-    let used = c .before .before .carried-by .ensures in
+    let inv = c .before .before .before .before .before .before .before .loop .inv in
+    let used = c .before .before .before .before .carried-by .ensures in
+    let stranded = c .before .before .over .ensures in
+    let watts = c .before .wide .ensures .0 ∙ stranded in
     ⊎-elim
-    (λ w. (search needs, search needs, rw (w .2, w .3) (reclaimed-more by used (w .0 .taken) (w .1 .ensures .0))))
-    (λ w. (search needs, search needs, rw (w .1, w .2) (reclaimed-kept by used (w .0 .left))))
+    (λ w. (search needs, omega (arith, inv .1, c .before .wide .ensures), rw (w .1) (reclaimed-more (inv .2) used watts (omega (arith, w .0 .taken, c .before .wide .ensures .0)))))
+    (λ w. (search needs, omega (arith, inv .1, c .before .wide .ensures), rw (w .1) (reclaimed-kept (inv .2) used watts (omega (arith, w .0 .left, c .before .wide .ensures .0)))))
     (c .if1 .came)
 
 same-length : tie.Need-same-length Inv-loop μ-loop
@@ -98,7 +100,8 @@ same-length c = c .before .loop .inv .2 .put .size-is
 returns : tie.Need-returns Inv-loop μ-loop
 returns c =
     let all : c .before .loop .k ≡ c .before .before .index .result = omega arith in
-    reclaimed-all (c .before .loop .inv .2) (all ∙ c .before .before .index .ensures .0)
+    let done = reclaimed-all (c .before .loop .inv .2) (all ∙ c .before .before .index .ensures .0) in
+    (done .0, (done .1, omega (arith, c .before .loop .inv .1, c .before .before .index .ensures .0)))
 
 pub reclaim-server-spec : {M : Type 1} → statement M
 reclaim-server-spec =
@@ -117,10 +120,10 @@ reclaim-server-spec =
     mul-carried-by-2
     shared-slice-read-carried-by
     carried-by-requires
-    add-grant
-    mul-grant
-    shared-slice-read-grant
-    sub-wide
+    add-over
+    mul-over
+    shared-slice-read-over
+    over-requires
     wide-requires
     add-freed
     add-wants

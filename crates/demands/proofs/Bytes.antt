@@ -9,7 +9,7 @@ use borrow.Author.Tests.{lt-ltb, le-ltb, eq-eqb, ne-eqb}
 use lib.ListN.{length, drop, getD, set, drop-of-length-le}
 use lib.Seq.{drop-cons}
 use Rattle.demands.specs.Text.{newline}
-use Rattle.demands.specs.Reading.{Held, held, with, emptyLine, extended, lineDemand, hasByte, room, closed, fedByte, fed, finished}
+use Rattle.demands.specs.Reading.{Held, held, with, emptyLine, extended, lineDemand, hasByte, space, closed, fedByte, fed, finished}
 use Rattle.demands.specs.declared.Reading.{Reading}
 
 pub and-false : (test : Bool) → test && false ≡ false
@@ -19,13 +19,13 @@ and-false false = refl
 -- ---- the outcomes of a step
 
 module _ (reading : Reading) (list : List ℕ) where
-  -- A line that ends where there is room, and where there is none.
-  pub closed-stores : reading .count < room list
+  -- A line that ends where there is space, and where there is none.
+  pub closed-stores : reading .count < space list
       → closed (held reading list) ≡ held (with (reading .count + 1) emptyLine) (set list (reading .count) (lineDemand (reading .line)))
   unfolding closed
   closed-stores h = rw (lt-ltb _ _ h)
 
-  pub closed-full : room list ≤ reading .count → closed (held reading list) ≡ held (with (reading .count) emptyLine) list
+  pub closed-full : space list ≤ reading .count → closed (held reading list) ≡ held (with (reading .count) emptyLine) list
   unfolding closed
   closed-full h = rw (le-ltb _ _ h)
 
@@ -34,7 +34,8 @@ module _ (reading : Reading) (list : List ℕ) where
   unfolding fedByte
   fedByte-newline byte h = rw (eq-eqb _ _ h)
 
-  pub fedByte-other : (byte : ℕ) → (byte ≡ newline → ⊥) → fedByte (held reading list) byte ≡ held (with (reading .count) (extended (reading .line) byte)) list
+  pub fedByte-other : (byte : ℕ) → (byte ≡ newline → ⊥)
+      → fedByte (held reading list) byte ≡ held (with (reading .count) (extended (reading .line) byte)) list
   unfolding fedByte
   fedByte-other byte h = rw (ne-eqb _ _ h)
 
@@ -57,7 +58,8 @@ pub record Going (h₀ : Held) (piece : List ℕ) (h : Held) (i : ℕ) : Type 0 
 pub going-first : (h₀ : Held) (piece : List ℕ) → Going h₀ piece h₀ 0
 going-first h₀ piece = record { bound = omega arith; same = refl }
 
-pub going-next : (h₀ : Held) (piece : List ℕ) (h h' : Held) (i : ℕ) → Going h₀ piece h i → i < length piece → h' ≡ fedByte h (getD piece i 0)
+pub going-next : (h₀ : Held) (piece : List ℕ) (h h' : Held) (i : ℕ) → Going h₀ piece h i → i < length piece
+    → h' ≡ fedByte h (getD piece i 0)
     → Going h₀ piece h' (i + 1)
 unfolding fed
 going-next h₀ piece h h' i g inside e =

@@ -10,7 +10,7 @@ use native.Mathlib.Omega.{arith}
 use borrow.Author.Tests.{lt-ltb, le-leb, lt-leb, leb-true}
 use lib.Dec.{leb, ltb}
 use lib.ListN.{length}
-use Rattle.demands.specs.Text.{mostDigits, noDemand, before, lines, isDigit, areDigits, numberAfter, demandOf}
+use Rattle.demands.specs.Text.{mostDigits, noDemand, before, isDigit, areDigits, numberAfter, demandOf}
 use Rattle.demands.specs.Reading.{emptyLine, extended, hasByte, lineDemand}
 use Rattle.demands.specs.declared.Line.{Line}
 use Rattle.demands.specs.declared.Line.the-variants.{Digits, Other}
@@ -23,7 +23,8 @@ unfoldable pub extendedBy : Line → List ℕ → Line
 extendedBy line [] = line
 extendedBy line (byte ∷ bytes) = extendedBy (extended line byte) bytes
 
-pub extendedBy-append : (line : Line) (bytes : List ℕ) (byte : ℕ) → extendedBy line (bytes ++ (byte ∷ [])) ≡ extended (extendedBy line bytes) byte
+pub extendedBy-append : (line : Line) (bytes : List ℕ) (byte : ℕ)
+    → extendedBy line (bytes ++ (byte ∷ [])) ≡ extended (extendedBy line bytes) byte
 unfolding extendedBy
 extendedBy-append line [] byte = refl
 extendedBy-append line (b ∷ bytes) byte = extendedBy-append (extended line b) bytes byte
@@ -57,7 +58,8 @@ lineDemand-after count number [] h k =
     sym-and : (test : Bool) → cond test number noDemand ≡ cond (test && true) number noDemand
     sym-and true = refl
     sym-and false = refl
-lineDemand-after count number (b ∷ line) h k = go (isDigit b) refl (eq-or-lt-of-le h) (lineDemand-after (count + 1) (number * 10 + (b - 48)) line)
+lineDemand-after count number (b ∷ line) h k =
+    go (isDigit b) refl (eq-or-lt-of-le h) (lineDemand-after (count + 1) (number * 10 + (b - 48)) line)
   where
     digit : isDigit b ≡ true → b - 48 ≤ 9
     digit e = last (leb 48 b) e
@@ -117,7 +119,8 @@ unfolding beforeAll before
 beforeAll-ended [] rest = refl
 beforeAll-ended (byte ∷ line) rest = rw (beforeAll-ended line rest)
 
-pub beforeAll-append : (line : List ℕ) (byte : ℕ) (rest : List (List ℕ)) → beforeAll (line ++ (byte ∷ [])) rest ≡ beforeAll line (before byte rest)
+pub beforeAll-append : (line : List ℕ) (byte : ℕ) (rest : List (List ℕ))
+    → beforeAll (line ++ (byte ∷ [])) rest ≡ beforeAll line (before byte rest)
 unfolding beforeAll
 beforeAll-append [] byte rest = refl
 beforeAll-append (b ∷ line) byte rest = ap (before b) (beforeAll-append line byte rest)

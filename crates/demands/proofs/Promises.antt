@@ -11,7 +11,7 @@ use lib.ListN.{length, take, set, length-append, length-take}
 use lib.Seq.{sets, length-sets, take-nil, take-all, take-take, take-length, take-append-le}
 use Rattle.words.proofs.Lists.{sets-append, sets-take, take-sets}
 use Rattle.demands.specs.Text.{mostLines, newline, before, lines, demandOf, demandsOf}
-use Rattle.demands.specs.Reading.{Held, held, with, emptyLine, extended, hasByte, lineDemand, room, closed, fedByte, fed, fedPieces, finished, countIn}
+use Rattle.demands.specs.Reading.{Held, held, with, emptyLine, extended, hasByte, lineDemand, space, closed, fedByte, fed, fedPieces, finished, countIn}
 use Rattle.demands.specs.Promises.{joined, ReadsDemands}
 use Rattle.demands.specs.declared.Line.{Line}
 use Rattle.demands.proofs.Bytes.{closed-stores, closed-full}
@@ -37,48 +37,54 @@ abbrev standing : List ℕ → ℕ → List ℕ → Line → Held
 standing list most demands line = held (with (min (length demands) most) line) (sets list 0 (take most demands))
 
 abbrev reached : List ℕ → List ℕ → Line → Held
-reached list demands line = standing list (room list) demands line
+reached list demands line = standing list (space list) demands line
 
 -- A line that ends is one demand more.
-closed-adds : (list demands : List ℕ) (line : Line) → closed (reached list demands line) ≡ reached list (demands ++ (lineDemand line ∷ [])) emptyLine
-closed-adds list demands line = go (ltb (length demands) (room list)) refl
+closed-adds : (list demands : List ℕ) (line : Line)
+    → closed (reached list demands line) ≡ reached list (demands ++ (lineDemand line ∷ [])) emptyLine
+closed-adds list demands line = go (ltb (length demands) (space list)) refl
   where
     d : ℕ
     d = lineDemand line
 
     filled : List ℕ
-    filled = sets list 0 (take (room list) demands)
+    filled = sets list 0 (take (space list) demands)
 
-    same : room filled ≡ room list
-    same = rw (length-sets list 0 (take (room list) demands))
+    same : space filled ≡ space list
+    same = rw (length-sets list 0 (take (space list) demands))
 
-    go : (test : Bool) → ltb (length demands) (room list) ≡ test → closed (reached list demands line) ≡ reached list (demands ++ (d ∷ [])) emptyLine
+    go : (test : Bool) → ltb (length demands) (space list) ≡ test
+        → closed (reached list demands line) ≡ reached list (demands ++ (d ∷ [])) emptyLine
     go true e =
-        let h : length demands < room list = ltb-true _ _ e in
-        let count : min (length demands) (room list) ≡ length demands = omega arith in
-        let more : min (length (demands ++ (d ∷ []))) (room list) ≡ length demands + 1 = omega (arith, length-append demands (d ∷ [])) in
-        let all : take (room list) demands ≡ demands = take-all (room list) demands (omega arith) in
-        let next : take (room list) (demands ++ (d ∷ [])) ≡ demands ++ (d ∷ []) = take-all (room list) (demands ++ (d ∷ [])) (omega (arith, length-append demands (d ∷ []))) in
-        let stored : sets list 0 (demands ++ (d ∷ [])) ≡ set (sets list 0 demands) (length demands) d = rw zero-add at (sets-append list 0 demands (d ∷ [])) in
-        closed-stores (with (min (length demands) (room list)) line) filled (omega (arith, same))
+        let h : length demands < space list = ltb-true _ _ e in
+        let count : min (length demands) (space list) ≡ length demands = omega arith in
+        let more : min (length (demands ++ (d ∷ []))) (space list) ≡ length demands + 1 = omega (arith, length-append demands (d ∷ [])) in
+        let all : take (space list) demands ≡ demands = take-all (space list) demands (omega arith) in
+        let next : take (space list) (demands ++ (d ∷ [])) ≡ demands ++ (d ∷ []) =
+        take-all (space list) (demands ++ (d ∷ [])) (omega (arith, length-append demands (d ∷ []))) in
+        let stored : sets list 0 (demands ++ (d ∷ [])) ≡ set (sets list 0 demands) (length demands) d =
+        rw zero-add at (sets-append list 0 demands (d ∷ [])) in
+        closed-stores (with (min (length demands) (space list)) line) filled (omega (arith, same))
         ∙ rw (more, next, stored, all, count)
     go false e =
-        let h : room list ≤ length demands = ltb-false _ _ e in
-        let count : min (length demands) (room list) ≡ room list = omega arith in
-        let more : min (length (demands ++ (d ∷ []))) (room list) ≡ room list = omega (arith, length-append demands (d ∷ [])) in
-        closed-full (with (min (length demands) (room list)) line) filled (omega (arith, same))
-        ∙ rw (more, count, take-append-le (room list) demands (d ∷ []) h)
+        let h : space list ≤ length demands = ltb-false _ _ e in
+        let count : min (length demands) (space list) ≡ space list = omega arith in
+        let more : min (length (demands ++ (d ∷ []))) (space list) ≡ space list = omega (arith, length-append demands (d ∷ [])) in
+        closed-full (with (min (length demands) (space list)) line) filled (omega (arith, same))
+        ∙ rw (more, count, take-append-le (space list) demands (d ∷ []) h)
 
 -- The rest of a text, read to its end, where a line is open that has some bytes.
 finished-fed : (list text demands line : List ℕ)
-    → finished (fed (reached list demands (extendedBy emptyLine line)) text) ≡ reached list (demands ++ map demandOf (beforeAll line (lines text))) emptyLine
+    → finished (fed (reached list demands (extendedBy emptyLine line)) text)
+    ≡ reached list (demands ++ map demandOf (beforeAll line (lines text))) emptyLine
 unfolding fed finished lines extendedBy beforeAll
 finished-fed list [] demands [] = rw append-nil
 finished-fed list [] demands (byte ∷ line) =
     rw (hasByte-some emptyLine byte line, beforeAll-last byte line, ← lineDemand-whole (byte ∷ line))
     (closed-adds list demands (extendedBy emptyLine (byte ∷ line)))
 finished-fed list (byte ∷ text) demands line =
-    go (eqb byte newline) (finished-fed list text (demands ++ (demandOf line ∷ [])) []) (finished-fed list text demands (line ++ (byte ∷ [])))
+    go (eqb byte newline)
+    (finished-fed list text (demands ++ (demandOf line ∷ [])) []) (finished-fed list text demands (line ++ (byte ∷ [])))
   where
     now : Line
     now = extendedBy emptyLine line
@@ -87,11 +93,19 @@ finished-fed list (byte ∷ text) demands line =
     after test = cond test (closed (reached list demands now)) (reached list demands (extended now byte))
 
     go : (test : Bool)
-        → finished (fed (reached list (demands ++ (demandOf line ∷ [])) emptyLine) text) ≡ reached list ((demands ++ (demandOf line ∷ [])) ++ map demandOf (lines text)) emptyLine
-        → finished (fed (reached list demands (extendedBy emptyLine (line ++ (byte ∷ [])))) text) ≡ reached list (demands ++ map demandOf (beforeAll (line ++ (byte ∷ [])) (lines text))) emptyLine
-        → finished (fed (after test) text) ≡ reached list (demands ++ map demandOf (beforeAll line (cond test ([] ∷ lines text) (before byte (lines text))))) emptyLine
+        → finished (fed (reached list (demands ++ (demandOf line ∷ [])) emptyLine) text)
+        ≡ reached list ((demands ++ (demandOf line ∷ [])) ++ map demandOf (lines text)) emptyLine
+        → finished (fed (reached list demands (extendedBy emptyLine (line ++ (byte ∷ [])))) text)
+        ≡ reached list (demands ++ map demandOf (beforeAll (line ++ (byte ∷ [])) (lines text))) emptyLine
+        → finished (fed (after test) text)
+        ≡ reached list (demands ++ map demandOf (beforeAll line (cond test ([] ∷ lines text) (before byte (lines text))))) emptyLine
     go true ended further =
-        rw (closed-adds list demands now, lineDemand-whole line, beforeAll-ended line (lines text), ← append-assoc demands (demandOf line ∷ []) (map demandOf (lines text))) ended
+        rw (
+          closed-adds list demands now,
+          lineDemand-whole line,
+          beforeAll-ended line (lines text),
+          ← append-assoc demands (demandOf line ∷ []) (map demandOf (lines text)),
+        ) ended
     go false ended further = rw (← beforeAll-append line byte (lines text), ← extendedBy-append emptyLine line byte) further
 
 -- A text, read from its start to its end.
@@ -101,8 +115,8 @@ readWhole list text = finished (fed (held (with 0 emptyLine) list) text)
 readWhole-is : (list text : List ℕ) → readWhole list text ≡ reached list (map demandOf (lines text)) emptyLine
 unfolding extendedBy beforeAll
 readWhole-is list text =
-    let none : min 0 (room list) ≡ 0 = omega arith in
-    let start : reached list [] emptyLine ≡ held (with 0 emptyLine) list = rw (none, take-nil (room list)) in
+    let none : min 0 (space list) ≡ 0 = omega arith in
+    let start : reached list [] emptyLine ≡ held (with 0 emptyLine) list = rw (none, take-nil (space list)) in
     rw (← start) (finished-fed list text [] [])
 
 -- ---- enough
@@ -125,7 +139,8 @@ fedByte-enough : (h : Held) (byte : ℕ) → mostLines ≤ h .reading .count →
 unfolding fedByte
 fedByte-enough h byte full = go (eqb byte newline)
   where
-    go : (test : Bool) → Alike (cond test (closed h) (held (with (h .reading .count) (extended (h .reading .line) byte)) (h .list))) h
+    go : (test : Bool)
+        → Alike (cond test (closed h) (held (with (h .reading .count) (extended (h .reading .line) byte)) (h .list))) h
     go true = closed-enough h full
     go false = record { list = refl; count = refl }
 
@@ -152,30 +167,32 @@ unfolding demandsOf
 length-demandsOf text = omega (arith, length-take mostLines (map demandOf (lines text)))
 
 -- No more than 513 demands go into a list, and no more than it has words.
-sets-room : (list demands : List ℕ) → sets list 0 (take (room list) demands) ≡ sets list 0 (take mostLines demands)
-sets-room list demands =
-    ap (sets list 0) (sym (take-take (room list) mostLines demands (omega arith)))
-    ∙ sets-take (room list) list (take mostLines demands) (omega (arith, length-take mostLines demands))
+sets-space : (list demands : List ℕ) → sets list 0 (take (space list) demands) ≡ sets list 0 (take mostLines demands)
+sets-space list demands =
+    ap (sets list 0) (sym (take-take (space list) mostLines demands (omega arith)))
+    ∙ sets-take (space list) list (take mostLines demands) (omega (arith, length-take mostLines demands))
 
 -- What the list then is, and the count.
 module _ (list text : List ℕ) where
   pub text-list : readWhole list text .list ≡ sets list 0 (demandsOf text)
   unfolding demandsOf
-  text-list = ap (λ (h : Held). h .list) (readWhole-is list text) ∙ sets-room list (map demandOf (lines text))
+  text-list = ap (λ (h : Held). h .list) (readWhole-is list text) ∙ sets-space list (map demandOf (lines text))
 
   pub text-count : countIn (readWhole list text) ≡ min (length (demandsOf text)) (length list)
   unfolding demandsOf
   text-count = ap countIn (readWhole-is list text) ∙ counted (map demandOf (lines text))
     where
       counted : (demands : List ℕ)
-          → min (min (length demands) (room list)) (length (sets list 0 (take (room list) demands))) ≡ min (length (take mostLines demands)) (length list)
-      counted demands = omega (arith, length-sets list 0 (take (room list) demands), length-take mostLines demands)
+          → min (min (length demands) (space list)) (length (sets list 0 (take (space list) demands)))
+          ≡ min (length (take mostLines demands)) (length list)
+      counted demands = omega (arith, length-sets list 0 (take (space list) demands), length-take mostLines demands)
 
-  text-whole : mostLines ≤ length list → take (countIn (readWhole list text)) (readWhole list text .list) ≡ demandsOf text
+  pub text-whole : mostLines ≤ length list → take (countIn (readWhole list text)) (readWhole list text .list) ≡ demandsOf text
   text-whole long =
       let few = length-demandsOf text in
       let count : countIn (readWhole list text) ≡ length (demandsOf text) = omega (arith, text-count) in
-      rw (count, text-list) (take-sets (length (demandsOf text)) list (demandsOf text) (omega arith) (omega arith) ∙ take-length (demandsOf text))
+      rw (count, text-list)
+      (take-sets (length (demandsOf text)) list (demandsOf text) (omega arith) (omega arith) ∙ take-length (demandsOf text))
 
 pub reads-demands : ReadsDemands
 reads-demands =
@@ -186,10 +203,12 @@ reads-demands =
       enough = λ h piece full. still h piece (leb-true mostLines (h .reading .count) full);
     }
   where
-    joined-is : (list : List ℕ) (pieces : List (List ℕ)) → fedPieces (held (with 0 emptyLine) list) pieces ≡ fed (held (with 0 emptyLine) list) (joined pieces)
+    joined-is : (list : List ℕ) (pieces : List (List ℕ))
+        → fedPieces (held (with 0 emptyLine) list) pieces ≡ fed (held (with 0 emptyLine) list) (joined pieces)
     joined-is list pieces = fedPieces-joined (held (with 0 emptyLine) list) pieces
 
-    still : (h : Held) (piece : List ℕ) → mostLines ≤ h .reading .count → (finished (fed h piece) .list ≡ h .list) × (countIn (finished (fed h piece)) ≡ countIn h)
+    still : (h : Held) (piece : List ℕ) → mostLines ≤ h .reading .count
+        → (finished (fed h piece) .list ≡ h .list) × (countIn (finished (fed h piece)) ≡ countIn h)
     still h piece full =
         let read = fed-enough h piece full in
         let end = finished-enough (fed h piece) (rw (read .count) full) in

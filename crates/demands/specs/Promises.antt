@@ -24,7 +24,8 @@ readInto list pieces = finished (fedPieces (held (with 0 emptyLine) list) pieces
 -- and once 513 lines are read, nothing further makes a difference.
 pub record ReadsDemands : Type 0 where
   pub list : (list : List ℕ) (pieces : List (List ℕ)) → readInto list pieces .list ≡ sets list 0 (demandsOf (joined pieces))
-  pub count : (list : List ℕ) (pieces : List (List ℕ)) → countIn (readInto list pieces) ≡ min (length (demandsOf (joined pieces))) (length list)
+  pub count : (list : List ℕ) (pieces : List (List ℕ))
+      → countIn (readInto list pieces) ≡ min (length (demandsOf (joined pieces))) (length list)
   pub whole : (list : List ℕ) (pieces : List (List ℕ)) → mostLines ≤ length list
       → take (countIn (readInto list pieces)) (readInto list pieces .list) ≡ demandsOf (joined pieces)
   pub enough : (h : Held) (piece : List ℕ) → isFull (h .reading) ≡ true

@@ -45,18 +45,18 @@ abbrev pub held : Reading → List ℕ → Held
 held reading list = record { reading = reading; list = list }
 
 -- How many demands go into a list.
-abbrev pub room : List ℕ → ℕ
-room list = min mostLines (length list)
+abbrev pub space : List ℕ → ℕ
+space list = min mostLines (length list)
 
 -- A reading with so many demands read and a line open.
 abbrev pub with : ℕ → Line → Reading
 with count line = record { count = count; line = line }
 
--- The open line ends: its demand goes into the list, if there is room.
+-- The open line ends: its demand goes into the list, if there is space.
 unfoldable pub closed : Held → Held
 closed h =
     let count = h .reading .count in
-    cond (ltb count (room (h .list)))
+    cond (ltb count (space (h .list)))
     (held (with (count + 1) emptyLine) (set (h .list) count (lineDemand (h .reading .line))))
     (held (with count emptyLine) (h .list))
 

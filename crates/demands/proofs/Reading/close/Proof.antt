@@ -1,4 +1,4 @@
--- `Reading::close` meets its contract: the line's demand is stored where there is room.
+-- `Reading::close` meets its contract: the line's demand is stored where there is space.
 use mathlib.Core.Path.{sym}
 use Rattle.demands.proofs.Bytes.{closed-stores, closed-full}
 use borrow.Author.Needs.{needs}

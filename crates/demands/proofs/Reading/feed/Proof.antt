@@ -10,7 +10,8 @@ use Rattle.demands.proofs.Reading.feed.Statement.{statement}
 use Rattle.demands.proofs.Reading.feed.Tie as tie
 
 abbrev Inv-loop : tie.InvT-loop
-Inv-loop piece list₀ reading₀ i₀ i-end list reading i = Going (held reading₀ list₀) piece (held reading list) i × (length list ≡ length list₀)
+Inv-loop piece list₀ reading₀ i₀ i-end list reading i =
+    Going (held reading₀ list₀) piece (held reading list) i × (length list ≡ length list₀)
 
 abbrev μ-loop : tie.MeasureT-loop
 μ-loop piece list₀ reading₀ i₀ i-end list reading i = length piece - i

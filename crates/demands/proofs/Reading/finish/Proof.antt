@@ -22,7 +22,8 @@ returns : tie.Need-returns
 returns c =
     let last = c .before .before .before in
     let args = last .before .before .before .before .before .args in
-    let is = last .close .ensures ∙ sym (finished-inside (args .self) (args .list .now) (sym (last .before .before .before .has-byte .ensures) ∙ last .before .before .if1 .taken)) in
+    let some = sym (last .before .before .before .has-byte .ensures) ∙ last .before .before .if1 .taken in
+    let is = last .close .ensures ∙ sym (finished-inside (args .self) (args .list .now) some) in
     (ap (λ (h : Held). h .list) is, c .least .ensures ∙ ap countIn is)
 
 least-requires-2 : tie.Need-least-requires-2
@@ -31,7 +32,8 @@ least-requires-2 c κs = search needs
 returns-2 : tie.Need-returns-2
 returns-2 c =
     let args = c .before .before .before .before .args in
-    let is = sym (finished-between (args .self) (args .list .now) (sym (c .before .before .has-byte .ensures) ∙ c .before .if1 .left)) in
+    let none = sym (c .before .before .has-byte .ensures) ∙ c .before .if1 .left in
+    let is = sym (finished-between (args .self) (args .list .now) none) in
     (ap (λ (h : Held). h .list) is, c .least2 .ensures ∙ ap countIn is)
 
 pub finish-spec : {M : Type 1} → statement M

@@ -174,11 +174,11 @@ sets-space list demands =
 
 -- What the list then is, and the count.
 module _ (list text : List ℕ) where
-  pub text-list : readWhole list text .list ≡ sets list 0 (demandsOf text)
+  text-list : readWhole list text .list ≡ sets list 0 (demandsOf text)
   unfolding demandsOf
   text-list = ap (λ (h : Held). h .list) (readWhole-is list text) ∙ sets-space list (map demandOf (lines text))
 
-  pub text-count : countIn (readWhole list text) ≡ min (length (demandsOf text)) (length list)
+  text-count : countIn (readWhole list text) ≡ min (length (demandsOf text)) (length list)
   unfolding demandsOf
   text-count = ap countIn (readWhole-is list text) ∙ counted (map demandOf (lines text))
     where

@@ -40,16 +40,26 @@ unfolding dealOf
 plan-fits p =
     let whole = answer-of-both-deals p in
     let bounded = figures-fit (p .table) (p .room) (p .end) (p .isRoom) (p .demands) in
-    length-printOf (p .room) (p .freed) (p .caps) (p .grants) (accepted (p .table) (p .room) (p .end) (p .isRoom)) (omega (arith, whole .freed, bounded .freed))
-    (words-below (p .caps) (λ v h. let there : v < length (p .room .servers) = omega (arith, whole .eachServer) in omega (arith, caps-in-range p v there .1, bounded .needs v there)))
-    (words-below (p .grants) (λ c h. let there : c < roomCords (p .room) = omega (arith, whole .eachCord) in omega (arith, second-kept p .most c there, bounded .second .wants c (rw (figures-length (roomCords (p .room)) _) there))))
+    length-printOf (p .room) (p .freed) (p .caps) (p .grants) (accepted (p .table) (p .room) (p .end) (p .isRoom))
+    (omega (arith, whole .freed, bounded .freed))
+    (words-below (p .caps)
+    (λ v h.
+    let there : v < length (p .room .servers) = omega (arith, whole .eachServer) in
+    omega (arith, caps-in-range p v there .1, bounded .needs v there)))
+    (words-below (p .grants)
+    (λ c h.
+    let there : c < roomCords (p .room) = omega (arith, whole .eachCord) in
+    let most = bounded .second .wants c (rw (figures-length (roomCords (p .room)) _) there) in
+    omega (arith, second-kept p .most c there, most)))
 
 pub tableText-fits : (table demands : List ℕ) → length (tableText table demands) ≤ mostText
 unfolding tableText
 tableText-fits table demands = go (checked table 0) refl
   where
-    room : (r : Room) (end : ℕ) → checked table 0 ≡ good r end → (o : Outcome) → planRoom r demands mostCords mostServers ≡ o → length (roomText r o) ≤ mostText
-    room r end q (plan.refused refusal) e = omega (arith, length-refusedLine (plan.planRefusalNumber refusal) (plan.planRefusalPlace refusal))
+    room : (r : Room) (end : ℕ) → checked table 0 ≡ good r end → (o : Outcome) → planRoom r demands mostCords mostServers ≡ o
+        → length (roomText r o) ≤ mostText
+    room r end q (plan.refused refusal) e =
+        omega (arith, length-refusedLine (plan.planRefusalNumber refusal) (plan.planRefusalPlace refusal))
     room r end q (plan.accepted f gs cs) e =
         plan-fits
         (record {
@@ -79,5 +89,6 @@ sheetText-fits sheet demands = go (reading sheet mostWords)
     go (read.refused refusal) = omega (arith, length-refusedLine (read.refusalNumber refusal) (read.refusalPlace refusal))
 
 -- So it stands whole in a buffer that is long enough.
-pub whole : (sheet demands : List ℕ) {a b : List ℕ} {n : ℕ} → Put a 0 b n (sheetText sheet demands) → mostText ≤ length a → take n b ≡ sheetText sheet demands
+pub whole : (sheet demands : List ℕ) {a b : List ℕ} {n : ℕ} → Put a 0 b n (sheetText sheet demands) → mostText ≤ length a
+    → take n b ≡ sheetText sheet demands
 whole sheet demands p h = put-whole p (omega (arith, sheetText-fits sheet demands))

@@ -1,15 +1,16 @@
--- Pieces that are read one after the other make up one text.
+-- What is read: pieces, one after the other, make up one text; and what is printed of it.
 use mathlib.Core.Path.{_≡_, sym, ap, _∙_}
 use mathlib.Core.List.{List, [], _++_}
-use Prim.Native.Nat.{ℕ}
+use Prim.Native.Nat.{ℕ, _≤_}
 use native.Mathlib.Omega.{arith}
-use lib.ListN.{length}
-use lib.Seq.{length-sets, length-take-le}
+use lib.ListN.{length, take}
+use lib.Seq.{take-all, length-take-le}
 use Rattle.io.specs.Counts.{Counts}
-use Rattle.demands.specs.Text.{demandsOf}
+use Rattle.demands.specs.Text.{mostLines}
 use Rattle.demands.specs.Reading.{Held, held, with, emptyLine, fed, finished, countIn}
-use Rattle.demands.proofs.Promises.{fed-append, text-list, text-count}
-use Rattle.hutplan.specs.Input.{FedPiece, ReadText}
+use Rattle.demands.proofs.Promises.{fed-append, text-whole}
+use Rattle.hutplan.specs.Input.{mostBytes, ReadFile, FedPiece, ReadText}
+use Rattle.hutplan.specs.Printed.{sheetText, printed, Ran}
 
 -- No piece, and one more.
 pub fed-none : {h g : Held} → h ≡ g → FedPiece g h
@@ -18,14 +19,38 @@ fed-none e = record { piece = []; is = e }
 
 pub fed-more : {a b c : Held} → FedPiece a b → FedPiece b c → FedPiece a c
 fed-more {a} p q =
-    record { piece = p .piece ++ q .piece; is = q .is ∙ ap (λ (h : Held). fed h (q .piece)) (p .is) ∙ sym (fed-append a (p .piece) (q .piece)) }
+    record {
+      piece = p .piece ++ q .piece;
+      is = q .is ∙ ap (λ (h : Held). fed h (q .piece)) (p .is) ∙ sym (fed-append a (p .piece) (q .piece));
+    }
 
--- At the end the list has the text's demands.
-pub read-text : (before after : List ℕ) {h : Held} {count : ℕ} → FedPiece (held (with 0 emptyLine) before) h
-    → after ≡ finished h .list → count ≡ countIn (finished h) → ReadText before after count × Counts count after
-read-text before after {h} {count} p l e =
+-- At the end the front of the list has the text's demands.
+pub read-text : (before after : List ℕ) {h : Held} {count : ℕ} → mostLines ≤ length before
+    → FedPiece (held (with 0 emptyLine) before) h
+    → after ≡ finished h .list → count ≡ countIn (finished h) → ReadText after count × Counts count after
+read-text before after {h} {count} long p l e =
     let text = p .piece in
-    let list = l ∙ ap (λ (g : Held). finished g .list) (p .is) ∙ text-list before text in
-    let counted = e ∙ ap (λ (g : Held). countIn (finished g)) (p .is) ∙ text-count before text in
-    let size : length after ≡ length before = ap length list ∙ length-sets before 0 (demandsOf text) in
-    (record { text = text; list = list; counted = counted }, (omega arith, sym (length-take-le count after (omega arith))))
+    let read = ap finished (p .is) in
+    let list = l ∙ ap (λ (g : Held). g .list) read in
+    let counted = e ∙ ap countIn read in
+    let within : count ≤ length after = rw l (omega arith) in (
+      record { text = text; is = rw (list, counted) (text-whole before text long) },
+      (within, sym (length-take-le count after within)),
+    )
+
+-- ---- the file
+
+-- Bytes that fit the sheet are those of a file.
+pub read-file : (sheet : List ℕ) (bytes : ℕ) → length sheet ≡ mostBytes → bytes ≤ length sheet → ReadFile sheet bytes
+read-file sheet bytes size h =
+    let fits = length-take-le bytes sheet h in
+    record { file = take bytes sheet; is = sym (take-all mostBytes (take bytes sheet) (omega arith)) }
+
+-- ---- the run
+
+-- What is printed of a sheet and demands that were read is what is printed of the file and the text.
+pub ran : (sheet demands : List ℕ) {bytes count : ℕ} {print : List ℕ} → ReadFile sheet bytes → ReadText demands count
+    → print ≡ sheetText (take bytes sheet) (take count demands) → Ran sheet demands print
+unfolding printed
+ran sheet demands {bytes} {count} f t e =
+    record { bytes = bytes; count = count; fromFile = f; fromInput = t; is = rw (f .is, t .is) at e }

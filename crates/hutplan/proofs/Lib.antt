@@ -2,3 +2,4 @@
 pub mod Inputs
 pub mod Prints
 pub mod Fits
+pub mod WorkedRooms

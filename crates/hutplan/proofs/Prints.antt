@@ -27,10 +27,15 @@ use Rattle.deals.specs.declared.Planned.the-variants.{Accepted, Refused}
 use Rattle.deals.specs.declared.PlanRefusal.the-variants.{Table}
 use Rattle.deals.proofs.Plans.{plan-good-table, plan-bad-table}
 use Rattle.deals.proofs.Promises.{answer-of-both-deals}
-use Rattle.print.specs.Line.{refusedLine}
+use Rattle.print.specs.Line.{refusedLine, Put}
 use Rattle.print.specs.Walk.{planPrint}
-use Rattle.print.proofs.Room.{planPrint-room, printOf-front}
+use Rattle.print.proofs.Room.{printOf-front}
+use Rattle.print.proofs.Promises.{prints-room}
 use Rattle.hutplan.specs.Printed.{mostWords, tableText, roomText, stepText, sheetText, readText}
+
+-- A text that is put is put by any equal name.
+pub put-as : {a b : List ℕ} {i n : ℕ} {s t : List ℕ} → s ≡ t → Put a i b n s → Put a i b n t
+put-as e p = rw e at p
 
 module _ (table demands : List ℕ) (g c : ℕ) where
   -- A refused plan.
@@ -39,17 +44,21 @@ module _ (table demands : List ℕ) (g c : ℕ) where
   unfolding tableText plan planStep
   table-refused {q} hg hc e = go (checked table 0) (rw (hg, hc) at e)
     where
-      room : (r : Room) (o : Outcome) → Refused q ≡ answerOf o → roomText r o ≡ refusedLine (planRefusalNumber q) (planRefusalPlace q)
+      room : (r : Room) (o : Outcome) → Refused q ≡ answerOf o
+          → roomText r o ≡ refusedLine (planRefusalNumber q) (planRefusalPlace q)
       room r (plan.accepted f gs cs) e = let z : _≡_ {A = ℕ} 0 1 = cc in absurd (omega arith)
       room r (plan.refused p) e = let same : q ≡ p = cc in rw same
 
-      go : (s : Step Room) → Refused q ≡ answerOf (planStep s demands mostCords mostServers) → stepText s demands ≡ refusedLine (planRefusalNumber q) (planRefusalPlace q)
+      go : (s : Step Room) → Refused q ≡ answerOf (planStep s demands mostCords mostServers)
+          → stepText s demands ≡ refusedLine (planRefusalNumber q) (planRefusalPlace q)
       go (good r end) e = room r (planRoom r demands mostCords mostServers) e
       go (bad refusal) e = let same : q ≡ Table refusal = cc in rw same
 
   -- An accepted plan, whose figures stand at the front of the lists.
-  pub table-accepted : (grants caps grants' caps' : List ℕ) {f : ℕ} → length grants ≡ g → length caps ≡ c → g ≡ mostCords → c ≡ mostServers
-      → Accepted f ≡ answerOf (plan table demands g c) → grants' ≡ grantsAfter (plan table demands g c) grants → caps' ≡ capsAfter (plan table demands g c) caps
+  pub table-accepted : (grants caps grants' caps' : List ℕ) {f : ℕ} → length grants ≡ g → length caps ≡ c → g ≡ mostCords
+      → c ≡ mostServers
+      → Accepted f ≡ answerOf (plan table demands g c) → grants' ≡ grantsAfter (plan table demands g c) grants
+      → caps' ≡ capsAfter (plan table demands g c) caps
       → planPrint f table caps' grants' ≡ tableText table demands
   unfolding tableText
   table-accepted grants caps grants' caps' {f} lg lc hg hc e eg ec = go (plan table demands g c) refl e eg ec
@@ -64,26 +73,45 @@ module _ (table demands : List ℕ) (g c : ℕ) where
           let few = accepted table r end q in
           let whole =
           answer-of-both-deals
-          (record { table = table; demands = demands; grantsLength = g; capsLength = c; room = r; end = end; freed = f; grants = gs; caps = cs; isRoom = q; isAnswer = is }) in
-          let room : planRoom r demands mostCords mostServers ≡ plan.accepted f gs cs = rw (← hg, ← hc) (sym (plan-good-table table demands g c r end q) ∙ is) in
+          (record {
+            table = table;
+            demands = demands;
+            grantsLength = g;
+            capsLength = c;
+            room = r;
+            end = end;
+            freed = f;
+            grants = gs;
+            caps = cs;
+            isRoom = q;
+            isAnswer = is;
+          }) in
+          let room : planRoom r demands mostCords mostServers ≡ plan.accepted f gs cs =
+          rw (← hg, ← hc) (sym (plan-good-table table demands g c r end q) ∙ is) in
           rw room
-          (planPrint-room table r end f (sets caps 0 cs) (sets grants 0 gs) q
-          ∙ printOf-front r f cs gs caps grants (whole .eachServer) (whole .eachCord) (omega (arith, few .fewServers, whole .eachServer)) (omega (arith, few .fewCords, whole .eachCord)))
+          (prints-room table r end f (sets caps 0 cs) (sets grants 0 gs) q
+          ∙ printOf-front r f cs gs caps grants (whole .eachServer) (whole .eachCord)
+          (omega (arith, few .fewServers, whole .eachServer)) (omega (arith, few .fewCords, whole .eachCord)))
 
-      go : (o : Outcome) → plan table demands g c ≡ o → Accepted f ≡ answerOf o → grants' ≡ grantsAfter o grants → caps' ≡ capsAfter o caps
+      go : (o : Outcome) → plan table demands g c ≡ o → Accepted f ≡ answerOf o → grants' ≡ grantsAfter o grants
+          → caps' ≡ capsAfter o caps
           → planPrint f table caps' grants' ≡ stepText (checked table 0) demands
       go (plan.refused q) is e eg ec = let z : _≡_ {A = ℕ} 0 1 = cc in absurd (omega arith)
-      go (plan.accepted f' gs cs) is e eg ec = let same : f ≡ f' = cc in rw (same, eg, ec) (in-room f' gs cs is (checked table 0) refl)
+      go (plan.accepted f' gs cs) is e eg ec =
+          let same : f ≡ f' = cc in
+          rw (same, eg, ec) (in-room f' gs cs is (checked table 0) refl)
 
 -- ---- Read
 
 -- A refused sheet.
-pub sheet-refused : (sheet demands : List ℕ) (n : ℕ) {q : Refusal} → n ≡ mostWords → answer.Refused q ≡ read.answerOf (reading sheet n)
+pub sheet-refused : (sheet demands : List ℕ) (n : ℕ) {q : Refusal} → n ≡ mostWords
+    → answer.Refused q ≡ read.answerOf (reading sheet n)
     → sheetText sheet demands ≡ refusedLine (refusalNumber q) (refusalPlace q)
 unfolding sheetText
 sheet-refused sheet demands n {q} h e = go (reading sheet mostWords) (rw h at e)
   where
-    go : (o : read.Outcome) → answer.Refused q ≡ read.answerOf o → readText o demands ≡ refusedLine (refusalNumber q) (refusalPlace q)
+    go : (o : read.Outcome) → answer.Refused q ≡ read.answerOf o
+        → readText o demands ≡ refusedLine (refusalNumber q) (refusalPlace q)
     go (read.accepted words) e = let z : _≡_ {A = ℕ} 0 1 = cc in absurd (omega arith)
     go (read.refused p) e = let same : q ≡ p = cc in rw same
 
@@ -103,7 +131,8 @@ read-fits sheet n words e = go (sheetOf sheet .ending) e
     go (numbers.refused fault place) e = let z : _≡_ {A = ℕ} 0 1 = cc in absurd (omega arith)
 
 -- An accepted sheet: its words stand at the front of the list.
-pub sheet-accepted : (sheet demands list list' : List ℕ) {count : ℕ} → length list ≡ mostWords → answer.Accepted count ≡ read.answerOf (reading sheet (length list))
+pub sheet-accepted : (sheet demands list list' : List ℕ) {count : ℕ} → length list ≡ mostWords
+    → answer.Accepted count ≡ read.answerOf (reading sheet (length list))
     → list' ≡ read.after (reading sheet (length list)) list
     → (count ≤ length list') × (tableText (take count list') demands ≡ sheetText sheet demands)
 unfolding sheetText

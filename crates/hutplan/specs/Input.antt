@@ -1,20 +1,30 @@
--- What is read of standard input. No contract can say which bytes a call of the system reads; what is said is that the
--- demands are those of some text, every byte of which was read in its order.
+-- What is read of the file and of standard input.
+--
+-- The kit's contract of a read bounds the count of bytes and has no model of the file or the stream: it says neither which
+-- bytes were read nor whether more follow. So a contract here can only say that some file and some text agree with what
+-- stands in the buffers; that these are `room.bin` and standard input, read as far as they go, is seen in `main.rt`.
 use mathlib.Core.Path.{_≡_}
 use mathlib.Core.List.{List}
-use Prim.Native.Nat.{ℕ, min}
-use lib.ListN.{length}
-use lib.Seq.{sets}
+use Prim.Native.Nat.{ℕ}
+use lib.ListN.{take}
 use Rattle.demands.specs.Text.{demandsOf}
 use Rattle.demands.specs.Reading.{Held, fed}
+
+-- The most bytes of the file that are read.
+abbrev pub mostBytes : ℕ
+mostBytes = 32768
+
+-- A file was read: its first 32,768 bytes are the first bytes of the sheet, so many.
+pub record ReadFile (sheet : List ℕ) (bytes : ℕ) : Type 0 where
+  pub file : List ℕ
+  pub is : take bytes sheet ≡ take mostBytes file
 
 -- A reading after one more piece of the text, which may be empty.
 pub record FedPiece (before after : Held) : Type 0 where
   pub piece : List ℕ
   pub is : after ≡ fed before piece
 
--- The demands of some text at the front of a list, and how many they are.
-pub record ReadText (before after : List ℕ) (count : ℕ) : Type 0 where
+-- A text was read: its demands are the first words of the list, so many.
+pub record ReadText (list : List ℕ) (count : ℕ) : Type 0 where
   pub text : List ℕ
-  pub list : after ≡ sets before 0 (demandsOf text)
-  pub counted : count ≡ min (length (demandsOf text)) (length before)
+  pub is : take count list ≡ demandsOf text

@@ -1,3 +1,3 @@
 -- What a reader must believe of `hutplan`.
-pub mod Printed
 pub mod Input
+pub mod Printed

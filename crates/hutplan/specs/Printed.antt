@@ -1,7 +1,8 @@
 -- What `hutplan` prints, by the bytes of its file and the text of its standard input.
+use mathlib.Core.Path.{_≡_}
 use mathlib.Core.List.{List}
-use Prim.Native.Nat.{ℕ}
-use lib.ListN.{take}
+use Prim.Native.Nat.{ℕ, _≤_}
+use lib.ListN.{length, take}
 use Rattle.rooms.specs.Part.{Step, good, bad}
 use Rattle.rooms.specs.Table.{Room, mostServers, mostCords}
 use Rattle.rooms.specs.Limits.{checked}
@@ -9,13 +10,10 @@ use Rattle.rooms.specs.Outcome.{reading, refusalNumber, refusalPlace}
 use Rattle.rooms.specs.Outcome as read
 use Rattle.deals.specs.Plan.{planRoom, planRefusalNumber, planRefusalPlace}
 use Rattle.deals.specs.Plan as plan
-use Rattle.demands.specs.Text.{demandsOf}
+use Rattle.demands.specs.Text.{mostLines, demandsOf}
 use Rattle.print.specs.Line.{refusedLine}
 use Rattle.print.specs.Print.{printOf}
-
--- The most bytes of the file that are read.
-abbrev pub mostBytes : ℕ
-mostBytes = 32768
+use Rattle.hutplan.specs.Input.{mostBytes, ReadFile, ReadText}
 
 -- The most words of a table: 2 + 2 × 512 + 1 + 4 × 512 + 2 × 1,024.
 abbrev pub mostWords : ℕ
@@ -48,8 +46,20 @@ readText (read.refused refusal) demands = refusedLine (refusalNumber refusal) (r
 unfoldable pub sheetText : List ℕ → List ℕ → List ℕ
 sheetText sheet demands = readText (reading sheet mostWords) demands
 
--- What `hutplan` prints: of the file's first 32,768 bytes, and of the demands in its standard input.
--- (No contract can name the bytes that the system reads and writes. The program's functions are held to `demandsOf` and
--- `sheetText`, over whatever was read; that it reads the file and the input, and writes the result, is seen in `main`.)
+-- What `hutplan` prints, of the first 32,768 bytes of its file and the demands of its standard input.
 unfoldable pub printed : List ℕ → List ℕ → List ℕ
 printed file input = sheetText (take mostBytes file) (demandsOf input)
+
+-- What a run works in: space for 32,768 bytes of the file, for the demands of 513 lines, for the words of any table and for
+-- any print.
+abbrev pub Lent : List ℕ → List ℕ → List ℕ → List ℕ → Type 0
+Lent sheet demands table buffer =
+    (length sheet ≡ mostBytes) × (length demands ≡ mostLines) × (length table ≡ mostWords) × (mostText ≤ length buffer)
+
+-- A run: the file and the text that were read into the sheet and the list of demands, and what is printed of them.
+pub record Ran (sheet demands print : List ℕ) : Type 0 where
+  pub bytes : ℕ
+  pub count : ℕ
+  pub fromFile : ReadFile sheet bytes
+  pub fromInput : ReadText demands count
+  pub is : print ≡ printed (fromFile .file) (fromInput .text)

@@ -8,19 +8,23 @@ ghost use mathlib.Core.Path.{_≡_};
 ghost use Prim.Native.Nat.{_≤_};
 ghost use lib.ListN.{length, take};
 ghost use Rattle.io.specs.Counts.{Counts};
+ghost use Rattle.rooms.specs.Table.{mostServers, mostCords};
+ghost use Rattle.demands.specs.Text.{mostLines};
 ghost use Rattle.demands.specs.Reading.{held};
 ghost use Rattle.print.specs.Line.{Put};
-ghost use Rattle.hutplan.specs.Input.{FedPiece, ReadText};
-ghost use Rattle.hutplan.specs.Printed.{mostText, tableText, sheetText};
+ghost use Rattle.hutplan.specs.Input.{mostBytes, ReadFile, FedPiece, ReadText};
+ghost use Rattle.hutplan.specs.Printed.{mostWords, mostText, tableText, sheetText, Lent, Ran};
 
 // What one read of standard input leaves: the reading, and whether there may be more to read.
-pub struct Turn {
-    pub reading: Reading,
-    pub more: bool,
+struct Turn {
+    reading: Reading,
+    more: bool,
 }
 
-// The bytes of the room's sheet, as many as fit, at the front of the buffer; a missing file is empty.
+// The file's bytes, at most 32,768, at the front of the buffer; how many. A missing file is empty.
 fn read_sheet(sheet: &mut [u8]) -> usize
+    requires { ⌜ length (now sheet) ≡ mostBytes ⌝ }
+    ensures { λ r. ⌜ ReadFile (now (sheet .exit)) r ⌝ }
     ensures { λ r. ⌜ Counts r (now (sheet .exit)) ⌝ }
 {
     let file = os::open_read(b"room.bin");
@@ -54,7 +58,8 @@ fn read_piece(reading: Reading, list: &mut [u32]) -> Turn
 
 // The demands of standard input, at the front of the list; how many.
 fn read_demands(list: &mut [u32]) -> usize
-    ensures { λ r. ⌜ ReadText (now (list .entry)) (now (list .exit)) r ⌝ }
+    requires { ⌜ length (now list) ≡ mostLines ⌝ }
+    ensures { λ r. ⌜ ReadText (now (list .exit)) r ⌝ }
     ensures { λ r. ⌜ Counts r (now (list .exit)) ⌝ }
 {
     let mut reading = Reading::start();
@@ -81,8 +86,9 @@ fn print_table(
     caps: &mut [u32],
     buffer: &mut [u8],
 ) -> usize
-    requires { ⌜ (length (now grants) ≡ 1024) × (length (now caps) ≡ 512) ⌝ }
-    ensures { λ r. ⌜ Put (now (buffer .entry)) 0 (now (buffer .exit)) r (tableText (now (table .entry)) (now (demands .entry))) ⌝ }
+    requires { ⌜ (length (now grants) ≡ mostCords) × (length (now caps) ≡ mostServers) ⌝ }
+    ensures { λ r. ⌜ Put (now (buffer .entry)) 0 (now (buffer .exit)) r
+        (tableText (now (table .entry)) (now (demands .entry))) ⌝ }
     ensures { λ r. ⌜ Counts r (now (buffer .exit)) ⌝ }
 {
     let planned = deals::plan(table, demands, grants, caps);
@@ -94,7 +100,7 @@ fn print_table(
 
 // The print of a sheet with demands, whole, by way of a list for the words of any table.
 fn print_sheet(sheet: &[u8], demands: &[u32], table: &mut [u32], buffer: &mut [u8]) -> usize
-    requires { ⌜ (length (now table) ≡ 5123) × (mostText ≤ length (now buffer)) ⌝ }
+    requires { ⌜ (length (now table) ≡ mostWords) × (mostText ≤ length (now buffer)) ⌝ }
     ensures { λ r. ⌜ take r (now (buffer .exit)) ≡ sheetText (now (sheet .entry)) (now (demands .entry)) ⌝ }
     ensures { λ r. ⌜ Counts r (now (buffer .exit)) ⌝ }
 {
@@ -110,13 +116,22 @@ fn print_sheet(sheet: &[u8], demands: &[u32], table: &mut [u32], buffer: &mut [u
     print_table(&table[..count], demands, &mut grants, &mut caps, buffer)
 }
 
+// Reads the file and standard input, and puts what is printed at the front of the buffer; how many bytes.
+fn run(sheet: &mut [u8], demands: &mut [u32], table: &mut [u32], buffer: &mut [u8]) -> usize
+    requires { ⌜ Lent (now sheet) (now demands) (now table) (now buffer) ⌝ }
+    ensures { λ r. ⌜ Ran (now (sheet .exit)) (now (demands .exit)) (take r (now (buffer .exit))) ⌝ }
+    ensures { λ r. ⌜ Counts r (now (buffer .exit)) ⌝ }
+{
+    let bytes = read_sheet(sheet);
+    let count = read_demands(demands);
+    print_sheet(&sheet[..bytes], &demands[..count], table, buffer)
+}
+
 fn main() {
     let mut sheet = [0u8; 32768];
-    let bytes = read_sheet(&mut sheet);
     let mut demands = [0u32; 513];
-    let count = read_demands(&mut demands);
     let mut table = [0u32; 5123];
     let mut buffer = io::large_buffer();
-    let length = print_sheet(&sheet[..bytes], &demands[..count], &mut table, &mut buffer);
+    let length = run(&mut sheet, &mut demands, &mut table, &mut buffer);
     io::write_all(STDOUT_FILENO, &buffer[..length]);
 }

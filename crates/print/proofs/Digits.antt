@@ -44,7 +44,8 @@ digits-numeral (suc (suc j)) (suc most) n l h =
     let m : suc j ≤ most = omega arith in
     let e : suc (suc j) - 1 ≡ suc j = omega arith in
     let big : 10 ≤ n = ten j n (rw e at (h .2 (omega arith))) in
-    rw (last-digit n, le-ltb _ _ big) (ap (λ (s : List ℕ). s ++ ((48 + n % 10) ∷ [])) (digits-numeral (suc j) most (n / 10) m (fewest-rest n j h)))
+    rw (last-digit n, le-ltb _ _ big)
+    (ap (λ (s : List ℕ). s ++ ((48 + n % 10) ∷ [])) (digits-numeral (suc j) most (n / 10) m (fewest-rest n j h)))
 
 -- A number of 64 bits has at most 20 digits.
 twenty : (n k : ℕ) → Fewest 10 1 n k → n < 2 ^ 64 → k ≤ 20

@@ -4,4 +4,4 @@ pub mod Digits
 pub mod Turns
 pub mod Room
 pub mod Size
-pub mod Examples
+pub mod Promises

@@ -27,7 +27,8 @@ sets-on l i s t = go (leb (i + length s) (length l)) refl
     size : length (sets l i s) ≡ length l
     size = length-sets l i s
 
-    go : (test : Bool) → leb (i + length s) (length l) ≡ test → sets (sets l i s) (min (i + length s) (length l)) t ≡ sets l i (s ++ t)
+    go : (test : Bool) → leb (i + length s) (length l) ≡ test
+        → sets (sets l i s) (min (i + length s) (length l)) t ≡ sets l i (s ++ t)
     go true e =
         let fits : i + length s ≤ length l = leb-true _ _ e in
         let next : min (i + length s) (length l) ≡ i + length s = omega arith in
@@ -95,7 +96,8 @@ copying-next text a at b i g h k =
       size = length-set b (at + i) (getD text i 0) ∙ g .size;
     }
 
-pub copying-last : (text a : List ℕ) (at : ℕ) (b : List ℕ) (i r : ℕ) → Copying text a at b i → min (length text) (length a - at) ≤ i → r ≡ at + i → Put a at b r text
+pub copying-last : (text a : List ℕ) (at : ℕ) (b : List ℕ) (i r : ℕ) → Copying text a at b i
+    → min (length text) (length a - at) ≤ i → r ≡ at + i → Put a at b r text
 copying-last text a at b i r g h e =
     record {
       bytes = g .bytes ∙ rest (leb (length text) i) refl;
@@ -107,7 +109,9 @@ copying-last text a at b i r g h e =
     rest false e =
         let over = leb-false (length text) i e in
         let n : length (take i text) ≡ i = length-take-le i text (g .bound) in
-        sym (sets-past (sets a at (take i text)) (at + length (take i text)) (drop i text) (omega (arith, length-sets a at (take i text), g .within)))
+        sym
+        (sets-past (sets a at (take i text)) (at + length (take i text)) (drop i text)
+        (omega (arith, length-sets a at (take i text), g .within)))
         ∙ sym (sets-append a at (take i text) (drop i text)) ∙ ap (sets a at) (take-append-drop i text)
 
 -- ---- loops over lines

@@ -1,20 +1,17 @@
--- The print of a good table, by the walk over its words, is the print of its room.
+-- The walk over a good table's words prints the servers of its room; and figures past those of the room make no difference.
 use mathlib.Core.Path.{_≡_, refl, sym, ap, _∙_}
 use mathlib.Core.List.{List, [], _∷_, _++_}
-use Prim.Native.Nat.{ℕ, zero, suc, _+_, _*_, _≤_, _<_, min}
+use Prim.Native.Nat.{ℕ, zero, suc, _+_, _*_, _≤_, _<_}
 use native.Mathlib.Omega.{arith}
 use lib.ListN.{length, getD}
 use lib.Seq.{sets, getD-take, take-length}
 use Rattle.words.proofs.Lists.{take-sets}
 use Rattle.rooms.specs.Part.{good, many, total}
-use Rattle.rooms.specs.Table.{Cord, Server, Room, mostServers, cord, cords, server, servers, cordCount, roomCords}
-use Rattle.rooms.specs.Limits.{checked}
+use Rattle.rooms.specs.Table.{Cord, Server, Room, cord, cords, server, servers, cordCount, roomCords}
 use Rattle.rooms.proofs.Inversion.{cord-is, server-is, many-is}
-use Rattle.rooms.proofs.Whole.{checked-is}
-use Rattle.rooms.proofs.Found.{layout}
 use Rattle.print.specs.Line.{freedLine, serverLine, cordLine}
 use Rattle.print.specs.Print.{linesFrom, at, nodeAt, serverPrint, serversPrint, printOf}
-use Rattle.print.specs.Walk.{cordsAt, serversAt, serverCount, planPrint}
+use Rattle.print.specs.Walk.{cordsAt, serversAt}
 
 -- ---- the cords of a server
 
@@ -23,7 +20,8 @@ record CordsAre (count : ℕ) (w : List ℕ) (i : ℕ) (l : List Cord) (j : ℕ)
   next : j ≡ i + 2 * count
   nodes : (k : ℕ) → k < count → nodeAt l k ≡ at w (i + 2 * k)
 
-cords-are : (nodeCount count : ℕ) (w : List ℕ) (i : ℕ) (l : List Cord) (j : ℕ) → cords nodeCount count w i ≡ good l j → CordsAre count w i l j
+cords-are : (nodeCount count : ℕ) (w : List ℕ) (i : ℕ) (l : List Cord) (j : ℕ) → cords nodeCount count w i ≡ good l j
+    → CordsAre count w i l j
 unfolding many
 cords-are nodeCount zero w i l j e =
     let y : i ≡ j = cc in
@@ -31,9 +29,11 @@ cords-are nodeCount zero w i l j e =
 cords-are nodeCount (suc count) w i l j e =
     let m = many-is count (λ _. cord nodeCount) (λ given _. given) 0 w i l j e in
     let first = cord-is nodeCount w i (m .got) (m .at) (m .first) in
-    joined (m .got) (m .rest) (m .at) (m .is) (ap (λ (c : Cord). c .node) (first .is)) (first .next) (cords-are nodeCount count w (m .at) (m .rest) j (m .others))
+    joined (m .got) (m .rest) (m .at) (m .is) (ap (λ (c : Cord). c .node) (first .is)) (first .next)
+    (cords-are nodeCount count w (m .at) (m .rest) j (m .others))
   where
-    joined : (c : Cord) (rest : List Cord) (h : ℕ) → l ≡ c ∷ rest → c .node ≡ getD w i 0 → h ≡ suc (suc i) → CordsAre count w h rest j → CordsAre (suc count) w i l j
+    joined : (c : Cord) (rest : List Cord) (h : ℕ) → l ≡ c ∷ rest → c .node ≡ getD w i 0 → h ≡ suc (suc i)
+        → CordsAre count w h rest j → CordsAre (suc count) w i l j
     joined c rest h is node next r = record { next = omega (arith, r .next); nodes = λ k inside. rw is (by k inside) }
       where
         by : (k : ℕ) → k < suc count → nodeAt (c ∷ rest) k ≡ at w (i + 2 * k)
@@ -45,7 +45,8 @@ cords-are nodeCount (suc count) w i l j e =
             rw z (r .nodes k (omega arith))
 
 -- Lines that are the same at each place.
-linesFrom-same : (f g : ℕ → List ℕ) (count k : ℕ) → ((m : ℕ) → m < k + count → f m ≡ g m) → linesFrom count k f ≡ linesFrom count k g
+linesFrom-same : (f g : ℕ → List ℕ) (count k : ℕ) → ((m : ℕ) → m < k + count → f m ≡ g m)
+    → linesFrom count k f ≡ linesFrom count k g
 unfolding linesFrom
 linesFrom-same f g zero k same = refl
 linesFrom-same f g (suc count) k same =
@@ -62,7 +63,8 @@ serverPrint-same number cap count node node' grant same =
 -- ---- the servers
 
 module _ (w caps grants : List ℕ) where
-  serversAt-servers : (nodeCount left before i v c : ℕ) (ss : List Server) (j : ℕ) → servers nodeCount left before w i ≡ good ss j
+  pub serversAt-servers : (nodeCount left before i v c : ℕ) (ss : List Server) (j : ℕ)
+      → servers nodeCount left before w i ≡ good ss j
       → serversAt w caps grants left v c i ≡ serversPrint caps grants v c ss
   unfolding many serversAt serversPrint
   serversAt-servers nodeCount zero before i v c ss j e =
@@ -80,19 +82,11 @@ module _ (w caps grants : List ℕ) where
       rw (
         m .is,
         count,
-        serverPrint-same (v + 1) (at caps v) (length l) (λ k. at w (i + 4 + 2 * k)) (nodeAt l) (λ k. at grants (c + k)) (λ k h. rw four (sym (cs .nodes k (rw (load .count) at h)))),
+        serverPrint-same (v + 1) (at caps v) (length l) (λ k. at w (i + 4 + 2 * k)) (nodeAt l) (λ k. at grants (c + k))
+            (λ k h. rw four (sym (cs .nodes k (rw (load .count) at h)))),
         past,
         serversAt-servers nodeCount left (before + cordCount (m .got)) (m .at) (v + 1) (c + length l) (m .rest) j (m .others),
       )
-
--- The print of a good table is that of its room.
-pub planPrint-room : (w : List ℕ) (r : Room) (j : ℕ) (freed : ℕ) (caps grants : List ℕ) → checked w 0 ≡ good r j
-    → planPrint freed w caps grants ≡ printOf freed (r .servers) caps grants
-unfolding planPrint printOf
-planPrint-room w r j freed caps grants e =
-    let laid = layout w r j (getD w 1 0) refl (checked-is w r j e .0) in
-    let all : min (at w (serverCount w)) mostServers ≡ at w (serverCount w) = omega (arith, laid .servers-most) in
-    rw all (ap (λ (l : List ℕ). freedLine freed ++ l) (serversAt-servers w caps grants _ _ 0 _ 0 0 (r .servers) j (laid .servers-are)))
 
 -- ---- figures past those of the room make no difference
 
@@ -103,20 +97,25 @@ module _ (caps caps' grants grants' : List ℕ) where
   unfolding serversPrint serverPrint total
   serversPrint-same v c [] h k = refl
   serversPrint-same v c (s ∷ ss) h k =
-      let cord = linesFrom-same (λ m. cordLine (m + 1) (nodeAt (s .cords) m) (at grants (c + m))) (λ m. cordLine (m + 1) (nodeAt (s .cords) m) (at grants' (c + m))) (cordCount s) 0 one in
+      let cord = linesFrom-same (line grants) (line grants') (cordCount s) 0 one in
       let rest = serversPrint-same (v + 1) (c + cordCount s) ss (λ m l. h m (omega arith)) (λ m l. k m (omega arith)) in
       rw (h v (omega arith), cord, rest)
     where
-      one : (m : ℕ) → m < 0 + cordCount s → cordLine (m + 1) (nodeAt (s .cords) m) (at grants (c + m)) ≡ cordLine (m + 1) (nodeAt (s .cords) m) (at grants' (c + m))
+      line : List ℕ → ℕ → List ℕ
+      line figures m = cordLine (m + 1) (nodeAt (s .cords) m) (at figures (c + m))
+
+      one : (m : ℕ) → m < 0 + cordCount s → line grants m ≡ line grants' m
       one m l = ap (cordLine (m + 1) (nodeAt (s .cords) m)) (k (c + m) (omega arith))
 
 -- What stands at the front of a list that has it there.
-at-front : (list output : List ℕ) (k : ℕ) → k < length output → length output ≤ length list → at (sets list 0 output) k ≡ at output k
+at-front : (list output : List ℕ) (k : ℕ) → k < length output → length output ≤ length list
+    → at (sets list 0 output) k ≡ at output k
 at-front list output k h l =
     sym (getD-take (length output) (sets list 0 output) k 0 h) ∙ rw (take-sets (length output) list output l (omega arith), take-length output)
 
 -- The print of a plan whose figures stand at the front of longer lists.
-pub printOf-front : (r : Room) (freed : ℕ) (caps grants list list' : List ℕ) → length caps ≡ length (r .servers) → length grants ≡ roomCords r
+pub printOf-front : (r : Room) (freed : ℕ) (caps grants list list' : List ℕ) → length caps ≡ length (r .servers)
+    → length grants ≡ roomCords r
     → length caps ≤ length list → length grants ≤ length list'
     → printOf freed (r .servers) (sets list 0 caps) (sets list' 0 grants) ≡ printOf freed (r .servers) caps grants
 unfolding printOf

@@ -21,9 +21,11 @@ length-numeral : (k most n : ℕ) → n < 10 ^ suc k → length (numeral most n)
 unfolding numeral
 length-numeral k zero n h = omega arith
 length-numeral zero (suc most) n h = rw (lt-ltb n 10 h) (omega arith)
-length-numeral (suc k) (suc most) n h = go (ltb n 10) (length-numeral k most (n / 10) (div-lt-iff-lt-mul (zero-lt-suc 9) .1 (rw (pow-suc 10 (suc k)) at h)))
+length-numeral (suc k) (suc most) n h =
+    go (ltb n 10) (length-numeral k most (n / 10) (div-lt-iff-lt-mul (zero-lt-suc 9) .1 (rw (pow-suc 10 (suc k)) at h)))
   where
-    go : (test : Bool) → length (numeral most (n / 10)) ≤ suc k → length (cond test ((48 + n) ∷ []) (numeral most (n / 10) ++ ((48 + n % 10) ∷ []))) ≤ suc (suc k)
+    go : (test : Bool) → length (numeral most (n / 10)) ≤ suc k
+        → length (cond test ((48 + n) ∷ []) (numeral most (n / 10) ++ ((48 + n % 10) ∷ []))) ≤ suc (suc k)
     go true rec = omega arith
     go false rec = omega (arith, length-append (numeral most (n / 10)) ((48 + n % 10) ∷ []))
 
@@ -33,7 +35,8 @@ unfolding numeral
 length-most zero n = omega arith
 length-most (suc most) n = go (ltb n 10) (length-most most (n / 10))
   where
-    go : (test : Bool) → length (numeral most (n / 10)) ≤ most → length (cond test ((48 + n) ∷ []) (numeral most (n / 10) ++ ((48 + n % 10) ∷ []))) ≤ suc most
+    go : (test : Bool) → length (numeral most (n / 10)) ≤ most
+        → length (cond test ((48 + n) ∷ []) (numeral most (n / 10) ++ ((48 + n % 10) ∷ []))) ≤ suc most
     go true rec = omega arith
     go false rec = omega (arith, length-append (numeral most (n / 10)) ((48 + n % 10) ∷ []))
 
@@ -51,12 +54,14 @@ length-serverLine : (number cap : ℕ) → number < 10 ^ 3 → cap < 10 ^ 10 →
 unfolding serverLine
 length-serverLine number cap h k = simp length-append (omega (arith, length-numeral 2 20 number h, length-numeral 9 20 cap k))
 
-length-cordLine : (number node grant : ℕ) → number < 10 ^ 1 → node < 10 ^ 3 → grant < 10 ^ 10 → length (cordLine number node grant) ≤ 33
+length-cordLine : (number node grant : ℕ) → number < 10 ^ 1 → node < 10 ^ 3 → grant < 10 ^ 10
+    → length (cordLine number node grant) ≤ 33
 unfolding cordLine
 length-cordLine number node grant h k l =
     simp length-append (omega (arith, length-numeral 0 20 number h, length-numeral 2 20 node k, length-numeral 9 20 grant l))
 
-length-linesFrom : (most : ℕ) (line : ℕ → List ℕ) (count k : ℕ) → ((m : ℕ) → m < k + count → length (line m) ≤ most) → length (linesFrom count k line) ≤ most * count
+length-linesFrom : (most : ℕ) (line : ℕ → List ℕ) (count k : ℕ) → ((m : ℕ) → m < k + count → length (line m) ≤ most)
+    → length (linesFrom count k line) ≤ most * count
 unfolding linesFrom
 length-linesFrom most line zero k h = omega arith
 length-linesFrom most line (suc count) k h =
@@ -70,7 +75,9 @@ length-linesFrom most line (suc count) k h =
 
 -- ---- the servers
 
-module _ (caps grants : List ℕ) (below : AllBelow (2 ^ 32) caps) (below' : AllBelow (2 ^ 32) grants) (nodeCount : ℕ) (few : nodeCount ≤ mostNodes) where
+module _
+    (caps grants : List ℕ) (below : AllBelow (2 ^ 32) caps) (below' : AllBelow (2 ^ 32) grants)
+    (nodeCount : ℕ) (few : nodeCount ≤ mostNodes) where
   length-serverPrint : (v c : ℕ) (s : Server) → v < mostServers → ServerAccepted nodeCount s
       → length (serverPrint (v + 1) (at caps v) (cordCount s) (nodeAt (s .cords)) (λ k. at grants (c + k))) ≤ 26 + 33 * cordCount s
   unfolding serverPrint
@@ -83,7 +90,8 @@ module _ (caps grants : List ℕ) (below : AllBelow (2 ^ 32) caps) (below' : All
       cord k h =
           let there : k < cordCount s = omega arith in
           let is = all-at _ (s .cords) (a .cords) k (record { node = 0; share = 0 }) there in
-          length-cordLine (k + 1) (nodeAt (s .cords) k) (at grants (c + k)) (omega (arith, a .fewCords)) (omega (arith, is .nodeTo)) (omega (arith, below' (c + k)))
+          length-cordLine (k + 1) (nodeAt (s .cords) k) (at grants (c + k))
+          (omega (arith, a .fewCords)) (omega (arith, is .nodeTo)) (omega (arith, below' (c + k)))
 
   length-serversPrint : (v c : ℕ) (ss : List Server) → v + length ss ≤ mostServers → All (ServerAccepted nodeCount) ss
       → length (serversPrint caps grants v c ss) ≤ 26 * length ss + 33 * total cordCount ss
@@ -95,10 +103,13 @@ module _ (caps grants : List ℕ) (below : AllBelow (2 ^ 32) caps) (below' : All
       simp length-append (omega arith)
 
 -- The print of an accepted room, with words for figures and 64 bits of freed watts.
-pub length-printOf : (r : Room) (freed : ℕ) (caps grants : List ℕ) → Accepted r → freed < 2 ^ 64 → AllBelow (2 ^ 32) caps → AllBelow (2 ^ 32) grants
+pub length-printOf : (r : Room) (freed : ℕ) (caps grants : List ℕ) → Accepted r → freed < 2 ^ 64 → AllBelow (2 ^ 32) caps
+    → AllBelow (2 ^ 32) grants
     → length (printOf freed (r .servers) caps grants) ≤ 47131
 unfolding printOf
 length-printOf r freed caps grants a h below below' =
     let first = length-freedLine freed (omega arith) in
-    let rest = length-serversPrint caps grants below below' (length (r .nodes)) (a .fewNodes) 0 0 (r .servers) (omega (arith, a .fewServers)) (a .servers) in
+    let rest =
+    length-serversPrint caps grants below below' (length (r .nodes)) (a .fewNodes) 0 0 (r .servers)
+    (omega (arith, a .fewServers)) (a .servers) in
     simp length-append (omega (arith, a .fewServers, a .fewCords))

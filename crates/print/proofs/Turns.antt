@@ -5,9 +5,9 @@ use Prim.Native.Nat.{ℕ, suc, _+_, _-_, _*_, _^_, _≤_, _<_, min}
 use native.Mathlib.Omega.{arith}
 use lib.ListN.{length}
 use Rattle.rooms.specs.Table.{mostServers}
-use Rattle.print.specs.Line.{serverLine, cordLine, Put}
+use Rattle.print.specs.Line.{serverLine, Put}
 use Rattle.print.specs.Print.{linesFrom, at, serverPrint}
-use Rattle.print.specs.Walk.{cordsAt, serversAt, serverCount}
+use Rattle.print.specs.Walk.{cordLineAt, cordsAt, serversAt, serverCount, walkPrint}
 use Rattle.print.proofs.Putting.{then, put-size, Putting, putting-first, putting-next, putting-last}
 
 -- ---- lines by place
@@ -38,10 +38,6 @@ module _ (line : ℕ → List ℕ) where
 
 -- ---- servers
 
--- The line of the cord at place k of those whose words start at an index and whose grants start at a place.
-abbrev pub cordLineAt : List ℕ → List ℕ → ℕ → ℕ → ℕ → List ℕ
-cordLineAt table grants index first k = cordLine (k + 1) (at table (index + 2 * k)) (at grants (first + k))
-
 -- The walk over the servers, at its place v: what is put, followed by the servers that are left, is the whole; the index
 -- and the first grant are no further than so many servers can take them.
 pub record Walking (table caps grants a : List ℕ) (start count index₀ : ℕ) (b : List ℕ) (index first next v : ℕ) : Type 0 where
@@ -70,7 +66,8 @@ module _ (table caps grants a : List ℕ) (start count index₀ : ℕ) where
   pub walking-next : (b : List ℕ) (index first next v : ℕ) {b' b'' : List ℕ} {line past cap cords : ℕ}
       → Walking table caps grants a start count index₀ b index first next v → v < count
       → cap ≡ at caps v → cords ≡ cordsAt table index
-      → Put b next b' line (serverLine (v + 1) cap) → Put b' line b'' past (linesFrom cords 0 (cordLineAt table grants (index + 4) first))
+      → Put b next b' line (serverLine (v + 1) cap)
+      → Put b' line b'' past (linesFrom cords 0 (cordLineAt table grants (index + 4) first))
       → Walking table caps grants a start count index₀ b'' (index + 4 + 2 * cords) (first + cords) past (v + 1)
   unfolding serversAt serverPrint
   walking-next b index first next v {b'} {b''} {line} {past} {cap} {cords} g h ec es p q =
@@ -89,7 +86,7 @@ module _ (table caps grants a : List ℕ) (start count index₀ : ℕ) where
 pub walked : {table caps grants a : List ℕ} {start count place said : ℕ} {b : List ℕ} {index first next v : ℕ}
     → Walking table caps grants a start count (place + 1) b index first next v → count ≤ v
     → place ≡ serverCount table → said ≡ at table place → count ≡ min said mostServers
-    → Put a start b next (serversAt table caps grants (min (at table (serverCount table)) mostServers) 0 0 (serverCount table + 1))
+    → Put a start b next (walkPrint table caps grants)
 unfolding serversAt
 walked {count = count} {v = v} g h ep es ec =
     let none : count - v ≡ 0 = omega arith in

@@ -2,3 +2,4 @@
 pub mod Line
 pub mod Print
 pub mod Walk
+pub mod Promises

@@ -54,7 +54,8 @@ serverLine number cap = serverWord ++ (decimal number ++ (capWord ++ (decimal ca
 
 -- `cord K node M grant G`.
 unfoldable pub cordLine : ℕ → ℕ → ℕ → List ℕ
-cordLine number node grant = cordWord ++ (decimal number ++ (nodeWord ++ (decimal node ++ (grantWord ++ (decimal grant ++ newline)))))
+cordLine number node grant =
+    cordWord ++ (decimal number ++ (nodeWord ++ (decimal node ++ (grantWord ++ (decimal grant ++ newline)))))
 
 -- `refused R at P`.
 unfoldable pub refusedLine : ℕ → ℕ → List ℕ

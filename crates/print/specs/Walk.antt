@@ -1,11 +1,15 @@
--- The print of a plan, by a walk over the words of the table. Of a good table it is the print of its room (proofs/Room).
+-- The print of a plan, by a walk over the words of the table. Of a good table it is the print of its room (Promises).
 -- These definitions hold for every list of words: a word that is missing counts as 0, and no more servers and cords are
 -- printed than a room and a server may have.
 use mathlib.Core.List.{List, [], _++_}
 use Prim.Native.Nat.{ℕ, zero, suc, _+_, _*_, min}
 use Rattle.rooms.specs.Table.{mostServers, mostServerCords}
-use Rattle.print.specs.Line.{freedLine}
+use Rattle.print.specs.Line.{freedLine, cordLine}
 use Rattle.print.specs.Print.{at, serverPrint}
+
+-- The line of the cord at place k of those whose words start at an index and whose grants start at place c.
+abbrev pub cordLineAt : List ℕ → List ℕ → ℕ → ℕ → ℕ → List ℕ
+cordLineAt table grants index c k = cordLine (k + 1) (at table (index + 2 * k)) (at grants (c + k))
 
 -- The count of cords of the server whose rank stands at an index.
 abbrev pub cordsAt : List ℕ → ℕ → ℕ
@@ -22,7 +26,11 @@ serversAt table caps grants (suc left) v c i =
 abbrev pub serverCount : List ℕ → ℕ
 serverCount table = 2 + 2 * at table 1
 
+-- All servers.
+abbrev pub walkPrint : List ℕ → List ℕ → List ℕ → List ℕ
+walkPrint table caps grants =
+    serversAt table caps grants (min (at table (serverCount table)) mostServers) 0 0 (serverCount table + 1)
+
 -- The print of a plan.
 unfoldable pub planPrint : ℕ → List ℕ → List ℕ → List ℕ → List ℕ
-planPrint freed table caps grants =
-    freedLine freed ++ serversAt table caps grants (min (at table (serverCount table)) mostServers) 0 0 (serverCount table + 1)
+planPrint freed table caps grants = freedLine freed ++ walkPrint table caps grants

@@ -5,7 +5,7 @@ ghost use lib.ListN.{length};
 ghost use Rattle.io.specs.Counts.{Counts};
 ghost use Rattle.print.specs.Line.{decimal, freedLine, serverLine, cordLine, refusedLine, Put};
 ghost use Rattle.print.specs.Print.{linesFrom, at};
-ghost use Rattle.print.specs.Walk.{serverCount, serversAt, planPrint};
+ghost use Rattle.print.specs.Walk.{cordLineAt, walkPrint, planPrint};
 
 // The most servers of a room, and the most cords of a server.
 const MOST_SERVERS: usize = 512;
@@ -14,7 +14,8 @@ const MOST_SERVER_CORDS: usize = 4;
 
 // The print of a plan, at the front of the buffer: as much as fits. The result is how many bytes that is.
 pub fn plan(freed: u64, table: &[u32], caps: &[u32], grants: &[u32], buffer: &mut [u8]) -> usize
-    ensures { λ r. ⌜ Put (now (buffer .entry)) 0 (now (buffer .exit)) r (planPrint freed (now (table .entry)) (now (caps .entry)) (now (grants .entry))) ⌝ }
+    ensures { λ r. ⌜ Put (now (buffer .entry)) 0 (now (buffer .exit)) r
+        (planPrint freed (now (table .entry)) (now (caps .entry)) (now (grants .entry))) ⌝ }
     ensures { λ r. ⌜ Counts r (now (buffer .exit)) ⌝ }
 {
     let next = put_freed(freed as usize, buffer, 0);
@@ -42,7 +43,8 @@ fn put_servers(
     start: usize,
 ) -> usize
     requires { ⌜ start ≤ length (now buffer) ⌝ }
-    ensures { λ r. ⌜ Put (now (buffer .entry)) start (now (buffer .exit)) r (serversAt (now (table .entry)) (now (caps .entry)) (now (grants .entry)) (min (at (now (table .entry)) (serverCount (now (table .entry)))) 512) 0 0 (serverCount (now (table .entry)) + 1)) ⌝ }
+    ensures { λ r. ⌜ Put (now (buffer .entry)) start (now (buffer .exit)) r
+        (walkPrint (now (table .entry)) (now (caps .entry)) (now (grants .entry))) ⌝ }
 {
     let place = 2 + 2 * word(table, 1);
     let count = least(word(table, place), MOST_SERVERS);
@@ -71,7 +73,8 @@ fn put_cords(
     start: usize,
 ) -> usize
     requires { ⌜ (count ≤ 4) × (index < 2 ^ 34) × (first < 2 ^ 34) × (start ≤ length (now buffer)) ⌝ }
-    ensures { λ r. ⌜ Put (now (buffer .entry)) start (now (buffer .exit)) r (linesFrom count 0 (λ k. cordLine (k + 1) (at (now (table .entry)) (index + 2 * k)) (at (now (grants .entry)) (first + k)))) ⌝ }
+    ensures { λ r. ⌜ Put (now (buffer .entry)) start (now (buffer .exit)) r
+        (linesFrom count 0 (cordLineAt (now (table .entry)) (now (grants .entry)) index first)) ⌝ }
 {
     let mut next = start;
     for k in 0..count {

@@ -39,22 +39,28 @@ returns c =
     let answered = known .before .before .before .before in
     let start = answered .before .before .before .before .before .before in
     let args = start .args in
-    let is = sheet-refused (args .sheet .now) (args .demands .now) _ (start .pre .0) (sym (known .answer2 .given .1) ∙ answered .read .ensures .0) in
-    (whole _ _ (rw (put .before .before .before .number .ensures, put .before .before .place .ensures, ← is) at (put .refusal .ensures .0)) (start .pre .1), put .refusal .ensures .1)
+    let refused = sym (known .answer2 .given .1) ∙ answered .read .ensures .0 in
+    let is = sheet-refused (args .sheet .now) (args .demands .now) _ (start .pre .0) refused in
+    let number = put .before .before .before .number .ensures in
+    let place = put .before .before .place .ensures in
+    (whole _ _ (rw (number, place, ← is) at (put .refusal .ensures .0)) (start .pre .1), put .refusal .ensures .1)
 
 slice-reshare-prefix-print-table : tie.Need-slice-reshare-prefix-print-table
 slice-reshare-prefix-print-table c =
     let known = c .before in
     let answered = known .before .before .before .before in
     let start = answered .before .before .before .before .before .before in
-    sheet-accepted (start .args .sheet .now) [] (start .args .table .now) _ (start .pre .0) (sym (known .answer .given .1) ∙ answered .read .ensures .0) (answered .read .ensures .1) .0
+    let count = sym (known .answer .given .1) ∙ answered .read .ensures .0 in
+    sheet-accepted (start .args .sheet .now) [] (start .args .table .now) _ (start .pre .0) count (answered .read .ensures .1) .0
 
 slice-aggregate-print-table : tie.Need-slice-aggregate-print-table
 slice-aggregate-print-table c =
     let known = c .before .before in
     let answered = known .before .before .before .before in
     let start = answered .before .before .before .before .before .before in
-    let fits = sheet-accepted (start .args .sheet .now) [] (start .args .table .now) _ (start .pre .0) (sym (known .answer .given .1) ∙ answered .read .ensures .0) (answered .read .ensures .1) .0 in
+    let count = sym (known .answer .given .1) ∙ answered .read .ensures .0 in
+    let args = start .args in
+    let fits = sheet-accepted (args .sheet .now) [] (args .table .now) _ (start .pre .0) count (answered .read .ensures .1) .0 in
     sym (length-take-le _ _ fits)
 
 slice-aggregate-print-table-2 : tie.Need-slice-aggregate-print-table-2
@@ -78,7 +84,11 @@ returns-2 c =
     let known = put .before .before .before .before .before .before in
     let answered = known .before .before .before .before in
     let start = answered .before .before .before .before .before .before in
-    let is = sheet-accepted (start .args .sheet .now) (start .args .demands .now) (start .args .table .now) _ (start .pre .0) (sym (known .answer .given .1) ∙ answered .read .ensures .0) (answered .read .ensures .1) .1 in
+    let args = start .args in
+    let count = sym (known .answer .given .1) ∙ answered .read .ensures .0 in
+    let is =
+    sheet-accepted (args .sheet .now) (args .demands .now) (args .table .now) _ (start .pre .0) count
+    (answered .read .ensures .1) .1 in
     (whole _ _ (rw is at (put .print-table .ensures .0)) (start .pre .1), put .print-table .ensures .1)
 
 pub print-sheet-spec : {M : Type 1} → statement M

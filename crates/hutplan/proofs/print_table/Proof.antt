@@ -1,6 +1,6 @@
 -- `print_table` meets its contract: what is printed of each answer of Plan is what the definition gives.
 use mathlib.Core.Path.{refl, sym, _∙_}
-use Rattle.hutplan.proofs.Prints.{table-refused, table-accepted}
+use Rattle.hutplan.proofs.Prints.{put-as, table-refused, table-accepted}
 use borrow.Author.Needs.{needs}
 use Rattle.hutplan.proofs.print_table.Statement.{statement}
 use Rattle.hutplan.proofs.print_table.Tie as tie
@@ -43,8 +43,10 @@ returns c =
     let start = planned .before .before .before .before .before .before .before .before in
     let args = start .args in
     let said = planned .plan .ensures in
-    let is = table-accepted (args .table .now) (args .demands .now) _ _ (args .grants .now) (args .caps .now) _ _ refl refl (start .pre .0) (start .pre .1) (sym (known .planned .given .1) ∙ said .0) (said .1 .0) (said .1 .1) in
-    (rw is at (put .plan2 .ensures .0), put .plan2 .ensures .1)
+    let is =
+    table-accepted (args .table .now) (args .demands .now) _ _ (args .grants .now) (args .caps .now) _ _ refl refl
+    (start .pre .0) (start .pre .1) (sym (known .planned .given .1) ∙ said .0) (said .1 .0) (said .1 .1) in
+    (put-as is (put .plan2 .ensures .0), put .plan2 .ensures .1)
 
 same-length-4 : tie.Need-same-length-4
 same-length-4 c = search needs
@@ -62,8 +64,11 @@ returns-2 c =
     let planned = known .before .before .before .before .before .before in
     let start = planned .before .before .before .before .before .before .before .before in
     let args = start .args in
-    let is = table-refused (args .table .now) (args .demands .now) _ _ (start .pre .0) (start .pre .1) (sym (known .planned2 .given .1) ∙ planned .plan .ensures .0) in
-    (rw (put .before .before .before .number .ensures, put .before .before .place .ensures, ← is) at (put .refusal .ensures .0), put .refusal .ensures .1)
+    let refused = sym (known .planned2 .given .1) ∙ planned .plan .ensures .0 in
+    let is = table-refused (args .table .now) (args .demands .now) _ _ (start .pre .0) (start .pre .1) refused in
+    let number = put .before .before .before .number .ensures in
+    let place = put .before .before .place .ensures in
+    (rw (number, place, ← is) at (put .refusal .ensures .0), put .refusal .ensures .1)
 
 pub print-table-spec : {M : Type 1} → statement M
 print-table-spec =

@@ -10,7 +10,8 @@ use Rattle.hutplan.proofs.read_demands.Statement.{statement}
 use Rattle.hutplan.proofs.read_demands.Tie as tie
 
 abbrev Inv-loop : tie.InvT-loop
-Inv-loop list₀ reading₀ turns₀ list reading turns = FedPiece (held (with 0 emptyLine) list₀) (held reading list) × (length list ≡ length list₀)
+Inv-loop list₀ reading₀ turns₀ list reading turns =
+    FedPiece (held (with 0 emptyLine) list₀) (held reading list) × (length list ≡ length list₀)
 
 abbrev μ-loop : tie.MeasureT-loop
 μ-loop list₀ reading₀ turns₀ list reading turns = turns
@@ -31,13 +32,17 @@ loop-less : tie.Need-loop-less Inv-loop μ-loop
 loop-less c = search needs
 
 loop-again : tie.Need-loop-again Inv-loop μ-loop
-loop-again c = (fed-more (c .before .before .before .before .before .before .before .loop .inv .0) (c .before .before .before .before .read-piece .ensures), search needs)
+loop-again c =
+    let piece = c .before .before .before .before in
+    (fed-more (piece .before .before .before .loop .inv .0) (piece .read-piece .ensures), search needs)
 
 loop-less-2 : tie.Need-loop-less-2 Inv-loop μ-loop
 loop-less-2 c = search needs
 
 loop-again-2 : tie.Need-loop-again-2 Inv-loop μ-loop
-loop-again-2 c = (fed-more (c .before .before .before .before .before .before .before .loop .inv .0) (c .before .before .before .before .read-piece .ensures), search needs)
+loop-again-2 c =
+    let piece = c .before .before .before .before in
+    (fed-more (piece .before .before .before .loop .inv .0) (piece .read-piece .ensures), search needs)
 
 finish-requires : tie.Need-finish-requires Inv-loop μ-loop
 finish-requires c κs = search needs
@@ -48,7 +53,7 @@ same-length c = search needs
 returns : tie.Need-returns Inv-loop μ-loop
 returns c =
     let end = c .before .before in
-    read-text _ _ (end .before .before .before .loop .inv .0) (end .finish .ensures .0) (end .finish .ensures .1)
+    read-text _ _ (search needs) (end .before .before .before .loop .inv .0) (end .finish .ensures .0) (end .finish .ensures .1)
 
 pub read-demands-spec : {M : Type 1} → statement M
 read-demands-spec =

@@ -5,13 +5,18 @@ use mathlib.Core.Path.{_≡_, refl}
 use Prim.Native.Nat.{_-_, _≤_}
 use lib.ListN.{length}
 use Rattle.print.specs.Print.{linesFrom}
+use Rattle.print.specs.Walk.{cordLineAt}
 use Rattle.print.proofs.Putting.{Putting, putting-first, putting-within}
-use Rattle.print.proofs.Turns.{cordLineAt, lines-next, lines-last}
+use Rattle.print.proofs.Turns.{lines-next, lines-last}
 use Rattle.print.proofs.put_cords.Statement.{statement}
 use Rattle.print.proofs.put_cords.Tie as tie
 
 abbrev Inv-loop : tie.InvT-loop
-Inv-loop count table index grants first buffer₀ start next₀ k₀ buffer next k = (k ≤ count) × Putting buffer₀ start buffer next (linesFrom (count - k) k (cordLineAt table grants index first)) (linesFrom count 0 (cordLineAt table grants index first)) × (length buffer ≡ length buffer₀)
+Inv-loop count table index grants first buffer₀ start next₀ k₀ buffer next k =
+    let line = cordLineAt table grants index first in
+    (k ≤ count)
+    × Putting buffer₀ start buffer next (linesFrom (count - k) k line) (linesFrom count 0 line)
+    × (length buffer ≡ length buffer₀)
 
 abbrev μ-loop : tie.MeasureT-loop
 μ-loop count table index grants first buffer₀ start next₀ k₀ buffer next k = count - k
@@ -53,7 +58,11 @@ loop-again c =
     let put = c .before .before in
     let at = put .before .before .before .before .before in
     let args = at .before .before .before .before .args in
-    (omega arith, lines-next (cordLineAt (args .table .now) (args .grants .now) (args .index) (args .first)) (args .count) (at .loop .k) (omega (arith, at)) (at .loop .inv .1) (rw (put .before .before .before .word .ensures .0, put .before .before .word2 .ensures .0) at (put .put-cord .ensures)), search needs)
+    let line = cordLineAt (args .table .now) (args .grants .now) (args .index) (args .first) in
+    let node = put .before .before .before .word .ensures .0 in
+    let grant = put .before .before .word2 .ensures .0 in
+    let cord = rw (node, grant) at (put .put-cord .ensures) in
+    (omega arith, lines-next line (args .count) (at .loop .k) (omega (arith, at)) (at .loop .inv .1) cord, search needs)
 
 same-length : tie.Need-same-length Inv-loop μ-loop
 same-length c = search needs

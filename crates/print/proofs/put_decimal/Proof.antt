@@ -24,7 +24,8 @@ returns : tie.Need-returns
 returns c =
     let said = c .before .before .before .before .before in
     let digits = said .decimal .ensures in
-    rw (digits .1 .1 ∙ digits-decimal (said .before .before .before .args .number) (said .decimal .result) (digits .1 .0) (search needs)) at (c .before .before .put .ensures)
+    let number = said .before .before .before .args .number in
+    rw (digits .1 .1 ∙ digits-decimal number (said .decimal .result) (digits .1 .0) (search needs)) at (c .before .before .put .ensures)
 
 pub put-decimal-spec : {M : Type 1} → statement M
 put-decimal-spec =

@@ -9,7 +9,8 @@ use Rattle.print.proofs.put_servers.Statement.{statement}
 use Rattle.print.proofs.put_servers.Tie as tie
 
 abbrev Inv-loop : tie.InvT-loop
-Inv-loop table caps grants buffer₀ start place count index₀ first₀ next₀ v₀ buffer index first next v = Walking table caps grants buffer₀ start count index₀ buffer index first next v
+Inv-loop table caps grants buffer₀ start place count index₀ first₀ next₀ v₀ buffer index first next v =
+    Walking table caps grants buffer₀ start count index₀ buffer index first next v
 
 abbrev μ-loop : tie.MeasureT-loop
 μ-loop table caps grants buffer₀ start place count index₀ first₀ next₀ v₀ buffer index first next v = count - v
@@ -84,7 +85,8 @@ loop-again c =
     let at = server .before .before .before .before .before .before in
     walking-next _ _ _ _ _ _ _ _ _ _ _ _ (at .loop .inv) (omega arith)
     (server .before .before .word4 .ensures .0)
-    (server .before .before .before .least2 .ensures ∙ ap (λ (n : ℕ). min n 4) (server .before .before .before .before .word3 .ensures .0))
+    (server .before .before .before .least2 .ensures
+    ∙ ap (λ (n : ℕ). min n 4) (server .before .before .before .before .word3 .ensures .0))
     (server .put-server .ensures) (cords .put-cords .ensures)
 
 same-length : tie.Need-same-length Inv-loop μ-loop
@@ -93,7 +95,8 @@ same-length c = c .before .loop .inv .size
 returns : tie.Need-returns Inv-loop μ-loop
 returns c =
     let start = c .before .before in
-    walked (c .before .loop .inv) (omega arith) (ap (λ (n : ℕ). 2 + 2 * n) (start .before .before .word .ensures .0)) (start .before .word2 .ensures .0) (start .least .ensures)
+    walked (c .before .loop .inv) (omega arith) (ap (λ (n : ℕ). 2 + 2 * n) (start .before .before .word .ensures .0))
+    (start .before .word2 .ensures .0) (start .least .ensures)
 
 pub put-servers-spec : {M : Type 1} → statement M
 put-servers-spec =

@@ -40,7 +40,8 @@ returns c =
     let p3 = p4 .before .before .before .before in
     let p2 = p3 .before .before .before .before .before in
     let p1 = p2 .before .before .before .before in
-    let put = then (p1 .put .ensures) (then (p2 .put-decimal .ensures) (then (p3 .put2 .ensures) (then (p4 .put-decimal2 .ensures) (p5 .put3 .ensures)))) in
+    let put = then (p1 .put .ensures) (then (p2 .put-decimal .ensures)
+    (then (p3 .put2 .ensures) (then (p4 .put-decimal2 .ensures) (p5 .put3 .ensures)))) in
     (put, counts put)
 
 pub refusal-spec : {M : Type 1} → statement M

@@ -1,0 +1,123 @@
+-- The starred rooms of document 01, worked by hand there, as a group: by one computed check over the definitions.
+use mathlib.Core.Path.{_≡_, refl}
+use mathlib.Core.List.{List, [], _∷_, _++_}
+use Prim.Native.Nat.{ℕ}
+use lib.ListN.{length}
+use Rattle.numbers.specs.Number.{number, later}
+use Rattle.numbers.specs.Sheet.{sheetFrom}
+use Rattle.rooms.specs.Part.{Step, good, bad, follow, word, ensure, end, many, total}
+use Rattle.rooms.specs.Table.{Room, node, cord, range, load, server, table}
+use Rattle.rooms.specs.Limits.{beneath, serverLows, lows, firstNode, overloaded, checked}
+use Rattle.rooms.specs.Outcome.{reading, answerOf, answerNumber, answerFigure}
+use Rattle.rooms.specs.Outcome as read
+use Rattle.deals.specs.SecondDeal.{firstGrants, firstUsable}
+use Rattle.deals.specs.Plan.{plan, grantsAfter, capsAfter}
+use Rattle.deals.specs.Plan as plan
+use Rattle.deals.specs.declared.Planned.the-variants.{Accepted}
+use Rattle.demands.specs.Text.{before, lines, areDigits, numberAfter, demandOf, demandsOf}
+use Rattle.print.specs.Line.{numeral, freedLine, serverLine, cordLine, refusedLine}
+use Rattle.print.specs.Print.{linesFrom, serverPrint, serversPrint, printOf}
+use Rattle.hutplan.specs.Printed.{tableText, sheetText, printed}
+
+-- Room H's 28 bytes, with those of node 2's rating given.
+abbrev sheetH : ℕ → ℕ → List ℕ
+sheetH low high =
+    0x01 ∷ 0x02 ∷ 0x00 ∷ 0x96 ∷ 0x01 ∷ 0x00 ∷ low ∷ high ∷ 0x02 ∷ 0x01 ∷ 0x64 ∷ 0x90 ∷ 0x03 ∷ 0x02
+    ∷ 0x01 ∷ 0xF4 ∷ 0x03 ∷ 0x02 ∷ 0xF4 ∷ 0x03 ∷ 0x01 ∷ 0x64 ∷ 0x90 ∷ 0x03 ∷ 0x01 ∷ 0x02 ∷ 0xE8 ∷ 0x07 ∷ []
+
+-- Its words, with node 2's rating given.
+abbrev tableH : ℕ → List ℕ
+tableH rating = 1 ∷ 2 ∷ 0 ∷ 150 ∷ 0 ∷ rating ∷ 2 ∷ 1 ∷ 100 ∷ 400 ∷ 2 ∷ 1 ∷ 500 ∷ 2 ∷ 500 ∷ 1 ∷ 100 ∷ 400 ∷ 1 ∷ 2 ∷ 1000 ∷ []
+
+-- The text of the demands 400 and 400, a line each.
+abbrev twice400 : List ℕ
+twice400 = 52 ∷ 48 ∷ 48 ∷ 10 ∷ 52 ∷ 48 ∷ 48 ∷ 10 ∷ []
+
+-- What `hutplan` prints of them, each line as its bytes: `freed 13`, `server 1 cap 194`, `cord 1 node 1 grant 120`,
+-- `cord 2 node 2 grant 97`, `server 2 cap 303`, `cord 1 node 2 grant 303`.
+abbrev sixLines : List ℕ
+sixLines =
+    (102 ∷ 114 ∷ 101 ∷ 101 ∷ 100 ∷ 32 ∷ 49 ∷ 51 ∷ 10 ∷ [])
+    ++ (115 ∷ 101 ∷ 114 ∷ 118 ∷ 101 ∷ 114 ∷ 32 ∷ 49 ∷ 32 ∷ 99 ∷ 97 ∷ 112 ∷ 32 ∷ 49 ∷ 57 ∷ 52 ∷ 10 ∷ [])
+    ++ (99 ∷ 111 ∷ 114 ∷ 100 ∷ 32 ∷ 49 ∷ 32 ∷ 110 ∷ 111 ∷ 100 ∷ 101 ∷ 32 ∷ 49 ∷ 32
+    ∷ 103 ∷ 114 ∷ 97 ∷ 110 ∷ 116 ∷ 32 ∷ 49 ∷ 50 ∷ 48 ∷ 10 ∷ [])
+    ++ (99 ∷ 111 ∷ 114 ∷ 100 ∷ 32 ∷ 50 ∷ 32 ∷ 110 ∷ 111 ∷ 100 ∷ 101 ∷ 32 ∷ 50 ∷ 32
+    ∷ 103 ∷ 114 ∷ 97 ∷ 110 ∷ 116 ∷ 32 ∷ 57 ∷ 55 ∷ 10 ∷ [])
+    ++ (115 ∷ 101 ∷ 114 ∷ 118 ∷ 101 ∷ 114 ∷ 32 ∷ 50 ∷ 32 ∷ 99 ∷ 97 ∷ 112 ∷ 32 ∷ 51 ∷ 48 ∷ 51 ∷ 10 ∷ [])
+    ++ (99 ∷ 111 ∷ 114 ∷ 100 ∷ 32 ∷ 49 ∷ 32 ∷ 110 ∷ 111 ∷ 100 ∷ 101 ∷ 32 ∷ 50 ∷ 32
+    ∷ 103 ∷ 114 ∷ 97 ∷ 110 ∷ 116 ∷ 32 ∷ 51 ∷ 48 ∷ 51 ∷ 10 ∷ [])
+
+-- `refused 9 at 2`.
+abbrev nineAtTwo : List ℕ
+nineAtTwo = 114 ∷ 101 ∷ 102 ∷ 117 ∷ 115 ∷ 101 ∷ 100 ∷ 32 ∷ 57 ∷ 32 ∷ 97 ∷ 116 ∷ 32 ∷ 50 ∷ 10 ∷ []
+
+-- Room S, with a root of the rating given, and its demands.
+abbrev tableS : ℕ → List ℕ
+tableS rating =
+    1 ∷ 3 ∷ 0 ∷ rating ∷ 1 ∷ 938 ∷ 1 ∷ 938 ∷ 4 ∷ 2 ∷ 270 ∷ 500 ∷ 1 ∷ 2 ∷ 1000 ∷ 1 ∷ 270 ∷ 500 ∷ 1 ∷ 2 ∷ 1000
+    ∷ 1 ∷ 270 ∷ 500 ∷ 1 ∷ 3 ∷ 1000 ∷ 1 ∷ 270 ∷ 500 ∷ 1 ∷ 3 ∷ 1000 ∷ []
+
+abbrev demandsS : List ℕ
+demandsS = 430 ∷ 430 ∷ 430 ∷ 430 ∷ []
+
+-- One node of 100 W, and no servers.
+abbrev noServers : List ℕ
+noServers = 1 ∷ 1 ∷ 0 ∷ 100 ∷ 0 ∷ []
+
+-- Figures of the room that a table gives.
+abbrev ofRoom : Step Room → (Room → List ℕ) → List ℕ
+ofRoom (good r end) figure = figure r
+ofRoom (bad refusal) figure = []
+
+-- The number and the place of the answer to Read.
+abbrev numbered : read.Outcome → ℕ × ℕ
+numbered outcome = (answerNumber (answerOf outcome), answerFigure (answerOf outcome))
+
+-- The grants of a plan; none if it is refused.
+abbrev grantsOf : plan.Outcome → List ℕ
+grantsOf (plan.accepted freed grants caps) = grants
+grantsOf (plan.refused refusal) = []
+
+-- The starred items, in their order. For the room with no servers, two words are lent for grants and one for caps.
+pub record Starred : Type 0 where
+  pub wordsH : reading (sheetH 0xF4 0x03) 21 ≡ read.accepted (tableH 500)
+  pub countH : length (tableH 500) ≡ 21
+  pub firstGrantsH : ofRoom (checked (tableH 500) 0) (λ r. firstGrants r (400 ∷ 400 ∷ [])) ≡ 120 ∷ 133 ∷ 267 ∷ []
+  pub firstUsableH : ofRoom (checked (tableH 500) 0) (λ r. firstUsable r (400 ∷ 400 ∷ [])) ≡ 240 ∷ 267 ∷ []
+  pub printH : printed (sheetH 0xF4 0x03) twice400 ≡ sixLines
+  pub rated188 : reading (sheetH 0xBC 0x01) 21 ≡ read.accepted (tableH 188)
+  pub rated187 : numbered (reading (sheetH 0xBB 0x01) 21) ≡ (9, 2)
+  pub print187 : printed (sheetH 0xBB 0x01) twice400 ≡ nineAtTwo
+  pub root1550 : grantsOf (plan (tableS 1550) demandsS 4 4) ≡ 430 ∷ 270 ∷ 270 ∷ 270 ∷ []
+  pub root1625 : grantsOf (plan (tableS 1625) demandsS 4 4) ≡ 430 ∷ 281 ∷ 294 ∷ 295 ∷ []
+  pub byte80 : numbered (reading (0x80 ∷ []) 1) ≡ (3, 0)
+  pub bytes018000 : numbered (reading (0x01 ∷ 0x80 ∷ 0x00 ∷ []) 3) ≡ (2, 1)
+  pub bytes80808080 : numbered (reading (0x80 ∷ 0x80 ∷ 0x80 ∷ 0x80 ∷ []) 4) ≡ (1, 0)
+  pub noServersFreed : plan.answerOf (plan noServers [] 2 1) ≡ Accepted 0
+  pub noServersGrants : (a b : ℕ) → grantsAfter (plan noServers [] 2 1) (a ∷ b ∷ []) ≡ a ∷ b ∷ []
+  pub noServersCaps : (a : ℕ) → capsAfter (plan noServers [] 2 1) (a ∷ []) ≡ a ∷ []
+
+pub starred : Starred
+unfolding printed sheetText tableText reading number later sheetFrom
+    follow word ensure end many total node cord range load server table beneath serverLows lows firstNode overloaded
+    demandsOf lines before demandOf areDigits numberAfter plan firstGrants firstUsable
+    printOf serversPrint serverPrint linesFrom freedLine serverLine cordLine refusedLine numeral
+starred =
+    record {
+      wordsH = refl;
+      countH = refl;
+      firstGrantsH = refl;
+      firstUsableH = refl;
+      printH = refl;
+      rated188 = refl;
+      rated187 = refl;
+      print187 = refl;
+      root1550 = refl;
+      root1625 = refl;
+      byte80 = refl;
+      bytes018000 = refl;
+      bytes80808080 = refl;
+      noServersFreed = refl;
+      noServersGrants = λ a b. refl;
+      noServersCaps = λ a. refl;
+    }

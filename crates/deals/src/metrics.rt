@@ -36,20 +36,6 @@ fn credit(sums: &mut [u64], node: usize, figure: u64)
     sums[place] = sum + figure;
 }
 
-// A figure of the cords of a level, summed on the cords' nodes.
-fn sum_level(nodes: &[u32], levels: &[u32], figures: &[u32], level: usize, sums: &mut [u64])
-    requires { ⌜ (length (now nodes) ≤ mostCords) × (length (now levels) ≡ length (now nodes)) × (length (now figures) ≡ length (now nodes)) ⌝ }
-    requires { ⌜ ((c : ℕ) → c < length (now nodes) → (1 ≤ at (now nodes) c) × (at (now nodes) c ≤ length (now sums)) × (at (now figures) c ≤ mostWatts)) ⌝ }
-    ensures { λ _. ⌜ ((n : ℕ) → n < length (now (sums .entry)) → at (now (sums .exit)) n ≡ onNode (now (nodes .entry)) (now (levels .entry)) (now (figures .entry)) level n) ⌝ }
-{
-    clear(sums);
-    for c in 0..nodes.len() {
-        if index(levels[c]) == level {
-            credit(sums, index(nodes[c]), wide(figures[c]));
-        }
-    }
-}
-
 // The lows and the wants of the cords of a level, each summed on its cord's node.
 pub(crate) fn sum_cords(
     nodes: &[u32],
@@ -65,8 +51,15 @@ pub(crate) fn sum_cords(
     ensures { λ _. ⌜ ((n : ℕ) → n < length (now (pcapmins .entry)) → at (now (pcapmins .exit)) n ≡ onNode (now (nodes .entry)) (now (levels .entry)) (now (lows .entry)) level n) ⌝ }
     ensures { λ _. ⌜ ((n : ℕ) → n < length (now (pcapmins .entry)) → at (now (asked .exit)) n ≡ onNode (now (nodes .entry)) (now (levels .entry)) (now (wants .entry)) level n) ⌝ }
 {
-    sum_level(nodes, levels, lows, level, pcapmins);
-    sum_level(nodes, levels, wants, level, asked);
+    clear(pcapmins);
+    clear(asked);
+    for c in 0..nodes.len() {
+        if index(levels[c]) == level {
+            let node = index(nodes[c]);
+            credit(pcapmins, node, wide(lows[c]));
+            credit(asked, node, wide(wants[c]));
+        }
+    }
 }
 
 // From the last node to the first, each node's sum is added to its parent's: a parent's number is below its child's.

@@ -62,37 +62,36 @@ module _ (rows : List (List ℕ)) (k level v : ℕ) where
 -- ---- The Requests of a rank
 
 -- What the pass starts from: what is left of each limit holds the Pcapmin of this rank and of those below, and no figure overflows.
-pub record Given (parents : List ℕ) (level : ℕ) (left lower pcapmins wants : List ℕ) : Type 0 where
+pub record Given (parents : List ℕ) (level : ℕ) (left lower : List ℕ) (pcapmin : ℕ → ℕ) (wants : List ℕ) : Type 0 where
   pub few : length parents ≤ mostNodes
   pub ranked : level < highestRank
   pub rises : Rises parents
   pub left-size : length left ≡ length parents
   pub lower-size : length lower ≡ length parents
-  pub pcapmins-size : length pcapmins ≡ length parents
   pub wants-size : length wants ≡ length parents
   pub wants-most : sum (length parents) (at wants) ≤ mostCords * mostWatts
   pub left-most : (m : ℕ) → m < length parents → at left m ≤ mostWatts
-  pub pcapmin-fits : (m : ℕ) → m < length parents → at pcapmins m ≤ at lower m
-  pub lower-fits : (m : ℕ) → m < length parents → at lower m ≤ at left m + at pcapmins m
+  pub pcapmin-fits : (m : ℕ) → m < length parents → pcapmin m ≤ at lower m
+  pub lower-fits : (m : ℕ) → m < length parents → at lower m ≤ at left m + pcapmin m
 
 -- A node's Request: the lesser of what is left for this rank and of what its children ask.
-abbrev pub requestOf : List ℕ → List ℕ → List ℕ → List ℕ → ℕ → ℕ
-requestOf left lower pcapmins asked m = min (at left m - (at lower m - at pcapmins m)) (at asked m)
+abbrev pub requestOf : List ℕ → List ℕ → ℕ → List ℕ → ℕ → ℕ
+requestOf left lower pcapmin asked m = min (at left m - (at lower m - pcapmin)) (at asked m)
 
 -- What the turn of the node at place m leaves.
-pub record Settled (level : ℕ) (left₀ lower₀ pcapmins left lower asked : List ℕ) (rows : List (List ℕ)) (m : ℕ) : Type 0 where
-  pub request : cell rows m level ≡ requestOf left₀ lower₀ pcapmins asked m
+pub record Settled (level : ℕ) (left₀ lower₀ : List ℕ) (pcapmin : ℕ → ℕ) (left lower asked : List ℕ) (rows : List (List ℕ)) (m : ℕ) : Type 0 where
+  pub request : cell rows m level ≡ requestOf left₀ lower₀ (pcapmin m) asked m
   pub left-is : at left m ≡ at left₀ m - cell rows m level
-  pub lower-is : at lower m ≡ at lower₀ m - at pcapmins m
+  pub lower-is : at lower m ≡ at lower₀ m - pcapmin m
 
 -- Before the turn of the node at place n - 1: the nodes from n on have passed their Requests on, and the others are as they were.
-pub record Requesting (parents : List ℕ) (level : ℕ) (left₀ lower₀ pcapmins wants : List ℕ) (rows₀ : List (List ℕ)) (n : ℕ) (left lower asked : List ℕ) (rows : List (List ℕ)) : Type 0 where
-  pub given : Given parents level left₀ lower₀ pcapmins wants
+pub record Requesting (parents : List ℕ) (level : ℕ) (left₀ lower₀ : List ℕ) (pcapmin : ℕ → ℕ) (wants : List ℕ) (rows₀ : List (List ℕ)) (n : ℕ) (left lower asked : List ℕ) (rows : List (List ℕ)) : Type 0 where
+  pub given : Given parents level left₀ lower₀ pcapmin wants
   pub done : ℕ
   pub all : n + done ≡ length parents
   pub held : Holds (length parents) (at parents) (at wants) (λ m. cell rows m level) done n (at asked)
   pub most : sum n (at asked) ≤ sum (length parents) (at wants)
-  pub settled : (m : ℕ) → n ≤ m → m < length parents → Settled level left₀ lower₀ pcapmins left lower asked rows m
+  pub settled : (m : ℕ) → n ≤ m → m < length parents → Settled level left₀ lower₀ pcapmin left lower asked rows m
   pub left-kept : (m : ℕ) → m < n → at left m ≡ at left₀ m
   pub lower-kept : (m : ℕ) → m < n → at lower m ≡ at lower₀ m
   pub others : (m j : ℕ) → (j ≡ level → ⊥) → cell rows m j ≡ cell rows₀ m j
@@ -101,9 +100,9 @@ pub record Requesting (parents : List ℕ) (level : ℕ) (left₀ lower₀ pcapm
   pub asked-size : length asked ≡ length wants
   pub full : FullRows rows
 
-pub requesting-start : {parents : List ℕ} {level : ℕ} {left lower pcapmins wants : List ℕ} (rows : List (List ℕ)) → Given parents level left lower pcapmins wants → FullRows rows
-    → Requesting parents level left lower pcapmins wants rows (length parents) left lower wants rows
-requesting-start {parents} {level} {left} {lower} {pcapmins} {wants} rows given full =
+pub requesting-start : {parents : List ℕ} {level : ℕ} {left lower : List ℕ} {pcapmin : ℕ → ℕ} {wants : List ℕ} (rows : List (List ℕ)) → Given parents level left lower pcapmin wants → FullRows rows
+    → Requesting parents level left lower pcapmin wants rows (length parents) left lower wants rows
+requesting-start {parents} {level} {left} {lower} {pcapmin} {wants} rows given full =
     record {
       given = given;
       done = 0;
@@ -137,24 +136,23 @@ sum-passed m zero figure l h f k = omega (arith, sum-suc m (at l))
 sum-passed m (suc p) figure l h f k = omega (arith, sum-suc m (at l), sum-credited m (suc p) figure l (omega arith) h (omega arith))
 
 -- The node whose turn comes, in the terms of the code.
-pub record NextNode (parents : List ℕ) (level : ℕ) (left₀ lower₀ pcapmins wants : List ℕ) (rows₀ : List (List ℕ)) (m : ℕ) (left lower asked : List ℕ) (rows : List (List ℕ)) : Type 0 where
+pub record NextNode (parents : List ℕ) (level : ℕ) (left₀ lower₀ : List ℕ) (pcapmin : ℕ → ℕ) (wants : List ℕ) (rows₀ : List (List ℕ)) (m : ℕ) (left lower asked : List ℕ) (rows : List (List ℕ)) : Type 0 where
   pub in-parents : m < length parents
   pub in-left : m < length left
   pub in-lower : m < length lower
-  pub in-pcapmins : m < length pcapmins
   pub in-asked : m < length asked
   pub in-rows : m < mostNodes
-  pub pcapmin-fits : at pcapmins m ≤ at lower m
-  pub below-fits : at lower m - at pcapmins m ≤ at left m
+  pub pcapmin-fits : pcapmin m ≤ at lower m
+  pub below-fits : at lower m - pcapmin m ≤ at left m
   pub left-most : at left m ≤ mostWatts
-  pub credit-fits : {parent v : ℕ} → parent ≡ at parents m → v ≡ requestOf left lower pcapmins asked m → (parent ≤ length asked) × (at asked (parent - 1) + v < 2 ^ 64)
-  pub turn : {v u parent : ℕ} {asked′ : List ℕ} → v ≡ requestOf left lower pcapmins asked m → u ≡ v → parent ≡ at parents m → asked′ ≡ credited parent v asked
-      → Requesting parents level left₀ lower₀ pcapmins wants rows₀ m (set left m (at left m - v)) (set lower m (at lower m - at pcapmins m)) asked′ (stored rows m level u)
+  pub credit-fits : {parent v : ℕ} → parent ≡ at parents m → v ≤ at asked m → (parent ≤ length asked) × (at asked (parent - 1) + v < 2 ^ 64)
+  pub turn : {p v u parent : ℕ} {asked′ : List ℕ} → p ≡ pcapmin m → v ≡ requestOf left lower p asked m → u ≡ v → parent ≡ at parents m → asked′ ≡ credited parent v asked
+      → Requesting parents level left₀ lower₀ pcapmin wants rows₀ m (set left m (at left m - v)) (set lower m (at lower m - p)) asked′ (stored rows m level u)
 
-module _ {parents : List ℕ} {level : ℕ} {left₀ lower₀ pcapmins wants : List ℕ} {rows₀ : List (List ℕ)} where
-  turned : (k : ℕ) (left lower asked : List ℕ) (rows : List (List ℕ)) (v : ℕ) → v ≡ requestOf left lower pcapmins asked k
-      → Requesting parents level left₀ lower₀ pcapmins wants rows₀ (suc k) left lower asked rows
-      → Requesting parents level left₀ lower₀ pcapmins wants rows₀ k (set left k (at left k - v)) (set lower k (at lower k - at pcapmins k)) (credited (at parents k) v asked) (stored rows k level v)
+module _ {parents : List ℕ} {level : ℕ} {left₀ lower₀ : List ℕ} {pcapmin : ℕ → ℕ} {wants : List ℕ} {rows₀ : List (List ℕ)} where
+  turned : (k : ℕ) (left lower asked : List ℕ) (rows : List (List ℕ)) (v : ℕ) → v ≡ requestOf left lower (pcapmin k) asked k
+      → Requesting parents level left₀ lower₀ pcapmin wants rows₀ (suc k) left lower asked rows
+      → Requesting parents level left₀ lower₀ pcapmin wants rows₀ k (set left k (at left k - v)) (set lower k (at lower k - pcapmin k)) (credited (at parents k) v asked) (stored rows k level v)
   unfolding Holds
   turned k left lower asked rows v ev inv =
       let given = inv .given in
@@ -188,29 +186,29 @@ module _ {parents : List ℕ} {level : ℕ} {left₀ lower₀ pcapmins wants : L
               request = here
                   ∙ ev
                   ∙ ap₂ min
-                  (ap₂ (λ (x y : ℕ). x - (y - at pcapmins k)) (inv .left-kept k (omega arith)) (inv .lower-kept k (omega arith)))
+                  (ap₂ (λ (x y : ℕ). x - (y - pcapmin k)) (inv .left-kept k (omega arith)) (inv .lower-kept k (omega arith)))
                   (sym (asked-same k (le-refl k)));
               left-is = getD-set-same left k (at left k - v) 0 in-left ∙ ap₂ _-_ (inv .left-kept k (omega arith)) (sym here);
-              lower-is = getD-set-same lower k (at lower k - at pcapmins k) 0 in-lower ∙ ap (λ (x : ℕ). x - at pcapmins k) (inv .lower-kept k (omega arith));
+              lower-is = getD-set-same lower k (at lower k - pcapmin k) 0 in-lower ∙ ap (λ (x : ℕ). x - pcapmin k) (inv .lower-kept k (omega arith));
             })
             (λ m g l.
             let s = inv .settled m g l in
             record {
-              request = elsewhere m g ∙ s .request ∙ ap (min (at left₀ m - (at lower₀ m - at pcapmins m))) (sym (asked-same m (omega arith)));
+              request = elsewhere m g ∙ s .request ∙ ap (min (at left₀ m - (at lower₀ m - pcapmin m))) (sym (asked-same m (omega arith)));
               left-is = getD-set-other left k m (at left k - v) 0 (λ e. omega arith) ∙ s .left-is ∙ ap (λ (x : ℕ). at left₀ m - x) (sym (elsewhere m g));
-              lower-is = getD-set-other lower k m (at lower k - at pcapmins k) 0 (λ e. omega arith) ∙ s .lower-is;
+              lower-is = getD-set-other lower k m (at lower k - pcapmin k) 0 (λ e. omega arith) ∙ s .lower-is;
             });
         left-kept = λ m l. getD-set-other left k m (at left k - v) 0 (λ e. omega arith) ∙ inv .left-kept m (omega arith);
-        lower-kept = λ m l. getD-set-other lower k m (at lower k - at pcapmins k) 0 (λ e. omega arith) ∙ inv .lower-kept m (omega arith);
+        lower-kept = λ m l. getD-set-other lower k m (at lower k - pcapmin k) 0 (λ e. omega arith) ∙ inv .lower-kept m (omega arith);
         others = λ m j d. cell-others rows k level v in-rows m j d ∙ inv .others m j d;
         left-size = length-set left k (at left k - v) ∙ inv .left-size;
-        lower-size = length-set lower k (at lower k - at pcapmins k) ∙ inv .lower-size;
+        lower-size = length-set lower k (at lower k - pcapmin k) ∙ inv .lower-size;
         asked-size = credited-length (at parents k) v asked ∙ inv .asked-size;
         full = stored-full rows k level v in-rows (inv .full);
       }
 
-  pub next-node : {n : ℕ} {left lower asked : List ℕ} {rows : List (List ℕ)} → Requesting parents level left₀ lower₀ pcapmins wants rows₀ n left lower asked rows → 0 < n
-      → NextNode parents level left₀ lower₀ pcapmins wants rows₀ (n - 1) left lower asked rows
+  pub next-node : {n : ℕ} {left lower asked : List ℕ} {rows : List (List ℕ)} → Requesting parents level left₀ lower₀ pcapmin wants rows₀ n left lower asked rows → 0 < n
+      → NextNode parents level left₀ lower₀ pcapmin wants rows₀ (n - 1) left lower asked rows
   next-node {n = zero} inv p = absurd (omega arith)
   next-node {n = suc k} {left = left} {lower = lower} {asked = asked} {rows = rows} inv p =
       let e : suc k - 1 ≡ k = omega arith in
@@ -224,7 +222,6 @@ module _ {parents : List ℕ} {level : ℕ} {left₀ lower₀ pcapmins wants : L
         in-parents = h;
         in-left = omega (arith, inv .left-size, given .left-size);
         in-lower = omega (arith, inv .lower-size, given .lower-size);
-        in-pcapmins = omega (arith, given .pcapmins-size);
         in-asked = omega (arith, inv .asked-size, given .wants-size);
         in-rows = omega (arith, given .few);
         pcapmin-fits = omega (arith, given .pcapmin-fits k h);
@@ -241,21 +238,22 @@ module _ {parents : List ℕ} {level : ℕ} {left₀ lower₀ pcapmins wants : L
             ap (λ (x : ℕ). at asked (x - 1)) ep,
           ),
         );
-        turn = λ ev eu ep ea. rw (eu, ea, ep) (turned k left lower asked rows _ ev inv);
+        turn = λ eq ev eu ep ea. rw (eu, ea, ep, eq) (turned k left lower asked rows _ (ev ∙ ap (λ (p : ℕ). requestOf left lower p asked k) eq) inv);
       })
 
-  pub requesting-end : {n : ℕ} {left lower asked : List ℕ} {rows : List (List ℕ)} → Requesting parents level left₀ lower₀ pcapmins wants rows₀ n left lower asked rows → n ≤ 0
-      → (lows : List ℕ) → ((m : ℕ) → m < length parents → at pcapmins m ≡ beneathAll parents lows m)
+  pub requesting-end : {n : ℕ} {left lower asked : List ℕ} {rows : List (List ℕ)} → Requesting parents level left₀ lower₀ pcapmin wants rows₀ n left lower asked rows → n ≤ 0
+      → (lows pcapmins : List ℕ) → ((m : ℕ) → m < length parents → at pcapmins m ≡ pcapmin m)
+      → ((m : ℕ) → m < length parents → pcapmin m ≡ beneathAll parents lows m)
       → Gathered parents level left₀ lower₀ lows wants rows₀ left lower pcapmins asked rows
   unfolding kids
-  requesting-end {n = suc k} inv z lows are = absurd (omega arith)
-  requesting-end {n = zero} {asked = asked} {rows = rows} inv z lows are =
+  requesting-end {n = suc k} inv z lows pcapmins are sums = absurd (omega arith)
+  requesting-end {n = zero} {asked = asked} {rows = rows} inv z lows pcapmins are sums =
       record {
-        pcapmin = are;
+        pcapmin = λ n l. are n l ∙ sums n l;
         children = holds-end (length parents) (at parents) (at wants) (λ m. cell rows m level) (inv .done) (at asked) (inv .all) (inv .held);
-        request = λ n l. inv .settled n (omega arith) l .request;
+        request = λ n l. inv .settled n (omega arith) l .request ∙ ap (λ (p : ℕ). requestOf left₀ lower₀ p asked n) (sym (are n l));
         others = inv .others;
         left-is = λ n l. inv .settled n (omega arith) l .left-is;
-        lower-is = λ n l. inv .settled n (omega arith) l .lower-is;
+        lower-is = λ n l. inv .settled n (omega arith) l .lower-is ∙ ap (λ (p : ℕ). at lower₀ n - p) (sym (are n l));
         full = inv .full;
       }

@@ -247,21 +247,28 @@ module _ {parents start : List ℕ} (rises : Rises parents) where
         sumBeneath-most (length parents) (at parents) (at start) m,
       )
 
+  -- A node's sum is whole when its turn comes.
+  whole-at : (m : ℕ) {sums : List ℕ} → Summing parents start (suc m) sums → at sums m ≡ beneathAll parents start m
+  whole-at m {sums} inv =
+      holds-whole (length parents) (at parents) (at start) (beneathAll parents start) rises (inv .done) m (at sums) (inv .all) (inv .held)
+      ∙ sym (sumBeneath-step (length parents) (at parents) rises (at start) m (omega (arith, inv .all)))
+
+  pub summing-whole : {n : ℕ} {sums : List ℕ} → Summing parents start n sums → 0 < n → at sums (n - 1) ≡ beneathAll parents start (n - 1)
+  summing-whole {n = zero} inv p = absurd (omega arith)
+  summing-whole {n = suc m} inv p = let e : suc m - 1 ≡ m = omega arith in rw e (whole-at m inv)
+
   turned : (m : ℕ) (sums : List ℕ) → length start ≡ length parents → Summing parents start (suc m) sums → Summing parents start m (credited (at parents m) (at sums m) sums)
   turned m sums h inv =
       let r = rises m (omega (arith, inv .all)) in
       let own : ℕ → ℕ = at start in
       let passed : ℕ → ℕ = beneathAll parents start in
-      let whole : at sums m ≡ passed m
-      = holds-whole (length parents) (at parents) own passed rises (inv .done) m (at sums) (inv .all) (inv .held)
-      ∙ sym (sumBeneath-step (length parents) (at parents) rises own m (omega (arith, inv .all))) in
       let sums′ : List ℕ = credited (at parents m) (at sums m) sums in
       record {
         done = suc (inv .done);
         all = omega (arith, inv .all);
         held = holds-turn (length parents) (at parents) own passed (inv .done) m (at sums) (at sums′) (inv .held)
             (λ i l. credited-at (at parents m) (at sums m) sums i (omega (arith, inv .all, inv .size))
-            ∙ ap (λ (x : ℕ). at sums i + on (eqb (at parents m) (suc i)) x) whole);
+            ∙ ap (λ (x : ℕ). at sums i + on (eqb (at parents m) (suc i)) x) (whole-at m inv));
         size = credited-length (at parents m) (at sums m) sums ∙ inv .size;
       }
 

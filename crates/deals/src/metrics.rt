@@ -108,16 +108,18 @@ pub(crate) fn gather(
     requires { ⌜ FullRows (now requests) ⌝ }
     ensures { λ _. ⌜ Gathered (now (parents .entry)) level (now (left .entry)) (now (lower .entry)) (now (pcapmins .entry)) (now (asked .entry)) (now (requests .entry)) (now (left .exit)) (now (lower .exit)) (now (pcapmins .exit)) (now (asked .exit)) (now (requests .exit)) ⌝ }
 {
-    sum_beneath(parents, pcapmins);
     let mut n = parents.len();
     while 0 < n {
         n -= 1;
-        let below = lower[n] - pcapmins[n];
+        let pcapmin = pcapmins[n];
+        let below = lower[n] - pcapmin;
+        let limit = left[n];
+        let request = least(limit - below, asked[n]);
         lower[n] = below;
-        let room = left[n];
-        let request = least(room - below, asked[n]);
-        left[n] = room - request;
+        left[n] = limit - request;
         requests[n][level] = narrow(request);
-        credit(asked, index(parents[n]), request);
+        let parent = index(parents[n]);
+        credit(pcapmins, parent, pcapmin);
+        credit(asked, parent, request);
     }
 }

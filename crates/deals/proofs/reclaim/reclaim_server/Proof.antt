@@ -88,7 +88,8 @@ loop-again c =
     let inv = c .before .before .before .before .before .before .before .loop .inv in
     let used = c .before .before .before .before .carried-by .ensures in
     let stranded = c .before .before .over .ensures in
-    let watts = c .before .wide .ensures .0 ∙ stranded in
+    let same : c .before .wide .result ≡ c .before .before .over .result = omega (arith, c .before .wide .ensures) in
+    let watts = same ∙ stranded in
     ⊎-elim
     (λ w. (search needs, omega (arith, inv .1, c .before .wide .ensures), rw (w .1) (reclaimed-more (inv .2) used watts (omega (arith, w .0 .taken, c .before .wide .ensures .0)))))
     (λ w. (search needs, omega (arith, inv .1, c .before .wide .ensures), rw (w .1) (reclaimed-kept (inv .2) used watts (omega (arith, w .0 .left, c .before .wide .ensures .0)))))

@@ -1,0 +1,91 @@
+//! Plan: the demands, both deals and what servers can use of them.
+
+use super::deal::Deals;
+use super::table::{carried, Room, Table};
+use super::{tell, Outcome, Refusal, MOST_CORDS, MOST_SERVERS, MOST_WATTS};
+
+/// Plan: a grant for each cord and a cap for each server, at the fronts of their lists.
+pub fn plan(table: &[u8], demands: &[u8], grants: &mut [u8], caps: &mut [u8], answer: &mut [u8]) -> u32 {
+    tell(answer, || {
+        let mut room = Room::empty();
+        Table(table).scan(&mut room)?;
+        check_lists(&room, Table(demands), grants, caps)?;
+        Ok(plan_room(&room, Table(demands), grants, caps))
+    })
+}
+
+/// Refusals 10 to 13.
+fn check_lists(room: &Room, demands: Table, grants: &[u8], caps: &[u8]) -> Outcome<()> {
+    let (cords, servers) = (room.cord_count, room.server_count);
+    if demands.len() != servers {
+        return Err(Refusal(10, servers as u64));
+    }
+    if let Some(large) = demands.words().position(|demand| demand > MOST_WATTS) {
+        return Err(Refusal(11, large as u64));
+    }
+    if grants.len() / 4 < cords {
+        return Err(Refusal(12, cords as u64));
+    }
+    if caps.len() / 4 < servers {
+        return Err(Refusal(13, servers as u64));
+    }
+    Ok(())
+}
+
+/// Grants and caps, into lists long enough; the freed watts.
+fn plan_room(room: &Room, demands: Table, grants: &mut [u8], caps: &mut [u8]) -> u64 {
+    let mut needs = [0; MOST_SERVERS];
+    for ((need, demand), (least, greatest)) in needs.iter_mut().zip(demands.words()).zip(room.ranges) {
+        *need = demand.max(least).min(greatest);
+    }
+    let mut wants = [0; MOST_CORDS];
+    for c in 0..room.cord_count {
+        let need = needs[usize::from(room.servers[c])];
+        wants[c] = carried(room.shares[c].into(), need);
+    }
+    let deals = Deals::of(room);
+    let mut granted = [0; MOST_CORDS];
+    deals.deal(room, &wants, &mut granted);
+    let freed = reclaim(room, &usable(room, &needs, &granted), &granted, &mut wants);
+    deals.deal(room, &wants, &mut granted);
+    put(&granted[..room.cord_count], grants);
+    put(&usable(room, &needs, &granted)[..room.server_count], caps);
+    freed
+}
+
+/// Each server's usable watts, by its need and its cords' grants.
+fn usable(room: &Room, needs: &[u32; MOST_SERVERS], granted: &[u32; MOST_CORDS]) -> [u32; MOST_SERVERS] {
+    let mut usable = *needs;
+    for c in 0..room.cord_count {
+        let share = u64::from(room.shares[c]);
+        let server = usize::from(room.servers[c]);
+        if share != 0 {
+            let most = 1000 * u64::from(granted[c]) / share;
+            usable[server] = u64::from(usable[server]).min(most) as u32;
+        }
+    }
+    usable
+}
+
+/// A cord with stranded watts wants its used watts from now on; the sum of stranded watts.
+fn reclaim(
+    room: &Room,
+    usable: &[u32; MOST_SERVERS],
+    granted: &[u32; MOST_CORDS],
+    wants: &mut [u32; MOST_CORDS],
+) -> u64 {
+    let mut freed = 0;
+    for c in 0..room.cord_count {
+        let used = carried(room.shares[c].into(), usable[usize::from(room.servers[c])]);
+        let stranded = granted[c] - used;
+        freed += u64::from(stranded);
+        wants[c] = if stranded > 0 { used } else { wants[c] };
+    }
+    freed
+}
+
+fn put(list: &[u32], bytes: &mut [u8]) {
+    for (word, place) in list.iter().zip(bytes.chunks_exact_mut(4)) {
+        place.copy_from_slice(&word.to_le_bytes());
+    }
+}

@@ -1,0 +1,219 @@
+//! The room table's rules. Each record is judged whole, in one branch or two; only a bad table is walked word by word.
+
+use std::array::from_fn;
+
+use super::{Outcome, Refusal, MOST_CORDS, MOST_NODES, MOST_SERVERS, MOST_WATTS};
+
+/// The bytes of a longest server: four words, and two for each of four cords.
+const SERVER_BYTES: usize = 48;
+
+/// A table's words as bytes, four a word, low byte first.
+#[derive(Clone, Copy)]
+pub struct Table<'a>(pub &'a [u8]);
+
+/// A checked room, by node (entry 0 stands for no node), by server and by cord.
+pub struct Room {
+    pub node_count: usize,
+    pub server_count: usize,
+    pub cord_count: usize,
+    pub parents: [u16; MOST_NODES + 1],
+    /// What a node's limit leaves above all lows beneath it.
+    pub slack: [u32; MOST_NODES + 1],
+    pub ranges: [(u32, u32); MOST_SERVERS],
+    /// Every server puts four cords down; the next one's lie over those it doesn't have.
+    pub nodes: [u16; MOST_CORDS + 3],
+    pub shares: [u16; MOST_CORDS + 3],
+    pub lows: [u32; MOST_CORDS + 3],
+    pub servers: [u16; MOST_CORDS + 3],
+    pub ranks: [u8; MOST_CORDS + 3],
+}
+
+/// What a share carries of a load, rounded up.
+pub fn carried(share: u32, load: u32) -> u32 {
+    ((u64::from(share) * u64::from(load) + 999) / 1000) as u32
+}
+
+impl<'a> Table<'a> {
+    pub fn len(self) -> usize {
+        self.0.len() / 4
+    }
+
+    pub fn words(self) -> impl ExactSizeIterator<Item = u32> + 'a {
+        let (words, _) = self.0.as_chunks();
+        words.iter().map(|word| u32::from_le_bytes(*word))
+    }
+
+    fn word(self, i: usize) -> Option<u32> {
+        self.0.get(4 * i..)?.first_chunk().map(|bytes| u32::from_le_bytes(*bytes))
+    }
+
+    /// Refusals 4 to 9.
+    pub fn check(self) -> Outcome<()> {
+        self.scan(&mut Room::empty())
+    }
+
+    /// The room of the table, into one that is empty.
+    pub fn scan(self, room: &mut Room) -> Outcome<()> {
+        match self.scan_records(room) {
+            Some(()) => room.settle_lows(),
+            None => Err(self.walk().unwrap_err()),
+        }
+    }
+
+    /// Every record, judged whole; none where some rule of the words is broken.
+    fn scan_records(self, room: &mut Room) -> Option<()> {
+        room.node_count = (self.word(1)? as usize).min(MOST_NODES + 1);
+        let at_servers = 2 + 2 * room.node_count;
+        room.server_count = self.word(at_servers)? as usize;
+        let bad =
+            self.word(0)? != 1 || room.node_count.wrapping_sub(1) >= MOST_NODES || room.server_count > MOST_SERVERS;
+        if bad || !room.put_nodes(&self.0[8..4 * at_servers]) {
+            return None;
+        }
+        let mut at = at_servers + 1;
+        for server in 0..room.server_count {
+            let mut padded = [0; SERVER_BYTES];
+            let rest = self.0.get(4 * at..4 * self.len())?;
+            let words = rest.first_chunk().unwrap_or_else(|| {
+                padded[..rest.len()].copy_from_slice(rest);
+                &padded
+            });
+            at += 4 + 2 * room.put_server(words, server)?;
+        }
+        (at == self.len()).then_some(())
+    }
+
+    /// The rules word by word, in their order: the first refusal of 4 to 8.
+    #[cold]
+    fn walk(self) -> Outcome<()> {
+        self.ranged(0, 1, 1)?;
+        let nodes = self.ranged(1, 1, MOST_NODES as u32)?;
+        for i in 0..nodes {
+            self.ranged(2 + 2 * i as usize, 0, i)?;
+            self.ranged(3 + 2 * i as usize, 0, MOST_WATTS)?;
+        }
+        let mut at = 2 + 2 * nodes as usize;
+        let servers = self.ranged(at, 0, MOST_SERVERS as u32)?;
+        let mut left = MOST_CORDS as u32;
+        at += 1;
+        for _ in 0..servers {
+            self.ranged(at, 1, 16)?;
+            let least = self.ranged(at + 1, 0, MOST_WATTS)?;
+            if self.ranged(at + 2, 0, MOST_WATTS)? < least {
+                return Err(Refusal(6, at as u64 + 2));
+            }
+            let cords = self.ranged(at + 3, 1, left.min(4))?;
+            let (start, mut sum) = (at, 0);
+            left -= cords;
+            at += 4;
+            for _ in 0..cords {
+                self.ranged(at, 1, nodes)?;
+                sum += self.ranged(at + 1, 0, 1000)?;
+                at += 2;
+            }
+            if sum != 1000 {
+                return Err(Refusal(7, start as u64));
+            }
+        }
+        Err(Refusal(8, at as u64))
+    }
+
+    /// The word at i, from low to high.
+    fn ranged(self, i: usize, low: u32, high: u32) -> Outcome<u32> {
+        let word = self.word(i).ok_or(Refusal(4, self.len() as u64))?;
+        if word < low || word > high {
+            return Err(Refusal(5, i as u64));
+        }
+        Ok(word)
+    }
+}
+
+fn low_first(bytes: &[u8], i: usize) -> u32 {
+    u32::from_le_bytes(*bytes[4 * i..].first_chunk().unwrap())
+}
+
+/// Four entries of a list of cords.
+fn four<T>(list: &mut [T], from: usize) -> &mut [T; 4] {
+    list[from..].first_chunk_mut().unwrap()
+}
+
+impl Room {
+    pub fn empty() -> Room {
+        Room {
+            node_count: 0,
+            server_count: 0,
+            cord_count: 0,
+            parents: [0; MOST_NODES + 1],
+            slack: [0; MOST_NODES + 1],
+            ranges: [(0, 0); MOST_SERVERS],
+            nodes: [0; MOST_CORDS + 3],
+            shares: [0; MOST_CORDS + 3],
+            lows: [0; MOST_CORDS + 3],
+            servers: [0; MOST_CORDS + 3],
+            ranks: [0; MOST_CORDS + 3],
+        }
+    }
+
+    /// Puts down the parents, and the limits where the slack will stand; whether no rule is broken.
+    fn put_nodes(&mut self, bytes: &[u8]) -> bool {
+        let mut good = true;
+        for (i, node) in bytes.chunks_exact(8).enumerate() {
+            let (parent, rating) = (low_first(node, 0), low_first(node, 1));
+            good &= (parent <= i as u32) & (rating <= MOST_WATTS);
+            self.parents[i + 1] = parent as u16;
+            self.slack[i + 1] = (u64::from(rating) * 80 / 100) as u32;
+        }
+        good
+    }
+
+    /// Puts a server and four cords down, and gives the count of those it has; none if a rule is broken.
+    fn put_server(&mut self, bytes: &[u8; SERVER_BYTES], server: usize) -> Option<usize> {
+        let word = |i: usize| low_first(bytes, i);
+        let (rank, least, greatest, cords) = (word(0), word(1), word(2), word(3));
+        let most = (MOST_CORDS - self.cord_count).min(4) as u32;
+        let mut bad = (rank.wrapping_sub(1) >= 16) | (greatest > MOST_WATTS) | (greatest < least);
+        bad |= cords.wrapping_sub(1) >= most;
+        if bad {
+            return None;
+        }
+        self.ranges[server] = (least, greatest);
+        let nodes: [u32; 4] = from_fn(|k| word(4 + 2 * k));
+        let shares: [u32; 4] = from_fn(|k| word(5 + 2 * k));
+        let mut sum = 0;
+        for k in 0..4 {
+            let has = if (k as u32) < cords { u32::MAX } else { 0 };
+            let share = shares[k] & has;
+            bad |= (nodes[k].wrapping_sub(1) & has >= self.node_count as u32) | (share > 1000);
+            sum += u64::from(share);
+        }
+        let from = self.cord_count;
+        *four(&mut self.nodes, from) = nodes.map(|node| node as u16);
+        *four(&mut self.shares, from) = shares.map(|share| share as u16);
+        *four(&mut self.lows, from) = shares.map(|share| carried(share, least));
+        *four(&mut self.servers, from) = [server as u16; 4];
+        *four(&mut self.ranks, from) = [rank as u8; 4];
+        self.cord_count += cords as usize;
+        (!bad & (sum == 1000)).then_some(cords as usize)
+    }
+
+    /// The lows beneath each node, taken from its limit; refusal 9 where they exceed it.
+    fn settle_lows(&mut self) -> Outcome<()> {
+        let mut sums = [0_u64; MOST_NODES + 1];
+        for c in 0..self.cord_count {
+            sums[usize::from(self.nodes[c])] += u64::from(self.lows[c]);
+        }
+        let mut over = 0;
+        for n in (1..=self.node_count).rev() {
+            let sum = sums[n];
+            if u64::from(self.slack[n]) < sum {
+                over = n;
+            }
+            self.slack[n] = self.slack[n].wrapping_sub(sum as u32);
+            sums[usize::from(self.parents[n])] += sum;
+        }
+        match over {
+            0 => Ok(()),
+            node => Err(Refusal(9, node as u64)),
+        }
+    }
+}

@@ -1,0 +1,133 @@
+//! Rooms to measure on, made by a fixed sequence: limits bind and some watts are stranded.
+
+use crate::calls::{Inputs, Outputs, CALLS};
+
+/// A room's kind: how its nodes hang, how many there are of everything, and how many ranks its servers have.
+#[derive(Clone, Copy)]
+pub struct Kind {
+    pub shape: Shape,
+    pub nodes: usize,
+    pub cords: usize,
+    pub ranks: u32,
+}
+
+#[derive(Clone, Copy, Debug)]
+pub enum Shape {
+    Chain,
+    Star,
+    Binary,
+    Feeds,
+}
+
+/// Xorshift: the same rooms in every run.
+pub struct Chance(pub u64);
+
+struct Server {
+    rank: u32,
+    least: u32,
+    greatest: u32,
+    demand: u32,
+    cords: Vec<(u32, u32)>,
+}
+
+impl Chance {
+    /// A number below the bound.
+    pub fn below(&mut self, bound: u32) -> u32 {
+        self.0 ^= self.0 << 13;
+        self.0 ^= self.0 >> 7;
+        self.0 ^= self.0 << 17;
+        ((self.0 >> 32) * u64::from(bound) >> 32) as u32
+    }
+}
+
+impl Shape {
+    /// A node's parent, both numbered from 1; the feeds are roots with seven nodes each.
+    fn parent(self, node: u32) -> u32 {
+        match self {
+            Shape::Chain => node - 1,
+            Shape::Star => u32::from(node > 1),
+            Shape::Binary => node / 2,
+            Shape::Feeds if node % 8 == 1 => 0,
+            Shape::Feeds => (node - 1) / 8 * 8 + 1,
+        }
+    }
+}
+
+/// A room of the kind: its table, its demands and the sheet that Write makes of the table.
+pub fn room(kind: Kind, chance: &mut Chance) -> Inputs {
+    let servers = servers(kind, chance);
+    let mut words = vec![1, kind.nodes as u32];
+    for (i, rating) in ratings(kind, &servers, chance).into_iter().enumerate() {
+        words.extend([kind.shape.parent(i as u32 + 1), rating]);
+    }
+    words.push(servers.len() as u32);
+    for server in &servers {
+        words.extend([server.rank, server.least, server.greatest]);
+        words.push(server.cords.len() as u32);
+        words.extend(server.cords.iter().flat_map(|&(node, share)| [node, share]));
+    }
+    let mut given = Inputs {
+        sheet: Vec::new(),
+        table: bytes(&words),
+        demands: bytes(&servers.iter().map(|s| s.demand).collect::<Vec<_>>()),
+    };
+    let mut out = Outputs::lent();
+    (CALLS[1].1)(&given, &mut out);
+    assert_eq!(out.told().0, 0, "a room that was made is refused");
+    given.sheet = out.first[..out.told().1 as usize].to_vec();
+    given
+}
+
+fn bytes(words: &[u32]) -> Vec<u8> {
+    words.iter().flat_map(|word| word.to_le_bytes()).collect()
+}
+
+/// Servers by pairs, of one to three cords each and four together.
+fn servers(kind: Kind, chance: &mut Chance) -> Vec<Server> {
+    let mut servers = Vec::new();
+    for _ in 0..kind.cords / 4 {
+        let cords = 1 + chance.below(3);
+        servers.push(server(kind, cords, chance));
+        servers.push(server(kind, 4 - cords, chance));
+    }
+    servers
+}
+
+fn server(kind: Kind, cords: u32, chance: &mut Chance) -> Server {
+    let least = 50 + chance.below(250);
+    let mut left = 1000;
+    let mut shares = Vec::new();
+    for _ in 1..cords {
+        shares.push(chance.below(left + 1));
+        left -= shares[shares.len() - 1];
+    }
+    shares.push(left);
+    let nodes = kind.nodes as u32;
+    Server {
+        rank: 1 + chance.below(kind.ranks),
+        least,
+        greatest: least + chance.below(600),
+        demand: chance.below(1200),
+        cords: shares.into_iter().map(|share| (1 + chance.below(nodes), share)).collect(),
+    }
+}
+
+/// Ratings between what the lows beneath a node need and a little more than what the wants there ask.
+fn ratings(kind: Kind, servers: &[Server], chance: &mut Chance) -> Vec<u32> {
+    let mut lows = vec![0; kind.nodes + 1];
+    let mut wants = vec![0; kind.nodes + 1];
+    for server in servers {
+        let need = server.demand.max(server.least).min(server.greatest);
+        for &(node, share) in &server.cords {
+            lows[node as usize] += (share * server.least).div_ceil(1000);
+            wants[node as usize] += (share * need).div_ceil(1000);
+        }
+    }
+    for node in (1..=kind.nodes).rev() {
+        let parent = kind.shape.parent(node as u32) as usize;
+        lows[parent] += lows[node];
+        wants[parent] += wants[node];
+    }
+    let mut limit = |n: usize| lows[n] + (wants[n] - lows[n]) / 100 * (40 + chance.below(70));
+    (1..=kind.nodes).map(|n| (limit(n) * 5).div_ceil(4)).collect()
+}

@@ -1,0 +1,295 @@
+//! Random rooms, their tables, sheets and demands.
+
+use crate::dice::Dice;
+
+/// The greatest figure of watts that a table or a demand may have.
+pub const MOST: u32 = 16_777_215;
+
+#[derive(Clone)]
+pub struct Node {
+    pub parent: u32,
+    pub rating: u32,
+}
+
+#[derive(Clone)]
+pub struct Cord {
+    pub node: u32,
+    pub share: u32,
+}
+
+#[derive(Clone)]
+pub struct Server {
+    pub rank: u32,
+    pub least: u32,
+    pub greatest: u32,
+    pub cords: Vec<Cord>,
+}
+
+#[derive(Clone)]
+pub struct Room {
+    pub nodes: Vec<Node>,
+    pub servers: Vec<Server>,
+}
+
+impl Room {
+    pub fn words(&self) -> Vec<u32> {
+        let mut words = vec![1, self.nodes.len() as u32];
+        for node in &self.nodes {
+            words.extend([node.parent, node.rating]);
+        }
+        words.push(self.servers.len() as u32);
+        for server in &self.servers {
+            words.extend([server.rank, server.least, server.greatest]);
+            words.push(server.cords.len() as u32);
+            words.extend(server.cords.iter().flat_map(|cord| [cord.node, cord.share]));
+        }
+        words
+    }
+
+    /// The room of a table that has a room's form, whatever its figures; for the shrinker.
+    pub fn parse(words: &[u32]) -> Option<Room> {
+        let mut left = words.iter().copied();
+        let mut room = Room {
+            nodes: Vec::new(),
+            servers: Vec::new(),
+        };
+        let (1, nodes) = (left.next()?, left.next()?) else {
+            return None;
+        };
+        for _ in 0..nodes {
+            let (parent, rating) = (left.next()?, left.next()?);
+            room.nodes.push(Node { parent, rating });
+        }
+        for _ in 0..left.next()? {
+            let (rank, least, greatest) = (left.next()?, left.next()?, left.next()?);
+            let mut cords = Vec::new();
+            for _ in 0..left.next()? {
+                let (node, share) = (left.next()?, left.next()?);
+                cords.push(Cord { node, share });
+            }
+            room.servers.push(Server {
+                rank,
+                least,
+                greatest,
+                cords,
+            });
+        }
+        left.next().is_none().then_some(room)
+    }
+
+    pub fn cord_count(&self) -> usize {
+        self.servers.iter().map(|server| server.cords.len()).sum()
+    }
+
+    /// For each node the sum, over its own cords alone, of their parts of a figure of the server.
+    fn on_nodes(&self, figure: impl Fn(&Server) -> u32) -> Vec<u64> {
+        let mut sums = vec![0; self.nodes.len()];
+        for server in &self.servers {
+            for cord in &server.cords {
+                let part = u64::from(cord.share) * u64::from(figure(server));
+                if let Some(sum) = at_node(&mut sums, cord.node) {
+                    *sum += part.div_ceil(1000);
+                }
+            }
+        }
+        sums
+    }
+
+    /// For each node the sum of the lows beneath it, at any depth.
+    pub fn lows_beneath(&self) -> Vec<u64> {
+        let mut sums = self.on_nodes(|server| server.least);
+        for (k, node) in self.nodes.iter().enumerate().rev() {
+            let own = sums[k];
+            if let Some(sum) = at_node(&mut sums, node.parent) {
+                *sum += own;
+            }
+        }
+        sums
+    }
+}
+
+/// The sum of the node with this number; none for 0, or a number that damage has left.
+fn at_node(sums: &mut [u64], number: u32) -> Option<&mut u64> {
+    sums.get_mut((number as usize).wrapping_sub(1))
+}
+
+/// The seven-bit form of the words; of a word that has none, its low 28 bits'.
+pub fn sheet(words: &[u32]) -> Vec<u8> {
+    let mut bytes = Vec::with_capacity(2 * words.len());
+    for word in words {
+        let mut left = word & 0x0FFF_FFFF;
+        while left > 127 {
+            bytes.push(left as u8 | 0x80);
+            left >>= 7;
+        }
+        bytes.push(left as u8);
+    }
+    bytes
+}
+
+/// A figure of watts whose size, small or large, is random too.
+pub fn watts(dice: &mut Dice) -> u32 {
+    (dice.roll() as u32 & MOST) >> dice.below(25)
+}
+
+/// A rating whose limit is `limit`, if there is one.
+pub fn rating(dice: &mut Dice, limit: u64) -> u32 {
+    let twin = u64::from(limit.is_multiple_of(4) && dice.one_in(2));
+    ((5 * limit).div_ceil(4) + twin).min(u64::from(MOST)) as u32
+}
+
+/// A room that is good, but for sizes beyond the limits (now and then) and lows that no rating
+/// can carry (rare).
+pub fn room(dice: &mut Dice) -> Room {
+    let (nodes, servers, cords) = sizes(dice);
+    let mut room = Room {
+        nodes: tree(dice, nodes),
+        servers: Vec::new(),
+    };
+    add_servers(dice, &mut room, servers, cords);
+    if !dice.one_in(50) {
+        lower_leasts(&mut room);
+    }
+    rate(dice, &mut room);
+    room
+}
+
+/// Counts of nodes, servers and cords (at most), mostly small so that calls are fast.
+fn sizes(dice: &mut Dice) -> (usize, usize, usize) {
+    match dice.below(1000) {
+        0..5 => dice.pick(&[(513, 512, 1024), (512, 513, 1024), (512, 512, 1027)]),
+        5..30 => dice.pick(&[(512, 512, 1024), (1, 512, 1024), (512, 256, 1024)]),
+        30..70 => (1 + dice.below(512), dice.below(513), 1024),
+        70..250 => (1 + dice.below(40), dice.below(41), 1024),
+        _ => (1 + dice.below(6), dice.below(6), 1024),
+    }
+}
+
+/// A forest of one of several shapes, without ratings.
+fn tree(dice: &mut Dice, count: usize) -> Vec<Node> {
+    let shape = dice.below(8);
+    (0..count)
+        .map(|k| {
+            let parent = match shape {
+                0 => k,
+                1 => k.min(1),
+                2 => k.div_ceil(2),
+                3 => 0,
+                4 => k - dice.below(k.min(4)),
+                5 if dice.one_in(4) => 0,
+                _ => dice.below(k + 1).max(k.min(1)),
+            };
+            Node {
+                parent: parent as u32,
+                rating: 0,
+            }
+        })
+        .collect()
+}
+
+fn add_servers(dice: &mut Dice, room: &mut Room, count: usize, mut cords_left: usize) {
+    let (ranks, figures, cords) = (dice.below(4), dice.below(7), dice.below(6));
+    let one_rank = dice.within(1, 16);
+    for k in 0..count {
+        let rank = match ranks {
+            0 => one_rank,
+            1 => 1 + k as u32 % 16,
+            2 => dice.pick(&[1, one_rank, 16]),
+            _ => dice.within(1, 16),
+        };
+        let (least, greatest) = range(dice, figures);
+        // Each server still to come keeps a cord, so that the room's count can be reached exactly.
+        let most = (cords_left.saturating_sub(count - k - 1)).clamp(1, 4);
+        let cords = [1, 2, 4].get(cords).map_or(1 + dice.below(4), |c| *c);
+        let cords = cord_list(dice, room.nodes.len(), cords.min(most));
+        cords_left -= cords.len().min(cords_left);
+        room.servers.push(Server {
+            rank,
+            least,
+            greatest,
+            cords,
+        });
+    }
+}
+
+/// Least and greatest, in one of several styles.
+fn range(dice: &mut Dice, style: usize) -> (u32, u32) {
+    match style {
+        0 => (dice.within(50, 300), dice.within(300, 1000)),
+        1 => (dice.within(0, 4), dice.within(4, 12)),
+        2 => (0, watts(dice)),
+        3 => (0, MOST),
+        4 => (MOST, MOST),
+        _ => {
+            let (a, b) = (watts(dice), watts(dice));
+            (a.min(b), if style == 5 { a.min(b) } else { a.max(b) })
+        }
+    }
+}
+
+/// Cords whose shares sum to 1,000: equal, all on one, or cut anywhere, and often 0.
+fn cord_list(dice: &mut Dice, nodes: usize, count: usize) -> Vec<Cord> {
+    let mut cuts: Vec<u32> = match dice.below(4) {
+        0 => (1..count).map(|k| (1000 * k / count) as u32).collect(),
+        1 => vec![dice.pick(&[0, 1000]); count - 1],
+        _ => (1..count).map(|_| dice.within(0, 1000)).collect(),
+    };
+    cuts.sort_unstable();
+    cuts.push(1000);
+    let mut before = 0;
+    let mut cord = |cut| {
+        let share = cut - before;
+        before = cut;
+        let node = 1 + dice.below(nodes) as u32;
+        Cord { node, share }
+    };
+    cuts.into_iter().map(&mut cord).collect()
+}
+
+/// Halves the leasts until the greatest limit carries the lows of every node.
+fn lower_leasts(room: &mut Room) {
+    while room.lows_beneath().iter().any(|low| *low > 13_421_772) {
+        for server in &mut room.servers {
+            server.least /= 2;
+        }
+    }
+}
+
+/// Ratings from just enough for the lows to more than enough for all that can be asked from
+/// below, so that limits bind at several depths.
+fn rate(dice: &mut Dice, room: &mut Room) {
+    let lows = room.lows_beneath();
+    let mut asked = room.on_nodes(|server| server.greatest);
+    let style = dice.below(6);
+    for k in (0..room.nodes.len()).rev() {
+        let spare = asked[k].saturating_sub(lows[k]);
+        let limit = match style {
+            0 => lows[k],
+            1 => u64::from(MOST),
+            2 => lows[k] + spare * dice.below(9) as u64 / 8,
+            3 => lows[k] + spare * (6 + dice.below(4) as u64) / 8,
+            _ => lows[k] + dice.roll() % (spare + 1),
+        };
+        room.nodes[k].rating = rating(dice, limit);
+        let passed = limit.min(asked[k]);
+        if let Some(sum) = at_node(&mut asked, room.nodes[k].parent) {
+            *sum += passed;
+        }
+    }
+}
+
+/// A good demand for each server.
+pub fn demands(dice: &mut Dice, room: &Room) -> Vec<u32> {
+    let style = dice.below(6);
+    let mut demand = |server: &Server| match style {
+        0 => MOST,
+        1 => server.greatest,
+        2 => dice.within(0, server.greatest),
+        3 => watts(dice),
+        _ => {
+            let near = dice.pick(&[server.least, server.greatest, 0, MOST]);
+            (near + dice.within(0, 2)).saturating_sub(1).min(MOST)
+        }
+    };
+    room.servers.iter().map(&mut demand).collect()
+}

@@ -1,0 +1,70 @@
+//! The three C calls: lists as bytes, four a word, low byte first, and the answer buffer.
+
+use crate::Refusal;
+
+const ANSWER: usize = 16;
+const WORD: usize = 4;
+
+pub fn read(sheet: &[u8], table: &mut [u8], answer: &mut [u8]) -> u32 {
+    answered(answer, || {
+        let words = crate::read(sheet, table.len() / WORD)?;
+        put_words(&words, table);
+        Ok(words.len() as u64)
+    })
+}
+
+pub fn write(table: &[u8], sheet: &mut [u8], answer: &mut [u8]) -> u32 {
+    answered(answer, || {
+        let bytes = crate::write(&words(table), sheet.len())?;
+        sheet[..bytes.len()].copy_from_slice(&bytes);
+        Ok(bytes.len() as u64)
+    })
+}
+
+pub fn plan(
+    table: &[u8],
+    demands: &[u8],
+    grants: &mut [u8],
+    caps: &mut [u8],
+    answer: &mut [u8],
+) -> u32 {
+    answered(answer, || {
+        let rooms = (grants.len() / WORD, caps.len() / WORD);
+        let plan = crate::plan(&words(table), &words(demands), rooms.0, rooms.1)?;
+        put_words(&plan.grants, grants);
+        put_words(&plan.caps, caps);
+        Ok(plan.freed)
+    })
+}
+
+/// Runs the call if its answer fits, and answers.
+fn answered(answer: &mut [u8], call: impl FnOnce() -> Result<u64, Refusal>) -> u32 {
+    let Some(answer) = answer.get_mut(..ANSWER) else {
+        return 0;
+    };
+    let (number, figure) = match call() {
+        Ok(figure) => (0, figure),
+        Err(refusal) => (refusal.number, refusal.place),
+    };
+    let (first, second) = answer.split_at_mut(ANSWER / 2);
+    first.copy_from_slice(&number.to_le_bytes());
+    second.copy_from_slice(&figure.to_le_bytes());
+    1
+}
+
+/// The whole words of a list; bytes over at its end are none.
+fn words(list: &[u8]) -> Vec<u32> {
+    let word = |four: &[u8]| {
+        let mut bytes = [0; WORD];
+        bytes.copy_from_slice(four);
+        u32::from_le_bytes(bytes)
+    };
+    list.chunks_exact(WORD).map(word).collect()
+}
+
+/// The words at the front of a list with room for them.
+fn put_words(words: &[u32], list: &mut [u8]) {
+    for (word, four) in words.iter().zip(list.chunks_exact_mut(WORD)) {
+        four.copy_from_slice(&word.to_le_bytes());
+    }
+}

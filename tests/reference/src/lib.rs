@@ -1,0 +1,81 @@
+//! Document 01 worked a second time, by someone who has seen no other program for it: read, write,
+//! plan, the C calls and the print, for comparing answers.
+//!
+//! The room is grown as trees of owned nodes and every figure is a wide integer, so that nothing
+//! here shares a shape, or a mistake, with a program that scans its table.
+
+pub mod call;
+pub mod deal;
+pub mod number;
+pub mod plan;
+mod program;
+pub mod room;
+pub mod table;
+
+pub use program::print;
+
+use room::Room;
+
+/// Watts, thousandths and all that is reckoned from them.
+pub type Watts = i128;
+
+/// A refusal: document 01's number and place.
+#[derive(Clone, Copy, Debug, PartialEq, Eq)]
+pub struct Refusal {
+    pub number: u64,
+    pub place: u64,
+}
+
+impl Refusal {
+    pub(crate) fn new(number: u64, place: usize) -> Refusal {
+        Refusal {
+            number,
+            place: place as u64,
+        }
+    }
+}
+
+/// What Plan answers when it accepts.
+#[derive(Clone, Debug, PartialEq, Eq)]
+pub struct Plan {
+    pub freed: u64,
+    pub grants: Vec<u32>,
+    pub caps: Vec<u32>,
+}
+
+/// Read, with room for so many words: the table's words.
+pub fn read(sheet: &[u8], room: usize) -> Result<Vec<u32>, Refusal> {
+    let words = number::words(sheet)?;
+    Room::of_words(&words)?;
+    fits(12, words.len(), room)?;
+    Ok(words)
+}
+
+/// Write, with room for so many bytes: the sheet's bytes.
+pub fn write(table: &[u32], room: usize) -> Result<Vec<u8>, Refusal> {
+    Room::of_words(table)?;
+    let bytes = number::bytes(table);
+    fits(12, bytes.len(), room)?;
+    Ok(bytes)
+}
+
+/// Plan, with room for so many grants and caps.
+pub fn plan(
+    table: &[u32],
+    demands: &[u32],
+    grants_room: usize,
+    caps_room: usize,
+) -> Result<Plan, Refusal> {
+    let room = Room::of_words(table)?;
+    plan::check_demands(&room, demands)?;
+    fits(12, room.cords.len(), grants_room)?;
+    fits(13, room.servers.len(), caps_room)?;
+    Ok(plan::deals(&room, demands).answer())
+}
+
+fn fits(number: u64, needed: usize, room: usize) -> Result<(), Refusal> {
+    if needed > room {
+        return Err(Refusal::new(number, needed));
+    }
+    Ok(())
+}

@@ -1,0 +1,127 @@
+//! The room table, word by word: refusals 4 to 8.
+
+use crate::Refusal;
+
+const MOST_WATTS: u32 = 16_777_215;
+const MOST_NODES: u32 = 512;
+const MOST_SERVERS: u32 = 512;
+const MOST_CORDS: u32 = 1_024;
+const WHOLE: u32 = 1_000;
+
+/// A table as it is written, entry by entry.
+#[derive(Clone, Debug, PartialEq, Eq)]
+pub struct Table {
+    pub nodes: Vec<NodeEntry>,
+    pub servers: Vec<ServerEntry>,
+}
+
+#[derive(Clone, Copy, Debug, PartialEq, Eq)]
+pub struct NodeEntry {
+    pub parent: u32,
+    pub rating: u32,
+}
+
+#[derive(Clone, Debug, PartialEq, Eq)]
+pub struct ServerEntry {
+    pub rank: u32,
+    pub least: u32,
+    pub greatest: u32,
+    pub cords: Vec<CordEntry>,
+}
+
+#[derive(Clone, Copy, Debug, PartialEq, Eq)]
+pub struct CordEntry {
+    pub node: u32,
+    pub share: u32,
+}
+
+impl Table {
+    pub fn of_words(words: &[u32]) -> Result<Table, Refusal> {
+        let mut reader = Reader { words, index: 0 };
+        reader.next(1, 1)?;
+        let nodes = reader.nodes()?;
+        let servers = reader.servers(nodes.len() as u32)?;
+        reader.end()?;
+        Ok(Table { nodes, servers })
+    }
+}
+
+struct Reader<'a> {
+    words: &'a [u32],
+    index: usize,
+}
+
+impl Reader<'_> {
+    /// The next word, which must lie from `lowest` to `highest`.
+    fn next(&mut self, lowest: u32, highest: u32) -> Result<u32, Refusal> {
+        let Some(&word) = self.words.get(self.index) else {
+            return Err(Refusal::new(4, self.words.len()));
+        };
+        if word < lowest || word > highest {
+            return Err(Refusal::new(5, self.index));
+        }
+        self.index += 1;
+        Ok(word)
+    }
+
+    fn nodes(&mut self) -> Result<Vec<NodeEntry>, Refusal> {
+        let count = self.next(1, MOST_NODES)?;
+        (1..=count).map(|number| self.node(number)).collect()
+    }
+
+    fn node(&mut self, number: u32) -> Result<NodeEntry, Refusal> {
+        Ok(NodeEntry {
+            parent: self.next(0, number - 1)?,
+            rating: self.next(0, MOST_WATTS)?,
+        })
+    }
+
+    fn servers(&mut self, nodes: u32) -> Result<Vec<ServerEntry>, Refusal> {
+        let count = self.next(0, MOST_SERVERS)?;
+        let mut cords_left = MOST_CORDS;
+        let mut servers = Vec::new();
+        for _ in 0..count {
+            let server = self.server(nodes, cords_left)?;
+            cords_left -= server.cords.len() as u32;
+            servers.push(server);
+        }
+        Ok(servers)
+    }
+
+    fn server(&mut self, nodes: u32, cords_left: u32) -> Result<ServerEntry, Refusal> {
+        let start = self.index;
+        let rank = self.next(1, 16)?;
+        let least = self.next(0, MOST_WATTS)?;
+        let greatest = self.next(0, MOST_WATTS)?;
+        if greatest < least {
+            return Err(Refusal::new(6, self.index - 1));
+        }
+        let count = self.next(1, cords_left.min(4))?;
+        let cords = (0..count)
+            .map(|_| self.cord(nodes))
+            .collect::<Result<Vec<_>, _>>()?;
+        if cords.iter().map(|cord| cord.share).sum::<u32>() != WHOLE {
+            return Err(Refusal::new(7, start));
+        }
+        Ok(ServerEntry {
+            rank,
+            least,
+            greatest,
+            cords,
+        })
+    }
+
+    fn cord(&mut self, nodes: u32) -> Result<CordEntry, Refusal> {
+        Ok(CordEntry {
+            node: self.next(1, nodes)?,
+            share: self.next(0, WHOLE)?,
+        })
+    }
+
+    fn end(&self) -> Result<(), Refusal> {
+        if self.index < self.words.len() {
+            return Err(Refusal::new(8, self.index));
+        }
+        Ok(())
+    }
+}

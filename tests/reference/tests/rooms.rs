@@ -1,0 +1,250 @@
+//! Document 01's rooms, its near misses, and some more rooms worked by hand.
+
+mod common;
+
+use common::{room_h, table, Server};
+use reference::deal::split;
+use reference::plan::{deals, Deals};
+use reference::room::Room;
+use reference::{plan, Plan, Refusal};
+
+fn planned(table: &[u32], demands: &[u32]) -> Plan {
+    plan(table, demands, 1_024, 512).expect("an accepted room")
+}
+
+fn grants(table: &[u32], demands: &[u32]) -> Vec<u32> {
+    planned(table, demands).grants
+}
+
+fn dealt(table: &[u32], demands: &[u32]) -> Deals {
+    deals(&Room::of_words(table).expect("an accepted room"), demands)
+}
+
+#[test]
+fn room_h_is_dealt_twice() {
+    let deals = dealt(&room_h(500), &[400, 400]);
+    assert_eq!(deals.first_wants, [200, 200, 400]);
+    assert_eq!(deals.first_grants, [120, 133, 267]);
+    assert_eq!(deals.usable, [240, 267]);
+    assert_eq!(deals.used, [120, 120, 267]);
+    assert_eq!(deals.stranded, [0, 13, 0]);
+    assert_eq!(deals.second_wants, [200, 120, 400]);
+    let answer = Plan {
+        freed: 13,
+        grants: vec![120, 97, 303],
+        caps: vec![194, 303],
+    };
+    assert_eq!(deals.answer(), answer);
+    assert_eq!(plan(&room_h(500), &[400, 400], 3, 2), Ok(answer));
+}
+
+/// Both limits met by the lows on node 2: cord 1 gets 120 at first, of which 70 are stranded.
+#[test]
+fn room_h_rated_188_is_accepted() {
+    let plan = planned(&room_h(188), &[400, 400]);
+    assert_eq!(plan.freed, 70);
+    assert_eq!(plan.grants, [50, 50, 100]);
+    assert_eq!(plan.caps, [100, 100]);
+}
+
+#[test]
+fn room_h_rated_187_is_refused() {
+    let refusal = Refusal {
+        number: 9,
+        place: 2,
+    };
+    assert_eq!(reference::write(&room_h(187), 28), Err(refusal));
+    assert_eq!(plan(&room_h(187), &[400, 400], 3, 2), Err(refusal));
+}
+
+fn room_s(rating: u32) -> Vec<u32> {
+    table(
+        &[(0, rating), (1, 938), (1, 938)],
+        &[
+            (2, 270, 500, &[(2, 1000)]),
+            (1, 270, 500, &[(2, 1000)]),
+            (1, 270, 500, &[(3, 1000)]),
+            (1, 270, 500, &[(3, 1000)]),
+        ],
+    )
+}
+
+#[test]
+fn room_s_gives_the_higher_rank_first() {
+    let plan = planned(&room_s(1_550), &[430; 4]);
+    assert_eq!(plan.grants, [430, 270, 270, 270]);
+    assert_eq!(plan.caps, [430, 270, 270, 270]);
+    assert_eq!(plan.freed, 0);
+}
+
+#[test]
+fn room_s_with_a_greater_root_loses_no_watt() {
+    let plan = planned(&room_s(1_625), &[430; 4]);
+    assert_eq!(plan.grants, [430, 281, 294, 295]);
+    assert_eq!(plan.caps, [430, 281, 294, 295]);
+}
+
+#[test]
+fn a_room_without_servers_frees_nothing() {
+    let empty = Plan {
+        freed: 0,
+        grants: vec![],
+        caps: vec![],
+    };
+    assert_eq!(plan(&[1, 1, 0, 0, 0], &[], 0, 0), Ok(empty.clone()));
+    assert_eq!(plan(&table(&[(0, 9), (1, 9)], &[]), &[], 7, 7), Ok(empty));
+}
+
+/// Root limit 150, child limit 100.
+#[test]
+fn weights_are_excesses_not_wants() {
+    let room = table(
+        &[(0, 188), (1, 125)],
+        &[(1, 0, 1_000, &[(2, 1000)]), (1, 0, 100, &[(1, 1000)])],
+    );
+    assert_eq!(grants(&room, &[1_000, 100]), [75, 75]);
+}
+
+#[test]
+fn sixty_watts_over_50_and_210_stay_sixty() {
+    assert_eq!(split(60, &[50, 210]), [11, 49]);
+    let room = table(
+        &[(0, 75)],
+        &[(1, 0, 50, &[(1, 1000)]), (1, 0, 210, &[(1, 1000)])],
+    );
+    assert_eq!(grants(&room, &[50, 210]), [11, 49]);
+}
+
+#[test]
+fn nothing_is_dealt_where_nothing_is_wanted() {
+    assert_eq!(split(0, &[0, 0]), [0, 0]);
+    assert_eq!(split(0, &[]), []);
+    assert_eq!(split(5, &[0, 5, 0]), [0, 5, 0]);
+}
+
+/// 3 W over two equal cords are lows of 2 W each: 1 W is too little for either.
+#[test]
+fn lows_are_rounded_up() {
+    let halves: Server = (1, 3, 3, &[(1, 500), (2, 500)]);
+    let refused = plan(&table(&[(0, 3), (0, 2)], &[halves]), &[3], 2, 1);
+    assert_eq!(
+        refused,
+        Err(Refusal {
+            number: 9,
+            place: 2
+        })
+    );
+    let plan = planned(&table(&[(0, 3), (0, 3)], &[halves]), &[3]);
+    assert_eq!(plan.grants, [2, 2]);
+    assert_eq!(plan.caps, [3]);
+}
+
+/// In room H server 2's cord has nothing stranded: wanting only its 267 it could not reach 303.
+#[test]
+fn only_a_cord_with_stranded_watts_wants_less() {
+    let deals = dealt(&room_h(500), &[400, 400]);
+    assert_eq!(deals.second_wants[2], 400);
+    assert_eq!(deals.second_grants[2], 303);
+}
+
+#[test]
+fn a_need_is_raised_to_least_and_cut_to_greatest() {
+    let room = table(&[(0, 1_000)], &[(1, 100, 400, &[(1, 1000)])]);
+    assert_eq!(grants(&room, &[0]), [100]);
+    assert_eq!(grants(&room, &[99]), [100]);
+    assert_eq!(grants(&room, &[101]), [101]);
+    assert_eq!(grants(&room, &[399]), [399]);
+    assert_eq!(grants(&room, &[16_777_215]), [400]);
+}
+
+/// One watt over two equal weights is floor(1/2) for the first child and the rest for the second,
+/// so the grants show which child comes last.
+#[test]
+fn child_nodes_come_before_own_cords() {
+    let nodes = [(0, 2), (1, 9)];
+    let beneath: Server = (1, 0, 1, &[(2, 1000)]);
+    let own: Server = (1, 0, 1, &[(1, 1000)]);
+    assert_eq!(grants(&table(&nodes, &[beneath, own]), &[1, 1]), [0, 1]);
+    assert_eq!(grants(&table(&nodes, &[own, beneath]), &[1, 1]), [1, 0]);
+}
+
+#[test]
+fn child_nodes_stand_in_number_order() {
+    let nodes = [(0, 2), (1, 9), (1, 9)];
+    let second: Server = (1, 0, 1, &[(2, 1000)]);
+    let third: Server = (1, 0, 1, &[(3, 1000)]);
+    assert_eq!(grants(&table(&nodes, &[second, third]), &[1, 1]), [0, 1]);
+    assert_eq!(grants(&table(&nodes, &[third, second]), &[1, 1]), [1, 0]);
+}
+
+#[test]
+fn own_cords_stand_in_table_order() {
+    let cord: Server = (1, 0, 1, &[(1, 1000)]);
+    assert_eq!(grants(&table(&[(0, 2)], &[cord; 3]), &[1; 3]), [0, 0, 1]);
+    assert_eq!(grants(&table(&[(0, 3)], &[cord; 3]), &[1; 3]), [0, 1, 1]);
+}
+
+/// Limit 11, wants 10, 5 and 5 at ranks 3, 2 and 1, lows 0, 1 and 2. Rank 3 has 11 − 3 = 8,
+/// rank 2 has 11 − 8 − 2 = 1, rank 1 has 11 − 9 = 2.
+#[test]
+fn a_higher_rank_leaves_the_lower_ranks_their_lows() {
+    let room = table(
+        &[(0, 14)],
+        &[
+            (1, 2, 5, &[(1, 1000)]),
+            (3, 0, 10, &[(1, 1000)]),
+            (2, 1, 5, &[(1, 1000)]),
+        ],
+    );
+    assert_eq!(grants(&room, &[5, 10, 5]), [2, 8, 1]);
+}
+
+/// A share of 0 carries nothing and holds nobody back. Grants on one node add up.
+#[test]
+fn cords_may_share_a_node_and_carry_nothing() {
+    let cords = [(1, 0), (2, 300), (2, 700), (1, 0)];
+    let room = table(&[(0, 0), (0, 100)], &[(16, 10, 90, &cords)]);
+    // Limit 80, lows 3 and 7, wants 27 and 63: 70 W over 24 and 56 are 21 and 49.
+    let plan = planned(&room, &[90]);
+    assert_eq!(plan.grants, [0, 24, 56, 0]);
+    assert_eq!(plan.caps, [80]);
+    assert_eq!(plan.freed, 0);
+}
+
+/// The greatest figures that a table can hold.
+#[test]
+fn the_greatest_watts_are_dealt_exactly() {
+    let most = 16_777_215;
+    let cord: Server = (8, 0, most, &[(1, 1000)]);
+    let room = table(&[(0, most)], &vec![cord; 512]);
+    let plan = planned(&room, &[most; 512]);
+    // floor(16,777,215 × 80 / 100) = 13,421,772 = 512 × 26,214 + 204.
+    assert_eq!(plan.grants.iter().sum::<u32>(), 13_421_772);
+    assert_eq!(plan.grants.iter().filter(|&&g| g == 26_215).count(), 204);
+    assert_eq!(plan.grants.iter().filter(|&&g| g == 26_214).count(), 308);
+    assert_eq!(plan.caps, plan.grants);
+}
+
+/// 512 servers, each with one cord held to 0 W: all that its other cord gets is stranded.
+#[test]
+fn freed_sums_over_all_cords() {
+    let most = 16_777_215;
+    let cords = [(1, 999), (2, 1)];
+    let room = table(&[(0, 0), (0, most)], &vec![(1, 0, most, &cords[..]); 512]);
+    let plan = planned(&room, &[most; 512]);
+    // Wants of ceil(16,777,215 / 1000) = 16,778 W each, 8,590,336 W in all, pass node 2 whole.
+    assert_eq!(plan.freed, 8_590_336);
+    assert_eq!(plan.caps, [0; 512]);
+    assert_eq!(plan.grants, [0; 1_024]);
+}
+
+/// A chain of 512 breakers, the narrowest (limit 8) in the middle.
+#[test]
+fn a_chain_of_512_breakers_lets_through_its_narrowest() {
+    let mut nodes: Vec<(u32, u32)> = (0..512).map(|parent| (parent, 1_000)).collect();
+    nodes[255].1 = 10;
+    let deepest: &[(u32, u32)] = &[(512, 1000)];
+    let room = table(&nodes, &[(2, 1, 9, deepest), (1, 1, 9, deepest)]);
+    let plan = planned(&room, &[6, 9]);
+    assert_eq!(plan.grants, [6, 2]);
+}

@@ -16,7 +16,8 @@ use Rattle.rooms.specs.Table.{mostWatts, mostCords}
 use Rattle.rooms.proofs.Sums.{on-yes, on-no, sum-suc, sum-none}
 use Rattle.deals.specs.Figures.{at}
 use Rattle.deals.specs.Split.{part}
-use Rattle.deals.specs.Passes.{CordLists, wholeOf, cordsBefore, CordsDealt}
+use Rattle.deals.specs.Passes.{NextOf, CordLists, wholeOf, cordsBefore, CordsDealt}
+use Rattle.deals.proofs.Links.{skipped}
 use Rattle.deals.proofs.Serving.{part-le-amount, sum-within, MayServe, HasServed, Served, served-same, served-part, served-next, may-serve}
 
 on-none : (t : Bool) → on t 0 ≡ 0
@@ -93,24 +94,22 @@ module _ {nodes levels lows wants : List ℕ} {level : ℕ} {pcapmins asked amou
         ∙ ap (λ (k : ℕ). at before₀ n + k) (sum-suc c (λ h. on (eqb (at nodes h) (suc n)) (on (eqb (at levels h) level) (at wants h - at lows h))))
         ∙ sym (add-assoc (at before₀ n) (cordsBefore nodes levels lows wants level n c) (on (eqb (at nodes c) (suc n)) (on (eqb (at levels c) level) (at wants c - at lows c))))
 
-    module _ (rank : ℕ) (rank-is : rank ≡ at levels c) where
-      -- A cord of another rank is passed over.
-      pub other-next : {before′ dealt′ grants′ : List ℕ} → (rank ≡ level → ⊥) → before′ ≡ before → dealt′ ≡ dealt → grants′ ≡ grants
-          → CordTurn nodes levels lows wants level pcapmins asked amounts before₀ grants₀ (c + 1) before′ dealt′ grants′
-      other-next {before′} {dealt′} {grants′} other b d g =
-          let same : (h : ℕ) → at grants′ h ≡ at grants h = λ h. ap (λ (l : List ℕ). at l h) g in
-          record {
-            ready = turn .ready;
-            reached = omega arith;
-            grants-size = ap length g ∙ turn .grants-size;
-            ours = below-more (CordDealt nodes levels lows wants level pcapmins asked amounts before₀ grants′) c (λ h l n r z. same h ∙ turn .ours h l n r z) (λ n r z. absurd (other (rank-is ∙ r)));
-            others = λ h z. same h ∙ turn .others h (λ l. z (omega arith));
-            served = served-same (turn .served) (weightsBefore nodes levels lows wants level before₀ (c + 1))
-                (λ n. weights-next n
-                ∙ ap (λ (y : ℕ). weightsBefore nodes levels lows wants level before₀ c n + y) (ap (on (eqb (at nodes c) (suc n))) (on-no (eqb (at levels c) level) (at wants c - at lows c) (ne-eqb (at levels c) level (λ r. other (rank-is ∙ r)))) ∙ on-none (eqb (at nodes c) (suc n)))
-                ∙ add-zero (weightsBefore nodes levels lows wants level before₀ c n))
-                b d;
-          }
+    -- A cord of another rank is passed over.
+    other-next : (at levels c ≡ level → ⊥) → CordTurn nodes levels lows wants level pcapmins asked amounts before₀ grants₀ (c + 1) before dealt grants
+    other-next other =
+        record {
+          ready = turn .ready;
+          reached = omega arith;
+          grants-size = turn .grants-size;
+          ours = below-more (CordDealt nodes levels lows wants level pcapmins asked amounts before₀ grants) c (turn .ours) (λ n r z. absurd (other r));
+          others = λ h z. turn .others h (λ l. z (omega arith));
+          served = served-same (turn .served) (weightsBefore nodes levels lows wants level before₀ (c + 1))
+              (λ n. weights-next n
+              ∙ ap (λ (y : ℕ). weightsBefore nodes levels lows wants level before₀ c n + y)
+              (ap (on (eqb (at nodes c) (suc n))) (on-no (eqb (at levels c) level) (at wants c - at lows c) (ne-eqb (at levels c) level other)) ∙ on-none (eqb (at nodes c) (suc n)))
+              ∙ add-zero (weightsBefore nodes levels lows wants level before₀ c n))
+              refl refl;
+        }
 
     -- A cord of the rank is served by its node, which has a number.
     module _ (node : ℕ) (node-is : node ≡ at nodes c) where
@@ -173,3 +172,11 @@ module _ {nodes levels lows wants : List ℕ} {level : ℕ} {pcapmins asked amou
                     (λ n. weights-next n ∙ ap (λ (y : ℕ). weightsBefore nodes levels lows wants level before₀ c n + y) (weight-on n))
                     has;
               }
+
+-- The cords of other ranks up to the next one of the rank are passed over.
+pub cords-skip : {nodes levels lows wants : List ℕ} {level : ℕ} {pcapmins asked amounts before₀ grants₀ : List ℕ} {c d : ℕ} {before dealt grants : List ℕ} → NextOf levels level c d
+    → CordTurn nodes levels lows wants level pcapmins asked amounts before₀ grants₀ c before dealt grants
+    → CordTurn nodes levels lows wants level pcapmins asked amounts before₀ grants₀ d before dealt grants
+cords-skip {nodes} {levels} {lows} {wants} {level} {pcapmins} {asked} {amounts} {before₀} {grants₀} {before = before} {dealt = dealt} {grants = grants} ahead =
+    skipped (λ (i : ℕ). CordTurn nodes levels lows wants level pcapmins asked amounts before₀ grants₀ i before dealt grants) ahead
+    (λ h l other turn. other-next turn (omega (arith, turn .ready .cords .levels-size)) other)

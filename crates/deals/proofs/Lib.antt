@@ -28,7 +28,7 @@ pub mod Gathering
 pub mod Serving
 pub mod NodeTurns
 pub mod CordTurns
-pub mod Marks
+pub mod Links
 pub mod Ranks
 pub mod RankLoop
 pub mod Filled

@@ -21,35 +21,36 @@ use Rattle.rooms.proofs.Trees.{kids, kids-cong, own, below-step, down, under, u
 use Rattle.rooms.proofs.Credits.{credited-at, credited-length, zeros-at, sumBeneath-step, sumBeneath-most}
 use Rattle.rooms.proofs.Gather.{Holds, holds-start, holds-turn, holds-most, holds-whole}
 use Rattle.deals.specs.Figures.{at}
-use Rattle.deals.specs.Passes.{onNode}
+use Rattle.deals.specs.Passes.{NextOf, onNode}
 use Rattle.deals.proofs.Lists.{sum-most}
+use Rattle.deals.proofs.Links.{skipped}
 
--- ---- A list that is cleared
+-- ---- A list with one figure throughout
 
--- The places below i hold 0.
-pub record Cleared (start : List ℕ) (i : ℕ) (list : List ℕ) : Type 0 where
+-- The places below i hold the figure.
+pub record Spread (figure : ℕ) (start : List ℕ) (i : ℕ) (list : List ℕ) : Type 0 where
   pub size : length list ≡ length start
-  pub zeros : (k : ℕ) → k < i → at list k ≡ 0
+  pub holds : (k : ℕ) → k < i → at list k ≡ figure
 
-pub cleared-start : (start : List ℕ) → Cleared start 0 start
-cleared-start start = record { size = refl; zeros = λ k l. absurd (omega arith) }
+module _ {figure : ℕ} where
+  pub spread-start : (start : List ℕ) → Spread figure start 0 start
+  spread-start start = record { size = refl; holds = λ k l. absurd (omega arith) }
 
-module _ {start list : List ℕ} {i : ℕ} where
-  pub cleared-turn : Cleared start i list → i < length start → Cleared start (i + 1) (set list i 0)
-  cleared-turn inv h =
+  pub spread-turn : {start list : List ℕ} {i : ℕ} → Spread figure start i list → i < length start → Spread figure start (i + 1) (set list i figure)
+  spread-turn {start} {list} {i} inv h =
       record {
-        size = length-set list i 0 ∙ inv .size;
-        zeros = λ k l. go k (eq-or-lt-of-le {n = k} {m = i} (omega arith));
+        size = length-set list i figure ∙ inv .size;
+        holds = λ k l. go k (eq-or-lt-of-le {n = k} {m = i} (omega arith));
       }
     where
-      go : (k : ℕ) → (k ≡ i) ⊎ (k < i) → at (set list i 0) k ≡ 0
-      go k (inl e) = rw e (getD-set-same list i 0 0 (omega (arith, inv .size)))
-      go k (inr l) = getD-set-other list i k 0 0 (λ e. omega arith) ∙ inv .zeros k l
+      go : (k : ℕ) → (k ≡ i) ⊎ (k < i) → at (set list i figure) k ≡ figure
+      go k (inl e) = rw e (getD-set-same list i figure 0 (omega (arith, inv .size)))
+      go k (inr l) = getD-set-other list i k figure 0 (λ e. omega arith) ∙ inv .holds k l
 
-  pub cleared-end : Cleared start i list → length start ≤ i → list ≡ replicate (length start) 0
-  cleared-end inv h =
-      ext-getD 0 list (replicate (length start) 0) (inv .size ∙ sym (length-replicate (length start) 0))
-      (λ k l. inv .zeros k (omega (arith, inv .size)) ∙ sym (zeros-at (length start) k))
+pub cleared-end : {start list : List ℕ} {i : ℕ} → Spread 0 start i list → length start ≤ i → list ≡ replicate (length start) 0
+cleared-end {start} {list} inv h =
+    ext-getD 0 list (replicate (length start) 0) (inv .size ∙ sym (length-replicate (length start) 0))
+    (λ k l. inv .holds k (omega (arith, inv .size)) ∙ sym (zeros-at (length start) k))
 
 -- ---- Figures of cords, summed on the cords' nodes
 
@@ -174,6 +175,12 @@ module _ {count : ℕ} {node figure : ℕ → ℕ} {c : ℕ} {sums : List ℕ} (
         sum-most c mostWatts figure (λ i l. hangs i (omega arith) .2),
       ),
     )
+
+-- The cords of other levels up to the next one of the level add nothing.
+pub credited-skip : {count : ℕ} {node : ℕ → ℕ} {levels : List ℕ} (figures : List ℕ) {level c d : ℕ} {sums : List ℕ} → NextOf levels level c d
+    → Credited count node (ofLevel levels figures level) c sums → Credited count node (ofLevel levels figures level) d sums
+credited-skip {count} {node} {levels} figures {level} {sums = sums} ahead =
+    skipped (λ (i : ℕ). Credited count node (ofLevel levels figures level) i sums) ahead (λ h l other done. credited-none done (ofLevel-no levels figures level h other))
 
 -- The sums of a level on all nodes together do not pass the most that all cords have.
 pub onNode-sum : (count : ℕ) (nodes levels figures : List ℕ) (level : ℕ) (sums : ℕ → ℕ) → length nodes ≤ mostCords → Hangs count (length nodes) (at nodes) (at figures)

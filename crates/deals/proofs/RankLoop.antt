@@ -1,6 +1,5 @@
 -- The loop over the ranks: what it keeps, what each pass of a rank asks, and what a turn leaves.
 use mathlib.Core.Path.{_≡_, refl, sym, ap, _∙_, subst}
-use mathlib.Core.Bool.{Bool, false}
 use mathlib.Core.List.{List, []}
 use Prim.Native.Nat.{ℕ, suc, _+_, _-_, _*_, _/_, _≤_, _<_}
 use native.Mathlib.Omega.{arith}
@@ -13,16 +12,16 @@ use Rattle.rooms.specs.Credits.{sumBeneath}
 use Rattle.deals.specs.Figures.{at, cell}
 use Rattle.deals.specs.Metrics.{dealFrom}
 use Rattle.deals.specs.Dealing.{granted}
-use Rattle.deals.specs.Passes.{NodeLists, CordLists, LowsWithin, FullRows, onNode, overChildren, Gathered, weightOf, wholeOf, NodesDealt, cordsBefore, CordsDealt}
-use Rattle.deals.proofs.Marks.{Marked, unmarked}
+use Rattle.deals.specs.Passes.{NodeLists, CordLists, LowsWithin, Linked, ChainOf, FullRows, onNode, overChildren, Gathered, weightOf, wholeOf, NodesDealt, cordsBefore, CordsDealt}
+use Rattle.deals.proofs.Links.{chain-of, no-cord}
 use Rattle.deals.proofs.Ranks.{State, state-start, state-end, state-skip, lows-sum, wants-sum, gather-asks, nodes-ask, cords-ask, cords-room, state-turn}
 
 -- Before the ranks below `above`.
-pub record RankLoop (parents limits nodes levels lows wants : List ℕ) (used : List Bool) (above : ℕ) (rows : List (List ℕ)) (left lower pcapmins asked amounts before dealt grants : List ℕ) : Type 0 where
+pub record RankLoop (parents limits nodes levels lows wants : List ℕ) (first next : List ℕ) (above : ℕ) (rows : List (List ℕ)) (left lower pcapmins asked amounts before dealt grants : List ℕ) : Type 0 where
   pub ns : NodeLists parents limits
   pub cs : CordLists (length parents) nodes levels lows wants
   pub lw : LowsWithin parents limits nodes lows
-  pub marked : Marked levels used (length levels)
+  pub linked : Linked levels first next
   pub full : FullRows rows
   pub state : State parents limits nodes levels lows wants ns cs lw above left lower grants
   pub left-size : length left ≡ length parents
@@ -59,17 +58,17 @@ module _ {nodeCount : ℕ} {nodes levels lows wants : List ℕ} (cs : CordLists 
   pub lows-hang : (c : ℕ) → c < length nodes → (1 ≤ at nodes c) × (at nodes c ≤ nodeCount) × (at lows c ≤ mostWatts)
   lows-hang c l = (cs .hangs c l, cs .within c l, omega (arith, cs .ordered c l, cs .most c l))
 
-pub loop-start : {parents limits nodes levels lows wants : List ℕ} {used : List Bool} {rows : List (List ℕ)} {left lower pcapmins asked amounts before dealt grants : List ℕ}
+pub loop-start : {parents limits nodes levels lows wants : List ℕ} {first next : List ℕ} {rows : List (List ℕ)} {left lower pcapmins asked amounts before dealt grants : List ℕ}
     (ns : NodeLists parents limits) (cs : CordLists (length parents) nodes levels lows wants) (lw : LowsWithin parents limits nodes lows)
-    → Marked levels used (length levels) → FullRows rows → left ≡ limits
+    → Linked levels first next → FullRows rows → left ≡ limits
     → ((n : ℕ) → n < length parents → at lower n ≡ sum (length nodes) (λ c. on (beneath (at parents) (length parents) n (at nodes c)) (at lows c)))
     → length lower ≡ length parents → length pcapmins ≡ length parents → length asked ≡ length parents → length amounts ≡ length parents → length before ≡ length parents → length dealt ≡ length parents
-    → length grants ≡ length nodes → RankLoop parents limits nodes levels lows wants used 16 rows left lower pcapmins asked amounts before dealt grants
-loop-start {parents = parents} {limits = limits} {nodes = nodes} {levels = levels} {lows = lows} {wants = wants} {left = left} {lower = lower} {grants = grants} ns cs lw marked full is sums lower-size pcapmins-size asked-size amounts-size before-size dealt-size grants-size = record {
+    → length grants ≡ length nodes → RankLoop parents limits nodes levels lows wants first next 16 rows left lower pcapmins asked amounts before dealt grants
+loop-start {parents = parents} {limits = limits} {nodes = nodes} {levels = levels} {lows = lows} {wants = wants} {left = left} {lower = lower} {grants = grants} ns cs lw linked full is sums lower-size pcapmins-size asked-size amounts-size before-size dealt-size grants-size = record {
   ns = ns;
   cs = cs;
   lw = lw;
-  marked = marked;
+  linked = linked;
   full = full;
   state = state-start parents limits nodes levels lows wants ns cs lw left lower grants is sums;
   left-size = ap length is ∙ ns .limits-size;
@@ -88,8 +87,8 @@ loop-start {parents = parents} {limits = limits} {nodes = nodes} {levels = level
 pub one-more : (n : ℕ) → 0 < n → n ≡ suc (n - 1)
 one-more n h = omega arith
 
-module _ {parents limits nodes levels lows wants : List ℕ} {used : List Bool} {above : ℕ} {rows : List (List ℕ)} {left lower pcapmins asked amounts before dealt grants : List ℕ}
-    (inv : RankLoop parents limits nodes levels lows wants used above rows left lower pcapmins asked amounts before dealt grants) where
+module _ {parents limits nodes levels lows wants : List ℕ} {first next : List ℕ} {above : ℕ} {rows : List (List ℕ)} {left lower pcapmins asked amounts before dealt grants : List ℕ}
+    (inv : RankLoop parents limits nodes levels lows wants first next above rows left lower pcapmins asked amounts before dealt grants) where
   -- After the last rank.
   pub loop-end : above ≤ 0 → grants ≡ granted (dealFrom parents limits nodes levels lows wants)
   loop-end h =
@@ -113,16 +112,20 @@ module _ {parents limits nodes levels lows wants : List ℕ} {used : List Bool} 
     fits : j < highestRank
     fits = omega (arith, inv .state .sum-is)
 
+    -- The links of the rank.
+    pub chain-here : (from : ℕ) → from ≡ at first j → ChainOf levels next j from
+    chain-here from is = chain-of (inv .linked) j fits is
+
     -- A rank that no cord has.
-    pub loop-skip : getD used j false ≡ false → RankLoop parents limits nodes levels lows wants used j rows left lower pcapmins asked amounts before dealt grants
-    loop-skip unused = record {
+    pub loop-skip : (from : ℕ) → from ≡ at first j → length nodes ≤ from → RankLoop parents limits nodes levels lows wants first next j rows left lower pcapmins asked amounts before dealt grants
+    loop-skip from is none = record {
       ns = inv .ns;
       cs = inv .cs;
       lw = inv .lw;
-      marked = inv .marked;
+      linked = inv .linked;
       full = inv .full;
       state = state-skip parents limits nodes levels lows wants (inv .ns) (inv .cs) (inv .lw) j left lower grants
-          (λ c l. unmarked levels used j (inv .marked) unused c (omega (arith, inv .cs .levels-size))) at-level;
+          (λ c l. no-cord (inv .linked) j fits is (omega (arith, inv .cs .levels-size)) c (omega (arith, inv .cs .levels-size))) at-level;
       left-size = inv .left-size;
       lower-size = inv .lower-size;
       pcapmins-size = inv .pcapmins-size;
@@ -209,12 +212,12 @@ module _ {parents limits nodes levels lows wants : List ℕ} {used : List Bool} 
           -- The next rank.
           pub loop-turn : {before₂ dealt₂ grants₁ : List ℕ} → length before₂ ≡ length before₁ → length dealt₂ ≡ length dealt₁ → length grants₁ ≡ length grants
               → CordsDealt nodes levels lows wants j pcapmins₂ asked₂ amounts₁ before₁ grants grants₁
-              → RankLoop parents limits nodes levels lows wants used j rows₁ left₁ lower₁ pcapmins₂ asked₂ amounts₁ before₂ dealt₂ grants₁
+              → RankLoop parents limits nodes levels lows wants first next j rows₁ left₁ lower₁ pcapmins₂ asked₂ amounts₁ before₂ dealt₂ grants₁
           loop-turn {before₂ = before₂} {dealt₂ = dealt₂} {grants₁ = grants₁} before₂-size dealt₂-size grants₁-size cd = record {
             ns = inv .ns;
             cs = inv .cs;
             lw = inv .lw;
-            marked = inv .marked;
+            linked = inv .linked;
             full = g .full;
             state = state-turn parents limits nodes levels lows wants (inv .ns) (inv .cs) (inv .lw) j left lower grants at-level pcapmins₁ asked₁ ol ow rows rows₁ left₁ lower₁ pcapmins₂ asked₂ g
                 amounts₁ before₁ dealt₁ nd grants₁ cd;

@@ -51,6 +51,26 @@ pub record DealLists (parents limits nodes levels lows wants : List ℕ) (grantC
   pub lows-within : LowsWithin parents limits nodes lows
   pub grants-size : grantCount ≡ length nodes
 
+-- The next cord of a level from place c on is at place d; where there is none, d is the count of cords.
+pub record NextOf (levels : List ℕ) (level c d : ℕ) : Type 0 where
+  pub after : c ≤ d
+  pub within : d ≤ length levels
+  pub here : d < length levels → at levels d ≡ level
+  pub none : (h : ℕ) → c ≤ h → h < d → at levels h ≡ level → ⊥
+
+-- The first cord of each level, and for each cord the next one of its level.
+pub record Linked (levels first next : List ℕ) : Type 0 where
+  pub first-size : length first ≡ highestRank
+  pub next-size : length next ≡ length levels
+  pub firsts : (level : ℕ) → level < highestRank → NextOf levels level 0 (at first level)
+  pub nexts : (c : ℕ) → c < length levels → NextOf levels (at levels c) (c + 1) (at next c)
+
+-- The cords of one level, from the first on, each with the next.
+pub record ChainOf (levels next : List ℕ) (level from : ℕ) : Type 0 where
+  pub next-size : length next ≡ length levels
+  pub start : NextOf levels level 0 from
+  pub nexts : (c : ℕ) → c < length levels → NextOf levels (at levels c) (c + 1) (at next c)
+
 -- What is claimed of the room that a good table gives.
 abbrev pub OfRoom : List ℕ → (Room → Type 0) → Type 0
 OfRoom table claim = (r : Room) (end : ℕ) → checked table 0 ≡ good r end → claim r

@@ -1,29 +1,43 @@
 // One deal: rank by rank from the highest, the Requests are gathered into their rows and dealt.
 ghost use mathlib.Core.Path.{_≡_};
-ghost use mathlib.Core.Bool.{true, false};
 ghost use Prim.Native.Nat.{ℕ, _≤_, _<_};
-ghost use lib.ListN.{length, getD};
-ghost use Rattle.rooms.specs.Table.{highestRank};
+ghost use lib.ListN.{length};
+ghost use Rattle.rooms.specs.Table.{highestRank, mostCords};
 ghost use Rattle.deals.specs.Figures.{at};
 ghost use Rattle.deals.specs.Metrics.{dealFrom};
 ghost use Rattle.deals.specs.Dealing.{granted};
-ghost use Rattle.deals.specs.Passes.{CordLists, NodeLists, LowsWithin, DealLists, FullRows};
+ghost use Rattle.deals.specs.Passes.{CordLists, NodeLists, LowsWithin, DealLists, Linked, FullRows};
 use crate::dealing::deal_cords;
 use crate::dealing::deal_nodes;
 use crate::metrics::gather;
 use crate::metrics::sum_cords;
 use crate::metrics::sum_lows;
 use crate::widths::index;
+use crate::widths::place;
 use crate::widths::wide;
 
-// Marks the levels that some cord has.
-fn mark_levels(levels: &[u32], used: &mut [bool])
-    requires { ⌜ highestRank ≤ length (now used) ⌝ }
-    requires { ⌜ ((c : ℕ) → c < length (now levels) → at (now levels) c < highestRank) ⌝ }
-    ensures { λ _. ⌜ ((c : ℕ) → c < length (now (levels .entry)) → getD (now (used .exit)) (at (now (levels .entry)) c) false ≡ true) ⌝ }
+// A figure throughout.
+fn fill(list: &mut [u32], figure: u32)
+    ensures { λ _. ⌜ ((i : ℕ) → i < length (now (list .entry)) → at (now (list .exit)) i ≡ figure) ⌝ }
 {
-    for c in 0..levels.len() {
-        used[index(levels[c])] = true;
+    for i in 0..list.len() {
+        list[i] = figure;
+    }
+}
+
+// Links the cords of each level, so that a rank's passes see its own cords alone.
+fn link_levels(levels: &[u32], first: &mut [u32], next: &mut [u32])
+    requires { ⌜ (length (now levels) ≤ mostCords) × (length (now first) ≡ highestRank) × (length (now next) ≡ length (now levels)) ⌝ }
+    requires { ⌜ ((c : ℕ) → c < length (now levels) → at (now levels) c < highestRank) ⌝ }
+    ensures { λ _. ⌜ Linked (now (levels .entry)) (now (first .exit)) (now (next .exit)) ⌝ }
+{
+    fill(first, place(levels.len()));
+    let mut c = levels.len();
+    while 0 < c {
+        c -= 1;
+        let level = index(levels[c]);
+        next[c] = first[level];
+        first[level] = place(c);
     }
 }
 
@@ -37,7 +51,7 @@ fn widen(from: &[u32], to: &mut [u64])
     }
 }
 
-// The deal, in lists of one figure a node: what is left of each limit for the ranks to come, the lows of the ranks to come,
+// The deal, with the cords linked by level, in lists of one figure a node: what is left of each limit for the ranks to come, the lows of the ranks to come,
 // and a rank's Pcapmin, children's Requests, amounts, weights served and watts dealt.
 fn deal_ranks(
     parents: &[u32],
@@ -46,6 +60,7 @@ fn deal_ranks(
     levels: &[u32],
     lows: &[u32],
     wants: &[u32],
+    next: &mut [u32],
     requests: &mut [[u32; 16]; 512],
     left: &mut [u64],
     lower: &mut [u64],
@@ -60,18 +75,29 @@ fn deal_ranks(
     requires { ⌜ CordLists (length (now parents)) (now nodes) (now levels) (now lows) (now wants) ⌝ }
     requires { ⌜ LowsWithin (now parents) (now limits) (now nodes) (now lows) ⌝ }
     requires { ⌜ (length (now left) ≡ length (now parents)) × (length (now lower) ≡ length (now parents)) × (length (now pcapmins) ≡ length (now parents)) × (length (now asked) ≡ length (now parents)) × (length (now amounts) ≡ length (now parents)) × (length (now before) ≡ length (now parents)) × (length (now dealt) ≡ length (now parents)) ⌝ }
-    requires { ⌜ (length (now grants) ≡ length (now nodes)) × FullRows (now requests) ⌝ }
+    requires { ⌜ (length (now grants) ≡ length (now nodes)) × FullRows (now requests) × (length (now next) ≡ length (now nodes)) ⌝ }
     ensures { λ _. ⌜ now (grants .exit) ≡ granted (dealFrom (now (parents .entry)) (now (limits .entry)) (now (nodes .entry)) (now (levels .entry)) (now (lows .entry)) (now (wants .entry))) ⌝ }
 {
-    let mut used = [false; 16];
-    mark_levels(levels, &mut used);
+    let mut first = [0u32; 16];
+    link_levels(levels, &mut first, next);
     widen(limits, left);
     sum_lows(parents, nodes, lows, lower);
     let mut level: usize = 16;
     while 0 < level {
         level -= 1;
-        if used[level] {
-            sum_cords(nodes, levels, lows, wants, level, pcapmins, asked);
+        let from = index(first[level]);
+        if from < nodes.len() {
+            sum_cords(
+                nodes,
+                levels,
+                lows,
+                wants,
+                next,
+                level,
+                from,
+                pcapmins,
+                asked,
+            );
             gather(parents, level, left, lower, pcapmins, asked, requests);
             deal_nodes(
                 parents,
@@ -88,7 +114,9 @@ fn deal_ranks(
                 levels,
                 lows,
                 wants,
+                next,
                 level,
+                from,
                 pcapmins,
                 asked,
                 amounts,
@@ -113,6 +141,7 @@ pub(crate) fn deal(
     requires { ⌜ DealLists (now parents) (now limits) (now nodes) (now levels) (now lows) (now wants) (length (now grants)) ⌝ }
     ensures { λ _. ⌜ now (grants .exit) ≡ granted (dealFrom (now (parents .entry)) (now (limits .entry)) (now (nodes .entry)) (now (levels .entry)) (now (lows .entry)) (now (wants .entry))) ⌝ }
 {
+    let mut next = [0u32; 1024];
     let mut requests = [[0u32; 16]; 512];
     let mut left = [0u64; 512];
     let mut lower = [0u64; 512];
@@ -129,6 +158,7 @@ pub(crate) fn deal(
         levels,
         lows,
         wants,
+        &mut next[..nodes.len()],
         &mut requests,
         &mut left[..n],
         &mut lower[..n],

@@ -5,7 +5,7 @@ ghost use lib.ListN.{length, set};
 ghost use Rattle.rooms.specs.Table.{mostWatts, mostCords, highestRank};
 ghost use Rattle.deals.specs.Figures.{at, cell};
 ghost use Rattle.deals.specs.Split.{part};
-ghost use Rattle.deals.specs.Passes.{CordLists, weightOf, wholeOf, childrenBefore, overChildren, cordsBefore, NodesDealt, CordsDealt};
+ghost use Rattle.deals.specs.Passes.{CordLists, ChainOf, weightOf, wholeOf, childrenBefore, overChildren, cordsBefore, NodesDealt, CordsDealt};
 use crate::metrics::clear;
 use crate::widths::index;
 use crate::widths::narrow;
@@ -73,7 +73,9 @@ pub(crate) fn deal_cords(
     levels: &[u32],
     lows: &[u32],
     wants: &[u32],
+    next: &[u32],
     level: usize,
+    from: usize,
     pcapmins: &[u64],
     asked: &[u64],
     amounts: &[u64],
@@ -85,21 +87,22 @@ pub(crate) fn deal_cords(
     requires { ⌜ (length (now pcapmins) ≡ length (now amounts)) × (length (now asked) ≡ length (now amounts)) × (length (now before) ≡ length (now amounts)) × (length (now dealt) ≡ length (now amounts)) × (length (now grants) ≡ length (now nodes)) ⌝ }
     requires { ⌜ ((n : ℕ) → n < length (now amounts) → (at (now amounts) n ≤ mostWatts) × (at (now pcapmins) n ≤ at (now asked) n) × (at (now asked) n ≤ mostCords * mostWatts) × (at (now dealt) n ≡ at (now amounts) n * at (now before) n / wholeOf (now pcapmins) (now asked) n)) ⌝ }
     requires { ⌜ ((n : ℕ) → n < length (now amounts) → at (now before) n + cordsBefore (now nodes) (now levels) (now lows) (now wants) level n (length (now nodes)) ≤ wholeOf (now pcapmins) (now asked) n) ⌝ }
+    requires { ⌜ ChainOf (now levels) (now next) level from ⌝ }
     ensures { λ _. ⌜ CordsDealt (now (nodes .entry)) (now (levels .entry)) (now (lows .entry)) (now (wants .entry)) level (now (pcapmins .entry)) (now (asked .entry)) (now (amounts .entry)) (now (before .entry)) (now (grants .entry)) (now (grants .exit)) ⌝ }
 {
-    for c in 0..nodes.len() {
-        if index(levels[c]) == level {
-            let p = index(nodes[c]) - 1;
-            let low = lows[c];
-            let watts = serve(
-                amounts[p],
-                asked[p] - pcapmins[p],
-                wide(wants[c] - low),
-                p,
-                before,
-                dealt,
-            );
-            grants[c] = low + narrow(watts);
-        }
+    let mut c = from;
+    while c < nodes.len() {
+        let p = index(nodes[c]) - 1;
+        let low = lows[c];
+        let watts = serve(
+            amounts[p],
+            asked[p] - pcapmins[p],
+            wide(wants[c] - low),
+            p,
+            before,
+            dealt,
+        );
+        grants[c] = low + narrow(watts);
+        c = index(next[c]);
     }
 }

@@ -7,7 +7,7 @@ ghost use Rattle.rooms.specs.Table.{mostWatts, mostCords, highestRank};
 ghost use Rattle.rooms.specs.Limits.{beneath};
 ghost use Rattle.rooms.specs.Credits.{sumBeneath, credited};
 ghost use Rattle.deals.specs.Figures.{at};
-ghost use Rattle.deals.specs.Passes.{CordLists, onNode, FullRows, Gathered};
+ghost use Rattle.deals.specs.Passes.{CordLists, ChainOf, onNode, FullRows, Gathered};
 use crate::widths::index;
 use crate::widths::least;
 use crate::widths::narrow;
@@ -42,23 +42,26 @@ pub(crate) fn sum_cords(
     levels: &[u32],
     lows: &[u32],
     wants: &[u32],
+    next: &[u32],
     level: usize,
+    from: usize,
     pcapmins: &mut [u64],
     asked: &mut [u64],
 )
     requires { ⌜ CordLists (length (now pcapmins)) (now nodes) (now levels) (now lows) (now wants) ⌝ }
     requires { ⌜ length (now asked) ≡ length (now pcapmins) ⌝ }
+    requires { ⌜ ChainOf (now levels) (now next) level from ⌝ }
     ensures { λ _. ⌜ ((n : ℕ) → n < length (now (pcapmins .entry)) → at (now (pcapmins .exit)) n ≡ onNode (now (nodes .entry)) (now (levels .entry)) (now (lows .entry)) level n) ⌝ }
     ensures { λ _. ⌜ ((n : ℕ) → n < length (now (pcapmins .entry)) → at (now (asked .exit)) n ≡ onNode (now (nodes .entry)) (now (levels .entry)) (now (wants .entry)) level n) ⌝ }
 {
     clear(pcapmins);
     clear(asked);
-    for c in 0..nodes.len() {
-        if index(levels[c]) == level {
-            let node = index(nodes[c]);
-            credit(pcapmins, node, wide(lows[c]));
-            credit(asked, node, wide(wants[c]));
-        }
+    let mut c = from;
+    while c < nodes.len() {
+        let node = index(nodes[c]);
+        credit(pcapmins, node, wide(lows[c]));
+        credit(asked, node, wide(wants[c]));
+        c = index(next[c]);
     }
 }
 

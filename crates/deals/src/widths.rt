@@ -21,6 +21,13 @@ pub(crate) fn index(x: u32) -> usize
     x as usize
 }
 
+pub(crate) fn place(x: usize) -> u32
+    requires { ⌜ x < 2 ^ 32 ⌝ }
+    ensures { λ r. ⌜ r ≡ x ⌝ }
+{
+    x as u32
+}
+
 pub(crate) fn least(a: u64, b: u64) -> u64
     ensures { λ r. ⌜ r ≡ min a b ⌝ }
 {

@@ -2,18 +2,18 @@
 use Prim.Native.Nat.{_-_}
 use borrow.Author.Needs.{needs}
 use lib.ListN.{length}
-use Rattle.deals.proofs.NodeSums.{Cleared, cleared-start, cleared-turn, cleared-end}
+use Rattle.deals.proofs.NodeSums.{Spread, spread-start, spread-turn, cleared-end}
 use Rattle.deals.proofs.metrics.clear.Statement.{statement}
 use Rattle.deals.proofs.metrics.clear.Tie as tie
 
 abbrev Inv-loop : tie.InvT-loop
-Inv-loop list₀ i₀ i-end list i = Cleared list₀ i list
+Inv-loop list₀ i₀ i-end list i = Spread 0 list₀ i list
 
 abbrev μ-loop : tie.MeasureT-loop
 μ-loop list₀ i₀ i-end list i = length list₀ - i
 
 loop-holds : tie.Need-loop-holds Inv-loop μ-loop
-loop-holds c = cleared-start _
+loop-holds c = spread-start _
 
 mul-list : tie.Need-mul-list Inv-loop μ-loop
 mul-list c = search needs
@@ -28,7 +28,7 @@ loop-less : tie.Need-loop-less Inv-loop μ-loop
 loop-less c = search needs
 
 loop-again : tie.Need-loop-again Inv-loop μ-loop
-loop-again c = cleared-turn (c .before .loop .inv) (search needs)
+loop-again c = spread-turn (c .before .loop .inv) (search needs)
 
 same-length : tie.Need-same-length Inv-loop μ-loop
 same-length c = c .before .loop .inv .size

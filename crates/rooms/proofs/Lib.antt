@@ -22,6 +22,6 @@ pub mod Accepted
 -- Read and Write.
 pub mod Outcomes
 pub mod Lent
--- What the crate promises, and document 01's own rooms.
+-- What the crate promises, and what Read says near document 01's rooms.
 pub mod Promises
 pub mod WorkedRooms

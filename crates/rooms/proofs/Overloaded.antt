@@ -1,4 +1,5 @@
--- Refusal 9 comes exactly where the lows beneath some node exceed its limit, and names the lowest such node.
+-- Refusal 9 comes exactly where the lows beneath some node exceed its limit, and names the lowest such node:
+-- in the check of a table, and in the answers of Write and Read.
 use mathlib.Core.Path.{_≡_, refl, sym, ap, _∙_}
 use mathlib.Core.Bool.{Bool, true, false, cond}
 use mathlib.Core.List.{List}
@@ -8,13 +9,17 @@ use native.Mathlib.Nat.{suc-ne-zero}
 use native.Mathlib.Omega.{arith}
 use lib.ListN.{length, getD}
 use lib.Dec.{eqb, ltb, leb}
-use borrow.Author.Tests.{ltb-true, ltb-false, lt-ltb, le-ltb, eqb-true, eqb-false, eq-eqb, ne-eqb}
+use borrow.Author.Tests.{ltb-true, ltb-false, lt-ltb, le-ltb, eqb-false, eq-eqb, ne-eqb}
+use Rattle.numbers.specs.Sheet.{Ending, whole, sheetOf, bytesOf}
+use Rattle.numbers.specs.Sheet as sheet
+use Rattle.numbers.specs.declared.Fault.the-variants.{TooLong, NotShortest, CutShort}
 use Rattle.rooms.specs.Part.{Step, good, bad, Good, Part, follow, word, ensure, end, many}
 use Rattle.rooms.specs.Table.{Room, node, cord, range, load, server, table}
 use Rattle.rooms.specs.Limits.{limit, nodeAt, lowsBeneath, firstNode, overloaded, checked}
-use Rattle.rooms.specs.Promises.{IsNode, Within, LowestExceeding, RefusalNine}
+use Rattle.rooms.specs.Outcome.{accepted, refused, refusalNumber, refusalPlace, answerNumber, answerOf, unlessRefused, fitting, readWords, reading, writing}
+use Rattle.rooms.specs.Promises.{IsNode, Within, LowestExceeding, Overloaded, IsNine, RefusalNine}
 use Rattle.rooms.specs.declared.Refusal.{Refusal}
-use Rattle.rooms.specs.declared.Refusal.the-variants.{WordMissing, WordOutOfRange, WordsLeftOver, LowsAboveLimit}
+use Rattle.rooms.specs.declared.Refusal.the-variants.{BadNumber, WordMissing, WordOutOfRange, GreatestBelowLeast, SharesNotWhole, WordsLeftOver, LowsAboveLimit, OutputTooShort}
 use Rattle.rooms.proofs.Search.{firstNode-none, none-firstNode, firstNode-first, first-firstNode}
 
 -- ---- The overloaded node of a room
@@ -77,15 +82,8 @@ module _ (w : List ℕ) (r : Room) (j : ℕ) (e : table w 0 ≡ good r j) where
       go true = refl
       go false = refl
 
-  checked-good : (checked w 0 ≡ good r j) ↔ (overloaded r ≡ 0)
-  checked-good = (
-    λ c. none (eqb (overloaded r) 0) refl (sym checked-is ∙ c),
-    λ z. checked-is ∙ ap (answer r j) (eq-eqb (overloaded r) 0 z),
-  )
-    where
-      none : (t : Bool) → eqb (overloaded r) 0 ≡ t → answer r j t ≡ good r j → overloaded r ≡ 0
-      none true q c = eqb-true (overloaded r) 0 q
-      none false q c = absurd (suc-ne-zero 0 (cc))
+  checked-good : overloaded r ≡ 0 → checked w 0 ≡ good r j
+  checked-good z = checked-is ∙ ap (answer r j) (eq-eqb (overloaded r) 0 z)
 
   checked-bad : (n : ℕ) → (checked w 0 ≡ bad (LowsAboveLimit n)) ↔ ((1 ≤ n) × (overloaded r ≡ n))
   checked-bad n = (
@@ -191,8 +189,6 @@ table-early w i =
     follow-early _ _ (many-early _ _ w (λ before. server-early nodeCount before w) serverCount 0 m) (λ servers o.
     follow-early _ _ (end-early w o) (λ _ p. good-early _ _))))))
 
--- ---- The promise
-
 -- Where 9 ends what follows an early step, the step is good.
 early-good : {A B : Type 0} (s : Step A) (k : A → ℕ → Step B) (n : ℕ) → Early s → follow s k ≡ bad (LowsAboveLimit n) → Good s
 unfolding follow
@@ -203,10 +199,80 @@ checked-last : (w : List ℕ) (n : ℕ) → checked w 0 ≡ bad (LowsAboveLimit 
 unfolding checked
 checked-last w n e = early-good (table w 0) _ n (table-early w 0) e
 
+-- The check of any words.
+pub checked-nine : (w : List ℕ) (n : ℕ) → (checked w 0 ≡ bad (LowsAboveLimit n)) ↔ Overloaded w n
+checked-nine w n = (found, λ o. lowest (o .room) (o .end) (o .isTable) .1 (o .lowest))
+  where
+    lowest : (r : Room) (j : ℕ) → table w 0 ≡ good r j → (checked w 0 ≡ bad (LowsAboveLimit n)) ↔ LowestExceeding r n
+    lowest r j e = Iff·trans (checked-bad w r j e n) (overloaded-lowest r n)
+
+    found : checked w 0 ≡ bad (LowsAboveLimit n) → Overloaded w n
+    found c =
+        let t = checked-last w n c in
+        record { room = t .value; end = t .next; isTable = t .is; lowest = lowest (t .value) (t .next) (t .is) .0 c }
+
+-- ---- The answers
+
+-- The refusal with the number 9.
+pub nine-lows : (refusal : Refusal) (n : ℕ) → refusalNumber refusal ≡ 9 → refusalPlace refusal ≡ n → refusal ≡ LowsAboveLimit n
+nine-lows (BadNumber TooLong place) n e p = absurd (omega arith)
+nine-lows (BadNumber NotShortest place) n e p = absurd (omega arith)
+nine-lows (BadNumber CutShort place) n e p = absurd (omega arith)
+nine-lows (WordMissing place) n e p = absurd (omega arith)
+nine-lows (WordOutOfRange place) n e p = absurd (omega arith)
+nine-lows (GreatestBelowLeast place) n e p = absurd (omega arith)
+nine-lows (SharesNotWhole place) n e p = absurd (omega arith)
+nine-lows (WordsLeftOver place) n e p = absurd (omega arith)
+nine-lows (LowsAboveLimit place) n e p = ap LowsAboveLimit p
+nine-lows (OutputTooShort place) n e p = absurd (omega arith)
+
+-- An output that follows a good table is accepted, or refused by 12.
+fitting-other : (output : List ℕ) (entries : ℕ) → answerNumber (answerOf (fitting output entries)) ≡ 9 → ⊥
+fitting-other output entries = go (leb (length output) entries)
+  where
+    go : (t : Bool) → answerNumber (answerOf (cond t (accepted output) (refused (OutputTooShort (length output))))) ≡ 9 → ⊥
+    go true e = omega arith
+    go false e = omega arith
+
+step-nine : (s : Step Room) (output : List ℕ) (entries n : ℕ)
+    → IsNine (answerOf (unlessRefused s (fitting output entries))) n ↔ (s ≡ bad (LowsAboveLimit n))
+step-nine (good r j) output entries n = (λ a. absurd (fitting-other output entries (a .0)), λ e. absurd (suc-ne-zero 0 (cc)))
+step-nine (bad refusal) output entries n = (
+  λ a. ap bad (nine-lows refusal n (a .0) (a .1)),
+  λ e. let q : refusal ≡ LowsAboveLimit n = cc in rw q (refl, refl),
+)
+
+output-nine : (w output : List ℕ) (entries n : ℕ)
+    → IsNine (answerOf (unlessRefused (checked w 0) (fitting output entries))) n ↔ Overloaded w n
+output-nine w output entries n = Iff·trans (step-nine (checked w 0) output entries n) (checked-nine w n)
+
+write-nine : (w : List ℕ) (bytes n : ℕ) → IsNine (answerOf (writing w bytes)) n ↔ Overloaded w n
+unfolding writing
+write-nine w bytes n = output-nine w (bytesOf w) bytes n
+
+read-nine : (sheet : List ℕ) (words n : ℕ)
+    → IsNine (answerOf (reading sheet words)) n ↔ ((sheetOf sheet .ending ≡ whole) × Overloaded (sheetOf sheet .words) n)
+unfolding reading
+read-nine bytes words n = go (sheetOf bytes .ending)
+  where
+    given : List ℕ
+    given = sheetOf bytes .words
+
+    go : (ending : Ending) → IsNine (answerOf (readWords given ending words)) n ↔ ((ending ≡ whole) × Overloaded given n)
+    go whole =
+        let o = output-nine given given words n in
+        (λ a. (refl, o .0 a), λ h. o .1 (h .1))
+    go (sheet.refused fault place) = (
+      λ a. absurd (let q = nine-lows (BadNumber fault place) n (a .0) (a .1) in suc-ne-zero 0 (cc)),
+      λ h. absurd (let q = h .0 in suc-ne-zero 0 (cc)),
+    )
+
+-- ---- The promise
+
 pub refusal-nine : RefusalNine
 refusal-nine =
     record {
-      refused = λ w r j n e. Iff·trans (checked-bad w r j e n) (overloaded-lowest r n);
-      accepted = λ w r j e. Iff·trans (checked-good w r j e) (overloaded-none r);
-      last = checked-last;
+      write = write-nine;
+      read = read-nine;
+      passed = λ w r j e h. checked-good w r j e (overloaded-none r .1 h);
     }

@@ -1,4 +1,4 @@
--- What holds of the table's check, of Read and of Write, apart from any code.
+-- What holds of Read, of Write and of the table's check, apart from any code.
 -- proofs/Promises.antt proves each: `RefusalNine` as `refusal-nine`, and so on.
 use mathlib.Core.Path.{_≡_}
 use mathlib.Core.List.{List}
@@ -6,11 +6,12 @@ use mathlib.Core.Logic.{_↔_}
 use Prim.Native.Nat.{ℕ, _-_, _≤_, _<_}
 use lib.ListN.{length}
 use Rattle.words.specs.Lists.{AllBelow}
-use Rattle.rooms.specs.Part.{good, bad, Good}
+use Rattle.numbers.specs.Sheet.{whole, sheetOf}
+use Rattle.rooms.specs.Part.{good, Good}
 use Rattle.rooms.specs.Table.{Room, table}
 use Rattle.rooms.specs.Limits.{limit, nodeAt, lowsBeneath, checked}
-use Rattle.rooms.specs.Outcome.{accepted, reading, writing}
-use Rattle.rooms.specs.declared.Refusal.the-variants.{LowsAboveLimit}
+use Rattle.rooms.specs.Outcome.{accepted, answerOf, answerNumber, answerFigure, reading, writing}
+use Rattle.rooms.specs.declared.Answer.{Answer}
 
 -- ---- Refusal 9
 
@@ -31,14 +32,25 @@ pub record LowestExceeding (r : Room) (n : ℕ) : Type 0 where
   pub exceeds : Exceeds r n
   pub lowest : (m : ℕ) → IsNode r m → m < n → Within r m
 
--- Refusal 9 comes where the lows beneath some node exceed its limit, and names the lowest such node;
--- where there is none, the table is accepted; and no table is refused by 9 before all its words are good.
+-- The words w, all of them, are a good table, and n is the lowest node of its room whose limit the lows beneath it exceed.
+pub record Overloaded (w : List ℕ) (n : ℕ) : Type 0 where
+  pub room : Room
+  pub end : ℕ
+  pub isTable : table w 0 ≡ good room end
+  pub lowest : LowestExceeding room n
+
+-- The answer is refusal 9, at place n.
+abbrev pub IsNine : Answer → ℕ → Type 0
+IsNine answer n = (answerNumber answer ≡ 9) × (answerFigure answer ≡ n)
+
+-- Refusal 9 comes exactly when the lows beneath some node exceed its limit, and names the lowest such node: in Write, and in
+-- Read where all bytes of the sheet are good. Where there is no such node, a good table passes the check.
 pub record RefusalNine : Type 0 where
-  pub refused : (w : List ℕ) (r : Room) (j n : ℕ) → table w 0 ≡ good r j
-      → (checked w 0 ≡ bad (LowsAboveLimit n)) ↔ LowestExceeding r n
-  pub accepted : (w : List ℕ) (r : Room) (j : ℕ) → table w 0 ≡ good r j
-      → (checked w 0 ≡ good r j) ↔ ((n : ℕ) → IsNode r n → Within r n)
-  pub last : (w : List ℕ) (n : ℕ) → checked w 0 ≡ bad (LowsAboveLimit n) → Good (table w 0)
+  pub write : (w : List ℕ) (bytes n : ℕ) → IsNine (answerOf (writing w bytes)) n ↔ Overloaded w n
+  pub read : (sheet : List ℕ) (words n : ℕ)
+      → IsNine (answerOf (reading sheet words)) n ↔ ((sheetOf sheet .ending ≡ whole) × Overloaded (sheetOf sheet .words) n)
+  pub passed : (w : List ℕ) (r : Room) (j : ℕ) → table w 0 ≡ good r j
+      → ((n : ℕ) → IsNode r n → Within r n) → checked w 0 ≡ good r j
 
 -- ---- Read and Write
 
@@ -50,7 +62,8 @@ TableReadsBack = (table sheet : List ℕ) (bytes words : ℕ)
 -- Writing a read sheet returns its bytes, to any buffer that is long enough.
 abbrev pub SheetWritesBack : Type 0
 SheetWritesBack = (sheet table : List ℕ) (words bytes : ℕ)
-    → AllBelow 256 sheet → reading sheet words ≡ accepted table → length sheet ≤ bytes → writing table bytes ≡ accepted sheet
+    → AllBelow 256 sheet → reading sheet words ≡ accepted table → length sheet ≤ bytes
+    → writing table bytes ≡ accepted sheet
 
 -- A table that Read gives passes every check of a table.
 abbrev pub ReadIsChecked : Type 0

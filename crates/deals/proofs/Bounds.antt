@@ -20,7 +20,7 @@ use Rattle.deals.specs.Wants.{needs, lowsOf, firstWants}
 use Rattle.deals.specs.Metrics.{Deal, dealOf, atLevel, metrics, pcapminsFrom, childSums, excess}
 use Rattle.deals.specs.Dealing.{weightSum, amount}
 use Rattle.deals.specs.SecondDeal.{stranded, firstGrants, firstUsed, freed, secondWants}
-use Rattle.deals.specs.Promises.{mostSum, DealBounded, Bounded}
+use Rattle.deals.specs.Properties.{mostSum, DealBounded, Bounded}
 use Rattle.deals.proofs.Equations.{Dealable, asked, weights, pcapmin-request, requests-fit, requests-left, asked-wants, amount-within, weights-asked}
 use Rattle.deals.proofs.Computed.{childSums-at, requestsFrom-length, pcapmins-levels, requests-levels, pcapmin, request, amountOf, measured, dealt}
 use Rattle.deals.proofs.Lists.{total-drop, total-sum, sum-most, sum-one-le, sumOf-take, sumOf-most}

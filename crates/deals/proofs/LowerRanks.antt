@@ -78,10 +78,13 @@ module _ (r : Room) (ok : Accepted r) (rank : ℕ) where
     unfolding firstGrants
     firstGrants-same = grants-same (firstWants r d) (firstWants r e) firstWants-same (firstWants-lows r ok d) (firstWants-lows r ok e)
 
+    pub firstUsable-same : SameServers r rank (firstUsable r d) (firstUsable r e)
+    unfolding firstUsable
+    firstUsable-same = usable-same (needs r d) (needs r e) (firstGrants r d) (firstGrants r e) needs-same firstGrants-same
+
     firstUsed-same : SameCords r rank (firstUsed r d) (firstUsed r e)
-    unfolding firstUsed firstUsable
-    firstUsed-same =
-        carriedBy-same (firstUsable r d) (firstUsable r e) (usable-same (needs r d) (needs r e) (firstGrants r d) (firstGrants r e) needs-same firstGrants-same)
+    unfolding firstUsed
+    firstUsed-same = carriedBy-same (firstUsable r d) (firstUsable r e) firstUsable-same
 
     stranded-same : SameCords r rank (stranded r (firstGrants r d) (firstUsed r d)) (stranded r (firstGrants r e) (firstUsed r e))
     stranded-same c l k =

@@ -2,6 +2,7 @@
 use mathlib.Core.Path.{_≡_, refl, ap, _∙_}
 use mathlib.Core.Bool.{Bool, true, false, cond, not}
 use mathlib.Core.List.{List, [], _∷_}
+use mathlib.Core.Logic.{_↔_, Iff·trans}
 use Prim.Native.Nat.{ℕ, zero, suc, _≤_, _<_}
 use native.Mathlib.Omega.{arith}
 use lib.Dec.{eqb, ltb}
@@ -11,12 +12,15 @@ use borrow.Author.Tests.{eq-eqb, ne-eqb, lt-ltb, le-ltb}
 use Rattle.rooms.specs.Part.{Step, good, bad}
 use Rattle.rooms.specs.Table.{Room, mostWatts, roomCords}
 use Rattle.rooms.specs.Limits.{checked}
+use Rattle.rooms.specs.Promises.{Overloaded}
 use Rattle.rooms.specs.declared.Refusal.{Refusal}
+use Rattle.rooms.specs.declared.Refusal.the-variants.{LowsAboveLimit}
+use Rattle.rooms.proofs.Overloaded.{checked-nine, nine-lows}
 use Rattle.deals.specs.Figures.{at}
 use Rattle.deals.specs.Dealing.{granted, grantsBy}
 use Rattle.deals.specs.SecondDeal.{usable, freed, secondWants, secondGrants, caps}
-use Rattle.deals.specs.Plan.{Outcome, accepted, refused, firstTooLarge, planRoom, planStep, plan, answerOf, grantsAfter, capsAfter}
-use Rattle.deals.specs.Promises.{AcceptedPlan}
+use Rattle.deals.specs.Plan.{Outcome, accepted, refused, firstTooLarge, planRoom, planStep, plan, answerOf, grantsAfter, capsAfter, planNumber}
+use Rattle.deals.specs.Promises.{AcceptedPlan, IsNine}
 use Rattle.deals.specs.declared.PlanRefusal.{PlanRefusal}
 use Rattle.deals.specs.declared.PlanRefusal.the-variants.{Table, DemandCount, DemandTooLarge, GrantsTooShort, CapsTooShort}
 use Rattle.deals.specs.declared.Planned.the-variants.{Accepted, Refused}
@@ -145,6 +149,41 @@ plan-accepts table demands g c f gs cs e = go (checked table 0) refl e
       isAnswer = e;
     }
     go (bad refusal) q d = absurd (let z : _≡_ {A = ℕ} 0 1 = cc in omega arith)
+
+-- ---- Refusal 9
+
+-- The plan of a good room is accepted, or refused by 10 to 13.
+room-other : (r : Room) (demands : List ℕ) (g c : ℕ) → planNumber (answerOf (planRoom r demands g c)) ≡ 9 → ⊥
+unfolding planRoom
+room-other r demands g c =
+    go (not (eqb (length demands) (length (r .servers)))) (ltb (firstTooLarge demands) (length demands)) (ltb g (roomCords r)) (ltb c (length (r .servers)))
+  where
+    go : (p q s t : Bool)
+        → planNumber (answerOf
+        (cond p (refused (DemandCount (length (r .servers))))
+        (cond q (refused (DemandTooLarge (firstTooLarge demands)))
+        (cond s (refused (GrantsTooShort (roomCords r)))
+        (cond t (refused (CapsTooShort (length (r .servers))))
+        (accepted (freed r demands) (secondGrants r demands) (caps r demands))))))) ≡ 9
+        → ⊥
+    go true q s t e = omega arith
+    go false true s t e = omega arith
+    go false false true t e = omega arith
+    go false false false true e = omega arith
+    go false false false false e = omega arith
+
+step-nine : (s : Step Room) (demands : List ℕ) (g c n : ℕ) → IsNine (answerOf (planStep s demands g c)) n ↔ (s ≡ bad (LowsAboveLimit n))
+unfolding planStep
+step-nine (good r end) demands g c n =
+    (λ a. absurd (room-other r demands g c (a .0)), λ e. absurd (let z : _≡_ {A = ℕ} 0 1 = cc in omega arith))
+step-nine (bad refusal) demands g c n = (
+  λ a. ap bad (nine-lows refusal n (a .0) (a .1)),
+  λ e. let q : refusal ≡ LowsAboveLimit n = cc in rw q (refl, refl),
+)
+
+pub plan-nine : (table demands : List ℕ) (g c n : ℕ) → IsNine (answerOf (plan table demands g c)) n ↔ Overloaded table n
+unfolding plan
+plan-nine table demands g c n = Iff·trans (step-nine (checked table 0) demands g c n) (checked-nine table n)
 
 -- ---- The lengths of the answer's lists
 

@@ -1,4 +1,4 @@
--- The promises, each proved under its name.
+-- The promises and the other properties, each proved under its name.
 use mathlib.Core.Path.{_≡_, refl, sym, ap, _∙_, subst}
 use mathlib.Core.Bool.{Bool, true, false}
 use mathlib.Core.List.{List}
@@ -19,18 +19,19 @@ use Rattle.deals.specs.Figures.{at}
 use Rattle.deals.specs.Cords.{cordAt, rankOf}
 use Rattle.deals.specs.Wants.{carriedBy, lowsOf}
 use Rattle.deals.specs.Dealing.{grantsBy}
-use Rattle.deals.specs.SecondDeal.{firstGrants, secondWants, secondGrants, caps}
+use Rattle.deals.specs.SecondDeal.{firstGrants, firstUsable, secondWants, secondGrants, caps}
 use Rattle.deals.specs.Ways.{cordBeneath, sumBeneath, fromRank}
-use Rattle.deals.specs.Promises.{AcceptedPlan, Answered, AnswerOfBothDeals, Kept, FirstKept, SecondKept, Greatest, FirstGreatest, SecondGreatest, LowerRanksApart, CapsInRange, UsedGranted, SecondWantsInRange, SplitWhole, SplitWithin, FirstGivesAll, SecondGivesAll, FiguresFit}
+use Rattle.deals.specs.Promises.{AcceptedPlan, Answered, AnswerOfBothDeals, Kept, FirstKept, SecondKept, Greatest, FirstGreatest, SecondGreatest, SettledFromRank, RefusalNine}
+use Rattle.deals.specs.Properties.{CapsInRange, UsedGranted, SecondWantsInRange, SplitWhole, SplitWithin, FirstGivesAll, SecondGivesAll, FiguresFit}
 use Rattle.deals.proofs.Equations.{WholeWay, fromLevel}
 use Rattle.deals.proofs.Computed.{deal-gives-all}
 use Rattle.deals.proofs.OneTree.{tree-granted-most}
 use Rattle.deals.proofs.Splits.{split-sum, split-le}
 use Rattle.deals.proofs.RoomDeals.{levelsOf-at, roomDeal, grantsBy-is}
 use Rattle.deals.proofs.BothDeals.{parents-below, server-facts, cord-facts, room-dealable, grants-way, first-dealable, second-dealable, firstWants-lows, secondWants-lows, firstUsed-granted, capsUsed-granted, secondWants-wants, caps-least, caps-need}
-use Rattle.deals.proofs.LowerRanks.{firstGrants-same, secondGrants-same, caps-same}
+use Rattle.deals.proofs.LowerRanks.{firstGrants-same, firstUsable-same, secondGrants-same, caps-same}
 use Rattle.deals.proofs.Bounds.{bounded}
-use Rattle.deals.proofs.Plans.{plan-good-table, plan-answer, secondGrants-length, caps-length}
+use Rattle.deals.proofs.Plans.{plan-nine, plan-good-table, plan-answer, secondGrants-length, caps-length}
 
 -- The levels from that of a rank on are the ranks from it on.
 rank-level : (rank own : ℕ) → 1 ≤ own → own ≤ highestRank → leb rank own ≡ leb (min (rank - 1) highestRank) (own - 1)
@@ -137,14 +138,16 @@ second-greatest p = of-grants p (λ r demands. Greatest r (secondWants r demands
 same-room : (w v : List ℕ) (r s : Room) (i j : ℕ) → checked w 0 ≡ good r i → checked v 0 ≡ good s j → w ≡ v → s ≡ r
 same-room w v r s i j e d q = let h : good r i ≡ good s j = sym e ∙ ap (λ (z : List ℕ). checked z 0) q ∙ d in cc
 
-pub lower-ranks-apart : LowerRanksApart
-lower-ranks-apart rank p q one same =
+pub settled-from-rank : SettledFromRank
+settled-from-rank rank p q one same =
     let e = same-room (p .table) (q .table) (p .room) (q .room) (p .end) (q .end) (p .isRoom) (q .isRoom) one in
     let alike : (figures : Room → List ℕ → List ℕ) (l : List ℕ) → l ≡ figures (q .room) (q .demands) → figures (p .room) (q .demands) ≡ l
     = λ figures l d. sym (d ∙ ap (λ (r : Room). figures r (q .demands)) e) in
     record {
       first = λ c l k. firstGrants-same (p .room) (accepted-room p) rank (p .demands) (q .demands) same c l k
           ∙ ap (λ (z : List ℕ). at z c) (alike firstGrants _ refl);
+      usable = λ v l k. firstUsable-same (p .room) (accepted-room p) rank (p .demands) (q .demands) same v l k
+          ∙ ap (λ (z : List ℕ). at z v) (alike firstUsable _ refl);
       second = λ c l k. ap (λ (z : List ℕ). at z c) (answered p .grants)
           ∙ secondGrants-same (p .room) (accepted-room p) rank (p .demands) (q .demands) same c l k
           ∙ ap (λ (z : List ℕ). at z c) (alike secondGrants _ (answered q .grants));
@@ -154,6 +157,11 @@ lower-ranks-apart rank p q one same =
     }
 
 -- ---- 4
+
+pub refusal-nine : RefusalNine
+refusal-nine = plan-nine
+
+-- ---- What else is proved of every plan
 
 pub caps-in-range : CapsInRange
 caps-in-range p v l =
@@ -186,8 +194,6 @@ first-gives-all p = deal-gives-all _ (first-dealable (p .room) (accepted-room p)
 
 pub second-gives-all : SecondGivesAll
 second-gives-all p = deal-gives-all _ (second-dealable (p .room) (accepted-room p) (p .demands))
-
--- ---- 5
 
 pub figures-fit : FiguresFit
 figures-fit table r end e demands = bounded r (accepted table r end e) demands

@@ -10,8 +10,10 @@ pub mod Dealing
 -- Both deals, and the whole plan with its refusals.
 pub mod SecondDeal
 pub mod Plan
--- What is promised: trees and other ways of dealing them, and the statements.
+-- What is promised (demand 3): trees and other ways of dealing them, and the statements.
 pub mod Ways
 pub mod Promises
+-- What else is proved of every plan.
+pub mod Properties
 -- Cited by contracts of private functions alone.
 pub mod Passes

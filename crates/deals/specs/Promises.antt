@@ -1,20 +1,21 @@
--- What Plan promises, whatever the table and the demands that it accepts. Statements only; each is proved in proofs/.
+-- Demand 3: what Plan promises, whatever the table and the demands. Statements only; proofs/Promises.antt proves each:
+-- `FirstKept` as `first-kept`, and so on.
 use mathlib.Core.Path.{_≡_}
-use mathlib.Core.List.{List, []}
-use Prim.Native.Nat.{ℕ, suc, _+_, _*_, _≤_, _<_, _^_}
-use lib.ListN.{length, getD, take, drop}
+use mathlib.Core.List.{List}
+use mathlib.Core.Logic.{_↔_}
+use Prim.Native.Nat.{ℕ, _≤_, _<_}
+use lib.ListN.{length}
 use Rattle.rooms.specs.Part.{good}
-use Rattle.rooms.specs.Table.{Room, mostWatts, mostCords, roomCords}
+use Rattle.rooms.specs.Table.{Room, roomCords}
 use Rattle.rooms.specs.Limits.{limit, nodeAt, checked}
-use Rattle.deals.specs.Figures.{at, cell, sumOf}
+use Rattle.rooms.specs.Promises.{Overloaded}
+use Rattle.deals.specs.Figures.{at}
 use Rattle.deals.specs.Cords.{serverAt, rankOf}
-use Rattle.deals.specs.Wants.{needs, carriedBy, lowsOf, firstWants}
-use Rattle.deals.specs.Metrics.{Deal, dealOf, metrics, excess, cordExcess, overNodes, overCords, childSums}
-use Rattle.deals.specs.Split.{split}
-use Rattle.deals.specs.Dealing.{weightSum, amount, reached}
-use Rattle.deals.specs.SecondDeal.{firstGrants, firstUsed, freed, secondWants, secondGrants, caps}
-use Rattle.deals.specs.Plan.{accepted, plan}
+use Rattle.deals.specs.Wants.{lowsOf, firstWants}
+use Rattle.deals.specs.SecondDeal.{firstGrants, firstUsable, freed, secondWants, secondGrants, caps}
+use Rattle.deals.specs.Plan.{accepted, plan, answerOf, planNumber, planFigure}
 use Rattle.deals.specs.Ways.{Root, Way, sumBeneath, fromRank}
+use Rattle.deals.specs.declared.Planned.{Planned}
 
 -- A table and a demand list that Plan accepts, with lists of some lengths: the table's room, and the answer.
 pub record AcceptedPlan : Type 0 where
@@ -50,7 +51,8 @@ pub record Kept (r : Room) (wants grants : List ℕ) : Type 0 where
   pub within : (n : ℕ) → n < length (r .nodes) → sumBeneath r n (at grants) ≤ limit (nodeAt r n)
 
 abbrev pub FirstKept : Type 0
-FirstKept = (p : AcceptedPlan) → Kept (p .room) (firstWants (p .room) (p .demands)) (firstGrants (p .room) (p .demands))
+FirstKept =
+    (p : AcceptedPlan) → Kept (p .room) (firstWants (p .room) (p .demands)) (firstGrants (p .room) (p .demands))
 
 abbrev pub SecondKept : Type 0
 SecondKept = (p : AcceptedPlan) → Kept (p .room) (secondWants (p .room) (p .demands)) (p .grants)
@@ -64,7 +66,8 @@ Greatest r wants ours =
     → sumBeneath r root (fromRank r rank watts) ≤ sumBeneath r root (fromRank r rank ours)
 
 abbrev pub FirstGreatest : Type 0
-FirstGreatest = (p : AcceptedPlan) → Greatest (p .room) (firstWants (p .room) (p .demands)) (firstGrants (p .room) (p .demands))
+FirstGreatest =
+    (p : AcceptedPlan) → Greatest (p .room) (firstWants (p .room) (p .demands)) (firstGrants (p .room) (p .demands))
 
 abbrev pub SecondGreatest : Type 0
 SecondGreatest = (p : AcceptedPlan) → Greatest (p .room) (secondWants (p .room) (p .demands)) (p .grants)
@@ -79,88 +82,29 @@ SameServers r rank f g = (v : ℕ) → v < length (r .servers) → rank ≤ serv
 abbrev pub SameCords : Room → ℕ → List ℕ → List ℕ → Type 0
 SameCords r rank f g = (c : ℕ) → c < roomCords r → rank ≤ rankOf r c → at f c ≡ at g c
 
--- Two accepted plans in which the servers of a rank and above have equal caps, and their cords equal grants after each deal.
-pub record SamePlans (rank : ℕ) (p q : AcceptedPlan) : Type 0 where
+-- Two accepted plans of one room in which, after the first deal and after the second, the cords of a rank and above have
+-- the same grants, and their servers the same usable watts; those after the second are the caps.
+pub record SameFromRank (rank : ℕ) (p q : AcceptedPlan) : Type 0 where
   pub first : SameCords (p .room) rank (firstGrants (p .room) (p .demands)) (firstGrants (q .room) (q .demands))
+  pub usable : SameServers (p .room) rank (firstUsable (p .room) (p .demands)) (firstUsable (q .room) (q .demands))
   pub second : SameCords (p .room) rank (p .grants) (q .grants)
   pub caps : SameServers (p .room) rank (p .caps) (q .caps)
 
 -- Two accepted demand lists for one room that agree on every server of a rank and above.
-abbrev pub LowerRanksApart : Type 0
-LowerRanksApart =
-    (rank : ℕ) (p q : AcceptedPlan) → p .table ≡ q .table → SameServers (p .room) rank (p .demands) (q .demands) → SamePlans rank p q
+abbrev pub SettledFromRank : Type 0
+SettledFromRank =
+    (rank : ℕ) (p q : AcceptedPlan) → p .table ≡ q .table → SameServers (p .room) rank (p .demands) (q .demands)
+    → SameFromRank rank p q
 
--- ---- 4. Caps, used watts, the second deal's wants, the split, and what a node gives
+-- ---- 4. Refusal 9
 
--- A cap is never below its server's least nor above its need.
-abbrev pub CapsInRange : Type 0
-CapsInRange =
-    (p : AcceptedPlan) (v : ℕ) → v < length (p .room .servers)
-    → (serverAt (p .room) v .least ≤ at (p .caps) v) × (at (p .caps) v ≤ at (needs (p .room) (p .demands)) v)
+-- The answer is refusal 9, at place n.
+abbrev pub IsNine : Planned → ℕ → Type 0
+IsNine answer n = (planNumber answer ≡ 9) × (planFigure answer ≡ n)
 
--- Used never exceeds grant: after the first deal, and of the caps after the second.
-abbrev pub UsedGranted : Type 0
-UsedGranted =
-    (p : AcceptedPlan) (c : ℕ) → c < roomCords (p .room)
-    → (at (firstUsed (p .room) (p .demands)) c ≤ at (firstGrants (p .room) (p .demands)) c)
-    × (at (carriedBy (p .room) (p .caps)) c ≤ at (p .grants) c)
-
--- The second deal's wants lie from low to the first's wants.
-abbrev pub SecondWantsInRange : Type 0
-SecondWantsInRange =
-    (p : AcceptedPlan) (c : ℕ) → c < roomCords (p .room)
-    → (at (lowsOf (p .room)) c ≤ at (secondWants (p .room) (p .demands)) c)
-    × (at (secondWants (p .room) (p .demands)) c ≤ at (firstWants (p .room) (p .demands)) c)
-
--- The split gives away all of its amount where some weight is above 0.
-abbrev pub SplitWhole : Type 0
-SplitWhole = (amount : ℕ) (weights : List ℕ) → 0 < sumOf weights → sumOf (split amount weights) ≡ amount
-
--- It gives no child more than its weight where the amount is at most their sum.
-abbrev pub SplitWithin : Type 0
-SplitWithin = (amount : ℕ) (weights : List ℕ) → amount ≤ sumOf weights → (k : ℕ) → at (split amount weights) k ≤ at weights k
-
--- A deal in which every node gives its children all of its amount at each rank, and none of them more than its excess.
-pub record GivesAll (d : Deal) : Type 0 where
-  pub all : (n j : ℕ) → n < d .nodes → j < d .levels
-      → overNodes d n (λ m. amount d (metrics d) (suc m) m j) + overCords d n j (reached d (metrics d)) ≡ amount d (metrics d) (suc n) n j
-  pub toNode : (m j : ℕ) → m < d .nodes → j < d .levels → amount d (metrics d) (suc m) m j ≤ excess (metrics d) m j
-  pub toCord : (c : ℕ) → c < d .cords → reached d (metrics d) c ≤ cordExcess d c
-
-abbrev pub FirstGivesAll : Type 0
-FirstGivesAll = (p : AcceptedPlan) → GivesAll (dealOf (p .room) (firstWants (p .room) (p .demands)))
-
-abbrev pub SecondGivesAll : Type 0
-SecondGivesAll = (p : AcceptedPlan) → GivesAll (dealOf (p .room) (secondWants (p .room) (p .demands)))
-
--- ---- 5. The figures that code holds fit their words
-
--- The most that one figure a cord, summed over all cords, comes to.
-abbrev pub mostSum : ℕ
-mostSum = mostCords * mostWatts
-
--- The figures of a deal, for every node and level. A limit, a want, and so each low, grant, Pcapmin, Request and amount, fits
--- in 24 bits; the children's sums fit in 34, and an amount times any running sum of weights in 58. No difference is below 0.
-pub record DealBounded (d : Deal) : Type 0 where
-  pub limits : (n : ℕ) → n < d .nodes → d .limit n ≤ mostWatts
-  pub wants : (c : ℕ) → c < d .cords → d .want c ≤ mostWatts
-  pub lows : (c : ℕ) → c < d .cords → d .low c ≤ d .want c
-  pub left : (n j : ℕ) → n < d .nodes → j < d .levels
-      → sumOf (take j (getD (metrics d .pcapmins) n [])) + sumOf (drop (j + 1) (getD (metrics d .requests) n [])) ≤ d .limit n
-  pub pcapmins : (n j : ℕ) → n < d .nodes → j < d .levels → cell (metrics d .pcapmins) n j ≤ cell (metrics d .requests) n j
-  pub requests : (n : ℕ) → n < d .nodes → sumOf (getD (metrics d .requests) n []) ≤ d .limit n
-  pub children : (n j : ℕ) → n < d .nodes → j < d .levels → at (childSums d n (drop (n + 1) (metrics d .requests)) (d .want)) j ≤ mostSum
-  pub weights : (n j : ℕ) → n < d .nodes → j < d .levels → weightSum d (metrics d) n j ≤ mostSum
-  pub amounts : (n j : ℕ) → n < d .nodes → j < d .levels → amount d (metrics d) (n + 1) n j ≤ excess (metrics d) n j
-  pub products : (n j : ℕ) → n < d .nodes → j < d .levels → amount d (metrics d) (n + 1) n j * weightSum d (metrics d) n j < 2 ^ 58
-
--- The figures of a plan: needs, and so usable watts and caps, fit in 24 bits, and freed in 34.
-pub record Bounded (r : Room) (demands : List ℕ) : Type 0 where
-  pub needs : (v : ℕ) → v < length (r .servers) → at (needs r demands) v ≤ mostWatts
-  pub freed : freed r demands ≤ mostSum
-  pub first : DealBounded (dealOf r (firstWants r demands))
-  pub second : DealBounded (dealOf r (secondWants r demands))
-
--- Where the table is accepted, they fit, whatever the demands.
-abbrev pub FiguresFit : Type 0
-FiguresFit = (table : List ℕ) (r : Room) (end : ℕ) → checked table 0 ≡ good r end → (demands : List ℕ) → Bounded r demands
+-- Refusal 9 comes exactly when the lows beneath some node exceed its limit, and names the lowest such node.
+-- (That of Read and Write: `RefusalNine` of rooms/specs/Promises.antt.)
+abbrev pub RefusalNine : Type 0
+RefusalNine =
+    (table demands : List ℕ) (grantsLength capsLength n : ℕ)
+    → IsNine (answerOf (plan table demands grantsLength capsLength)) n ↔ Overloaded table n

@@ -1,0 +1,99 @@
+-- What else is proved of every plan: that caps, wants and parts lie in their ranges, and that the figures fit their words.
+-- Demand 3 does not ask for these. Statements only; proofs/Promises.antt proves each: `CapsInRange` as `caps-in-range`,
+-- and so on.
+use mathlib.Core.Path.{_≡_}
+use mathlib.Core.List.{List, []}
+use Prim.Native.Nat.{ℕ, suc, _+_, _*_, _≤_, _<_, _^_}
+use lib.ListN.{length, getD, take, drop}
+use Rattle.rooms.specs.Part.{good}
+use Rattle.rooms.specs.Table.{Room, mostWatts, mostCords, roomCords}
+use Rattle.rooms.specs.Limits.{checked}
+use Rattle.deals.specs.Figures.{at, cell, sumOf}
+use Rattle.deals.specs.Cords.{serverAt}
+use Rattle.deals.specs.Wants.{needs, carriedBy, lowsOf, firstWants}
+use Rattle.deals.specs.Metrics.{Deal, dealOf, metrics, excess, cordExcess, overNodes, overCords, childSums}
+use Rattle.deals.specs.Split.{split}
+use Rattle.deals.specs.Dealing.{weightSum, amount, reached}
+use Rattle.deals.specs.SecondDeal.{firstGrants, firstUsed, freed, secondWants}
+use Rattle.deals.specs.Promises.{AcceptedPlan}
+
+-- ---- Caps, used watts, the second deal's wants, the split, and what a node gives
+
+-- A cap is never below its server's least nor above its need.
+abbrev pub CapsInRange : Type 0
+CapsInRange =
+    (p : AcceptedPlan) (v : ℕ) → v < length (p .room .servers)
+    → (serverAt (p .room) v .least ≤ at (p .caps) v) × (at (p .caps) v ≤ at (needs (p .room) (p .demands)) v)
+
+-- Used never exceeds grant: after the first deal, and of the caps after the second.
+abbrev pub UsedGranted : Type 0
+UsedGranted =
+    (p : AcceptedPlan) (c : ℕ) → c < roomCords (p .room)
+    → (at (firstUsed (p .room) (p .demands)) c ≤ at (firstGrants (p .room) (p .demands)) c)
+    × (at (carriedBy (p .room) (p .caps)) c ≤ at (p .grants) c)
+
+-- The second deal's wants lie from low to the first's wants.
+abbrev pub SecondWantsInRange : Type 0
+SecondWantsInRange =
+    (p : AcceptedPlan) (c : ℕ) → c < roomCords (p .room)
+    → (at (lowsOf (p .room)) c ≤ at (secondWants (p .room) (p .demands)) c)
+    × (at (secondWants (p .room) (p .demands)) c ≤ at (firstWants (p .room) (p .demands)) c)
+
+-- The split gives away all of its amount where some weight is above 0.
+abbrev pub SplitWhole : Type 0
+SplitWhole = (amount : ℕ) (weights : List ℕ) → 0 < sumOf weights → sumOf (split amount weights) ≡ amount
+
+-- It gives no child more than its weight where the amount is at most their sum.
+abbrev pub SplitWithin : Type 0
+SplitWithin =
+    (amount : ℕ) (weights : List ℕ) → amount ≤ sumOf weights → (k : ℕ) → at (split amount weights) k ≤ at weights k
+
+-- A deal in which every node gives its children all of its amount at each rank, and none of them more than its excess.
+pub record GivesAll (d : Deal) : Type 0 where
+  pub all : (n j : ℕ) → n < d .nodes → j < d .levels
+      → overNodes d n (λ m. amount d (metrics d) (suc m) m j) + overCords d n j (reached d (metrics d))
+      ≡ amount d (metrics d) (suc n) n j
+  pub toNode : (m j : ℕ) → m < d .nodes → j < d .levels → amount d (metrics d) (suc m) m j ≤ excess (metrics d) m j
+  pub toCord : (c : ℕ) → c < d .cords → reached d (metrics d) c ≤ cordExcess d c
+
+abbrev pub FirstGivesAll : Type 0
+FirstGivesAll = (p : AcceptedPlan) → GivesAll (dealOf (p .room) (firstWants (p .room) (p .demands)))
+
+abbrev pub SecondGivesAll : Type 0
+SecondGivesAll = (p : AcceptedPlan) → GivesAll (dealOf (p .room) (secondWants (p .room) (p .demands)))
+
+-- ---- The figures that code holds fit their words
+
+-- The most that one figure a cord, summed over all cords, comes to.
+abbrev pub mostSum : ℕ
+mostSum = mostCords * mostWatts
+
+-- The figures of a deal, for every node and level. A limit, a want, and so each low, grant, Pcapmin, Request and amount, fits
+-- in 24 bits; the children's sums fit in 34, and an amount times any running sum of weights in 58. No difference is below 0.
+pub record DealBounded (d : Deal) : Type 0 where
+  pub limits : (n : ℕ) → n < d .nodes → d .limit n ≤ mostWatts
+  pub wants : (c : ℕ) → c < d .cords → d .want c ≤ mostWatts
+  pub lows : (c : ℕ) → c < d .cords → d .low c ≤ d .want c
+  pub left : (n j : ℕ) → n < d .nodes → j < d .levels
+      → sumOf (take j (getD (metrics d .pcapmins) n [])) + sumOf (drop (j + 1) (getD (metrics d .requests) n [])) ≤ d .limit n
+  pub pcapmins : (n j : ℕ) → n < d .nodes → j < d .levels
+      → cell (metrics d .pcapmins) n j ≤ cell (metrics d .requests) n j
+  pub requests : (n : ℕ) → n < d .nodes → sumOf (getD (metrics d .requests) n []) ≤ d .limit n
+  pub children : (n j : ℕ) → n < d .nodes → j < d .levels
+      → at (childSums d n (drop (n + 1) (metrics d .requests)) (d .want)) j ≤ mostSum
+  pub weights : (n j : ℕ) → n < d .nodes → j < d .levels → weightSum d (metrics d) n j ≤ mostSum
+  pub amounts : (n j : ℕ) → n < d .nodes → j < d .levels → amount d (metrics d) (n + 1) n j ≤ excess (metrics d) n j
+  pub products : (n j : ℕ) → n < d .nodes → j < d .levels
+      → amount d (metrics d) (n + 1) n j * weightSum d (metrics d) n j < 2 ^ 58
+
+-- The figures of a plan: needs, and so usable watts and caps, fit in 24 bits, and freed in 34.
+pub record Bounded (r : Room) (demands : List ℕ) : Type 0 where
+  pub needs : (v : ℕ) → v < length (r .servers) → at (needs r demands) v ≤ mostWatts
+  pub freed : freed r demands ≤ mostSum
+  pub first : DealBounded (dealOf r (firstWants r demands))
+  pub second : DealBounded (dealOf r (secondWants r demands))
+
+-- Where the table is accepted, they fit, whatever the demands.
+abbrev pub FiguresFit : Type 0
+FiguresFit =
+    (table : List ℕ) (r : Room) (end : ℕ) → checked table 0 ≡ good r end → (demands : List ℕ) → Bounded r demands

@@ -21,7 +21,7 @@ resumed at value unit next (bad fault) = Refused fault at
 
 pub record Inv (sheet : List ℕ) (at value unit next left : ℕ) : Type 0 where
   pub small : value < unit
-  pub room : unit * 128 ^ left ≡ 2 ^ 28
+  pub space : unit * 128 ^ left ≡ 2 ^ 28
   pub same : resumed at value unit next (later left (drop next sheet)) ≡ decoded at (number (drop at sheet))
 
 -- A byte that was read stands in front of those after it.
@@ -43,7 +43,7 @@ module _ (sheet : List ℕ) (at : ℕ) where
     begin top is-byte =
         record {
           small = omega arith;
-          room = refl;
+          space = refl;
           same = rw (byte-first sheet at byte e h, le-ltb byte 128 top, add-one) (go (later 3 (drop (suc at) sheet)));
         }
       where
@@ -68,7 +68,7 @@ module _ (sheet : List ℕ) (at value unit next : ℕ) where
       → (value + unit * group < 2 ^ 28) × (unit * 128 ≤ 2 ^ 28)
   fits zero p inv group h = absurd (omega arith)
   fits (suc left) p inv group h =
-      let e : unit * 128 * 128 ^ left ≡ 2 ^ 28 = mul-assoc unit 128 (128 ^ left) ∙ rw (← pow-succ' 128 left) (inv .room) in
+      let e : unit * 128 * 128 ^ left ≡ 2 ^ 28 = mul-assoc unit 128 (128 ^ left) ∙ rw (← pow-succ' 128 left) (inv .space) in
       let u : unit * 128 ≤ 2 ^ 28 = omega (arith, le-mul-of-pos-right (unit * 128) (pow-pos left)) in
       let m : unit * group ≤ unit * 127 = mul-le-mul-left unit (omega arith) in
       (omega (arith, inv .small), u)
@@ -96,7 +96,7 @@ module _ (sheet : List ℕ) (at value unit next : ℕ) where
         rw (l, add-one)
         (record {
           small = omega (arith, inv .small, mul-le-mul-left {m = byte - 128} {n = 127} unit (omega arith));
-          room = mul-assoc unit 128 (128 ^ left) ∙ rw (← pow-succ' 128 left) (inv .room);
+          space = mul-assoc unit 128 (128 ^ left) ∙ rw (← pow-succ' 128 left) (inv .space);
           same = go (byte - 128) (later left (drop (suc next) sheet)) ∙ (rw (byte-first sheet next byte e h, ne-eqb byte 0 z, le-ltb byte 128 top) at (inv .same));
         })
       where

@@ -90,18 +90,18 @@ groups-below (suc k) value h = go (ltb value 128) refl (groups-below k (value / 
 
 -- ---- the answer of `encode`, case by case
 
-module _ (value room at : ℕ) where
-  pub encoded-too-large : 2 ^ 28 ≤ value → TooLarge ≡ encoded value room at
+module _ (value space at : ℕ) where
+  pub encoded-too-large : 2 ^ 28 ≤ value → TooLarge ≡ encoded value space at
   unfolding encoded
   encoded-too-large l = rw (le-ltb value (2 ^ 28) l)
 
-  pub encoded-too-short : value < 2 ^ 28 → room < at + length (form value) → TooShort ≡ encoded value room at
+  pub encoded-too-short : value < 2 ^ 28 → space < at + length (form value) → TooShort ≡ encoded value space at
   unfolding encoded
-  encoded-too-short h l = rw (lt-ltb value (2 ^ 28) h, lt-leb (at + length (form value)) room l)
+  encoded-too-short h l = rw (lt-ltb value (2 ^ 28) h, lt-leb (at + length (form value)) space l)
 
-  pub encoded-next : value < 2 ^ 28 → at + length (form value) ≤ room → Next (at + length (form value)) ≡ encoded value room at
+  pub encoded-next : value < 2 ^ 28 → at + length (form value) ≤ space → Next (at + length (form value)) ≡ encoded value space at
   unfolding encoded
-  encoded-next h l = rw (lt-ltb value (2 ^ 28) h, le-leb (at + length (form value)) room l)
+  encoded-next h l = rw (lt-ltb value (2 ^ 28) h, le-leb (at + length (form value)) space l)
 
 -- ---- what was written is read back
 

@@ -1,16 +1,18 @@
 -- Laws of whole sheets: their sizes and ranges, and that reading and writing undo each other.
-use mathlib.Core.Path.{_≡_, refl, sym, ap, _∙_}
+use mathlib.Core.Path.{_≡_, refl, _∙_}
+use mathlib.Core.Bool.{Bool, true, false, cond}
 use mathlib.Core.List.{List, [], _∷_, _++_}
 use Prim.Native.Nat.{ℕ, zero, suc, _+_, _*_, _^_, _≤_, _<_}
 use native.Mathlib.Omega.{arith}
 use lib.ListN.{length, getD, drop, length-append, length-drop}
-use lib.Seq.{drop-append-seam, getD-drop, drop-cons}
-use borrow.Author.Tests.{lt-ltb}
+use lib.Seq.{drop-append-seam, drop-cons}
+use lib.Dec.{ltb}
+use borrow.Author.Tests.{ltb-true, lt-ltb, le-ltb, le-leb, lt-leb}
 use Rattle.words.specs.Lists.{AllBelow}
 use Rattle.words.proofs.Lists.{cons-below, drop-below, append-below}
 use Rattle.numbers.specs.Number.{Front, good, bad, number, form}
-use Rattle.numbers.specs.Sheet.{whole, Sheet, onto, sheetFrom, sheetOf, bytesOf, unlessTooLarge, fitted, written}
-use Rattle.numbers.specs.declared.Written.{Written}
+use Rattle.numbers.specs.Sheet.{whole, Sheet, onto, sheetFrom, sheetOf, bytesOf, firstTooLarge, fitted, written}
+use Rattle.numbers.specs.declared.Written.the-variants.{Bytes, TooLarge, TooShort}
 use Rattle.numbers.proofs.NumberLaws.{number-form, number-good, groups-below, 1≤length-form, length-form≤4}
 
 -- ---- the bytes of words
@@ -103,13 +105,35 @@ words-below bytes all = read-from (length bytes) 0 bytes (omega arith) all .belo
 pub length-words≤ : (bytes : List ℕ) → AllBelow 256 bytes → length (sheetOf bytes .words) ≤ length bytes
 length-words≤ bytes all = read-from (length bytes) 0 bytes (omega arith) all .few
 
--- ---- the answer on words that all have forms
+-- ---- the answer on words that are to be written
 
-unlessTooLarge-forms : (index : ℕ) (words : List ℕ) (other : Written) → AllBelow (2 ^ 28) words → unlessTooLarge index words other ≡ other
-unfolding unlessTooLarge
-unlessTooLarge-forms index [] other h = refl
-unlessTooLarge-forms index (w ∷ words) other h = rw (lt-ltb w (2 ^ 28) (h 0)) (unlessTooLarge-forms (suc index) words other (λ i. h (suc i)))
+-- Where no word is too large, each has a form; and the other way round.
+pub forms-below : (words : List ℕ) → length words ≤ firstTooLarge words → AllBelow (2 ^ 28) words
+unfolding firstTooLarge
+forms-below [] h = λ i. omega arith
+forms-below (w ∷ words) h = go (ltb w (2 ^ 28)) refl h (λ l. forms-below words l)
+  where
+    go : (t : Bool) → ltb w (2 ^ 28) ≡ t → suc (length words) ≤ cond t (suc (firstTooLarge words)) 0 → (length words ≤ firstTooLarge words → AllBelow (2 ^ 28) words)
+        → AllBelow (2 ^ 28) (w ∷ words)
+    go true e l ih = cons-below (2 ^ 28) w words (ltb-true w (2 ^ 28) e) (ih (omega arith))
+    go false e l ih = absurd (omega arith)
 
--- Words that all have forms are written where there is room.
-pub written-forms : (words : List ℕ) (room : ℕ) → AllBelow (2 ^ 28) words → written words room ≡ fitted (length (bytesOf words)) room
-written-forms words room h = unlessTooLarge-forms 0 words (fitted (length (bytesOf words)) room) h
+below-forms : (words : List ℕ) → AllBelow (2 ^ 28) words → length words ≤ firstTooLarge words
+unfolding firstTooLarge
+below-forms [] h = omega arith
+below-forms (w ∷ words) h = rw (lt-ltb w (2 ^ 28) (h 0)) (omega (arith, below-forms words (λ i. h (suc i))))
+
+-- Words that all have forms are written where there is space.
+pub written-forms : (words : List ℕ) (space : ℕ) → AllBelow (2 ^ 28) words → written words space ≡ fitted (length (bytesOf words)) space
+written-forms words space h = rw (le-ltb (firstTooLarge words) (length words) (below-forms words h))
+
+module _ (words : List ℕ) (space : ℕ) where
+  pub written-large : firstTooLarge words < length words → TooLarge (firstTooLarge words) ≡ written words space
+  written-large l = rw (lt-ltb (firstTooLarge words) (length words) l)
+
+  module _ (h : length words ≤ firstTooLarge words) where
+    pub written-short : space < length (bytesOf words) → TooShort (length (bytesOf words)) ≡ written words space
+    written-short l = rw (le-ltb (firstTooLarge words) (length words) h, lt-leb (length (bytesOf words)) space l)
+
+    pub written-whole : length (bytesOf words) ≤ space → Bytes (length (bytesOf words)) ≡ written words space
+    written-whole l = rw (le-ltb (firstTooLarge words) (length words) h, le-leb (length (bytesOf words)) space l)

@@ -1,23 +1,19 @@
--- The loops over a whole sheet: of `decode_sheet`, of `put_all` and of `encode_sheet`.
+-- The loops over a whole sheet: of `decode_sheet`, `put_all`, `first_too_large` and `total_size`.
 use mathlib.Core.Path.{_≡_, refl, sym, ap, _∙_}
-use mathlib.Core.Bool.{Bool, true, false}
 use mathlib.Core.List.{List, []}
 use Prim.Native.Nat.{ℕ, zero, suc, _+_, _-_, _*_, _^_, _≤_, _<_}
 use native.Mathlib.Omega.{arith}
 use native.Mathlib.Numerals.{add-one}
-use lib.ListN.{length, getD, drop, set, length-append, length-drop, length-set, drop-of-length-le, List·getD-eq-default}
+use lib.ListN.{length, getD, drop, set, length-append, length-drop, length-set, drop-of-length-le}
 use lib.Seq.{sets, length-sets, drop-cons, drop-drop}
 use lib.Dec.{ltb}
-use borrow.Author.Count.{below-more}
-use borrow.Author.Tests.{lt-ltb, le-ltb, le-leb, lt-leb, ltb-true, ltb-false}
+use borrow.Author.Tests.{lt-ltb, le-ltb}
 use Rattle.numbers.specs.Number.{Front, good, bad, number, decoded, form}
-use Rattle.numbers.specs.Sheet.{whole, onto, sheetFrom, sheetOf, answer, judged, bytesOf, unlessTooLarge, fitted, written}
+use Rattle.numbers.specs.Sheet.{whole, onto, sheetFrom, sheetOf, answer, judged, bytesOf, firstTooLarge}
 use Rattle.words.specs.Lists.{AllBelow}
 use Rattle.numbers.specs.declared.Fault.{Fault}
 use Rattle.numbers.specs.declared.Decoded.the-variants.{Number, Refused}
 use Rattle.numbers.specs.declared.Judged.the-variants.{Words, Refused as Turned}
-use Rattle.numbers.specs.declared.Written.{Written}
-use Rattle.numbers.specs.declared.Written.the-variants.{Bytes, TooLarge, TooShort}
 use Rattle.numbers.proofs.NumberLaws.{Good, number-good, length-form≤4}
 use Rattle.words.proofs.Lists.{drop-below, sets-append}
 use Rattle.numbers.proofs.SheetLaws.{sheetFrom-end, sheetFrom-some, bytesOf-drop}
@@ -125,9 +121,12 @@ length-bytesOf-drop : (words : List ℕ) (index : ℕ) → index < length words
 length-bytesOf-drop words index h = rw (bytesOf-drop words index h) (length-append (form (getD words index 0)) (bytesOf (drop (suc index) words)))
 
 module _ (words sheet₀ sheet : List ℕ) (index at : ℕ) (inv : Writing words sheet₀ sheet index at) where
-  pub writing-end : length words ≤ index → sheet ≡ sets sheet₀ 0 (bytesOf words)
+  pub writing-end : length words ≤ index → (at ≡ length (bytesOf words)) × (sheet ≡ sets sheet₀ 0 (bytesOf words))
   unfolding bytesOf
-  writing-end h = rw (drop-of-length-le words h) at (inv .same)
+  writing-end h =
+      let none = drop-of-length-le words h in
+      let end = rw none at (inv .end) in
+      (omega arith, rw none at (inv .same))
 
   module _ (h : index < length words) where
     pub writing-fits : length (bytesOf words) ≤ length sheet₀ → at + length (form (getD words index 0)) ≤ length sheet
@@ -145,60 +144,55 @@ module _ (words sheet₀ sheet : List ℕ) (index at : ℕ) (inv : Writing words
           same = sym (sets-append sheet at (form (getD words index 0)) (bytesOf (drop (suc index) words))) ∙ (rw (bytesOf-drop words index h) at (inv .same));
         })
 
--- ---- `encode_sheet`: the words in front of `index` have forms, of `needed` bytes
+-- ---- `first_too_large`: the words in front of `index` have forms
 
-pub record Sizing (words : List ℕ) (needed index : ℕ) : Type 0 where
+pub record Searching (words : List ℕ) (index : ℕ) : Type 0 where
   pub within : index ≤ length words
-  pub small : needed ≤ 4 * index
-  pub total : needed + length (bytesOf (drop index words)) ≡ length (bytesOf words)
-  pub forms : (i : ℕ) → i < index → getD words i 0 < 2 ^ 28
-  pub same : (other : Written) → unlessTooLarge index (drop index words) other ≡ unlessTooLarge 0 words other
+  pub same : index + firstTooLarge (drop index words) ≡ firstTooLarge words
+
+pub searching-begin : (words : List ℕ) → Searching words 0
+searching-begin words = record { within = omega arith; same = omega arith }
+
+module _ (words : List ℕ) (index : ℕ) (inv : Searching words index) where
+  pub searching-again : index < length words → getD words index 0 < 2 ^ 28 → Searching words (index + 1)
+  unfolding firstTooLarge
+  searching-again h w =
+      let s = rw (drop-cons words index 0 h, lt-ltb (getD words index 0) (2 ^ 28) w) at (inv .same) in
+      record { within = omega arith; same = rw add-one (omega arith) }
+
+  pub searching-stop : index < length words → 2 ^ 28 ≤ getD words index 0 → index ≡ firstTooLarge words
+  unfolding firstTooLarge
+  searching-stop h w =
+      let s = rw (drop-cons words index 0 h, le-ltb (getD words index 0) (2 ^ 28) w) at (inv .same) in
+      omega arith
+
+  pub searching-end : length words ≤ index → index ≡ firstTooLarge words
+  unfolding firstTooLarge
+  searching-end h =
+      let s = rw (drop-of-length-le words h) at (inv .same) in
+      omega arith
+
+-- ---- `total_size`: the words in front of `index` have `total` bytes
+
+pub record Sizing (words : List ℕ) (total index : ℕ) : Type 0 where
+  pub within : index ≤ length words
+  pub small : total ≤ 4 * index
+  pub same : total + length (bytesOf (drop index words)) ≡ length (bytesOf words)
 
 pub sizing-begin : (words : List ℕ) → Sizing words 0 0
-sizing-begin words = record { within = omega arith; small = omega arith; total = omega arith; forms = λ i l. absurd (omega arith); same = λ other. refl }
+sizing-begin words = record { within = omega arith; small = omega arith; same = omega arith }
 
-module _ (words : List ℕ) (needed index : ℕ) (inv : Sizing words needed index) where
-  pub sizing-again : (size : ℕ) → index < length words → getD words index 0 < 2 ^ 28 → size ≡ length (form (getD words index 0))
-      → Sizing words (needed + size) (index + 1)
-  unfolding unlessTooLarge
-  sizing-again size h w e =
+module _ (words : List ℕ) (total index : ℕ) (inv : Sizing words total index) where
+  pub sizing-again : (size : ℕ) → index < length words → size ≡ length (form (getD words index 0)) → Sizing words (total + size) (index + 1)
+  sizing-again size h e =
       record {
         within = omega arith;
         small = omega (arith, inv .small, length-form≤4 (getD words index 0));
-        total = rw add-one (omega (arith, inv .total, length-bytesOf-drop words index h));
-        forms = below-more _ index (inv .forms) w;
-        same = λ other. rw add-one (rw (drop-cons words index 0 h, lt-ltb (getD words index 0) (2 ^ 28) w) at (inv .same other));
+        same = rw add-one (omega (arith, inv .same, length-bytesOf-drop words index h));
       }
 
-  pub sizing-stop : index < length words → 2 ^ 28 ≤ getD words index 0 → (room : ℕ) → TooLarge index ≡ written words room
-  unfolding unlessTooLarge
-  sizing-stop h w room = rw (drop-cons words index 0 h, le-ltb (getD words index 0) (2 ^ 28) w) at (inv .same (fitted (length (bytesOf words)) room))
-
-  module _ (h : length words ≤ index) where
-    sizing-total : needed ≡ length (bytesOf words)
-    unfolding bytesOf
-    sizing-total = let t = rw (drop-of-length-le words h) at (inv .total) in omega arith
-
-    pub sizing-room : (room : ℕ) → needed ≤ room → length (bytesOf words) ≤ room
-    sizing-room room l = omega (arith, sizing-total)
-
-    pub sizing-forms : AllBelow (2 ^ 28) words
-    sizing-forms i = go (ltb i (length words)) refl
-      where
-        go : (t : Bool) → ltb i (length words) ≡ t → getD words i 0 < 2 ^ 28
-        go true e = inv .forms i (omega (arith, ltb-true i (length words) e))
-        go false e = rw (List·getD-eq-default words 0 (ltb-false i (length words) e)) (omega arith)
-
-    fitted-all : (room : ℕ) → fitted (length (bytesOf words)) room ≡ written words room
-    unfolding unlessTooLarge
-    fitted-all room = rw (drop-of-length-le words h) at (inv .same (fitted (length (bytesOf words)) room))
-
-    pub sizing-short : (room : ℕ) → room < needed → TooShort needed ≡ written words room
-    sizing-short room l =
-        let f : TooShort needed ≡ fitted (length (bytesOf words)) room = rw (← sizing-total, lt-leb needed room l) in
-        f ∙ fitted-all room
-
-    pub sizing-fits : (room : ℕ) → needed ≤ room → Bytes needed ≡ written words room
-    sizing-fits room l =
-        let f : Bytes needed ≡ fitted (length (bytesOf words)) room = rw (← sizing-total, le-leb needed room l) in
-        f ∙ fitted-all room
+  pub sizing-end : length words ≤ index → total ≡ length (bytesOf words)
+  unfolding bytesOf
+  sizing-end h =
+      let s = rw (drop-of-length-le words h) at (inv .same) in
+      omega arith

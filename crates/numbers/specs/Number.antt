@@ -67,11 +67,11 @@ form value = groups 4 value
 abbrev pub hasForm : ℕ → Bool
 hasForm value = ltb value (2 ^ 28)
 
--- What becomes of a number that is to stand at a place of a sheet of `room` bytes.
+-- What becomes of a number that is to stand at a place of a sheet with space for so many bytes.
 unfoldable pub encoded : ℕ → ℕ → ℕ → Encoded
-encoded value room at =
+encoded value space at =
     cond (hasForm value)
-    (cond (leb (at + length (form value)) room) (Next (at + length (form value))) TooShort)
+    (cond (leb (at + length (form value)) space) (Next (at + length (form value))) TooShort)
     TooLarge
 
 -- The sheet after that answer: a number that was not written left it unchanged.

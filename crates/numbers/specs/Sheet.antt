@@ -4,7 +4,7 @@ use mathlib.Core.List.{List, [], _∷_, _++_}
 use Prim.Native.Nat.{ℕ, zero, suc, _+_}
 use lib.ListN.{length, drop}
 use lib.Seq.{sets}
-use lib.Dec.{leb}
+use lib.Dec.{ltb, leb}
 use Rattle.numbers.specs.declared.Fault.{Fault}
 use Rattle.numbers.specs.declared.Judged.{Judged}
 use Rattle.numbers.specs.declared.Judged.the-variants.{Words, Refused}
@@ -55,18 +55,18 @@ unfoldable pub bytesOf : List ℕ → List ℕ
 bytesOf [] = []
 bytesOf (w ∷ words) = form w ++ bytesOf words
 
--- The refusal of the first word that has no form, `index` being that of the words' first; `other`, if each has one.
-unfoldable pub unlessTooLarge : ℕ → List ℕ → Written → Written
-unlessTooLarge index [] other = other
-unlessTooLarge index (w ∷ words) other = cond (hasForm w) (unlessTooLarge (suc index) words other) (TooLarge index)
+-- The index of the first word that has no form; the count of words, if each has one.
+unfoldable pub firstTooLarge : List ℕ → ℕ
+firstTooLarge [] = 0
+firstTooLarge (w ∷ words) = cond (hasForm w) (suc (firstTooLarge words)) 0
 
--- What becomes of `size` bytes that are to stand in a sheet of `room` bytes.
+-- What becomes of `size` bytes that are to stand in a sheet with space for so many.
 abbrev pub fitted : ℕ → ℕ → Written
-fitted size room = cond (leb size room) (Bytes size) (TooShort size)
+fitted size space = cond (leb size space) (Bytes size) (TooShort size)
 
--- What becomes of words that are to stand in a sheet of `room` bytes.
+-- What becomes of words that are to stand in a sheet with space for so many bytes.
 abbrev pub written : List ℕ → ℕ → Written
-written words room = unlessTooLarge 0 words (fitted (length (bytesOf words)) room)
+written words space = cond (ltb (firstTooLarge words) (length words)) (TooLarge (firstTooLarge words)) (fitted (length (bytesOf words)) space)
 
 -- The sheet after that answer: words that were not written left it unchanged.
 abbrev pub afterEncodeSheet : Written → List ℕ → List ℕ → List ℕ

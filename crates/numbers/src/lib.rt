@@ -5,7 +5,7 @@ ghost use Prim.Native.Nat.{_+_, _^_, _<_, _≤_};
 ghost use lib.ListN.{length, drop, set};
 ghost use lib.Seq.{sets};
 ghost use Rattle.numbers.specs.Number.{number, decoded, form, encoded, afterEncode};
-ghost use Rattle.numbers.specs.Sheet.{sheetOf, judged, bytesOf, written, afterEncodeSheet};
+ghost use Rattle.numbers.specs.Sheet.{sheetOf, judged, bytesOf, firstTooLarge, written, afterEncodeSheet};
 ghost use Rattle.words.specs.Lists.{AllBelow};
 
 // Why bytes are no number: four bytes that all say another follows; a last byte of 0 after others; the bytes end inside.
@@ -101,7 +101,7 @@ fn size(value: u32) -> usize
     }
 }
 
-// Writes a number where it has a form and there is room for it, and gives the place after it.
+// Writes a number that has a form where there is space for it, and gives the place after it.
 fn put(value: u32, sheet: &mut [u8], at: usize) -> usize
     requires { ⌜ value < 2 ^ 28 ⌝ }
     requires { ⌜ at + length (form value) ≤ length (now sheet) ⌝ }
@@ -127,11 +127,11 @@ pub fn encode(value: u32, sheet: &mut [u8], at: usize) -> Encoded
     if FORM_LIMIT <= value {
         return Encoded::TooLarge;
     }
-    let room = sheet.len();
-    if room < at {
+    let space = sheet.len();
+    if space < at {
         return Encoded::TooShort;
     }
-    if room - at < size(value) {
+    if space - at < size(value) {
         return Encoded::TooShort;
     }
     Encoded::Next(put(value, sheet, at))
@@ -146,7 +146,7 @@ fn store(words: &mut [u32], index: usize, word: u32)
     }
 }
 
-// Reads a sheet to its end or its first fault. The numbers go to the front of `words`, as many as it has room for.
+// Reads a sheet to its end or its first fault. The numbers go to the front of `words`, as many as it has space for.
 pub fn decode_sheet(sheet: &[u8], words: &mut [u32]) -> Judged
     ensures { λ r. ⌜ r ≡ judged (sheetOf (now (sheet .entry))) ⌝ }
     ensures { λ r. ⌜ now (words .exit) ≡ sets (now (words .entry)) 0 (sheetOf (now (sheet .entry)) .words) ⌝ }
@@ -166,18 +166,47 @@ pub fn decode_sheet(sheet: &[u8], words: &mut [u32]) -> Judged
     Judged::Words(count)
 }
 
-// Writes words that all have forms to the front of a sheet that has room for them.
-fn put_all(words: &[u32], sheet: &mut [u8])
-    requires { ⌜ AllBelow (2 ^ 28) (now words) ⌝ }
-    requires { ⌜ length (bytesOf (now words)) ≤ length (now sheet) ⌝ }
-    ensures { λ r. ⌜ now (sheet .exit) ≡ sets (now (sheet .entry)) 0 (bytesOf (now (words .entry))) ⌝ }
+// The index of the first word that has no form; the count of words, if each has one.
+fn first_too_large(words: &[u32]) -> usize
+    ensures { λ r. ⌜ r ≡ firstTooLarge (now (words .entry)) ⌝ }
 {
     let mut index = 0;
-    let mut at = 0;
     while index < words.len() {
-        at = put(words[index], sheet, at);
+        if FORM_LIMIT <= words[index] {
+            return index;
+        }
         index += 1;
     }
+    index
+}
+
+// The count of bytes in the forms of some words.
+fn total_size(words: &[u32]) -> usize
+    ensures { λ r. ⌜ r ≡ length (bytesOf (now (words .entry))) ⌝ }
+{
+    let mut total = 0;
+    let mut index = 0;
+    while index < words.len() {
+        total += size(words[index]);
+        index += 1;
+    }
+    total
+}
+
+// Writes words that all have forms to the front of a sheet with space for them, and gives the count of bytes.
+fn put_all(words: &[u32], sheet: &mut [u8]) -> usize
+    requires { ⌜ AllBelow (2 ^ 28) (now words) ⌝ }
+    requires { ⌜ length (bytesOf (now words)) ≤ length (now sheet) ⌝ }
+    ensures { λ r. ⌜ r ≡ length (bytesOf (now (words .entry))) ⌝ }
+    ensures { λ r. ⌜ now (sheet .exit) ≡ sets (now (sheet .entry)) 0 (bytesOf (now (words .entry))) ⌝ }
+{
+    let mut done = 0;
+    let mut at = 0;
+    while done < words.len() {
+        at = put(words[done], sheet, at);
+        done += 1;
+    }
+    at
 }
 
 // Writes words as numbers to the front of a sheet. Refused, it leaves the sheet unchanged.
@@ -185,19 +214,16 @@ pub fn encode_sheet(words: &[u32], sheet: &mut [u8]) -> Written
     ensures { λ r. ⌜ r ≡ written (now (words .entry)) (length (now (sheet .entry))) ⌝ }
     ensures { λ r. ⌜ now (sheet .exit) ≡ afterEncodeSheet r (now (words .entry)) (now (sheet .entry)) ⌝ }
 {
-    let mut needed = 0;
-    let mut index = 0;
-    while index < words.len() {
-        let word = words[index];
-        if FORM_LIMIT <= word {
-            return Written::TooLarge(index);
+    let large = first_too_large(words);
+    if large < words.len() {
+        return Written::TooLarge(large);
+    }
+    // No form is longer than four bytes, so only a sheet with fewer a word can be too short.
+    if sheet.len() / 4 < words.len() {
+        let needed = total_size(words);
+        if sheet.len() < needed {
+            return Written::TooShort(needed);
         }
-        needed += size(word);
-        index += 1;
     }
-    if sheet.len() < needed {
-        return Written::TooShort(needed);
-    }
-    put_all(words, sheet);
-    Written::Bytes(needed)
+    Written::Bytes(put_all(words, sheet))
 }

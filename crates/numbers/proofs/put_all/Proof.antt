@@ -7,10 +7,10 @@ use Rattle.numbers.proofs.put_all.Statement.{statement}
 use Rattle.numbers.proofs.put_all.Tie as tie
 
 abbrev Inv-loop : tie.InvT-loop
-Inv-loop words sheet₀ index₀ at₀ sheet index at = Writing words sheet₀ sheet index at
+Inv-loop words sheet₀ done₀ at₀ sheet done at = Writing words sheet₀ sheet done at
 
 abbrev μ-loop : tie.MeasureT-loop
-μ-loop words sheet₀ index₀ at₀ sheet index at = length words - index
+μ-loop words sheet₀ done₀ at₀ sheet done at = length words - done
 
 loop-holds : tie.Need-loop-holds Inv-loop μ-loop
 loop-holds c = writing-begin _ _
@@ -27,8 +27,8 @@ put-requires c κs =
     let entry = c .before .before .before .before .before .before in
     (entry .pre .0 _, writing-fits _ _ _ _ _ (turn .inv) (search needs) (entry .pre .1))
 
-add-index : tie.Need-add-index Inv-loop μ-loop
-add-index c = search needs
+add-done : tie.Need-add-done Inv-loop μ-loop
+add-done c = search needs
 
 loop-less : tie.Need-loop-less Inv-loop μ-loop
 loop-less c = search needs
@@ -55,7 +55,7 @@ put-all-spec =
     mul-put
     shared-slice-read-put
     put-requires
-    add-index
+    add-done
     loop-less
     loop-again
     same-length

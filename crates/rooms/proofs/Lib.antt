@@ -8,6 +8,7 @@ pub mod Inversion
 pub mod All
 pub mod Rows
 pub mod Whole
+pub mod Extent
 pub mod Reach
 -- The check of the words.
 pub mod Steps

@@ -1,6 +1,6 @@
 -- How far a part of a table reaches: it never passes an index `last`, no word after that one changes its answer,
 -- and each word that a good part took is at most 16,777,215. So the first 5,124 words of a table decide every answer.
-use mathlib.Core.Path.{_≡_, refl, ap, _∙_}
+use mathlib.Core.Path.{_≡_, refl, sym, ap, _∙_}
 use mathlib.Core.Bool.{Bool, true, false}
 use mathlib.Core.List.{List, [], _∷_}
 use Prim.Native.Nat.{ℕ, zero, suc, _+_, _-_, _*_, _≤_, _<_, min}
@@ -12,10 +12,11 @@ use lib.Dec.{leb, ltb}
 use borrow.Author.Tests.{leb-true, leb-false, ltb-true, ltb-false, lt-leb, lt-ltb}
 use Rattle.rooms.specs.Part.{Step, good, bad, Part, _>>=_, give, here, follow, word, ensure, end, many, within}
 use Rattle.rooms.specs.declared.Refusal.{Refusal}
-use Rattle.rooms.specs.Table.{Server, Room, mostWatts, mostNodes, mostServers, mostCords, mostServerCords, highestRank, scale, version, node, nodes, cord, cords, range, load, server, servers, cordCount, table}
+use Rattle.rooms.specs.Table.{Room, mostWatts, mostNodes, mostServers, mostCords, mostServerCords, highestRank, scale, version, node, nodes, cord, cords, range, load, server, servers, cordCount, roomCords, table}
 use Rattle.rooms.specs.Limits.{checked}
-use Rattle.rooms.proofs.Inversion.{took, word-is, ended, node-is, cord-is, range-is, server-is, server-few}
+use Rattle.rooms.proofs.Inversion.{took, word-is, ended, node-is, cord-is, range-is, server-few}
 use Rattle.rooms.proofs.Whole.{table-is, checked-is}
+use Rattle.rooms.proofs.Extent.{server-next, table-next}
 
 -- ---- The calculus
 
@@ -198,13 +199,6 @@ module _ (last : ℕ) (w : List ℕ) where
       then-reaches last w j (load-reaches nodeCount before i j h (omega (arith, range-is w (suc i) range j e .next))) (λ cords k d u.
       give-reaches last w k _ (u .near)))))
 
--- A server takes four words, and two for each of its cords.
-server-next : (nodeCount before : ℕ) (w : List ℕ) (i : ℕ) (s : Server) (j : ℕ) → nodeCount ≤ mostWatts → server nodeCount before w i ≡ good s j
-    → j ≤ i + 4 + 2 * cordCount s
-server-next nodeCount before w i s j h e =
-    let a = server-is nodeCount before w i s j e .load in
-    cords-reaches (i + 4 + 2 * cordCount s) w nodeCount (getD w (suc (suc (suc i))) 0) (suc (suc (suc (suc i)))) h (omega (arith, a .count)) .taken (s .cords) j (a .are) .near
-
 -- The servers that are left fit, with as many cords as the room may still have.
 record ServersFit (last left before i : ℕ) : Type 0 where
   few : before ≤ mostCords
@@ -216,7 +210,7 @@ servers-reaches last w nodeCount count i h l =
     many-reaches last w (server nodeCount) (λ before s. before + cordCount s) (ServersFit last)
     (λ before i f. omega arith)
     (λ left before i f. server-reaches last w nodeCount before i h (omega arith))
-    (λ left before i f s j e. record { few = server-few nodeCount before w i s j (f .few) e; fit = omega (arith, server-next nodeCount before w i s j h e) })
+    (λ left before i f s j e. record { few = server-few nodeCount before w i s j (f .few) e; fit = omega (arith, server-next nodeCount before w i s j e) })
     count 0 i (record { few = omega arith; fit = omega arith })
 
 -- ---- The table
@@ -259,6 +253,10 @@ module _ (w : List ℕ) (r : Room) (j : ℕ) (e : checked w 0 ≡ good r j) wher
   -- A good table ends where its words do.
   pub next-is-length : j ≡ length w
   next-is-length = omega (arith, checked-reaches w .taken r j e .there (omega arith), table-is w r j (checked-is w r j e .0) .ended)
+
+  -- So its length tells the count of its cords.
+  pub length-is : length w ≡ 3 + 2 * getD w 1 0 + 4 * length (r .servers) + 2 * roomCords r
+  length-is = sym next-is-length ∙ table-next w r j (checked-is w r j e .0)
 
   pub length-small : length w ≤ mostWords
   length-small = omega (arith, next-is-length, checked-reaches w .taken r j e .near)

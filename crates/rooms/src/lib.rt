@@ -39,7 +39,7 @@ pub enum Answer {
 }
 
 // A table has at most 5,123 words, so that many and one more decide every check.
-const DECIDING_WORDS: usize = 5124;
+pub const DECIDING_WORDS: usize = 5124;
 
 // The number of a fault.
 fn fault_number(fault: Fault) -> u64

@@ -1,10 +1,10 @@
 -- What the calls return and leave, from what the functions that they call ensure.
 use mathlib.Core.Path.{_≡_, refl, sym, ap, _∙_}
 use mathlib.Core.List.{List, [], _++_}
-use Prim.Native.Nat.{ℕ, suc, _/_, _≤_, _<_, min}
+use Prim.Native.Nat.{ℕ, suc, _+_, _/_, _≤_, _<_, min}
 use native.Mathlib.Nat.{le-refl}
 use native.Mathlib.Omega.{arith}
-use lib.ListN.{length, take, drop, length-append}
+use lib.ListN.{length, take, drop, length-append, take-append-drop}
 use lib.Seq.{sets, length-sets, length-take-le, take-all, take-length, take-append-le}
 use Rattle.words.specs.Bytes.{wordsOf, bytesOf, answered}
 use Rattle.words.proofs.Lists.{take-sets}
@@ -14,7 +14,8 @@ use Rattle.rooms.specs.declared.Answer.{Answer}
 use Rattle.rooms.proofs.Reach.{mostWords}
 use Rattle.rooms.proofs.Outcomes.{front-length}
 use Rattle.rooms.proofs.Lent.{reading-cut, reading-fits, writing-cut}
-use Rattle.capi.specs.Calls.{Call, OutcomeCall, ReadCall, WriteCall, bytesAfter, writtenCount}
+use Rattle.capi.specs.Calls.{Call, OutcomeCall, ReadCall, WriteCall, bytesAfter}
+use Rattle.capi.specs.Counts.{writtenCount}
 
 -- ---- All calls
 
@@ -47,26 +48,29 @@ outcome-done fill output answer {outcome = outcome} {told = told} same long is o
 -- ---- Lists that are written
 
 -- An operation writes to the front of a list, of which it is lent so many words, and `count` of them are stored.
-module _ (list : List ℕ) (room : ℕ) (written : List ℕ) {front′ : List ℕ} {count : ℕ}
-    (fits : length written ≤ length (take room list)) (f : front′ ≡ sets (take room list) 0 written) (n : count ≡ length written) where
+module _ (list : List ℕ) (space : ℕ) (written : List ℕ) {front′ : List ℕ} {count : ℕ}
+    (fits : length written ≤ length (take space list)) (f : front′ ≡ sets (take space list) 0 written) (n : count ≡ length written) where
   abbrev list′ : List ℕ
-  list′ = front′ ++ drop room list
+  list′ = front′ ++ drop space list
 
-  size : length front′ ≡ length (take room list)
-  size = ap length f ∙ length-sets (take room list) 0 written
+  size : length front′ ≡ length (take space list)
+  size = ap length f ∙ length-sets (take space list) 0 written
 
   pub count-fits : count ≤ length list′
-  count-fits = omega (arith, length-append front′ (drop room list), size)
+  count-fits = omega (arith, length-append front′ (drop space list), size)
 
-  pub count-length : count ≡ length (take count list′)
-  count-length = sym (length-take-le count list′ count-fits)
+  -- The list is as long as it was.
+  pub list-length : length list′ ≡ length list
+  list-length =
+      length-append front′ (drop space list) ∙ ap (λ (n : ℕ). n + length (drop space list)) size
+      ∙ sym (length-append (take space list) (drop space list)) ∙ ap length (take-append-drop space list)
 
-  -- Just what was written is stored, where the bytes have room for what was lent.
-  pub written-stored : (bytes : List ℕ) {bytes′ : List ℕ} → room ≡ min (length bytes / 4) (length list)
+  -- Just what was written is stored, where the bytes have space for what was lent.
+  pub written-stored : (bytes : List ℕ) {bytes′ : List ℕ} → space ≡ min (length bytes / 4) (length list)
       → bytes′ ≡ sets bytes 0 (bytesOf (take (length bytes / 4) (take count list′))) → bytes′ ≡ sets bytes 0 (bytesOf written)
   written-stored bytes {bytes′} r b =
       let front : take count list′ ≡ written =
-      take-append-le count front′ (drop room list) (omega (arith, size)) ∙ rw (f, n) (take-sets (length written) (take room list) written fits (le-refl (length written)) ∙ take-length written) in
+      take-append-le count front′ (drop space list) (omega (arith, size)) ∙ rw (f, n) (take-sets (length written) (take space list) written fits (le-refl (length written)) ∙ take-length written) in
       let enough : length written ≤ length bytes / 4 = omega (arith, front-length (length bytes / 4) list r) in
       b ∙ ap (λ (l : List ℕ). sets bytes 0 (bytesOf l)) (ap (take (length bytes / 4)) front ∙ take-all (length bytes / 4) written enough)
 
@@ -98,36 +102,36 @@ words-fit sheet entries = go (reading sheet entries) refl
     go (refused refusal) e = omega arith
 
 -- Read by way of the front of a list of words, which becomes `front′`.
-module _ (sheet words : List ℕ) (room : ℕ) where
+module _ (sheet words : List ℕ) (space : ℕ) where
   abbrev own : Outcome
-  own = reading sheet (length (take room words))
+  own = reading sheet (length (take space words))
 
-  same-reading : (entries : ℕ) → suc mostWords ≤ length words → room ≡ min entries (length words) → own ≡ reading sheet entries
+  same-reading : (entries : ℕ) → suc mostWords ≤ length words → space ≡ min entries (length words) → own ≡ reading sheet entries
   same-reading entries h r =
       ap (reading sheet) (sym (front-length entries words r) ∙ r) ∙ reading-cut sheet entries (length words) (omega arith)
 
-  module _ {told : Answer} {front′ : List ℕ} {count : ℕ} (is : told ≡ answerOf own) (f : front′ ≡ after own (take room words)) (n : count ≡ writtenCount told) where
-    fits : length (wordsIn own) ≤ length (take room words)
-    fits = words-fit sheet (length (take room words))
+  module _ {told : Answer} {front′ : List ℕ} {count : ℕ} (is : told ≡ answerOf own) (f : front′ ≡ after own (take space words)) (n : count ≡ writtenCount told) where
+    fits : length (wordsIn own) ≤ length (take space words)
+    fits = words-fit sheet (length (take space words))
 
-    written : front′ ≡ sets (take room words) 0 (wordsIn own)
-    written = f ∙ words-after own (take room words)
+    written : front′ ≡ sets (take space words) 0 (wordsIn own)
+    written = f ∙ words-after own (take space words)
 
     counted : count ≡ length (wordsIn own)
     counted = n ∙ ap writtenCount is ∙ words-counted own
 
-    pub read-fits : count ≤ length (front′ ++ drop room words)
-    read-fits = count-fits words room (wordsIn own) fits written counted
+    pub read-fits : count ≤ length (front′ ++ drop space words)
+    read-fits = count-fits words space (wordsIn own) fits written counted
 
-    pub read-length : count ≡ length (take count (front′ ++ drop room words))
-    read-length = count-length words room (wordsIn own) fits written counted
+    pub read-length : length (front′ ++ drop space words) ≡ length words
+    read-length = list-length words space (wordsIn own) fits written counted
 
-    pub read-done : (table answer : List ℕ) {table′ answer′ : List ℕ} → suc mostWords ≤ length words → room ≡ min (length table / 4) (length words) → 16 ≤ length answer
-        → table′ ≡ sets table 0 (bytesOf (take (length table / 4) (take count (front′ ++ drop room words)))) → answer′ ≡ answered (answerNumber told) (answerFigure told) answer
+    pub read-done : (table answer : List ℕ) {table′ answer′ : List ℕ} → suc mostWords ≤ length words → space ≡ min (length table / 4) (length words) → 16 ≤ length answer
+        → table′ ≡ sets table 0 (bytesOf (take (length table / 4) (take count (front′ ++ drop space words)))) → answer′ ≡ answered (answerNumber told) (answerFigure told) answer
         → ReadCall sheet table answer 1 table′ answer′
     read-done table answer h r long t =
         outcome-done bytesAfter table answer (same-reading (length table / 4) h r) long is
-        (written-stored words room (wordsIn own) fits written counted table r t ∙ word-bytes own table)
+        (written-stored words space (wordsIn own) fits written counted table r t ∙ word-bytes own table)
 
 -- ---- Write
 

@@ -1,23 +1,28 @@
 -- What the call of Plan returns and leaves, from what the functions that it calls ensure.
 use mathlib.Core.Path.{_≡_, refl, sym, ap, ap₂, _∙_}
+use mathlib.Core.Bool.{Bool, true, false}
 use mathlib.Core.List.{List, [], _++_}
-use Prim.Native.Nat.{ℕ, _/_, _≤_, _<_, min}
+use Prim.Native.Nat.{ℕ, _+_, _-_, _*_, _/_, _≤_, _<_, min}
 use native.Mathlib.Omega.{arith}
-use lib.ListN.{length, take, drop}
+use lib.ListN.{length, getD, take, drop}
+use lib.Dec.{eqb}
+use borrow.Author.Tests.{eqb-true, eqb-false}
 use lib.Seq.{sets}
 use Rattle.words.specs.Bytes.{wordsOf, bytesOf, answered}
 use Rattle.words.proofs.Bytes.{take-loaded}
-use Rattle.rooms.specs.Part.{Step}
+use Rattle.rooms.specs.Part.{good}
 use Rattle.rooms.specs.Table.{Room, roomCords}
 use Rattle.rooms.specs.Limits.{checked}
-use Rattle.rooms.specs.Told.{told}
-use Rattle.rooms.specs.declared.Checked.{Checked}
+use Rattle.rooms.proofs.Reach.{length-is}
 use Rattle.rooms.proofs.Outcomes.{front-length}
-use Rattle.deals.specs.Plan.{Outcome, accepted, refused, plan, answerOf, grantsAfter, capsAfter, planNumber, planFigure}
+use Rattle.deals.specs.Plan.{Outcome, accepted, refused, planRoom, planStep, plan, answerOf, grantsAfter, capsAfter, planNumber, planFigure}
 use Rattle.deals.specs.declared.Planned.{Planned}
+use Rattle.deals.specs.declared.PlanRefusal.the-variants.{DemandCount}
+use Rattle.deals.proofs.Plans.{plan-demand-count}
 use Rattle.deals.proofs.Lent.{plan-inputs-cut, plan-lists-cut, plan-written}
-use Rattle.capi.specs.Calls.{PlannedCall, PlanCall, grantBytesAfter, capBytesAfter, cordCount, grantCount, capCount}
-use Rattle.capi.proofs.CallLaws.{call-short, call-done, answer-told, count-fits, count-length, written-stored}
+use Rattle.capi.specs.Calls.{PlannedCall, PlanCall, grantBytesAfter, capBytesAfter}
+use Rattle.capi.specs.Counts.{plannedCount, cordCount}
+use Rattle.capi.proofs.CallLaws.{call-short, call-done, answer-told, count-fits, written-stored}
 
 -- ---- What an outcome writes
 
@@ -50,20 +55,40 @@ cap-bytes (refused refusal) bytes = refl
 
 -- They are as many as the counts say, and fit their lists.
 record Counted (table demands : List ℕ) (g c : ℕ) (o : Outcome) : Type 0 where
-  grants : length (grantsOf o) ≡ grantCount (answerOf o) (told roomCords (checked table 0))
-  caps : length (capsOf o) ≡ capCount (answerOf o) (length demands)
+  grants : length (grantsOf o) ≡ plannedCount (answerOf o) (cordCount table (length demands))
+  caps : length (capsOf o) ≡ plannedCount (answerOf o) (length demands)
   grantsFit : length (grantsOf o) ≤ g
   capsFit : length (capsOf o) ≤ c
 
+-- An accepted plan has a demand for each server.
+demand-each : (table demands : List ℕ) (g c : ℕ) {r : Room} {end f : ℕ} {gs cs : List ℕ} → checked table 0 ≡ good r end → plan table demands g c ≡ accepted f gs cs
+    → length demands ≡ length (r .servers)
+unfolding plan planStep
+demand-each table demands g c {r = r} {f = f} {gs = gs} {cs = cs} is e = go (eqb (length demands) (length (r .servers))) refl (rw is at e)
+  where
+    go : (t : Bool) → eqb (length demands) (length (r .servers)) ≡ t → planRoom r demands g c ≡ accepted f gs cs → length demands ≡ length (r .servers)
+    go true t e = eqb-true (length demands) (length (r .servers)) t
+    go false t e =
+        let z : refused (DemandCount (length (r .servers))) ≡ accepted f gs cs = sym (plan-demand-count r demands g c (eqb-false (length demands) (length (r .servers)) t)) ∙ e in
+        absurd (let z : _≡_ {A = ℕ} 0 1 = cc in omega arith)
+
+-- The half of twice a number, apart from what stands before it.
+halved : (before cords : ℕ) → (before + 2 * cords - before) / 2 ≡ cords
+halved before cords = omega arith
+
+-- The length of an accepted table tells its cords.
+cords-told : (table : List ℕ) {r : Room} {end : ℕ} → checked table 0 ≡ good r end → cordCount table (length (r .servers)) ≡ roomCords r
+cords-told table {r = r} {end = end} is =
+    ap (λ (n : ℕ). (n - (3 + 2 * getD table 1 0 + 4 * length (r .servers))) / 2) (length-is table r end is) ∙ halved (3 + 2 * getD table 1 0 + 4 * length (r .servers)) (roomCords r)
+
 counted : (table demands : List ℕ) (g c : ℕ) → Counted table demands g c (plan table demands g c)
-unfolding told
 counted table demands g c = go (plan table demands g c) refl
   where
     go : (o : Outcome) → plan table demands g c ≡ o → Counted table demands g c o
     go (accepted f gs cs) e =
         let w = plan-written table demands g c e in
         record {
-          grants = w .fits .grantCount ∙ sym (ap (λ (s : Step Room). cordCount (told roomCords s)) (w .isRoom));
+          grants = w .fits .grantCount ∙ sym (ap (cordCount table) (demand-each table demands g c (w .isRoom) e) ∙ cords-told table (w .isRoom));
           caps = w .fits .capCount;
           grantsFit = w .fits .grantsFit;
           capsFit = w .fits .capsFit;
@@ -74,68 +99,68 @@ counted table demands g c = go (plan table demands g c) refl
 
 -- Where the answer's buffer is too short, nothing is changed.
 pub plan-short : (outcome : Outcome) (grants caps answer : List ℕ) → length answer < 16 → PlannedCall outcome grants caps answer 0 grants caps answer
-plan-short outcome grants caps answer h = record { grants-call = call-short _ _ _ grants answer h; caps-call = call-short _ _ _ caps answer h }
+plan-short outcome grants caps answer h =
+    let call = call-short _ _ (grantBytesAfter outcome grants) grants answer h in
+    record { returned = call .returned; grants-after = call .output-after; caps-after = call-short 0 0 _ caps answer h .output-after; answer-after = call .answer-after }
 
 -- Plan by way of the fronts of two lists.
-module _ (table demands granted capped : List ℕ) (grantsRoom capsRoom : ℕ) where
+module _ (table demands granted capped : List ℕ) (grantsSpace capsSpace : ℕ) where
   abbrev own : Outcome
-  own = plan table demands (length (take grantsRoom granted)) (length (take capsRoom capped))
+  own = plan table demands (length (take grantsSpace granted)) (length (take capsSpace capped))
 
-  own-counted : Counted table demands (length (take grantsRoom granted)) (length (take capsRoom capped)) own
-  own-counted = counted table demands (length (take grantsRoom granted)) (length (take capsRoom capped))
+  own-counted : Counted table demands (length (take grantsSpace granted)) (length (take capsSpace capped)) own
+  own-counted = counted table demands (length (take grantsSpace granted)) (length (take capsSpace capped))
 
-  same-plan : (g c : ℕ) → 1024 ≤ length granted → 512 ≤ length capped → grantsRoom ≡ min g (length granted) → capsRoom ≡ min c (length capped)
+  same-plan : (g c : ℕ) → 1024 ≤ length granted → 512 ≤ length capped → grantsSpace ≡ min g (length granted) → capsSpace ≡ min c (length capped)
       → own ≡ plan table demands g c
   same-plan g c hg hc rg rc =
       ap₂ (plan table demands) (sym (front-length g granted rg) ∙ rg) (sym (front-length c capped rc) ∙ rc)
       ∙ plan-lists-cut table demands g (length granted) c (length capped) hg hc
 
-  module _ {planned : Planned} {check : Checked} (is : planned ≡ answerOf own) (k : check ≡ told roomCords (checked table 0)) where
-    grants-counted : {count : ℕ} → count ≡ grantCount planned check → count ≡ length (grantsOf own)
-    grants-counted n = n ∙ ap₂ grantCount is k ∙ sym (own-counted .grants)
+  module _ {planned : Planned} {cords : ℕ} (is : planned ≡ answerOf own) (k : cords ≡ cordCount table (length demands)) where
+    grants-counted : {count : ℕ} → count ≡ plannedCount planned cords → count ≡ length (grantsOf own)
+    grants-counted n = n ∙ ap₂ plannedCount is k ∙ sym (own-counted .grants)
 
-    caps-counted : {count : ℕ} → count ≡ capCount planned (length demands) → count ≡ length (capsOf own)
-    caps-counted n = n ∙ ap (λ (p : Planned). capCount p (length demands)) is ∙ sym (own-counted .caps)
+    caps-counted : {count : ℕ} → count ≡ plannedCount planned (length demands) → count ≡ length (capsOf own)
+    caps-counted n = n ∙ ap (λ (p : Planned). plannedCount p (length demands)) is ∙ sym (own-counted .caps)
 
-    module _ {front′ : List ℕ} {count : ℕ} (f : front′ ≡ grantsAfter own (take grantsRoom granted)) (n : count ≡ grantCount planned check) where
-      pub grants-fit : count ≤ length (front′ ++ drop grantsRoom granted)
-      grants-fit = count-fits granted grantsRoom (grantsOf own) (own-counted .grantsFit) (f ∙ grants-after own _) (grants-counted n)
+    module _ {front′ : List ℕ} {count : ℕ} (f : front′ ≡ grantsAfter own (take grantsSpace granted)) (n : count ≡ plannedCount planned cords) where
+      pub grants-fit : count ≤ length (front′ ++ drop grantsSpace granted)
+      grants-fit = count-fits granted grantsSpace (grantsOf own) (own-counted .grantsFit) (f ∙ grants-after own _) (grants-counted n)
 
-      pub grants-length : count ≡ length (take count (front′ ++ drop grantsRoom granted))
-      grants-length = count-length granted grantsRoom (grantsOf own) (own-counted .grantsFit) (f ∙ grants-after own _) (grants-counted n)
-
-      grants-stored : (grants : List ℕ) {grants′ : List ℕ} → grantsRoom ≡ min (length grants / 4) (length granted)
-          → grants′ ≡ sets grants 0 (bytesOf (take (length grants / 4) (take count (front′ ++ drop grantsRoom granted)))) → grants′ ≡ grantBytesAfter own grants
+      grants-stored : (grants : List ℕ) {grants′ : List ℕ} → grantsSpace ≡ min (length grants / 4) (length granted)
+          → grants′ ≡ sets grants 0 (bytesOf (take (length grants / 4) (take count (front′ ++ drop grantsSpace granted)))) → grants′ ≡ grantBytesAfter own grants
       grants-stored grants r g =
-          written-stored granted grantsRoom (grantsOf own) (own-counted .grantsFit) (f ∙ grants-after own _) (grants-counted n) grants r g ∙ grant-bytes own grants
+          written-stored granted grantsSpace (grantsOf own) (own-counted .grantsFit) (f ∙ grants-after own _) (grants-counted n) grants r g ∙ grant-bytes own grants
 
-    module _ {front′ : List ℕ} {count : ℕ} (f : front′ ≡ capsAfter own (take capsRoom capped)) (n : count ≡ capCount planned (length demands)) where
-      pub caps-fit : count ≤ length (front′ ++ drop capsRoom capped)
-      caps-fit = count-fits capped capsRoom (capsOf own) (own-counted .capsFit) (f ∙ caps-after own _) (caps-counted n)
+    module _ {front′ : List ℕ} {count : ℕ} (f : front′ ≡ capsAfter own (take capsSpace capped)) (n : count ≡ plannedCount planned (length demands)) where
+      pub caps-fit : count ≤ length (front′ ++ drop capsSpace capped)
+      caps-fit = count-fits capped capsSpace (capsOf own) (own-counted .capsFit) (f ∙ caps-after own _) (caps-counted n)
 
-      pub caps-length : count ≡ length (take count (front′ ++ drop capsRoom capped))
-      caps-length = count-length capped capsRoom (capsOf own) (own-counted .capsFit) (f ∙ caps-after own _) (caps-counted n)
-
-      caps-stored : (caps : List ℕ) {caps′ : List ℕ} → capsRoom ≡ min (length caps / 4) (length capped)
-          → caps′ ≡ sets caps 0 (bytesOf (take (length caps / 4) (take count (front′ ++ drop capsRoom capped)))) → caps′ ≡ capBytesAfter own caps
+      caps-stored : (caps : List ℕ) {caps′ : List ℕ} → capsSpace ≡ min (length caps / 4) (length capped)
+          → caps′ ≡ sets caps 0 (bytesOf (take (length caps / 4) (take count (front′ ++ drop capsSpace capped)))) → caps′ ≡ capBytesAfter own caps
       caps-stored caps r c =
-          written-stored capped capsRoom (capsOf own) (own-counted .capsFit) (f ∙ caps-after own _) (caps-counted n) caps r c ∙ cap-bytes own caps
+          written-stored capped capsSpace (capsOf own) (own-counted .capsFit) (f ∙ caps-after own _) (caps-counted n) caps r c ∙ cap-bytes own caps
 
     pub plan-done : (grants caps answer : List ℕ) {granted′ capped′ grants′ caps′ answer′ : List ℕ} {grantsCount capsCount number figure : ℕ}
         → 1024 ≤ length granted → 512 ≤ length capped
-        → grantsRoom ≡ min (length grants / 4) (length granted) → capsRoom ≡ min (length caps / 4) (length capped) → 16 ≤ length answer
-        → granted′ ≡ grantsAfter own (take grantsRoom granted) → grantsCount ≡ grantCount planned check
-        → capped′ ≡ capsAfter own (take capsRoom capped) → capsCount ≡ capCount planned (length demands)
-        → grants′ ≡ sets grants 0 (bytesOf (take (length grants / 4) (take grantsCount (granted′ ++ drop grantsRoom granted))))
-        → caps′ ≡ sets caps 0 (bytesOf (take (length caps / 4) (take capsCount (capped′ ++ drop capsRoom capped))))
+        → grantsSpace ≡ min (length grants / 4) (length granted) → capsSpace ≡ min (length caps / 4) (length capped) → 16 ≤ length answer
+        → granted′ ≡ grantsAfter own (take grantsSpace granted) → grantsCount ≡ plannedCount planned cords
+        → capped′ ≡ capsAfter own (take capsSpace capped) → capsCount ≡ plannedCount planned (length demands)
+        → grants′ ≡ sets grants 0 (bytesOf (take (length grants / 4) (take grantsCount (granted′ ++ drop grantsSpace granted))))
+        → caps′ ≡ sets caps 0 (bytesOf (take (length caps / 4) (take capsCount (capped′ ++ drop capsSpace capped))))
         → number ≡ planNumber planned → figure ≡ planFigure planned → answer′ ≡ answered number figure answer
         → PlanCall table demands grants caps answer 1 grants′ caps′ answer′
     plan-done grants caps answer {granted′} {capped′} {grants′} {caps′} {answer′} hg hc rg rc long fg ng fc nc g c k v a =
         let stored : answer′ ≡ answered (planNumber (answerOf own)) (planFigure (answerOf own)) answer =
         answer-told answer (k ∙ ap planNumber is) (v ∙ ap planFigure is) a in
+        let grants-call = call-done _ _ _ grants answer long (grants-stored fg ng grants rg g) stored in
+        let caps-call = call-done _ _ _ caps answer long (caps-stored fc nc caps rc c) stored in
         let done : PlannedCall own grants caps answer 1 grants′ caps′ answer′ = record {
-          grants-call = call-done _ _ _ grants answer long (grants-stored fg ng grants rg g) stored;
-          caps-call = call-done _ _ _ caps answer long (caps-stored fc nc caps rc c) stored;
+          returned = grants-call .returned;
+          grants-after = grants-call .output-after;
+          caps-after = caps-call .output-after;
+          answer-after = stored;
         } in
         rw (same-plan (length grants / 4) (length caps / 4) hg hc rg rc) at done
 

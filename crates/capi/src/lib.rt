@@ -13,20 +13,18 @@
 //                           uint8_t *caps, size_t caps_len,
 //                           uint8_t *answer, size_t answer_len);
 ghost use mathlib.Core.Path.{_≡_};
-ghost use Prim.Native.Nat.{_≤_, min};
+ghost use Prim.Native.Nat.{_≤_, _<_, _^_, min};
 ghost use lib.ListN.{length};
 ghost use Rattle.words.specs.Bytes.{wordsOf, answered};
 ghost use Rattle.rooms.specs.Outcome.{answerNumber, answerFigure};
-ghost use Rattle.capi.specs.Calls.{ReadCall, WriteCall, PlanCall, writtenCount, cordCount, grantCount, capCount};
+ghost use Rattle.capi.specs.Calls.{ReadCall, WriteCall, PlanCall};
+ghost use Rattle.capi.specs.Counts.{writtenCount, plannedCount, cordCount};
 use deals::Planned;
 use rooms::Answer;
-use rooms::Checked;
+use rooms::DECIDING_WORDS;
 
 // An answer is two numbers of eight bytes each.
 const ANSWER_BYTES: usize = 16;
-
-// A table has at most 5,123 words, so that many and one more decide every check.
-const DECIDING_WORDS: usize = 5124;
 
 // A room has at most 512 servers, so one demand more decides every demand list.
 const DECIDING_DEMANDS: usize = 513;
@@ -78,7 +76,7 @@ pub extern "C" fn hutplan_plan(
     )
 }
 
-// Read by way of a list of words, of which no more are lent than the table has room for.
+// Read by way of a list of words, of which no more are lent than the table has space for.
 fn read_by(sheet: &[u8], words: &mut [u32], table: &mut [u8], answer: &mut [u8]) -> u32
     requires { ⌜ 5124 ≤ length (now words) ⌝ }
     ensures { λ r. ⌜ ReadCall (now (sheet .entry)) (now (table .entry)) (now (answer .entry)) r (now (table .exit)) (now (answer .exit)) ⌝ }
@@ -86,8 +84,8 @@ fn read_by(sheet: &[u8], words: &mut [u32], table: &mut [u8], answer: &mut [u8])
     if answer.len() < ANSWER_BYTES {
         return 0;
     }
-    let room = least(table.len() / 4, words.len());
-    let read = rooms::read(sheet, &mut words[..room]);
+    let space = least(table.len() / 4, words.len());
+    let read = rooms::read(sheet, &mut words[..space]);
     let count = written_count(read);
     words::store(&words[..count], table);
     tell(read, answer);
@@ -156,7 +154,7 @@ fn plan_words(
     )
 }
 
-// Plan by way of lists of grants and caps, of which no more are lent than the caller's lists have room for.
+// Plan by way of lists of grants and caps, of which no more are lent than the caller's lists have space for.
 fn plan_by(
     table: &[u32],
     demands: &[u32],
@@ -173,16 +171,16 @@ fn plan_by(
     if answer.len() < ANSWER_BYTES {
         return 0;
     }
-    let grants_room = least(grants.len() / 4, granted.len());
-    let caps_room = least(caps.len() / 4, capped.len());
+    let grants_space = least(grants.len() / 4, granted.len());
+    let caps_space = least(caps.len() / 4, capped.len());
     let planned = deals::plan(
         table,
         demands,
-        &mut granted[..grants_room],
-        &mut capped[..caps_room],
+        &mut granted[..grants_space],
+        &mut capped[..caps_space],
     );
-    let grants_count = grant_count(planned, rooms::check(table));
-    let caps_count = cap_count(planned, demands.len());
+    let grants_count = planned_count(planned, cord_count(table, demands));
+    let caps_count = planned_count(planned, demands.len());
     words::store(&granted[..grants_count], grants);
     words::store(&capped[..caps_count], caps);
     words::store_answer(planned.number(), planned.figure(), answer);
@@ -208,34 +206,35 @@ fn written_count(told: Answer) -> usize
     }
 }
 
-// How many grants a plan wrote, by its table's check: one a cord, none where refused.
-fn grant_count(planned: Planned, checked: Checked) -> usize
-    ensures { λ r. ⌜ r ≡ grantCount planned checked ⌝ }
+// How many entries a plan wrote to a list that it fills with `count`: none where refused.
+fn planned_count(planned: Planned, count: usize) -> usize
+    ensures { λ r. ⌜ r ≡ plannedCount planned count ⌝ }
 {
     match planned {
-        Planned::Accepted(_) => cord_count(checked),
+        Planned::Accepted(_) => count,
         Planned::Refused(_) => 0,
     }
 }
 
-// The cords of a good table.
-fn cord_count(checked: Checked) -> usize
-    ensures { λ r. ⌜ r ≡ cordCount checked ⌝ }
+// The cords of a table that is accepted with these demands: its length tells them, which is cheaper than a walk.
+fn cord_count(table: &[u32], demands: &[u32]) -> usize
+    ensures { λ r. ⌜ r ≡ cordCount (now (table .entry)) (length (now (demands .entry))) ⌝ }
 {
-    match checked {
-        Checked::Good(cords, _) => cords as usize,
-        Checked::Refused(_) => 0,
+    if table.len() < 2 {
+        return 0;
     }
+    let others = 3 + 2 * wide(table[1]) + 4 * demands.len();
+    if table.len() < others {
+        return 0;
+    }
+    (table.len() - others) / 2
 }
 
-// How many caps a plan wrote: one a demand, none where refused.
-fn cap_count(planned: Planned, demands: usize) -> usize
-    ensures { λ r. ⌜ r ≡ capCount planned demands ⌝ }
+// A word as a count, with the bound that the sum in `cord_count` needs.
+fn wide(word: u32) -> usize
+    ensures { λ r. ⌜ (r ≡ word) × (r < 2 ^ 32) ⌝ }
 {
-    match planned {
-        Planned::Accepted(_) => demands,
-        Planned::Refused(_) => 0,
-    }
+    word as usize
 }
 
 // The lesser of two counts.

@@ -1,7 +1,9 @@
 -- `plan_by` meets its contract: the lists that are lent take every answer, and just what was written is stored.
+use mathlib.Core.Path.{sym}
 use native.Mathlib.Omega.{arith}
+use lib.Seq.{length-take-le}
 use Rattle.rooms.proofs.Outcomes.{front-length}
-use Rattle.capi.proofs.PlanLaws.{plan-short, grants-fit, grants-length, caps-fit, caps-length, plan-done}
+use Rattle.capi.proofs.PlanLaws.{plan-short, grants-fit, caps-fit, plan-done}
 use borrow.Author.Needs.{needs}
 use Rattle.capi.proofs.plan_by.Statement.{statement}
 use Rattle.capi.proofs.plan_by.Tie as tie
@@ -30,30 +32,25 @@ slice-aggregate-plan-2 c = front-length _ _ (c .before .before .least2 .ensures)
 plan-requires : tie.Need-plan-requires
 plan-requires c κs = search needs
 
-check-requires : tie.Need-check-requires
-check-requires c κs = search needs
+cord-count-requires : tie.Need-cord-count-requires
+cord-count-requires c κs = search needs
 
-grant-count-requires : tie.Need-grant-count-requires
-grant-count-requires c κs = search needs
+planned-count-requires : tie.Need-planned-count-requires
+planned-count-requires c κs = search needs
 
-cap-count-requires : tie.Need-cap-count-requires
-cap-count-requires c κs = search needs
+planned-count-requires-2 : tie.Need-planned-count-requires-2
+planned-count-requires-2 c κs = search needs
 
 slice-reshare-prefix-store : tie.Need-slice-reshare-prefix-store
 slice-reshare-prefix-store c =
     let counts = c in
     let plan = counts .before .before .before .before .before .before .before in
-    let rooms = plan .before .before .before in
-    let start = rooms .before .before .before .before .before .before .before .before .before .before in
-    grants-fit _ _ (start .args .granted .now) (start .args .capped .now) (rooms .before .least .result) (rooms .least2 .result) (plan .plan .ensures .0) (counts .before .before .check .ensures) (plan .plan .ensures .1 .0) (counts .before .grant-count .ensures)
+    let spaces = plan .before .before .before in
+    let start = spaces .before .before .before .before .before .before .before .before .before .before in
+    omega (arith, grants-fit _ _ (start .args .granted .now) (start .args .capped .now) (spaces .before .least .result) (spaces .least2 .result) (plan .plan .ensures .0) (counts .before .before .cord-count .ensures) (plan .plan .ensures .1 .0) (counts .before .planned-count .ensures))
 
 slice-aggregate-store : tie.Need-slice-aggregate-store
-slice-aggregate-store c =
-    let counts = c .before in
-    let plan = counts .before .before .before .before .before .before .before in
-    let rooms = plan .before .before .before in
-    let start = rooms .before .before .before .before .before .before .before .before .before .before in
-    grants-length _ _ (start .args .granted .now) (start .args .capped .now) (rooms .before .least .result) (rooms .least2 .result) (plan .plan .ensures .0) (counts .before .before .check .ensures) (plan .plan .ensures .1 .0) (counts .before .grant-count .ensures)
+slice-aggregate-store c = sym (length-take-le _ _ (slice-reshare-prefix-store (c .before)))
 
 store-requires : tie.Need-store-requires
 store-requires c κs = search needs
@@ -62,17 +59,12 @@ slice-reshare-prefix-store-2 : tie.Need-slice-reshare-prefix-store-2
 slice-reshare-prefix-store-2 c =
     let counts = c .before .before .before .before .before in
     let plan = counts .before .before .before .before .before .before .before in
-    let rooms = plan .before .before .before in
-    let start = rooms .before .before .before .before .before .before .before .before .before .before in
-    caps-fit _ _ (start .args .granted .now) (start .args .capped .now) (rooms .before .least .result) (rooms .least2 .result) (plan .plan .ensures .0) (counts .before .before .check .ensures) (plan .plan .ensures .1 .1) (counts .cap-count .ensures)
+    let spaces = plan .before .before .before in
+    let start = spaces .before .before .before .before .before .before .before .before .before .before in
+    omega (arith, caps-fit _ _ (start .args .granted .now) (start .args .capped .now) (spaces .before .least .result) (spaces .least2 .result) (plan .plan .ensures .0) (counts .before .before .cord-count .ensures) (plan .plan .ensures .1 .1) (counts .planned-count2 .ensures))
 
 slice-aggregate-store-2 : tie.Need-slice-aggregate-store-2
-slice-aggregate-store-2 c =
-    let counts = c .before .before .before .before .before .before in
-    let plan = counts .before .before .before .before .before .before .before in
-    let rooms = plan .before .before .before in
-    let start = rooms .before .before .before .before .before .before .before .before .before .before in
-    caps-length _ _ (start .args .granted .now) (start .args .capped .now) (rooms .before .least .result) (rooms .least2 .result) (plan .plan .ensures .0) (counts .before .before .check .ensures) (plan .plan .ensures .1 .1) (counts .cap-count .ensures)
+slice-aggregate-store-2 c = sym (length-take-le _ _ (slice-reshare-prefix-store-2 (c .before)))
 
 store-requires-2 : tie.Need-store-requires-2
 store-requires-2 c κs = search needs
@@ -105,11 +97,11 @@ returns-2 : tie.Need-returns-2
 returns-2 c =
     let counts = c .before .before .before .before .before .before .before .before .before .before .before .before .before .before .before .before in
     let plan = counts .before .before .before .before .before .before .before in
-    let rooms = plan .before .before .before in
-    let start = rooms .before .before .before .before .before .before .before .before .before .before in
-    plan-done _ _ (start .args .granted .now) (start .args .capped .now) (rooms .before .least .result) (rooms .least2 .result) (plan .plan .ensures .0) (counts .before .before .check .ensures) _ _ _
-    (start .pre .0) (start .pre .1) (rooms .before .least .ensures) (rooms .least2 .ensures) (omega (arith, rooms .before .before .if1 .left))
-    (plan .plan .ensures .1 .0) (counts .before .grant-count .ensures) (plan .plan .ensures .1 .1) (counts .cap-count .ensures)
+    let spaces = plan .before .before .before in
+    let start = spaces .before .before .before .before .before .before .before .before .before .before in
+    plan-done _ _ (start .args .granted .now) (start .args .capped .now) (spaces .before .least .result) (spaces .least2 .result) (plan .plan .ensures .0) (counts .before .before .cord-count .ensures) _ _ _
+    (start .pre .0) (start .pre .1) (spaces .before .least .ensures) (spaces .least2 .ensures) (omega (arith, spaces .before .before .if1 .left))
+    (plan .plan .ensures .1 .0) (counts .before .planned-count .ensures) (plan .plan .ensures .1 .1) (counts .planned-count2 .ensures)
     (c .before .before .before .before .before .before .before .before .before .before .before .before .before .store .ensures) (c .before .before .before .before .before .before .before .before .store2 .ensures)
     (c .before .before .before .before .before .number .ensures) (c .before .before .before .before .figure .ensures) (c .before .before .store-answer .ensures .1)
 
@@ -125,9 +117,9 @@ plan-by-spec =
     slice-relend-prefix-plan-2
     slice-aggregate-plan-2
     plan-requires
-    check-requires
-    grant-count-requires
-    cap-count-requires
+    cord-count-requires
+    planned-count-requires
+    planned-count-requires-2
     slice-reshare-prefix-store
     slice-aggregate-store
     store-requires

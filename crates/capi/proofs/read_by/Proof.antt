@@ -1,5 +1,7 @@
 -- `read_by` meets its contract: the words that are lent decide, and just those that were written are stored.
+use mathlib.Core.Path.{sym}
 use native.Mathlib.Omega.{arith}
+use lib.Seq.{length-take-le}
 use Rattle.rooms.proofs.Outcomes.{front-length}
 use Rattle.capi.proofs.CallLaws.{call-short, read-fits, read-length, read-done}
 use borrow.Author.Needs.{needs}
@@ -26,15 +28,13 @@ written-count-requires c κs = search needs
 
 slice-reshare-prefix-store : tie.Need-slice-reshare-prefix-store
 slice-reshare-prefix-store c =
-    let room = c .before .before .before .before .before in
+    let space = c .before .before .before .before .before in
+    let words = space .before .before .before .before .before .before .args .words .now in
     let read = c .before .before .before .read .ensures in
-    read-fits _ (room .before .before .before .before .before .before .args .words .now) (room .least .result) (read .0) (read .1) (c .written-count .ensures)
+    omega (arith, read-fits _ words (space .least .result) (read .0) (read .1) (c .written-count .ensures), read-length _ words (space .least .result) (read .0) (read .1) (c .written-count .ensures), space .least .ensures)
 
 slice-aggregate-store : tie.Need-slice-aggregate-store
-slice-aggregate-store c =
-    let room = c .before .before .before .before .before .before in
-    let read = c .before .before .before .before .read .ensures in
-    read-length _ (room .before .before .before .before .before .before .args .words .now) (room .least .result) (read .0) (read .1) (c .before .written-count .ensures)
+slice-aggregate-store c = sym (length-take-le _ _ (slice-reshare-prefix-store (c .before)))
 
 store-requires : tie.Need-store-requires
 store-requires c κs = search needs
@@ -54,9 +54,9 @@ same-length-3 c = search needs
 returns-2 : tie.Need-returns-2
 returns-2 c =
     let count = c .before .before .before .before .before .before .before .before .before in
-    let room = count .before .before .before .before .before in
+    let space = count .before .before .before .before .before in
     let read = count .before .before .before .read .ensures in
-    read-done _ _ _ (read .0) (read .1) (count .written-count .ensures) _ _ (room .before .before .before .before .before .before .pre) (room .least .ensures) (omega (arith, room .before .if1 .left))
+    read-done _ _ _ (read .0) (read .1) (count .written-count .ensures) _ _ (space .before .before .before .before .before .before .pre) (space .least .ensures) (omega (arith, space .before .if1 .left))
     (c .before .before .before .before .before .before .store .ensures) (c .before .before .tell .ensures)
 
 pub read-by-spec : {M : Type 1} → statement M

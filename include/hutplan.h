@@ -1,24 +1,25 @@
 /*
  * hutplan: room sheets, room tables and power plans of equipment huts.
  *
- * Link with libcapi.a (made by `rt staticlib capi`). The calls keep no state, take no memory from
- * the heap and call nothing of the C library but memcpy and memset, so threads may call them at
- * the same time on buffers of their own.
+ * Link with libcapi.a, which `rt staticlib capi` puts into target/staticlib. It is built for Linux
+ * on x86-64. The calls keep no state, take no memory from the heap and call nothing of the C
+ * library but memcpy and memset, so threads may call them at the same time on buffers of their own.
  *
- * A sheet is bytes. A table is a list of words (unsigned, 32 bits); so are demands, grants and caps,
- * which are watts. Every list of words passes as bytes: four bytes a word, low byte first, at any alignment. Its length is given in bytes; one to
- * three bytes over at its end are neither read nor written.
+ * A sheet is bytes. A table is a list of words (unsigned, 32 bits). So are demands, grants and
+ * caps, which are watts. Every list of words passes as bytes: four bytes a word, low byte first, at
+ * any alignment. Its length is given in bytes; one to three bytes over at its end are neither read
+ * nor written.
  *
  * The answer is sixteen bytes, two numbers of eight bytes each, low byte first:
  *   bytes 0 to 7    0 if the input was accepted, else the number of the refusal (see below);
- *   bytes 8 to 15   accepted: the count written, of words (hutplan_read) or bytes (hutplan_write), or
- *                   the freed watts (hutplan_plan);
- *                   refused: the refusal's place.
+ *   bytes 8 to 15   refused: the refusal's place;
+ *                   accepted: the count written, of words (hutplan_read) or bytes (hutplan_write),
+ *                   or the freed watts (hutplan_plan).
  * Bytes past the sixteenth are not touched. If the answer buffer is shorter than sixteen bytes, a
  * call returns 0 and changes nothing. In every other case it returns 1.
  *
- * Accepted: what is written stands at the front of the output buffer; bytes past it are not touched.
- * Refused: nothing but the answer is changed.
+ * Accepted: what is written stands at the front of the output buffer; bytes past it are not
+ * touched. Refused: nothing but the answer is changed.
  *
  * The caller's duties:
  *   - each pointer is valid for the length given with it: all those bytes may be read, and those
@@ -26,8 +27,13 @@
  *   - no buffer that is written (output, answer) overlaps another buffer of the same call, and no
  *     other thread touches the buffers during the call;
  *   - a pointer is NULL only if its length is 0;
- *   - a length is at most PTRDIFF_MAX, as of any object in C.
+ *   - a length is at most PTRDIFF_MAX, as of any object in C;
+ *   - there is enough stack (see below).
  * There is no other duty: any bytes, of any length, are good input.
+ *
+ * Stack, as measured on x86-64 (docs/PERFORMANCE.md has the figures): about 45 KB for hutplan_read,
+ * about 25 KB for hutplan_write and less than 120 KB for hutplan_plan. It does not grow with the
+ * input.
  */
 #ifndef HUTPLAN_H
 #define HUTPLAN_H
@@ -41,7 +47,8 @@ extern "C" {
 
 /*
  * Refusal numbers, in the order in which they are checked; the first that is met is told. All bytes
- * of a sheet are judged (1 to 3) before any word. Places count from 0; a node's number counts from 1.
+ * of a sheet are judged (1 to 3) before any word, and all words (4 to 8) before the lows (9).
+ * Places count from 0; a node's number counts from 1.
  */
 enum hutplan_refusal {
     HUTPLAN_ACCEPTED = 0,
@@ -58,9 +65,9 @@ enum hutplan_refusal {
     HUTPLAN_GREATEST_BELOW_LEAST = 6,  /* place: the index of the word `greatest` */
     HUTPLAN_SHARES_NOT_WHOLE = 7,      /* a server's shares do not sum to 1,000;
                                           place: the index of the server's rank */
-    HUTPLAN_WORDS_LEFT_OVER = 8,       /* place: the index of the first word after the last server */
-    HUTPLAN_LOWS_ABOVE_LIMIT = 9,      /* the lows of the cords beneath a node exceed its limit;
-                                          place: the lowest number of such a node */
+    HUTPLAN_WORDS_LEFT_OVER = 8,       /* place: the index of the first word left over */
+    HUTPLAN_LOWS_ABOVE_LIMIT = 9,      /* the lows of the cords beneath a node, at any depth, exceed
+                                          its limit; place: the lowest number of such a node */
 
     /* Demands (hutplan_plan). */
     HUTPLAN_DEMAND_COUNT = 10,         /* not one demand a server; place: the count of servers */
@@ -75,13 +82,13 @@ enum hutplan_refusal {
 /*
  * Sizes to lend, enough for every accepted input.
  *
- * A table has at most 5,123 words: version and count of nodes (2), two for each of at most 512 nodes
- * (1,024), the count of servers (1), four for each of at most 512 servers (2,048) and two for each of
- * at most 1,024 cords (2,048). A word takes four bytes of a word list, and one to four bytes of a
- * sheet, so a table's list and its sheet both have at most 20,492 bytes.
+ * A table has at most 5,123 words: version and count of nodes (2), two for each of at most 512
+ * nodes (1,024), the count of servers (1), four for each of at most 512 servers (2,048) and two for
+ * each of at most 1,024 cords (2,048). A word takes four bytes of a word list, and one to four
+ * bytes of a sheet, so a table's list and its sheet both have at most 20,492 bytes.
  *
- * A plan takes one demand a server, at most 512, and gives one grant a cord, at most 1,024, and one cap
- * a server.
+ * A plan takes one demand a server, at most 512, and gives one grant a cord, at most 1,024, and one
+ * cap a server.
  */
 #define HUTPLAN_TABLE_WORDS 5123
 #define HUTPLAN_TABLE_BYTES 20492
@@ -114,10 +121,11 @@ uint32_t hutplan_write(const uint8_t *table, size_t table_len,
 /*
  * Plan: deals a room's power, from the words of its table and a demand in watts for each server.
  *
- * Refusals: 4 to 9 of the table; 10 and 11 of the demands; then 12 if grants_len / 4 is less than the
- * count of cords, and 13 if caps_len / 4 is less than the count of servers.
- * Accepted, the grants stand in the table's order of cords and the caps in its order of servers. The
- * answer's figure is the freed watts: what the first deal left stranded and the second dealt again.
+ * Refusals: 4 to 9 of the table; 10 and 11 of the demands; then 12 if grants_len / 4 is less than
+ * the count of cords, and 13 if caps_len / 4 is less than the count of servers.
+ * Accepted, the grants stand in the table's order of cords and the caps in its order of servers.
+ * The answer's figure is the freed watts: the watts that the first deal granted and the servers
+ * cannot use, summed over all cords.
  */
 uint32_t hutplan_plan(const uint8_t *table, size_t table_len,
                       const uint8_t *demands, size_t demands_len,
@@ -126,7 +134,12 @@ uint32_t hutplan_plan(const uint8_t *table, size_t table_len,
                       uint8_t *answer, size_t answer_len);
 
 /*
- * Example: how many words a sheet has, or -1 if it is refused.
+ * Example: reads a sheet and plans it with the demands given, a list of words. The result is 0, or
+ * the number of the refusal.
+ *
+ *     static uint8_t table[HUTPLAN_TABLE_BYTES];
+ *     static uint8_t grants[HUTPLAN_GRANTS_BYTES];
+ *     static uint8_t caps[HUTPLAN_CAPS_BYTES];
  *
  *     static uint64_t number_at(const uint8_t *bytes, size_t count)
  *     {
@@ -136,18 +149,23 @@ uint32_t hutplan_plan(const uint8_t *table, size_t table_len,
  *         return value;
  *     }
  *
- *     long words_of(const uint8_t *sheet, size_t sheet_len)
+ *     uint64_t plan_sheet(const uint8_t *sheet, size_t sheet_len,
+ *                         const uint8_t *demands, size_t demands_len)
  *     {
- *         static uint8_t table[HUTPLAN_TABLE_BYTES];
  *         uint8_t answer[HUTPLAN_ANSWER_BYTES];
+ *         size_t words;
  *
  *         hutplan_read(sheet, sheet_len, table, sizeof table, answer, sizeof answer);
  *         if (number_at(answer, 8) != HUTPLAN_ACCEPTED)
- *             return -1;
- *         return (long)number_at(answer + 8, 8);
+ *             return number_at(answer, 8);
+ *         words = (size_t)number_at(answer + 8, 8);
+ *         hutplan_plan(table, 4 * words, demands, demands_len,
+ *                      grants, sizeof grants, caps, sizeof caps, answer, sizeof answer);
+ *         return number_at(answer, 8);
  *     }
  *
- * The word at index i is then number_at(table + 4 * i, 4).
+ * If the result is 0, the server at place i (from 0) has the cap number_at(caps + 4 * i, 4), and
+ * the cord at place c, in the table's order, has the grant number_at(grants + 4 * c, 4).
  */
 
 #ifdef __cplusplus

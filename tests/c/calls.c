@@ -390,7 +390,7 @@ static void test_bytes_over(void)
     }
 }
 
-/* Answers of 0 to 40 bytes, for an accepted and a refused input of both calls. */
+/* Answers of 0 to 40 bytes, for an accepted and a refused input of Read and Write. */
 static void test_answers(void)
 {
     size_t length;

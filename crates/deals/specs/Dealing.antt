@@ -37,7 +37,7 @@ beforeCord d f n c j =
     overNodes d n (λ m. nodeWeight d f m j) + sum c (λ h. on (eqb (d .node h) (suc n)) (atLevel d j (cordWeight d) h))
 
 -- The amount at level j of the node at place m: a root's is its excess, any other's its part of its parent's amount.
--- (`steps` bounds the climb; a parent's number is below its child's, so that m + 1 is enough.)
+-- (`steps` bounds the way to the root; a parent's number is below its child's, so that m + 1 is enough.)
 unfoldable pub amount : Deal → Metrics → ℕ → ℕ → ℕ → ℕ
 unfolding part weightSum beforeNode
 amount d f zero m j = 0

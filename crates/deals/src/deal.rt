@@ -16,7 +16,7 @@ use crate::widths::index;
 use crate::widths::place;
 use crate::widths::wide;
 
-// A figure throughout.
+// Sets every entry to a figure.
 fn fill(list: &mut [u32], figure: u32)
     ensures { λ _. ⌜ ((i : ℕ) → i < length (now (list .entry)) → at (now (list .exit)) i ≡ figure) ⌝ }
 {
@@ -41,7 +41,7 @@ fn link_levels(levels: &[u32], first: &mut [u32], next: &mut [u32])
     }
 }
 
-// The same numbers, wider.
+// Copies 32-bit figures to 64-bit ones, whose sums fit.
 fn widen(from: &[u32], to: &mut [u64])
     requires { ⌜ length (now to) ≡ length (now from) ⌝ }
     ensures { λ _. ⌜ now (to .exit) ≡ now (from .entry) ⌝ }

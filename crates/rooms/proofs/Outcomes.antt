@@ -132,7 +132,7 @@ module _ (bytes : List ℕ) where
       pub reading-accepted : {r : Room} {j : ℕ} → checked words 0 ≡ good r j → count ≤ entries → reading bytes entries ≡ accepted words
       reading-accepted c h = reading-table ∙ rw c (fitting-whole words entries (rw (is .counted) h))
 
-  -- The words that a list has room for decide, and where the table is good they are all its words.
+  -- The words that fit a list decide, and where the table is good they are all its words.
   module _ {count : ℕ} (is : Whole bytes count) (list list′ : List ℕ) (front : ℕ)
       (h : suc mostWords ≤ length list) (e : list′ ≡ sets list 0 words) (f : front ≡ min count (length list′)) where
     same-size : length list′ ≡ length list

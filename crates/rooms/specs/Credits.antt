@@ -1,4 +1,5 @@
--- Figures credited to nodes: what the contracts of the private functions behind refusal 9 cite. No public contract does.
+-- Figures credited to nodes: what contracts of private functions cite, those behind refusal 9 and the metrics of a deal. No public
+-- contract does.
 use mathlib.Core.Bool.{Bool}
 use mathlib.Core.List.{List, [], _∷_}
 use Prim.Native.Nat.{ℕ, zero, suc, _+_, _*_, _/_}

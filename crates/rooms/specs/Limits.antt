@@ -25,8 +25,8 @@ carried whole share load = (share * load + (whole - 1)) / whole
 abbrev pub low : ℕ → Cord → ℕ
 low least c = carried scale (c .share) least
 
--- Whether the climb from node number v along the parents, of at most so many steps, meets the node at place n.
--- A place counts from 0 and a number from 1; number 0 is no node, and ends the climb.
+-- Whether the way from node number v along the parents, of at most so many steps, meets the node at place n.
+-- A place counts from 0 and a number from 1; number 0 is no node, and ends the way.
 unfoldable pub beneath : (ℕ → ℕ) → ℕ → ℕ → ℕ → Bool
 beneath parent zero n v = false
 beneath parent (suc steps) n zero = false
@@ -40,7 +40,7 @@ abbrev pub parentOf : Room → ℕ → ℕ
 parentOf r m = nodeAt r m .parent
 
 -- Whether what hangs on node number v is beneath the node at place n, at any depth.
--- A climb is no longer than the count of nodes, since a parent's number is below its child's.
+-- No way is longer than the count of nodes, since a parent's number is below its child's.
 abbrev pub hangsBeneath : Room → ℕ → ℕ → Bool
 hangsBeneath r n v = beneath (parentOf r) (length (r .nodes)) n v
 

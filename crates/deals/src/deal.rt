@@ -51,8 +51,8 @@ fn widen(from: &[u32], to: &mut [u64])
     }
 }
 
-// The deal, with the cords linked by level, in lists of one figure a node: what is left of each limit for the ranks to come, the lows of the ranks to come,
-// and a rank's Pcapmin, children's Requests, amounts, weights served and watts dealt.
+// The deal, with the cords linked by level, in lists of one figure a node: what is left of each limit for the ranks to come, the
+// lows of the ranks to come, and a rank's Pcapmin, children's Requests, amounts, weights served and watts dealt.
 fn deal_ranks(
     parents: &[u32],
     limits: &[u32],

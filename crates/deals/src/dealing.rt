@@ -67,7 +67,8 @@ pub(crate) fn deal_nodes(
     }
 }
 
-// The grants of the cords of a level: each its low and its part of its node's amount.
+// The grants of the cords of a level, which the links give from the first on: each its low and its part of its node's amount.
+// (`levels` is for the contract alone.)
 pub(crate) fn deal_cords(
     nodes: &[u32],
     levels: &[u32],

@@ -36,7 +36,8 @@ fn credit(sums: &mut [u64], node: usize, figure: u64)
     sums[place] = sum + figure;
 }
 
-// The lows and the wants of the cords of a level, each summed on its cord's node.
+// The lows and the wants of the cords of a level, which the links give from the first on, each summed on its cord's node.
+// (`levels` is for the contract alone.)
 pub(crate) fn sum_cords(
     nodes: &[u32],
     levels: &[u32],

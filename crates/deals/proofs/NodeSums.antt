@@ -21,7 +21,7 @@ use Rattle.rooms.proofs.Trees.{kids, kids-cong, own, below-step, down, under, u
 use Rattle.rooms.proofs.Credits.{credited-at, credited-length, zeros-at, sumBeneath-step, sumBeneath-most}
 use Rattle.rooms.proofs.Gather.{Holds, holds-start, holds-turn, holds-most, holds-whole}
 use Rattle.deals.specs.Figures.{at}
-use Rattle.deals.specs.Passes.{NextOf, onNode}
+use Rattle.deals.specs.Passes.{NextOf}
 use Rattle.deals.proofs.Lists.{sum-most}
 use Rattle.deals.proofs.Links.{skipped}
 
@@ -68,7 +68,7 @@ unfolding own
 own-most kk node n figure = sum-le kk _ figure (λ c l. on-most (eqb (node c) (suc n)) (figure c))
 
 -- Each cord hangs on one node, so the nodes' sums have each cord's figure once.
-pub sum-own : (count kk : ℕ) (node figure : ℕ → ℕ) → ((c : ℕ) → c < kk → (1 ≤ node c) × (node c ≤ count))
+sum-own : (count kk : ℕ) (node figure : ℕ → ℕ) → ((c : ℕ) → c < kk → (1 ≤ node c) × (node c ≤ count))
     → sum count (λ n. own kk node n figure) ≡ sum kk figure
 unfolding own
 sum-own count kk node figure hangs =
@@ -94,11 +94,6 @@ module _ (levels figures : List ℕ) (level c : ℕ) where
   pub ofLevel-no : (at levels c ≡ level → ⊥) → ofLevel levels figures level c ≡ 0
   unfolding ofLevel
   ofLevel-no d = on-no (eqb (at levels c) level) (at figures c) (ne-eqb (at levels c) level d)
-
--- The sum on a node is that of its own cords of the level.
-pub onNode-own : (nodes levels figures : List ℕ) (level n : ℕ) → onNode nodes levels figures level n ≡ own (length nodes) (at nodes) n (ofLevel levels figures level)
-unfolding own ofLevel
-onNode-own nodes levels figures level n = refl
 
 -- Each of so many cords hangs on a node, and its figure is within the watts of a word.
 abbrev pub Hangs : ℕ → ℕ → (ℕ → ℕ) → (ℕ → ℕ) → Type 0
@@ -181,18 +176,6 @@ pub credited-skip : {count : ℕ} {node : ℕ → ℕ} {levels : List ℕ} (figu
     → Credited count node (ofLevel levels figures level) c sums → Credited count node (ofLevel levels figures level) d sums
 credited-skip {count} {node} {levels} figures {level} {sums = sums} ahead =
     skipped (λ (i : ℕ). Credited count node (ofLevel levels figures level) i sums) ahead (λ h l other done. credited-none done (ofLevel-no levels figures level h other))
-
--- The sums of a level on all nodes together do not pass the most that all cords have.
-pub onNode-sum : (count : ℕ) (nodes levels figures : List ℕ) (level : ℕ) (sums : ℕ → ℕ) → length nodes ≤ mostCords → Hangs count (length nodes) (at nodes) (at figures)
-    → ((n : ℕ) → n < count → sums n ≡ onNode nodes levels figures level n) → sum count sums ≤ mostCords * mostWatts
-onNode-sum count nodes levels figures level sums few hangs are =
-    let figure : ℕ → ℕ = ofLevel levels figures level in
-    omega (
-      arith,
-      sum-cong count sums (λ n. own (length nodes) (at nodes) n figure) (λ n l. are n l ∙ onNode-own nodes levels figures level n),
-      sum-own count (length nodes) (at nodes) figure (λ c l. (hangs c l .0, hangs c l .1)),
-      sum-most (length nodes) mostWatts figure (λ c l. omega (arith, ofLevel-most levels figures level c, hangs c l)),
-    )
 
 -- ---- Sums over all nodes beneath a node
 

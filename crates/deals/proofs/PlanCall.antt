@@ -1,13 +1,12 @@
 -- Plan's answers in the code's terms: one law for each return.
-use mathlib.Core.Path.{_≡_, refl, sym, ap, _∙_}
+use mathlib.Core.Path.{_≡_, sym, ap, _∙_}
 use mathlib.Core.List.{List, _++_}
 use Prim.Native.Nat.{ℕ, _+_, _*_, _≤_, _<_}
-use native.Mathlib.Numerals.{add-one}
 use native.Mathlib.Omega.{arith}
-use lib.ListN.{length, getD, take, drop}
-use lib.Seq.{sets, take-all, length-take-le}
+use lib.ListN.{length, getD, drop}
+use lib.Seq.{sets, take-all}
 use Rattle.words.proofs.Lists.{sets-front}
-use Rattle.rooms.specs.Part.{good, bad, Good}
+use Rattle.rooms.specs.Part.{good, Good}
 use Rattle.rooms.specs.Table.{Room, roomCords, server}
 use Rattle.rooms.specs.Limits.{checked}
 use Rattle.rooms.specs.Told.{told}

@@ -1,19 +1,17 @@
 -- Both deals in the room's lists: what each call asks, and that what it leaves is what the plan's definition says.
-use mathlib.Core.Path.{_≡_, refl, sym, ap, _∙_, subst}
+use mathlib.Core.Path.{_≡_, sym, ap, _∙_}
 use mathlib.Core.List.{List}
-use Prim.Native.Nat.{ℕ, _+_, _≤_, _<_}
+use Prim.Native.Nat.{ℕ, _≤_, _<_}
 use native.Mathlib.Nat.{le-trans, le-of-eq}
-use native.Mathlib.Decide.{decLe}
 use native.Mathlib.Omega.{arith}
-use lib.ListN.{length, getD, take, replicate, List·getD-eq-default}
-use Rattle.rooms.specs.Sums.{on, sum}
-use Rattle.rooms.specs.Part.{good, Good}
+use lib.ListN.{length, getD, take, replicate}
+use Rattle.rooms.specs.Part.{Good}
 use Rattle.rooms.specs.Table.{Room, roomCords, mostWatts, mostNodes, mostCords}
-use Rattle.rooms.specs.Limits.{checked, beneath}
+use Rattle.rooms.specs.Limits.{checked}
 use Rattle.rooms.proofs.Accepted.{Accepted, accepted}
 use Rattle.rooms.proofs.Trees.{under, under-is}
 use Rattle.deals.specs.Figures.{at, sumOf}
-use Rattle.deals.specs.Wants.{needs, carriedBy, lowsOf, firstWants}
+use Rattle.deals.specs.Wants.{needs, lowsOf, firstWants}
 use Rattle.deals.specs.Metrics.{dealFrom, dealOf, parentsOf, limitsOf, nodesOf, levelsOf}
 use Rattle.deals.specs.Dealing.{granted, grantsBy}
 use Rattle.deals.specs.SecondDeal.{usable, stranded, wantsAfter, firstGrants, firstUsable, firstUsed, secondWants, secondGrants}
@@ -21,15 +19,12 @@ use Rattle.deals.specs.SecondDeal as second
 use Rattle.deals.specs.Passes.{NodeLists, CordLists, LowsWithin, DealLists, OfRoom, CapLists, RoomLists, usedBy, NodesFit, ServersFit, CordsFit}
 use Rattle.deals.proofs.Lists.{figures-length}
 use Rattle.deals.proofs.RoomDeals.{parentsOf-length, limitsOf-length, nodesOf-length, levelsOf-length}
-use Rattle.deals.proofs.BothDeals.{lowsOf-length, carriedBy-length, dealable, grants-way, firstWants-lows, secondWants-lows}
+use Rattle.deals.proofs.BothDeals.{lowsOf-length, carriedBy-length, dealable, firstWants-lows, secondWants-lows}
 use Rattle.deals.proofs.Bounds.{bounded}
 use Rattle.deals.proofs.RankLoop.{zeros-front}
 use Rattle.deals.proofs.Walk.{begun}
 
 -- A list as long as another one that fits.
-pub nodes-fit : (table : List ℕ) {m n : ℕ} → m ≡ n → NodesFit table n → NodesFit table m
-nodes-fit table e h r end is = e ∙ h r end is
-
 pub cords-fit : (table : List ℕ) {m n : ℕ} → m ≡ n → CordsFit table n → CordsFit table m
 cords-fit table e h r end is = e ∙ h r end is
 

@@ -1,28 +1,28 @@
 -- A deal made rank by rank, in lists: what a rank's passes leave is what the deal's definition says of that rank.
 use mathlib.Core.Path.{_≡_, refl, sym, ap, ap₂, _∙_, subst}
 use mathlib.Core.Bool.{Bool, true, false}
-use mathlib.Core.List.{List, []}
+use mathlib.Core.List.{List}
 use Prim.Native.Nat.{ℕ, zero, suc, _+_, _-_, _*_, _/_, _≤_, _<_, min}
 use native.Mathlib.Nat.{le-trans, le-of-eq, le-refl, mul-le-mul-right}
 use native.Mathlib.Omega.{arith}
-use lib.Dec.{eqb, ltb}
-use lib.ListN.{length, getD}
+use lib.Dec.{eqb}
+use lib.ListN.{length}
 use lib.Seq.{ext-getD}
-use borrow.Author.Tests.{eq-eqb, ne-eqb, eqb-true, eqb-false}
+use borrow.Author.Tests.{ne-eqb, eqb-true, eqb-false}
 use Rattle.rooms.specs.Sums.{on, sum}
 use Rattle.rooms.specs.Table.{mostWatts, mostCords, highestRank}
 use Rattle.rooms.specs.Limits.{beneath}
 use Rattle.rooms.specs.Credits.{sumBeneath}
-use Rattle.rooms.proofs.Sums.{on-no, on-yes, sum-cong, sum-le, sum-zero, sum-swap, sum-one, sum-suc, sum-up, up, up-suc}
-use Rattle.rooms.proofs.Trees.{kids, own, below, under, under-is, kids-cong, down, rise}
+use Rattle.rooms.proofs.Sums.{on-no, sum-cong, sum-zero, sum-swap, sum-one, sum-suc, up, up-suc}
+use Rattle.rooms.proofs.Trees.{kids, own, under, under-is, kids-cong, down, rise}
 use Rattle.rooms.proofs.Credits.{sumBeneath-step}
 use Rattle.deals.specs.Figures.{figures, at, cell}
 use Rattle.deals.specs.Metrics.{Deal, dealFrom, metrics, atLevel}
 use Rattle.deals.specs.Split.{part}
 use Rattle.deals.specs.Dealing.{granted, reached}
 use Rattle.deals.specs.Passes.{NodeLists, CordLists, LowsWithin, onNode, childrenBefore, overChildren, Gathered, weightOf, wholeOf, NodesDealt, cordsBefore, CordsDealt}
-use Rattle.deals.proofs.Lists.{sum-most, sum-one-le, figures-length}
-use Rattle.deals.proofs.Equations.{Dealable, Measured, Dealt, asked, weights, pcapmin-request, pcapmin-asked, request-asked, requests-fit, requests-left, pcapmin-all, weights-are}
+use Rattle.deals.proofs.Lists.{sum-most, figures-length}
+use Rattle.deals.proofs.Equations.{Dealable, asked, weights, pcapmin-request, pcapmin-asked, request-asked, requests-left, pcapmin-all, weights-are}
 use Rattle.deals.proofs.Computed.{pcapmin, request, amountOf, measured, dealt, granted-at}
 use Rattle.deals.proofs.Bounds.{asked-most, request-most}
 

@@ -11,19 +11,19 @@ use lib.Seq.{sets}
 use borrow.Author.Tests.{eq-eqb, ne-eqb, lt-ltb, le-ltb}
 use Rattle.rooms.specs.Part.{good, Good}
 use Rattle.rooms.specs.Sums.{sum}
-use Rattle.rooms.specs.Table.{Room, scale, mostWatts, mostCords, roomCords}
+use Rattle.rooms.specs.Table.{Room, scale, mostWatts, roomCords}
 use Rattle.rooms.specs.Limits.{checked}
 use Rattle.rooms.proofs.Sums.{sum-suc, sum-cong, sum-none}
 use Rattle.deals.specs.Figures.{figures, at, sumOf}
 use Rattle.deals.specs.Cords.{RoomCord, cordAt}
-use Rattle.deals.specs.Wants.{needs, carriedBy}
+use Rattle.deals.specs.Wants.{needs}
 use Rattle.deals.specs.SecondDeal.{leastOver, loaded, loadOf, usable, stranded, wantsAfter}
 use Rattle.deals.specs.Passes.{ServersFit, CordsFit, usedBy, countWord, shareWord, serverNeed, serverUsable, cordUsed, cordStranded, cordWant}
-use Rattle.deals.proofs.Lists.{total-sum, sum-append, sum-most}
+use Rattle.deals.proofs.Lists.{total-sum, sum-append}
 use Rattle.deals.proofs.Loads.{leastOver-cong, leastOver-next, leastOver-zero, leastOver-none, leastOver-start, leastOver-append}
 use Rattle.deals.proofs.BothDeals.{carriedBy-at, usable-at, stranded-at, stranded-count, wantsAfter-at}
 use Rattle.deals.proofs.Filled.{Filled, filled-none, filled-one, filled-row, filled-all, RowPut, row-none, row-one, row-kept, row-after, row-all}
-use Rattle.deals.proofs.Walk.{Walk, ServerHere, begun, walk-start, walk-server, walk-end, walk-later}
+use Rattle.deals.proofs.Walk.{Walk, ServerHere, walk-start, walk-server, walk-end, walk-later}
 use Rattle.deals.proofs.Loading.{need-here, carried-is}
 
 -- ---- The cords of one server, one by one

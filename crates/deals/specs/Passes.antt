@@ -3,7 +3,7 @@
 use mathlib.Core.Path.{_≡_}
 use mathlib.Core.Bool.{cond}
 use mathlib.Core.List.{List, []}
-use Prim.Native.Nat.{ℕ, zero, suc, _+_, _-_, _*_, _/_, _≤_, _<_, min, max}
+use Prim.Native.Nat.{ℕ, suc, _+_, _-_, _*_, _/_, _≤_, _<_, min, max}
 use lib.Dec.{eqb, ltb}
 use lib.ListN.{length, getD}
 use Rattle.rooms.specs.Sums.{on, sum}
@@ -12,7 +12,7 @@ use Rattle.rooms.specs.Table.{Room, roomCords, mostNodes, mostCords, mostWatts,
 use Rattle.rooms.specs.Limits.{carried, beneath, checked}
 use Rattle.rooms.specs.Credits.{sumBeneath}
 use Rattle.deals.specs.Figures.{at, cell}
-use Rattle.deals.specs.Metrics.{Deal, parentsOf, limitsOf, nodesOf, levelsOf}
+use Rattle.deals.specs.Metrics.{parentsOf, limitsOf, nodesOf, levelsOf}
 use Rattle.deals.specs.Wants.{needs, carriedBy, lowsOf}
 use Rattle.deals.specs.Split.{part}
 use Rattle.deals.specs.SecondDeal.{leastOver, usable, freed, secondGrants}

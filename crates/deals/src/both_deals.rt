@@ -1,9 +1,7 @@
 // Both deals of a good table with its servers' demands.
 ghost use mathlib.Core.Path.{_≡_};
-ghost use Prim.Native.Nat.{ℕ};
 ghost use lib.ListN.{length};
-ghost use Rattle.rooms.specs.Part.{good, Good};
-ghost use Rattle.rooms.specs.Table.{Room};
+ghost use Rattle.rooms.specs.Part.{Good};
 ghost use Rattle.rooms.specs.Limits.{checked};
 ghost use Rattle.deals.specs.Figures.{sumOf};
 ghost use Rattle.deals.specs.Metrics.{dealFrom};

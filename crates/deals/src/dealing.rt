@@ -5,7 +5,7 @@ ghost use lib.ListN.{length, set};
 ghost use Rattle.rooms.specs.Table.{mostWatts, mostCords, highestRank};
 ghost use Rattle.deals.specs.Figures.{at, cell};
 ghost use Rattle.deals.specs.Split.{part};
-ghost use Rattle.deals.specs.Passes.{CordLists, ChainOf, weightOf, wholeOf, childrenBefore, overChildren, cordsBefore, NodesDealt, CordsDealt};
+ghost use Rattle.deals.specs.Passes.{CordLists, ChainOf, weightOf, wholeOf, overChildren, cordsBefore, NodesDealt, CordsDealt};
 use crate::metrics::clear;
 use crate::widths::index;
 use crate::widths::narrow;

@@ -1,13 +1,13 @@
 // What servers can use of their grants: usable, used and stranded watts, the second deal's wants, and the caps.
 ghost use mathlib.Core.Path.{_≡_};
-ghost use Prim.Native.Nat.{ℕ, _+_, _*_, _≤_};
+ghost use Prim.Native.Nat.{_+_, _*_, _≤_};
 ghost use lib.ListN.{length};
 ghost use lib.Seq.{sets};
-ghost use Rattle.rooms.specs.Part.{good, Good};
+ghost use Rattle.rooms.specs.Part.{Good};
 ghost use Rattle.rooms.specs.Sums.{sum};
-ghost use Rattle.rooms.specs.Table.{Room, mostWatts};
+ghost use Rattle.rooms.specs.Table.{mostWatts};
 ghost use Rattle.rooms.specs.Limits.{checked};
-ghost use Rattle.deals.specs.Figures.{at, figures, sumOf};
+ghost use Rattle.deals.specs.Figures.{figures, sumOf};
 ghost use Rattle.deals.specs.Wants.{needs};
 ghost use Rattle.deals.specs.SecondDeal.{usable, stranded, wantsAfter};
 ghost use Rattle.deals.specs.Passes.{OfRoom, CordsFit, ServersFit, CapLists, usedBy, ServerWords, countWord, serverUsable, cordStranded, cordWant};

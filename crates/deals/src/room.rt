@@ -1,10 +1,10 @@
 // A room's lists, laid out from its table: a figure a node, and a figure a cord in table order.
 ghost use mathlib.Core.Path.{_≡_};
-ghost use Prim.Native.Nat.{ℕ, _+_, _-_, _≤_, min, max};
+ghost use Prim.Native.Nat.{_+_, _-_, _≤_, min, max};
 ghost use lib.ListN.{length};
 ghost use lib.Seq.{sets};
-ghost use Rattle.rooms.specs.Part.{good, Good};
-ghost use Rattle.rooms.specs.Table.{Room, scale, mostWatts};
+ghost use Rattle.rooms.specs.Part.{Good};
+ghost use Rattle.rooms.specs.Table.{scale, mostWatts};
 ghost use Rattle.rooms.specs.Limits.{checked, carried};
 ghost use Rattle.deals.specs.Figures.{at, figures};
 ghost use Rattle.deals.specs.Metrics.{parentsOf, limitsOf, nodesOf, levelsOf};

@@ -1,5 +1,4 @@
 -- `plan_lists` meets its contract: what the two deals leave in the room's lists is its plan.
-use mathlib.Core.Path.{_∙_}
 use Rattle.deals.proofs.Planning.{cords-fit, deal-asks, first-wanted, second-wanted, freed-is, second-wants, second-grants, caps-are}
 use borrow.Author.Needs.{needs}
 use Rattle.deals.proofs.both_deals.plan_lists.Statement.{statement}

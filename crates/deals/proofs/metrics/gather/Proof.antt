@@ -1,6 +1,6 @@
 -- `gather` meets its contract: what a node's children ask, and its Pcapmin, are whole when its turn comes, since all nodes beneath it
 -- had their turns before.
-use mathlib.Core.Path.{refl, _∙_}
+use mathlib.Core.Path.{refl}
 use Prim.Native.Nat.{_-_}
 use native.Mathlib.Omega.{arith}
 use borrow.Author.Needs.{needs}

@@ -1,5 +1,5 @@
 -- `reclaim` meets its contract: before each turn the watts freed and the wants are those after the cords of the servers passed.
-use mathlib.Core.Path.{refl, sym, _∙_}
+use mathlib.Core.Path.{sym, _∙_}
 use Prim.Native.Nat.{_-_, _*_, _≤_}
 use native.Mathlib.Omega.{arith}
 use lib.ListN.{length}

@@ -1,5 +1,5 @@
 -- A node's children served in turn: the parts that they get of its amount, and the weights served and the watts dealt there.
-use mathlib.Core.Path.{_≡_, refl, sym, ap, subst, _∙_}
+use mathlib.Core.Path.{_≡_, refl, sym, ap, ap₂, subst, _∙_}
 use mathlib.Core.Logic.{_⊎_, inl, inr}
 use mathlib.Core.Bool.{Bool, true, false}
 use mathlib.Core.List.{List}
@@ -27,14 +27,12 @@ part-le-amount x e c d h = go (eq-zero-or-pos e)
     go (inl z) = rw z (simp div-zero (omega arith))
     go (inr q) = omega (arith, div-mono (x * (c + d)) (x * e) e (mul-le-mul-left x h), mul-div-cancel x q)
 
--- The watts dealt grow by the next child's part.
-module _ (x e b w d : ℕ) (dealt-is : d ≡ x * b / e) where
-  pub serve-grows : d ≤ x * (b + w) / e
-  serve-grows = omega (arith, div-mono (x * b) (x * (b + w)) e (mul-le-mul-left x (omega arith)))
-
-  pub serve-part : x * (b + w) / e - d ≡ part x e b w
-  unfolding part
-  serve-part = ap (λ (y : ℕ). x * (b + w) / e - y) dealt-is
+-- An only child takes all: its weight is the whole.
+pub serve-only : (x e b w : ℕ) → b + w ≤ e → (w ≡ 0 → ⊥) → w ≡ e → x ≡ x * (b + w) / e
+serve-only x e b w h some only =
+    let whole : b + w ≡ e = omega arith in
+    let pos : 0 < e = omega arith in
+    sym (ap (λ (y : ℕ). x * y / e) whole ∙ mul-div-cancel x pos)
 
 -- What `serve` asks and what it leaves, of an amount x, a whole weight e and a child of weight w.
 abbrev pub MayServe : ℕ → ℕ → ℕ → ℕ → List ℕ → List ℕ → Type 0
@@ -55,6 +53,12 @@ serve-none x e w p before dealt dealt-is z =
         sym (ap (λ (y : ℕ). set dealt p (x * y / e)) a ∙ ap (set dealt p) (sym dealt-is) ∙ set-getD dealt p 0),
       ),
     )
+
+-- A child of any weight: the watts dealt grow by its part.
+pub serve-some : (x e w p : ℕ) (before dealt : List ℕ) {watts given : ℕ} → at dealt p ≡ x * at before p / e → watts ≡ x * (at before p + w) / e → given ≡ watts - at dealt p
+    → HasServed x e w p before dealt given (set before p (at before p + w)) (set dealt p watts)
+unfolding part
+serve-some x e w p before dealt dealt-is watts-are given-is = (given-is ∙ ap₂ _-_ watts-are dealt-is, (refl, ap (set dealt p) watts-are))
 
 -- ---- The children served so far
 

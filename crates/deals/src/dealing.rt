@@ -9,6 +9,7 @@ ghost use Rattle.deals.specs.Passes.{CordLists, ChainOf, weightOf, whole
 use crate::metrics::clear;
 use crate::widths::index;
 use crate::widths::narrow;
+use crate::widths::over;
 use crate::widths::wide;
 
 // The part of the next child of the node at place p, by its weight. The weights served and the watts dealt there grow by it.
@@ -30,8 +31,13 @@ fn serve(
         return 0;
     }
     let upto = before[p] + weight;
-    let watts = amount * upto / whole;
-    let given = watts - dealt[p];
+    // An only child takes all, without a division.
+    let watts = if weight == whole {
+        amount
+    } else {
+        amount * upto / whole
+    };
+    let given = over(watts, dealt[p]);
     before[p] = upto;
     dealt[p] = watts;
     given

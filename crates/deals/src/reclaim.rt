@@ -55,8 +55,8 @@ fn reclaim_server(
     let count = index(table[start + 3]);
     for k in 0..count {
         let used = carried_by(table[start + 5 + 2 * k], usable);
-        let stranded = over(grants[c + k], used);
-        freed += wide(stranded);
+        let stranded = over(wide(grants[c + k]), wide(used));
+        freed += stranded;
         if 0 < stranded {
             wants[c + k] = used;
         }

@@ -1,13 +1,15 @@
--- `serve` meets its contract: the watts dealt on the node grow from one quotient of the split to the next, and a weight of 0 leaves all as it was.
-use mathlib.Core.Path.{refl}
+-- `serve` meets its contract: the watts dealt on the node grow from one quotient of the split to the next, a weight of 0 leaves all as it
+-- was, and the quotient of an only child is the amount.
+use mathlib.Core.Path.{_∙_}
+use mathlib.Core.Logic.{⊎-elim}
 use native.Mathlib.Nat.{mul-le-mul-left, lt-of-le-of-lt}
 use borrow.Author.Needs.{needs}
-use Rattle.deals.proofs.Serving.{serve-none, serve-grows, serve-part}
+use Rattle.deals.proofs.Serving.{serve-none, serve-some, serve-only}
 use Rattle.deals.proofs.dealing.serve.Statement.{statement}
 use Rattle.deals.proofs.dealing.serve.Tie as tie
 
 returns : tie.Need-returns
-returns c = serve-none _ _ _ _ _ _ (c .before .pre .1) (c .if1 .taken)
+returns c = serve-none _ _ _ _ _ _ (c .before .before .before .pre .1) (c .if1 .taken)
 
 mul-upto : tie.Need-mul-upto
 mul-upto c = search needs
@@ -20,20 +22,20 @@ add-upto c = search needs
 
 mul-watts : tie.Need-mul-watts
 mul-watts c =
-    let pre = c .before .before .pre .0 in
+    let pre = c .before .before .before .before .before .pre .0 in
     record { fits = lt-of-le-of-lt (mul-le-mul-left _ (pre .2)) (pre .3) }
 
 div-watts : tie.Need-div-watts
 div-watts c = search needs
 
-mul-given : tie.Need-mul-given
-mul-given c = search needs
+mul-over : tie.Need-mul-over
+mul-over c = search needs
 
-slice-read-given : tie.Need-slice-read-given
-slice-read-given c = search needs
+slice-read-over : tie.Need-slice-read-over
+slice-read-over c = search needs
 
-sub-given : tie.Need-sub-given
-sub-given c = serve-grows _ _ _ _ _ (c .before .before .before .pre .1)
+over-requires : tie.Need-over-requires
+over-requires c κs = search needs
 
 mul-before : tie.Need-mul-before
 mul-before c = search needs
@@ -54,7 +56,12 @@ same-length-2 : tie.Need-same-length-2
 same-length-2 c = search needs
 
 returns-2 : tie.Need-returns-2
-returns-2 c = (serve-part _ _ _ _ _ (c .before .before .before .pre .1), (refl, refl))
+returns-2 c =
+    let s = c .before .before .before .before .before .before .before in
+    let pre = s .pre in
+    let some = c .before .before .before .before .if1 .left in
+    let watts = ⊎-elim (λ w. w .1 ∙ serve-only _ _ _ _ (pre .0 .2) some (w .0 .taken)) (λ w. w .1) (c .before .before .if2 .came) in
+    serve-some _ _ (s .args .weight) (s .args .p) (s .args .before .now) (s .args .dealt .now) (pre .1) watts (c .over .ensures)
 
 pub serve-spec : {M : Type 1} → statement M
 serve-spec =
@@ -66,9 +73,9 @@ serve-spec =
     add-upto
     mul-watts
     div-watts
-    mul-given
-    slice-read-given
-    sub-given
+    mul-over
+    slice-read-over
+    over-requires
     mul-before
     slice-write-before
     mul-dealt

@@ -1,5 +1,5 @@
 -- `reclaim_server` meets its contract: before each turn the sum and the wants are those after the cords passed.
-use mathlib.Core.Path.{_≡_, _∙_}
+use mathlib.Core.Path.{_≡_, ap₂, _∙_}
 use mathlib.Core.Logic.{⊎-elim}
 use Prim.Native.Nat.{_-_, _*_, _≤_}
 use native.Mathlib.Omega.{arith}
@@ -50,20 +50,23 @@ carried-by-requires c κs =
     let pre = c .before .before .before .before .before .before .before .before .pre .0 in
     (pre .0 .shares (c .before .before .loop .k) (omega (arith, c .before .before .before .index .ensures .0)), pre .1)
 
-add-over : tie.Need-add-over Inv-loop μ-loop
-add-over c = search needs
+add-wide : tie.Need-add-wide Inv-loop μ-loop
+add-wide c = search needs
 
-mul-over : tie.Need-mul-over Inv-loop μ-loop
-mul-over c = search needs
+mul-wide : tie.Need-mul-wide Inv-loop μ-loop
+mul-wide c = search needs
 
-shared-slice-read-over : tie.Need-shared-slice-read-over Inv-loop μ-loop
-shared-slice-read-over c = search needs
-
-over-requires : tie.Need-over-requires Inv-loop μ-loop
-over-requires c κs = search needs
+shared-slice-read-wide : tie.Need-shared-slice-read-wide Inv-loop μ-loop
+shared-slice-read-wide c = search needs
 
 wide-requires : tie.Need-wide-requires Inv-loop μ-loop
 wide-requires c κs = search needs
+
+wide-requires-2 : tie.Need-wide-requires-2 Inv-loop μ-loop
+wide-requires-2 c κs = search needs
+
+over-requires : tie.Need-over-requires Inv-loop μ-loop
+over-requires c κs = search needs
 
 add-freed : tie.Need-add-freed Inv-loop μ-loop
 add-freed c = search needs
@@ -85,14 +88,13 @@ loop-less c = search needs
 
 loop-again : tie.Need-loop-again Inv-loop μ-loop
 loop-again c =
-    let inv = c .before .before .before .before .before .before .before .loop .inv in
-    let used = c .before .before .before .before .carried-by .ensures in
-    let stranded = c .before .before .over .ensures in
-    let same : c .before .wide .result ≡ c .before .before .over .result = omega (arith, c .before .wide .ensures) in
-    let watts = same ∙ stranded in
+    let inv = c .before .before .before .before .before .before .before .before .loop .inv in
+    let used = c .before .before .before .before .before .carried-by .ensures in
+    let grant = c .before .before .before .wide .ensures in
+    let stranded = c .before .over .ensures ∙ ap₂ _-_ (grant .0) (c .before .before .wide2 .ensures .0) in
     ⊎-elim
-    (λ w. (search needs, omega (arith, inv .1, c .before .wide .ensures), rw (w .1) (reclaimed-more (inv .2) used watts (omega (arith, w .0 .taken, c .before .wide .ensures .0)))))
-    (λ w. (search needs, omega (arith, inv .1, c .before .wide .ensures), rw (w .1) (reclaimed-kept (inv .2) used watts (omega (arith, w .0 .left, c .before .wide .ensures .0)))))
+    (λ w. (search needs, omega (arith, inv .1, c .before .over .ensures, grant), rw (w .1) (reclaimed-more (inv .2) used stranded (w .0 .taken))))
+    (λ w. (search needs, omega (arith, inv .1, c .before .over .ensures, grant), rw (w .1) (reclaimed-kept (inv .2) used stranded (w .0 .left))))
     (c .if1 .came)
 
 same-length : tie.Need-same-length Inv-loop μ-loop
@@ -121,11 +123,12 @@ reclaim-server-spec =
     mul-carried-by-2
     shared-slice-read-carried-by
     carried-by-requires
-    add-over
-    mul-over
-    shared-slice-read-over
-    over-requires
+    add-wide
+    mul-wide
+    shared-slice-read-wide
     wide-requires
+    wide-requires-2
+    over-requires
     add-freed
     add-wants
     mul-wants

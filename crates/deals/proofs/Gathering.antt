@@ -5,22 +5,24 @@ use mathlib.Core.Bool.{Bool, true, false}
 use mathlib.Core.List.{List, []}
 use mathlib.Core.Logic.{_⊎_, inl, inr}
 use Prim.Native.Nat.{ℕ, zero, suc, _+_, _-_, _*_, _^_, _≤_, _<_, min}
-use native.Mathlib.Nat.{eq-or-lt-of-le, le-refl}
+use native.Mathlib.Nat.{eq-or-lt-of-le, le-refl, sub-zero}
 use native.Mathlib.Omega.{arith}
 use lib.Dec.{eqb}
 use lib.ListN.{length, getD, set, length-set}
-use lib.Seq.{getD-set-same, getD-set-other}
+use lib.Seq.{set-getD, getD-set-same, getD-set-other}
 use borrow.Author.Tests.{ne-eqb, eqb-true, eqb-false}
 use Rattle.rooms.specs.Sums.{on, sum}
 use Rattle.rooms.specs.Table.{mostNodes, mostCords, mostWatts, highestRank}
 use Rattle.rooms.specs.Credits.{credited}
 use Rattle.rooms.proofs.Sums.{on-no, sum-suc, up-cong}
-use Rattle.rooms.proofs.Trees.{kids}
-use Rattle.rooms.proofs.Credits.{credited-at, credited-length, figure-in-sum, sum-credited}
-use Rattle.rooms.proofs.Gather.{Holds, holds-start, holds-turn}
+use Rattle.rooms.proofs.Trees.{kids, down}
+use Rattle.rooms.proofs.Credits.{sumBeneath-step, credited-at, credited-length, figure-in-sum, sum-credited}
+use Rattle.rooms.proofs.Gather.{Holds, holds-start, holds-turn, holds-whole}
 use Rattle.deals.specs.Figures.{at, cell}
-use Rattle.deals.specs.Passes.{FullRows, Gathered}
-use Rattle.deals.proofs.NodeSums.{Rises, beneathAll, holds-end}
+use Rattle.deals.specs.Passes.{FullRows, Absent, ActiveNodes, Gathered}
+use Rattle.deals.proofs.Lists.{passed-down}
+use Rattle.deals.proofs.Active.{Parted, parted-none, parted-all, parted-at, parted-after, between}
+use Rattle.deals.proofs.NodeSums.{Rises, beneathAll, holds-end, credited-nothing, kids-none, Summing, summing-start, summing-most, whole-at, summing-at, summing-idle, summing-end}
 
 -- ---- A figure stored in a row
 
@@ -207,18 +209,25 @@ module _ {parents : List ℕ} {level : ℕ} {left₀ lower₀ : List ℕ} {pcapm
         full = stored-full rows k level v in-rows (inv .full);
       }
 
-  pub next-node : {n : ℕ} {left lower asked : List ℕ} {rows : List (List ℕ)} → Requesting parents level left₀ lower₀ pcapmin wants rows₀ n left lower asked rows → 0 < n
-      → NextNode parents level left₀ lower₀ pcapmin wants rows₀ (n - 1) left lower asked rows
-  next-node {n = zero} inv p = absurd (omega arith)
-  next-node {n = suc k} {left = left} {lower = lower} {asked = asked} {rows = rows} inv p =
-      let e : suc k - 1 ≡ k = omega arith in
+  -- The turn of a node that has nothing of the rank changes nothing.
+  turn-idle : (k : ℕ) (left lower asked : List ℕ) (rows : List (List ℕ)) → pcapmin k ≡ 0 → at asked k ≡ 0 → cell rows k level ≡ 0
+      → Requesting parents level left₀ lower₀ pcapmin wants rows₀ (suc k) left lower asked rows → Requesting parents level left₀ lower₀ pcapmin wants rows₀ k left lower asked rows
+  turn-idle k left lower asked rows p a r inv =
+      let left-same : set left k (at left k - 0) ≡ left = ap (set left k) (sub-zero (at left k)) ∙ set-getD left k 0 in
+      let lower-same : set lower k (at lower k - pcapmin k) ≡ lower = ap (λ (x : ℕ). set lower k (at lower k - x)) p ∙ ap (set lower k) (sub-zero (at lower k)) ∙ set-getD lower k 0 in
+      let row-same : set (getD rows k []) level 0 ≡ getD rows k [] = ap (set (getD rows k []) level) (sym r) ∙ set-getD (getD rows k []) level 0 in
+      let rows-same : stored rows k level 0 ≡ rows = ap (set rows k) row-same ∙ set-getD rows k [] in
+      rw (left-same, lower-same, rows-same, credited-nothing (at parents k) asked) at (turned k left lower asked rows 0 (omega arith) inv)
+
+  pub next-node : {k : ℕ} {left lower asked : List ℕ} {rows : List (List ℕ)} → Requesting parents level left₀ lower₀ pcapmin wants rows₀ (suc k) left lower asked rows
+      → NextNode parents level left₀ lower₀ pcapmin wants rows₀ k left lower asked rows
+  next-node {k} {left = left} {lower = lower} {asked = asked} {rows = rows} inv =
       let given = inv .given in
       let h : k < length parents = omega (arith, inv .all) in
       let kept-left = inv .left-kept k (omega arith) in
       let kept-lower = inv .lower-kept k (omega arith) in
       let rise = given .rises k h in
-      rw e
-      (record {
+      record {
         in-parents = h;
         in-left = omega (arith, inv .left-size, given .left-size);
         in-lower = omega (arith, inv .lower-size, given .lower-size);
@@ -239,7 +248,7 @@ module _ {parents : List ℕ} {level : ℕ} {left₀ lower₀ : List ℕ} {pcapm
           ),
         );
         turn = λ eq ev eu ep ea. rw (eu, ea, ep, eq) (turned k left lower asked rows _ (ev ∙ ap (λ (p : ℕ). requestOf left lower p asked k) eq) inv);
-      })
+      }
 
   pub requesting-end : {n : ℕ} {left lower asked : List ℕ} {rows : List (List ℕ)} → Requesting parents level left₀ lower₀ pcapmin wants rows₀ n left lower asked rows → n ≤ 0
       → (lows pcapmins : List ℕ) → ((m : ℕ) → m < length parents → at pcapmins m ≡ pcapmin m)
@@ -256,4 +265,112 @@ module _ {parents : List ℕ} {level : ℕ} {left₀ lower₀ : List ℕ} {pcapm
         left-is = λ n l. inv .settled n (omega arith) l .left-is;
         lower-is = λ n l. inv .settled n (omega arith) l .lower-is ∙ ap (λ (p : ℕ). at lower₀ n - p) (sym (are n l));
         full = inv .full;
+      }
+
+-- ---- By the active nodes alone
+
+-- A node that is not active has nothing of the rank.
+abbrev pub Idle : List ℕ → List ℕ → ℕ → ℕ → List ℕ → List ℕ → List (List ℕ) → Type 0
+Idle parents active count level lows wants rows =
+    (m : ℕ) → m < length parents → Absent active count m → (at lows m ≡ 0) × (at wants m ≡ 0) × (cell rows m level ≡ 0)
+
+-- Before the turn of the active node of entry i - 1.
+pub record GatherTurn (parents active : List ℕ) (count level : ℕ) (left₀ lower₀ lows wants : List ℕ) (rows₀ : List (List ℕ)) (i : ℕ) (left lower pcapmins asked : List ℕ) (rows : List (List ℕ)) : Type 0 where
+  pub nodes : ActiveNodes parents active count
+  pub lows-size : length lows ≡ length parents
+  pub n : ℕ
+  pub parted : Parted active count i n
+  pub idle : Idle parents active count level lows wants rows
+  pub requesting : Requesting parents level left₀ lower₀ (beneathAll parents lows) wants rows₀ n left lower asked rows
+  pub summing : Summing parents lows n pcapmins
+
+module _ {parents active : List ℕ} {count level : ℕ} {left₀ lower₀ lows wants : List ℕ} {rows₀ : List (List ℕ)} where
+  pub gather-start : ActiveNodes parents active count → length lows ≡ length parents → Idle parents active count level lows wants rows₀
+      → Given parents level left₀ lower₀ (beneathAll parents lows) wants → FullRows rows₀ → GatherTurn parents active count level left₀ lower₀ lows wants rows₀ count left₀ lower₀ lows wants rows₀
+  gather-start nodes size idle given full = record {
+    nodes = nodes;
+    lows-size = size;
+    n = length parents;
+    parted = parted-all nodes;
+    idle = idle;
+    requesting = requesting-start rows₀ given full;
+    summing = summing-start parents lows;
+  }
+
+  module _ {i : ℕ} {left lower pcapmins asked : List ℕ} {rows : List (List ℕ)} (t : GatherTurn parents active count level left₀ lower₀ lows wants rows₀ i left lower pcapmins asked rows) where
+    rises : Rises parents
+    rises = t .requesting .given .rises
+
+    -- Nothing stands beneath a node that is not active.
+    beneath-none : (m : ℕ) → m < length parents → Absent active count m → beneathAll parents lows m ≡ 0
+    beneath-none = down (length parents) (λ m. Absent active count m → beneathAll parents lows m ≡ 0) (λ m l below none.
+        omega (
+          arith,
+          sumBeneath-step (length parents) (at parents) rises (at lows) m l,
+          t .idle m l none .0,
+          kids-none (length parents) (at parents) m (beneathAll parents lows) (λ k h e. below k h (omega (arith, rises k h)) (t .nodes .closed k m h e none)),
+        ))
+
+    -- Before and after the turn of a node that is not active, the lists are the same.
+    abbrev Both : ℕ → Type 0
+    Both m = Requesting parents level left₀ lower₀ (beneathAll parents lows) wants rows₀ m left lower asked rows × Summing parents lows m pcapmins
+
+    passed : (m : ℕ) → Absent active count m → Both (suc m) → Both m
+    passed m none both =
+        let r = both .0 in
+        let l : m < length parents = omega (arith, r .all) in
+        let beneath = beneath-none m l none in
+        let asks : at asked m ≡ 0
+        = omega (
+          arith,
+          holds-whole (length parents) (at parents) (at wants) (λ k. cell rows k level) rises (r .done) m (at asked) (r .all) (r .held),
+          t .idle m l none .1,
+          kids-none (length parents) (at parents) m (λ k. cell rows k level) (λ k h e. t .idle k h (t .nodes .closed k m h e none) .2),
+        ) in
+        (turn-idle m left lower asked rows beneath asks (t .idle m l none .2) r, summing-idle rises (t .lows-size) beneath (both .1))
+
+    pub gather-end : i ≤ 0 → Gathered parents level left₀ lower₀ lows wants rows₀ left lower pcapmins asked rows
+    gather-end z =
+        let e : i ≡ 0 = omega arith in
+        let both = passed-down Both 0 (t .n) (omega arith) (λ h a b. passed h (between parted-none (rw e at (t .parted)) h a b)) (t .requesting, t .summing) in
+        requesting-end (both .0) (le-refl 0) lows pcapmins (summing-end rises (both .1) (le-refl 0)) (λ m l. refl)
+
+    -- The turn of the active node of entry i - 1.
+    module _ (more : 0 < i) {n : ℕ} (is : n ≡ at active (i - 1)) where
+      here : Both (suc n)
+      here =
+          let e : i - 1 + 1 ≡ i = omega arith in
+          let s : at active (i - 1) + 1 ≡ suc n = omega arith in
+          let after : Parted active count i (suc n) = rw (e, s) at (parted-after (t .nodes) (i - 1) (omega (arith, t .parted .reached))) in
+          passed-down Both (suc n) (t .n) (omega (arith, t .parted .below (i - 1) (omega arith))) (λ h a b. passed h (between after (t .parted) h a b)) (t .requesting, t .summing)
+
+      pub gather-node : NextNode parents level left₀ lower₀ (beneathAll parents lows) wants rows₀ n left lower asked rows
+      gather-node = next-node (here .0)
+
+      pub gather-whole : at pcapmins n ≡ beneathAll parents lows n
+      gather-whole = whole-at rises (here .1)
+
+      pub gather-most : (m : ℕ) → m < length parents → at pcapmins m ≤ sum (length parents) (at lows)
+      gather-most = summing-most rises (here .1)
+
+      pub gather-size : length pcapmins ≡ length parents
+      gather-size = here .1 .size ∙ t .lows-size
+
+      pub gather-turn : {v u parent : ℕ} {asked′ pcapmins′ : List ℕ} → v ≡ requestOf left lower (at pcapmins n) asked n → u ≡ v → parent ≡ at parents n
+          → pcapmins′ ≡ credited parent (at pcapmins n) pcapmins → asked′ ≡ credited parent v asked
+          → GatherTurn parents active count level left₀ lower₀ lows wants rows₀ (i - 1) (set left n (at left n - v)) (set lower n (at lower n - at pcapmins n)) pcapmins′ asked′ (stored rows n level u)
+      gather-turn {u = u} ev eu ep es ea = record {
+        nodes = t .nodes;
+        lows-size = t .lows-size;
+        n = n;
+        parted = rw (sym is) at (parted-at (t .nodes) (i - 1) (omega (arith, t .parted .reached)));
+        idle = λ m l none. (
+          t .idle m l none .0,
+          t .idle m l none .1,
+          cell-elsewhere rows n level u (omega (arith, here .0 .full .0, here .0 .given .few, gather-node .in-parents)) m level
+              (λ e. none (i - 1) (omega (arith, t .parted .reached)) (sym is ∙ sym e))
+              ∙ t .idle m l none .2,
+        );
+        requesting = gather-node .turn gather-whole ev eu ep ea;
+        summing = summing-at rises (t .lows-size) (here .1) ep es;
       }

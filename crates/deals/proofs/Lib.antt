@@ -29,6 +29,7 @@ pub mod Serving
 pub mod NodeTurns
 pub mod CordTurns
 pub mod Links
+pub mod Active
 pub mod Ranks
 pub mod RankLoop
 pub mod Filled

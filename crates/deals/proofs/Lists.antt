@@ -1,7 +1,7 @@
 -- Laws of lists of figures, of their sums, and of sums of bounded figures.
-use mathlib.Core.Path.{_≡_, refl, sym, ap, _∙_}
+use mathlib.Core.Path.{_≡_, refl, sym, ap, _∙_, subst}
 use mathlib.Core.List.{List, [], _∷_, _++_}
-use mathlib.Core.Logic.{_⊎_, inl, inr}
+use mathlib.Core.Logic.{_⊎_, inl, inr, ⊎-elim}
 use Prim.Native.Nat.{ℕ, zero, suc, _+_, _*_, _≤_, _<_}
 use native.Mathlib.Nat.{le-refl, le-trans, le-of-eq, le-suc, zero-add, add-zero, add-suc, add-assoc, not-suc-le-zero, le-of-suc-le-suc, eq-or-lt-of-le}
 use native.Mathlib.Omega.{arith}
@@ -30,6 +30,25 @@ figuresFrom-length (suc k) j g = ap suc (figuresFrom-length k (suc j) g)
 
 pub figures-length : (k : ℕ) (g : ℕ → ℕ) → length (figures k g) ≡ k
 figures-length k g = figuresFrom-length k 0 g
+
+-- ---- From place to place
+
+-- What holds at a place holds after it: from m up to n.
+pub passed-up : (P : ℕ → Type 0) (m n : ℕ) → m ≤ n → ((h : ℕ) → m ≤ h → h < n → P h → P (h + 1)) → P m → P n
+passed-up P m zero l step p = subst P (omega arith) p
+passed-up P m (suc n) l step p =
+    ⊎-elim (λ e. subst P e p)
+    (λ less.
+    let next : n + 1 ≡ suc n = omega arith in
+    subst P next (step n (omega arith) (omega arith) (passed-up P m n (omega arith) (λ h a b. step h a (omega arith)) p)))
+    (eq-or-lt-of-le l)
+
+-- What holds after a place holds at it: from n down to m.
+pub passed-down : (P : ℕ → Type 0) (m n : ℕ) → m ≤ n → ((h : ℕ) → m ≤ h → h < n → P (suc h) → P h) → P n → P m
+passed-down P m zero l step p = subst P (omega arith) p
+passed-down P m (suc n) l step p =
+    ⊎-elim (λ e. subst P (sym e) p) (λ less. passed-down P m n (omega arith) (λ h a b. step h a (omega arith)) (step n (omega arith) (omega arith) p))
+    (eq-or-lt-of-le l)
 
 -- ---- The sum over a list
 

@@ -5,18 +5,18 @@ use mathlib.Core.Bool.{Bool, true, false}
 use mathlib.Core.List.{List}
 use mathlib.Core.Logic.{_⊎_, inl, inr}
 use Prim.Native.Nat.{ℕ, zero, suc, _+_, _-_, _*_, _^_, _≤_, _<_}
-use native.Mathlib.Nat.{eq-or-lt-of-le}
+use native.Mathlib.Nat.{eq-or-lt-of-le, add-zero}
 use native.Mathlib.Numerals.{add-one}
 use native.Mathlib.Omega.{arith}
 use lib.Dec.{eqb, eqb·suc-suc}
 use lib.ListN.{length, set, replicate, length-set, length-replicate}
-use lib.Seq.{getD-set-same, getD-set-other, ext-getD}
-use borrow.Author.Tests.{eq-eqb, ne-eqb}
+use lib.Seq.{set-getD, getD-set-same, getD-set-other, ext-getD}
+use borrow.Author.Tests.{eq-eqb, ne-eqb, eqb-true}
 use Rattle.rooms.specs.Sums.{on, sum}
 use Rattle.rooms.specs.Table.{mostCords, mostWatts}
 use Rattle.rooms.specs.Limits.{beneath}
 use Rattle.rooms.specs.Credits.{sumBeneath, credited}
-use Rattle.rooms.proofs.Sums.{on-yes, on-no, sum-suc, sum-none, sum-cong, sum-le, sum-one, sum-swap, sum-up}
+use Rattle.rooms.proofs.Sums.{on-yes, on-no, sum-suc, sum-none, sum-cong, sum-zero, sum-le, sum-one, sum-swap, sum-up}
 use Rattle.rooms.proofs.Trees.{kids, kids-cong, own, below-step, down, under, under-is}
 use Rattle.rooms.proofs.Credits.{credited-at, credited-length, zeros-at, sumBeneath-step, sumBeneath-most}
 use Rattle.rooms.proofs.Gather.{Holds, holds-start, holds-turn, holds-most, holds-whole}
@@ -209,6 +209,21 @@ beneathAll parents start = sumBeneath (at parents) (length parents) (at start)
 abbrev pub Rises : List ℕ → Type 0
 Rises parents = (m : ℕ) → m < length parents → at parents m ≤ m
 
+-- Crediting nothing changes nothing.
+pub credited-nothing : (node : ℕ) (l : List ℕ) → credited node 0 l ≡ l
+unfolding credited
+credited-nothing zero l = refl
+credited-nothing (suc m) l = ap (set l m) (add-zero (at l m)) ∙ set-getD l m 0
+
+-- A sum over child nodes that all have nothing.
+pub kids-none : (count : ℕ) (parent : ℕ → ℕ) (n : ℕ) (g : ℕ → ℕ) → ((m : ℕ) → m < count → parent m ≡ suc n → g m ≡ 0) → kids count parent n g ≡ 0
+unfolding kids
+kids-none count parent n g z = sum-cong count _ _ (λ m l. go m l (eqb (parent m) (suc n)) refl) ∙ sum-zero count
+  where
+    go : (m : ℕ) → m < count → (t : Bool) → eqb (parent m) (suc n) ≡ t → on t (g m) ≡ 0
+    go m l true e = z m l (eqb-true (parent m) (suc n) e)
+    go m l false e = refl
+
 -- Before the turn of the node at place n - 1: the nodes from n on have passed their sums on.
 pub record Summing (parents start : List ℕ) (n : ℕ) (sums : List ℕ) : Type 0 where
   pub done : ℕ
@@ -238,32 +253,36 @@ module _ {parents start : List ℕ} (rises : Rises parents) where
       )
 
   -- A node's sum is whole when its turn comes.
-  whole-at : (m : ℕ) {sums : List ℕ} → Summing parents start (suc m) sums → at sums m ≡ beneathAll parents start m
-  whole-at m {sums} inv =
+  pub whole-at : {m : ℕ} {sums : List ℕ} → Summing parents start (suc m) sums → at sums m ≡ beneathAll parents start m
+  whole-at {m} {sums} inv =
       holds-whole (length parents) (at parents) (at start) (beneathAll parents start) rises (inv .done) m (at sums) (inv .all) (inv .held)
       ∙ sym (sumBeneath-step (length parents) (at parents) rises (at start) m (omega (arith, inv .all)))
 
-  pub summing-whole : {n : ℕ} {sums : List ℕ} → Summing parents start n sums → 0 < n → at sums (n - 1) ≡ beneathAll parents start (n - 1)
-  summing-whole {n = zero} inv p = absurd (omega arith)
-  summing-whole {n = suc m} inv p = let e : suc m - 1 ≡ m = omega arith in rw e (whole-at m inv)
-
-  turned : (m : ℕ) (sums : List ℕ) → length start ≡ length parents → Summing parents start (suc m) sums → Summing parents start m (credited (at parents m) (at sums m) sums)
-  turned m sums h inv =
+  -- A node's turn.
+  pub summing-at : {m : ℕ} {sums : List ℕ} {parent : ℕ} {sums′ : List ℕ} → length start ≡ length parents → Summing parents start (suc m) sums
+      → parent ≡ at parents m → sums′ ≡ credited parent (at sums m) sums → Summing parents start m sums′
+  summing-at {m} {sums} {sums′ = sums′} h inv ep es =
       let r = rises m (omega (arith, inv .all)) in
       let own : ℕ → ℕ = at start in
       let passed : ℕ → ℕ = beneathAll parents start in
-      let sums′ : List ℕ = credited (at parents m) (at sums m) sums in
-      record {
+      let is : sums′ ≡ credited (at parents m) (at sums m) sums = es ∙ ap (λ (x : ℕ). credited x (at sums m) sums) ep in
+      rw is
+      (record {
         done = suc (inv .done);
         all = omega (arith, inv .all);
-        held = holds-turn (length parents) (at parents) own passed (inv .done) m (at sums) (at sums′) (inv .held)
+        held = holds-turn (length parents) (at parents) own passed (inv .done) m (at sums) (at (credited (at parents m) (at sums m) sums)) (inv .held)
             (λ i l. credited-at (at parents m) (at sums m) sums i (omega (arith, inv .all, inv .size))
-            ∙ ap (λ (x : ℕ). at sums i + on (eqb (at parents m) (suc i)) x) (whole-at m inv));
+            ∙ ap (λ (x : ℕ). at sums i + on (eqb (at parents m) (suc i)) x) (whole-at inv));
         size = credited-length (at parents m) (at sums m) sums ∙ inv .size;
-      }
+      })
 
-  -- One turn, in the terms of the code.
+  -- The turn of a node that has nothing to pass on.
+  pub summing-idle : {m : ℕ} {sums : List ℕ} → length start ≡ length parents → beneathAll parents start m ≡ 0 → Summing parents start (suc m) sums → Summing parents start m sums
+  summing-idle {m} {sums} h none inv =
+      summing-at h inv refl (sym (ap (λ (x : ℕ). credited (at parents m) x sums) (whole-at inv ∙ none) ∙ credited-nothing (at parents m) sums))
+
+  -- In the terms of a loop over all nodes.
   pub summing-turn : {n : ℕ} {sums : List ℕ} {parent : ℕ} {sums′ : List ℕ} → length start ≡ length parents → Summing parents start n sums → 0 < n
       → parent ≡ at parents (n - 1) → sums′ ≡ credited parent (at sums (n - 1)) sums → Summing parents start (n - 1) sums′
   summing-turn {n = zero} h inv p ep es = absurd (omega arith)
-  summing-turn {n = suc m} {sums = sums} h inv p ep es = let e : suc m - 1 ≡ m = omega arith in rw (es, ep, e) (turned m sums h inv)
+  summing-turn {n = suc m} h inv p ep es = let e : suc m - 1 ≡ m = omega arith in rw e (summing-at h inv (rw e at ep) (rw e at es))

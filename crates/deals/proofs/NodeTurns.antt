@@ -1,22 +1,25 @@
 -- The turns of a rank's dealing to the nodes, from the first place to the last: a node's amount is set before any child of it is served.
-use mathlib.Core.Path.{_≡_, sym, ap, ap₂, subst, _∙_}
+use mathlib.Core.Path.{_≡_, refl, sym, ap, ap₂, subst, _∙_}
+use mathlib.Core.Bool.{Bool, true, false}
 use mathlib.Core.List.{List}
 use Prim.Native.Nat.{ℕ, suc, _+_, _*_, _-_, _≤_, _<_}
-use native.Mathlib.Nat.{le-trans}
+use native.Mathlib.Nat.{le-refl, le-trans}
 use native.Mathlib.Numerals.{add-one}
 use native.Mathlib.Omega.{arith}
 use lib.Dec.{eqb}
 use lib.ListN.{length, set, length-set}
-use lib.Seq.{getD-set-same, getD-set-other}
+use lib.Seq.{set-getD, getD-set-same, getD-set-other}
 use borrow.Author.Count.{below-more}
-use borrow.Author.Tests.{eq-eqb, ne-eqb}
+use borrow.Author.Tests.{eq-eqb, ne-eqb, eqb-true, eqb-false}
 use Rattle.rooms.specs.Sums.{on}
 use Rattle.rooms.specs.Table.{mostNodes, mostWatts, mostCords, highestRank}
 use Rattle.rooms.proofs.Sums.{on-yes, on-no, sum-suc, sum-cong, sum-zero}
 use Rattle.deals.specs.Figures.{at, cell}
 use Rattle.deals.specs.Split.{part}
-use Rattle.deals.specs.Passes.{weightOf, wholeOf, childrenBefore, overChildren, NodesDealt}
-use Rattle.deals.proofs.Serving.{part-le-amount, sum-within, MayServe, HasServed, Served, served-same, served-amount, served-part, served-next, may-serve}
+use Rattle.deals.specs.Passes.{weightOf, wholeOf, childrenBefore, overChildren, Absent, ActiveNodes, NodesDealt}
+use Rattle.deals.proofs.Lists.{passed-up}
+use Rattle.deals.proofs.Active.{Parted, parted-none, parted-all, parted-at, parted-after, between}
+use Rattle.deals.proofs.Serving.{part-le-amount, serve-none, sum-within, MayServe, HasServed, Served, served-same, served-amount, served-part, served-next, may-serve}
 
 -- What the pass takes of the nodes.
 pub record NodesReady (parents : List ℕ) (level : ℕ) (rows : List (List ℕ)) (pcapmins asked : List ℕ) : Type 0 where
@@ -176,3 +179,72 @@ module _ {parents : List ℕ} {level : ℕ} {rows : List (List ℕ)} {pcapmins a
             (served-next (turn .served) p w parent-within (weightsBefore parents level rows pcapmins (m + 1))
             (λ n. weights-next n ∙ ap₂ (λ (k u : ℕ). weightsBefore parents level rows pcapmins m n + on (eqb k (suc n)) u) hangs (sym weight-is))
             has)
+
+    -- The turn of a node that has no weight and is to have nothing changes nothing.
+    pub turn-idle : weightOf rows level pcapmins m ≡ 0 → at amounts m ≡ 0 → NodeTurn parents level rows pcapmins asked (m + 1) amounts before dealt
+    turn-idle w a = go (eqb (at parents m) 0) refl
+      where
+        same : (v : ℕ) → v ≡ 0 → amounts ≡ set amounts m v
+        same v z = sym (ap (set amounts m) (z ∙ sym a) ∙ set-getD amounts m 0)
+
+        go : (t : Bool) → eqb (at parents m) 0 ≡ t → NodeTurn parents level rows pcapmins asked (m + 1) amounts before dealt
+        go true e = root-next (cell rows m level) (at parents m) refl refl (eqb-true (at parents m) 0 e) (same (weightOf rows level pcapmins m) w) refl refl
+        go false e =
+            let has = eqb-false (at parents m) 0 e in
+            let p : ℕ = at parents m - 1 in
+            let dealt-is = turn .served .dealt-is p (parent-within (cell rows m level) (at parents m) refl refl has) in
+            inner-next (cell rows m level) (at parents m) refl refl has 0
+            (serve-none (at amounts p) (wholeOf pcapmins asked p) (weightOf rows level pcapmins m) p before dealt dealt-is w) (same 0 refl)
+
+-- ---- By the active nodes alone
+
+-- Before the turn of the active node of entry i: a node that is not active has no weight and no amount.
+pub record DealTurn (parents active : List ℕ) (count level : ℕ) (rows : List (List ℕ)) (pcapmins asked : List ℕ) (i : ℕ) (amounts before dealt : List ℕ) : Type 0 where
+  pub nodes : ActiveNodes parents active count
+  pub m : ℕ
+  pub parted : Parted active count i m
+  pub blank : (h : ℕ) → h < length parents → Absent active count h → cell rows h level ≡ 0
+  pub nothing : (h : ℕ) → h < length parents → Absent active count h → at amounts h ≡ 0
+  pub turn : NodeTurn parents level rows pcapmins asked m amounts before dealt
+
+module _ {parents active : List ℕ} {count level : ℕ} {rows : List (List ℕ)} {pcapmins asked : List ℕ} where
+  pub deal-start : {amounts before dealt : List ℕ} → ActiveNodes parents active count → ((h : ℕ) → h < length parents → Absent active count h → cell rows h level ≡ 0)
+      → ((h : ℕ) → h < length parents → at amounts h ≡ 0) → NodeTurn parents level rows pcapmins asked 0 amounts before dealt
+      → DealTurn parents active count level rows pcapmins asked 0 amounts before dealt
+  deal-start nodes blank nothing turn = record { nodes = nodes; m = 0; parted = parted-none; blank = blank; nothing = λ h l none. nothing h l; turn = turn }
+
+  module _ {i : ℕ} {amounts before dealt : List ℕ} (t : DealTurn parents active count level rows pcapmins asked i amounts before dealt) where
+    passed : (n : ℕ) → Parted active count i n → t .m ≤ n → n ≤ length parents → NodeTurn parents level rows pcapmins asked n amounts before dealt
+    passed n parted l within =
+        passed-up (λ h. NodeTurn parents level rows pcapmins asked h amounts before dealt) (t .m) n l
+        (λ h a b turn.
+        let none = between (t .parted) parted h a b in
+        turn-idle turn (omega arith) (omega (arith, t .blank h (omega arith) none)) (t .nothing h (omega arith) none))
+        (t .turn)
+
+    pub deal-end : count ≤ i → NodesDealt parents level rows pcapmins asked amounts before dealt
+    deal-end end =
+        let e : count ≡ i = omega (arith, t .parted .reached) in
+        let all : Parted active count i (length parents) = subst (λ (k : ℕ). Parted active count k (length parents)) e (parted-all (t .nodes)) in
+        nodes-end (passed (length parents) all (t .turn .reached) (le-refl (length parents))) (le-refl (length parents))
+
+    -- The turn of the active node of entry i.
+    module _ (more : i < count) {n : ℕ} (is : n ≡ at active i) where
+      pub deal-within : n < length parents
+      deal-within = omega (arith, t .nodes .within i more)
+
+      pub deal-here : NodeTurn parents level rows pcapmins asked n amounts before dealt
+      deal-here =
+          let parted : Parted active count i n = rw (sym is) at (parted-at (t .nodes) i more) in
+          passed n parted (omega (arith, t .parted .from i (le-refl i) more)) (omega (arith, deal-within))
+
+      pub deal-next : (v : ℕ) {amounts′ before′ dealt′ : List ℕ} → amounts′ ≡ set amounts n v → NodeTurn parents level rows pcapmins asked (n + 1) amounts′ before′ dealt′
+          → DealTurn parents active count level rows pcapmins asked (i + 1) amounts′ before′ dealt′
+      deal-next v e turn = record {
+        nodes = t .nodes;
+        m = n + 1;
+        parted = rw (sym is) at (parted-after (t .nodes) i more);
+        blank = t .blank;
+        nothing = λ h l none. ap (λ (k : List ℕ). at k h) e ∙ getD-set-other amounts n h v 0 (λ q. none i more (sym is ∙ sym q)) ∙ t .nothing h l none;
+        turn = turn;
+      }

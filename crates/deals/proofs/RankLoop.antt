@@ -1,37 +1,28 @@
--- The loop over the ranks: what it keeps, what each pass of a rank asks, and what a turn leaves.
-use mathlib.Core.Path.{_≡_, sym, ap, _∙_, subst}
+-- One rank of a deal, pass by pass: what each pass asks, and what they leave together. Then the loop over the ranks.
+use mathlib.Core.Path.{_≡_, refl, sym, ap, _∙_, subst}
+use mathlib.Core.Bool.{Bool, true, false}
 use mathlib.Core.List.{List, []}
-use Prim.Native.Nat.{ℕ, suc, _+_, _-_, _*_, _/_, _≤_, _<_}
+use Prim.Native.Nat.{ℕ, zero, suc, _+_, _-_, _*_, _/_, _≤_, _<_}
 use native.Mathlib.Omega.{arith}
+use lib.Dec.{eqb}
 use lib.ListN.{length, take, replicate, length-replicate, getD-replicate}
 use lib.Seq.{length-take-le}
+use borrow.Author.Tests.{eqb-true}
 use Rattle.rooms.specs.Sums.{on, sum}
 use Rattle.rooms.specs.Table.{mostNodes, mostCords, mostWatts, highestRank}
 use Rattle.rooms.specs.Limits.{beneath}
 use Rattle.rooms.specs.Credits.{sumBeneath}
+use Rattle.rooms.proofs.Sums.{sum-cong, sum-zero}
+use Rattle.rooms.proofs.Trees.{kids, down}
 use Rattle.deals.specs.Figures.{at, cell}
 use Rattle.deals.specs.Metrics.{dealFrom}
 use Rattle.deals.specs.Dealing.{granted}
-use Rattle.deals.specs.Passes.{NodeLists, CordLists, LowsWithin, Linked, ChainOf, FullRows, onNode, overChildren, Gathered, weightOf, wholeOf, NodesDealt, cordsBefore, CordsDealt}
+use Rattle.deals.specs.Passes.{NodeLists, CordLists, LowsWithin, DealLists, Linked, ChainOf, NodeMarks, Listed, Absent, NodeFigures, RankLists, RanksDealt, FullRows, onNode, overChildren, Gathered, weightOf, wholeOf, NodesDealt, cordsBefore, CordsDealt}
+use Rattle.deals.proofs.NodeSums.{kids-none}
 use Rattle.deals.proofs.Links.{chain-of, no-cord}
-use Rattle.deals.proofs.Ranks.{State, state-start, state-end, state-skip, lows-sum, wants-sum, gather-asks, nodes-ask, cords-ask, cords-room, state-turn}
-
--- Before the ranks below `above`.
-pub record RankLoop (parents limits nodes levels lows wants : List ℕ) (first next : List ℕ) (above : ℕ) (rows : List (List ℕ)) (left lower pcapmins asked amounts before dealt grants : List ℕ) : Type 0 where
-  pub ns : NodeLists parents limits
-  pub cs : CordLists (length parents) nodes levels lows wants
-  pub lw : LowsWithin parents limits nodes lows
-  pub linked : Linked levels first next
-  pub full : FullRows rows
-  pub state : State parents limits nodes levels lows wants ns cs lw above left lower grants
-  pub left-size : length left ≡ length parents
-  pub lower-size : length lower ≡ length parents
-  pub pcapmins-size : length pcapmins ≡ length parents
-  pub asked-size : length asked ≡ length parents
-  pub amounts-size : length amounts ≡ length parents
-  pub before-size : length before ≡ length parents
-  pub dealt-size : length dealt ≡ length parents
-  pub grants-size : length grants ≡ length nodes
+use Rattle.deals.proofs.Active.{active-nodes, cords-active}
+use Rattle.deals.proofs.Gathering.{Idle}
+use Rattle.deals.proofs.Ranks.{State, state-of, ranks-dealt, state-start, state-end, state-skip, lows-sum, wants-sum, gather-asks, nodes-ask, cords-ask, cords-room, state-turn}
 
 -- ---- Lists of zeros, as they are lent at first
 
@@ -49,184 +40,287 @@ zeros-rows = (
   λ m l. ap length (getD-replicate mostNodes m (zeros highestRank) [] l) ∙ length-replicate {A = ℕ} highestRank 0,
 )
 
--- ---- Before the first rank
+zeros-at : (k j : ℕ) → at (zeros k) j ≡ 0
+unfolding zeros
+zeros-at zero j = refl
+zeros-at (suc k) zero = refl
+zeros-at (suc k) (suc j) = zeros-at k j
 
-module _ {nodeCount : ℕ} {nodes levels lows wants : List ℕ} (cs : CordLists nodeCount nodes levels lows wants) where
+rows-at : (row : List ℕ) → ((j : ℕ) → at row j ≡ 0) → (k n j : ℕ) → cell (replicate k row) n j ≡ 0
+rows-at row z zero n j = refl
+rows-at row z (suc k) zero j = z j
+rows-at row z (suc k) (suc n) j = rows-at row z k n j
+
+pub zeros-cells : (n j : ℕ) → cell (replicate mostNodes (replicate highestRank 0)) n j ≡ 0
+unfolding zeros
+zeros-cells n j = rows-at (zeros highestRank) (zeros-at highestRank) mostNodes n j
+
+-- ---- One rank
+
+-- The cords' lows and wants at a level, summed on the nodes that they hang on.
+pub record Summed (nodes levels lows wants : List ℕ) (level count : ℕ) (pcapmins asked : List ℕ) : Type 0 where
+  pub pcapmins-size : length pcapmins ≡ count
+  pub asked-size : length asked ≡ count
+  pub on-lows : (n : ℕ) → n < count → at pcapmins n ≡ onNode nodes levels lows level n
+  pub on-wants : (n : ℕ) → n < count → at asked n ≡ onNode nodes levels wants level n
+
+module _ {parents limits nodes levels lows wants next : List ℕ} {level from : ℕ} {active : List ℕ} {count : ℕ} {rows : List (List ℕ)} {left lower pcapmins asked amounts before dealt grants : List ℕ}
+    (given : RankLists parents limits nodes levels lows wants next level from active count rows left lower pcapmins asked amounts before dealt grants) where
+  ns : NodeLists parents limits
+  ns = given .lists .of-nodes
+
+  cs : CordLists (length parents) nodes levels lows wants
+  cs = given .lists .of-cords
+
+  lw : LowsWithin parents limits nodes lows
+  lw = given .lists .lows-within
+
+  state : State parents limits nodes levels lows wants ns cs lw (suc level) left lower grants
+  state = state-of parents limits nodes levels lows wants ns cs lw (given .ranks)
+
+  -- What `sum_cords` asks, and what it leaves.
+  pub cords-fit : CordLists (length pcapmins) nodes levels lows wants
+  cords-fit = subst (λ (n : ℕ). CordLists n nodes levels lows wants) (sym (given .figures .pcapmins-size)) cs
+
+  pub asked-fits : length asked ≡ length pcapmins
+  asked-fits = given .figures .asked-size ∙ sym (given .figures .pcapmins-size)
+
+  pub summed : (pcapmins₁ asked₁ : List ℕ) → length pcapmins₁ ≡ length pcapmins → length asked₁ ≡ length asked
+      → ((n : ℕ) → n < length pcapmins → at pcapmins₁ n ≡ onNode nodes levels lows level n)
+      → ((n : ℕ) → n < length pcapmins → at asked₁ n ≡ onNode nodes levels wants level n)
+      → Summed nodes levels lows wants level (length parents) pcapmins₁ asked₁
+  summed pcapmins₁ asked₁ p a on-lows on-wants = record {
+    pcapmins-size = p ∙ given .figures .pcapmins-size;
+    asked-size = a ∙ given .figures .asked-size;
+    on-lows = λ n l. on-lows n (omega (arith, given .figures .pcapmins-size));
+    on-wants = λ n l. on-wants n (omega (arith, given .figures .pcapmins-size));
+  }
+
+  module _ {pcapmins₁ asked₁ : List ℕ} (sums : Summed nodes levels lows wants level (length parents) pcapmins₁ asked₁) where
+    -- No cord of the level hangs on a node that is not active.
+    none-on : (figures : List ℕ) (n : ℕ) → Absent active count n → onNode nodes levels figures level n ≡ 0
+    none-on figures n none = sum-cong (length nodes) _ _ (λ c l. here c l (eqb (at nodes c) (suc n)) refl (eqb (at levels c) level) refl) ∙ sum-zero (length nodes)
+      where
+        here : (c : ℕ) → c < length nodes → (t : Bool) → eqb (at nodes c) (suc n) ≡ t → (u : Bool) → eqb (at levels c) level ≡ u → on t (on u (at figures c)) ≡ 0
+        here c l true e true q = absurd (given .cords-active c n l (eqb-true (at levels c) level q) (eqb-true (at nodes c) (suc n) e) none)
+        here c l true e false q = refl
+        here c l false e u q = refl
+
+    -- What `gather` asks.
+    pub gather-nodes : (length parents ≤ 512) × (level < highestRank) × ((m : ℕ) → m < length parents → at parents m ≤ m)
+    gather-nodes = (ns .few, omega (arith, state .sum-is), ns .rises)
+
+    pub gather-sizes : (length left ≡ length parents) × (length lower ≡ length parents) × (length pcapmins₁ ≡ length parents) × (length asked₁ ≡ length parents)
+    gather-sizes = (given .figures .left-size, given .figures .lower-size, sums .pcapmins-size, sums .asked-size)
+
+    pub gather-sums : (sum (length parents) (at pcapmins₁) ≤ mostCords * mostWatts) × (sum (length parents) (at asked₁) ≤ mostCords * mostWatts)
+    gather-sums = (
+      lows-sum parents limits nodes levels lows wants ns cs lw level left lower grants state pcapmins₁ asked₁ (sums .on-lows) (sums .on-wants),
+      wants-sum parents limits nodes levels lows wants ns cs lw level left lower grants state pcapmins₁ asked₁ (sums .on-lows) (sums .on-wants),
+    )
+
+    pub gather-room : (n : ℕ) → n < length parents → (at left n ≤ mostWatts) × (sumBeneath (at parents) (length parents) (at pcapmins₁) n ≤ at lower n)
+        × (at lower n ≤ at left n + sumBeneath (at parents) (length parents) (at pcapmins₁) n)
+    gather-room = gather-asks parents limits nodes levels lows wants ns cs lw level left lower grants state pcapmins₁ asked₁ (sums .on-lows) (sums .on-wants)
+
+    pub gather-idle : Idle parents active count level pcapmins₁ asked₁ rows
+    gather-idle n l none = (sums .on-lows n l ∙ none-on lows n none, sums .on-wants n l ∙ none-on wants n none, given .ranks .blank n level (omega arith))
+
+    -- The lists after it.
+    pub gathered-sizes : {rows₁ : List (List ℕ)} {left₁ lower₁ pcapmins₂ asked₂ : List ℕ} → Gathered parents level left lower pcapmins₁ asked₁ rows left₁ lower₁ pcapmins₂ asked₂ rows₁
+        → length left₁ ≡ length left → length lower₁ ≡ length lower → length pcapmins₂ ≡ length pcapmins₁ → length asked₂ ≡ length asked₁
+        → NodeFigures (length parents) left₁ lower₁ pcapmins₂ asked₂ amounts before dealt
+    gathered-sizes g l o p a = record {
+      left-size = l ∙ given .figures .left-size;
+      lower-size = o ∙ given .figures .lower-size;
+      pcapmins-size = p ∙ sums .pcapmins-size;
+      asked-size = a ∙ sums .asked-size;
+      amounts-size = given .figures .amounts-size;
+      before-size = given .figures .before-size;
+      dealt-size = given .figures .dealt-size;
+    }
+
+    module _ {rows₁ : List (List ℕ)} {left₁ lower₁ pcapmins₂ asked₂ : List ℕ} (sizes : NodeFigures (length parents) left₁ lower₁ pcapmins₂ asked₂ amounts before dealt)
+        (g : Gathered parents level left lower pcapmins₁ asked₁ rows left₁ lower₁ pcapmins₂ asked₂ rows₁) where
+      -- What `deal_nodes` asks.
+      pub nodes-sizes : (length pcapmins₂ ≡ length parents) × (length asked₂ ≡ length parents) × (length amounts ≡ length parents) × (length before ≡ length parents) × (length dealt ≡ length parents)
+      nodes-sizes = (sizes .pcapmins-size, sizes .asked-size, sizes .amounts-size, sizes .before-size, sizes .dealt-size)
+
+      pub nodes-room : (n : ℕ) → n < length parents → (at pcapmins₂ n ≤ cell rows₁ n level) × (cell rows₁ n level ≤ mostWatts) × (at pcapmins₂ n ≤ at asked₂ n)
+          × (at asked₂ n ≤ mostCords * mostWatts) × (overChildren parents (weightOf rows₁ level pcapmins₂) n ≤ wholeOf pcapmins₂ asked₂ n)
+      nodes-room =
+          nodes-ask parents limits nodes levels lows wants ns cs lw level left lower grants state pcapmins₁ asked₁ (sums .on-lows) (sums .on-wants) rows rows₁ left₁ lower₁ pcapmins₂ asked₂ g
+
+      pub nodes-blank : (n : ℕ) → n < length parents → Absent active count n → cell rows₁ n level ≡ 0
+      unfolding kids
+      nodes-blank = down (length parents) (λ n. Absent active count n → cell rows₁ n level ≡ 0) (λ n l below none.
+          omega (
+            arith,
+            g .request n l,
+            g .children n l,
+            gather-idle n l none .1,
+            kids-none (length parents) (at parents) n (λ m. cell rows₁ m level) (λ m h e. below m h (omega (arith, ns .rises m h)) (given .nodes-active .closed m n h e none)),
+          ))
+
+      -- The lists after it.
+      pub dealt-sizes : {amounts₁ before₁ dealt₁ : List ℕ} → NodesDealt parents level rows₁ pcapmins₂ asked₂ amounts₁ before₁ dealt₁
+          → length amounts₁ ≡ length amounts → length before₁ ≡ length before → length dealt₁ ≡ length dealt
+          → NodeFigures (length parents) left₁ lower₁ pcapmins₂ asked₂ amounts₁ before₁ dealt₁
+      dealt-sizes nd a b d = record {
+        left-size = sizes .left-size;
+        lower-size = sizes .lower-size;
+        pcapmins-size = sizes .pcapmins-size;
+        asked-size = sizes .asked-size;
+        amounts-size = a ∙ sizes .amounts-size;
+        before-size = b ∙ sizes .before-size;
+        dealt-size = d ∙ sizes .dealt-size;
+      }
+
+      module _ {amounts₁ before₁ dealt₁ : List ℕ} (sizes₁ : NodeFigures (length parents) left₁ lower₁ pcapmins₂ asked₂ amounts₁ before₁ dealt₁)
+          (nd : NodesDealt parents level rows₁ pcapmins₂ asked₂ amounts₁ before₁ dealt₁) where
+        -- What `deal_cords` asks.
+        pub cords-lists : CordLists (length amounts₁) nodes levels lows wants
+        cords-lists = subst (λ (n : ℕ). CordLists n nodes levels lows wants) (sym (sizes₁ .amounts-size)) cs
+
+        pub cords-sizes : (length pcapmins₂ ≡ length amounts₁) × (length asked₂ ≡ length amounts₁) × (length before₁ ≡ length amounts₁) × (length dealt₁ ≡ length amounts₁) × (length grants ≡ length nodes)
+        cords-sizes = (
+          sizes₁ .pcapmins-size ∙ sym (sizes₁ .amounts-size),
+          sizes₁ .asked-size ∙ sym (sizes₁ .amounts-size),
+          sizes₁ .before-size ∙ sym (sizes₁ .amounts-size),
+          sizes₁ .dealt-size ∙ sym (sizes₁ .amounts-size),
+          given .lists .grants-size,
+        )
+
+        pub cords-figures : (n : ℕ) → n < length amounts₁ → (at amounts₁ n ≤ mostWatts) × (at pcapmins₂ n ≤ at asked₂ n) × (at asked₂ n ≤ mostCords * mostWatts)
+            × (at dealt₁ n ≡ at amounts₁ n * at before₁ n / wholeOf pcapmins₂ asked₂ n)
+        cords-figures n l =
+            cords-ask parents limits nodes levels lows wants ns cs lw level left lower grants state pcapmins₁ asked₁ (sums .on-lows) (sums .on-wants) rows rows₁ left₁ lower₁ pcapmins₂ asked₂ g
+            amounts₁ before₁ dealt₁ nd n (omega (arith, sizes₁ .amounts-size))
+
+        pub cords-weights : (n : ℕ) → n < length amounts₁ → at before₁ n + cordsBefore nodes levels lows wants level n (length nodes) ≤ wholeOf pcapmins₂ asked₂ n
+        cords-weights n l =
+            cords-room parents limits nodes levels lows wants ns cs lw level left lower grants state pcapmins₁ asked₁ (sums .on-lows) (sums .on-wants) rows rows₁ left₁ lower₁ pcapmins₂ asked₂ g
+            amounts₁ before₁ dealt₁ nd n (omega (arith, sizes₁ .amounts-size))
+
+        -- What the four leave.
+        pub rank-dealt : {grants₁ : List ℕ} → CordsDealt nodes levels lows wants level pcapmins₂ asked₂ amounts₁ before₁ grants grants₁
+            → RanksDealt (dealFrom parents limits nodes levels lows wants) level rows₁ left₁ lower₁ grants₁
+        rank-dealt {grants₁} cd =
+            ranks-dealt parents limits nodes levels lows wants ns cs lw
+            (state-turn parents limits nodes levels lows wants ns cs lw level left lower grants state pcapmins₁ asked₁ (sums .on-lows) (sums .on-wants) rows rows₁ left₁ lower₁ pcapmins₂ asked₂ g
+            amounts₁ before₁ dealt₁ nd grants₁ cd)
+            (λ n j l. g .others n j (λ e. omega arith) ∙ given .ranks .blank n j (omega arith)) (g .full)
+
+-- ---- The loop over the ranks
+
+-- Before the ranks below `above`.
+pub record RankLoop (parents limits nodes levels lows wants first next marks : List ℕ) (above : ℕ) (active : List ℕ) (rows : List (List ℕ)) (left lower pcapmins asked amounts before dealt grants : List ℕ) : Type 0 where
+  pub lists : DealLists parents limits nodes levels lows wants (length grants)
+  pub linked : Linked levels first next
+  pub marks-size : length marks ≡ length parents
+  pub active-size : length active ≡ length parents
+  pub marked : NodeMarks parents nodes levels marks
+  pub figures : NodeFigures (length parents) left lower pcapmins asked amounts before dealt
+  pub ranks : RanksDealt (dealFrom parents limits nodes levels lows wants) above rows left lower grants
+
+module _ {parents limits nodes levels lows wants : List ℕ} {grantCount : ℕ} (lists : DealLists parents limits nodes levels lows wants grantCount) where
   pub levels-rank : (c : ℕ) → c < length levels → at levels c < highestRank
-  levels-rank c l = cs .ranked c (omega (arith, cs .levels-size))
+  levels-rank c l = lists .of-cords .ranked c (omega (arith, lists .of-cords .levels-size))
 
-  pub lows-hang : (c : ℕ) → c < length nodes → (1 ≤ at nodes c) × (at nodes c ≤ nodeCount) × (at lows c ≤ mostWatts)
-  lows-hang c l = (cs .hangs c l, cs .within c l, omega (arith, cs .ordered c l, cs .most c l))
+  pub levels-few : length levels ≤ mostCords
+  levels-few = omega (arith, lists .of-cords .few, lists .of-cords .levels-size)
 
-pub loop-start : {parents limits nodes levels lows wants : List ℕ} {first next : List ℕ} {rows : List (List ℕ)} {left lower pcapmins asked amounts before dealt grants : List ℕ}
-    (ns : NodeLists parents limits) (cs : CordLists (length parents) nodes levels lows wants) (lw : LowsWithin parents limits nodes lows)
-    → Linked levels first next → FullRows rows → left ≡ limits
-    → ((n : ℕ) → n < length parents → at lower n ≡ sum (length nodes) (λ c. on (beneath (at parents) (length parents) n (at nodes c)) (at lows c)))
-    → length lower ≡ length parents → length pcapmins ≡ length parents → length asked ≡ length parents → length amounts ≡ length parents → length before ≡ length parents → length dealt ≡ length parents
-    → length grants ≡ length nodes → RankLoop parents limits nodes levels lows wants first next 16 rows left lower pcapmins asked amounts before dealt grants
-loop-start {parents = parents} {limits = limits} {nodes = nodes} {levels = levels} {lows = lows} {wants = wants} {left = left} {lower = lower} {grants = grants} ns cs lw linked full is sums lower-size pcapmins-size asked-size amounts-size before-size dealt-size grants-size = record {
-  ns = ns;
-  cs = cs;
-  lw = lw;
-  linked = linked;
-  full = full;
-  state = state-start parents limits nodes levels lows wants ns cs lw left lower grants is sums;
-  left-size = ap length is ∙ ns .limits-size;
-  lower-size = lower-size;
-  pcapmins-size = pcapmins-size;
-  asked-size = asked-size;
-  amounts-size = amounts-size;
-  before-size = before-size;
-  dealt-size = dealt-size;
-  grants-size = grants-size;
-}
+  pub cords-within : (c : ℕ) → c < length nodes → (at nodes c ≤ length parents) × (at levels c < highestRank)
+  cords-within c l = (lists .of-cords .within c l, lists .of-cords .ranked c l)
 
--- ---- A turn
+  pub lows-hang : (c : ℕ) → c < length nodes → (1 ≤ at nodes c) × (at nodes c ≤ length parents) × (at lows c ≤ mostWatts)
+  lows-hang c l = (lists .of-cords .hangs c l, lists .of-cords .within c l, omega (arith, lists .of-cords .ordered c l, lists .of-cords .most c l))
+
+  -- Before the first rank.
+  pub ranks-start : {rows : List (List ℕ)} {left lower : List ℕ} (grants : List ℕ) → FullRows rows → ((n j : ℕ) → cell rows n j ≡ 0) → left ≡ limits
+      → ((n : ℕ) → n < length parents → at lower n ≡ sum (length nodes) (λ c. on (beneath (at parents) (length parents) n (at nodes c)) (at lows c)))
+      → RanksDealt (dealFrom parents limits nodes levels lows wants) highestRank rows left lower grants
+  ranks-start grants full blank is sums =
+      ranks-dealt parents limits nodes levels lows wants (lists .of-nodes) (lists .of-cords) (lists .lows-within)
+      (state-start parents limits nodes levels lows wants (lists .of-nodes) (lists .of-cords) (lists .lows-within) _ _ grants is sums) (λ n j l. blank n j) full
 
 -- A number above 0 is one more than the number before it.
 pub one-more : (n : ℕ) → 0 < n → n ≡ suc (n - 1)
 one-more n h = omega arith
 
-module _ {parents limits nodes levels lows wants : List ℕ} {first next : List ℕ} {above : ℕ} {rows : List (List ℕ)} {left lower pcapmins asked amounts before dealt grants : List ℕ}
-    (inv : RankLoop parents limits nodes levels lows wants first next above rows left lower pcapmins asked amounts before dealt grants) where
+module _ {parents limits nodes levels lows wants first next marks : List ℕ} {above : ℕ} {active : List ℕ} {rows : List (List ℕ)} {left lower pcapmins asked amounts before dealt grants : List ℕ}
+    (inv : RankLoop parents limits nodes levels lows wants first next marks above active rows left lower pcapmins asked amounts before dealt grants) where
   -- After the last rank.
   pub loop-end : above ≤ 0 → grants ≡ granted (dealFrom parents limits nodes levels lows wants)
   loop-end h =
       let z : above ≡ 0 = omega arith in
-      state-end parents limits nodes levels lows wants (inv .ns) (inv .cs) (inv .lw) left lower grants (inv .grants-size)
-      (subst (λ (a : ℕ). State parents limits nodes levels lows wants (inv .ns) (inv .cs) (inv .lw) a left lower grants) z (inv .state))
+      let lists = inv .lists in
+      state-end parents limits nodes levels lows wants (lists .of-nodes) (lists .of-cords) (lists .lows-within) left lower grants (lists .grants-size)
+      (subst (λ (a : ℕ). State parents limits nodes levels lows wants (lists .of-nodes) (lists .of-cords) (lists .lows-within) a left lower grants) z
+      (state-of parents limits nodes levels lows wants (lists .of-nodes) (lists .of-cords) (lists .lows-within) (inv .ranks)))
 
-  pub cords-fit : CordLists (length pcapmins) nodes levels lows wants
-  cords-fit = subst (λ (n : ℕ). CordLists n nodes levels lows wants) (sym (inv .pcapmins-size)) (inv .cs)
+  module _ (some : 0 < above) where
+    abbrev level : ℕ
+    level = above - 1
 
-  pub asked-fits : length asked ≡ length pcapmins
-  asked-fits = inv .asked-size ∙ sym (inv .pcapmins-size)
+    pub level-fits : level < highestRank
+    unfolding dealFrom
+    level-fits = omega (arith, inv .ranks .some-left)
 
-  pub level-fits : above - 1 < highestRank
-  level-fits = omega (arith, inv .state .sum-is)
-
-  module _ (j : ℕ) (e : above ≡ suc j) where
-    at-level : State parents limits nodes levels lows wants (inv .ns) (inv .cs) (inv .lw) (suc j) left lower grants
-    at-level = subst (λ (a : ℕ). State parents limits nodes levels lows wants (inv .ns) (inv .cs) (inv .lw) a left lower grants) e (inv .state)
-
-    fits : j < highestRank
-    fits = omega (arith, inv .state .sum-is)
-
-    -- The links of the rank.
-    pub chain-here : (from : ℕ) → from ≡ at first j → ChainOf levels next j from
-    chain-here from is = chain-of (inv .linked) j fits is
+    at-level : RanksDealt (dealFrom parents limits nodes levels lows wants) (suc level) rows left lower grants
+    at-level = subst (λ (a : ℕ). RanksDealt (dealFrom parents limits nodes levels lows wants) a rows left lower grants) (one-more above some) (inv .ranks)
 
     -- A rank that no cord has.
-    pub loop-skip : (from : ℕ) → from ≡ at first j → length nodes ≤ from → RankLoop parents limits nodes levels lows wants first next j rows left lower pcapmins asked amounts before dealt grants
-    loop-skip from is none = record {
-      ns = inv .ns;
-      cs = inv .cs;
-      lw = inv .lw;
-      linked = inv .linked;
-      full = inv .full;
-      state = state-skip parents limits nodes levels lows wants (inv .ns) (inv .cs) (inv .lw) j left lower grants
-          (λ c l. no-cord (inv .linked) j fits is (omega (arith, inv .cs .levels-size)) c (omega (arith, inv .cs .levels-size))) at-level;
-      left-size = inv .left-size;
-      lower-size = inv .lower-size;
-      pcapmins-size = inv .pcapmins-size;
-      asked-size = inv .asked-size;
-      amounts-size = inv .amounts-size;
-      before-size = inv .before-size;
-      dealt-size = inv .dealt-size;
-      grants-size = inv .grants-size;
+    pub loop-skip : {from : ℕ} → from ≡ at first level → length nodes ≤ from → RankLoop parents limits nodes levels lows wants first next marks level active rows left lower pcapmins asked amounts before dealt grants
+    loop-skip is none =
+        let lists = inv .lists in
+        let n = lists .of-nodes in
+        let k = lists .of-cords in
+        record {
+          lists = lists;
+          linked = inv .linked;
+          marks-size = inv .marks-size;
+          active-size = inv .active-size;
+          marked = inv .marked;
+          figures = inv .figures;
+          ranks = ranks-dealt parents limits nodes levels lows wants n k (lists .lows-within)
+              (state-skip parents limits nodes levels lows wants n k (lists .lows-within) level left lower grants
+              (λ c l. no-cord (inv .linked) level level-fits is (omega (arith, k .levels-size)) c (omega (arith, k .levels-size)))
+              (state-of parents limits nodes levels lows wants n k (lists .lows-within) at-level))
+              (λ m j l. inv .ranks .blank m j (omega arith)) (inv .ranks .full);
+        }
+
+    -- What one rank asks, once its nodes are listed.
+    pub rank-lists : {from count : ℕ} {active₁ : List ℕ} → from ≡ at first level → Listed marks level active₁ count
+        → RankLists parents limits nodes levels lows wants next level from active₁ count rows left lower pcapmins asked amounts before dealt grants
+    rank-lists is listed = record {
+      lists = inv .lists;
+      chain = chain-of (inv .linked) level level-fits is;
+      nodes-active = active-nodes (inv .marks-size) (inv .marked) listed (inv .lists .of-nodes .rises);
+      cords-active = cords-active (inv .marks-size) (inv .marked) listed (inv .lists .of-cords .within);
+      figures = inv .figures;
+      ranks = at-level;
     }
 
-    module _ (pcapmins₁ asked₁ : List ℕ) (pcapmins₁-size : length pcapmins₁ ≡ length pcapmins) (asked₁-size : length asked₁ ≡ length asked)
-        (on-lows : (n : ℕ) → n < length pcapmins → at pcapmins₁ n ≡ onNode nodes levels lows j n)
-        (on-wants : (n : ℕ) → n < length pcapmins → at asked₁ n ≡ onNode nodes levels wants j n) where
-      ol : (n : ℕ) → n < length parents → at pcapmins₁ n ≡ onNode nodes levels lows j n
-      ol n l = on-lows n (omega (arith, inv .pcapmins-size))
-
-      ow : (n : ℕ) → n < length parents → at asked₁ n ≡ onNode nodes levels wants j n
-      ow n l = on-wants n (omega (arith, inv .pcapmins-size))
-
-      -- What `gather` asks.
-      pub gather-nodes : (length parents ≤ 512) × (j < highestRank) × ((m : ℕ) → m < length parents → at parents m ≤ m)
-      gather-nodes = (inv .ns .few, fits, inv .ns .rises)
-
-      pub gather-sizes : (length left ≡ length parents) × (length lower ≡ length parents) × (length pcapmins₁ ≡ length parents) × (length asked₁ ≡ length parents)
-      gather-sizes = (inv .left-size, inv .lower-size, pcapmins₁-size ∙ inv .pcapmins-size, asked₁-size ∙ inv .asked-size)
-
-      pub gather-sums : (sum (length parents) (at pcapmins₁) ≤ mostCords * mostWatts) × (sum (length parents) (at asked₁) ≤ mostCords * mostWatts)
-      gather-sums = (
-        lows-sum parents limits nodes levels lows wants (inv .ns) (inv .cs) (inv .lw) j left lower grants at-level pcapmins₁ asked₁ ol ow,
-        wants-sum parents limits nodes levels lows wants (inv .ns) (inv .cs) (inv .lw) j left lower grants at-level pcapmins₁ asked₁ ol ow,
-      )
-
-      pub gather-room : (n : ℕ) → n < length parents → (at left n ≤ mostWatts) × (sumBeneath (at parents) (length parents) (at pcapmins₁) n ≤ at lower n)
-          × (at lower n ≤ at left n + sumBeneath (at parents) (length parents) (at pcapmins₁) n)
-      gather-room = gather-asks parents limits nodes levels lows wants (inv .ns) (inv .cs) (inv .lw) j left lower grants at-level pcapmins₁ asked₁ ol ow
-
-      module _ {rows₁ : List (List ℕ)} {left₁ lower₁ pcapmins₂ asked₂ : List ℕ} (left₁-size : length left₁ ≡ length left) (lower₁-size : length lower₁ ≡ length lower)
-          (pcapmins₂-size : length pcapmins₂ ≡ length pcapmins₁) (asked₂-size : length asked₂ ≡ length asked₁)
-          (g : Gathered parents j left lower pcapmins₁ asked₁ rows left₁ lower₁ pcapmins₂ asked₂ rows₁) where
-        -- What `deal_nodes` asks.
-        pub nodes-sizes : (length pcapmins₂ ≡ length parents) × (length asked₂ ≡ length parents) × (length amounts ≡ length parents) × (length before ≡ length parents) × (length dealt ≡ length parents)
-        nodes-sizes = (
-          pcapmins₂-size ∙ pcapmins₁-size ∙ inv .pcapmins-size,
-          asked₂-size ∙ asked₁-size ∙ inv .asked-size,
-          inv .amounts-size,
-          inv .before-size,
-          inv .dealt-size,
-        )
-
-        pub nodes-room : (n : ℕ) → n < length parents → (at pcapmins₂ n ≤ cell rows₁ n j) × (cell rows₁ n j ≤ mostWatts) × (at pcapmins₂ n ≤ at asked₂ n)
-            × (at asked₂ n ≤ mostCords * mostWatts) × (overChildren parents (weightOf rows₁ j pcapmins₂) n ≤ wholeOf pcapmins₂ asked₂ n)
-        nodes-room =
-            nodes-ask parents limits nodes levels lows wants (inv .ns) (inv .cs) (inv .lw) j left lower grants at-level pcapmins₁ asked₁ ol ow rows rows₁ left₁ lower₁ pcapmins₂ asked₂ g
-
-        module _ {amounts₁ before₁ dealt₁ : List ℕ} (amounts₁-size : length amounts₁ ≡ length amounts) (before₁-size : length before₁ ≡ length before)
-            (dealt₁-size : length dealt₁ ≡ length dealt) (nd : NodesDealt parents j rows₁ pcapmins₂ asked₂ amounts₁ before₁ dealt₁) where
-          many-nodes : length amounts₁ ≡ length parents
-          many-nodes = amounts₁-size ∙ inv .amounts-size
-
-          -- What `deal_cords` asks.
-          pub cords-lists : CordLists (length amounts₁) nodes levels lows wants
-          cords-lists = subst (λ (n : ℕ). CordLists n nodes levels lows wants) (sym many-nodes) (inv .cs)
-
-          pub cords-sizes : (length pcapmins₂ ≡ length amounts₁) × (length asked₂ ≡ length amounts₁) × (length before₁ ≡ length amounts₁) × (length dealt₁ ≡ length amounts₁) × (length grants ≡ length nodes)
-          cords-sizes = (
-            nodes-sizes .0 ∙ sym many-nodes,
-            nodes-sizes .1 ∙ sym many-nodes,
-            before₁-size ∙ inv .before-size ∙ sym many-nodes,
-            dealt₁-size ∙ inv .dealt-size ∙ sym many-nodes,
-            inv .grants-size,
-          )
-
-          pub cords-figures : (n : ℕ) → n < length amounts₁ → (at amounts₁ n ≤ mostWatts) × (at pcapmins₂ n ≤ at asked₂ n) × (at asked₂ n ≤ mostCords * mostWatts)
-              × (at dealt₁ n ≡ at amounts₁ n * at before₁ n / wholeOf pcapmins₂ asked₂ n)
-          cords-figures n l =
-              cords-ask parents limits nodes levels lows wants (inv .ns) (inv .cs) (inv .lw) j left lower grants at-level pcapmins₁ asked₁ ol ow rows rows₁ left₁ lower₁ pcapmins₂ asked₂ g
-              amounts₁ before₁ dealt₁ nd n (omega (arith, many-nodes))
-
-          pub cords-weights : (n : ℕ) → n < length amounts₁ → at before₁ n + cordsBefore nodes levels lows wants j n (length nodes) ≤ wholeOf pcapmins₂ asked₂ n
-          cords-weights n l =
-              cords-room parents limits nodes levels lows wants (inv .ns) (inv .cs) (inv .lw) j left lower grants at-level pcapmins₁ asked₁ ol ow rows rows₁ left₁ lower₁ pcapmins₂ asked₂ g
-              amounts₁ before₁ dealt₁ nd n (omega (arith, many-nodes))
-
-          -- The next rank.
-          pub loop-turn : {before₂ dealt₂ grants₁ : List ℕ} → length before₂ ≡ length before₁ → length dealt₂ ≡ length dealt₁ → length grants₁ ≡ length grants
-              → CordsDealt nodes levels lows wants j pcapmins₂ asked₂ amounts₁ before₁ grants grants₁
-              → RankLoop parents limits nodes levels lows wants first next j rows₁ left₁ lower₁ pcapmins₂ asked₂ amounts₁ before₂ dealt₂ grants₁
-          loop-turn {before₂ = before₂} {dealt₂ = dealt₂} {grants₁ = grants₁} before₂-size dealt₂-size grants₁-size cd = record {
-            ns = inv .ns;
-            cs = inv .cs;
-            lw = inv .lw;
-            linked = inv .linked;
-            full = g .full;
-            state = state-turn parents limits nodes levels lows wants (inv .ns) (inv .cs) (inv .lw) j left lower grants at-level pcapmins₁ asked₁ ol ow rows rows₁ left₁ lower₁ pcapmins₂ asked₂ g
-                amounts₁ before₁ dealt₁ nd grants₁ cd;
-            left-size = left₁-size ∙ inv .left-size;
-            lower-size = lower₁-size ∙ inv .lower-size;
-            pcapmins-size = nodes-sizes .0;
-            asked-size = nodes-sizes .1;
-            amounts-size = many-nodes;
-            before-size = before₂-size ∙ before₁-size ∙ inv .before-size;
-            dealt-size = dealt₂-size ∙ dealt₁-size ∙ inv .dealt-size;
-            grants-size = grants₁-size ∙ inv .grants-size;
-          }
+    -- The next rank.
+    pub loop-turn : {active₁ : List ℕ} {rows₁ : List (List ℕ)} {left₁ lower₁ pcapmins₁ asked₁ amounts₁ before₁ dealt₁ grants₁ : List ℕ} → length active₁ ≡ length active
+        → length left₁ ≡ length left → length lower₁ ≡ length lower → length pcapmins₁ ≡ length pcapmins → length asked₁ ≡ length asked → length amounts₁ ≡ length amounts → length before₁ ≡ length before → length dealt₁ ≡ length dealt
+        → length grants₁ ≡ length grants → RanksDealt (dealFrom parents limits nodes levels lows wants) level rows₁ left₁ lower₁ grants₁
+        → RankLoop parents limits nodes levels lows wants first next marks level active₁ rows₁ left₁ lower₁ pcapmins₁ asked₁ amounts₁ before₁ dealt₁ grants₁
+    loop-turn v l o p a m b d g ranks = record {
+      lists = subst (DealLists parents limits nodes levels lows wants) (sym g) (inv .lists);
+      linked = inv .linked;
+      marks-size = inv .marks-size;
+      active-size = v ∙ inv .active-size;
+      marked = inv .marked;
+      figures = record {
+        left-size = l ∙ inv .figures .left-size;
+        lower-size = o ∙ inv .figures .lower-size;
+        pcapmins-size = p ∙ inv .figures .pcapmins-size;
+        asked-size = a ∙ inv .figures .asked-size;
+        amounts-size = m ∙ inv .figures .amounts-size;
+        before-size = b ∙ inv .figures .before-size;
+        dealt-size = d ∙ inv .figures .dealt-size;
+      };
+      ranks = ranks;
+    }

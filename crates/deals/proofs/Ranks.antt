@@ -13,18 +13,19 @@ use Rattle.rooms.specs.Sums.{on, sum}
 use Rattle.rooms.specs.Table.{mostWatts, mostCords, highestRank}
 use Rattle.rooms.specs.Limits.{beneath}
 use Rattle.rooms.specs.Credits.{sumBeneath}
-use Rattle.rooms.proofs.Sums.{on-no, sum-cong, sum-zero, sum-swap, sum-one, sum-suc, up, up-suc}
+use Rattle.rooms.proofs.Sums.{on-no, sum-cong, sum-zero, sum-swap, sum-one, sum-suc, sum-up, up, up-suc}
 use Rattle.rooms.proofs.Trees.{kids, own, under, under-is, kids-cong, down, rise}
 use Rattle.rooms.proofs.Credits.{sumBeneath-step}
 use Rattle.deals.specs.Figures.{figures, at, cell}
 use Rattle.deals.specs.Metrics.{Deal, dealFrom, metrics, atLevel}
 use Rattle.deals.specs.Split.{part}
 use Rattle.deals.specs.Dealing.{granted, reached}
-use Rattle.deals.specs.Passes.{NodeLists, CordLists, LowsWithin, onNode, childrenBefore, overChildren, Gathered, weightOf, wholeOf, NodesDealt, cordsBefore, CordsDealt}
+use Rattle.deals.specs.Passes.{NodeLists, CordLists, LowsWithin, onNode, childrenBefore, overChildren, Gathered, weightOf, wholeOf, NodesDealt, cordsBefore, CordsDealt, FullRows, RanksDealt}
 use Rattle.deals.proofs.Lists.{sum-most, figures-length}
 use Rattle.deals.proofs.Equations.{Dealable, asked, weights, pcapmin-request, pcapmin-asked, request-asked, requests-left, pcapmin-all, weights-are}
 use Rattle.deals.proofs.Computed.{pcapmin, request, amountOf, measured, dealt, granted-at}
 use Rattle.deals.proofs.Bounds.{asked-most, request-most}
+use Rattle.deals.proofs.NodeSums.{kids-none}
 
 -- ---- One rank of a deal, over functions of the places
 
@@ -66,17 +67,9 @@ module _ (d : Deal) (ok : Dealable d) where
         zero-at : (c : ℕ) → c < cords → on (eqb (node c) (suc n)) (atLevel d j f c) ≡ 0
         zero-at c l = ap (λ (z : ℕ). on (eqb (node c) (suc n)) z) (on-no (eqb (level c) j) (f c) (ne-eqb (level c) j (none c l))) ∙ zero-on (eqb (node c) (suc n))
 
-    kids-none : (n : ℕ) (g : ℕ → ℕ) → ((m : ℕ) → m < nodes → parent m ≡ suc n → g m ≡ 0) → kids nodes parent n g ≡ 0
-    unfolding kids
-    kids-none n g z = sum-cong nodes _ _ (λ m l. go m l (eqb (parent m) (suc n)) refl) ∙ sum-zero nodes
-      where
-        go : (m : ℕ) → m < nodes → (t : Bool) → eqb (parent m) (suc n) ≡ t → on t (g m) ≡ 0
-        go m l true e = z m l (eqb-true (parent m) (suc n) e)
-        go m l false e = refl
-
     pub pcapmin-none : (n : ℕ) → n < nodes → pcapmin d n j ≡ 0
     pcapmin-none = down nodes (λ n. pcapmin d n j ≡ 0) (λ n l ih.
-        omega (arith, measured d ok .lowest n j l h, own-none low n, kids-none n (λ m. pcapmin d m j) (λ m lm q. ih m lm (subst (λ (z : ℕ). z ≤ m) q (ok .rises m lm)))))
+        omega (arith, measured d ok .lowest n j l h, own-none low n, kids-none nodes parent n (λ m. pcapmin d m j) (λ m lm q. ih m lm (subst (λ (z : ℕ). z ≤ m) q (ok .rises m lm)))))
 
     pub request-none : (n : ℕ) → n < nodes → request d n j ≡ 0
     unfolding asked
@@ -85,7 +78,7 @@ module _ (d : Deal) (ok : Dealable d) where
           arith,
           request-asked d ok (pcapmin d) (request d) (measured d ok) n l j h,
           own-none want n,
-          kids-none n (λ m. request d m j) (λ m lm q. ih m lm (subst (λ (z : ℕ). z ≤ m) q (ok .rises m lm))),
+          kids-none nodes parent n (λ m. request d m j) (λ m lm q. ih m lm (subst (λ (z : ℕ). z ≤ m) q (ok .rises m lm))),
         ))
 
 -- ---- The deal of lists
@@ -118,6 +111,29 @@ module _ (parents limits nodes levels lows wants : List ℕ) (ns : NodeLists par
     pub left-is : (n : ℕ) → n < length parents → at left n + up higher above (req n) ≡ at limits n
     pub lower-is : (n : ℕ) → n < length parents → at lower n ≡ sum above (pcap n)
     pub grants-are : (c : ℕ) → c < length nodes → above ≤ at levels c → at grants c ≡ at (granted theDeal) c
+
+  -- The same, as the code's contracts have it.
+  pub state-of : {above : ℕ} {rows : List (List ℕ)} {left lower grants : List ℕ} → RanksDealt theDeal above rows left lower grants → State above left lower grants
+  unfolding dealFrom pcapmin request
+  state-of {above} s = record {
+    higher = highestRank - above;
+    sum-is = omega (arith, s .some-left);
+    left-is = λ n l. omega (arith, s .left-is n l, sum-up (highestRank - above) above highestRank (req n) (omega (arith, s .some-left)));
+    lower-is = s .lower-is;
+    grants-are = s .grants-are;
+  }
+
+  pub ranks-dealt : {above : ℕ} {rows : List (List ℕ)} {left lower grants : List ℕ} → State above left lower grants → ((n j : ℕ) → j < above → cell rows n j ≡ 0) → FullRows rows
+      → RanksDealt theDeal above rows left lower grants
+  unfolding dealFrom pcapmin request
+  ranks-dealt {above} s blank full = record {
+    some-left = omega (arith, s .sum-is);
+    left-is = λ n l. omega (arith, s .left-is n l, sum-up (s .higher) above highestRank (req n) (s .sum-is));
+    lower-is = s .lower-is;
+    grants-are = s .grants-are;
+    blank = blank;
+    full = full;
+  }
 
   -- Before the first rank.
   pub state-start : (left lower grants : List ℕ) → left ≡ limits

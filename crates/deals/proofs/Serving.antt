@@ -73,7 +73,7 @@ pub record Served (count : ℕ) (whole : ℕ → ℕ) (amounts : List ℕ) (weig
 dealt-none : (x e b : ℕ) → b ≡ 0 → x * b / e ≡ 0
 dealt-none x e b z = ap (λ (y : ℕ). x * y / e) z ∙ ap (λ (y : ℕ). y / e) (mul-zero x) ∙ zero-div e
 
-cleared-at : (l₀ l : List ℕ) (n : ℕ) → l ≡ replicate (length l₀) 0 → n < length l₀ → at l n ≡ 0
+pub cleared-at : (l₀ l : List ℕ) (n : ℕ) → l ≡ replicate (length l₀) 0 → n < length l₀ → at l n ≡ 0
 cleared-at l₀ l n e h = ap (λ (k : List ℕ). at k n) e ∙ getD-replicate (length l₀) n 0 0 h
 
 pub served-none : (count : ℕ) (whole : ℕ → ℕ) (amounts : List ℕ) (weights : ℕ → ℕ) (before₀ dealt₀ : List ℕ) {before dealt : List ℕ}

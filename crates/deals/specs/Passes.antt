@@ -3,7 +3,7 @@
 use mathlib.Core.Path.{_≡_}
 use mathlib.Core.Bool.{cond}
 use mathlib.Core.List.{List, []}
-use Prim.Native.Nat.{ℕ, suc, _+_, _-_, _*_, _/_, _≤_, _<_, min, max}
+use Prim.Native.Nat.{ℕ, suc, _+_, _-_, _*_, _/_, _%_, _^_, _≤_, _<_, min, max}
 use lib.Dec.{eqb, ltb}
 use lib.ListN.{length, getD}
 use Rattle.rooms.specs.Sums.{on, sum}
@@ -12,9 +12,10 @@ use Rattle.rooms.specs.Table.{Room, roomCords, mostNodes, mostCords, mostWatts,
 use Rattle.rooms.specs.Limits.{carried, beneath, checked}
 use Rattle.rooms.specs.Credits.{sumBeneath}
 use Rattle.deals.specs.Figures.{at, cell}
-use Rattle.deals.specs.Metrics.{parentsOf, limitsOf, nodesOf, levelsOf}
+use Rattle.deals.specs.Metrics.{Deal, dealFrom, metrics, parentsOf, limitsOf, nodesOf, levelsOf}
 use Rattle.deals.specs.Wants.{needs, carriedBy, lowsOf}
 use Rattle.deals.specs.Split.{part}
+use Rattle.deals.specs.Dealing.{granted}
 use Rattle.deals.specs.SecondDeal.{leastOver, usable, freed, secondGrants}
 use Rattle.deals.specs.SecondDeal as second
 
@@ -70,6 +71,54 @@ pub record ChainOf (levels next : List ℕ) (level from : ℕ) : Type 0 where
   pub next-size : length next ≡ length levels
   pub start : NextOf levels level 0 from
   pub nexts : (c : ℕ) → c < length levels → NextOf levels (at levels c) (c + 1) (at next c)
+
+-- A node's marks, one bit a level, have the level's.
+abbrev pub Marked : ℕ → ℕ → Type 0
+Marked marks level = marks / 2 ^ level % 2 ≡ 1
+
+-- More marks are added to those of a node, by its number.
+pub record MarksAdded (node more : ℕ) (marks marks′ : List ℕ) : Type 0 where
+  pub kept : (n level : ℕ) → Marked (at marks n) level → Marked (at marks′ n) level
+  pub added : (n level : ℕ) → node ≡ suc n → Marked more level → Marked (at marks′ n) level
+  pub elsewhere : (n : ℕ) → node ≤ n → at marks′ n ≡ at marks n
+
+-- Each node is marked with the levels of the cords on it and with those of its child nodes.
+pub record NodeMarks (parents nodes levels marks : List ℕ) : Type 0 where
+  pub cords : (c n : ℕ) → c < length nodes → at nodes c ≡ suc n → Marked (at marks n) (at levels c)
+  pub children : (m n level : ℕ) → m < length parents → at parents m ≡ suc n → Marked (at marks m) level → Marked (at marks n) level
+
+-- A place that the first `count` entries of a list do not have.
+abbrev pub Absent : List ℕ → ℕ → ℕ → Type 0
+Absent list count n = (i : ℕ) → i < count → at list i ≡ n → ⊥
+
+-- The first `count` entries of a list are the places that are marked with a level, in order.
+pub record Listed (marks : List ℕ) (level : ℕ) (list : List ℕ) (count : ℕ) : Type 0 where
+  pub few : count ≤ length list
+  pub within : (i : ℕ) → i < count → at list i < length marks
+  pub rises : (i k : ℕ) → i < k → k < count → at list i < at list k
+  pub marked : (i : ℕ) → i < count → Marked (at marks (at list i)) level
+  pub all : (n : ℕ) → n < length marks → Marked (at marks n) level → Absent list count n → ⊥
+
+-- Places of nodes, in order; with a node's place, its parent's.
+pub record ActiveNodes (parents active : List ℕ) (count : ℕ) : Type 0 where
+  pub few : count ≤ length active
+  pub within : (i : ℕ) → i < count → at active i < length parents
+  pub rises : (i k : ℕ) → i < k → k < count → at active i < at active k
+  pub closed : (m n : ℕ) → m < length parents → at parents m ≡ suc n → Absent active count n → Absent active count m
+
+-- Every node with a cord of the level on it is among them.
+abbrev pub CordsActive : List ℕ → List ℕ → ℕ → List ℕ → ℕ → Type 0
+CordsActive nodes levels level active count = (c n : ℕ) → c < length nodes → at levels c ≡ level → at nodes c ≡ suc n → Absent active count n → ⊥
+
+-- Lists of one figure a node.
+pub record NodeFigures (nodeCount : ℕ) (left lower pcapmins asked amounts before dealt : List ℕ) : Type 0 where
+  pub left-size : length left ≡ nodeCount
+  pub lower-size : length lower ≡ nodeCount
+  pub pcapmins-size : length pcapmins ≡ nodeCount
+  pub asked-size : length asked ≡ nodeCount
+  pub amounts-size : length amounts ≡ nodeCount
+  pub before-size : length before ≡ nodeCount
+  pub dealt-size : length dealt ≡ nodeCount
 
 -- What is claimed of the room that a good table gives.
 abbrev pub OfRoom : List ℕ → (Room → Type 0) → Type 0
@@ -203,6 +252,28 @@ pub record CordsDealt (nodes levels lows wants : List ℕ) (level : ℕ) (pcapmi
   pub ours : (c n : ℕ) → c < length nodes → at levels c ≡ level → at nodes c ≡ suc n
       → at grants′ c ≡ at lows c + part (at amounts n) (wholeOf pcapmins asked n) (at before n + cordsBefore nodes levels lows wants level n c) (at wants c - at lows c)
   pub others : (c : ℕ) → c < length nodes → (at levels c ≡ level → ⊥) → at grants′ c ≡ at grants c
+
+-- ---- The ranks from the highest down
+
+-- Before the ranks below `above`: what the higher ranks' Requests leave of each limit, the Pcapmin of the ranks to come, whose
+-- Requests are not filled in yet, and the grants of the ranks dealt.
+pub record RanksDealt (d : Deal) (above : ℕ) (rows : List (List ℕ)) (left lower grants : List ℕ) : Type 0 where
+  pub some-left : above ≤ d .levels
+  pub left-is : (n : ℕ) → n < d .nodes
+      → at left n + (sum (d .levels) (cell (metrics d .requests) n) - sum above (cell (metrics d .requests) n)) ≡ d .limit n
+  pub lower-is : (n : ℕ) → n < d .nodes → at lower n ≡ sum above (cell (metrics d .pcapmins) n)
+  pub grants-are : (c : ℕ) → c < d .cords → above ≤ d .level c → at grants c ≡ at (granted d) c
+  pub blank : (n j : ℕ) → j < above → cell rows n j ≡ 0
+  pub full : FullRows rows
+
+-- What one rank of a deal asks of its lists.
+pub record RankLists (parents limits nodes levels lows wants next : List ℕ) (level from : ℕ) (active : List ℕ) (count : ℕ) (rows : List (List ℕ)) (left lower pcapmins asked amounts before dealt grants : List ℕ) : Type 0 where
+  pub lists : DealLists parents limits nodes levels lows wants (length grants)
+  pub chain : ChainOf levels next level from
+  pub nodes-active : ActiveNodes parents active count
+  pub cords-active : CordsActive nodes levels level active count
+  pub figures : NodeFigures (length parents) left lower pcapmins asked amounts before dealt
+  pub ranks : RanksDealt (dealFrom parents limits nodes levels lows wants) (suc level) rows left lower grants
 
 -- ---- Both deals
 

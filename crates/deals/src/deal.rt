@@ -1,45 +1,21 @@
 // One deal: rank by rank from the highest, the Requests are gathered into their rows and dealt.
 ghost use mathlib.Core.Path.{_≡_};
-ghost use Prim.Native.Nat.{ℕ, _≤_, _<_};
+ghost use Prim.Native.Nat.{ℕ};
 ghost use lib.ListN.{length};
-ghost use Rattle.rooms.specs.Table.{highestRank, mostCords};
-ghost use Rattle.deals.specs.Figures.{at};
+ghost use Rattle.deals.specs.Figures.{at, cell};
 ghost use Rattle.deals.specs.Metrics.{dealFrom};
 ghost use Rattle.deals.specs.Dealing.{granted};
-ghost use Rattle.deals.specs.Passes.{CordLists, NodeLists, LowsWithin, DealLists, Linked, FullRows};
+ghost use Rattle.deals.specs.Passes.{DealLists, NodeFigures, RankLists, RanksDealt, FullRows};
 use crate::dealing::deal_cords;
 use crate::dealing::deal_nodes;
+use crate::levels::link_levels;
+use crate::levels::list_active;
+use crate::levels::mark_nodes;
 use crate::metrics::gather;
 use crate::metrics::sum_cords;
 use crate::metrics::sum_lows;
 use crate::widths::index;
-use crate::widths::place;
 use crate::widths::wide;
-
-// Sets every entry to a figure.
-fn fill(list: &mut [u32], figure: u32)
-    ensures { λ _. ⌜ ((i : ℕ) → i < length (now (list .entry)) → at (now (list .exit)) i ≡ figure) ⌝ }
-{
-    for i in 0..list.len() {
-        list[i] = figure;
-    }
-}
-
-// Links the cords of each level, so that a rank's passes see its own cords alone.
-fn link_levels(levels: &[u32], first: &mut [u32], next: &mut [u32])
-    requires { ⌜ (length (now levels) ≤ mostCords) × (length (now first) ≡ highestRank) × (length (now next) ≡ length (now levels)) ⌝ }
-    requires { ⌜ ((c : ℕ) → c < length (now levels) → at (now levels) c < highestRank) ⌝ }
-    ensures { λ _. ⌜ Linked (now (levels .entry)) (now (first .exit)) (now (next .exit)) ⌝ }
-{
-    fill(first, place(levels.len()));
-    let mut c = levels.len();
-    while 0 < c {
-        c -= 1;
-        let level = index(levels[c]);
-        next[c] = first[level];
-        first[level] = place(c);
-    }
-}
 
 // Copies 32-bit figures to 64-bit ones, whose sums fit.
 fn widen(from: &[u32], to: &mut [u64])
@@ -51,16 +27,21 @@ fn widen(from: &[u32], to: &mut [u64])
     }
 }
 
-// The deal, with the cords linked by level, in lists of one figure a node: what is left of each limit for the ranks to come, the
-// lows of the ranks to come, and a rank's Pcapmin, children's Requests, amounts, weights served and watts dealt.
-fn deal_ranks(
+// One rank of the deal, over the lists of its cords and of its active nodes: the Requests are gathered and what they exceed Pcapmin by
+// is dealt. The lists of one figure a node are, at this rank: Pcapmin, the children's Requests, amounts, weights served and watts dealt.
+// (`limits` are for the contract alone.)
+fn deal_rank(
     parents: &[u32],
     limits: &[u32],
     nodes: &[u32],
     levels: &[u32],
     lows: &[u32],
     wants: &[u32],
-    next: &mut [u32],
+    next: &[u32],
+    level: usize,
+    from: usize,
+    active: &[u32],
+    count: usize,
     requests: &mut [[u32; 16]; 512],
     left: &mut [u64],
     lower: &mut [u64],
@@ -71,15 +52,90 @@ fn deal_ranks(
     dealt: &mut [u64],
     grants: &mut [u32],
 )
-    requires { ⌜ NodeLists (now parents) (now limits) ⌝ }
-    requires { ⌜ CordLists (length (now parents)) (now nodes) (now levels) (now lows) (now wants) ⌝ }
-    requires { ⌜ LowsWithin (now parents) (now limits) (now nodes) (now lows) ⌝ }
-    requires { ⌜ (length (now left) ≡ length (now parents)) × (length (now lower) ≡ length (now parents)) × (length (now pcapmins) ≡ length (now parents)) × (length (now asked) ≡ length (now parents)) × (length (now amounts) ≡ length (now parents)) × (length (now before) ≡ length (now parents)) × (length (now dealt) ≡ length (now parents)) ⌝ }
-    requires { ⌜ (length (now grants) ≡ length (now nodes)) × FullRows (now requests) × (length (now next) ≡ length (now nodes)) ⌝ }
+    requires { ⌜ RankLists (now parents) (now limits) (now nodes) (now levels) (now lows) (now wants) (now next) level from (now active) count (now requests) (now left) (now lower) (now pcapmins) (now asked) (now amounts) (now before) (now dealt) (now grants) ⌝ }
+    ensures { λ _. ⌜ RanksDealt (dealFrom (now (parents .entry)) (now (limits .entry)) (now (nodes .entry)) (now (levels .entry)) (now (lows .entry)) (now (wants .entry))) level (now (requests .exit)) (now (left .exit)) (now (lower .exit)) (now (grants .exit)) ⌝ }
+{
+    sum_cords(
+        nodes,
+        levels,
+        lows,
+        wants,
+        next,
+        level,
+        from,
+        pcapmins,
+        asked,
+    );
+    gather(
+        parents,
+        active,
+        count,
+        level,
+        left,
+        lower,
+        pcapmins,
+        asked,
+        requests,
+    );
+    deal_nodes(
+        parents,
+        active,
+        count,
+        level,
+        requests,
+        pcapmins,
+        asked,
+        amounts,
+        before,
+        dealt,
+    );
+    deal_cords(
+        nodes,
+        levels,
+        lows,
+        wants,
+        next,
+        level,
+        from,
+        pcapmins,
+        asked,
+        amounts,
+        before,
+        dealt,
+        grants,
+    );
+}
+
+// The deal, rank by rank from the highest, with what is left of each limit for the ranks to come and their lows beneath each node.
+fn deal_ranks(
+    parents: &[u32],
+    limits: &[u32],
+    nodes: &[u32],
+    levels: &[u32],
+    lows: &[u32],
+    wants: &[u32],
+    next: &mut [u32],
+    marks: &mut [u32],
+    active: &mut [u32],
+    requests: &mut [[u32; 16]; 512],
+    left: &mut [u64],
+    lower: &mut [u64],
+    pcapmins: &mut [u64],
+    asked: &mut [u64],
+    amounts: &mut [u64],
+    before: &mut [u64],
+    dealt: &mut [u64],
+    grants: &mut [u32],
+)
+    requires { ⌜ DealLists (now parents) (now limits) (now nodes) (now levels) (now lows) (now wants) (length (now grants)) ⌝ }
+    requires { ⌜ (length (now next) ≡ length (now nodes)) × (length (now marks) ≡ length (now parents)) × (length (now active) ≡ length (now parents)) ⌝ }
+    requires { ⌜ NodeFigures (length (now parents)) (now left) (now lower) (now pcapmins) (now asked) (now amounts) (now before) (now dealt) ⌝ }
+    requires { ⌜ FullRows (now requests) × ((n j : ℕ) → cell (now requests) n j ≡ 0) ⌝ }
     ensures { λ _. ⌜ now (grants .exit) ≡ granted (dealFrom (now (parents .entry)) (now (limits .entry)) (now (nodes .entry)) (now (levels .entry)) (now (lows .entry)) (now (wants .entry))) ⌝ }
 {
     let mut first = [0u32; 16];
     link_levels(levels, &mut first, next);
+    mark_nodes(parents, nodes, levels, marks);
     widen(limits, left);
     sum_lows(parents, nodes, lows, lower);
     let mut level: usize = 16;
@@ -87,29 +143,10 @@ fn deal_ranks(
         level -= 1;
         let from = index(first[level]);
         if from < nodes.len() {
-            sum_cords(
-                nodes,
-                levels,
-                lows,
-                wants,
-                next,
-                level,
-                from,
-                pcapmins,
-                asked,
-            );
-            gather(parents, level, left, lower, pcapmins, asked, requests);
-            deal_nodes(
+            let count = list_active(marks, level, active);
+            deal_rank(
                 parents,
-                level,
-                requests,
-                pcapmins,
-                asked,
-                amounts,
-                before,
-                dealt,
-            );
-            deal_cords(
+                limits,
                 nodes,
                 levels,
                 lows,
@@ -117,6 +154,11 @@ fn deal_ranks(
                 next,
                 level,
                 from,
+                active,
+                count,
+                requests,
+                left,
+                lower,
                 pcapmins,
                 asked,
                 amounts,
@@ -142,6 +184,8 @@ pub(crate) fn deal(
     ensures { λ _. ⌜ now (grants .exit) ≡ granted (dealFrom (now (parents .entry)) (now (limits .entry)) (now (nodes .entry)) (now (levels .entry)) (now (lows .entry)) (now (wants .entry))) ⌝ }
 {
     let mut next = [0u32; 1024];
+    let mut marks = [0u32; 512];
+    let mut active = [0u32; 512];
     let mut requests = [[0u32; 16]; 512];
     let mut left = [0u64; 512];
     let mut lower = [0u64; 512];
@@ -159,6 +203,8 @@ pub(crate) fn deal(
         lows,
         wants,
         &mut next[..nodes.len()],
+        &mut marks[..n],
+        &mut active[..n],
         &mut requests,
         &mut left[..n],
         &mut lower[..n],

@@ -5,7 +5,7 @@ ghost use lib.ListN.{length, set};
 ghost use Rattle.rooms.specs.Table.{mostWatts, mostCords, highestRank};
 ghost use Rattle.deals.specs.Figures.{at, cell};
 ghost use Rattle.deals.specs.Split.{part};
-ghost use Rattle.deals.specs.Passes.{CordLists, ChainOf, weightOf, wholeOf, overChildren, cordsBefore, NodesDealt, CordsDealt};
+ghost use Rattle.deals.specs.Passes.{CordLists, ChainOf, weightOf, wholeOf, overChildren, Absent, ActiveNodes, cordsBefore, NodesDealt, CordsDealt};
 use crate::metrics::clear;
 use crate::widths::index;
 use crate::widths::narrow;
@@ -43,9 +43,11 @@ fn serve(
     given
 }
 
-// What each node has to give at a level: a root its excess, any other its part of its parent's.
+// What each node has to give at a level: a root its excess, any other its part of its parent's; one that is not active, nothing.
 pub(crate) fn deal_nodes(
     parents: &[u32],
+    active: &[u32],
+    count: usize,
     level: usize,
     requests: &[[u32; 16]; 512],
     pcapmins: &[u64],
@@ -57,11 +59,15 @@ pub(crate) fn deal_nodes(
     requires { ⌜ (length (now parents) ≤ 512) × (level < highestRank) × ((m : ℕ) → m < length (now parents) → at (now parents) m ≤ m) ⌝ }
     requires { ⌜ (length (now pcapmins) ≡ length (now parents)) × (length (now asked) ≡ length (now parents)) × (length (now amounts) ≡ length (now parents)) × (length (now before) ≡ length (now parents)) × (length (now dealt) ≡ length (now parents)) ⌝ }
     requires { ⌜ ((n : ℕ) → n < length (now parents) → (at (now pcapmins) n ≤ cell (now requests) n level) × (cell (now requests) n level ≤ mostWatts) × (at (now pcapmins) n ≤ at (now asked) n) × (at (now asked) n ≤ mostCords * mostWatts) × (overChildren (now parents) (weightOf (now requests) level (now pcapmins)) n ≤ wholeOf (now pcapmins) (now asked) n)) ⌝ }
+    requires { ⌜ ActiveNodes (now parents) (now active) count ⌝ }
+    requires { ⌜ ((n : ℕ) → n < length (now parents) → Absent (now active) count n → cell (now requests) n level ≡ 0) ⌝ }
     ensures { λ _. ⌜ NodesDealt (now (parents .entry)) level (now (requests .entry)) (now (pcapmins .entry)) (now (asked .entry)) (now (amounts .exit)) (now (before .exit)) (now (dealt .exit)) ⌝ }
 {
+    clear(amounts);
     clear(before);
     clear(dealt);
-    for m in 0..parents.len() {
+    for i in 0..count {
+        let m = index(active[i]);
         let weight = wide(requests[m][level]) - pcapmins[m];
         let parent = index(parents[m]);
         if parent == 0 {

@@ -10,6 +10,7 @@ use widths::index;
 mod both_deals;
 mod deal;
 mod dealing;
+mod levels;
 mod metrics;
 mod reclaim;
 mod room;

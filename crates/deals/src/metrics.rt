@@ -6,8 +6,8 @@ ghost use Rattle.rooms.specs.Sums.{on, sum};
 ghost use Rattle.rooms.specs.Table.{mostWatts, mostCords, highestRank};
 ghost use Rattle.rooms.specs.Limits.{beneath};
 ghost use Rattle.rooms.specs.Credits.{sumBeneath, credited};
-ghost use Rattle.deals.specs.Figures.{at};
-ghost use Rattle.deals.specs.Passes.{CordLists, ChainOf, onNode, FullRows, Gathered};
+ghost use Rattle.deals.specs.Figures.{at, cell};
+ghost use Rattle.deals.specs.Passes.{CordLists, ChainOf, onNode, FullRows, Absent, ActiveNodes, Gathered};
 use crate::widths::index;
 use crate::widths::least;
 use crate::widths::narrow;
@@ -94,10 +94,12 @@ pub(crate) fn sum_lows(parents: &[u32], nodes: &[u32], lows: &[u32], sums: &mut 
     sum_beneath(parents, sums);
 }
 
-// From the last node to the first: a node's Request is the lesser of what is left for this rank and of what its children ask;
+// From the last active node to the first: a node's Request is the lesser of what is left for this rank and of what its children ask;
 // its Pcapmin and its Request are its parent's to add up.
 pub(crate) fn gather(
     parents: &[u32],
+    active: &[u32],
+    count: usize,
     level: usize,
     left: &mut [u64],
     lower: &mut [u64],
@@ -109,12 +111,15 @@ pub(crate) fn gather(
     requires { ⌜ (length (now left) ≡ length (now parents)) × (length (now lower) ≡ length (now parents)) × (length (now pcapmins) ≡ length (now parents)) × (length (now asked) ≡ length (now parents)) ⌝ }
     requires { ⌜ (sum (length (now parents)) (at (now pcapmins)) ≤ mostCords * mostWatts) × (sum (length (now parents)) (at (now asked)) ≤ mostCords * mostWatts) ⌝ }
     requires { ⌜ ((n : ℕ) → n < length (now parents) → (at (now left) n ≤ mostWatts) × (sumBeneath (at (now parents)) (length (now parents)) (at (now pcapmins)) n ≤ at (now lower) n) × (at (now lower) n ≤ at (now left) n + sumBeneath (at (now parents)) (length (now parents)) (at (now pcapmins)) n)) ⌝ }
+    requires { ⌜ ActiveNodes (now parents) (now active) count ⌝ }
+    requires { ⌜ ((n : ℕ) → n < length (now parents) → Absent (now active) count n → (at (now pcapmins) n ≡ 0) × (at (now asked) n ≡ 0) × (cell (now requests) n level ≡ 0)) ⌝ }
     requires { ⌜ FullRows (now requests) ⌝ }
     ensures { λ _. ⌜ Gathered (now (parents .entry)) level (now (left .entry)) (now (lower .entry)) (now (pcapmins .entry)) (now (asked .entry)) (now (requests .entry)) (now (left .exit)) (now (lower .exit)) (now (pcapmins .exit)) (now (asked .exit)) (now (requests .exit)) ⌝ }
 {
-    let mut n = parents.len();
-    while 0 < n {
-        n -= 1;
+    let mut i = count;
+    while 0 < i {
+        i -= 1;
+        let n = index(active[i]);
         let pcapmin = pcapmins[n];
         let below = lower[n] - pcapmin;
         let limit = left[n];

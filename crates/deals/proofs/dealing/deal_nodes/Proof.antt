@@ -1,22 +1,22 @@
--- `deal_nodes` meets its contract: before each turn the nodes passed have their amounts and are served as children.
+-- `deal_nodes` meets its contract: before each turn the nodes passed have their amounts and are served as children; a node that is not
+-- active has neither weight nor amount.
 use mathlib.Core.Path.{_∙_}
 use mathlib.Core.Logic.{⊎-elim}
 use Prim.Native.Nat.{_-_}
 use native.Mathlib.Omega.{arith}
-use lib.ListN.{length}
 use borrow.Author.Needs.{needs}
 use Rattle.rooms.proofs.Sums.{sum-none}
-use Rattle.deals.proofs.Serving.{served-none}
-use Rattle.deals.proofs.NodeTurns.{NodeTurn, nodes-start, nodes-end, parent-within, node-may-serve, root-next, inner-next}
+use Rattle.deals.proofs.Serving.{cleared-at, served-none}
+use Rattle.deals.proofs.NodeTurns.{nodes-start, parent-within, node-may-serve, root-next, inner-next, DealTurn, deal-start, deal-within, deal-here, deal-next, deal-end}
 use Rattle.deals.proofs.dealing.deal_nodes.Statement.{statement}
 use Rattle.deals.proofs.dealing.deal_nodes.Tie as tie
 
 abbrev Inv-loop : tie.InvT-loop
-Inv-loop parents level requests pcapmins asked amounts₀ before₀ dealt₀ m₀ m-end amounts before dealt m =
-    NodeTurn parents level requests pcapmins asked m amounts before dealt
+Inv-loop parents active count level requests pcapmins asked amounts₀ before₀ dealt₀ i₀ amounts before dealt i =
+    DealTurn parents active count level requests pcapmins asked i amounts before dealt
 
 abbrev μ-loop : tie.MeasureT-loop
-μ-loop parents level requests pcapmins asked amounts₀ before₀ dealt₀ m₀ m-end amounts before dealt m = length parents - m
+μ-loop parents active count level requests pcapmins asked amounts₀ before₀ dealt₀ i₀ amounts before dealt i = count - i
 
 clear-requires : tie.Need-clear-requires Inv-loop μ-loop
 clear-requires c κs = search needs
@@ -24,33 +24,48 @@ clear-requires c κs = search needs
 clear-requires-2 : tie.Need-clear-requires-2 Inv-loop μ-loop
 clear-requires-2 c κs = search needs
 
+clear-requires-3 : tie.Need-clear-requires-3 Inv-loop μ-loop
+clear-requires-3 c κs = search needs
+
 loop-holds : tie.Need-loop-holds Inv-loop μ-loop
 loop-holds c =
-    let s = c .before .before .before .before .before .before .before .before .before .before .before .before .before .before in
+    let s = c .before .before .before .before .before .before .before .before .before .before .before .before .before .before .before .before .before .before .before in
     let pre = s .pre in
-    nodes-start
+    let sizes = pre .1 .0 in
+    let amounts = c .before .before .before .before .before .before .before .before .before .before .clear in
+    deal-start (pre .1 .1 .1 .0) (pre .1 .1 .1 .1) (λ h l. cleared-at (s .args .amounts .now) _ h (amounts .ensures) (omega (arith, sizes .2)))
+    (nodes-start
     (record {
       few = pre .0 .0;
       ranked = pre .0 .1;
       rises = pre .0 .2;
-      pcapmins-size = pre .1 .0 .0;
-      asked-size = pre .1 .0 .1;
-      bounds = pre .1 .1;
+      pcapmins-size = sizes .0;
+      asked-size = sizes .1;
+      bounds = pre .1 .1 .0;
     })
-    (pre .1 .0 .2)
-    (served-none _ _ _ _ (s .args .before .now) (s .args .dealt .now) (pre .1 .0 .3) (pre .1 .0 .4) (c .before .before .before .before .before .before .clear .ensures) (c .before .before .clear2 .ensures) (λ n. sum-none _))
+    (amounts .kept .0 ∙ sizes .2)
+    (served-none _ _ _ _ (s .args .before .now) (s .args .dealt .now) (sizes .3) (sizes .4) (c .before .before .before .before .before .before .clear2 .ensures) (c .before .before .clear3 .ensures) (λ n. sum-none _)))
+
+mul-index : tie.Need-mul-index Inv-loop μ-loop
+mul-index c = search needs
+
+shared-slice-read-index : tie.Need-shared-slice-read-index Inv-loop μ-loop
+shared-slice-read-index c = omega (arith, c .before .before .loop .inv .nodes .few, c .before .loop-test .taken)
+
+index-requires : tie.Need-index-requires Inv-loop μ-loop
+index-requires c κs = search needs
 
 mul-wide : tie.Need-mul-wide Inv-loop μ-loop
-mul-wide c = search needs
+mul-wide c = omega (arith, deal-within (c .before .before .before .loop .inv) (c .before .before .loop-test .taken) (c .index .ensures .0), c .before .before .before .loop .inv .turn .ready .few)
 
 mul-wide-2 : tie.Need-mul-wide-2 Inv-loop μ-loop
-mul-wide-2 c = search needs
+mul-wide-2 c = omega (arith, deal-within (c .before .before .before .loop .inv) (c .before .before .loop-test .taken) (c .index .ensures .0), c .before .before .before .loop .inv .turn .ready .few)
 
 index-1-wide : tie.Need-index-1-wide Inv-loop μ-loop
-index-1-wide c = search needs
+index-1-wide c = omega (arith, deal-within (c .before .before .before .loop .inv) (c .before .before .loop-test .taken) (c .index .ensures .0), c .before .before .before .loop .inv .turn .ready .few)
 
 index-2-wide : tie.Need-index-2-wide Inv-loop μ-loop
-index-2-wide c = c .before .loop .inv .ready .ranked
+index-2-wide c = c .before .before .before .loop .inv .turn .ready .ranked
 
 wide-requires : tie.Need-wide-requires Inv-loop μ-loop
 wide-requires c κs = search needs
@@ -59,27 +74,26 @@ mul-weight : tie.Need-mul-weight Inv-loop μ-loop
 mul-weight c = search needs
 
 shared-slice-read-weight : tie.Need-shared-slice-read-weight Inv-loop μ-loop
-shared-slice-read-weight c = search needs
+shared-slice-read-weight c = omega (arith, deal-within (c .before .before .before .before .before .before .loop .inv) (c .before .before .before .before .before .loop-test .taken) (c .before .before .before .index .ensures .0), c .before .before .before .before .before .before .loop .inv .turn .ready .pcapmins-size)
 
 sub-weight : tie.Need-sub-weight Inv-loop μ-loop
 sub-weight c =
-    let l = c .before .before .before .before .loop in
-    omega (arith, l .inv .ready .bounds (l .m) (omega arith) .0, c .before .wide .ensures .0)
+    omega (arith, c .before .before .before .before .before .before .loop .inv .turn .ready .bounds (c .before .before .before .index .result) (deal-within (c .before .before .before .before .before .before .loop .inv) (c .before .before .before .before .before .loop-test .taken) (c .before .before .before .index .ensures .0)) .0, c .before .wide .ensures .0)
 
-mul-index : tie.Need-mul-index Inv-loop μ-loop
-mul-index c = search needs
+mul-index-2 : tie.Need-mul-index-2 Inv-loop μ-loop
+mul-index-2 c = search needs
 
-shared-slice-read-index : tie.Need-shared-slice-read-index Inv-loop μ-loop
-shared-slice-read-index c = search needs
+shared-slice-read-index-2 : tie.Need-shared-slice-read-index-2 Inv-loop μ-loop
+shared-slice-read-index-2 c = deal-within (c .before .before .before .before .before .before .before .loop .inv) (c .before .before .before .before .before .before .loop-test .taken) (c .before .before .before .before .index .ensures .0)
 
-index-requires : tie.Need-index-requires Inv-loop μ-loop
-index-requires c κs = search needs
+index-requires-2 : tie.Need-index-requires-2 Inv-loop μ-loop
+index-requires-2 c κs = search needs
 
 mul-amounts : tie.Need-mul-amounts Inv-loop μ-loop
 mul-amounts c = search needs
 
 slice-write-amounts : tie.Need-slice-write-amounts Inv-loop μ-loop
-slice-write-amounts c = search needs
+slice-write-amounts c = omega (arith, deal-within (c .before .before .before .before .before .before .before .before .before .loop .inv) (c .before .before .before .before .before .before .before .before .loop-test .taken) (c .before .before .before .before .before .before .index .ensures .0), c .before .before .before .before .before .before .before .before .before .loop .inv .turn .amounts-size)
 
 sub-p : tie.Need-sub-p Inv-loop μ-loop
 sub-p c = search needs
@@ -89,55 +103,69 @@ mul-serve c = search needs
 
 slice-read-serve : tie.Need-slice-read-serve Inv-loop μ-loop
 slice-read-serve c =
-    let l = c .before .before .before .before .before .before .before .before .loop in
-    omega (arith, parent-within (l .inv) (c .before .before .before .before .before .before .before .loop-test .taken) _ _ (c .before .before .before .before .before .wide .ensures .0) (c .before .before .index .ensures .0) (c .before .if1 .left), l .inv .ready .asked-size, l .inv .ready .pcapmins-size, l .inv .amounts-size)
+    let t = c .before .before .before .before .before .before .before .before .before .before .loop .inv in
+    let more = c .before .before .before .before .before .before .before .before .before .loop-test .taken in
+    let is = c .before .before .before .before .before .before .before .index .ensures .0 in
+    omega (arith, parent-within (deal-here t more is) (deal-within t more is) _ _ (c .before .before .before .before .before .wide .ensures .0) (c .before .before .index2 .ensures .0) (c .before .if1 .left), t .turn .amounts-size)
 
 mul-serve-2 : tie.Need-mul-serve-2 Inv-loop μ-loop
 mul-serve-2 c = search needs
 
 shared-slice-read-serve : tie.Need-shared-slice-read-serve Inv-loop μ-loop
 shared-slice-read-serve c =
-    let l = c .before .before .before .before .before .before .before .before .before .loop in
-    omega (arith, parent-within (l .inv) (c .before .before .before .before .before .before .before .before .loop-test .taken) _ _ (c .before .before .before .before .before .before .wide .ensures .0) (c .before .before .before .index .ensures .0) (c .before .before .if1 .left), l .inv .ready .asked-size, l .inv .ready .pcapmins-size, l .inv .amounts-size)
+    let t = c .before .before .before .before .before .before .before .before .before .before .before .loop .inv in
+    let more = c .before .before .before .before .before .before .before .before .before .before .loop-test .taken in
+    let is = c .before .before .before .before .before .before .before .before .index .ensures .0 in
+    omega (arith, parent-within (deal-here t more is) (deal-within t more is) _ _ (c .before .before .before .before .before .before .wide .ensures .0) (c .before .before .before .index2 .ensures .0) (c .before .before .if1 .left), t .turn .ready .asked-size)
 
 mul-serve-3 : tie.Need-mul-serve-3 Inv-loop μ-loop
 mul-serve-3 c = search needs
 
 shared-slice-read-serve-2 : tie.Need-shared-slice-read-serve-2 Inv-loop μ-loop
 shared-slice-read-serve-2 c =
-    let l = c .before .before .before .before .before .before .before .before .before .before .loop in
-    omega (arith, parent-within (l .inv) (c .before .before .before .before .before .before .before .before .before .loop-test .taken) _ _ (c .before .before .before .before .before .before .before .wide .ensures .0) (c .before .before .before .before .index .ensures .0) (c .before .before .before .if1 .left), l .inv .ready .asked-size, l .inv .ready .pcapmins-size, l .inv .amounts-size)
+    let t = c .before .before .before .before .before .before .before .before .before .before .before .before .loop .inv in
+    let more = c .before .before .before .before .before .before .before .before .before .before .before .loop-test .taken in
+    let is = c .before .before .before .before .before .before .before .before .before .index .ensures .0 in
+    omega (arith, parent-within (deal-here t more is) (deal-within t more is) _ _ (c .before .before .before .before .before .before .before .wide .ensures .0) (c .before .before .before .before .index2 .ensures .0) (c .before .before .before .if1 .left), t .turn .ready .pcapmins-size)
 
 sub-serve : tie.Need-sub-serve Inv-loop μ-loop
 sub-serve c =
-    let l = c .before .before .before .before .before .before .before .before .before .before .loop in
-    l .inv .ready .bounds _ (parent-within (l .inv) (c .before .before .before .before .before .before .before .before .before .loop-test .taken) _ _ (c .before .before .before .before .before .before .before .wide .ensures .0) (c .before .before .before .before .index .ensures .0) (c .before .before .before .if1 .left)) .2
+    let t = c .before .before .before .before .before .before .before .before .before .before .before .before .loop .inv in
+    let more = c .before .before .before .before .before .before .before .before .before .before .before .loop-test .taken in
+    let is = c .before .before .before .before .before .before .before .before .before .index .ensures .0 in
+    t .turn .ready .bounds _ (parent-within (deal-here t more is) (deal-within t more is) _ _ (c .before .before .before .before .before .before .before .wide .ensures .0) (c .before .before .before .before .index2 .ensures .0) (c .before .before .before .if1 .left)) .2
 
 serve-requires : tie.Need-serve-requires Inv-loop μ-loop
 serve-requires c κs =
-    node-may-serve (c .before .before .before .before .before .before .before .before .before .before .before .before .loop .inv) (c .before .before .before .before .before .before .before .before .before .before .before .loop-test .taken) _ _ (c .before .before .before .before .before .before .before .before .before .wide .ensures .0) (c .before .before .before .before .before .before .index .ensures .0) (c .before .before .before .before .before .if1 .left)
+    let t = c .before .before .before .before .before .before .before .before .before .before .before .before .before .before .loop .inv in
+    let more = c .before .before .before .before .before .before .before .before .before .before .before .before .before .loop-test .taken in
+    let is = c .before .before .before .before .before .before .before .before .before .before .before .index .ensures .0 in
+    node-may-serve (deal-here t more is) (deal-within t more is) _ _ (c .before .before .before .before .before .before .before .before .before .wide .ensures .0) (c .before .before .before .before .before .before .index2 .ensures .0) (c .before .before .before .before .before .if1 .left)
 
 mul-amounts-2 : tie.Need-mul-amounts-2 Inv-loop μ-loop
 mul-amounts-2 c = search needs
 
 slice-write-amounts-2 : tie.Need-slice-write-amounts-2 Inv-loop μ-loop
-slice-write-amounts-2 c = search needs
+slice-write-amounts-2 c = omega (arith, deal-within (c .before .before .before .before .before .before .before .before .before .before .before .before .before .before .before .before .before .before .before .loop .inv) (c .before .before .before .before .before .before .before .before .before .before .before .before .before .before .before .before .before .before .loop-test .taken) (c .before .before .before .before .before .before .before .before .before .before .before .before .before .before .before .before .index .ensures .0), c .before .before .before .before .before .before .before .before .before .before .before .before .before .before .before .before .before .before .before .loop .inv .turn .amounts-size)
 
-add-m : tie.Need-add-m Inv-loop μ-loop
-add-m c = search needs
+add-i : tie.Need-add-i Inv-loop μ-loop
+add-i c = search needs
 
 loop-less : tie.Need-loop-less Inv-loop μ-loop
 loop-less c = search needs
 
 loop-again : tie.Need-loop-again Inv-loop μ-loop
 loop-again c =
-    let inv = c .before .before .before .before .before .before .before .loop .inv in
-    let more = c .before .before .before .before .before .before .loop-test .taken in
-    let parent = c .before .index .ensures .0 in
+    let t = c .before .before .before .before .before .before .before .before .before .loop .inv in
+    let more = c .before .before .before .before .before .before .before .before .loop-test .taken in
+    let is = c .before .before .before .before .before .before .index .ensures .0 in
+    let here = deal-here t more is in
+    let within = deal-within t more is in
+    let parent = c .before .index2 .ensures .0 in
     let request = c .before .before .before .before .wide .ensures .0 in
     ⊎-elim
-    (λ w. root-next inv more _ _ request parent (w .0 .taken) (w .1) (w .2) (w .3))
-    (λ w. inner-next inv more _ _ request parent (w .0 .left) _ (w .6 .ensures .0, (w .12 ∙ w .6 .ensures .1 .0, w .13 ∙ w .6 .ensures .1 .1)) (w .11))
+    (λ w. deal-next t more is _ (w .1) (root-next here within _ _ request parent (w .0 .taken) (w .1) (w .2) (w .3)))
+    (λ w. deal-next t more is _ (w .11) (inner-next here within _ _ request parent (w .0 .left) _ (w .6 .ensures .0, (w .12 ∙ w .6 .ensures .1 .0, w .13 ∙ w .6 .ensures .1 .1)) (w .11)))
     (c .if1 .came)
 
 same-length : tie.Need-same-length Inv-loop μ-loop
@@ -150,7 +178,7 @@ same-length-3 : tie.Need-same-length-3 Inv-loop μ-loop
 same-length-3 c = search needs
 
 returns : tie.Need-returns Inv-loop μ-loop
-returns c = nodes-end (c .before .loop .inv) (c .loop-test .left)
+returns c = deal-end (c .before .loop .inv) (c .loop-test .left)
 
 pub deal-nodes-spec : {M : Type 1} → statement M
 deal-nodes-spec =
@@ -160,7 +188,11 @@ deal-nodes-spec =
     μ-loop
     clear-requires
     clear-requires-2
+    clear-requires-3
     loop-holds
+    mul-index
+    shared-slice-read-index
+    index-requires
     mul-wide
     mul-wide-2
     index-1-wide
@@ -169,9 +201,9 @@ deal-nodes-spec =
     mul-weight
     shared-slice-read-weight
     sub-weight
-    mul-index
-    shared-slice-read-index
-    index-requires
+    mul-index-2
+    shared-slice-read-index-2
+    index-requires-2
     mul-amounts
     slice-write-amounts
     sub-p
@@ -185,7 +217,7 @@ deal-nodes-spec =
     serve-requires
     mul-amounts-2
     slice-write-amounts-2
-    add-m
+    add-i
     loop-less
     loop-again
     same-length

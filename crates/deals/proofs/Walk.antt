@@ -1,12 +1,11 @@
 -- The walk over a good table's servers, in the terms of code: the words of the server that stands next, and its cords in the room's order.
 use mathlib.Core.Path.{_≡_, refl, sym, ap, ap₂, _∙_}
 use mathlib.Core.List.{List, [], _∷_, _++_}
-use Prim.Native.Nat.{ℕ, zero, suc, _+_, _-_, _*_, _≤_, _<_}
+use Prim.Native.Nat.{ℕ, zero, suc, _+_, _*_, _≤_, _<_}
 use native.Mathlib.Nat.{not-suc-le-zero, le-of-suc-le-suc, zero-add}
-use native.Mathlib.Decide.{decLe}
 use native.Mathlib.Omega.{arith}
 use native.Mathlib.Numerals.{add-one}
-use lib.ListN.{length, getD, drop, List·getD-append, length-drop, drop-of-length-le}
+use lib.ListN.{length, getD, drop, List·getD-append, drop-of-length-le}
 use lib.Seq.{drop-cons, drop-drop, drop-at, getD-drop}
 use Rattle.rooms.specs.Part.{good, Good, total}
 use Rattle.rooms.specs.Table.{Node, Cord, Server, Room, scale, mostNodes, mostCords, mostServerCords, mostWatts, highestRank, cord, cords, server, servers, cordCount, roomCords}
@@ -17,7 +16,7 @@ use Rattle.rooms.proofs.Whole.{table-is, checked-is}
 use Rattle.rooms.proofs.Accepted.{accepted}
 use Rattle.deals.specs.Cords.{RoomCord, serverCords, cordsFrom, cordsOf, cordAt, serverAt}
 use Rattle.deals.specs.Passes.{NodesFit}
-use Rattle.deals.proofs.Cords.{noCord, noRoomCord, noServer, placed, serverCords-length, cordsFrom-all, cordsOf-length}
+use Rattle.deals.proofs.Cords.{noCord, noRoomCord, noServer, placed, serverCords-length}
 
 -- ---- The nodes
 
@@ -96,7 +95,6 @@ pub record Walk (table : List ℕ) (r : Room) (v index c : ℕ) : Type 0 where
   pub there : index ≤ length table
   pub cords-are : drop c (cordsOf r) ≡ cordsFrom v (drop v (r .servers))
   pub cords-left : c + total cordCount (drop v (r .servers)) ≡ roomCords r
-  pub passed : (h : ℕ) → h < c → cordAt r h .server < v
 
 -- The k-th cord of the server that stands next.
 pub record CordHere (table : List ℕ) (r : Room) (v index c k : ℕ) : Type 0 where
@@ -140,7 +138,6 @@ walk-start {table} {r} {end} e n count =
       there = t .there;
       cords-are = refl;
       cords-left = zero-add (roomCords r);
-      passed = λ h l. absurd (not-suc-le-zero l);
     })
 
 -- The server that stands next, as it was read from the table: `rest` are the servers after it.
@@ -211,15 +208,7 @@ module _ (table : List ℕ) (r : Room) (v index c before left end after : ℕ) (
             ∙ drop-at (serverCords v (s .cords)) (cordsFrom (suc v) rest) (cordCount s) (serverCords-length v (s .cords))
             ∙ ap (cordsFrom (suc v)) (sym (here .1));
         cords-left = rw (here .1) (omega (arith, count-after));
-        passed = λ h l. go h l (decLe (suc h) c);
       }
-    where
-      go : (h : ℕ) → h < c + cordCount s → Dec (h < c) → cordAt r h .server < suc v
-      go h l (yes q) = omega (arith, walk .passed h q)
-      go h l (no q) =
-          let k : ℕ = h - c in
-          let e : c + k ≡ h = omega arith in
-          omega (arith, ap (λ (x : RoomCord). x .server) (rw e at (cord-placed k (omega arith))))
 
   server-here : ServerHere table r v index c
   server-here =
@@ -265,12 +254,3 @@ pub walk-end : {table : List ℕ} {r : Room} {v index c : ℕ} → Walk table r 
 unfolding total
 walk-end {r = r} {v = v} {c = c} walk h =
     omega (arith, walk .cords-left, ap (total cordCount) (drop-of-length-le (r .servers) {i = v} h))
-
--- The cords from place c on are those of the server at place v and of later ones.
-pub walk-later : {table : List ℕ} {r : Room} {v index c : ℕ} → Walk table r v index c → (h : ℕ) → c ≤ h → h < roomCords r → v ≤ cordAt r h .server
-walk-later {r = r} {v = v} {c = c} walk h l q =
-    let k : ℕ = h - c in
-    let e : c + k ≡ h = omega arith in
-    let m : length (drop c (cordsOf r)) ≡ length (cordsFrom v (drop v (r .servers))) = ap length (walk .cords-are) in
-    rw (← e, ← getD-drop c (cordsOf r) k noRoomCord, walk .cords-are)
-    (cordsFrom-all (λ x. v ≤ x .server) v (drop v (r .servers)) (λ i j li lj. omega arith) k (omega (arith, length-drop c (cordsOf r), cordsOf-length r)))

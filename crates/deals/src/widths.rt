@@ -34,7 +34,7 @@ pub(crate) fn least(a: u64, b: u64) -> u64
     if a < b { a } else { b }
 }
 
-pub(crate) fn over(a: u32, b: u32) -> u32
+pub(crate) fn over(a: u64, b: u64) -> u64
     ensures { λ r. ⌜ r ≡ a - b ⌝ }
 {
     if b < a { a - b } else { 0 }

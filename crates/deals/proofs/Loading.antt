@@ -10,7 +10,7 @@ use Rattle.rooms.specs.Limits.{checked, carried}
 use Rattle.rooms.proofs.Accepted.{accepted}
 use Rattle.deals.specs.Figures.{figures, at}
 use Rattle.deals.specs.Cords.{RoomCord, cordAt, serverAt, rankOf}
-use Rattle.deals.specs.Wants.{need, needs, carriedBy, lowsOf, firstWants}
+use Rattle.deals.specs.Wants.{needs, carriedBy, lowsOf, firstWants}
 use Rattle.deals.specs.Metrics.{nodesOf, levelsOf}
 use Rattle.deals.specs.Passes.{CordsLent, CordsLaidOut}
 use Rattle.deals.proofs.Lists.{figures-at}

@@ -8,7 +8,7 @@ use native.Mathlib.Numerals.{add-one}
 use lib.ListN.{length, getD, drop, List·getD-append, drop-of-length-le}
 use lib.Seq.{drop-cons, drop-drop, drop-at, getD-drop}
 use Rattle.rooms.specs.Part.{good, Good, total}
-use Rattle.rooms.specs.Table.{Node, Cord, Server, Room, scale, mostNodes, mostCords, mostServerCords, mostWatts, highestRank, cord, cords, server, servers, cordCount, roomCords}
+use Rattle.rooms.specs.Table.{Node, Cord, Server, Room, scale, mostNodes, mostCords, mostWatts, cord, cords, server, servers, cordCount, roomCords}
 use Rattle.rooms.specs.Limits.{checked, nodeAt}
 use Rattle.rooms.proofs.Inversion.{many-is, CordIs, cord-is, server-is}
 use Rattle.rooms.proofs.Rows.{nodes-words, nodes-at, cords-words}
@@ -100,25 +100,18 @@ pub record Walk (table : List ℕ) (r : Room) (v index c : ℕ) : Type 0 where
 pub record CordHere (table : List ℕ) (r : Room) (v index c k : ℕ) : Type 0 where
   pub there : index + 5 + 2 * k < length table
   pub is : cordAt r (c + k) ≡ record { server = v; node = getD table (index + 4 + 2 * k) 0; share = getD table (index + 5 + 2 * k) 0 }
-  pub node-some : 1 ≤ getD table (index + 4 + 2 * k) 0
-  pub node-most : getD table (index + 4 + 2 * k) 0 ≤ length (r .nodes)
   pub share-most : getD table (index + 5 + 2 * k) 0 ≤ scale
   pub within : c + k < roomCords r
 
 -- The server that stands next, at place v, and the walk after it.
 pub record ServerHere (table : List ℕ) (r : Room) (v index c : ℕ) : Type 0 where
   pub there : index + 3 < length table
-  pub past : index + (4 + 2 * getD table (index + 3) 0) ≤ length table
   pub rank : serverAt r v .rank ≡ getD table index 0
   pub least : serverAt r v .least ≡ getD table (index + 1) 0
   pub greatest : serverAt r v .greatest ≡ getD table (index + 2) 0
-  pub count : cordCount (serverAt r v) ≡ getD table (index + 3) 0
   pub lowest : 1 ≤ getD table index 0
-  pub highest : getD table index 0 ≤ highestRank
   pub ordered : getD table (index + 1) 0 ≤ getD table (index + 2) 0
   pub most : getD table (index + 2) 0 ≤ mostWatts
-  pub some : 1 ≤ getD table (index + 3) 0
-  pub few : getD table (index + 3) 0 ≤ mostServerCords
   pub cords-within : c + getD table (index + 3) 0 ≤ roomCords r
   pub cord : (k : ℕ) → k < getD table (index + 3) 0 → CordHere table r v index c k
   pub next : Walk table r (v + 1) (index + (4 + 2 * getD table (index + 3) 0)) (c + getD table (index + 3) 0)
@@ -187,8 +180,6 @@ module _ (table : List ℕ) (r : Room) (v index c before left end after : ℕ) (
       record {
         there = omega (arith, i .there);
         is = cord-placed k h ∙ ap₂ (λ (x y : ℕ). record { server = v; node = x; share = y }) n m;
-        node-some = rw (← n) (i .first);
-        node-most = rw (← n) (i .last);
         share-most = rw (← m) (i .share);
         within = omega (arith, count-after);
       }
@@ -222,17 +213,12 @@ module _ (table : List ℕ) (r : Room) (v index c before left end after : ℕ) (
       let w : index + (4 + 2 * getD table (index + 3) 0) ≡ after = omega (arith, words .2) in
       record {
         there = words .0;
-        past = omega (arith, words .3);
         rank = ap (λ (x : Server). x .rank) (here .0) ∙ a;
         least = ap (λ (x : Server). x .least) (here .0) ∙ b;
         greatest = ap (λ (x : Server). x .greatest) (here .0) ∙ d;
-        count = ap cordCount (here .0) ∙ sym n;
         lowest = rw (← a) (i .lowest);
-        highest = rw (← a) (i .highest);
         ordered = rw (← b, ← d) (i .ordered);
         most = rw (← d) (i .greatest);
-        some = rw n (i .load .some);
-        few = omega (arith, i .load .few);
         cords-within = omega (arith, count-after);
         cord = λ k l. cord-here k (rw n at l);
         next = rw (add-one, w, n) walk-on;

@@ -3,7 +3,7 @@
 use mathlib.Core.Path.{_≡_}
 use mathlib.Core.Bool.{cond, _&&_}
 use mathlib.Core.List.{List, []}
-use Prim.Native.Nat.{ℕ, suc, _+_, _-_, _*_, _/_, _≤_, _<_, min, max}
+use Prim.Native.Nat.{ℕ, suc, _+_, _-_, _*_, _/_, _≤_, _<_, min}
 use lib.Dec.{eqb, ltb}
 use lib.ListN.{length, getD}
 use Rattle.rooms.specs.Sums.{on, sum}
@@ -13,7 +13,7 @@ use Rattle.rooms.specs.Limits.{carried, beneath, checked}
 use Rattle.rooms.specs.Credits.{sumBeneath}
 use Rattle.deals.specs.Figures.{figures, at, cell}
 use Rattle.deals.specs.Cords.{cordAt}
-use Rattle.deals.specs.Metrics.{parentsOf, limitsOf, nodesOf, levelsOf}
+use Rattle.deals.specs.Metrics.{nodesOf, levelsOf}
 use Rattle.deals.specs.Wants.{needs, lowsOf, firstWants}
 use Rattle.deals.specs.Split.{part}
 use Rattle.deals.specs.SecondDeal.{leastOver, freed, secondGrants}

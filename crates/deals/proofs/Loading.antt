@@ -182,13 +182,14 @@ module _ {table demands : List ℕ} {v start first count c word : ℕ} {nodes le
         f ∙ ap (carried scale (at table (word + 1))) e ∙ ap (λ (x : RoomCord). carried scale (x .share) (at loads (x .server))) is
 
     -- One cord more.
-    pub server-cord : {load low want place : ℕ} → load ≡ needWord table start (at demands v)
+    pub server-cord : {load level low want place : ℕ} → load ≡ needWord table start (at demands v)
+        → level ≡ at table start - 1
         → low ≡ carried scale (at table (word + 1)) (at table (start + 1))
         → want ≡ carried scale (at table (word + 1)) load
         → place ≡ v
-        → LoadingServer table demands v start first count (c + 1) (word + 2) (set nodes c (at table word)) (set levels c (at table start - 1)) (set lows c low)
+        → LoadingServer table demands v start first count (c + 1) (word + 2) (set nodes c (at table word)) (set levels c level) (set lows c low)
         (set wants c want) (set shares c (at table (word + 1))) (set servers c place) needed
-    server-cord {low = low} {want = want} {place = place} el ec ew ep =
+    server-cord {level = level} {low = low} {want = want} {place = place} el eh ec ew ep =
         let within : c < roomCords r = rw at-c at (cord-here .within) in
         let standing = loading-server loading (server .more) in
         record {
@@ -200,8 +201,8 @@ module _ {table demands : List ℕ} {v start first count c word : ℕ} {nodes le
             walk = loading .walk;
             nodes-done = filled-one _ (loading .nodes-done) within (ap (λ (x : RoomCord). x .node) is);
             levels-done =
-                filled-one _ (loading .levels-done) within
-                (ap (λ (x : ℕ). x - 1) (sym (standing .rank)) ∙ ap (λ (x : RoomCord). serverAt r (x .server) .rank - 1) is);
+                filled-one level (loading .levels-done) within
+                (eh ∙ ap (λ (x : ℕ). x - 1) (sym (standing .rank)) ∙ ap (λ (x : RoomCord). serverAt r (x .server) .rank - 1) is);
             lows-done = filled-one low (loading .lows-done) within (carried-here (leasts r) (least-here loading (server .more)) ec);
             wants-done = filled-one want (loading .wants-done) within (carried-here (needs r demands) (el ∙ need-here loading (server .more)) ew);
             shares-done = filled-one _ (loading .shares-done) within (ap (λ (x : RoomCord). x .share) is);

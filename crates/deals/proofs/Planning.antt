@@ -80,18 +80,31 @@ module _ (r : Room) {wants : List ℕ} (wanted : Wanted r wants) where
       let d = dealable r (wanted .ok) wants (wanted .least) in
       le-trans (le-of-eq (under-is (length (parentsOf r)) (at (parentsOf r)) (d .rises) (length (nodesOf r)) (at (nodesOf r)) (d .here) n (at (lowsOf r)))) (d .lows n l)
 
--- The wants of the second deal are such.
-pub second-wanted : (table demands : List ℕ) {wants : List ℕ} → OfRoom table (λ r. wants ≡ secondWants r demands) → OfRoom table (λ r. Wanted r wants)
-unfolding secondWants wantsAfter dealOf dealFrom
-second-wanted table demands e r end is =
-    let ok = accepted table r end is in
-    rw (e r end is)
-    (record {
-      ok = ok;
-      size = figures-length (roomCords r) _;
-      least = secondWants-lows r ok demands;
-      most = λ c l. bounded r ok demands .second .wants c (omega (arith, nodesOf-length r));
-    })
+-- The wants of each deal are such.
+module _ (table demands : List ℕ) {wants : List ℕ} where
+  pub first-wanted : OfRoom table (λ r. wants ≡ firstWants r demands) → OfRoom table (λ r. Wanted r wants)
+  unfolding firstWants dealOf dealFrom
+  first-wanted e r end is =
+      let ok = accepted table r end is in
+      rw (e r end is)
+      (record {
+        ok = ok;
+        size = carriedBy-length r (needs r demands);
+        least = firstWants-lows r ok demands;
+        most = λ c l. bounded r ok demands .first .wants c (omega (arith, nodesOf-length r));
+      })
+
+  pub second-wanted : OfRoom table (λ r. wants ≡ secondWants r demands) → OfRoom table (λ r. Wanted r wants)
+  unfolding secondWants wantsAfter dealOf dealFrom
+  second-wanted e r end is =
+      let ok = accepted table r end is in
+      rw (e r end is)
+      (record {
+        ok = ok;
+        size = figures-length (roomCords r) _;
+        least = secondWants-lows r ok demands;
+        most = λ c l. bounded r ok demands .second .wants c (omega (arith, nodesOf-length r));
+      })
 
 -- ---- After a deal, the lists' figures are the room's
 
@@ -179,18 +192,6 @@ module _ (table demands : List ℕ) {parents limits nodes levels lows wants shar
           rw e (usable-lists grants (server-lists r (g .next) (g .is) (cords r (g .next) (g .is)))),
           ap length (l .wants-are) ∙ carriedBy-length r (needs r demands) ∙ sym (ap length (l .shares-are) ∙ figures-length (roomCords r) _),
         )
-
-  pub first-wanted : OfRoom table (λ r. Wanted r wants)
-  unfolding firstWants dealOf dealFrom
-  first-wanted r end is =
-      let ok = accepted table r end is in
-      rw (of-cords r end is .wants-are)
-      (record {
-        ok = ok;
-        size = carriedBy-length r (needs r demands);
-        least = firstWants-lows r ok demands;
-        most = λ c l. bounded r ok demands .first .wants c (omega (arith, nodesOf-length r));
-      })
 
   -- After the first deal, with its grants and what the servers can use of them.
   module _ {grants watts : List ℕ} (dealt : grants ≡ granted (dealFrom parents limits nodes levels lows wants)) (by : watts ≡ usableFrom shares servers needed grants) where

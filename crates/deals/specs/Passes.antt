@@ -86,8 +86,8 @@ ServersFit table size = OfRoom table (λ r. size ≡ length (r .servers))
 abbrev pub CordsFit : List ℕ → ℕ → Type 0
 CordsFit table size = OfRoom table (λ r. size ≡ roomCords r)
 
--- What is lent for the cords and the servers of a good table: for each cord its node's number, its level, its low, its want, its
--- share and the place of its server, and for each server its need.
+-- The lists that are lent for a good table's cords and servers are as long as these are many: for each cord its node's number, its
+-- level, its low, its want, its share and the place of its server; for each server its need.
 pub record CordsLent (table demands nodes levels lows wants shares servers needs : List ℕ) : Type 0 where
   pub good-table : Good (checked table 0)
   pub demands-fit : ServersFit table (length demands)

@@ -18,7 +18,7 @@ make-deal-requires c κs =
     let demands = start .args .demands .now in
     let nodes = c .before .before .before .before .before .before .before .before .before .before .before .before .before .before .before .before .before .before .before .before .before .before .before .before .before .before .before .before .before .before .before .before .before .before .before .before .before .load-nodes .ensures in
     let cords = c .before .before .before .before .before .before .before .before .before .before .before .before .before .before .before .before .before .before .before .before .before .before .before .before .before .load-cords .ensures in
-    deal-asks table demands nodes cords (start .pre .0 .good-table) (first-wanted table demands nodes cords) (start .pre .1 .1 .0) (start .pre .1 .1 .1)
+    deal-asks table demands nodes cords (start .pre .0 .good-table) (first-wanted table demands (λ r end is. cords r end is .wants-are)) (start .pre .1 .1 .0) (start .pre .1 .1 .1)
 
 reclaim-requires : tie.Need-reclaim-requires
 reclaim-requires c κs =

@@ -1,5 +1,5 @@
 -- `load_cords` meets its contract: before each turn the lists have the figures of the cords and servers passed.
-use mathlib.Core.Path.{sym, _∙_}
+use mathlib.Core.Path.{refl, sym, _∙_}
 use Prim.Native.Nat.{_-_, _≤_}
 use native.Mathlib.Omega.{arith}
 use lib.ListN.{length}
@@ -167,7 +167,7 @@ loop2-less : tie.Need-loop2-less Inv-loop2 μ-loop2 Inv-loop μ-loop
 loop2-less c = omega (arith, c .before .before .before .before .before .loop2-test .taken)
 
 loop2-again : tie.Need-loop2-again Inv-loop2 μ-loop2 Inv-loop μ-loop
-loop2-again c = server-cord (c .before .before .before .before .before .before .loop2 .inv) (search needs) (c .before .before .before .before .before .before .before .before .before .need-of .ensures) (c .before .before .carried-by .ensures) (c .before .carried-by2 .ensures) (c .place .ensures)
+loop2-again c = server-cord (c .before .before .before .before .before .before .loop2 .inv) (search needs) (c .before .before .before .before .before .before .before .before .before .need-of .ensures) refl (c .before .before .carried-by .ensures) (c .before .carried-by2 .ensures) (c .place .ensures)
 
 mul-needs : tie.Need-mul-needs Inv-loop2 μ-loop2 Inv-loop μ-loop
 mul-needs c = let loading = c .before .loop2 .inv .loading in omega (arith, loading .needs-done .size-is, loading .served)

@@ -3,7 +3,7 @@ use mathlib.Core.Path.{_≡_, refl, sym, ap, _∙_, subst}
 use mathlib.Core.List.{List, [], _∷_, _++_}
 use mathlib.Core.Logic.{_⊎_, inl, inr, ⊎-elim}
 use Prim.Native.Nat.{ℕ, zero, suc, _+_, _*_, _≤_, _<_}
-use native.Mathlib.Nat.{le-refl, le-trans, le-of-eq, le-suc, zero-add, add-zero, add-suc, add-assoc, not-suc-le-zero, le-of-suc-le-suc, eq-or-lt-of-le}
+use native.Mathlib.Nat.{le-refl, le-trans, le-of-eq, le-suc, zero-add, add-zero, add-assoc, not-suc-le-zero, le-of-suc-le-suc, eq-or-lt-of-le}
 use native.Mathlib.Omega.{arith}
 use lib.ListN.{length, getD, take, drop, drop-of-length-le}
 use lib.Seq.{drop-cons, length-take-le, getD-take}
@@ -72,16 +72,6 @@ module _ {A : Type 0} where
   unfolding total
   total-append f [] m = sym (zero-add (total f m))
   total-append f (a ∷ l) m = ap (λ (z : ℕ). f a + z) (total-append f l m) ∙ sym (add-assoc (f a) (total f l) (total f m))
-
--- ---- Sums over one range of places after another
-
-pub sum-append : (c k : ℕ) (g : ℕ → ℕ) → sum (c + k) g ≡ sum c g + sum k (λ i. g (c + i))
-unfolding sum
-sum-append c zero g = ap (λ (n : ℕ). sum n g) (add-zero c) ∙ sym (add-zero (sum c g))
-sum-append c (suc k) g =
-    ap (λ (n : ℕ). sum n g) (add-suc c k)
-    ∙ ap (λ (s : ℕ). s + g (c + k)) (sum-append c k g)
-    ∙ add-assoc (sum c g) (sum k (λ i. g (c + i))) (g (c + k))
 
 -- ---- Sums of bounded figures
 

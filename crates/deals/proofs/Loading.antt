@@ -1,131 +1,238 @@
--- The turns of the loop that lays out a good table's cords: before each turn the lists have the figures of the cords passed.
+-- The turns of the loops that lay out a good table's cords: before each turn the lists have the figures of the cords and servers passed.
 use mathlib.Core.Path.{_≡_, refl, sym, ap, ap₂, _∙_}
 use mathlib.Core.List.{List}
 use Prim.Native.Nat.{ℕ, _+_, _-_, _*_, _≤_, _<_, min, max}
 use native.Mathlib.Omega.{arith}
-use lib.ListN.{length}
-use lib.Seq.{sets}
-use Rattle.rooms.specs.Part.{good, Good}
-use Rattle.rooms.specs.Table.{Room, scale, roomCords}
+use lib.ListN.{length, set}
+use Rattle.rooms.specs.Part.{good}
+use Rattle.rooms.specs.Table.{Room, scale, mostWatts, mostServers, mostCords, roomCords}
 use Rattle.rooms.specs.Limits.{checked, carried}
+use Rattle.rooms.proofs.Accepted.{accepted}
 use Rattle.deals.specs.Figures.{figures, at}
 use Rattle.deals.specs.Cords.{RoomCord, cordAt, serverAt, rankOf}
-use Rattle.deals.specs.Wants.{need, needs, carriedBy, lowsOf, firstWants}
+use Rattle.deals.specs.Wants.{needs, carriedBy, lowsOf, firstWants}
 use Rattle.deals.specs.Metrics.{nodesOf, levelsOf}
-use Rattle.deals.specs.Passes.{ServersFit, CordsFit, ServerWords, countWord, nodeWord, shareWord}
+use Rattle.deals.specs.Passes.{CordsLent, CordsLaidOut}
 use Rattle.deals.proofs.Lists.{figures-at}
-use Rattle.deals.proofs.Filled.{Filled, filled-none, filled-row, filled-all}
-use Rattle.deals.proofs.Walk.{Walk, ServerHere, walk-start, walk-server, walk-end}
+use Rattle.deals.proofs.Filled.{Filled, filled-none, filled-one, filled-all}
+use Rattle.deals.proofs.Walk.{begun, Walk, CordHere, ServerHere, walk-start, walk-server, walk-end}
 
 -- What the cord at a place of the room's carries, by the servers' loads.
-abbrev pub carriedOf : Room → List ℕ → ℕ → ℕ
+abbrev carriedOf : Room → List ℕ → ℕ → ℕ
 carriedOf r loads h = carried scale (cordAt r h .share) (at loads (cordAt r h .server))
 
 -- The servers' least watts.
 abbrev leasts : Room → List ℕ
 leasts r = figures (length (r .servers)) (λ v. serverAt r v .least)
 
--- ---- The cords of the server that stands next
+-- The need, by a demand, of the server whose words start at an index of the table.
+abbrev needWord : List ℕ → ℕ → ℕ → ℕ
+needWord table start demand = min (max demand (at table (start + 1))) (at table (start + 2))
 
-module _ {table : List ℕ} {r : Room} {v start c : ℕ} (here : ServerHere table r v start c) where
-  -- Its words, as code may rely on them.
-  pub words-here : ServerWords table start
-  words-here =
-      record {
-        there = here .past;
-        ranked = here .lowest;
-        least = omega (arith, here .ordered, here .most);
-        shares = λ k l. here .cord k l .share-most;
-      }
-
-  pub need-here : (demands : List ℕ) → v < length (r .servers) → min (max (at demands v) (at table (start + 1))) (at table (start + 2)) ≡ at (needs r demands) v
-  unfolding needs
-  need-here demands h =
-      ap₂ (λ (x y : ℕ). min (max (at demands v) x) y) (sym (here .least)) (sym (here .greatest))
-      ∙ sym (figures-at (length (r .servers)) v (λ v. need (serverAt r v) (at demands v)) h)
-
-  least-here : v < length (r .servers) → at table (start + 1) ≡ at (leasts r) v
-  least-here h = sym (figures-at (length (r .servers)) v (λ v. serverAt r v .least) h ∙ here .least)
-
-  module _ (k : ℕ) (l : k < countWord table start) where
-    pub node-is : nodeWord table start k ≡ cordAt r (c + k) .node
-    node-is = ap (λ (x : RoomCord). x .node) (sym (here .cord k l .is))
-
-    pub level-is : at table start - 1 ≡ rankOf r (c + k) - 1
-    level-is = ap (λ (x : ℕ). x - 1) (sym (here .rank)) ∙ ap (λ (x : RoomCord). serverAt r (x .server) .rank - 1) (sym (here .cord k l .is))
-
-    pub carried-is : (loads : List ℕ) (load : ℕ) → load ≡ at loads v → carried scale (shareWord table start k) load ≡ carriedOf r loads (c + k)
-    carried-is loads load e =
-        ap (carried scale (shareWord table start k)) e ∙ ap (λ (x : RoomCord). carried scale (x .share) (at loads (x .server))) (sym (here .cord k l .is))
-
--- ---- The loop
-
-pub record Loading (table demands : List ℕ) (v start c : ℕ) (nodes levels lows wants : List ℕ) : Type 0 where
+-- The walk stands before the server at place v, whose cords stand from place `first` on; the figures of the servers before it and
+-- of the cords before place c are laid out.
+pub record Loading (table demands : List ℕ) (v start first c : ℕ) (nodes levels lows wants shares servers needed : List ℕ) : Type 0 where
   pub room : Room
   pub end : ℕ
   pub read : checked table 0 ≡ good room end
   pub served : length demands ≡ length (room .servers)
-  pub walk : Walk table room v start c
+  pub walk : Walk table room v start first
   pub nodes-done : Filled (λ h. cordAt room h .node) (roomCords room) c nodes
   pub levels-done : Filled (λ h. rankOf room h - 1) (roomCords room) c levels
   pub lows-done : Filled (carriedOf room (leasts room)) (roomCords room) c lows
   pub wants-done : Filled (carriedOf room (needs room demands)) (roomCords room) c wants
+  pub shares-done : Filled (λ h. cordAt room h .share) (roomCords room) c shares
+  pub servers-done : Filled (λ h. cordAt room h .server) (roomCords room) c servers
+  pub needs-done : Filled (at (needs room demands)) (length (room .servers)) v needed
 
-module _ {table demands : List ℕ} where
-  pub loading-start : {nodes levels lows wants : List ℕ} → Good (checked table 0) → ServersFit table (length demands)
-      → CordsFit table (length nodes) → CordsFit table (length levels) → CordsFit table (length lows) → CordsFit table (length wants)
-      → (n : ℕ) → n ≡ at table 1 → Loading table demands 0 (3 + 2 * n) 0 nodes levels lows wants
-  loading-start {nodes} {levels} {lows} {wants} g fit a b d f n e =
+-- Within that server: the words of the cord at place c start at index `word`.
+pub record LoadingServer (table demands : List ℕ) (v start first count c word : ℕ) (nodes levels lows wants shares servers needed : List ℕ) : Type 0 where
+  pub loading : Loading table demands v start first c nodes levels lows wants shares servers needed
+  pub more : v < length demands
+  pub counted : count ≡ at table (start + 3)
+  pub from : first ≤ c
+  pub to : c ≤ first + count
+  pub next : word + 2 * first ≡ start + 4 + 2 * c
+
+-- What code relies on at that cord.
+pub record CordFits (table : List ℕ) (v start c word : ℕ) (nodes levels lows wants shares servers : List ℕ) : Type 0 where
+  pub there : word + 1 < length table
+  pub share-most : at table (word + 1) ≤ scale
+  pub greatest-most : at table (start + 2) ≤ mostWatts
+  pub least-most : at table (start + 1) ≤ mostWatts
+  pub server-few : v < mostServers
+  pub cord-few : c < mostCords
+  pub in-nodes : c < length nodes
+  pub in-levels : c < length levels
+  pub in-lows : c < length lows
+  pub in-wants : c < length wants
+  pub in-shares : c < length shares
+  pub in-servers : c < length servers
+
+pub loading-start : {table demands nodes levels lows wants shares servers needed : List ℕ} → CordsLent table demands nodes levels lows wants shares servers needed
+    → (n : ℕ) → n ≡ at table 1 → Loading table demands 0 (3 + 2 * n) 0 0 nodes levels lows wants shares servers needed
+loading-start {nodes = nodes} {levels = levels} {lows = lows} {wants = wants} {shares = shares} {servers = servers} {needed = needed} lent n e =
+    let g = lent .good-table in
+    record {
+      room = g .value;
+      end = g .next;
+      read = g .is;
+      served = lent .demands-fit (g .value) (g .next) (g .is);
+      walk = walk-start (g .is) n e;
+      nodes-done = rw (← lent .nodes-fit (g .value) (g .next) (g .is)) (filled-none _ nodes);
+      levels-done = rw (← lent .levels-fit (g .value) (g .next) (g .is)) (filled-none _ levels);
+      lows-done = rw (← lent .lows-fit (g .value) (g .next) (g .is)) (filled-none _ lows);
+      wants-done = rw (← lent .wants-fit (g .value) (g .next) (g .is)) (filled-none _ wants);
+      shares-done = rw (← lent .shares-fit (g .value) (g .next) (g .is)) (filled-none _ shares);
+      servers-done = rw (← lent .servers-fit (g .value) (g .next) (g .is)) (filled-none _ servers);
+      needs-done = rw (← lent .needs-fit (g .value) (g .next) (g .is)) (filled-none _ needed);
+    }
+
+module _ {table demands : List ℕ} {v start first c : ℕ} {nodes levels lows wants shares servers needed : List ℕ}
+    (loading : Loading table demands v start first c nodes levels lows wants shares servers needed) where
+  pub loading-end : length demands ≤ v → first ≤ c → (r : Room) (end : ℕ) → checked table 0 ≡ good r end
+      → CordsLaidOut r demands nodes levels lows wants shares servers needed
+  unfolding nodesOf levelsOf lowsOf firstWants carriedBy needs
+  loading-end h f r end e =
+      let read = loading .read in
+      let same : loading .room ≡ r = cc in
+      let s : length (loading .room .servers) ≤ v = omega (arith, loading .served) in
+      let n : roomCords (loading .room) ≤ c = omega (arith, walk-end (loading .walk) s) in
+      rw (← same)
+      (record {
+        nodes-are = filled-all _ _ (loading .nodes-done) refl n (λ i l. refl);
+        levels-are = filled-all _ _ (loading .levels-done) refl n (λ i l. refl);
+        lows-are = filled-all _ _ (loading .lows-done) refl n (λ i l. refl);
+        wants-are = filled-all _ _ (loading .wants-done) refl n (λ i l. refl);
+        shares-are = filled-all _ _ (loading .shares-done) refl n (λ i l. refl);
+        servers-are = filled-all _ _ (loading .servers-done) refl n (λ i l. refl);
+        needs-are = filled-all _ _ (loading .needs-done) refl s (λ i l. figures-at _ i _ l);
+      })
+
+  module _ (more : v < length demands) where
+    here : v < length (loading .room .servers)
+    here = omega (arith, loading .served)
+
+    pub loading-server : ServerHere table (loading .room) v start first
+    loading-server = walk-server (loading .walk) here
+
+    need-here : needWord table start (at demands v) ≡ at (needs (loading .room) demands) v
+    unfolding needs
+    need-here =
+        ap₂ (λ (x y : ℕ). min (max (at demands v) x) y) (sym (loading-server .least)) (sym (loading-server .greatest))
+        ∙ sym (figures-at (length (loading .room .servers)) v _ here)
+
+    least-here : at table (start + 1) ≡ at (leasts (loading .room)) v
+    least-here = sym (figures-at (length (loading .room .servers)) v _ here ∙ loading-server .least)
+
+walk-to : {table : List ℕ} {r : Room} {v i j c d : ℕ} → i ≡ j → c ≡ d → Walk table r v j d → Walk table r v i c
+walk-to e f walk = rw (e, f) walk
+
+pub server-begin : {table demands : List ℕ} {v start first count : ℕ} {nodes levels lows wants shares servers needed : List ℕ}
+    → Loading table demands v start first first nodes levels lows wants shares servers needed → v < length demands → count ≡ at table (start + 3)
+    → LoadingServer table demands v start first count first (start + 4) nodes levels lows wants shares servers needed
+server-begin loading more e =
+    record { loading = loading; more = more; counted = e; from = omega arith; to = omega arith; next = omega arith }
+
+module _ {table demands : List ℕ} {v start first count c word : ℕ} {nodes levels lows wants shares servers needed : List ℕ}
+    (server : LoadingServer table demands v start first count c word nodes levels lows wants shares servers needed) where
+  abbrev loading : Loading table demands v start first c nodes levels lows wants shares servers needed
+  loading = server .loading
+
+  abbrev r : Room
+  r = server .loading .room
+
+  module _ (short : c < first + count) where
+    cord-here : CordHere table r v start first (c - first)
+    cord-here = loading-server loading (server .more) .cord (c - first) (omega (arith, server .counted, server .from))
+
+    at-c : first + (c - first) ≡ c
+    at-c = omega (arith, server .from)
+
+    at-word : start + 4 + 2 * (c - first) ≡ word
+    at-word = omega (arith, server .from, server .next)
+
+    at-share : start + 5 + 2 * (c - first) ≡ word + 1
+    at-share = omega (arith, server .from, server .next)
+
+    is : record { server = v; node = at table word; share = at table (word + 1) } ≡ cordAt r c
+    is = sym (rw (at-c, at-word, at-share) at (cord-here .is))
+
+    pub cord-fits : CordFits table v start c word nodes levels lows wants shares servers
+    cord-fits =
+        let within : c < roomCords r = rw at-c at (cord-here .within) in
+        let standing = loading-server loading (server .more) in
+        record {
+          there = omega (arith, cord-here .there, at-share);
+          share-most = rw at-share at (cord-here .share-most);
+          greatest-most = standing .most;
+          least-most = omega (arith, standing .ordered, standing .most);
+          server-few = omega (arith, server .more, loading .served, accepted table r (loading .end) (loading .read) .fewServers);
+          cord-few = omega (arith, begun (loading .read) .cords-most);
+          in-nodes = omega (arith, loading .nodes-done .size-is);
+          in-levels = omega (arith, loading .levels-done .size-is);
+          in-lows = omega (arith, loading .lows-done .size-is);
+          in-wants = omega (arith, loading .wants-done .size-is);
+          in-shares = omega (arith, loading .shares-done .size-is);
+          in-servers = omega (arith, loading .servers-done .size-is);
+        }
+
+    carried-here : (loads : List ℕ) {load x : ℕ} → load ≡ at loads v → x ≡ carried scale (at table (word + 1)) load → x ≡ carriedOf r loads c
+    carried-here loads e f =
+        f ∙ ap (carried scale (at table (word + 1))) e ∙ ap (λ (x : RoomCord). carried scale (x .share) (at loads (x .server))) is
+
+    -- One cord more.
+    pub server-cord : {load level low want place : ℕ} → load ≡ needWord table start (at demands v)
+        → level ≡ at table start - 1
+        → low ≡ carried scale (at table (word + 1)) (at table (start + 1))
+        → want ≡ carried scale (at table (word + 1)) load
+        → place ≡ v
+        → LoadingServer table demands v start first count (c + 1) (word + 2) (set nodes c (at table word)) (set levels c level) (set lows c low)
+        (set wants c want) (set shares c (at table (word + 1))) (set servers c place) needed
+    server-cord {level = level} {low = low} {want = want} {place = place} el eh ec ew ep =
+        let within : c < roomCords r = rw at-c at (cord-here .within) in
+        let standing = loading-server loading (server .more) in
+        record {
+          loading = record {
+            room = r;
+            end = loading .end;
+            read = loading .read;
+            served = loading .served;
+            walk = loading .walk;
+            nodes-done = filled-one _ (loading .nodes-done) within (ap (λ (x : RoomCord). x .node) is);
+            levels-done =
+                filled-one level (loading .levels-done) within
+                (eh ∙ ap (λ (x : ℕ). x - 1) (sym (standing .rank)) ∙ ap (λ (x : RoomCord). serverAt r (x .server) .rank - 1) is);
+            lows-done = filled-one low (loading .lows-done) within (carried-here (leasts r) (least-here loading (server .more)) ec);
+            wants-done = filled-one want (loading .wants-done) within (carried-here (needs r demands) (el ∙ need-here loading (server .more)) ew);
+            shares-done = filled-one _ (loading .shares-done) within (ap (λ (x : RoomCord). x .share) is);
+            servers-done = filled-one place (loading .servers-done) within (ep ∙ ap (λ (x : RoomCord). x .server) is);
+            needs-done = loading .needs-done;
+          };
+          more = server .more;
+          counted = server .counted;
+          from = omega (arith, server .from);
+          to = omega arith;
+          next = omega (arith, server .next);
+        }
+
+  -- The server is passed, after its cords.
+  pub server-end : {load : ℕ} → first + count ≤ c → load ≡ needWord table start (at demands v)
+      → Loading table demands (v + 1) word (first + count) (first + count) nodes levels lows wants shares servers (set needed v load)
+  server-end {load} h el =
+      let all : first + count ≡ c = omega (arith, server .to) in
+      let w : word ≡ start + (4 + 2 * at table (start + 3)) = omega (arith, server .counted, server .next) in
       record {
-        room = g .value;
-        end = g .next;
-        read = g .is;
-        served = fit (g .value) (g .next) (g .is);
-        walk = walk-start (g .is) n e;
-        nodes-done = rw (← a (g .value) (g .next) (g .is)) (filled-none _ nodes);
-        levels-done = rw (← b (g .value) (g .next) (g .is)) (filled-none _ levels);
-        lows-done = rw (← d (g .value) (g .next) (g .is)) (filled-none _ lows);
-        wants-done = rw (← f (g .value) (g .next) (g .is)) (filled-none _ wants);
+        room = r;
+        end = loading .end;
+        read = loading .read;
+        served = loading .served;
+        walk = walk-to w (ap (λ (k : ℕ). first + k) (server .counted)) (loading-server loading (server .more) .next);
+        nodes-done = rw all (loading .nodes-done);
+        levels-done = rw all (loading .levels-done);
+        lows-done = rw all (loading .lows-done);
+        wants-done = rw all (loading .wants-done);
+        shares-done = rw all (loading .shares-done);
+        servers-done = rw all (loading .servers-done);
+        needs-done = filled-one load (loading .needs-done) (here loading (server .more)) (el ∙ need-here loading (server .more));
       }
-
-  module _ {v start c : ℕ} {nodes levels lows wants : List ℕ} (loading : Loading table demands v start c nodes levels lows wants) where
-    pub loading-server : v < length demands → ServerHere table (loading .room) v start c
-    loading-server h = walk-server (loading .walk) (omega (arith, loading .served))
-
-    pub loading-turn : v < length demands → (load n : ℕ) → load ≡ min (max (at demands v) (at table (start + 1))) (at table (start + 2)) → n ≡ countWord table start
-        → (nodes′ levels′ lows′ wants′ : List ℕ)
-        → nodes′ ≡ sets nodes c (figures (countWord table start) (nodeWord table start))
-        → levels′ ≡ sets levels c (figures (countWord table start) (λ _. at table start - 1))
-        → lows′ ≡ sets lows c (figures (countWord table start) (λ k. carried scale (shareWord table start k) (at table (start + 1))))
-        → wants′ ≡ sets wants c (figures (countWord table start) (λ k. carried scale (shareWord table start k) load))
-        → Loading table demands (v + 1) (start + (4 + 2 * n)) (c + n) nodes′ levels′ lows′ wants′
-    loading-turn h load n el en nodes′ levels′ lows′ wants′ a b d f =
-        let here = loading-server h in
-        let r = loading .room in
-        let q : v < length (r .servers) = omega (arith, loading .served) in
-        rw (en, a, b, d, f)
-        (record {
-          room = r;
-          end = loading .end;
-          read = loading .read;
-          served = loading .served;
-          walk = here .next;
-          nodes-done = filled-row _ _ (loading .nodes-done) (here .cords-within) (λ k l. node-is here k l);
-          levels-done = filled-row _ _ (loading .levels-done) (here .cords-within) (λ k l. level-is here k l);
-          lows-done = filled-row _ _ (loading .lows-done) (here .cords-within) (λ k l. carried-is here k l (leasts r) _ (least-here here q));
-          wants-done = filled-row _ _ (loading .wants-done) (here .cords-within) (λ k l. carried-is here k l (needs r demands) load (el ∙ need-here here demands q));
-        })
-
-    pub loading-end : length demands ≤ v → (r : Room) (end : ℕ) → checked table 0 ≡ good r end
-        → (nodes ≡ nodesOf r) × (levels ≡ levelsOf r) × (lows ≡ lowsOf r) × (wants ≡ firstWants r demands)
-    unfolding nodesOf levelsOf lowsOf firstWants carriedBy
-    loading-end h r end e =
-        let read = loading .read in
-        let same : loading .room ≡ r = cc in
-        let n : roomCords (loading .room) ≤ c = omega (arith, walk-end (loading .walk) (omega (arith, loading .served))) in
-        rw (← same) (
-          filled-all _ _ (loading .nodes-done) refl n (λ i l. refl),
-          filled-all _ _ (loading .levels-done) refl n (λ i l. refl),
-          filled-all _ _ (loading .lows-done) refl n (λ i l. refl),
-          filled-all _ _ (loading .wants-done) refl n (λ i l. refl),
-        )

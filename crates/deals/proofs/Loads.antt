@@ -2,7 +2,7 @@
 use mathlib.Core.Path.{_≡_, refl, sym, ap, ap₂, _∙_}
 use mathlib.Core.Bool.{Bool, true, false, cond, _&&_, false≢true}
 use Prim.Native.Nat.{ℕ, zero, suc, _+_, _*_, _-_, _/_, _≤_, _<_, min}
-use native.Mathlib.Nat.{le-refl, le-trans, le-of-eq, le-suc, le-min, mul-le-mul-left, mul-le-mul-right, le-div-iff-mul-le, div-lt-iff-lt-mul, mul-comm, eq-or-lt-of-le, le-of-suc-le-suc, add-zero, add-suc}
+use native.Mathlib.Nat.{le-refl, le-trans, le-of-eq, le-suc, le-min, mul-le-mul-left, mul-le-mul-right, le-div-iff-mul-le, div-lt-iff-lt-mul, mul-comm, eq-or-lt-of-le, le-of-suc-le-suc}
 use native.Mathlib.Numerals.{add-one}
 use native.Mathlib.Omega.{arith}
 use mathlib.Core.Logic.{_⊎_, inl, inr}
@@ -98,7 +98,7 @@ leastOver-cong (suc k) test same f g a b e t h =
     go false true w p q = absurd (false≢true w)
     go false false w p q = p
 
--- One place more, none at all, places of which the test does not hold, and one range of places after another.
+-- One place more, and none at all.
 pub leastOver-next : (k : ℕ) (test : ℕ → Bool) (g : ℕ → ℕ) (start : ℕ) (t : Bool) → test k ≡ t
     → leastOver (k + 1) test g start ≡ cond t (min (leastOver k test g start) (g k)) (leastOver k test g start)
 unfolding leastOver
@@ -107,16 +107,3 @@ leastOver-next k test g start t e = rw (add-one, e)
 pub leastOver-zero : (test : ℕ → Bool) (g : ℕ → ℕ) (start : ℕ) → leastOver 0 test g start ≡ start
 unfolding leastOver
 leastOver-zero test g start = refl
-
-pub leastOver-none : (k : ℕ) (test : ℕ → Bool) (g : ℕ → ℕ) (start : ℕ) → ((i : ℕ) → i < k → test i ≡ false) → leastOver k test g start ≡ start
-unfolding leastOver
-leastOver-none zero test g start h = refl
-leastOver-none (suc k) test g start h = rw (h k (le-refl (suc k))) (leastOver-none k test g start (λ i l. h i (le-trans l (le-suc k))))
-
-pub leastOver-append : (a k : ℕ) (test : ℕ → Bool) (g : ℕ → ℕ) (start : ℕ)
-    → leastOver (a + k) test g start ≡ leastOver k (λ i. test (a + i)) (λ i. g (a + i)) (leastOver a test g start)
-unfolding leastOver
-leastOver-append a zero test g start = ap (λ (n : ℕ). leastOver n test g start) (add-zero a)
-leastOver-append a (suc k) test g start =
-    ap (λ (n : ℕ). leastOver n test g start) (add-suc a k)
-    ∙ ap (λ (least : ℕ). cond (test (a + k)) (min least (g (a + k))) least) (leastOver-append a k test g start)

@@ -1,36 +1,36 @@
 -- Both deals in the room's lists: what each call asks, and that what it leaves is what the plan's definition says.
 use mathlib.Core.Path.{_≡_, sym, ap, _∙_}
+use mathlib.Core.Bool.{cond, _&&_}
 use mathlib.Core.List.{List}
-use Prim.Native.Nat.{ℕ, _≤_, _<_}
+use Prim.Native.Nat.{ℕ, _-_, _*_, _/_, _≤_, _<_}
 use native.Mathlib.Nat.{le-trans, le-of-eq}
 use native.Mathlib.Omega.{arith}
+use lib.Dec.{eqb, ltb}
 use lib.ListN.{length, getD, take, replicate}
-use Rattle.rooms.specs.Part.{Good}
-use Rattle.rooms.specs.Table.{Room, roomCords, mostWatts, mostNodes, mostCords}
-use Rattle.rooms.specs.Limits.{checked}
+use Rattle.rooms.specs.Part.{good, Good}
+use Rattle.rooms.specs.Table.{Room, scale, roomCords, mostWatts, mostNodes, mostServers, mostCords}
+use Rattle.rooms.specs.Limits.{checked, carried}
 use Rattle.rooms.proofs.Accepted.{Accepted, accepted}
 use Rattle.rooms.proofs.Trees.{under, under-is}
-use Rattle.deals.specs.Figures.{at, sumOf}
-use Rattle.deals.specs.Wants.{needs, lowsOf, firstWants}
+use Rattle.deals.specs.Figures.{figures, at, sumOf}
+use Rattle.deals.specs.Cords.{cordAt}
+use Rattle.deals.specs.Wants.{needs, carriedBy, lowsOf, firstWants}
 use Rattle.deals.specs.Metrics.{dealFrom, dealOf, parentsOf, limitsOf, nodesOf, levelsOf}
 use Rattle.deals.specs.Dealing.{granted, grantsBy}
-use Rattle.deals.specs.SecondDeal.{usable, stranded, wantsAfter, firstGrants, firstUsable, firstUsed, secondWants, secondGrants}
+use Rattle.deals.specs.SecondDeal.{leastOver, usable, stranded, wantsAfter, firstGrants, firstUsable, firstUsed, secondWants, secondGrants}
 use Rattle.deals.specs.SecondDeal as second
-use Rattle.deals.specs.Passes.{NodeLists, CordLists, LowsWithin, DealLists, OfRoom, CapLists, RoomLists, usedBy, NodesFit, ServersFit, CordsFit}
+use Rattle.deals.specs.Passes.{NodeLists, CordLists, LowsWithin, DealLists, ServerLists, OfRoom, NodesFit, ServersFit, CordsFit, CordsLaidOut, sharesOf, serversOf, usableFrom, usedFrom, strandedFrom, wantsFrom}
 use Rattle.deals.proofs.Lists.{figures-length}
-use Rattle.deals.proofs.RoomDeals.{parentsOf-length, limitsOf-length, nodesOf-length, levelsOf-length}
-use Rattle.deals.proofs.BothDeals.{lowsOf-length, carriedBy-length, dealable, firstWants-lows, secondWants-lows}
+use Rattle.deals.proofs.RoomDeals.{parentsOf-length, limitsOf-length, nodesOf-length, levelsOf-length, sharesOf-at, serversOf-at}
+use Rattle.deals.proofs.BothDeals.{cord-facts, lowsOf-length, carriedBy-length, dealable, firstWants-lows, secondWants-lows}
 use Rattle.deals.proofs.Bounds.{bounded}
 use Rattle.deals.proofs.RankLoop.{zeros-front}
 use Rattle.deals.proofs.Walk.{begun}
+use Rattle.deals.proofs.Reclaiming.{usable-lists}
 
 -- A list as long as another one that fits.
 pub cords-fit : (table : List ℕ) {m n : ℕ} → m ≡ n → CordsFit table n → CordsFit table m
 cords-fit table e h r end is = e ∙ h r end is
-
-pub caps-kept : {table demands grants grants′ caps : List ℕ} → CapLists table demands grants caps → length grants′ ≡ length grants → CapLists table demands grants′ caps
-caps-kept {table = table} l e =
-    record { good-table = l .good-table; demands-fit = l .demands-fit; grants-fit = cords-fit table e (l .grants-fit); caps-fit = l .caps-fit }
 
 pub servers-fit : (table : List ℕ) {m n : ℕ} → m ≡ n → ServersFit table n → ServersFit table m
 servers-fit table e h r end is = e ∙ h r end is
@@ -80,12 +80,6 @@ module _ (r : Room) {wants : List ℕ} (wanted : Wanted r wants) where
       let d = dealable r (wanted .ok) wants (wanted .least) in
       le-trans (le-of-eq (under-is (length (parentsOf r)) (at (parentsOf r)) (d .rises) (length (nodesOf r)) (at (nodesOf r)) (d .here) n (at (lowsOf r)))) (d .lows n l)
 
-  list-asks : {parents limits nodes levels lows : List ℕ} {grantCount : ℕ} → RoomLists r parents limits nodes levels lows → grantCount ≡ roomCords r
-      → DealLists parents limits nodes levels lows wants grantCount
-  list-asks l g =
-      rw (l .parents-are, l .limits-are, l .nodes-are, l .levels-are, l .lows-are)
-      (record { of-nodes = room-nodes; of-cords = room-cords; lows-within = room-lows; grants-size = g ∙ sym (nodesOf-length r) })
-
 -- The wants of each deal are such.
 module _ (table demands : List ℕ) {wants : List ℕ} where
   pub first-wanted : OfRoom table (λ r. wants ≡ firstWants r demands) → OfRoom table (λ r. Wanted r wants)
@@ -112,48 +106,131 @@ module _ (table demands : List ℕ) {wants : List ℕ} where
         most = λ c l. bounded r ok demands .second .wants c (omega (arith, nodesOf-length r));
       })
 
--- The lists of a good table's room, with such wants, are what a deal asks.
-pub deal-asks : (table : List ℕ) {parents limits nodes levels lows wants : List ℕ} {grantCount : ℕ} → Good (checked table 0)
-    → OfRoom table (λ r. RoomLists r parents limits nodes levels lows)
-    → OfRoom table (λ r. Wanted r wants)
-    → CordsFit table grantCount
-    → DealLists parents limits nodes levels lows wants grantCount
-deal-asks table g lists wanted fit = list-asks (g .value) (wanted (g .value) (g .next) (g .is)) (lists (g .value) (g .next) (g .is)) (fit (g .value) (g .next) (g .is))
+-- ---- After a deal, the lists' figures are the room's
 
--- ---- What the two deals leave
+module _ (r : Room) where
+  usable-is : (needed grants : List ℕ) → length needed ≡ length (r .servers) → usableFrom (sharesOf r) (serversOf r) needed grants ≡ usable r needed grants
+  unfolding usable
+  usable-is needed grants e = λ i.
+      figures (e i) (λ v.
+      leastOver (figures-length (roomCords r) (λ c. cordAt r c .share) i) (λ c. eqb (serversOf-at r c i) v && ltb 0 (sharesOf-at r c i))
+      (λ c. scale * at grants c / sharesOf-at r c i) (at needed v))
 
-module _ (table wants : List ℕ) {parents limits nodes levels lows : List ℕ} (lists : OfRoom table (λ r. RoomLists r parents limits nodes levels lows)) where
-  grants-are : {grants : List ℕ} → grants ≡ granted (dealFrom parents limits nodes levels lows wants) → OfRoom table (λ r. grants ≡ grantsBy r wants)
-  unfolding grantsBy dealOf
-  grants-are e r end is =
-      let l = lists r end is in
-      e ∙ rw (l .parents-are, l .limits-are, l .nodes-are, l .levels-are, l .lows-are)
+  used-is : (loads : List ℕ) → usedFrom (sharesOf r) (serversOf r) loads ≡ carriedBy r loads
+  unfolding carriedBy
+  used-is loads = λ i. figures (figures-length (roomCords r) (λ c. cordAt r c .share) i) (λ c. carried scale (sharesOf-at r c i) (at loads (serversOf-at r c i)))
 
-  module _ (demands : List ℕ) (first : OfRoom table (λ r. wants ≡ firstWants r demands)) {grants : List ℕ}
-      (dealt : grants ≡ granted (dealFrom parents limits nodes levels lows wants)) where
-    first-grants : OfRoom table (λ r. grants ≡ firstGrants r demands)
-    unfolding firstGrants
-    first-grants r end is = grants-are dealt r end is ∙ ap (grantsBy r) (first r end is)
+  module _ (used grants : List ℕ) (e : length used ≡ roomCords r) where
+    stranded-is : strandedFrom used grants ≡ stranded r grants used
+    unfolding stranded
+    stranded-is = ap (λ (n : ℕ). figures n (λ c. at grants c - at used c)) e
 
-    pub freed-is : {watts : ℕ} → OfRoom table (λ r. watts ≡ sumOf (stranded r grants (usedBy r demands grants)))
-        → OfRoom table (λ r. watts ≡ second.freed r demands)
-    unfolding second.freed firstUsed firstUsable
-    freed-is e r end is = e r end is ∙ rw (first-grants r end is)
+    wants-is : (wants : List ℕ) → wantsFrom used grants wants ≡ wantsAfter r wants grants used
+    unfolding wantsAfter stranded
+    wants-is wants = ap (λ (n : ℕ). figures n (λ c. cond (ltb 0 (at (figures n (λ c. at grants c - at used c)) c)) (at used c) (at wants c))) e
 
-    pub second-wants : {wants′ : List ℕ} → OfRoom table (λ r. wants′ ≡ wantsAfter r wants grants (usedBy r demands grants))
-        → OfRoom table (λ r. wants′ ≡ secondWants r demands)
-    unfolding secondWants firstUsed firstUsable
-    second-wants e r end is = e r end is ∙ rw (first r end is, first-grants r end is)
+-- ---- What the calls ask of the room's lists, and what they leave in them
 
-  pub second-grants : (demands : List ℕ) → OfRoom table (λ r. wants ≡ secondWants r demands) → {grants : List ℕ}
-      → grants ≡ granted (dealFrom parents limits nodes levels lows wants) → OfRoom table (λ r. grants ≡ secondGrants r demands)
-  unfolding secondGrants
-  second-grants demands second dealt r end is = grants-are dealt r end is ∙ ap (grantsBy r) (second r end is)
+module _ (table demands : List ℕ) {parents limits nodes levels lows wants shares servers needed : List ℕ}
+    (of-nodes : OfRoom table (λ r. (parents ≡ parentsOf r) × (limits ≡ limitsOf r)))
+    (of-cords : OfRoom table (λ r. CordsLaidOut r demands nodes levels lows wants shares servers needed)) where
+  module _ (r : Room) (end : ℕ) (is : checked table 0 ≡ good r end) where
+    needs-size : length needed ≡ length (r .servers)
+    unfolding needs
+    needs-size = ap length (of-cords r end is .needs-are) ∙ figures-length (length (r .servers)) _
 
-pub caps-are : (table demands : List ℕ) {grants caps : List ℕ} → OfRoom table (λ r. grants ≡ secondGrants r demands)
-    → OfRoom table (λ r. caps ≡ usable r (needs r demands) grants) → OfRoom table (λ r. caps ≡ second.caps r demands)
-unfolding second.caps
-caps-are table demands g e r end is = e r end is ∙ rw (g r end is)
+    deal-lists : {given : List ℕ} {grantCount : ℕ} → Wanted r given → grantCount ≡ roomCords r → DealLists parents limits nodes levels lows given grantCount
+    deal-lists wanted g =
+        let l = of-cords r end is in
+        rw (of-nodes r end is .0, of-nodes r end is .1, l .nodes-are, l .levels-are, l .lows-are)
+        (record { of-nodes = room-nodes r wanted; of-cords = room-cords r wanted; lows-within = room-lows r wanted; grants-size = g ∙ sym (nodesOf-length r) })
+
+    server-lists : {grantCount : ℕ} → grantCount ≡ roomCords r → ServerLists shares servers needed grantCount
+    server-lists g =
+        let l = of-cords r end is in
+        let ok = accepted table r end is in
+        let n = figures-length (roomCords r) (λ c. cordAt r c .share) in
+        rw (l .shares-are, l .servers-are)
+        (record {
+          few = omega (arith, n, ok .fewCords);
+          servers-size = figures-length (roomCords r) _ ∙ sym n;
+          grants-size = g ∙ sym n;
+          within = λ c h. omega (arith, serversOf-at r c, cord-facts r ok c (omega arith) .0, needs-size);
+          parts = λ c h. omega (arith, sharesOf-at r c, cord-facts r ok c (omega arith) .3);
+          most = λ v h. rw (l .needs-are) (bounded r ok demands .needs v (omega (arith, needs-size)));
+        })
+
+    grants-are : (given : List ℕ) {grants : List ℕ} → grants ≡ granted (dealFrom parents limits nodes levels lows given) → grants ≡ grantsBy r given
+    unfolding grantsBy dealOf
+    grants-are given e =
+        let l = of-cords r end is in
+        e ∙ rw (of-nodes r end is .0, of-nodes r end is .1, l .nodes-are, l .levels-are, l .lows-are)
+
+    usable-are : (grants : List ℕ) {watts : List ℕ} → watts ≡ usableFrom shares servers needed grants → watts ≡ usable r (needs r demands) grants
+    usable-are grants e =
+        let l = of-cords r end is in
+        e ∙ rw (l .shares-are, l .servers-are) (usable-is r needed grants needs-size) ∙ ap (λ (n : List ℕ). usable r n grants) (l .needs-are)
+
+  module _ (g : Good (checked table 0)) where
+    -- A deal by wants that the room can be dealt by.
+    pub deal-asks : {given : List ℕ} {grantCount usableCount : ℕ} → OfRoom table (λ r. Wanted r given) → CordsFit table grantCount → ServersFit table usableCount
+        → DealLists parents limits nodes levels lows given grantCount × (ServerLists shares servers needed grantCount × (usableCount ≡ length needed))
+    deal-asks wanted cords caps =
+        let r = g .value in
+        let fit = cords r (g .next) (g .is) in (
+          deal-lists r (g .next) (g .is) (wanted r (g .next) (g .is)) fit,
+          (server-lists r (g .next) (g .is) fit, caps r (g .next) (g .is) ∙ sym (needs-size r (g .next) (g .is))),
+        )
+
+    -- The first deal's stranded watts.
+    pub reclaim-asks : (grants : List ℕ) {watts : List ℕ} → CordsFit table (length grants) → watts ≡ usableFrom shares servers needed grants
+        → ServerLists shares servers watts (length grants) × (length wants ≡ length shares)
+    unfolding firstWants
+    reclaim-asks grants cords e =
+        let r = g .value in
+        let l = of-cords r (g .next) (g .is) in (
+          rw e (usable-lists grants (server-lists r (g .next) (g .is) (cords r (g .next) (g .is)))),
+          ap length (l .wants-are) ∙ carriedBy-length r (needs r demands) ∙ sym (ap length (l .shares-are) ∙ figures-length (roomCords r) _),
+        )
+
+  -- After the first deal, with its grants and what the servers can use of them.
+  module _ {grants watts : List ℕ} (dealt : grants ≡ granted (dealFrom parents limits nodes levels lows wants)) (by : watts ≡ usableFrom shares servers needed grants) where
+    module _ (r : Room) (end : ℕ) (is : checked table 0 ≡ good r end) where
+      first-grants : grants ≡ firstGrants r demands
+      unfolding firstGrants
+      first-grants = grants-are r end is wants dealt ∙ ap (grantsBy r) (of-cords r end is .wants-are)
+
+      first-used : usedFrom shares servers watts ≡ firstUsed r demands
+      unfolding firstUsed firstUsable
+      first-used =
+          let l = of-cords r end is in
+          rw (l .shares-are, l .servers-are) (used-is r watts)
+          ∙ ap (carriedBy r) (usable-are r end is grants by ∙ ap (usable r (needs r demands)) first-grants)
+
+      used-size : length (firstUsed r demands) ≡ roomCords r
+      unfolding firstUsed
+      used-size = carriedBy-length r (firstUsable r demands)
+
+    pub freed-is : {freed : ℕ} → freed ≡ sumOf (strandedFrom (usedFrom shares servers watts) grants) → OfRoom table (λ r. freed ≡ second.freed r demands)
+    unfolding second.freed
+    freed-is e r end is = e ∙ rw (first-used r end is, first-grants r end is) (ap sumOf (stranded-is r (firstUsed r demands) (firstGrants r demands) (used-size r end is)))
+
+    pub second-wants : {given : List ℕ} → given ≡ wantsFrom (usedFrom shares servers watts) grants wants → OfRoom table (λ r. given ≡ secondWants r demands)
+    unfolding secondWants
+    second-wants e r end is =
+        e
+        ∙ rw (first-used r end is, first-grants r end is, of-cords r end is .wants-are)
+        (wants-is r (firstUsed r demands) (firstGrants r demands) (used-size r end is) (firstWants r demands))
+
+  -- After the second.
+  module _ {given grants : List ℕ} (wanted : OfRoom table (λ r. given ≡ secondWants r demands)) (dealt : grants ≡ granted (dealFrom parents limits nodes levels lows given)) where
+    pub second-grants : OfRoom table (λ r. grants ≡ secondGrants r demands)
+    unfolding secondGrants
+    second-grants r end is = grants-are r end is given dealt ∙ ap (grantsBy r) (wanted r end is)
+
+    pub caps-are : {caps : List ℕ} → caps ≡ usableFrom shares servers needed grants → OfRoom table (λ r. caps ≡ second.caps r demands)
+    unfolding second.caps
+    caps-are e r end is = usable-are r end is grants e ∙ ap (usable r (needs r demands)) (second-grants r end is)
 
 -- ---- The lists that are lent
 
@@ -167,8 +244,24 @@ module _ (table : List ℕ) (g : Good (checked table 0)) where
   pub cords-most : (k : ℕ) → CordsFit table k → k ≤ mostCords
   cords-most k h = omega (arith, h (g .value) (g .next) (g .is), accepted table (g .value) (g .next) (g .is) .fewCords)
 
+  pub servers-most : (k : ℕ) → ServersFit table k → k ≤ mostServers
+  servers-most k h = omega (arith, h (g .value) (g .next) (g .is), accepted table (g .value) (g .next) (g .is) .fewServers)
+
+  -- Lists of zeros are lent to that length.
+  pub nodes-front : (n : ℕ) → n ≡ getD table 1 0 → n ≡ length {A = ℕ} (take n (replicate mostNodes 0))
+  nodes-front n e = sym (zeros-front mostNodes n (nodes-most n e))
+
+  pub cords-front : (k : ℕ) → CordsFit table k → k ≡ length {A = ℕ} (take k (replicate mostCords 0))
+  cords-front k h = sym (zeros-front mostCords k (cords-most k h))
+
+  pub servers-front : (k : ℕ) → ServersFit table k → k ≡ length {A = ℕ} (take k (replicate mostServers 0))
+  servers-front k h = sym (zeros-front mostServers k (servers-most k h))
+
   pub nodes-lent : (n : ℕ) → n ≡ getD table 1 0 → NodesFit table (length {A = ℕ} (take n (replicate mostNodes 0)))
-  nodes-lent n e r end is = zeros-front mostNodes n (nodes-most n e) ∙ e ∙ begun is .count
+  nodes-lent n e r end is = sym (nodes-front n e) ∙ e ∙ begun is .count
 
   pub cords-lent : (k : ℕ) → CordsFit table k → CordsFit table (length {A = ℕ} (take k (replicate mostCords 0)))
-  cords-lent k h r end is = zeros-front mostCords k (cords-most k h) ∙ h r end is
+  cords-lent k h = cords-fit table (sym (cords-front k h)) h
+
+  pub servers-lent : (k : ℕ) → ServersFit table k → ServersFit table (length {A = ℕ} (take k (replicate mostServers 0)))
+  servers-lent k h = servers-fit table (sym (servers-front k h)) h

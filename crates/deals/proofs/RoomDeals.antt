@@ -12,6 +12,7 @@ use Rattle.deals.specs.Cords.{RoomCord, cordsOf, cordAt, rankOf}
 use Rattle.deals.specs.Wants.{lowsOf}
 use Rattle.deals.specs.Metrics.{Deal, dealFrom, parentsOf, limitsOf, nodesOf, levelsOf, dealOf}
 use Rattle.deals.specs.Dealing.{granted, grantsBy}
+use Rattle.deals.specs.Passes.{sharesOf, serversOf}
 use Rattle.deals.proofs.Lists.{figures-at, figures-length}
 use Rattle.deals.proofs.Cords.{cordsOf-length}
 
@@ -57,6 +58,12 @@ module _ (r : Room) where
   pub nodesOf-at : (c : ℕ) → at (nodesOf r) c ≡ cordAt r c .node
   unfolding nodesOf
   nodesOf-at = figures-everywhere (roomCords r) _ (λ c h. ap (λ (x : RoomCord). x .node) (no-cord c h))
+
+  pub sharesOf-at : (c : ℕ) → at (sharesOf r) c ≡ cordAt r c .share
+  sharesOf-at = figures-everywhere (roomCords r) _ (λ c h. ap (λ (x : RoomCord). x .share) (no-cord c h))
+
+  pub serversOf-at : (c : ℕ) → at (serversOf r) c ≡ cordAt r c .server
+  serversOf-at = figures-everywhere (roomCords r) _ (λ c h. ap (λ (x : RoomCord). x .server) (no-cord c h))
 
   pub levelsOf-length : length (levelsOf r) ≡ roomCords r
   unfolding levelsOf

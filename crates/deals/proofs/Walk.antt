@@ -1,15 +1,14 @@
 -- The walk over a good table's servers, in the terms of code: the words of the server that stands next, and its cords in the room's order.
 use mathlib.Core.Path.{_≡_, refl, sym, ap, ap₂, _∙_}
 use mathlib.Core.List.{List, [], _∷_, _++_}
-use Prim.Native.Nat.{ℕ, zero, suc, _+_, _-_, _*_, _≤_, _<_}
+use Prim.Native.Nat.{ℕ, zero, suc, _+_, _*_, _≤_, _<_}
 use native.Mathlib.Nat.{not-suc-le-zero, le-of-suc-le-suc, zero-add}
-use native.Mathlib.Decide.{decLe}
 use native.Mathlib.Omega.{arith}
 use native.Mathlib.Numerals.{add-one}
-use lib.ListN.{length, getD, drop, List·getD-append, length-drop, drop-of-length-le}
+use lib.ListN.{length, getD, drop, List·getD-append, drop-of-length-le}
 use lib.Seq.{drop-cons, drop-drop, drop-at, getD-drop}
 use Rattle.rooms.specs.Part.{good, Good, total}
-use Rattle.rooms.specs.Table.{Node, Cord, Server, Room, scale, mostNodes, mostCords, mostServerCords, mostWatts, highestRank, cord, cords, server, servers, cordCount, roomCords}
+use Rattle.rooms.specs.Table.{Node, Cord, Server, Room, scale, mostNodes, mostCords, mostWatts, cord, cords, server, servers, cordCount, roomCords}
 use Rattle.rooms.specs.Limits.{checked, nodeAt}
 use Rattle.rooms.proofs.Inversion.{many-is, CordIs, cord-is, server-is}
 use Rattle.rooms.proofs.Rows.{nodes-words, nodes-at, cords-words}
@@ -17,7 +16,7 @@ use Rattle.rooms.proofs.Whole.{table-is, checked-is}
 use Rattle.rooms.proofs.Accepted.{accepted}
 use Rattle.deals.specs.Cords.{RoomCord, serverCords, cordsFrom, cordsOf, cordAt, serverAt}
 use Rattle.deals.specs.Passes.{NodesFit}
-use Rattle.deals.proofs.Cords.{noCord, noRoomCord, noServer, placed, serverCords-length, cordsFrom-all, cordsOf-length}
+use Rattle.deals.proofs.Cords.{noCord, noRoomCord, noServer, placed, serverCords-length}
 
 -- ---- The nodes
 
@@ -96,31 +95,23 @@ pub record Walk (table : List ℕ) (r : Room) (v index c : ℕ) : Type 0 where
   pub there : index ≤ length table
   pub cords-are : drop c (cordsOf r) ≡ cordsFrom v (drop v (r .servers))
   pub cords-left : c + total cordCount (drop v (r .servers)) ≡ roomCords r
-  pub passed : (h : ℕ) → h < c → cordAt r h .server < v
 
 -- The k-th cord of the server that stands next.
 pub record CordHere (table : List ℕ) (r : Room) (v index c k : ℕ) : Type 0 where
   pub there : index + 5 + 2 * k < length table
   pub is : cordAt r (c + k) ≡ record { server = v; node = getD table (index + 4 + 2 * k) 0; share = getD table (index + 5 + 2 * k) 0 }
-  pub node-some : 1 ≤ getD table (index + 4 + 2 * k) 0
-  pub node-most : getD table (index + 4 + 2 * k) 0 ≤ length (r .nodes)
   pub share-most : getD table (index + 5 + 2 * k) 0 ≤ scale
   pub within : c + k < roomCords r
 
 -- The server that stands next, at place v, and the walk after it.
 pub record ServerHere (table : List ℕ) (r : Room) (v index c : ℕ) : Type 0 where
   pub there : index + 3 < length table
-  pub past : index + (4 + 2 * getD table (index + 3) 0) ≤ length table
   pub rank : serverAt r v .rank ≡ getD table index 0
   pub least : serverAt r v .least ≡ getD table (index + 1) 0
   pub greatest : serverAt r v .greatest ≡ getD table (index + 2) 0
-  pub count : cordCount (serverAt r v) ≡ getD table (index + 3) 0
   pub lowest : 1 ≤ getD table index 0
-  pub highest : getD table index 0 ≤ highestRank
   pub ordered : getD table (index + 1) 0 ≤ getD table (index + 2) 0
   pub most : getD table (index + 2) 0 ≤ mostWatts
-  pub some : 1 ≤ getD table (index + 3) 0
-  pub few : getD table (index + 3) 0 ≤ mostServerCords
   pub cords-within : c + getD table (index + 3) 0 ≤ roomCords r
   pub cord : (k : ℕ) → k < getD table (index + 3) 0 → CordHere table r v index c k
   pub next : Walk table r (v + 1) (index + (4 + 2 * getD table (index + 3) 0)) (c + getD table (index + 3) 0)
@@ -140,7 +131,6 @@ walk-start {table} {r} {end} e n count =
       there = t .there;
       cords-are = refl;
       cords-left = zero-add (roomCords r);
-      passed = λ h l. absurd (not-suc-le-zero l);
     })
 
 -- The server that stands next, as it was read from the table: `rest` are the servers after it.
@@ -190,8 +180,6 @@ module _ (table : List ℕ) (r : Room) (v index c before left end after : ℕ) (
       record {
         there = omega (arith, i .there);
         is = cord-placed k h ∙ ap₂ (λ (x y : ℕ). record { server = v; node = x; share = y }) n m;
-        node-some = rw (← n) (i .first);
-        node-most = rw (← n) (i .last);
         share-most = rw (← m) (i .share);
         within = omega (arith, count-after);
       }
@@ -211,15 +199,7 @@ module _ (table : List ℕ) (r : Room) (v index c before left end after : ℕ) (
             ∙ drop-at (serverCords v (s .cords)) (cordsFrom (suc v) rest) (cordCount s) (serverCords-length v (s .cords))
             ∙ ap (cordsFrom (suc v)) (sym (here .1));
         cords-left = rw (here .1) (omega (arith, count-after));
-        passed = λ h l. go h l (decLe (suc h) c);
       }
-    where
-      go : (h : ℕ) → h < c + cordCount s → Dec (h < c) → cordAt r h .server < suc v
-      go h l (yes q) = omega (arith, walk .passed h q)
-      go h l (no q) =
-          let k : ℕ = h - c in
-          let e : c + k ≡ h = omega arith in
-          omega (arith, ap (λ (x : RoomCord). x .server) (rw e at (cord-placed k (omega arith))))
 
   server-here : ServerHere table r v index c
   server-here =
@@ -233,17 +213,12 @@ module _ (table : List ℕ) (r : Room) (v index c before left end after : ℕ) (
       let w : index + (4 + 2 * getD table (index + 3) 0) ≡ after = omega (arith, words .2) in
       record {
         there = words .0;
-        past = omega (arith, words .3);
         rank = ap (λ (x : Server). x .rank) (here .0) ∙ a;
         least = ap (λ (x : Server). x .least) (here .0) ∙ b;
         greatest = ap (λ (x : Server). x .greatest) (here .0) ∙ d;
-        count = ap cordCount (here .0) ∙ sym n;
         lowest = rw (← a) (i .lowest);
-        highest = rw (← a) (i .highest);
         ordered = rw (← b, ← d) (i .ordered);
         most = rw (← d) (i .greatest);
-        some = rw n (i .load .some);
-        few = omega (arith, i .load .few);
         cords-within = omega (arith, count-after);
         cord = λ k l. cord-here k (rw n at l);
         next = rw (add-one, w, n) walk-on;
@@ -265,12 +240,3 @@ pub walk-end : {table : List ℕ} {r : Room} {v index c : ℕ} → Walk table r 
 unfolding total
 walk-end {r = r} {v = v} {c = c} walk h =
     omega (arith, walk .cords-left, ap (total cordCount) (drop-of-length-le (r .servers) {i = v} h))
-
--- The cords from place c on are those of the server at place v and of later ones.
-pub walk-later : {table : List ℕ} {r : Room} {v index c : ℕ} → Walk table r v index c → (h : ℕ) → c ≤ h → h < roomCords r → v ≤ cordAt r h .server
-walk-later {r = r} {v = v} {c = c} walk h l q =
-    let k : ℕ = h - c in
-    let e : c + k ≡ h = omega arith in
-    let m : length (drop c (cordsOf r)) ≡ length (cordsFrom v (drop v (r .servers))) = ap length (walk .cords-are) in
-    rw (← e, ← getD-drop c (cordsOf r) k noRoomCord, walk .cords-are)
-    (cordsFrom-all (λ x. v ≤ x .server) v (drop v (r .servers)) (λ i j li lj. omega arith) k (omega (arith, length-drop c (cordsOf r), cordsOf-length r)))

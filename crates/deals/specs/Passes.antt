@@ -1,9 +1,9 @@
 -- The passes of a deal over nodes and cords, one rank at a time: what the contracts of private functions cite. No public
 -- contract does. Figures stand in lists, by the places of nodes or cords.
 use mathlib.Core.Path.{_≡_}
-use mathlib.Core.Bool.{cond}
+use mathlib.Core.Bool.{cond, _&&_}
 use mathlib.Core.List.{List, []}
-use Prim.Native.Nat.{ℕ, suc, _+_, _-_, _*_, _/_, _%_, _^_, _≤_, _<_, min, max}
+use Prim.Native.Nat.{ℕ, suc, _+_, _-_, _*_, _/_, _%_, _^_, _≤_, _<_, min}
 use lib.Dec.{eqb, ltb}
 use lib.ListN.{length, getD}
 use Rattle.rooms.specs.Sums.{on, sum}
@@ -11,12 +11,13 @@ use Rattle.rooms.specs.Part.{good, Good}
 use Rattle.rooms.specs.Table.{Room, roomCords, mostNodes, mostCords, mostWatts, highestRank, scale}
 use Rattle.rooms.specs.Limits.{carried, beneath, checked}
 use Rattle.rooms.specs.Credits.{sumBeneath}
-use Rattle.deals.specs.Figures.{at, cell}
-use Rattle.deals.specs.Metrics.{Deal, dealFrom, metrics, parentsOf, limitsOf, nodesOf, levelsOf}
-use Rattle.deals.specs.Wants.{needs, carriedBy, lowsOf}
+use Rattle.deals.specs.Figures.{figures, at, cell}
+use Rattle.deals.specs.Cords.{cordAt}
+use Rattle.deals.specs.Metrics.{Deal, dealFrom, metrics, nodesOf, levelsOf}
+use Rattle.deals.specs.Wants.{needs, lowsOf, firstWants}
 use Rattle.deals.specs.Split.{part}
 use Rattle.deals.specs.Dealing.{granted}
-use Rattle.deals.specs.SecondDeal.{leastOver, usable, freed, secondGrants}
+use Rattle.deals.specs.SecondDeal.{leastOver, freed, secondGrants}
 use Rattle.deals.specs.SecondDeal as second
 
 -- ---- What the lists hold
@@ -134,67 +135,70 @@ ServersFit table size = OfRoom table (λ r. size ≡ length (r .servers))
 abbrev pub CordsFit : List ℕ → ℕ → Type 0
 CordsFit table size = OfRoom table (λ r. size ≡ roomCords r)
 
--- What the caps ask: a good table, and lists as long as its servers and cords are many.
-pub record CapLists (table demands grants caps : List ℕ) : Type 0 where
+-- The lists that are lent for a good table's cords and servers are as long as these are many: for each cord its node's number, its
+-- level, its low, its want, its share and the place of its server; for each server its need.
+pub record CordsLent (table demands nodes levels lows wants shares servers needs : List ℕ) : Type 0 where
   pub good-table : Good (checked table 0)
   pub demands-fit : ServersFit table (length demands)
-  pub grants-fit : CordsFit table (length grants)
-  pub caps-fit : ServersFit table (length caps)
+  pub nodes-fit : CordsFit table (length nodes)
+  pub levels-fit : CordsFit table (length levels)
+  pub lows-fit : CordsFit table (length lows)
+  pub wants-fit : CordsFit table (length wants)
+  pub shares-fit : CordsFit table (length shares)
+  pub servers-fit : CordsFit table (length servers)
+  pub needs-fit : ServersFit table (length needs)
 
--- The lists are the room's: its nodes' parents and limits, its cords' nodes, levels and lows.
-pub record RoomLists (r : Room) (parents limits nodes levels lows : List ℕ) : Type 0 where
-  pub parents-are : parents ≡ parentsOf r
-  pub limits-are : limits ≡ limitsOf r
+-- The share of each cord, and the place of its server.
+abbrev pub sharesOf : Room → List ℕ
+sharesOf r = figures (roomCords r) (λ c. cordAt r c .share)
+
+abbrev pub serversOf : Room → List ℕ
+serversOf r = figures (roomCords r) (λ c. cordAt r c .server)
+
+-- The lists are those of the room's cords and servers, with the wants of the first deal.
+pub record CordsLaidOut (r : Room) (demands nodes levels lows wants shares servers needed : List ℕ) : Type 0 where
   pub nodes-are : nodes ≡ nodesOf r
   pub levels-are : levels ≡ levelsOf r
   pub lows-are : lows ≡ lowsOf r
+  pub wants-are : wants ≡ firstWants r demands
+  pub shares-are : shares ≡ sharesOf r
+  pub servers-are : servers ≡ serversOf r
+  pub needs-are : needed ≡ needs r demands
 
 -- A row for each place of a node, with a figure for each level.
 abbrev pub FullRows : List (List ℕ) → Type 0
 FullRows rows = (length rows ≡ mostNodes) × ((m : ℕ) → m < mostNodes → length (getD rows m []) ≡ highestRank)
 
--- The used watts of each cord by given grants.
-abbrev pub usedBy : Room → List ℕ → List ℕ → List ℕ
-usedBy r demands grants = carriedBy r (usable r (needs r demands) grants)
+-- ---- After a deal: shares, servers and grants by the places of cords, needs and usable watts by those of servers
 
--- ---- The words of one server, whose rank stands at index `start` of a table
+-- What these lists must be, with watts for each server: its need, or what it can use.
+pub record ServerLists (shares servers watts : List ℕ) (grantCount : ℕ) : Type 0 where
+  pub few : length shares ≤ mostCords
+  pub servers-size : length servers ≡ length shares
+  pub grants-size : grantCount ≡ length shares
+  pub within : (c : ℕ) → c < length shares → at servers c < length watts
+  pub parts : (c : ℕ) → c < length shares → at shares c ≤ scale
+  pub most : (v : ℕ) → v < length watts → at watts v ≤ mostWatts
 
--- Its count of cords, and the node and the share of the k-th.
-abbrev pub countWord : List ℕ → ℕ → ℕ
-countWord table start = at table (start + 3)
+-- The usable watts of the server at place v by its cords that stand before place c: the least of its need and, over those with
+-- share above 0, of the loads at which they carry their grants.
+abbrev pub usableBefore : List ℕ → List ℕ → List ℕ → List ℕ → ℕ → ℕ → ℕ
+usableBefore shares servers needs grants c v =
+    leastOver c (λ h. eqb (at servers h) v && ltb 0 (at shares h)) (λ h. scale * at grants h / at shares h) (at needs v)
 
-abbrev pub nodeWord : List ℕ → ℕ → ℕ → ℕ
-nodeWord table start k = at table (start + 4 + 2 * k)
+-- The usable watts of each server, and the used and the stranded watts of each cord.
+abbrev pub usableFrom : List ℕ → List ℕ → List ℕ → List ℕ → List ℕ
+usableFrom shares servers needs grants = figures (length needs) (usableBefore shares servers needs grants (length shares))
 
-abbrev pub shareWord : List ℕ → ℕ → ℕ → ℕ
-shareWord table start k = at table (start + 5 + 2 * k)
+abbrev pub usedFrom : List ℕ → List ℕ → List ℕ → List ℕ
+usedFrom shares servers usable = figures (length shares) (λ c. carried scale (at shares c) (at usable (at servers c)))
 
--- The words are there and in range.
-pub record ServerWords (table : List ℕ) (start : ℕ) : Type 0 where
-  pub there : start + (4 + 2 * countWord table start) ≤ length table
-  pub ranked : 1 ≤ at table start
-  pub least : at table (start + 1) ≤ mostWatts
-  pub shares : (k : ℕ) → k < countWord table start → shareWord table start k ≤ scale
+abbrev pub strandedFrom : List ℕ → List ℕ → List ℕ
+strandedFrom used grants = figures (length used) (λ c. at grants c - at used c)
 
--- Its need by a demand, and its usable watts, where the grants of its cords stand from place c on: the least of the need and,
--- over the cords with share above 0, of the loads at which they carry their grants.
-abbrev pub serverNeed : List ℕ → ℕ → ℕ → ℕ
-serverNeed table start demand = min (max demand (at table (start + 1))) (at table (start + 2))
-
-abbrev pub serverUsable : List ℕ → ℕ → ℕ → List ℕ → ℕ → ℕ
-serverUsable table start demand grants c =
-    leastOver (countWord table start) (λ k. ltb 0 (shareWord table start k)) (λ k. scale * at grants (c + k) / shareWord table start k) (serverNeed table start demand)
-
--- The used and the stranded watts of its k-th cord, and the cord's want in the next deal.
-abbrev pub cordUsed : List ℕ → ℕ → ℕ → ℕ → ℕ
-cordUsed table start usable k = carried scale (shareWord table start k) usable
-
-abbrev pub cordStranded : List ℕ → ℕ → ℕ → List ℕ → ℕ → ℕ → ℕ
-cordStranded table start usable grants c k = at grants (c + k) - cordUsed table start usable k
-
-abbrev pub cordWant : List ℕ → ℕ → ℕ → List ℕ → List ℕ → ℕ → ℕ → ℕ
-cordWant table start usable grants wants c k =
-    cond (ltb 0 (cordStranded table start usable grants c k)) (cordUsed table start usable k) (at wants (c + k))
+-- The wants of the next deal.
+abbrev pub wantsFrom : List ℕ → List ℕ → List ℕ → List ℕ
+wantsFrom used grants wants = figures (length used) (λ c. cond (ltb 0 (at (strandedFrom used grants) c)) (at used c) (at wants c))
 
 -- ---- Sums on the nodes
 

@@ -3,16 +3,13 @@ ghost use mathlib.Core.Path.{_≡_};
 ghost use lib.ListN.{length};
 ghost use Rattle.rooms.specs.Part.{Good};
 ghost use Rattle.rooms.specs.Limits.{checked};
-ghost use Rattle.deals.specs.Figures.{sumOf};
 ghost use Rattle.deals.specs.Metrics.{dealFrom};
-ghost use Rattle.deals.specs.Wants.{needs, firstWants};
 ghost use Rattle.deals.specs.Dealing.{granted};
-ghost use Rattle.deals.specs.SecondDeal.{usable, stranded, wantsAfter};
 ghost use Rattle.deals.specs.Plan.{firstTooLarge};
-ghost use Rattle.deals.specs.Passes.{OfRoom, RoomLists, DealLists, CapLists, usedBy, NodesFit, ServersFit, CordsFit, Planning};
+ghost use Rattle.deals.specs.Passes.{DealLists, ServerLists, usableFrom, CordsLent, NodesFit, ServersFit, CordsFit, Planning};
 use crate::deal::deal;
-use crate::reclaim::caps_of;
 use crate::reclaim::reclaim;
+use crate::reclaim::usable_of;
 use crate::room::load_cords;
 use crate::room::load_nodes;
 use crate::widths::index;
@@ -33,73 +30,31 @@ pub(crate) fn first_too_large(demands: &[u32]) -> usize
     i
 }
 
-// The room's lists, with its cords' wants in the first deal.
-fn load_room(
-    table: &[u32],
-    demands: &[u32],
-    parents: &mut [u32],
-    limits: &mut [u32],
-    nodes: &mut [u32],
-    levels: &mut [u32],
-    lows: &mut [u32],
-    wants: &mut [u32],
-)
-    requires { ⌜ Good (checked (now table) 0) ⌝ }
-    requires { ⌜ ServersFit (now table) (length (now demands)) × NodesFit (now table) (length (now parents)) × NodesFit (now table) (length (now limits)) ⌝ }
-    requires { ⌜ CordsFit (now table) (length (now nodes)) × CordsFit (now table) (length (now levels)) × CordsFit (now table) (length (now lows)) × CordsFit (now table) (length (now wants)) ⌝ }
-    ensures { λ _. ⌜ OfRoom (now (table .entry)) (λ r. RoomLists r (now (parents .exit)) (now (limits .exit)) (now (nodes .exit)) (now (levels .exit)) (now (lows .exit))) ⌝ }
-    ensures { λ _. ⌜ OfRoom (now (table .entry)) (λ r. now (wants .exit) ≡ firstWants r (now (demands .entry))) ⌝ }
-{
-    load_nodes(table, parents, limits);
-    load_cords(table, demands, nodes, levels, lows, wants);
-}
-
-// The first deal: its grants, the watts that it frees, and the second deal's wants in place of its own.
-fn first_deal(
-    table: &[u32],
-    demands: &[u32],
-    parents: &[u32],
-    limits: &[u32],
-    nodes: &[u32],
-    levels: &[u32],
-    lows: &[u32],
-    wants: &mut [u32],
-    first: &mut [u32],
-) -> u64
-    requires { ⌜ Good (checked (now table) 0) ⌝ }
-    requires { ⌜ ServersFit (now table) (length (now demands)) × CordsFit (now table) (length (now wants)) × CordsFit (now table) (length (now first)) ⌝ }
-    requires { ⌜ DealLists (now parents) (now limits) (now nodes) (now levels) (now lows) (now wants) (length (now first)) ⌝ }
-    ensures { λ _. ⌜ now (first .exit) ≡ granted (dealFrom (now (parents .entry)) (now (limits .entry)) (now (nodes .entry)) (now (levels .entry)) (now (lows .entry)) (now (wants .entry))) ⌝ }
-    ensures { λ watts. ⌜ OfRoom (now (table .entry)) (λ r. watts ≡ sumOf (stranded r (now (first .exit)) (usedBy r (now (demands .entry)) (now (first .exit))))) ⌝ }
-    ensures { λ _. ⌜ OfRoom (now (table .entry)) (λ r. now (wants .exit) ≡ wantsAfter r (now (wants .entry)) (now (first .exit)) (usedBy r (now (demands .entry)) (now (first .exit)))) ⌝ }
-{
-    deal(parents, limits, nodes, levels, lows, wants, first);
-    reclaim(table, demands, first, wants)
-}
-
-// The second deal: its grants, and the caps by them.
-fn second_deal(
-    table: &[u32],
-    demands: &[u32],
+// A deal: its grants, and what each server can use of them.
+fn make_deal(
     parents: &[u32],
     limits: &[u32],
     nodes: &[u32],
     levels: &[u32],
     lows: &[u32],
     wants: &[u32],
+    shares: &[u32],
+    servers: &[u32],
+    needs: &[u32],
     grants: &mut [u32],
-    caps: &mut [u32],
+    usable: &mut [u32],
 )
-    requires { ⌜ CapLists (now table) (now demands) (now grants) (now caps) ⌝ }
     requires { ⌜ DealLists (now parents) (now limits) (now nodes) (now levels) (now lows) (now wants) (length (now grants)) ⌝ }
+    requires { ⌜ ServerLists (now shares) (now servers) (now needs) (length (now grants)) × (length (now usable) ≡ length (now needs)) ⌝ }
     ensures { λ _. ⌜ now (grants .exit) ≡ granted (dealFrom (now (parents .entry)) (now (limits .entry)) (now (nodes .entry)) (now (levels .entry)) (now (lows .entry)) (now (wants .entry))) ⌝ }
-    ensures { λ _. ⌜ OfRoom (now (table .entry)) (λ r. now (caps .exit) ≡ usable r (needs r (now (demands .entry))) (now (grants .exit))) ⌝ }
+    ensures { λ _. ⌜ now (usable .exit) ≡ usableFrom (now (shares .entry)) (now (servers .entry)) (now (needs .entry)) (now (grants .exit)) ⌝ }
 {
     deal(parents, limits, nodes, levels, lows, wants, grants);
-    caps_of(table, demands, grants, caps);
+    usable_of(shares, servers, needs, grants, usable);
 }
 
-// The plan in the room's lists, which are lent as long as its nodes and cords are many; the freed watts.
+// The plan in the room's lists, which are lent as long as its nodes, cords and servers are many; the freed watts. The caps hold
+// what the servers can use after the first deal until the second is made.
 fn plan_lists(
     table: &[u32],
     demands: &[u32],
@@ -109,36 +64,53 @@ fn plan_lists(
     levels: &mut [u32],
     lows: &mut [u32],
     wants: &mut [u32],
+    shares: &mut [u32],
+    servers: &mut [u32],
+    needs: &mut [u32],
     grants: &mut [u32],
     caps: &mut [u32],
 ) -> u64
-    requires { ⌜ Good (checked (now table) 0) ⌝ }
-    requires { ⌜ ServersFit (now table) (length (now demands)) × NodesFit (now table) (length (now parents)) × NodesFit (now table) (length (now limits)) ⌝ }
-    requires { ⌜ CordsFit (now table) (length (now nodes)) × CordsFit (now table) (length (now levels)) × CordsFit (now table) (length (now lows)) × CordsFit (now table) (length (now wants)) ⌝ }
+    requires { ⌜ CordsLent (now table) (now demands) (now nodes) (now levels) (now lows) (now wants) (now shares) (now servers) (now needs) ⌝ }
+    requires { ⌜ NodesFit (now table) (length (now parents)) × NodesFit (now table) (length (now limits)) ⌝ }
     requires { ⌜ CordsFit (now table) (length (now grants)) × ServersFit (now table) (length (now caps)) ⌝ }
     ensures { λ r. ⌜ Planning (now (table .entry)) (now (demands .entry)) r (now (grants .exit)) (now (caps .exit)) ⌝ }
 {
-    load_room(table, demands, parents, limits, nodes, levels, lows, wants);
-    let freed = first_deal(
+    load_nodes(table, parents, limits);
+    load_cords(
         table,
         demands,
-        parents,
-        limits,
         nodes,
         levels,
         lows,
         wants,
-        grants,
+        shares,
+        servers,
+        needs,
     );
-    second_deal(
-        table,
-        demands,
+    make_deal(
         parents,
         limits,
         nodes,
         levels,
         lows,
         wants,
+        shares,
+        servers,
+        needs,
+        grants,
+        caps,
+    );
+    let freed = reclaim(shares, servers, caps, grants, wants);
+    make_deal(
+        parents,
+        limits,
+        nodes,
+        levels,
+        lows,
+        wants,
+        shares,
+        servers,
+        needs,
         grants,
         caps,
     );
@@ -157,6 +129,9 @@ pub(crate) fn plan_room(table: &[u32], demands: &[u32], grants: &mut [u32], caps
     let mut levels = [0u32; 1024];
     let mut lows = [0u32; 1024];
     let mut wants = [0u32; 1024];
+    let mut shares = [0u32; 1024];
+    let mut servers = [0u32; 1024];
+    let mut needs = [0u32; 512];
     let n = index(table[1]);
     let k = grants.len();
     plan_lists(
@@ -168,6 +143,9 @@ pub(crate) fn plan_room(table: &[u32], demands: &[u32], grants: &mut [u32], caps
         &mut levels[..k],
         &mut lows[..k],
         &mut wants[..k],
+        &mut shares[..k],
+        &mut servers[..k],
+        &mut needs[..demands.len()],
         grants,
         caps,
     )

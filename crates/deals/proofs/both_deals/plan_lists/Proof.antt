@@ -1,83 +1,106 @@
 -- `plan_lists` meets its contract: what the two deals leave in the room's lists is its plan.
-use Rattle.deals.proofs.Planning.{cords-fit, deal-asks, first-wanted, second-wanted, freed-is, second-wants, second-grants, caps-are}
+use mathlib.Core.Path.{_∙_}
 use borrow.Author.Needs.{needs}
+use Rattle.deals.proofs.Planning.{cords-fit, servers-fit, deal-asks, reclaim-asks, first-wanted, second-wanted, freed-is, second-wants, second-grants, caps-are}
 use Rattle.deals.proofs.both_deals.plan_lists.Statement.{statement}
 use Rattle.deals.proofs.both_deals.plan_lists.Tie as tie
 
-load-room-requires : tie.Need-load-room-requires
-load-room-requires c κs =
-    let pre = c .before .before .before .before .before .before .before .before .before .before .before .before .before .before .before .before .pre in
-    (pre .0, (pre .1 .0, pre .1 .1 .0))
+load-nodes-requires : tie.Need-load-nodes-requires
+load-nodes-requires c κs = let start = c .before .before .before .before .before .before .before .before .before .before .before .before .before .before .before in (start .pre .0 .good-table, start .pre .1 .0)
 
-first-deal-requires : tie.Need-first-deal-requires
-first-deal-requires c κs =
-    let start = c .before .before .before .before .before .before .before .before .before .before .before .before .before .before .before .before .before .before .before .before .before .before .before .before .before .before .before .before .before .before .before .before .before .before .before .before in
-    let table = start .args .table .now in
-    let good = start .pre .0 in
-    let grants-fit = start .pre .1 .1 .1 .0 in
-    let room = c .before .before .before .before .before .before .before .before .before .before .before .before .before .before .before .before .before .before .before .load-room in
-    let wanted = first-wanted table (start .args .demands .now) (room .ensures .1) in
-    (good, ((start .pre .1 .0 .0, cords-fit table (room .kept .1 .1 .1 .1 .1 .1 .1 .0) (start .pre .1 .1 .0 .3), grants-fit), deal-asks table good (room .ensures .0) wanted grants-fit))
+load-cords-requires : tie.Need-load-cords-requires
+load-cords-requires c κs = c .before .before .before .before .before .before .before .before .before .before .before .before .before .before .before .before .before .before .before .before .before .before .before .before .before .before .before .pre .0
 
-second-deal-requires : tie.Need-second-deal-requires
-second-deal-requires c κs =
-    let start = c .before .before .before .before .before .before .before .before .before .before .before .before .before .before .before .before .before .before .before .before .before .before .before .before .before .before .before .before .before .before .before .before .before .before .before .before .before .before .before .before .before .before .before .before .before .before .before .before .before in
+make-deal-requires : tie.Need-make-deal-requires
+make-deal-requires c κs =
+    let start = c .before .before .before .before .before .before .before .before .before .before .before .before .before .before .before .before .before .before .before .before .before .before .before .before .before .before .before .before .before .before .before .before .before .before .before .before .before .before .before .before .before .before .before .before .before .before .before .before .before .before .before .before .before in
     let table = start .args .table .now in
     let demands = start .args .demands .now in
-    let good = start .pre .0 in
-    let room = c .before .before .before .before .before .before .before .before .before .before .before .before .before .before .before .before .before .before .before .before .before .before .before .before .before .before .before .before .before .before .before .before .load-room in
-    let first = c .before .before .before .before .before .before .before .before .before .before .before .before .first-deal in
-    let grants-fit = cords-fit table (first .kept .1 .1 .1 .1 .1 .1 .1 .1 .0) (start .pre .1 .1 .1 .0) in
-    let wants = second-wants table _ (room .ensures .0) demands (room .ensures .1) (first .ensures .0) (first .ensures .1 .1) in
-    (record { good-table = good; demands-fit = start .pre .1 .0 .0; grants-fit = grants-fit; caps-fit = start .pre .1 .1 .1 .1 }, deal-asks table good (room .ensures .0) (second-wanted table demands wants) grants-fit)
+    let nodes = c .before .before .before .before .before .before .before .before .before .before .before .before .before .before .before .before .before .before .before .before .before .before .before .before .before .before .before .before .before .before .before .before .before .before .before .before .before .load-nodes .ensures in
+    let cords = c .before .before .before .before .before .before .before .before .before .before .before .before .before .before .before .before .before .before .before .before .before .before .before .before .before .load-cords .ensures in
+    deal-asks table demands nodes cords (start .pre .0 .good-table) (first-wanted table demands (λ r end is. cords r end is .wants-are)) (start .pre .1 .1 .0) (start .pre .1 .1 .1)
+
+reclaim-requires : tie.Need-reclaim-requires
+reclaim-requires c κs =
+    let start = c .before .before .before .before .before .before .before .before .before .before .before .before .before .before .before .before .before .before .before .before .before .before .before .before .before .before .before .before .before .before .before .before .before .before .before .before .before .before .before .before .before .before .before .before .before .before .before .before .before .before .before .before .before .before .before .before .before .before .before .before .before .before .before in
+    let table = start .args .table .now in
+    let demands = start .args .demands .now in
+    let nodes = c .before .before .before .before .before .before .before .before .before .before .before .before .before .before .before .before .before .before .before .before .before .before .before .before .before .before .before .before .before .before .before .before .before .before .before .before .before .before .before .before .before .before .before .before .before .before .before .load-nodes .ensures in
+    let cords = c .before .before .before .before .before .before .before .before .before .before .before .before .before .before .before .before .before .before .before .before .before .before .before .before .before .before .before .before .before .before .before .before .before .before .before .load-cords .ensures in
+    let made = c .before .before .before .before .before .before .before .before .before .make-deal in
+    reclaim-asks table demands nodes cords (start .pre .0 .good-table) (made .last .1 .1 .1 .1 .1 .1 .1 .1 .1 .0) (cords-fit table (made .kept .1 .1 .1 .1 .1 .1 .1 .1 .1 .0) (start .pre .1 .1 .0)) (made .ensures .1)
+
+make-deal-requires-2 : tie.Need-make-deal-requires-2
+make-deal-requires-2 c κs =
+    let start = c .before .before .before .before .before .before .before .before .before .before .before .before .before .before .before .before .before .before .before .before .before .before .before .before .before .before .before .before .before .before .before .before .before .before .before .before .before .before .before .before .before .before .before .before .before .before .before .before .before .before .before .before .before .before .before .before .before .before .before .before .before .before .before .before .before .before .before .before .before .before .before .before .before .before .before .before .before in
+    let table = start .args .table .now in
+    let demands = start .args .demands .now in
+    let nodes = c .before .before .before .before .before .before .before .before .before .before .before .before .before .before .before .before .before .before .before .before .before .before .before .before .before .before .before .before .before .before .before .before .before .before .before .before .before .before .before .before .before .before .before .before .before .before .before .before .before .before .before .before .before .before .before .before .before .before .before .before .before .load-nodes .ensures in
+    let cords = c .before .before .before .before .before .before .before .before .before .before .before .before .before .before .before .before .before .before .before .before .before .before .before .before .before .before .before .before .before .before .before .before .before .before .before .before .before .before .before .before .before .before .before .before .before .before .before .before .before .load-cords .ensures in
+    let made = c .before .before .before .before .before .before .before .before .before .before .before .before .before .before .before .before .before .before .before .before .before .before .before .make-deal in
+    let left = c .before .before .before .before .before .before .before .before .before .before .before .before .before .reclaim .ensures in
+    let second = second-wants table demands nodes cords (made .ensures .0) (made .ensures .1) (left .1) in
+    deal-asks table demands nodes cords (start .pre .0 .good-table) (second-wanted table demands second) (cords-fit table (made .kept .1 .1 .1 .1 .1 .1 .1 .1 .1 .0) (start .pre .1 .1 .0)) (servers-fit table (made .kept .1 .1 .1 .1 .1 .1 .1 .1 .1 .1 .0) (start .pre .1 .1 .1))
 
 same-length : tie.Need-same-length
-same-length c = c .before .before .before .before .before .before .before .before .before .before .before .before .before .before .before .before .before .before .before .before .before .before .before .before .before .before .before .before .before .before .before .before .before .before .before .before .before .load-room .kept .1 .1 .0
+same-length c = c .before .before .before .before .before .before .before .before .before .before .before .before .before .before .before .before .before .before .before .before .before .before .before .before .before .before .before .before .before .before .before .before .before .before .before .before .before .before .before .before .before .before .before .before .before .before .before .before .before .before .before .before .before .before .before .before .before .before .before .before .before .before .before .before .before .before .load-nodes .kept .1 .0
 
 same-length-2 : tie.Need-same-length-2
-same-length-2 c = c .before .before .before .before .before .before .before .before .before .before .before .before .before .before .before .before .before .before .before .before .before .before .before .before .before .before .before .before .before .before .before .before .before .before .before .before .before .load-room .kept .1 .1 .1 .0
+same-length-2 c = c .before .before .before .before .before .before .before .before .before .before .before .before .before .before .before .before .before .before .before .before .before .before .before .before .before .before .before .before .before .before .before .before .before .before .before .before .before .before .before .before .before .before .before .before .before .before .before .before .before .before .before .before .before .before .before .before .before .before .before .before .before .before .before .before .before .before .load-nodes .kept .1 .1 .0
 
 same-length-3 : tie.Need-same-length-3
-same-length-3 c = search needs
+same-length-3 c = c .before .before .before .before .before .before .before .before .before .before .before .before .before .before .before .before .before .before .before .before .before .before .before .before .before .before .before .before .before .before .before .before .before .before .before .before .before .before .before .before .before .before .before .before .before .before .before .before .before .before .before .before .before .before .load-cords .kept .1 .1 .0
 
 same-length-4 : tie.Need-same-length-4
-same-length-4 c = search needs
+same-length-4 c = c .before .before .before .before .before .before .before .before .before .before .before .before .before .before .before .before .before .before .before .before .before .before .before .before .before .before .before .before .before .before .before .before .before .before .before .before .before .before .before .before .before .before .before .before .before .before .before .before .before .before .before .before .before .before .load-cords .kept .1 .1 .1 .0
 
 same-length-5 : tie.Need-same-length-5
-same-length-5 c = search needs
+same-length-5 c = c .before .before .before .before .before .before .before .before .before .before .before .before .before .before .before .before .before .before .before .before .before .before .before .before .before .before .before .before .before .before .before .before .before .before .before .before .before .before .before .before .before .before .before .before .before .before .before .before .before .before .before .before .before .before .load-cords .kept .1 .1 .1 .1 .0
 
 same-length-6 : tie.Need-same-length-6
-same-length-6 c = search needs
+same-length-6 c = c .before .before .before .before .before .before .before .before .before .before .before .before .before .before .before .before .before .before .reclaim .kept .1 .1 .1 .1 .0 ∙ c .before .before .before .before .before .before .before .before .before .before .before .before .before .before .before .before .before .before .before .before .before .before .before .before .before .before .before .before .before .before .before .before .before .before .before .before .before .before .before .before .before .before .before .before .before .before .before .before .before .before .before .before .before .before .load-cords .kept .1 .1 .1 .1 .1 .0
 
 same-length-7 : tie.Need-same-length-7
-same-length-7 c = search needs
+same-length-7 c = c .before .before .before .before .before .before .before .before .before .before .before .before .before .before .before .before .before .before .before .before .before .before .before .before .before .before .before .before .before .before .before .before .before .before .before .before .before .before .before .before .before .before .before .before .before .before .before .before .before .before .before .before .before .before .load-cords .kept .1 .1 .1 .1 .1 .1 .0
 
 same-length-8 : tie.Need-same-length-8
-same-length-8 c = search needs
+same-length-8 c = c .before .before .before .before .before .before .before .before .before .before .before .before .before .before .before .before .before .before .before .before .before .before .before .before .before .before .before .before .before .before .before .before .before .before .before .before .before .before .before .before .before .before .before .before .before .before .before .before .before .before .before .before .before .before .load-cords .kept .1 .1 .1 .1 .1 .1 .1 .0
+
+same-length-9 : tie.Need-same-length-9
+same-length-9 c = c .before .before .before .before .before .before .before .before .before .before .before .before .before .before .before .before .before .before .before .before .before .before .before .before .before .before .before .before .before .before .before .before .before .before .before .before .before .before .before .before .before .before .before .before .before .before .before .before .before .before .before .before .before .before .load-cords .kept .1 .1 .1 .1 .1 .1 .1 .1 .0
+
+same-length-10 : tie.Need-same-length-10
+same-length-10 c = search needs
+
+same-length-11 : tie.Need-same-length-11
+same-length-11 c = search needs
 
 returns : tie.Need-returns
 returns c =
-    let start = c .before .before .before .before .before .before .before .before .before .before .before .before .before .before .before .before .before .before .before .before .before .before .before .before .before .before .before .before .before .before .before .before .before .before .before .before .before .before .before .before .before .before .before .before .before .before .before .before .before .before .before .before .before .before in
+    let start = c .before .before .before .before .before .before .before .before .before .before .before .before .before .before .before .before .before .before .before .before .before .before .before .before .before .before .before .before .before .before .before .before .before .before .before .before .before .before .before .before .before .before .before .before .before .before .before .before .before .before .before .before .before .before .before .before .before .before .before .before .before .before .before .before .before .before .before .before .before .before .before .before .before .before .before .before .before .before .before .before .before .before in
     let table = start .args .table .now in
     let demands = start .args .demands .now in
-    let room = c .before .before .before .before .before .before .before .before .before .before .before .before .before .before .before .before .before .before .before .before .before .before .before .before .before .before .before .before .before .before .before .before .before .before .before .before .before .load-room in
-    let first = c .before .before .before .before .before .before .before .before .before .before .before .before .before .before .before .before .before .first-deal in
-    let second = c .before .before .before .before .second-deal in
-    let wants = second-wants table _ (room .ensures .0) demands (room .ensures .1) (first .ensures .0) (first .ensures .1 .1) in
-    let grants = second-grants table _ (room .ensures .0) demands wants (second .ensures .0) in
+    let nodes = c .before .before .before .before .before .before .before .before .before .before .before .before .before .before .before .before .before .before .before .before .before .before .before .before .before .before .before .before .before .before .before .before .before .before .before .before .before .before .before .before .before .before .before .before .before .before .before .before .before .before .before .before .before .before .before .before .before .before .before .before .before .before .before .before .before .before .load-nodes .ensures in
+    let cords = c .before .before .before .before .before .before .before .before .before .before .before .before .before .before .before .before .before .before .before .before .before .before .before .before .before .before .before .before .before .before .before .before .before .before .before .before .before .before .before .before .before .before .before .before .before .before .before .before .before .before .before .before .before .before .load-cords .ensures in
+    let made = c .before .before .before .before .before .before .before .before .before .before .before .before .before .before .before .before .before .before .before .before .before .before .before .before .before .before .before .before .make-deal in
+    let left = c .before .before .before .before .before .before .before .before .before .before .before .before .before .before .before .before .before .before .reclaim .ensures in
+    let second = second-wants table demands nodes cords (made .ensures .0) (made .ensures .1) (left .1) in
+    let made2 = c .before .before .before .before .make-deal2 .ensures in
     record {
-      freed-is = freed-is table _ (room .ensures .0) demands (room .ensures .1) (first .ensures .0) (first .ensures .1 .0);
-      grants-are = grants;
-      caps-are = caps-are table demands grants (second .ensures .1);
+      freed-is = freed-is table demands nodes cords (made .ensures .0) (made .ensures .1) (left .0);
+      grants-are = second-grants table demands nodes cords second (made2 .0);
+      caps-are = caps-are table demands nodes cords second (made2 .0) (made2 .1);
     }
 
 pub plan-lists-spec : {M : Type 1} → statement M
 plan-lists-spec =
     tie.close
     (tie.spec
-    load-room-requires
-    first-deal-requires
-    second-deal-requires
+    load-nodes-requires
+    load-cords-requires
+    make-deal-requires
+    reclaim-requires
+    make-deal-requires-2
     same-length
     same-length-2
     same-length-3
@@ -86,4 +109,7 @@ plan-lists-spec =
     same-length-6
     same-length-7
     same-length-8
+    same-length-9
+    same-length-10
+    same-length-11
     returns)

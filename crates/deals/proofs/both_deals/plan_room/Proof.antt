@@ -1,7 +1,5 @@
--- `plan_room` meets its contract: it lends lists of zeros as long as the room's nodes and cords are many.
-use mathlib.Core.Path.{sym}
-use Rattle.deals.proofs.RankLoop.{zeros-front}
-use Rattle.deals.proofs.Planning.{table-begun, nodes-most, cords-most, nodes-lent, cords-lent}
+-- `plan_room` meets its contract: it lends lists of zeros as long as the room's nodes, cords and servers are many.
+use Rattle.deals.proofs.Planning.{table-begun, nodes-most, cords-most, servers-most, nodes-front, cords-front, servers-front, nodes-lent, cords-lent, servers-lent}
 use borrow.Author.Needs.{needs}
 use Rattle.deals.proofs.both_deals.plan_room.Statement.{statement}
 use Rattle.deals.proofs.both_deals.plan_room.Tie as tie
@@ -16,45 +14,77 @@ array-borrow-prefix-parents : tie.Need-array-borrow-prefix-parents
 array-borrow-prefix-parents c = nodes-most _ (c .before .before .before .before .before .before .pre .0) _ (c .index .ensures .0)
 
 slice-aggregate-plan-lists : tie.Need-slice-aggregate-plan-lists
-slice-aggregate-plan-lists c = sym (zeros-front 512 _ (nodes-most _ (c .before .before .before .before .before .before .before .pre .0) _ (c .before .index .ensures .0)))
+slice-aggregate-plan-lists c = nodes-front _ (c .before .before .before .before .before .before .before .pre .0) _ (c .before .index .ensures .0)
 
 array-borrow-prefix-limits : tie.Need-array-borrow-prefix-limits
 array-borrow-prefix-limits c = nodes-most _ (c .before .before .before .before .before .before .before .pre .0) _ (c .before .index .ensures .0)
 
 slice-aggregate-plan-lists-2 : tie.Need-slice-aggregate-plan-lists-2
-slice-aggregate-plan-lists-2 c = sym (zeros-front 512 _ (nodes-most _ (c .before .before .before .before .before .before .before .before .pre .0) _ (c .before .before .index .ensures .0)))
+slice-aggregate-plan-lists-2 c = nodes-front _ (c .before .before .before .before .before .before .before .before .pre .0) _ (c .before .before .index .ensures .0)
 
 array-borrow-prefix-nodes : tie.Need-array-borrow-prefix-nodes
 array-borrow-prefix-nodes c = cords-most _ (c .before .before .before .before .before .before .before .before .pre .0) _ (c .before .before .before .before .before .before .before .before .pre .1 .1)
 
 slice-aggregate-plan-lists-3 : tie.Need-slice-aggregate-plan-lists-3
-slice-aggregate-plan-lists-3 c = sym (zeros-front 1024 _ (cords-most _ (c .before .before .before .before .before .before .before .before .before .pre .0) _ (c .before .before .before .before .before .before .before .before .before .pre .1 .1)))
+slice-aggregate-plan-lists-3 c = cords-front _ (c .before .before .before .before .before .before .before .before .before .pre .0) _ (c .before .before .before .before .before .before .before .before .before .pre .1 .1)
 
 array-borrow-prefix-levels : tie.Need-array-borrow-prefix-levels
 array-borrow-prefix-levels c = cords-most _ (c .before .before .before .before .before .before .before .before .before .pre .0) _ (c .before .before .before .before .before .before .before .before .before .pre .1 .1)
 
 slice-aggregate-plan-lists-4 : tie.Need-slice-aggregate-plan-lists-4
-slice-aggregate-plan-lists-4 c = sym (zeros-front 1024 _ (cords-most _ (c .before .before .before .before .before .before .before .before .before .before .pre .0) _ (c .before .before .before .before .before .before .before .before .before .before .pre .1 .1)))
+slice-aggregate-plan-lists-4 c = cords-front _ (c .before .before .before .before .before .before .before .before .before .before .pre .0) _ (c .before .before .before .before .before .before .before .before .before .before .pre .1 .1)
 
 array-borrow-prefix-lows : tie.Need-array-borrow-prefix-lows
 array-borrow-prefix-lows c = cords-most _ (c .before .before .before .before .before .before .before .before .before .before .pre .0) _ (c .before .before .before .before .before .before .before .before .before .before .pre .1 .1)
 
 slice-aggregate-plan-lists-5 : tie.Need-slice-aggregate-plan-lists-5
-slice-aggregate-plan-lists-5 c = sym (zeros-front 1024 _ (cords-most _ (c .before .before .before .before .before .before .before .before .before .before .before .pre .0) _ (c .before .before .before .before .before .before .before .before .before .before .before .pre .1 .1)))
+slice-aggregate-plan-lists-5 c = cords-front _ (c .before .before .before .before .before .before .before .before .before .before .before .pre .0) _ (c .before .before .before .before .before .before .before .before .before .before .before .pre .1 .1)
 
 array-borrow-prefix-wants : tie.Need-array-borrow-prefix-wants
 array-borrow-prefix-wants c = cords-most _ (c .before .before .before .before .before .before .before .before .before .before .before .pre .0) _ (c .before .before .before .before .before .before .before .before .before .before .before .pre .1 .1)
 
 slice-aggregate-plan-lists-6 : tie.Need-slice-aggregate-plan-lists-6
-slice-aggregate-plan-lists-6 c = sym (zeros-front 1024 _ (cords-most _ (c .before .before .before .before .before .before .before .before .before .before .before .before .pre .0) _ (c .before .before .before .before .before .before .before .before .before .before .before .before .pre .1 .1)))
+slice-aggregate-plan-lists-6 c = cords-front _ (c .before .before .before .before .before .before .before .before .before .before .before .before .pre .0) _ (c .before .before .before .before .before .before .before .before .before .before .before .before .pre .1 .1)
+
+array-borrow-prefix-shares : tie.Need-array-borrow-prefix-shares
+array-borrow-prefix-shares c = cords-most _ (c .before .before .before .before .before .before .before .before .before .before .before .before .pre .0) _ (c .before .before .before .before .before .before .before .before .before .before .before .before .pre .1 .1)
+
+slice-aggregate-plan-lists-7 : tie.Need-slice-aggregate-plan-lists-7
+slice-aggregate-plan-lists-7 c = cords-front _ (c .before .before .before .before .before .before .before .before .before .before .before .before .before .pre .0) _ (c .before .before .before .before .before .before .before .before .before .before .before .before .before .pre .1 .1)
+
+array-borrow-prefix-servers : tie.Need-array-borrow-prefix-servers
+array-borrow-prefix-servers c = cords-most _ (c .before .before .before .before .before .before .before .before .before .before .before .before .before .pre .0) _ (c .before .before .before .before .before .before .before .before .before .before .before .before .before .pre .1 .1)
+
+slice-aggregate-plan-lists-8 : tie.Need-slice-aggregate-plan-lists-8
+slice-aggregate-plan-lists-8 c = cords-front _ (c .before .before .before .before .before .before .before .before .before .before .before .before .before .before .pre .0) _ (c .before .before .before .before .before .before .before .before .before .before .before .before .before .before .pre .1 .1)
+
+array-borrow-prefix-needs : tie.Need-array-borrow-prefix-needs
+array-borrow-prefix-needs c = servers-most _ (c .before .before .before .before .before .before .before .before .before .before .before .before .before .before .pre .0) _ (c .before .before .before .before .before .before .before .before .before .before .before .before .before .before .pre .1 .0)
+
+slice-aggregate-plan-lists-9 : tie.Need-slice-aggregate-plan-lists-9
+slice-aggregate-plan-lists-9 c = servers-front _ (c .before .before .before .before .before .before .before .before .before .before .before .before .before .before .before .pre .0) _ (c .before .before .before .before .before .before .before .before .before .before .before .before .before .before .before .pre .1 .0)
 
 plan-lists-requires : tie.Need-plan-lists-requires
 plan-lists-requires c κs =
-    let start = c .before .before .before .before .before .before .before .before .before .before .before .before .before .before in
-    let g = start .pre .0 in
-    let nodes = nodes-lent (start .args .table .now) g _ (c .before .before .before .before .before .before .before .before .index .ensures .0) in
-    let cords = cords-lent (start .args .table .now) g _ (start .pre .1 .1) in
-    (g, ((start .pre .1 .0, nodes, nodes), ((cords, cords, cords, cords), (start .pre .1 .1, start .pre .1 .2))))
+    let start = c .before .before .before .before .before .before .before .before .before .before .before .before .before .before .before .before .before in
+    let table = start .args .table .now in
+    let good = start .pre .0 in
+    let fits = start .pre .1 in
+    let nodes = nodes-lent table good _ (c .before .before .before .before .before .before .before .before .before .before .before .index .ensures .0) in
+    let cords = cords-lent table good _ (fits .1) in (
+      record {
+        good-table = good;
+        demands-fit = fits .0;
+        nodes-fit = cords;
+        levels-fit = cords;
+        lows-fit = cords;
+        wants-fit = cords;
+        shares-fit = cords;
+        servers-fit = cords;
+        needs-fit = servers-lent table good _ (fits .0);
+      },
+      ((nodes, nodes), (fits .1, fits .2)),
+    )
 
 same-length : tie.Need-same-length
 same-length c = search needs
@@ -83,6 +113,12 @@ plan-room-spec =
     slice-aggregate-plan-lists-5
     array-borrow-prefix-wants
     slice-aggregate-plan-lists-6
+    array-borrow-prefix-shares
+    slice-aggregate-plan-lists-7
+    array-borrow-prefix-servers
+    slice-aggregate-plan-lists-8
+    array-borrow-prefix-needs
+    slice-aggregate-plan-lists-9
     plan-lists-requires
     same-length
     same-length-2

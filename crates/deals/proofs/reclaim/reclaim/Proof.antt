@@ -1,125 +1,99 @@
--- `reclaim` meets its contract: before each turn the watts freed and the wants are those after the cords of the servers passed.
-use mathlib.Core.Path.{sym, _∙_}
-use Prim.Native.Nat.{_-_, _*_, _≤_}
+-- `reclaim` meets its contract: before each turn the watts freed and the wants are those after the cords passed.
+use mathlib.Core.Path.{ap₂, _∙_}
+use mathlib.Core.Logic.{⊎-elim}
+use Prim.Native.Nat.{_-_, _≤_}
 use native.Mathlib.Omega.{arith}
 use lib.ListN.{length}
 use borrow.Author.Needs.{needs}
-use Rattle.deals.proofs.Walk.{begun}
-use Rattle.deals.proofs.Loading.{words-here}
-use Rattle.deals.proofs.Reclaiming.{server-here, usable-most, Reclaiming, reclaiming-start, reclaiming-turn, reclaiming-end}
+use Rattle.deals.proofs.Reclaiming.{Reclaiming, reclaiming-start, reclaiming-more, reclaiming-kept, reclaiming-end}
 use Rattle.deals.proofs.reclaim.reclaim.Statement.{statement}
 use Rattle.deals.proofs.reclaim.reclaim.Tie as tie
 
 abbrev Inv-loop : tie.InvT-loop
-Inv-loop table demands grants wants₀ freed₀ start₀ c₀ v₀ v-end wants freed start c v =
-    (v ≤ length demands) × (freed ≤ c * 4294967295) × Reclaiming table demands grants wants₀ v start c freed wants
+Inv-loop shares servers usable grants wants₀ freed₀ c₀ c-end wants freed c = (c ≤ length shares) × Reclaiming shares servers usable grants wants₀ c freed wants
 
 abbrev μ-loop : tie.MeasureT-loop
-μ-loop table demands grants wants₀ freed₀ start₀ c₀ v₀ v-end wants freed start c v = v-end - v
+μ-loop shares servers usable grants wants₀ freed₀ c₀ c-end wants freed c = c-end - c
+
+loop-holds : tie.Need-loop-holds Inv-loop μ-loop
+loop-holds c = (search needs, reclaiming-start)
+
+mul-carried-by : tie.Need-mul-carried-by Inv-loop μ-loop
+mul-carried-by c = search needs
+
+shared-slice-read-carried-by : tie.Need-shared-slice-read-carried-by Inv-loop μ-loop
+shared-slice-read-carried-by c = search needs
+
+mul-index : tie.Need-mul-index Inv-loop μ-loop
+mul-index c = search needs
 
 shared-slice-read-index : tie.Need-shared-slice-read-index Inv-loop μ-loop
-shared-slice-read-index c = omega (arith, begun (c .before .before .before .before .before .pre .0 .is) .there)
+shared-slice-read-index c = search needs
 
 index-requires : tie.Need-index-requires Inv-loop μ-loop
 index-requires c κs = search needs
 
-mul-start : tie.Need-mul-start Inv-loop μ-loop
-mul-start c = search needs
+mul-carried-by-2 : tie.Need-mul-carried-by-2 Inv-loop μ-loop
+mul-carried-by-2 c = search needs
 
-add-start : tie.Need-add-start Inv-loop μ-loop
-add-start c = search needs
+shared-slice-read-carried-by-2 : tie.Need-shared-slice-read-carried-by-2 Inv-loop μ-loop
+shared-slice-read-carried-by-2 c = omega (arith, c .before .before .before .before .before .before .before .before .before .before .before .pre .0 .within (c .before .before .before .before .before .loop .c) (search needs), c .before .index .ensures .0)
 
-loop-holds : tie.Need-loop-holds Inv-loop μ-loop
-loop-holds c =
-    let pre = c .before .before .before .before .before .before .pre in
-    let fit = pre .1 in
-    (search needs, search needs, reclaiming-start (pre .0) (fit .0) (fit .1) (fit .2) _ (c .index .ensures .0))
+carried-by-requires : tie.Need-carried-by-requires Inv-loop μ-loop
+carried-by-requires c κs =
+    let lists = c .before .before .before .before .before .before .before .before .before .before .before .pre .0 in
+    let loop = c .before .before .before .before .before .loop in
+    (lists .parts (loop .c) (search needs), lists .most (c .before .index .result) (omega (arith, lists .within (loop .c) (search needs), c .before .index .ensures .0)))
 
-mul-usable-of : tie.Need-mul-usable-of Inv-loop μ-loop
-mul-usable-of c = search needs
+mul-wide : tie.Need-mul-wide Inv-loop μ-loop
+mul-wide c = search needs
 
-shared-slice-read-usable-of : tie.Need-shared-slice-read-usable-of Inv-loop μ-loop
-shared-slice-read-usable-of c = search needs
+shared-slice-read-wide : tie.Need-shared-slice-read-wide Inv-loop μ-loop
+shared-slice-read-wide c = search needs
 
-usable-of-requires : tie.Need-usable-of-requires Inv-loop μ-loop
-usable-of-requires c κs =
-    let serving = c .before .before .loop .inv .2 .serving in
-    let here = server-here serving (search needs) in
-    (words-here here, omega (arith, here .cords-within, serving .granted))
+wide-requires : tie.Need-wide-requires Inv-loop μ-loop
+wide-requires c κs = search needs
 
-reclaim-server-requires : tie.Need-reclaim-server-requires Inv-loop μ-loop
-reclaim-server-requires c κs =
-    let reclaiming = c .before .before .before .before .loop .inv .2 in
-    let serving = reclaiming .serving in
-    let here = server-here serving (search needs) in
-    let within = here .cords-within in (
-      (words-here here, usable-most serving (search needs) (c .before .usable-of .ensures)),
-      (omega (arith, serving .granted), omega (arith, reclaiming .wants-done .size-is)),
-    )
+wide-requires-2 : tie.Need-wide-requires-2 Inv-loop μ-loop
+wide-requires-2 c κs = search needs
+
+over-requires : tie.Need-over-requires Inv-loop μ-loop
+over-requires c κs = search needs
 
 add-freed : tie.Need-add-freed Inv-loop μ-loop
-add-freed c =
-    let reclaiming = c .before .before .before .before .before .before .before .loop .inv .2 in
-    let serving = reclaiming .serving in
-    omega (arith, c .before .before .before .before .before .before .before .loop .inv .1, c .before .before .reclaim-server .ensures .1 .1, server-here serving (search needs) .cords-within, begun (serving .read) .cords-most)
+add-freed c = search needs
 
-add-index : tie.Need-add-index Inv-loop μ-loop
-add-index c =
-    let here = server-here (c .before .before .before .before .before .before .before .loop .inv .2 .serving) (search needs) in
-    omega arith
+mul-wants : tie.Need-mul-wants Inv-loop μ-loop
+mul-wants c = search needs
 
-mul-index : tie.Need-mul-index Inv-loop μ-loop
-mul-index c =
-    let here = server-here (c .before .before .before .before .before .before .before .loop .inv .2 .serving) (search needs) in
-    omega arith
-
-shared-slice-read-index-2 : tie.Need-shared-slice-read-index-2 Inv-loop μ-loop
-shared-slice-read-index-2 c =
-    let here = server-here (c .before .before .before .before .before .before .before .before .loop .inv .2 .serving) (search needs) in
-    omega arith
-
-index-requires-2 : tie.Need-index-requires-2 Inv-loop μ-loop
-index-requires-2 c κs = search needs
+slice-write-wants : tie.Need-slice-write-wants Inv-loop μ-loop
+slice-write-wants c = search needs
 
 add-c : tie.Need-add-c Inv-loop μ-loop
-add-c c =
-    let serving = c .before .before .before .before .before .before .before .before .before .loop .inv .2 .serving in
-    omega (arith, c .index2 .ensures .0, server-here serving (search needs) .cords-within, begun (serving .read) .cords-most)
-
-mul-start-2 : tie.Need-mul-start-2 Inv-loop μ-loop
-mul-start-2 c =
-    let here = server-here (c .before .before .before .before .before .before .before .before .before .loop .inv .2 .serving) (search needs) in
-    omega arith
-
-add-start-2 : tie.Need-add-start-2 Inv-loop μ-loop
-add-start-2 c =
-    let here = server-here (c .before .before .before .before .before .before .before .before .before .loop .inv .2 .serving) (search needs) in
-    omega arith
-
-add-start-3 : tie.Need-add-start-3 Inv-loop μ-loop
-add-start-3 c =
-    let here = server-here (c .before .before .before .before .before .before .before .before .before .loop .inv .2 .serving) (search needs) in
-    omega arith
-
-add-v : tie.Need-add-v Inv-loop μ-loop
-add-v c = search needs
+add-c c = search needs
 
 loop-less : tie.Need-loop-less Inv-loop μ-loop
 loop-less c = search needs
 
 loop-again : tie.Need-loop-again Inv-loop μ-loop
 loop-again c =
-    let called = c .before .before .before .before in
-    let left = called .reclaim-server .ensures in
-    (search needs, omega (arith, called .before .before .before .before .before .loop .inv .1, left .1 .1, c .index2 .ensures .0), reclaiming-turn (called .before .before .before .before .before .loop .inv .2) (search needs) _ _ _ _ (called .before .before .usable-of .ensures) (c .index2 .ensures .0) (left .0) (left .1 .0))
+    let over = c .before .over in
+    let stranded = over .ensures ∙ ap₂ _-_ (c .before .before .before .wide .ensures .0) (c .before .before .wide2 .ensures .0) in
+    let most : over .result ≤ 4294967295 = omega (arith, over .ensures, c .before .before .before .wide .ensures .1) in
+    let size = c .before .before .before .before .before .before .before .before .before .before .before .before .before .before .before .before .before .pre .1 in
+    let by = c .before .before .before .before .before .before .before .before .before .before .before .loop .inv .1 in
+    let used = c .before .before .before .before .before .carried-by .ensures in
+    let place = c .before .before .before .before .before .before .before .index .ensures .0 in
+    ⊎-elim
+    (λ w. (search needs, rw (w .1) (reclaiming-more by size (search needs) place used stranded most (omega (arith, w .0 .taken)))))
+    (λ w. (search needs, rw (w .1) (reclaiming-kept by size (search needs) place used stranded most (omega (arith, w .0 .left)))))
+    (c .if1 .came)
 
 same-length : tie.Need-same-length Inv-loop μ-loop
-same-length c =
-    let reclaiming = c .before .loop .inv .2 in
-    reclaiming .wants-done .size-is ∙ sym (c .before .before .before .before .before .before .before .before .pre .1 .2 (reclaiming .room) (reclaiming .serving .end) (reclaiming .serving .read))
+same-length c = search needs
 
 returns : tie.Need-returns Inv-loop μ-loop
-returns c = reclaiming-end (c .before .loop .inv .2) (search needs)
+returns c = reclaiming-end (c .before .loop .inv .1) (c .before .before .before .before .before .before .before .pre .1) (omega arith)
 
 pub reclaim-spec : {M : Type 1} → statement M
 reclaim-spec =
@@ -127,25 +101,24 @@ reclaim-spec =
     (tie.spec
     Inv-loop
     μ-loop
+    loop-holds
+    mul-carried-by
+    shared-slice-read-carried-by
+    mul-index
     shared-slice-read-index
     index-requires
-    mul-start
-    add-start
-    loop-holds
-    mul-usable-of
-    shared-slice-read-usable-of
-    usable-of-requires
-    reclaim-server-requires
+    mul-carried-by-2
+    shared-slice-read-carried-by-2
+    carried-by-requires
+    mul-wide
+    shared-slice-read-wide
+    wide-requires
+    wide-requires-2
+    over-requires
     add-freed
-    add-index
-    mul-index
-    shared-slice-read-index-2
-    index-requires-2
+    mul-wants
+    slice-write-wants
     add-c
-    mul-start-2
-    add-start-2
-    add-start-3
-    add-v
     loop-less
     loop-again
     same-length

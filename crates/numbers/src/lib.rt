@@ -4,7 +4,7 @@ ghost use mathlib.Core.Path.{_≡_};
 ghost use Prim.Native.Nat.{_+_, _^_, _<_, _≤_};
 ghost use lib.ListN.{length, drop, set};
 ghost use lib.Seq.{sets};
-ghost use Rattle.numbers.specs.Number.{number, decoded, form, encoded, afterEncode};
+ghost use Rattle.numbers.specs.Number.{number, decoded, form, Followed, encoded, afterEncode};
 ghost use Rattle.numbers.specs.Sheet.{sheetOf, judged, bytesOf, firstTooLarge, written, afterEncodeSheet};
 ghost use Rattle.words.specs.Lists.{AllBelow};
 
@@ -119,6 +119,24 @@ fn put(value: u32, sheet: &mut [u8], at: usize) -> usize
     next + 1
 }
 
+// Writes a number that has a form and that others follow, and gives the place after it. A number below 2^14 is stored as
+// two bytes, whatever its size: the processor cannot foretell a branch on that. What follows writes over a byte too much.
+fn put_followed(value: u32, sheet: &mut [u8], at: usize) -> usize
+    requires { ⌜ value < 2 ^ 28 ⌝ }
+    requires { ⌜ at + length (form value) < length (now sheet) ⌝ }
+    ensures { λ r. ⌜ r ≡ at + length (form value) ⌝ }
+    ensures { λ r. ⌜ Followed value (now (sheet .entry)) at (now (sheet .exit)) r ⌝ }
+{
+    if 16384 <= value {
+        return put(value, sheet, at);
+    }
+    // 1 from 128 on, else 0: as a sum that carries, since a test may be compiled to a branch.
+    let another = (value + 16256) / 16384;
+    sheet[at] = (128 * another + value % 128) as u8;
+    sheet[at + 1] = (value / 128) as u8;
+    at + 1 + another as usize
+}
+
 // Writes a number in its form from a place of the sheet on. Refused, it leaves the sheet unchanged.
 pub fn encode(value: u32, sheet: &mut [u8], at: usize) -> Encoded
     ensures { λ r. ⌜ r ≡ encoded value (length (now (sheet .entry))) at ⌝ }
@@ -202,9 +220,13 @@ fn put_all(words: &[u32], sheet: &mut [u8]) -> usize
 {
     let mut done = 0;
     let mut at = 0;
-    while done < words.len() {
-        at = put(words[done], sheet, at);
+    while done + 1 < words.len() {
+        at = put_followed(words[done], sheet, at);
         done += 1;
+    }
+    // Nothing follows the last word.
+    if done < words.len() {
+        return put(words[done], sheet, at);
     }
     at
 }

@@ -1,6 +1,7 @@
 pub mod NumberLaws
 pub mod SheetLaws
 pub mod DecodeLoop
+pub mod DecodePair
 pub mod PutLoop
 pub mod PutFollowed
 pub mod SheetLoops

@@ -52,8 +52,8 @@ fn wide(byte: u8) -> u32
     byte as u32
 }
 
-// The number that starts at a place of the sheet.
-pub fn decode(sheet: &[u8], at: usize) -> Decoded
+// The number that starts at a place of the sheet, byte by byte.
+fn decode_bytes(sheet: &[u8], at: usize) -> Decoded
     ensures { λ r. ⌜ r ≡ decoded at (number (drop at (now (sheet .entry)))) ⌝ }
 {
     if sheet.len() <= at {
@@ -84,6 +84,25 @@ pub fn decode(sheet: &[u8], at: usize) -> Decoded
         left -= 1;
     }
     Decoded::Refused(Fault::TooLong, at)
+}
+
+// The number that starts at a place of the sheet. If it has one or two bytes, and the sheet two from there on, it is read
+// without a branch on its size, which the processor cannot foretell.
+pub fn decode(sheet: &[u8], at: usize) -> Decoded
+    ensures { λ r. ⌜ r ≡ decoded at (number (drop at (now (sheet .entry)))) ⌝ }
+{
+    if at < sheet.len() && at + 1 < sheet.len() {
+        let first = wide(sheet[at]);
+        // 1 if another byte follows, else 0.
+        let another = first / 128;
+        let second = another * wide(sheet[at + 1]);
+        if another <= second && second < 128 {
+            let value = first % 128 + 128 * second;
+            let next = at + 1 + another as usize;
+            return Decoded::Number(value, next);
+        }
+    }
+    decode_bytes(sheet, at)
 }
 
 // The count of bytes in a number's form.

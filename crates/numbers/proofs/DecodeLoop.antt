@@ -1,4 +1,4 @@
--- The loop of `decode`: the bytes read so far carry `value`, and the next byte's group counts `unit`.
+-- The loop of `decode_bytes`: the bytes read so far carry `value`, and the next byte's group counts `unit`.
 use mathlib.Core.Path.{_≡_, refl, ap, _∙_}
 use mathlib.Core.List.{List, _∷_}
 use Prim.Native.Nat.{ℕ, zero, suc, _+_, _-_, _*_, _^_, _≤_, _<_}

@@ -1,7 +1,9 @@
 pub mod NumberLaws
 pub mod SheetLaws
 pub mod DecodeLoop
+pub mod DecodePair
 pub mod PutLoop
+pub mod PutFollowed
 pub mod SheetLoops
 pub mod Promises
 pub mod Examples

@@ -73,27 +73,25 @@ sheetOf-bytesOf words all = sheetFrom-bytesOf (length (bytesOf words)) 0 words (
 record Read (bytes : List ℕ) (sheet : Sheet) : Type 0 where
   pub back : sheet .ending ≡ whole → bytesOf (sheet .words) ≡ bytes
   pub below : AllBelow (2 ^ 28) (sheet .words)
-  pub few : length (sheet .words) ≤ length bytes
 
 read-from : (fuel at : ℕ) (bytes : List ℕ) → length bytes ≤ fuel → AllBelow 256 bytes → Read bytes (sheetFrom fuel at bytes)
 unfolding sheetFrom bytesOf
-read-from zero at [] h all = record { back = λ e. refl; below = λ i. omega arith; few = omega arith }
+read-from zero at [] h all = record { back = λ e. refl; below = λ i. omega arith }
 read-from zero at (b ∷ bytes) h all = absurd (omega arith)
-read-from (suc fuel) at [] h all = record { back = λ e. refl; below = λ i. omega arith; few = omega arith }
+read-from (suc fuel) at [] h all = record { back = λ e. refl; below = λ i. omega arith }
 read-from (suc fuel) at (b ∷ bytes) h all =
     go (number (b ∷ bytes)) refl
     (λ n p. read-from fuel (at + n) (drop n (b ∷ bytes)) (omega (arith, length-drop n (b ∷ bytes))) (drop-below 256 (b ∷ bytes) n all))
   where
     go : (f : Front) → number (b ∷ bytes) ≡ f → ((n : ℕ) → 0 < n → Read (drop n (b ∷ bytes)) (sheetFrom fuel (at + n) (drop n (b ∷ bytes))))
         → Read (b ∷ bytes) (onto at f (λ n. sheetFrom fuel (at + n) (drop n (b ∷ bytes))))
-    go (bad fault) e ih = record { back = λ d. (let z : _≡_ {A = ℕ} 0 1 = cc in absurd (omega arith)); below = λ i. omega arith; few = omega arith }
+    go (bad fault) e ih = record { back = λ d. (let z : _≡_ {A = ℕ} 0 1 = cc in absurd (omega arith)); below = λ i. omega arith }
     go (good value size) e ih =
         let g = number-good (b ∷ bytes) value size all e in
         let r = ih size (g .some) in
         record {
           back = λ d. rw (r .back d) (g .whole);
           below = cons-below (2 ^ 28) value (sheetFrom fuel (at + size) (drop size (b ∷ bytes)) .words) (g .bound) (r .below);
-          few = omega (arith, r .few, g .within, g .some, length-drop size (b ∷ bytes));
         }
 
 pub bytesOf-sheetOf : (bytes : List ℕ) → AllBelow 256 bytes → sheetOf bytes .ending ≡ whole → bytesOf (sheetOf bytes .words) ≡ bytes
@@ -101,9 +99,6 @@ bytesOf-sheetOf bytes all = read-from (length bytes) 0 bytes (omega arith) all .
 
 pub words-below : (bytes : List ℕ) → AllBelow 256 bytes → AllBelow (2 ^ 28) (sheetOf bytes .words)
 words-below bytes all = read-from (length bytes) 0 bytes (omega arith) all .below
-
-pub length-words≤ : (bytes : List ℕ) → AllBelow 256 bytes → length (sheetOf bytes .words) ≤ length bytes
-length-words≤ bytes all = read-from (length bytes) 0 bytes (omega arith) all .few
 
 -- ---- the answer on words that are to be written
 

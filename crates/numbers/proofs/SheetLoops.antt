@@ -1,12 +1,11 @@
 -- The loops over a whole sheet: of `decode_sheet`, `put_all`, `first_too_large` and `total_size`.
 use mathlib.Core.Path.{_≡_, refl, sym, ap, _∙_}
-use mathlib.Core.List.{List, []}
+use mathlib.Core.List.{List, [], _++_}
 use Prim.Native.Nat.{ℕ, zero, suc, _+_, _-_, _*_, _^_, _≤_, _<_}
 use native.Mathlib.Omega.{arith}
 use native.Mathlib.Numerals.{add-one}
 use lib.ListN.{length, getD, drop, set, length-append, length-drop, length-set, drop-of-length-le}
 use lib.Seq.{sets, length-sets, drop-cons, drop-drop}
-use lib.Dec.{ltb}
 use borrow.Author.Tests.{lt-ltb, le-ltb}
 use Rattle.numbers.specs.Number.{Front, good, bad, number, decoded, form}
 use Rattle.numbers.specs.Sheet.{whole, onto, sheetFrom, sheetOf, answer, judged, bytesOf, firstTooLarge}
@@ -14,7 +13,7 @@ use Rattle.words.specs.Lists.{AllBelow}
 use Rattle.numbers.specs.declared.Fault.{Fault}
 use Rattle.numbers.specs.declared.Decoded.the-variants.{Number, Refused}
 use Rattle.numbers.specs.declared.Judged.the-variants.{Words, Refused as Turned}
-use Rattle.numbers.proofs.NumberLaws.{Good, number-good, length-form≤4}
+use Rattle.numbers.proofs.NumberLaws.{Good, number-good, 1≤length-form, length-form≤4}
 use Rattle.words.proofs.Lists.{drop-below, sets-append}
 use Rattle.numbers.proofs.SheetLaws.{sheetFrom-end, sheetFrom-some, bytesOf-drop}
 
@@ -132,17 +131,37 @@ module _ (words sheet₀ sheet : List ℕ) (index at : ℕ) (inv : Writing words
     pub writing-fits : length (bytesOf words) ≤ length sheet₀ → at + length (form (getD words index 0)) ≤ length sheet
     writing-fits f = omega (arith, inv .end, inv .size, length-bytesOf-drop words index h)
 
-    pub writing-again : (sheet′ : List ℕ) (at′ : ℕ) → at′ ≡ at + length (form (getD words index 0))
-        → sheet′ ≡ sets sheet at (form (getD words index 0))
+    -- What follows the word completes the sheet, also over a byte too much.
+    pub writing-again : (sheet′ : List ℕ) (at′ : ℕ) → at′ ≡ at + length (form (getD words index 0)) → length sheet′ ≡ length sheet
+        → sets sheet′ at′ (bytesOf (drop (suc index) words)) ≡ sets sheet at (form (getD words index 0) ++ bytesOf (drop (suc index) words))
         → Writing words sheet₀ sheet′ (index + 1) at′
-    writing-again sheet′ at′ a s =
-        rw (a, s, add-one)
+    writing-again sheet′ at′ a l s =
+        rw add-one
         (record {
           within = h;
           end = omega (arith, inv .end, length-bytesOf-drop words index h);
-          size = length-sets sheet at (form (getD words index 0)) ∙ inv .size;
-          same = sym (sets-append sheet at (form (getD words index 0)) (bytesOf (drop (suc index) words))) ∙ (rw (bytesOf-drop words index h) at (inv .same));
+          size = l ∙ inv .size;
+          same = s ∙ (rw (bytesOf-drop words index h) at (inv .same));
         })
+
+  -- A byte at least follows every word but the last.
+  module _ (h : index + 1 < length words) where
+    pub writing-more : 0 < length (bytesOf (drop (suc index) words))
+    writing-more = omega (arith, length-bytesOf-drop words (suc index) (omega arith), 1≤length-form (getD words (suc index) 0))
+
+    pub writing-fits-more : length (bytesOf words) ≤ length sheet₀ → at + length (form (getD words index 0)) < length sheet
+    writing-fits-more f = omega (arith, inv .end, inv .size, length-bytesOf-drop words index (omega arith), writing-more)
+
+-- The last word completes the sheet.
+pub writing-last : (words sheet₀ sheet : List ℕ) (index at : ℕ) → Writing words sheet₀ sheet index at → index < length words → length words ≤ index + 1
+    → (sheet′ : List ℕ) (at′ : ℕ) → at′ ≡ at + length (form (getD words index 0)) → sheet′ ≡ sets sheet at (form (getD words index 0))
+    → (at′ ≡ length (bytesOf words)) × (sheet′ ≡ sets sheet₀ 0 (bytesOf words))
+writing-last words sheet₀ sheet index at inv h last sheet′ at′ a s =
+    let after = bytesOf (drop (suc index) words) in
+    let w = form (getD words index 0) in
+    writing-end words sheet₀ sheet′ (index + 1) at′
+    (writing-again words sheet₀ sheet index at inv h sheet′ at′ a (rw s (length-sets sheet at w)) (rw (a, s) (sym (sets-append sheet at w after))))
+    last
 
 -- ---- `first_too_large`: the words in front of `index` have forms
 

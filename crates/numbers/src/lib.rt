@@ -4,7 +4,7 @@ ghost use mathlib.Core.Path.{_≡_};
 ghost use Prim.Native.Nat.{_+_, _^_, _<_, _≤_};
 ghost use lib.ListN.{length, drop, set};
 ghost use lib.Seq.{sets};
-ghost use Rattle.numbers.specs.Number.{number, decoded, form, encoded, afterEncode};
+ghost use Rattle.numbers.specs.Number.{number, decoded, form, Followed, encoded, afterEncode};
 ghost use Rattle.numbers.specs.Sheet.{sheetOf, judged, bytesOf, firstTooLarge, written, afterEncodeSheet};
 ghost use Rattle.words.specs.Lists.{AllBelow};
 
@@ -52,8 +52,8 @@ fn wide(byte: u8) -> u32
     byte as u32
 }
 
-// The number that starts at a place of the sheet.
-pub fn decode(sheet: &[u8], at: usize) -> Decoded
+// The number that starts at a place of the sheet, byte by byte.
+fn decode_bytes(sheet: &[u8], at: usize) -> Decoded
     ensures { λ r. ⌜ r ≡ decoded at (number (drop at (now (sheet .entry)))) ⌝ }
 {
     if sheet.len() <= at {
@@ -84,6 +84,25 @@ pub fn decode(sheet: &[u8], at: usize) -> Decoded
         left -= 1;
     }
     Decoded::Refused(Fault::TooLong, at)
+}
+
+// The number that starts at a place of the sheet. If it has one or two bytes, and the sheet two from there on, it is read
+// without a branch on its size, which the processor cannot foretell.
+pub fn decode(sheet: &[u8], at: usize) -> Decoded
+    ensures { λ r. ⌜ r ≡ decoded at (number (drop at (now (sheet .entry)))) ⌝ }
+{
+    if at < sheet.len() && at + 1 < sheet.len() {
+        let first = wide(sheet[at]);
+        // 1 if another byte follows, else 0.
+        let another = first / 128;
+        let second = another * wide(sheet[at + 1]);
+        if another <= second && second < 128 {
+            let value = first % 128 + 128 * second;
+            let next = at + 1 + another as usize;
+            return Decoded::Number(value, next);
+        }
+    }
+    decode_bytes(sheet, at)
 }
 
 // The count of bytes in a number's form.
@@ -117,6 +136,24 @@ fn put(value: u32, sheet: &mut [u8], at: usize) -> usize
     }
     sheet[next] = rest as u8;
     next + 1
+}
+
+// Writes a number that has a form and that others follow, and gives the place after it. A number below 2^14 is stored as
+// two bytes, whatever its size: the processor cannot foretell a branch on that. What follows writes over a byte too much.
+fn put_followed(value: u32, sheet: &mut [u8], at: usize) -> usize
+    requires { ⌜ value < 2 ^ 28 ⌝ }
+    requires { ⌜ at + length (form value) < length (now sheet) ⌝ }
+    ensures { λ r. ⌜ r ≡ at + length (form value) ⌝ }
+    ensures { λ r. ⌜ Followed value (now (sheet .entry)) at (now (sheet .exit)) r ⌝ }
+{
+    if 16384 <= value {
+        return put(value, sheet, at);
+    }
+    // 1 from 128 on, else 0: as a sum that carries, since a test may be compiled to a branch.
+    let another = (value + 16256) / 16384;
+    sheet[at] = (128 * another + value % 128) as u8;
+    sheet[at + 1] = (value / 128) as u8;
+    at + 1 + another as usize
 }
 
 // Writes a number in its form from a place of the sheet on. Refused, it leaves the sheet unchanged.
@@ -202,9 +239,13 @@ fn put_all(words: &[u32], sheet: &mut [u8]) -> usize
 {
     let mut done = 0;
     let mut at = 0;
-    while done < words.len() {
-        at = put(words[done], sheet, at);
+    while done + 1 < words.len() {
+        at = put_followed(words[done], sheet, at);
         done += 1;
+    }
+    // Nothing follows the last word.
+    if done < words.len() {
+        return put(words[done], sheet, at);
     }
     at
 }

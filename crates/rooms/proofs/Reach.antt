@@ -219,9 +219,6 @@ servers-reaches last w nodeCount count i h l =
 abbrev pub mostWords : ℕ
 mostWords = 2 + 2 * mostNodes + 1 + 4 * mostServers + 2 * mostCords
 
-pub most-words : mostWords ≡ 5123
-most-words = refl
-
 table-reaches : (w : List ℕ) → Reaches mostWords table w 0
 unfolding table
 table-reaches w =

@@ -8,7 +8,7 @@ use native.Mathlib.Numerals.{add-one}
 use native.Mathlib.Nat.{suc-add}
 use borrow.Author.Tests.{le-leb, lt-leb}
 use lib.ListN.{length, getD, set, take}
-use lib.Seq.{sets, take-suc, take-all, length-take-le}
+use lib.Seq.{sets, take-suc, length-take-le}
 use Rattle.words.specs.Lists.{AllBelow}
 use Rattle.words.specs.Bytes.{littleEndian, word, wordAt, wordsOf, bytesOf, answerBytes, holdsAnswer, answered}
 use Rattle.words.proofs.Lists.{sets-append, take-sets, take-min, nil-below, cons-below, append-below}
@@ -102,7 +102,7 @@ sets-bytesOf-turn bytes words i h =
     let e : 0 + length (bytesOf (take i words)) ≡ 4 * i = omega (arith, length-bytesOf (take i words), length-take-le i words (omega arith)) in
     sym (rw (add-one, take-suc words i 0, bytesOf-append, sets-append, e, append-nil))
 
--- ---- what a caller of `load` and `store` has
+-- ---- what a caller of `load` has
 
 -- After `load` into a list of k words, whatever it held, its first n words, n being the result, are the first k of the bytes.
 pub take-loaded : (k n : ℕ) (bytes list list' : List ℕ) → length list ≡ k → n ≡ min (length bytes / 4) (length list) → list' ≡ sets list 0 (wordsOf bytes)
@@ -110,10 +110,6 @@ pub take-loaded : (k n : ℕ) (bytes list list' : List ℕ) → length list ≡ 
 take-loaded k n bytes list list' hk hn hl =
     let count : n ≡ min (length (wordsOf bytes)) k = omega (arith, length-wordsOf bytes) in
     rw hl (take-sets n list (wordsOf bytes) (omega arith) (omega arith) ∙ ap (λ (m : ℕ). take m (wordsOf bytes)) count ∙ take-min k (wordsOf bytes))
-
--- Where all the words fit, `store` takes all of them.
-pub take-stored : (bytes words : List ℕ) → 4 * length words ≤ length bytes → take (length bytes / 4) words ≡ words
-take-stored bytes words h = take-all (length bytes / 4) words (omega arith)
 
 -- ---- the answer
 

@@ -2,7 +2,7 @@
 use borrow.Author.Needs.{needs}
 use Prim.Native.Nat.{_-_}
 use lib.ListN.{length}
-use Rattle.numbers.proofs.SheetLoops.{Writing, writing-begin, writing-end, writing-fits, writing-again}
+use Rattle.numbers.proofs.SheetLoops.{Writing, writing-begin, writing-end, writing-fits, writing-again, writing-more, writing-fits-more, writing-last}
 use Rattle.numbers.proofs.put_all.Statement.{statement}
 use Rattle.numbers.proofs.put_all.Tie as tie
 
@@ -15,17 +15,20 @@ abbrev μ-loop : tie.MeasureT-loop
 loop-holds : tie.Need-loop-holds Inv-loop μ-loop
 loop-holds c = writing-begin _ _
 
-mul-put : tie.Need-mul-put Inv-loop μ-loop
-mul-put c = search needs
+add-loop : tie.Need-add-loop Inv-loop μ-loop
+add-loop c = search needs
 
-shared-slice-read-put : tie.Need-shared-slice-read-put Inv-loop μ-loop
-shared-slice-read-put c = search needs
+mul-put-followed : tie.Need-mul-put-followed Inv-loop μ-loop
+mul-put-followed c = search needs
 
-put-requires : tie.Need-put-requires Inv-loop μ-loop
-put-requires c κs =
+shared-slice-read-put-followed : tie.Need-shared-slice-read-put-followed Inv-loop μ-loop
+shared-slice-read-put-followed c = search needs
+
+put-followed-requires : tie.Need-put-followed-requires Inv-loop μ-loop
+put-followed-requires c κs =
     let turn = c .before .before .before .loop in
     let entry = c .before .before .before .before .before .before in
-    (entry .pre .0 _, writing-fits _ _ _ _ _ (turn .inv) (search needs) (entry .pre .1))
+    (entry .pre .0 _, writing-fits-more _ _ _ _ _ (turn .inv) (search needs) (entry .pre .1))
 
 add-done : tie.Need-add-done Inv-loop μ-loop
 add-done c = search needs
@@ -36,14 +39,35 @@ loop-less c = search needs
 loop-again : tie.Need-loop-again Inv-loop μ-loop
 loop-again c =
     let turn = c .before .before .before .before .before .before .loop in
-    let put = c .before .before .put in
-    writing-again _ _ _ _ _ (turn .inv) (search needs) _ _ (put .ensures .0) (put .ensures .1)
+    let put = c .before .before .put-followed in
+    writing-again _ _ _ _ _ (turn .inv) (search needs) _ _ (put .ensures .0) (put .kept .1 .0) (put .ensures .1 _ (writing-more _ _ _ _ _ (turn .inv) (search needs)))
+
+mul-put : tie.Need-mul-put Inv-loop μ-loop
+mul-put c = search needs
+
+shared-slice-read-put : tie.Need-shared-slice-read-put Inv-loop μ-loop
+shared-slice-read-put c = search needs
+
+put-requires : tie.Need-put-requires Inv-loop μ-loop
+put-requires c κs =
+    let turn = c .before .before .before .before .loop in
+    let entry = c .before .before .before .before .before .before .before in
+    (entry .pre .0 _, writing-fits _ _ _ _ _ (turn .inv) (search needs) (entry .pre .1))
 
 same-length : tie.Need-same-length Inv-loop μ-loop
 same-length c = search needs
 
 returns : tie.Need-returns Inv-loop μ-loop
-returns c = writing-end _ _ _ _ _ (c .before .loop .inv) (search needs)
+returns c =
+    let turn = c .before .before .before .before .before .before .before .loop in
+    let put = c .before .before .put in
+    writing-last _ _ _ _ _ (turn .inv) (search needs) (search needs) _ _ (put .ensures .0) (put .ensures .1)
+
+same-length-2 : tie.Need-same-length-2 Inv-loop μ-loop
+same-length-2 c = search needs
+
+returns-2 : tie.Need-returns-2 Inv-loop μ-loop
+returns-2 c = writing-end _ _ _ _ _ (c .before .before .loop .inv) (search needs)
 
 pub put-all-spec : {M : Type 1} → statement M
 put-all-spec =
@@ -52,11 +76,17 @@ put-all-spec =
     Inv-loop
     μ-loop
     loop-holds
-    mul-put
-    shared-slice-read-put
-    put-requires
+    add-loop
+    mul-put-followed
+    shared-slice-read-put-followed
+    put-followed-requires
     add-done
     loop-less
     loop-again
+    mul-put
+    shared-slice-read-put
+    put-requires
     same-length
-    returns)
+    returns
+    same-length-2
+    returns-2)

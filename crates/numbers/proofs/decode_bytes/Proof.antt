@@ -1,0 +1,126 @@
+-- `decode_bytes` meets its contract: each return is one case of the definition, from the bytes read so far (`DecodeLoop`).
+use borrow.Author.Needs.{needs}
+use Prim.Native.Nat.{ℕ, _+_, _-_, _*_, _^_, _≤_, _<_}
+use native.Mathlib.Omega.{arith}
+use Rattle.numbers.proofs.DecodeLoop.{Inv, empty, single, begin, exhausted, ended, fits, not-shortest, last, again}
+use Rattle.numbers.proofs.decode_bytes.Statement.{statement}
+use Rattle.numbers.proofs.decode_bytes.Tie as tie
+
+abbrev Inv-loop : tie.InvT-loop
+Inv-loop sheet at first value₀ unit₀ next₀ left₀ value unit next left = Inv sheet at value unit next left
+
+abbrev μ-loop : tie.MeasureT-loop
+μ-loop sheet at first value₀ unit₀ next₀ left₀ value unit next left = left
+
+returns : tie.Need-returns Inv-loop μ-loop
+returns c = empty _ _ (search needs)
+
+shared-slice-read-wide : tie.Need-shared-slice-read-wide Inv-loop μ-loop
+shared-slice-read-wide c = search needs
+
+wide-requires : tie.Need-wide-requires Inv-loop μ-loop
+wide-requires c κs = search needs
+
+add-t14 : tie.Need-add-t14 Inv-loop μ-loop
+add-t14 c = search needs
+
+returns-2 : tie.Need-returns-2 Inv-loop μ-loop
+returns-2 c = single _ _ _ (c .before .wide .ensures .0) (search needs) (search needs)
+
+add-next : tie.Need-add-next Inv-loop μ-loop
+add-next c = search needs
+
+loop-holds : tie.Need-loop-holds Inv-loop μ-loop
+loop-holds c = begin _ _ _ (c .before .wide .ensures .0) (search needs) (search needs) (c .before .wide .ensures .1)
+
+returns-3 : tie.Need-returns-3 Inv-loop μ-loop
+returns-3 c = ended _ _ _ _ _ _ (search needs) (c .before .before .loop .inv) (search needs)
+
+shared-slice-read-wide-2 : tie.Need-shared-slice-read-wide-2 Inv-loop μ-loop
+shared-slice-read-wide-2 c = search needs
+
+wide-requires-2 : tie.Need-wide-requires-2 Inv-loop μ-loop
+wide-requires-2 c κs = search needs
+
+returns-4 : tie.Need-returns-4 Inv-loop μ-loop
+returns-4 c =
+    let turn = c .before .before .before .before .before .loop in
+    not-shortest _ _ _ _ _ _ (c .before .wide2 .ensures .0) (search needs) _ (search needs) (turn .inv) (search needs)
+
+-- The value with the next byte's group, and the next unit, fit.
+bounds : (c : tie.Else4 Inv-loop μ-loop) (group : ℕ) → group < 128
+    → let l = c .before .before .before .before .before .loop in
+    (l .value + l .unit * group < 2 ^ 28) × (l .unit * 128 ≤ 2 ^ 28)
+bounds c group h = fits _ _ _ _ _ _ (search needs) (c .before .before .before .before .before .loop .inv) group h
+
+mul-t21 : tie.Need-mul-t21 Inv-loop μ-loop
+mul-t21 c = omega (arith, bounds (c .before) (c .before .before .wide2 .result) (search needs))
+
+add-t22 : tie.Need-add-t22 Inv-loop μ-loop
+add-t22 c = omega (arith, bounds (c .before) (c .before .before .wide2 .result) (search needs))
+
+add-t23 : tie.Need-add-t23 Inv-loop μ-loop
+add-t23 c = search needs
+
+returns-5 : tie.Need-returns-5 Inv-loop μ-loop
+returns-5 c =
+    let byte = c .before .before .wide2 in
+    let turn = c .before .before .before .before .before .before .loop in
+    last _ _ _ _ _ _ (byte .ensures .0) (search needs) _ (search needs) (turn .inv) (search needs) (search needs)
+
+mul-value : tie.Need-mul-value Inv-loop μ-loop
+mul-value c = omega (arith, bounds (c .before) (c .before .before .wide2 .result - 128) (omega arith))
+
+add-value : tie.Need-add-value Inv-loop μ-loop
+add-value c = omega (arith, bounds (c .before) (c .before .before .wide2 .result - 128) (omega arith))
+
+mul-unit : tie.Need-mul-unit Inv-loop μ-loop
+mul-unit c = omega (arith, bounds (c .before) 0 (omega arith))
+
+add-next-2 : tie.Need-add-next-2 Inv-loop μ-loop
+add-next-2 c = search needs
+
+sub-left : tie.Need-sub-left Inv-loop μ-loop
+sub-left c = search needs
+
+loop-less : tie.Need-loop-less Inv-loop μ-loop
+loop-less c = search needs
+
+loop-again : tie.Need-loop-again Inv-loop μ-loop
+loop-again c =
+    let byte = c .before .before .wide2 in
+    let turn = c .before .before .before .before .before .before .loop in
+    again _ _ _ _ _ _ (byte .ensures .0) (search needs) _ (search needs) (turn .inv) (search needs) (byte .ensures .1)
+
+returns-6 : tie.Need-returns-6 Inv-loop μ-loop
+returns-6 c = exhausted _ _ _ _ _ _ (search needs) (c .before .loop .inv)
+
+pub decode-bytes-spec : {M : Type 1} → statement M
+decode-bytes-spec =
+    tie.close
+    (tie.spec
+    Inv-loop
+    μ-loop
+    returns
+    shared-slice-read-wide
+    wide-requires
+    add-t14
+    returns-2
+    add-next
+    loop-holds
+    returns-3
+    shared-slice-read-wide-2
+    wide-requires-2
+    returns-4
+    mul-t21
+    add-t22
+    add-t23
+    returns-5
+    mul-value
+    add-value
+    mul-unit
+    add-next-2
+    sub-left
+    loop-less
+    loop-again
+    returns-6)

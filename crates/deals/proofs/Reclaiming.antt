@@ -104,7 +104,8 @@ module _ {shares servers usable grants first : List ℕ} where
   reclaiming-start = record { freed-is = sym (sum-none _); freed-most = omega arith; wants-done = filled-none _ first; wants-left = λ h l. refl }
 
   module _ {c freed : ℕ} {wants : List ℕ} (by : Reclaiming shares servers usable grants first c freed wants) (size : length first ≡ length shares) (here : c < length shares)
-      {v x watts : ℕ} (place-is : v ≡ at servers c) (used-is : x ≡ carried scale (at shares c) (at usable v)) (stranded-is : watts ≡ at grants c - x) (most : watts ≤ 4294967295) where
+      {v x watts more : ℕ} (place-is : v ≡ at servers c) (used-is : x ≡ carried scale (at shares c) (at usable v)) (stranded-is : watts ≡ at grants c - x) (most : watts ≤ 4294967295)
+      (more-is : more ≡ freed + watts) where
     used-here : at (usedFrom shares servers usable) c ≡ x
     used-here = figures-at (length shares) c _ here ∙ ap (λ (h : ℕ). carried scale (at shares c) (at usable h)) (sym place-is) ∙ sym used-is
 
@@ -121,13 +122,14 @@ module _ {shares servers usable grants first : List ℕ} where
         ∙ ap₂ (λ (y z : ℕ). cond (ltb 0 y) z (at first c)) stranded-here used-here
         ∙ ap (λ (t : Bool). cond t x (at first c)) e)
 
-    freed-here : freed + watts ≡ sum (c + 1) (at (strandedFrom (usedFrom shares servers usable) grants))
+    freed-here : more ≡ sum (c + 1) (at (strandedFrom (usedFrom shares servers usable) grants))
     freed-here =
-        ap₂ _+_ (by .freed-is) (sym stranded-here)
+        more-is
+        ∙ ap₂ _+_ (by .freed-is) (sym stranded-here)
         ∙ sym (ap (λ (n : ℕ). sum n (at (strandedFrom (usedFrom shares servers usable) grants))) (add-one c) ∙ sum-suc c _)
 
     -- One cord more: it leaves watts stranded and wants its used watts, or it leaves none and wants what it did.
-    pub reclaiming-more : 0 < watts → Reclaiming shares servers usable grants first (c + 1) (freed + watts) (set wants c x)
+    pub reclaiming-more : 0 < watts → Reclaiming shares servers usable grants first (c + 1) more (set wants c x)
     reclaiming-more h =
         record {
           freed-is = freed-here;
@@ -136,7 +138,7 @@ module _ {shares servers usable grants first : List ℕ} where
           wants-left = λ i l. getD-set-other wants c i x 0 (λ e. omega arith) ∙ by .wants-left i (omega arith);
         }
 
-    pub reclaiming-kept : watts ≤ 0 → Reclaiming shares servers usable grants first (c + 1) (freed + watts) wants
+    pub reclaiming-kept : watts ≤ 0 → Reclaiming shares servers usable grants first (c + 1) more wants
     reclaiming-kept h =
         record {
           freed-is = freed-here;

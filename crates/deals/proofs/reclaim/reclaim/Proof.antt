@@ -85,8 +85,8 @@ loop-again c =
     let used = c .before .before .before .before .before .carried-by .ensures in
     let place = c .before .before .before .before .before .before .before .index .ensures .0 in
     ⊎-elim
-    (λ w. (search needs, rw (w .1) (reclaiming-more by size (search needs) place used stranded most (omega (arith, w .0 .taken)))))
-    (λ w. (search needs, rw (w .1) (reclaiming-kept by size (search needs) place used stranded most (omega (arith, w .0 .left)))))
+    (λ w. (search needs, rw (w .1) (reclaiming-more by size (search needs) place used stranded most (omega arith) (omega (arith, w .0 .taken)))))
+    (λ w. (search needs, rw (w .1) (reclaiming-kept by size (search needs) place used stranded most (omega arith) (omega (arith, w .0 .left)))))
     (c .if1 .came)
 
 same-length : tie.Need-same-length Inv-loop μ-loop

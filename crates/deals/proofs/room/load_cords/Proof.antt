@@ -1,9 +1,10 @@
 -- `load_cords` meets its contract: before each turn the lists have the figures of the cords and servers passed.
-use mathlib.Core.Path.{refl, sym, _∙_}
+use mathlib.Core.Path.{_≡_, refl, sym, _∙_}
 use Prim.Native.Nat.{_-_, _≤_}
 use native.Mathlib.Omega.{arith}
 use lib.ListN.{length}
 use borrow.Author.Needs.{needs}
+use Rattle.deals.specs.Figures.{at}
 use Rattle.deals.proofs.Walk.{begun}
 use Rattle.deals.proofs.Loading.{Loading, LoadingServer, loading-start, loading-server, loading-end, server-begin, cord-fits, server-cord, server-end}
 use Rattle.deals.proofs.room.load_cords.Statement.{statement}
@@ -11,7 +12,7 @@ use Rattle.deals.proofs.room.load_cords.Tie as tie
 
 abbrev Inv-loop2 : tie.InvT-loop2
 Inv-loop2 table demands nodes₀ levels₀ lows₀ wants₀ shares₀ servers₀ needs start first v level least need count word₀ c₀ v-end c-end nodes levels lows wants shares servers word c =
-    LoadingServer table demands v start first count c word nodes levels lows wants shares servers needs
+    (level ≡ at table start - 1) × LoadingServer table demands v start first count c word nodes levels lows wants shares servers needs
 
 abbrev μ-loop2 : tie.MeasureT-loop2
 μ-loop2 table demands nodes₀ levels₀ lows₀ wants₀ shares₀ servers₀ needs start first v level least need count word₀ c₀ v-end c-end nodes levels lows wants shares servers word c =
@@ -95,85 +96,87 @@ add-c-end : tie.Need-add-c-end Inv-loop2 μ-loop2 Inv-loop μ-loop
 add-c-end c = let loading = c .before .before .before .before .before .before .before .before .loop .inv .1 in omega (arith, loading-server loading (search needs) .cords-within, begun (loading .read) .cords-most, c .index2 .ensures .0)
 
 loop2-holds : tie.Need-loop2-holds Inv-loop2 μ-loop2 Inv-loop μ-loop
-loop2-holds c = server-begin (c .before .before .before .before .before .before .before .before .loop .inv .1) (search needs) (c .index2 .ensures .0)
+loop2-holds c = (refl, server-begin (c .before .before .before .before .before .before .before .before .loop .inv .1) (search needs) (c .index2 .ensures .0))
 
 add-share : tie.Need-add-share Inv-loop2 μ-loop2 Inv-loop μ-loop
-add-share c = let fits = cord-fits (c .before .loop2 .inv) (search needs) in omega arith
+add-share c = let fits = cord-fits (c .before .loop2 .inv .1) (search needs) in omega arith
 
 mul-share : tie.Need-mul-share Inv-loop2 μ-loop2 Inv-loop μ-loop
-mul-share c = let fits = cord-fits (c .before .loop2 .inv) (search needs) in omega arith
+mul-share c = let fits = cord-fits (c .before .loop2 .inv .1) (search needs) in omega arith
 
 shared-slice-read-share : tie.Need-shared-slice-read-share Inv-loop2 μ-loop2 Inv-loop μ-loop
-shared-slice-read-share c = let fits = cord-fits (c .before .before .loop2 .inv) (search needs) in omega arith
+shared-slice-read-share c = let fits = cord-fits (c .before .before .loop2 .inv .1) (search needs) in omega arith
 
 mul-nodes : tie.Need-mul-nodes Inv-loop2 μ-loop2 Inv-loop μ-loop
-mul-nodes c = let fits = cord-fits (c .before .before .loop2 .inv) (search needs) in omega arith
+mul-nodes c = let fits = cord-fits (c .before .before .loop2 .inv .1) (search needs) in omega arith
 
 shared-slice-read-nodes : tie.Need-shared-slice-read-nodes Inv-loop2 μ-loop2 Inv-loop μ-loop
-shared-slice-read-nodes c = let fits = cord-fits (c .before .before .before .loop2 .inv) (search needs) in omega arith
+shared-slice-read-nodes c = let fits = cord-fits (c .before .before .before .loop2 .inv .1) (search needs) in omega arith
 
 mul-nodes-2 : tie.Need-mul-nodes-2 Inv-loop2 μ-loop2 Inv-loop μ-loop
-mul-nodes-2 c = let fits = cord-fits (c .before .before .before .loop2 .inv) (search needs) in omega arith
+mul-nodes-2 c = let fits = cord-fits (c .before .before .before .loop2 .inv .1) (search needs) in omega arith
 
 slice-write-nodes : tie.Need-slice-write-nodes Inv-loop2 μ-loop2 Inv-loop μ-loop
-slice-write-nodes c = let fits = cord-fits (c .before .before .before .loop2 .inv) (search needs) in omega arith
+slice-write-nodes c = let fits = cord-fits (c .before .before .before .loop2 .inv .1) (search needs) in omega arith
 
 mul-levels : tie.Need-mul-levels Inv-loop2 μ-loop2 Inv-loop μ-loop
-mul-levels c = let fits = cord-fits (c .before .before .before .loop2 .inv) (search needs) in omega arith
+mul-levels c = let fits = cord-fits (c .before .before .before .loop2 .inv .1) (search needs) in omega arith
 
 slice-write-levels : tie.Need-slice-write-levels Inv-loop2 μ-loop2 Inv-loop μ-loop
-slice-write-levels c = let fits = cord-fits (c .before .before .before .loop2 .inv) (search needs) in omega arith
+slice-write-levels c = let fits = cord-fits (c .before .before .before .loop2 .inv .1) (search needs) in omega arith
 
 carried-by-requires : tie.Need-carried-by-requires Inv-loop2 μ-loop2 Inv-loop μ-loop
-carried-by-requires c κs = let fits = cord-fits (c .before .before .before .loop2 .inv) (search needs) in (fits .share-most, fits .least-most)
+carried-by-requires c κs = let fits = cord-fits (c .before .before .before .loop2 .inv .1) (search needs) in (fits .share-most, fits .least-most)
 
 mul-lows : tie.Need-mul-lows Inv-loop2 μ-loop2 Inv-loop μ-loop
-mul-lows c = let fits = cord-fits (c .before .before .before .before .loop2 .inv) (search needs) in omega arith
+mul-lows c = let fits = cord-fits (c .before .before .before .before .loop2 .inv .1) (search needs) in omega arith
 
 slice-write-lows : tie.Need-slice-write-lows Inv-loop2 μ-loop2 Inv-loop μ-loop
-slice-write-lows c = let fits = cord-fits (c .before .before .before .before .loop2 .inv) (search needs) in omega arith
+slice-write-lows c = let fits = cord-fits (c .before .before .before .before .loop2 .inv .1) (search needs) in omega arith
 
 carried-by-requires-2 : tie.Need-carried-by-requires-2 Inv-loop2 μ-loop2 Inv-loop μ-loop
-carried-by-requires-2 c κs = let fits = cord-fits (c .before .before .before .before .loop2 .inv) (search needs) in (fits .share-most, omega (arith, c .before .before .before .before .before .before .before .need-of .ensures, fits .greatest-most))
+carried-by-requires-2 c κs = let fits = cord-fits (c .before .before .before .before .loop2 .inv .1) (search needs) in (fits .share-most, omega (arith, c .before .before .before .before .before .before .before .need-of .ensures, fits .greatest-most))
 
 mul-wants : tie.Need-mul-wants Inv-loop2 μ-loop2 Inv-loop μ-loop
-mul-wants c = let fits = cord-fits (c .before .before .before .before .before .loop2 .inv) (search needs) in omega arith
+mul-wants c = let fits = cord-fits (c .before .before .before .before .before .loop2 .inv .1) (search needs) in omega arith
 
 slice-write-wants : tie.Need-slice-write-wants Inv-loop2 μ-loop2 Inv-loop μ-loop
-slice-write-wants c = let fits = cord-fits (c .before .before .before .before .before .loop2 .inv) (search needs) in omega arith
+slice-write-wants c = let fits = cord-fits (c .before .before .before .before .before .loop2 .inv .1) (search needs) in omega arith
 
 mul-shares : tie.Need-mul-shares Inv-loop2 μ-loop2 Inv-loop μ-loop
-mul-shares c = let fits = cord-fits (c .before .before .before .before .before .loop2 .inv) (search needs) in omega arith
+mul-shares c = let fits = cord-fits (c .before .before .before .before .before .loop2 .inv .1) (search needs) in omega arith
 
 slice-write-shares : tie.Need-slice-write-shares Inv-loop2 μ-loop2 Inv-loop μ-loop
-slice-write-shares c = let fits = cord-fits (c .before .before .before .before .before .loop2 .inv) (search needs) in omega arith
+slice-write-shares c = let fits = cord-fits (c .before .before .before .before .before .loop2 .inv .1) (search needs) in omega arith
 
 place-requires : tie.Need-place-requires Inv-loop2 μ-loop2 Inv-loop μ-loop
-place-requires c κs = let fits = cord-fits (c .before .before .before .before .before .loop2 .inv) (search needs) in omega arith
+place-requires c κs = let fits = cord-fits (c .before .before .before .before .before .loop2 .inv .1) (search needs) in omega arith
 
 mul-servers : tie.Need-mul-servers Inv-loop2 μ-loop2 Inv-loop μ-loop
-mul-servers c = let fits = cord-fits (c .before .before .before .before .before .before .loop2 .inv) (search needs) in omega arith
+mul-servers c = let fits = cord-fits (c .before .before .before .before .before .before .loop2 .inv .1) (search needs) in omega arith
 
 slice-write-servers : tie.Need-slice-write-servers Inv-loop2 μ-loop2 Inv-loop μ-loop
-slice-write-servers c = let fits = cord-fits (c .before .before .before .before .before .before .loop2 .inv) (search needs) in omega arith
+slice-write-servers c = let fits = cord-fits (c .before .before .before .before .before .before .loop2 .inv .1) (search needs) in omega arith
 
 add-word-2 : tie.Need-add-word-2 Inv-loop2 μ-loop2 Inv-loop μ-loop
-add-word-2 c = let fits = cord-fits (c .before .before .before .before .before .before .loop2 .inv) (search needs) in omega arith
+add-word-2 c = let fits = cord-fits (c .before .before .before .before .before .before .loop2 .inv .1) (search needs) in omega arith
 
 add-c : tie.Need-add-c Inv-loop2 μ-loop2 Inv-loop μ-loop
-add-c c = let fits = cord-fits (c .before .before .before .before .before .before .loop2 .inv) (search needs) in omega arith
+add-c c = let fits = cord-fits (c .before .before .before .before .before .before .loop2 .inv .1) (search needs) in omega arith
 
 loop2-less : tie.Need-loop2-less Inv-loop2 μ-loop2 Inv-loop μ-loop
 loop2-less c = omega (arith, c .before .before .before .before .before .loop2-test .taken)
 
 loop2-again : tie.Need-loop2-again Inv-loop2 μ-loop2 Inv-loop μ-loop
-loop2-again c = server-cord (c .before .before .before .before .before .before .loop2 .inv) (search needs) (c .before .before .before .before .before .before .before .before .before .need-of .ensures) refl (c .before .before .carried-by .ensures) (c .before .carried-by2 .ensures) (c .place .ensures)
+loop2-again c =
+    let inv = c .before .before .before .before .before .before .loop2 .inv in
+    (inv .0, server-cord (inv .1) (search needs) (c .before .before .before .before .before .before .before .before .before .need-of .ensures) (inv .0) (c .before .before .carried-by .ensures) (c .before .carried-by2 .ensures) (c .place .ensures))
 
 mul-needs : tie.Need-mul-needs Inv-loop2 μ-loop2 Inv-loop μ-loop
-mul-needs c = let loading = c .before .loop2 .inv .loading in omega (arith, loading .needs-done .size-is, loading .served)
+mul-needs c = let loading = c .before .loop2 .inv .1 .loading in omega (arith, loading .needs-done .size-is, loading .served)
 
 slice-write-needs : tie.Need-slice-write-needs Inv-loop2 μ-loop2 Inv-loop μ-loop
-slice-write-needs c = let loading = c .before .loop2 .inv .loading in omega (arith, loading .needs-done .size-is, loading .served)
+slice-write-needs c = let loading = c .before .loop2 .inv .1 .loading in omega (arith, loading .needs-done .size-is, loading .served)
 
 add-first : tie.Need-add-first Inv-loop2 μ-loop2 Inv-loop μ-loop
 add-first c = let loading = c .before .before .before .before .before .before .before .before .before .before .loop .inv .1 in omega (arith, loading-server loading (search needs) .cords-within, begun (loading .read) .cords-most, c .before .before .index2 .ensures .0)
@@ -185,7 +188,7 @@ loop-less : tie.Need-loop-less Inv-loop2 μ-loop2 Inv-loop μ-loop
 loop-less c = search needs
 
 loop-again : tie.Need-loop-again Inv-loop2 μ-loop2 Inv-loop μ-loop
-loop-again c = (search needs, server-end (c .before .loop2 .inv) (search needs) (c .before .before .before .before .need-of .ensures))
+loop-again c = (search needs, server-end (c .before .loop2 .inv .1) (search needs) (c .before .before .before .before .need-of .ensures))
 
 same-length : tie.Need-same-length Inv-loop2 μ-loop2 Inv-loop μ-loop
 same-length c = let loading = c .before .loop .inv .1 in loading .nodes-done .size-is ∙ sym (c .before .before .before .before .before .before .before .before .before .before .before .before .before .pre .nodes-fit (loading .room) (loading .end) (loading .read))

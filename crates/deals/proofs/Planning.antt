@@ -32,6 +32,14 @@ use Rattle.deals.proofs.Reclaiming.{usable-lists}
 pub cords-fit : (table : List ℕ) {m n : ℕ} → m ≡ n → CordsFit table n → CordsFit table m
 cords-fit table e h r end is = e ∙ h r end is
 
+-- Two lists that fit the room's nodes, or its cords, are as long as each other.
+module _ (table : List ℕ) (g : Good (checked table 0)) where
+  pub nodes-alike : {a b c : ℕ} → NodesFit table a → b ≡ c → NodesFit table c → a ≡ b
+  nodes-alike x e y = x (g .value) (g .next) (g .is) ∙ sym (e ∙ y (g .value) (g .next) (g .is))
+
+  pub cords-alike : {a b : ℕ} → CordsFit table a → CordsFit table b → a ≡ b
+  cords-alike x y = x (g .value) (g .next) (g .is) ∙ sym (y (g .value) (g .next) (g .is))
+
 pub servers-fit : (table : List ℕ) {m n : ℕ} → m ≡ n → ServersFit table n → ServersFit table m
 servers-fit table e h r end is = e ∙ h r end is
 

@@ -17,7 +17,7 @@ use Rattle.rooms.proofs.Trees.{kids, down}
 use Rattle.deals.specs.Figures.{at, cell}
 use Rattle.deals.specs.Metrics.{dealFrom}
 use Rattle.deals.specs.Dealing.{granted}
-use Rattle.deals.specs.Passes.{NodeLists, CordLists, LowsWithin, DealLists, Linked, ChainOf, NodeMarks, Listed, Absent, NodeFigures, RankLists, RanksDealt, FullRows, onNode, overChildren, Gathered, weightOf, wholeOf, NodesDealt, cordsBefore, CordsDealt}
+use Rattle.deals.specs.Passes.{NodeLists, CordLists, LowsWithin, DealLists, LevelLists, ChainOf, Listed, Absent, NodeFigures, RankLists, RanksDealt, FullRows, onNode, overChildren, Gathered, weightOf, wholeOf, NodesDealt, cordsBefore, CordsDealt}
 use Rattle.deals.proofs.NodeSums.{kids-none}
 use Rattle.deals.proofs.Links.{chain-of, no-cord}
 use Rattle.deals.proofs.Active.{active-nodes, cords-active}
@@ -216,10 +216,8 @@ module _ {parents limits nodes levels lows wants next : List ℕ} {level from : 
 -- Before the ranks below `above`.
 pub record RankLoop (parents limits nodes levels lows wants first next marks : List ℕ) (above : ℕ) (active : List ℕ) (rows : List (List ℕ)) (left lower pcapmins asked amounts before dealt grants : List ℕ) : Type 0 where
   pub lists : DealLists parents limits nodes levels lows wants (length grants)
-  pub linked : Linked levels first next
-  pub marks-size : length marks ≡ length parents
+  pub by-level : LevelLists parents nodes levels first next marks
   pub active-size : length active ≡ length parents
-  pub marked : NodeMarks parents nodes levels marks
   pub figures : NodeFigures (length parents) left lower pcapmins asked amounts before dealt
   pub ranks : RanksDealt (dealFrom parents limits nodes levels lows wants) above rows left lower grants
 
@@ -278,14 +276,12 @@ module _ {parents limits nodes levels lows wants first next marks : List ℕ} {a
         let k = lists .of-cords in
         record {
           lists = lists;
-          linked = inv .linked;
-          marks-size = inv .marks-size;
+          by-level = inv .by-level;
           active-size = inv .active-size;
-          marked = inv .marked;
           figures = inv .figures;
           ranks = ranks-dealt parents limits nodes levels lows wants n k (lists .lows-within)
               (state-skip parents limits nodes levels lows wants n k (lists .lows-within) level left lower grants
-              (λ c l. no-cord (inv .linked) level level-fits is (omega (arith, k .levels-size)) c (omega (arith, k .levels-size)))
+              (λ c l. no-cord (inv .by-level .linked) level level-fits is (omega (arith, k .levels-size)) c (omega (arith, k .levels-size)))
               (state-of parents limits nodes levels lows wants n k (lists .lows-within) at-level))
               (λ m j l. inv .ranks .blank m j (omega arith)) (inv .ranks .full);
         }
@@ -295,9 +291,9 @@ module _ {parents limits nodes levels lows wants first next marks : List ℕ} {a
         → RankLists parents limits nodes levels lows wants next level from active₁ count rows left lower pcapmins asked amounts before dealt grants
     rank-lists is listed = record {
       lists = inv .lists;
-      chain = chain-of (inv .linked) level level-fits is;
-      nodes-active = active-nodes (inv .marks-size) (inv .marked) listed (inv .lists .of-nodes .rises);
-      cords-active = cords-active (inv .marks-size) (inv .marked) listed (inv .lists .of-cords .within);
+      chain = chain-of (inv .by-level .linked) level level-fits is;
+      nodes-active = active-nodes (inv .by-level .marks-size) (inv .by-level .marked) listed (inv .lists .of-nodes .rises);
+      cords-active = cords-active (inv .by-level .marks-size) (inv .by-level .marked) listed (inv .lists .of-cords .within);
       figures = inv .figures;
       ranks = at-level;
     }
@@ -309,10 +305,8 @@ module _ {parents limits nodes levels lows wants first next marks : List ℕ} {a
         → RankLoop parents limits nodes levels lows wants first next marks level active₁ rows₁ left₁ lower₁ pcapmins₁ asked₁ amounts₁ before₁ dealt₁ grants₁
     loop-turn v l o p a m b d g ranks = record {
       lists = subst (DealLists parents limits nodes levels lows wants) (sym g) (inv .lists);
-      linked = inv .linked;
-      marks-size = inv .marks-size;
+      by-level = inv .by-level;
       active-size = v ∙ inv .active-size;
-      marked = inv .marked;
       figures = record {
         left-size = l ∙ inv .figures .left-size;
         lower-size = o ∙ inv .figures .lower-size;

@@ -92,6 +92,12 @@ pub record NodeMarks (parents nodes levels marks : List ℕ) : Type 0 where
 abbrev pub Absent : List ℕ → ℕ → ℕ → Type 0
 Absent list count n = (i : ℕ) → i < count → at list i ≡ n → ⊥
 
+-- What is made of a room's levels once for both deals.
+pub record LevelLists (parents nodes levels first next marks : List ℕ) : Type 0 where
+  pub linked : Linked levels first next
+  pub marks-size : length marks ≡ length parents
+  pub marked : NodeMarks parents nodes levels marks
+
 -- The first `count` entries of a list are the places that are marked with a level, in order.
 pub record Listed (marks : List ℕ) (level : ℕ) (list : List ℕ) (count : ℕ) : Type 0 where
   pub few : count ≤ length list

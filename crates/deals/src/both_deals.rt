@@ -3,11 +3,14 @@ ghost use mathlib.Core.Path.{_≡_};
 ghost use lib.ListN.{length};
 ghost use Rattle.rooms.specs.Part.{Good};
 ghost use Rattle.rooms.specs.Limits.{checked};
+ghost use Rattle.rooms.specs.Table.{highestRank};
 ghost use Rattle.deals.specs.Metrics.{dealFrom};
 ghost use Rattle.deals.specs.Dealing.{granted};
 ghost use Rattle.deals.specs.Plan.{firstTooLarge};
-ghost use Rattle.deals.specs.Passes.{DealLists, ServerLists, usableFrom, CordsLent, NodesFit, ServersFit, CordsFit, Planning};
+ghost use Rattle.deals.specs.Passes.{DealLists, LevelLists, ServerLists, usableFrom, CordsLent, NodesFit, ServersFit, CordsFit, Planning};
 use crate::deal::deal;
+use crate::levels::link_levels;
+use crate::levels::mark_nodes;
 use crate::reclaim::reclaim;
 use crate::reclaim::usable_of;
 use crate::room::load_cords;
@@ -38,6 +41,9 @@ fn make_deal(
     levels: &[u32],
     lows: &[u32],
     wants: &[u32],
+    first: &[u32],
+    next: &[u32],
+    marks: &[u32],
     shares: &[u32],
     servers: &[u32],
     needs: &[u32],
@@ -45,11 +51,23 @@ fn make_deal(
     usable: &mut [u32],
 )
     requires { ⌜ DealLists (now parents) (now limits) (now nodes) (now levels) (now lows) (now wants) (length (now grants)) ⌝ }
+    requires { ⌜ LevelLists (now parents) (now nodes) (now levels) (now first) (now next) (now marks) ⌝ }
     requires { ⌜ ServerLists (now shares) (now servers) (now needs) (length (now grants)) × (length (now usable) ≡ length (now needs)) ⌝ }
     ensures { λ _. ⌜ now (grants .exit) ≡ granted (dealFrom (now (parents .entry)) (now (limits .entry)) (now (nodes .entry)) (now (levels .entry)) (now (lows .entry)) (now (wants .entry))) ⌝ }
     ensures { λ _. ⌜ now (usable .exit) ≡ usableFrom (now (shares .entry)) (now (servers .entry)) (now (needs .entry)) (now (grants .exit)) ⌝ }
 {
-    deal(parents, limits, nodes, levels, lows, wants, grants);
+    deal(
+        parents,
+        limits,
+        nodes,
+        levels,
+        lows,
+        wants,
+        first,
+        next,
+        marks,
+        grants,
+    );
     usable_of(shares, servers, needs, grants, usable);
 }
 
@@ -67,11 +85,15 @@ fn plan_lists(
     shares: &mut [u32],
     servers: &mut [u32],
     needs: &mut [u32],
+    first: &mut [u32],
+    next: &mut [u32],
+    marks: &mut [u32],
     grants: &mut [u32],
     caps: &mut [u32],
 ) -> u64
     requires { ⌜ CordsLent (now table) (now demands) (now nodes) (now levels) (now lows) (now wants) (now shares) (now servers) (now needs) ⌝ }
     requires { ⌜ NodesFit (now table) (length (now parents)) × NodesFit (now table) (length (now limits)) ⌝ }
+    requires { ⌜ (length (now first) ≡ highestRank) × CordsFit (now table) (length (now next)) × NodesFit (now table) (length (now marks)) ⌝ }
     requires { ⌜ CordsFit (now table) (length (now grants)) × ServersFit (now table) (length (now caps)) ⌝ }
     ensures { λ r. ⌜ Planning (now (table .entry)) (now (demands .entry)) r (now (grants .exit)) (now (caps .exit)) ⌝ }
 {
@@ -87,6 +109,8 @@ fn plan_lists(
         servers,
         needs,
     );
+    link_levels(levels, first, next);
+    mark_nodes(parents, nodes, levels, marks);
     make_deal(
         parents,
         limits,
@@ -94,6 +118,9 @@ fn plan_lists(
         levels,
         lows,
         wants,
+        first,
+        next,
+        marks,
         shares,
         servers,
         needs,
@@ -108,6 +135,9 @@ fn plan_lists(
         levels,
         lows,
         wants,
+        first,
+        next,
+        marks,
         shares,
         servers,
         needs,
@@ -132,6 +162,9 @@ pub(crate) fn plan_room(table: &[u32], demands: &[u32], grants: &mut [u32], caps
     let mut shares = [0u32; 1024];
     let mut servers = [0u32; 1024];
     let mut needs = [0u32; 512];
+    let mut first = [0u32; 16];
+    let mut next = [0u32; 1024];
+    let mut marks = [0u32; 512];
     let n = index(table[1]);
     let k = grants.len();
     plan_lists(
@@ -146,6 +179,9 @@ pub(crate) fn plan_room(table: &[u32], demands: &[u32], grants: &mut [u32], caps
         &mut shares[..k],
         &mut servers[..k],
         &mut needs[..demands.len()],
+        &mut first,
+        &mut next[..k],
+        &mut marks[..n],
         grants,
         caps,
     )

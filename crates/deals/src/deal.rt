@@ -5,12 +5,10 @@ ghost use lib.ListN.{length};
 ghost use Rattle.deals.specs.Figures.{at, cell};
 ghost use Rattle.deals.specs.Metrics.{dealFrom};
 ghost use Rattle.deals.specs.Dealing.{granted};
-ghost use Rattle.deals.specs.Passes.{DealLists, NodeFigures, RankLists, RanksDealt, FullRows};
+ghost use Rattle.deals.specs.Passes.{DealLists, LevelLists, NodeFigures, RankLists, RanksDealt, FullRows};
 use crate::dealing::deal_cords;
 use crate::dealing::deal_nodes;
-use crate::levels::link_levels;
 use crate::levels::list_active;
-use crate::levels::mark_nodes;
 use crate::metrics::gather;
 use crate::metrics::sum_cords;
 use crate::metrics::sum_lows;
@@ -114,8 +112,9 @@ fn deal_ranks(
     levels: &[u32],
     lows: &[u32],
     wants: &[u32],
-    next: &mut [u32],
-    marks: &mut [u32],
+    first: &[u32],
+    next: &[u32],
+    marks: &[u32],
     active: &mut [u32],
     requests: &mut [[u32; 16]; 512],
     left: &mut [u64],
@@ -128,14 +127,11 @@ fn deal_ranks(
     grants: &mut [u32],
 )
     requires { ⌜ DealLists (now parents) (now limits) (now nodes) (now levels) (now lows) (now wants) (length (now grants)) ⌝ }
-    requires { ⌜ (length (now next) ≡ length (now nodes)) × (length (now marks) ≡ length (now parents)) × (length (now active) ≡ length (now parents)) ⌝ }
+    requires { ⌜ LevelLists (now parents) (now nodes) (now levels) (now first) (now next) (now marks) × (length (now active) ≡ length (now parents)) ⌝ }
     requires { ⌜ NodeFigures (length (now parents)) (now left) (now lower) (now pcapmins) (now asked) (now amounts) (now before) (now dealt) ⌝ }
     requires { ⌜ FullRows (now requests) × ((n j : ℕ) → cell (now requests) n j ≡ 0) ⌝ }
     ensures { λ _. ⌜ now (grants .exit) ≡ granted (dealFrom (now (parents .entry)) (now (limits .entry)) (now (nodes .entry)) (now (levels .entry)) (now (lows .entry)) (now (wants .entry))) ⌝ }
 {
-    let mut first = [0u32; 16];
-    link_levels(levels, &mut first, next);
-    mark_nodes(parents, nodes, levels, marks);
     widen(limits, left);
     sum_lows(parents, nodes, lows, lower);
     let mut level: usize = 16;
@@ -170,7 +166,7 @@ fn deal_ranks(
     }
 }
 
-// The grants of a deal: nodes with their parents and limits, cords with their nodes, levels, lows and wants.
+// The grants of a deal: nodes with their parents and limits, cords with their nodes, levels, lows and wants, and the room's levels.
 pub(crate) fn deal(
     parents: &[u32],
     limits: &[u32],
@@ -178,13 +174,15 @@ pub(crate) fn deal(
     levels: &[u32],
     lows: &[u32],
     wants: &[u32],
+    first: &[u32],
+    next: &[u32],
+    marks: &[u32],
     grants: &mut [u32],
 )
     requires { ⌜ DealLists (now parents) (now limits) (now nodes) (now levels) (now lows) (now wants) (length (now grants)) ⌝ }
+    requires { ⌜ LevelLists (now parents) (now nodes) (now levels) (now first) (now next) (now marks) ⌝ }
     ensures { λ _. ⌜ now (grants .exit) ≡ granted (dealFrom (now (parents .entry)) (now (limits .entry)) (now (nodes .entry)) (now (levels .entry)) (now (lows .entry)) (now (wants .entry))) ⌝ }
 {
-    let mut next = [0u32; 1024];
-    let mut marks = [0u32; 512];
     let mut active = [0u32; 512];
     let mut requests = [[0u32; 16]; 512];
     let mut left = [0u64; 512];
@@ -202,8 +200,9 @@ pub(crate) fn deal(
         levels,
         lows,
         wants,
-        &mut next[..nodes.len()],
-        &mut marks[..n],
+        first,
+        next,
+        marks,
         &mut active[..n],
         &mut requests,
         &mut left[..n],

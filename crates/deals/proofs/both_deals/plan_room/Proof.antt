@@ -64,13 +64,28 @@ array-borrow-prefix-needs c = servers-most _ (c .before .before .before .before 
 slice-aggregate-plan-lists-9 : tie.Need-slice-aggregate-plan-lists-9
 slice-aggregate-plan-lists-9 c = servers-front _ (c .before .before .before .before .before .before .before .before .before .before .before .before .before .before .before .pre .0) _ (c .before .before .before .before .before .before .before .before .before .before .before .before .before .before .before .pre .1 .0)
 
+slice-aggregate-plan-lists-10 : tie.Need-slice-aggregate-plan-lists-10
+slice-aggregate-plan-lists-10 c = search needs
+
+array-borrow-prefix-next : tie.Need-array-borrow-prefix-next
+array-borrow-prefix-next c = cords-most _ (c .before .before .before .before .before .before .before .before .before .before .before .before .before .before .before .before .pre .0) _ (c .before .before .before .before .before .before .before .before .before .before .before .before .before .before .before .before .pre .1 .1)
+
+slice-aggregate-plan-lists-11 : tie.Need-slice-aggregate-plan-lists-11
+slice-aggregate-plan-lists-11 c = cords-front _ (c .before .before .before .before .before .before .before .before .before .before .before .before .before .before .before .before .before .pre .0) _ (c .before .before .before .before .before .before .before .before .before .before .before .before .before .before .before .before .before .pre .1 .1)
+
+array-borrow-prefix-marks : tie.Need-array-borrow-prefix-marks
+array-borrow-prefix-marks c = nodes-most _ (c .before .before .before .before .before .before .before .before .before .before .before .before .before .before .before .before .before .pre .0) _ (c .before .before .before .before .before .before .before .before .before .before .before .index .ensures .0)
+
+slice-aggregate-plan-lists-12 : tie.Need-slice-aggregate-plan-lists-12
+slice-aggregate-plan-lists-12 c = nodes-front _ (c .before .before .before .before .before .before .before .before .before .before .before .before .before .before .before .before .before .before .pre .0) _ (c .before .before .before .before .before .before .before .before .before .before .before .before .index .ensures .0)
+
 plan-lists-requires : tie.Need-plan-lists-requires
 plan-lists-requires c κs =
-    let start = c .before .before .before .before .before .before .before .before .before .before .before .before .before .before .before .before .before in
+    let start = c .before .before .before .before .before .before .before .before .before .before .before .before .before .before .before .before .before .before .before .before in
     let table = start .args .table .now in
     let good = start .pre .0 in
     let fits = start .pre .1 in
-    let nodes = nodes-lent table good _ (c .before .before .before .before .before .before .before .before .before .before .before .index .ensures .0) in
+    let nodes = nodes-lent table good _ (c .before .before .before .before .before .before .before .before .before .before .before .before .before .before .index .ensures .0) in
     let cords = cords-lent table good _ (fits .1) in (
       record {
         good-table = good;
@@ -83,7 +98,7 @@ plan-lists-requires c κs =
         servers-fit = cords;
         needs-fit = servers-lent table good _ (fits .0);
       },
-      ((nodes, nodes), (fits .1, fits .2)),
+      ((nodes, nodes), ((search needs, cords, nodes), (fits .1, fits .2))),
     )
 
 same-length : tie.Need-same-length
@@ -119,6 +134,11 @@ plan-room-spec =
     slice-aggregate-plan-lists-8
     array-borrow-prefix-needs
     slice-aggregate-plan-lists-9
+    slice-aggregate-plan-lists-10
+    array-borrow-prefix-next
+    slice-aggregate-plan-lists-11
+    array-borrow-prefix-marks
+    slice-aggregate-plan-lists-12
     plan-lists-requires
     same-length
     same-length-2

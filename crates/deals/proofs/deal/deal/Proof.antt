@@ -5,71 +5,59 @@ use borrow.Author.Needs.{needs}
 use Rattle.deals.proofs.deal.deal.Statement.{statement}
 use Rattle.deals.proofs.deal.deal.Tie as tie
 
-array-borrow-prefix-next : tie.Need-array-borrow-prefix-next
-array-borrow-prefix-next c = c .before .before .before .before .before .before .before .pre .of-cords .few
+array-borrow-prefix-active : tie.Need-array-borrow-prefix-active
+array-borrow-prefix-active c = c .before .before .before .before .before .before .before .before .before .before .pre .0 .of-nodes .few
 
 slice-aggregate-deal-ranks : tie.Need-slice-aggregate-deal-ranks
-slice-aggregate-deal-ranks c = sym (zeros-front 1024 _ (c .before .before .before .before .before .before .before .before .pre .of-cords .few))
-
-array-borrow-prefix-marks : tie.Need-array-borrow-prefix-marks
-array-borrow-prefix-marks c = search needs
-
-slice-aggregate-deal-ranks-2 : tie.Need-slice-aggregate-deal-ranks-2
-slice-aggregate-deal-ranks-2 c = sym (zeros-front 512 _ (c .before .before .before .before .before .before .before .before .before .pre .of-nodes .few))
-
-array-borrow-prefix-active : tie.Need-array-borrow-prefix-active
-array-borrow-prefix-active c = search needs
-
-slice-aggregate-deal-ranks-3 : tie.Need-slice-aggregate-deal-ranks-3
-slice-aggregate-deal-ranks-3 c = sym (zeros-front 512 _ (c .before .before .before .before .before .before .before .before .before .before .pre .of-nodes .few))
+slice-aggregate-deal-ranks c = sym (zeros-front 512 _ (c .before .before .before .before .before .before .before .before .before .before .before .pre .0 .of-nodes .few))
 
 array-borrow-prefix-left : tie.Need-array-borrow-prefix-left
 array-borrow-prefix-left c = search needs
 
-slice-aggregate-deal-ranks-4 : tie.Need-slice-aggregate-deal-ranks-4
-slice-aggregate-deal-ranks-4 c = sym (zeros-front 512 _ (c .before .before .before .before .before .before .before .before .before .before .before .before .pre .of-nodes .few))
+slice-aggregate-deal-ranks-2 : tie.Need-slice-aggregate-deal-ranks-2
+slice-aggregate-deal-ranks-2 c = sym (zeros-front 512 _ (c .before .before .before .before .before .before .before .before .before .before .before .before .before .pre .0 .of-nodes .few))
 
 array-borrow-prefix-lower : tie.Need-array-borrow-prefix-lower
 array-borrow-prefix-lower c = search needs
 
-slice-aggregate-deal-ranks-5 : tie.Need-slice-aggregate-deal-ranks-5
-slice-aggregate-deal-ranks-5 c = sym (zeros-front 512 _ (c .before .before .before .before .before .before .before .before .before .before .before .before .before .pre .of-nodes .few))
+slice-aggregate-deal-ranks-3 : tie.Need-slice-aggregate-deal-ranks-3
+slice-aggregate-deal-ranks-3 c = sym (zeros-front 512 _ (c .before .before .before .before .before .before .before .before .before .before .before .before .before .before .pre .0 .of-nodes .few))
 
 array-borrow-prefix-pcapmins : tie.Need-array-borrow-prefix-pcapmins
 array-borrow-prefix-pcapmins c = search needs
 
-slice-aggregate-deal-ranks-6 : tie.Need-slice-aggregate-deal-ranks-6
-slice-aggregate-deal-ranks-6 c = sym (zeros-front 512 _ (c .before .before .before .before .before .before .before .before .before .before .before .before .before .before .pre .of-nodes .few))
+slice-aggregate-deal-ranks-4 : tie.Need-slice-aggregate-deal-ranks-4
+slice-aggregate-deal-ranks-4 c = sym (zeros-front 512 _ (c .before .before .before .before .before .before .before .before .before .before .before .before .before .before .before .pre .0 .of-nodes .few))
 
 array-borrow-prefix-asked : tie.Need-array-borrow-prefix-asked
 array-borrow-prefix-asked c = search needs
 
-slice-aggregate-deal-ranks-7 : tie.Need-slice-aggregate-deal-ranks-7
-slice-aggregate-deal-ranks-7 c = sym (zeros-front 512 _ (c .before .before .before .before .before .before .before .before .before .before .before .before .before .before .before .pre .of-nodes .few))
+slice-aggregate-deal-ranks-5 : tie.Need-slice-aggregate-deal-ranks-5
+slice-aggregate-deal-ranks-5 c = sym (zeros-front 512 _ (c .before .before .before .before .before .before .before .before .before .before .before .before .before .before .before .before .pre .0 .of-nodes .few))
 
 array-borrow-prefix-amounts : tie.Need-array-borrow-prefix-amounts
 array-borrow-prefix-amounts c = search needs
 
-slice-aggregate-deal-ranks-8 : tie.Need-slice-aggregate-deal-ranks-8
-slice-aggregate-deal-ranks-8 c = sym (zeros-front 512 _ (c .before .before .before .before .before .before .before .before .before .before .before .before .before .before .before .before .pre .of-nodes .few))
+slice-aggregate-deal-ranks-6 : tie.Need-slice-aggregate-deal-ranks-6
+slice-aggregate-deal-ranks-6 c = sym (zeros-front 512 _ (c .before .before .before .before .before .before .before .before .before .before .before .before .before .before .before .before .before .pre .0 .of-nodes .few))
 
 array-borrow-prefix-before : tie.Need-array-borrow-prefix-before
 array-borrow-prefix-before c = search needs
 
-slice-aggregate-deal-ranks-9 : tie.Need-slice-aggregate-deal-ranks-9
-slice-aggregate-deal-ranks-9 c = sym (zeros-front 512 _ (c .before .before .before .before .before .before .before .before .before .before .before .before .before .before .before .before .before .pre .of-nodes .few))
+slice-aggregate-deal-ranks-7 : tie.Need-slice-aggregate-deal-ranks-7
+slice-aggregate-deal-ranks-7 c = sym (zeros-front 512 _ (c .before .before .before .before .before .before .before .before .before .before .before .before .before .before .before .before .before .before .pre .0 .of-nodes .few))
 
 array-borrow-prefix-dealt : tie.Need-array-borrow-prefix-dealt
 array-borrow-prefix-dealt c = search needs
 
-slice-aggregate-deal-ranks-10 : tie.Need-slice-aggregate-deal-ranks-10
-slice-aggregate-deal-ranks-10 c = sym (zeros-front 512 _ (c .before .before .before .before .before .before .before .before .before .before .before .before .before .before .before .before .before .before .pre .of-nodes .few))
+slice-aggregate-deal-ranks-8 : tie.Need-slice-aggregate-deal-ranks-8
+slice-aggregate-deal-ranks-8 c = sym (zeros-front 512 _ (c .before .before .before .before .before .before .before .before .before .before .before .before .before .before .before .before .before .before .before .pre .0 .of-nodes .few))
 
 deal-ranks-requires : tie.Need-deal-ranks-requires
 deal-ranks-requires c κs =
-    let pre = c .before .before .before .before .before .before .before .before .before .before .before .before .before .before .before .before .before .before .before .pre in
-    let size = zeros-front 512 _ (pre .of-nodes .few) in
-    (pre, ((zeros-front 1024 _ (pre .of-cords .few), size, size), (record { left-size = size; lower-size = size; pcapmins-size = size; asked-size = size; amounts-size = size; before-size = size; dealt-size = size }, (zeros-rows, zeros-cells))))
+    let pre = c .before .before .before .before .before .before .before .before .before .before .before .before .before .before .before .before .before .before .before .before .pre in
+    let size = zeros-front 512 _ (pre .0 .of-nodes .few) in
+    (pre .0, ((pre .1, size), (record { left-size = size; lower-size = size; pcapmins-size = size; asked-size = size; amounts-size = size; before-size = size; dealt-size = size }, (zeros-rows, zeros-cells))))
 
 same-length : tie.Need-same-length
 same-length c = search needs
@@ -81,26 +69,22 @@ pub deal-spec : {M : Type 1} → statement M
 deal-spec =
     tie.close
     (tie.spec
-    array-borrow-prefix-next
-    slice-aggregate-deal-ranks
-    array-borrow-prefix-marks
-    slice-aggregate-deal-ranks-2
     array-borrow-prefix-active
-    slice-aggregate-deal-ranks-3
+    slice-aggregate-deal-ranks
     array-borrow-prefix-left
-    slice-aggregate-deal-ranks-4
+    slice-aggregate-deal-ranks-2
     array-borrow-prefix-lower
-    slice-aggregate-deal-ranks-5
+    slice-aggregate-deal-ranks-3
     array-borrow-prefix-pcapmins
-    slice-aggregate-deal-ranks-6
+    slice-aggregate-deal-ranks-4
     array-borrow-prefix-asked
-    slice-aggregate-deal-ranks-7
+    slice-aggregate-deal-ranks-5
     array-borrow-prefix-amounts
-    slice-aggregate-deal-ranks-8
+    slice-aggregate-deal-ranks-6
     array-borrow-prefix-before
-    slice-aggregate-deal-ranks-9
+    slice-aggregate-deal-ranks-7
     array-borrow-prefix-dealt
-    slice-aggregate-deal-ranks-10
+    slice-aggregate-deal-ranks-8
     deal-ranks-requires
     same-length
     returns)

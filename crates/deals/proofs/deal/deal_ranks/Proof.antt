@@ -3,51 +3,36 @@ use mathlib.Core.Path.{sym, _∙_}
 use native.Mathlib.Omega.{arith}
 use borrow.Author.Needs.{needs}
 use borrow.Author.Count.{falls-down}
-use Rattle.deals.proofs.RankLoop.{RankLoop, levels-rank, levels-few, cords-within, lows-hang, ranks-start, loop-end, level-fits, loop-skip, rank-lists, loop-turn}
+use Rattle.deals.proofs.RankLoop.{RankLoop, lows-hang, ranks-start, loop-end, level-fits, loop-skip, rank-lists, loop-turn}
 use Rattle.deals.proofs.deal.deal_ranks.Statement.{statement}
 use Rattle.deals.proofs.deal.deal_ranks.Tie as tie
 
 abbrev Inv-loop : tie.InvT-loop
-Inv-loop parents limits nodes levels lows wants next marks active₀ requests₀ left₀ lower₀ pcapmins₀ asked₀ amounts₀ before₀ dealt₀ grants₀ first level₀ active requests left lower pcapmins asked amounts before dealt grants level =
+Inv-loop parents limits nodes levels lows wants first next marks active₀ requests₀ left₀ lower₀ pcapmins₀ asked₀ amounts₀ before₀ dealt₀ grants₀ level₀ active requests left lower pcapmins asked amounts before dealt grants level =
     RankLoop parents limits nodes levels lows wants first next marks level active requests left lower pcapmins asked amounts before dealt grants
 
 abbrev μ-loop : tie.MeasureT-loop
-μ-loop parents limits nodes levels lows wants next marks active₀ requests₀ left₀ lower₀ pcapmins₀ asked₀ amounts₀ before₀ dealt₀ grants₀ first level₀ active requests left lower pcapmins asked amounts before dealt grants level =
+μ-loop parents limits nodes levels lows wants first next marks active₀ requests₀ left₀ lower₀ pcapmins₀ asked₀ amounts₀ before₀ dealt₀ grants₀ level₀ active requests left lower pcapmins asked amounts before dealt grants level =
     level
-
-slice-aggregate-link-levels : tie.Need-slice-aggregate-link-levels Inv-loop μ-loop
-slice-aggregate-link-levels c = search needs
-
-link-levels-requires : tie.Need-link-levels-requires Inv-loop μ-loop
-link-levels-requires c κs =
-    let pre = c .before .before .before .before .before .before .before .before .before .before .before .before .before .before .before .before .before .before .before .pre in
-    ((levels-few (pre .0), search needs, pre .1 .0 .0 ∙ sym (pre .0 .of-cords .levels-size)), levels-rank (pre .0))
-
-mark-nodes-requires : tie.Need-mark-nodes-requires Inv-loop μ-loop
-mark-nodes-requires c κs =
-    let pre = c .before .before .before .before .before .before .before .before .before .before .before .before .before .before .before .before .before .before .before .before .before .before .before .before .pre in
-    ((pre .0 .of-cords .levels-size, pre .1 .0 .1), (pre .0 .of-nodes .rises, cords-within (pre .0)))
 
 widen-requires : tie.Need-widen-requires Inv-loop μ-loop
 widen-requires c κs =
-    let pre = c .before .before .before .before .before .before .before .before .before .before .before .before .before .before .before .before .before .before .before .before .before .before .before .before .before .before .before .before .pre in
+    let pre = c .before .before .before .before .before .before .before .before .before .before .before .before .before .before .before .before .before .before .before .pre in
     pre .1 .1 .0 .left-size ∙ sym (pre .0 .of-nodes .limits-size)
 
 sum-lows-requires : tie.Need-sum-lows-requires Inv-loop μ-loop
 sum-lows-requires c κs =
-    let pre = c .before .before .before .before .before .before .before .before .before .before .before .before .before .before .before .before .before .before .before .before .before .before .before .before .before .before .before .before .before .before .before .before .pre in
+    let pre = c .before .before .before .before .before .before .before .before .before .before .before .before .before .before .before .before .before .before .before .before .before .before .before .pre in
     ((pre .0 .of-cords .lows-size, pre .0 .of-cords .few, pre .1 .1 .0 .lower-size), (pre .0 .of-nodes .rises, lows-hang (pre .0)))
 
 loop-holds : tie.Need-loop-holds Inv-loop μ-loop
 loop-holds c =
-    let pre = c .before .before .before .before .before .before .before .before .before .before .before .before .before .before .before .before .before .before .before .before .before .before .before .before .before .before .before .before .before .before .before .before .before .before .before .pre in
+    let pre = c .before .before .before .before .before .before .before .before .before .before .before .before .before .before .before .before .before .before .before .before .before .before .before .before .before .before .pre in
     let sizes = pre .1 .1 .0 in
     record {
       lists = pre .0;
-      linked = c .before .before .before .before .before .before .before .before .before .before .before .before .before .before .before .link-levels .ensures;
-      marks-size = c .before .before .before .before .before .before .before .before .before .before .mark-nodes .kept .1 .1 .1 .0 ∙ pre .1 .0 .1;
-      active-size = pre .1 .0 .2;
-      marked = c .before .before .before .before .before .before .before .before .before .before .mark-nodes .ensures;
+      by-level = pre .1 .0 .0;
+      active-size = pre .1 .0 .1;
       figures = record {
         left-size = c .before .before .before .before .before .before .widen .kept .1 .0 ∙ sizes .left-size;
         lower-size = c .before .before .sum-lows .kept .1 .1 .1 .0 ∙ sizes .lower-size;
@@ -66,8 +51,8 @@ sub-level c = search needs
 mul-index : tie.Need-mul-index Inv-loop μ-loop
 mul-index c = omega (arith, level-fits (c .before .loop .inv) (c .loop-test .taken))
 
-array-read-index : tie.Need-array-read-index Inv-loop μ-loop
-array-read-index c = level-fits (c .before .loop .inv) (c .loop-test .taken)
+shared-slice-read-index : tie.Need-shared-slice-read-index Inv-loop μ-loop
+shared-slice-read-index c = omega (arith, level-fits (c .before .before .loop .inv) (c .before .loop-test .taken), c .before .before .loop .inv .by-level .linked .first-size)
 
 index-requires : tie.Need-index-requires Inv-loop μ-loop
 index-requires c κs = search needs
@@ -75,57 +60,51 @@ index-requires c κs = search needs
 list-active-requires : tie.Need-list-active-requires Inv-loop μ-loop
 list-active-requires c κs =
     let inv = c .before .before .before .before .before .loop .inv in
-    (level-fits inv (c .before .before .before .before .loop-test .taken), omega (arith, inv .marks-size, inv .lists .of-nodes .few), inv .active-size ∙ sym (inv .marks-size))
+    (level-fits inv (c .before .before .before .before .loop-test .taken), omega (arith, inv .by-level .marks-size, inv .lists .of-nodes .few), inv .active-size ∙ sym (inv .by-level .marks-size))
 
 deal-rank-requires : tie.Need-deal-rank-requires Inv-loop μ-loop
-deal-rank-requires c κs = rank-lists (c .before .before .before .before .before .before .before .before .before .before .before .before .before .before .before .before .before .before .before .loop .inv) (c .before .before .before .before .before .before .before .before .before .before .before .before .before .before .before .before .before .before .loop-test .taken) (c .before .before .before .before .before .before .before .before .before .before .before .before .before .before .before .before .before .index .ensures .0) (c .before .before .before .before .before .before .before .before .before .before .before .before .before .list-active .ensures)
+deal-rank-requires c κs = rank-lists (c .before .before .before .before .before .before .before .before .before .before .before .before .before .before .before .before .before .before .loop .inv) (c .before .before .before .before .before .before .before .before .before .before .before .before .before .before .before .before .before .loop-test .taken) (c .before .before .before .before .before .before .before .before .before .before .before .before .before .before .before .index .ensures .0) (c .before .before .before .before .before .before .before .before .before .before .before .before .list-active .ensures)
 
 loop-less : tie.Need-loop-less Inv-loop μ-loop
-loop-less c = falls-down _ (c .before .before .before .before .before .before .before .before .before .before .before .before .before .before .before .before .before .before .before .before .before .before .before .before .before .before .before .before .before .before .before .before .before .before .before .loop-test .taken)
+loop-less c = falls-down _ (c .before .before .before .before .before .before .before .before .before .before .before .before .before .before .before .before .before .before .before .before .before .before .before .before .before .before .before .before .before .before .before .before .before .before .loop-test .taken)
 
 loop-again : tie.Need-loop-again Inv-loop μ-loop
 loop-again c =
     let rank = c .before .before .before .before .before .before .before .before .before .before .before .before .before .before .before .before .deal-rank in
-    loop-turn (c .before .before .before .before .before .before .before .before .before .before .before .before .before .before .before .before .before .before .before .before .before .before .before .before .before .before .before .before .before .before .before .before .before .before .before .before .loop .inv) (c .before .before .before .before .before .before .before .before .before .before .before .before .before .before .before .before .before .before .before .before .before .before .before .before .before .before .before .before .before .before .before .before .before .before .before .loop-test .taken) (c .before .before .before .before .before .before .before .before .before .before .before .before .before .before .before .before .before .before .before .before .before .before .before .before .before .before .before .before .before .before .list-active .kept .1 .1 .0) (rank .kept .1 .1 .1 .1 .1 .1 .1 .1 .1 .1 .1 .1 .0) (rank .kept .1 .1 .1 .1 .1 .1 .1 .1 .1 .1 .1 .1 .1 .0) (rank .kept .1 .1 .1 .1 .1 .1 .1 .1 .1 .1 .1 .1 .1 .1 .0) (rank .kept .1 .1 .1 .1 .1 .1 .1 .1 .1 .1 .1 .1 .1 .1 .1 .0) (rank .kept .1 .1 .1 .1 .1 .1 .1 .1 .1 .1 .1 .1 .1 .1 .1 .1 .0) (rank .kept .1 .1 .1 .1 .1 .1 .1 .1 .1 .1 .1 .1 .1 .1 .1 .1 .1 .0) (rank .kept .1 .1 .1 .1 .1 .1 .1 .1 .1 .1 .1 .1 .1 .1 .1 .1 .1 .1 .0) (rank .kept .1 .1 .1 .1 .1 .1 .1 .1 .1 .1 .1 .1 .1 .1 .1 .1 .1 .1 .1 .0) (rank .ensures)
+    loop-turn (c .before .before .before .before .before .before .before .before .before .before .before .before .before .before .before .before .before .before .before .before .before .before .before .before .before .before .before .before .before .before .before .before .before .before .before .loop .inv) (c .before .before .before .before .before .before .before .before .before .before .before .before .before .before .before .before .before .before .before .before .before .before .before .before .before .before .before .before .before .before .before .before .before .before .loop-test .taken) (c .before .before .before .before .before .before .before .before .before .before .before .before .before .before .before .before .before .before .before .before .before .before .before .before .before .before .before .before .before .list-active .kept .1 .1 .0) (rank .kept .1 .1 .1 .1 .1 .1 .1 .1 .1 .1 .1 .1 .0) (rank .kept .1 .1 .1 .1 .1 .1 .1 .1 .1 .1 .1 .1 .1 .0) (rank .kept .1 .1 .1 .1 .1 .1 .1 .1 .1 .1 .1 .1 .1 .1 .0) (rank .kept .1 .1 .1 .1 .1 .1 .1 .1 .1 .1 .1 .1 .1 .1 .1 .0) (rank .kept .1 .1 .1 .1 .1 .1 .1 .1 .1 .1 .1 .1 .1 .1 .1 .1 .0) (rank .kept .1 .1 .1 .1 .1 .1 .1 .1 .1 .1 .1 .1 .1 .1 .1 .1 .1 .0) (rank .kept .1 .1 .1 .1 .1 .1 .1 .1 .1 .1 .1 .1 .1 .1 .1 .1 .1 .1 .0) (rank .kept .1 .1 .1 .1 .1 .1 .1 .1 .1 .1 .1 .1 .1 .1 .1 .1 .1 .1 .1 .0) (rank .ensures)
 
 loop-less-2 : tie.Need-loop-less-2 Inv-loop μ-loop
 loop-less-2 c = search needs
 
 loop-again-2 : tie.Need-loop-again-2 Inv-loop μ-loop
-loop-again-2 c = loop-skip (c .before .before .before .loop .inv) (c .before .before .loop-test .taken) (c .before .index .ensures .0) (c .if1 .left)
+loop-again-2 c = loop-skip (c .before .before .before .before .loop .inv) (c .before .before .before .loop-test .taken) (c .before .index .ensures .0) (c .if1 .left)
 
 same-length : tie.Need-same-length Inv-loop μ-loop
-same-length c = c .before .before .before .before .before .before .before .before .before .before .before .before .before .before .before .before .before .link-levels .kept .1 .1 .0
+same-length c = c .before .loop .inv .active-size ∙ sym (c .before .before .before .before .before .before .before .before .before .before .before .before .before .before .before .before .before .before .before .before .before .before .before .before .before .before .before .before .pre .1 .0 .1)
 
 same-length-2 : tie.Need-same-length-2 Inv-loop μ-loop
-same-length-2 c = c .before .before .before .before .before .before .before .before .before .before .before .before .mark-nodes .kept .1 .1 .1 .0
+same-length-2 c = c .before .loop .inv .figures .left-size ∙ sym (c .before .before .before .before .before .before .before .before .before .before .before .before .before .before .before .before .before .before .before .before .before .before .before .before .before .before .before .before .pre .1 .1 .0 .left-size)
 
 same-length-3 : tie.Need-same-length-3 Inv-loop μ-loop
-same-length-3 c = c .before .loop .inv .active-size ∙ sym (c .before .before .before .before .before .before .before .before .before .before .before .before .before .before .before .before .before .before .before .before .before .before .before .before .before .before .before .before .before .before .before .before .before .before .before .before .before .pre .1 .0 .2)
+same-length-3 c = c .before .loop .inv .figures .lower-size ∙ sym (c .before .before .before .before .before .before .before .before .before .before .before .before .before .before .before .before .before .before .before .before .before .before .before .before .before .before .before .before .pre .1 .1 .0 .lower-size)
 
 same-length-4 : tie.Need-same-length-4 Inv-loop μ-loop
-same-length-4 c = c .before .loop .inv .figures .left-size ∙ sym (c .before .before .before .before .before .before .before .before .before .before .before .before .before .before .before .before .before .before .before .before .before .before .before .before .before .before .before .before .before .before .before .before .before .before .before .before .before .pre .1 .1 .0 .left-size)
+same-length-4 c = c .before .loop .inv .figures .pcapmins-size ∙ sym (c .before .before .before .before .before .before .before .before .before .before .before .before .before .before .before .before .before .before .before .before .before .before .before .before .before .before .before .before .pre .1 .1 .0 .pcapmins-size)
 
 same-length-5 : tie.Need-same-length-5 Inv-loop μ-loop
-same-length-5 c = c .before .loop .inv .figures .lower-size ∙ sym (c .before .before .before .before .before .before .before .before .before .before .before .before .before .before .before .before .before .before .before .before .before .before .before .before .before .before .before .before .before .before .before .before .before .before .before .before .before .pre .1 .1 .0 .lower-size)
+same-length-5 c = c .before .loop .inv .figures .asked-size ∙ sym (c .before .before .before .before .before .before .before .before .before .before .before .before .before .before .before .before .before .before .before .before .before .before .before .before .before .before .before .before .pre .1 .1 .0 .asked-size)
 
 same-length-6 : tie.Need-same-length-6 Inv-loop μ-loop
-same-length-6 c = c .before .loop .inv .figures .pcapmins-size ∙ sym (c .before .before .before .before .before .before .before .before .before .before .before .before .before .before .before .before .before .before .before .before .before .before .before .before .before .before .before .before .before .before .before .before .before .before .before .before .before .pre .1 .1 .0 .pcapmins-size)
+same-length-6 c = c .before .loop .inv .figures .amounts-size ∙ sym (c .before .before .before .before .before .before .before .before .before .before .before .before .before .before .before .before .before .before .before .before .before .before .before .before .before .before .before .before .pre .1 .1 .0 .amounts-size)
 
 same-length-7 : tie.Need-same-length-7 Inv-loop μ-loop
-same-length-7 c = c .before .loop .inv .figures .asked-size ∙ sym (c .before .before .before .before .before .before .before .before .before .before .before .before .before .before .before .before .before .before .before .before .before .before .before .before .before .before .before .before .before .before .before .before .before .before .before .before .before .pre .1 .1 .0 .asked-size)
+same-length-7 c = c .before .loop .inv .figures .before-size ∙ sym (c .before .before .before .before .before .before .before .before .before .before .before .before .before .before .before .before .before .before .before .before .before .before .before .before .before .before .before .before .pre .1 .1 .0 .before-size)
 
 same-length-8 : tie.Need-same-length-8 Inv-loop μ-loop
-same-length-8 c = c .before .loop .inv .figures .amounts-size ∙ sym (c .before .before .before .before .before .before .before .before .before .before .before .before .before .before .before .before .before .before .before .before .before .before .before .before .before .before .before .before .before .before .before .before .before .before .before .before .before .pre .1 .1 .0 .amounts-size)
+same-length-8 c = c .before .loop .inv .figures .dealt-size ∙ sym (c .before .before .before .before .before .before .before .before .before .before .before .before .before .before .before .before .before .before .before .before .before .before .before .before .before .before .before .before .pre .1 .1 .0 .dealt-size)
 
 same-length-9 : tie.Need-same-length-9 Inv-loop μ-loop
-same-length-9 c = c .before .loop .inv .figures .before-size ∙ sym (c .before .before .before .before .before .before .before .before .before .before .before .before .before .before .before .before .before .before .before .before .before .before .before .before .before .before .before .before .before .before .before .before .before .before .before .before .before .pre .1 .1 .0 .before-size)
-
-same-length-10 : tie.Need-same-length-10 Inv-loop μ-loop
-same-length-10 c = c .before .loop .inv .figures .dealt-size ∙ sym (c .before .before .before .before .before .before .before .before .before .before .before .before .before .before .before .before .before .before .before .before .before .before .before .before .before .before .before .before .before .before .before .before .before .before .before .before .before .pre .1 .1 .0 .dealt-size)
-
-same-length-11 : tie.Need-same-length-11 Inv-loop μ-loop
-same-length-11 c = c .before .loop .inv .lists .grants-size ∙ sym (c .before .before .before .before .before .before .before .before .before .before .before .before .before .before .before .before .before .before .before .before .before .before .before .before .before .before .before .before .before .before .before .before .before .before .before .before .before .pre .0 .grants-size)
+same-length-9 c = c .before .loop .inv .lists .grants-size ∙ sym (c .before .before .before .before .before .before .before .before .before .before .before .before .before .before .before .before .before .before .before .before .before .before .before .before .before .before .before .before .pre .0 .grants-size)
 
 returns : tie.Need-returns Inv-loop μ-loop
 returns c = loop-end (c .before .loop .inv) (c .loop-test .left)
@@ -136,15 +115,12 @@ deal-ranks-spec =
     (tie.spec
     Inv-loop
     μ-loop
-    slice-aggregate-link-levels
-    link-levels-requires
-    mark-nodes-requires
     widen-requires
     sum-lows-requires
     loop-holds
     sub-level
     mul-index
-    array-read-index
+    shared-slice-read-index
     index-requires
     list-active-requires
     deal-rank-requires
@@ -161,6 +137,4 @@ deal-ranks-spec =
     same-length-7
     same-length-8
     same-length-9
-    same-length-10
-    same-length-11
     returns)

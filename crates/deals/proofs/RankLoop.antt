@@ -17,7 +17,7 @@ use Rattle.rooms.proofs.Trees.{kids, down}
 use Rattle.deals.specs.Figures.{at, cell}
 use Rattle.deals.specs.Metrics.{dealFrom}
 use Rattle.deals.specs.Dealing.{granted}
-use Rattle.deals.specs.Passes.{NodeLists, CordLists, LowsWithin, DealLists, LevelLists, ChainOf, Listed, Absent, NodeFigures, RankLists, RanksDealt, FullRows, onNode, overChildren, Gathered, weightOf, wholeOf, NodesDealt, cordsBefore, CordsDealt}
+use Rattle.deals.specs.Passes.{NodeLists, CordLists, LowsWithin, DealLists, LevelLists, Listed, Absent, NodeFigures, RankLists, RanksDealt, FullRows, onNode, overChildren, Gathered, weightOf, wholeOf, NodesDealt, cordsBefore, CordsDealt}
 use Rattle.deals.proofs.NodeSums.{kids-none}
 use Rattle.deals.proofs.Links.{chain-of, no-cord}
 use Rattle.deals.proofs.Active.{active-nodes, cords-active}

@@ -1,6 +1,5 @@
 -- `deal_rank` meets its contract: what each pass leaves is what the next one asks, and all four together deal the rank.
 use mathlib.Core.Path.{_∙_}
-use borrow.Author.Needs.{needs}
 use Rattle.deals.proofs.RankLoop.{cords-fit, asked-fits, summed, gathered-sizes, dealt-sizes, gather-nodes, gather-sizes, gather-sums, gather-room, gather-idle, nodes-sizes, nodes-room, nodes-blank, cords-lists, cords-sizes, cords-figures, cords-weights, rank-dealt}
 use Rattle.deals.proofs.deal.deal_rank.Statement.{statement}
 use Rattle.deals.proofs.deal.deal_rank.Tie as tie

@@ -1,7 +1,6 @@
 -- `gather` meets its contract: what an active node's children ask, and its Pcapmin, are whole when its turn comes, since all active
 -- nodes beneath it had their turns before, and the others have nothing.
 use Prim.Native.Nat.{_-_}
-use mathlib.Core.Path.{refl}
 use native.Mathlib.Omega.{arith}
 use borrow.Author.Needs.{needs}
 use Rattle.deals.proofs.Gathering.{GatherTurn, gather-start, gather-end, gather-node, gather-whole, gather-most, gather-size, gather-turn}

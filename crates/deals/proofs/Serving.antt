@@ -27,13 +27,6 @@ part-le-amount x e c d h = go (eq-zero-or-pos e)
     go (inl z) = rw z (simp div-zero (omega arith))
     go (inr q) = omega (arith, div-mono (x * (c + d)) (x * e) e (mul-le-mul-left x h), mul-div-cancel x q)
 
--- An only child takes all: its weight is the whole.
-pub serve-only : (x e b w : ℕ) → b + w ≤ e → (w ≡ 0 → ⊥) → w ≡ e → x ≡ x * (b + w) / e
-serve-only x e b w h some only =
-    let whole : b + w ≡ e = omega arith in
-    let pos : 0 < e = omega arith in
-    sym (ap (λ (y : ℕ). x * y / e) whole ∙ mul-div-cancel x pos)
-
 -- What `serve` asks and what it leaves, of an amount x, a whole weight e and a child of weight w.
 abbrev pub MayServe : ℕ → ℕ → ℕ → ℕ → List ℕ → List ℕ → Type 0
 MayServe x e w p before dealt =

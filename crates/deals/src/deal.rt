@@ -25,8 +25,8 @@ fn widen(from: &[u32], to: &mut [u64])
     }
 }
 
-// One rank of the deal, over the lists of its cords and of its active nodes: the Requests are gathered and what they exceed Pcapmin by
-// is dealt. The lists of one figure a node are, at this rank: Pcapmin, the children's Requests, amounts, weights served and watts dealt.
+// One rank of a deal, over its cords and its active nodes: the Requests are gathered and the excesses dealt. The lists that are lent
+// for it have one figure a node: Pcapmin, the children's Requests, amounts, weights served and watts dealt, all at this rank.
 // (`limits` are for the contract alone.)
 fn deal_rank(
     parents: &[u32],

@@ -31,12 +31,7 @@ fn serve(
         return 0;
     }
     let upto = before[p] + weight;
-    // An only child takes all, without a division.
-    let watts = if weight == whole {
-        amount
-    } else {
-        amount * upto / whole
-    };
+    let watts = amount * upto / whole;
     let given = over(watts, dealt[p]);
     before[p] = upto;
     dealt[p] = watts;

@@ -1,10 +1,8 @@
--- `serve` meets its contract: the watts dealt on the node grow from one quotient of the split to the next, a weight of 0 leaves all as it
--- was, and the quotient of an only child is the amount.
-use mathlib.Core.Path.{_∙_}
-use mathlib.Core.Logic.{⊎-elim}
+-- `serve` meets its contract: the watts dealt on the node grow from one quotient of the split to the next, and a weight of 0 leaves all as it was.
+use mathlib.Core.Path.{refl}
 use native.Mathlib.Nat.{mul-le-mul-left, lt-of-le-of-lt}
 use borrow.Author.Needs.{needs}
-use Rattle.deals.proofs.Serving.{serve-none, serve-some, serve-only}
+use Rattle.deals.proofs.Serving.{serve-none, serve-some}
 use Rattle.deals.proofs.dealing.serve.Statement.{statement}
 use Rattle.deals.proofs.dealing.serve.Tie as tie
 
@@ -22,7 +20,7 @@ add-upto c = search needs
 
 mul-watts : tie.Need-mul-watts
 mul-watts c =
-    let pre = c .before .before .before .before .before .pre .0 in
+    let pre = c .before .before .before .before .pre .0 in
     record { fits = lt-of-le-of-lt (mul-le-mul-left _ (pre .2)) (pre .3) }
 
 div-watts : tie.Need-div-watts
@@ -57,11 +55,8 @@ same-length-2 c = search needs
 
 returns-2 : tie.Need-returns-2
 returns-2 c =
-    let s = c .before .before .before .before .before .before .before in
-    let pre = s .pre in
-    let some = c .before .before .before .before .if1 .left in
-    let watts = ⊎-elim (λ w. w .1 ∙ serve-only _ _ _ _ (pre .0 .2) some (w .0 .taken)) (λ w. w .1) (c .before .before .if2 .came) in
-    serve-some _ _ (s .args .weight) (s .args .p) (s .args .before .now) (s .args .dealt .now) (pre .1) watts (c .over .ensures)
+    let s = c .before .before .before .before .before .before in
+    serve-some _ _ (s .args .weight) (s .args .p) (s .args .before .now) (s .args .dealt .now) (s .pre .1) refl (c .over .ensures)
 
 pub serve-spec : {M : Type 1} → statement M
 serve-spec =

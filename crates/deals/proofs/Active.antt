@@ -61,11 +61,11 @@ module _ (marks : List ℕ) (node more : ℕ) (some : node ≡ 0 → ⊥) (there
     added = λ n level e h.
         let q : n ≡ node - 1 = omega arith in
         rw (q, added-here) (marked-right (at marks (node - 1)) more level h);
-    elsewhere = λ n l. added-other n (λ e. omega arith);
+    later = λ n l. added-other n (λ e. omega arith);
   }
 
 pub none-added : (marks : List ℕ) (node more : ℕ) → node ≡ 0 → MarksAdded node more marks marks
-none-added marks node more none = record { kept = λ n level h. h; added = λ n level e h. absurd (omega arith); elsewhere = λ n l. refl }
+none-added marks node more none = record { kept = λ n level h. h; added = λ n level e h. absurd (omega arith); later = λ n l. refl }
 
 -- Before the turn of the cord at place c: the nodes of the cords before it are marked with their levels.
 pub record MarkingCords (parents nodes levels : List ℕ) (c : ℕ) (marks : List ℕ) : Type 0 where
@@ -111,7 +111,7 @@ module _ {parents nodes levels marks marks′ : List ℕ} {node more : ℕ} (siz
     cords = λ h l m e. adds .kept m (at levels h) (inv .cords h l m e);
     passed = λ m p level h l e is.
         let rise = rises (n - 1) (omega (arith, inv .reached)) in
-        let before : Marked (at marks m) level = subst (λ (x : ℕ). Marked x level) (adds .elsewhere m (omega arith)) is in
+        let before : Marked (at marks m) level = subst (λ (x : ℕ). Marked x level) (adds .later m (omega arith)) is in
         go m p level h l e before (eqb m (n - 1)) refl;
   }
     where

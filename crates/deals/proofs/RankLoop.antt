@@ -263,7 +263,7 @@ module _ {parents limits nodes levels lows wants first next marks : List ℕ} {a
 
     pub level-fits : level < highestRank
     unfolding dealFrom
-    level-fits = omega (arith, inv .ranks .some-left)
+    level-fits = omega (arith, inv .ranks .within)
 
     at-level : RanksDealt (dealFrom parents limits nodes levels lows wants) (suc level) rows left lower grants
     at-level = subst (λ (a : ℕ). RanksDealt (dealFrom parents limits nodes levels lows wants) a rows left lower grants) (one-more above some) (inv .ranks)

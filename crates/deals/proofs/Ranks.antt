@@ -117,8 +117,8 @@ module _ (parents limits nodes levels lows wants : List ℕ) (ns : NodeLists par
   unfolding dealFrom pcapmin request
   state-of {above} s = record {
     higher = highestRank - above;
-    sum-is = omega (arith, s .some-left);
-    left-is = λ n l. omega (arith, s .left-is n l, sum-up (highestRank - above) above highestRank (req n) (omega (arith, s .some-left)));
+    sum-is = omega (arith, s .within);
+    left-is = λ n l. omega (arith, s .left-is n l, sum-up (highestRank - above) above highestRank (req n) (omega (arith, s .within)));
     lower-is = s .lower-is;
     grants-are = s .grants-are;
   }
@@ -127,7 +127,7 @@ module _ (parents limits nodes levels lows wants : List ℕ) (ns : NodeLists par
       → RanksDealt theDeal above rows left lower grants
   unfolding dealFrom pcapmin request
   ranks-dealt {above} s blank full = record {
-    some-left = omega (arith, s .sum-is);
+    within = omega (arith, s .sum-is);
     left-is = λ n l. omega (arith, s .left-is n l, sum-up (s .higher) above highestRank (req n) (s .sum-is));
     lower-is = s .lower-is;
     grants-are = s .grants-are;

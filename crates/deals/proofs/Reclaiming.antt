@@ -1,4 +1,4 @@
--- The turns of the loops that go over the cords after a deal: what each server can x, and what the cords leave stranded.
+-- The turns of the loops that go over the cords after a deal: what each server can use, and what the cords leave stranded.
 use mathlib.Core.Path.{_≡_, refl, sym, ap, ap₂, _∙_}
 use mathlib.Core.Bool.{Bool, true, false, cond, _&&_}
 use mathlib.Core.List.{List}

@@ -1,5 +1,5 @@
--- The passes of a deal over nodes and cords, one rank at a time: what the contracts of private functions cite. No public
--- contract does. Figures stand in lists, by the places of nodes or cords.
+-- What the contracts of private functions cite, and no public contract: the lists of a room, the passes of a deal rank by rank, and
+-- the passes over the cords after a deal. Figures stand in lists, by the places of nodes, cords or servers.
 use mathlib.Core.Path.{_≡_}
 use mathlib.Core.Bool.{cond, _&&_}
 use mathlib.Core.List.{List, []}
@@ -53,6 +53,8 @@ pub record DealLists (parents limits nodes levels lows wants : List ℕ) (grantC
   pub lows-within : LowsWithin parents limits nodes lows
   pub grants-size : grantCount ≡ length nodes
 
+-- ---- What a level concerns: its cords and its active nodes
+
 -- The next cord of a level from place c on is at place d; where there is none, d is the count of cords.
 pub record NextOf (levels : List ℕ) (level c d : ℕ) : Type 0 where
   pub after : c ≤ d
@@ -73,17 +75,17 @@ pub record ChainOf (levels next : List ℕ) (level from : ℕ) : Type 0 where
   pub start : NextOf levels level 0 from
   pub nexts : (c : ℕ) → c < length levels → NextOf levels (at levels c) (c + 1) (at next c)
 
--- A node's marks, one bit a level, have the level's.
+-- The mark of a level, one bit, is among a node's marks.
 abbrev pub Marked : ℕ → ℕ → Type 0
 Marked marks level = marks / 2 ^ level % 2 ≡ 1
 
--- More marks are added to those of a node, by its number.
+-- Marks are added to those of a node, given by its number. No node loses a mark, and the nodes after it are unchanged.
 pub record MarksAdded (node more : ℕ) (marks marks′ : List ℕ) : Type 0 where
   pub kept : (n level : ℕ) → Marked (at marks n) level → Marked (at marks′ n) level
   pub added : (n level : ℕ) → node ≡ suc n → Marked more level → Marked (at marks′ n) level
-  pub elsewhere : (n : ℕ) → node ≤ n → at marks′ n ≡ at marks n
+  pub later : (n : ℕ) → node ≤ n → at marks′ n ≡ at marks n
 
--- Each node is marked with the levels of the cords on it and with those of its child nodes.
+-- Each node has at least the marks of the levels of its own cords, and all marks of its child nodes.
 pub record NodeMarks (parents nodes levels marks : List ℕ) : Type 0 where
   pub cords : (c n : ℕ) → c < length nodes → at nodes c ≡ suc n → Marked (at marks n) (at levels c)
   pub children : (m n level : ℕ) → m < length parents → at parents m ≡ suc n → Marked (at marks m) level → Marked (at marks n) level
@@ -106,7 +108,7 @@ pub record Listed (marks : List ℕ) (level : ℕ) (list : List ℕ) (count : �
   pub marked : (i : ℕ) → i < count → Marked (at marks (at list i)) level
   pub all : (n : ℕ) → n < length marks → Marked (at marks n) level → Absent list count n → ⊥
 
--- Places of nodes, in order; with a node's place, its parent's.
+-- The first `count` entries of `active` are places of nodes, rising; if a node is among them, so is its parent.
 pub record ActiveNodes (parents active : List ℕ) (count : ℕ) : Type 0 where
   pub few : count ≤ length active
   pub within : (i : ℕ) → i < count → at active i < length parents
@@ -116,6 +118,8 @@ pub record ActiveNodes (parents active : List ℕ) (count : ℕ) : Type 0 where
 -- Every node with a cord of the level on it is among them.
 abbrev pub CordsActive : List ℕ → List ℕ → ℕ → List ℕ → ℕ → Type 0
 CordsActive nodes levels level active count = (c n : ℕ) → c < length nodes → at levels c ≡ level → at nodes c ≡ suc n → Absent active count n → ⊥
+
+-- ---- Lists that are lent, and what they hold of a room
 
 -- Lists of one figure a node.
 pub record NodeFigures (nodeCount : ℕ) (left lower pcapmins asked amounts before dealt : List ℕ) : Type 0 where
@@ -265,10 +269,10 @@ pub record CordsDealt (nodes levels lows wants : List ℕ) (level : ℕ) (pcapmi
 
 -- ---- The ranks from the highest down
 
--- Before the ranks below `above`: what the higher ranks' Requests leave of each limit, the Pcapmin of the ranks to come, whose
--- Requests are not filled in yet, and the grants of the ranks dealt.
+-- The levels from `above` up are dealt: what their Requests leave of each limit, the sums of Pcapmin of the levels below, whose
+-- Requests are still 0, and the grants of the cords dealt.
 pub record RanksDealt (d : Deal) (above : ℕ) (rows : List (List ℕ)) (left lower grants : List ℕ) : Type 0 where
-  pub some-left : above ≤ d .levels
+  pub within : above ≤ d .levels
   pub left-is : (n : ℕ) → n < d .nodes
       → at left n + (sum (d .levels) (cell (metrics d .requests) n) - sum above (cell (metrics d .requests) n)) ≡ d .limit n
   pub lower-is : (n : ℕ) → n < d .nodes → at lower n ≡ sum above (cell (metrics d .pcapmins) n)

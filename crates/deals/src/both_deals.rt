@@ -71,8 +71,8 @@ fn make_deal(
     usable_of(shares, servers, needs, grants, usable);
 }
 
-// The plan in the room's lists, which are lent as long as its nodes, cords and servers are many; the freed watts. The caps hold
-// what the servers can use after the first deal until the second is made.
+// Makes the plan, in lists with one entry for each node, cord or server of the room; gives the freed watts. Until the second deal,
+// `caps` holds what each server can use of the first grants.
 fn plan_lists(
     table: &[u32],
     demands: &[u32],
@@ -147,7 +147,8 @@ fn plan_lists(
     freed
 }
 
-// The grants and caps of a good table with a demand for each server, in lists as long as its cords and servers are many.
+// The grants and caps of a good table with a demand for each server, in lists with one entry for each cord and each server; gives the
+// freed watts.
 pub(crate) fn plan_room(table: &[u32], demands: &[u32], grants: &mut [u32], caps: &mut [u32]) -> u64
     requires { ⌜ Good (checked (now table) 0) ⌝ }
     requires { ⌜ ServersFit (now table) (length (now demands)) × CordsFit (now table) (length (now grants)) × ServersFit (now table) (length (now caps)) ⌝ }

@@ -2,7 +2,7 @@
 ghost use mathlib.Core.Path.{_≡_};
 ghost use Prim.Native.Nat.{ℕ};
 ghost use lib.ListN.{length};
-ghost use Rattle.deals.specs.Figures.{at, cell};
+ghost use Rattle.deals.specs.Figures.{cell};
 ghost use Rattle.deals.specs.Metrics.{dealFrom};
 ghost use Rattle.deals.specs.Dealing.{granted};
 ghost use Rattle.deals.specs.Passes.{DealLists, LevelLists, NodeFigures, RankLists, RanksDealt, FullRows};
@@ -25,9 +25,9 @@ fn widen(from: &[u32], to: &mut [u64])
     }
 }
 
-// One rank of a deal, over its cords and its active nodes: the Requests are gathered and the excesses dealt. The lists that are lent
-// for it have one figure a node: Pcapmin, the children's Requests, amounts, weights served and watts dealt, all at this rank.
-// (`limits` are for the contract alone.)
+// One rank of a deal, over its cords and its active nodes: the Requests are gathered and the excesses dealt. `pcapmins`, `asked` (the
+// children's Requests), `amounts`, `before` (weights served) and `dealt` have this rank's figure of each node. (`limits` and `levels`
+// are for the contracts alone.)
 fn deal_rank(
     parents: &[u32],
     limits: &[u32],
@@ -166,7 +166,8 @@ fn deal_ranks(
     }
 }
 
-// The grants of a deal: nodes with their parents and limits, cords with their nodes, levels, lows and wants, and the room's levels.
+// The grants of a deal, from the nodes' parents and limits, the cords' nodes, levels, lows and wants, and the links and marks that
+// `levels.rt` makes.
 pub(crate) fn deal(
     parents: &[u32],
     limits: &[u32],

@@ -1,6 +1,6 @@
 // One rank's dealing: from the first node to the last, then to the cords in table order. One split serves both.
 ghost use mathlib.Core.Path.{_≡_};
-ghost use Prim.Native.Nat.{ℕ, _+_, _-_, _*_, _/_, _^_, _≤_, _<_};
+ghost use Prim.Native.Nat.{ℕ, _+_, _*_, _/_, _^_, _≤_, _<_};
 ghost use lib.ListN.{length, set};
 ghost use Rattle.rooms.specs.Table.{mostWatts, mostCords, highestRank};
 ghost use Rattle.deals.specs.Figures.{at, cell};
@@ -32,6 +32,7 @@ fn serve(
     }
     let upto = before[p] + weight;
     let watts = amount * upto / whole;
+    // The quotients rise, so nothing is cut off; `over` needs no proof of it.
     let given = over(watts, dealt[p]);
     before[p] = upto;
     dealt[p] = watts;

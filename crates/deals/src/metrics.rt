@@ -95,7 +95,7 @@ pub(crate) fn sum_lows(parents: &[u32], nodes: &[u32], lows: &[u32], sums: &mut 
 }
 
 // From the last active node to the first: a node's Request is the lesser of what is left for this rank and of what its children ask;
-// its Pcapmin and its Request are its parent's to add up.
+// its Pcapmin and its Request are added to its parent's sums.
 pub(crate) fn gather(
     parents: &[u32],
     active: &[u32],

@@ -31,7 +31,7 @@ pub(crate) fn usable_of(
     }
 }
 
-// After the first deal: the cords that have stranded watts want their used watts from now on; the watts freed.
+// After the first deal: the cords that have stranded watts want their used watts from now on; gives the watts freed.
 pub(crate) fn reclaim(
     shares: &[u32],
     servers: &[u32],

@@ -1,4 +1,4 @@
-// A room's lists, laid out from its table: a figure a node, and a figure a cord in table order.
+// A room's lists, laid out from its table: a figure a node, a figure a cord in table order, and a figure a server.
 ghost use mathlib.Core.Path.{_≡_};
 ghost use Prim.Native.Nat.{_≤_, min, max};
 ghost use lib.ListN.{length};

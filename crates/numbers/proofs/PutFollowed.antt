@@ -11,7 +11,8 @@ use lib.Seq.{sets, set-set}
 use lib.Dec.{ltb}
 use borrow.Author.Tests.{ltb-true, ltb-false}
 use Rattle.words.proofs.Lists.{sets-append}
-use Rattle.numbers.specs.Number.{form, Followed}
+use Rattle.numbers.specs.Number.{form}
+use Rattle.numbers.specs.Followed.{Followed}
 use Rattle.numbers.proofs.NumberLaws.{groups-last, groups-more}
 
 module _ (value : ℕ) (sheet : List ℕ) (at : ℕ) where

@@ -1,3 +1,4 @@
 pub mod Number
+pub mod Followed
 pub mod Sheet
 pub mod Promises

@@ -1,9 +1,8 @@
 -- Numbers on the sheet (document 01): one to four bytes. Each byte carries seven bits, lowest group first; its top bit is
 -- set on every byte but the last. Only the shortest form is good.
-use mathlib.Core.Path.{_≡_}
 use mathlib.Core.Bool.{Bool, cond}
-use mathlib.Core.List.{List, [], _∷_, _++_}
-use Prim.Native.Nat.{ℕ, zero, suc, _+_, _-_, _*_, _/_, _%_, _^_, _<_}
+use mathlib.Core.List.{List, [], _∷_}
+use Prim.Native.Nat.{ℕ, zero, suc, _+_, _-_, _*_, _/_, _%_, _^_}
 use lib.ListN.{length}
 use lib.Seq.{sets}
 use lib.Dec.{ltb, leb, eqb}
@@ -67,11 +66,6 @@ form value = groups 4 value
 -- A value has a form if four groups of seven bits carry it.
 abbrev pub hasForm : ℕ → Bool
 hasForm value = ltb value (2 ^ 28)
-
--- A number was put at a place of `sheet`, which is then `changed`. Bytes that are written from `next` on, one at least,
--- stand right behind its form; until they are written, a byte behind the form may be changed as well.
-abbrev pub Followed : ℕ → List ℕ → ℕ → List ℕ → ℕ → Type 0
-Followed value sheet at changed next = (rest : List ℕ) → 0 < length rest → sets changed next rest ≡ sets sheet at (form value ++ rest)
 
 -- What becomes of a number that is to stand at a place of a sheet with space for so many bytes.
 unfoldable pub encoded : ℕ → ℕ → ℕ → Encoded

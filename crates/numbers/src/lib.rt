@@ -4,7 +4,8 @@ ghost use mathlib.Core.Path.{_≡_};
 ghost use Prim.Native.Nat.{_+_, _^_, _<_, _≤_};
 ghost use lib.ListN.{length, drop, set};
 ghost use lib.Seq.{sets};
-ghost use Rattle.numbers.specs.Number.{number, decoded, form, Followed, encoded, afterEncode};
+ghost use Rattle.numbers.specs.Number.{number, decoded, form, encoded, afterEncode};
+ghost use Rattle.numbers.specs.Followed.{Followed};
 ghost use Rattle.numbers.specs.Sheet.{sheetOf, judged, bytesOf, firstTooLarge, written, afterEncodeSheet};
 ghost use Rattle.words.specs.Lists.{AllBelow};
 
@@ -86,8 +87,8 @@ fn decode_bytes(sheet: &[u8], at: usize) -> Decoded
     Decoded::Refused(Fault::TooLong, at)
 }
 
-// The number that starts at a place of the sheet. If it has one or two bytes, and the sheet two from there on, it is read
-// without a branch on its size, which the processor cannot foretell.
+// The number that starts at a place of the sheet. If it has one or two bytes, and the sheet has two from there on, it is read
+// without a branch on its size: the processor would often foretell that wrongly.
 pub fn decode(sheet: &[u8], at: usize) -> Decoded
     ensures { λ r. ⌜ r ≡ decoded at (number (drop at (now (sheet .entry)))) ⌝ }
 {
@@ -96,6 +97,7 @@ pub fn decode(sheet: &[u8], at: usize) -> Decoded
         // 1 if another byte follows, else 0.
         let another = first / 128;
         let second = another * wide(sheet[at + 1]);
+        // A second byte, if there is one, is not 0 and is the last.
         if another <= second && second < 128 {
             let value = first % 128 + 128 * second;
             let next = at + 1 + another as usize;
@@ -138,8 +140,8 @@ fn put(value: u32, sheet: &mut [u8], at: usize) -> usize
     next + 1
 }
 
-// Writes a number that has a form and that others follow, and gives the place after it. A number below 2^14 is stored as
-// two bytes, whatever its size: the processor cannot foretell a branch on that. What follows writes over a byte too much.
+// Writes a number that has a form and that others follow, and gives the place after it. Below 2^14 it stores two bytes,
+// without a branch on the size. If the form has only one, the second byte is overwritten by what follows.
 fn put_followed(value: u32, sheet: &mut [u8], at: usize) -> usize
     requires { ⌜ value < 2 ^ 28 ⌝ }
     requires { ⌜ at + length (form value) < length (now sheet) ⌝ }

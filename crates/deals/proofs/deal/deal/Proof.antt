@@ -1,4 +1,4 @@
--- `deal` meets its contract: it lends lists of zeros, one figure a node or a cord, and rows of zeros.
+-- `deal` meets its contract: it lends lists of zeros, one figure a node, and rows of zeros.
 use mathlib.Core.Path.{sym}
 use Rattle.deals.proofs.RankLoop.{zeros-front, zeros-rows, zeros-cells}
 use borrow.Author.Needs.{needs}

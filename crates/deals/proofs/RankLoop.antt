@@ -2,7 +2,9 @@
 use mathlib.Core.Path.{_≡_, refl, sym, ap, _∙_, subst}
 use mathlib.Core.Bool.{Bool, true, false}
 use mathlib.Core.List.{List, []}
+use mathlib.Core.Logic.{⊎-elim}
 use Prim.Native.Nat.{ℕ, zero, suc, _+_, _-_, _*_, _/_, _≤_, _<_}
+use native.Mathlib.Nat.{eq-or-lt-of-le}
 use native.Mathlib.Omega.{arith}
 use lib.Dec.{eqb}
 use lib.ListN.{length, take, replicate, length-replicate, getD-replicate}
@@ -15,14 +17,15 @@ use Rattle.rooms.specs.Credits.{sumBeneath}
 use Rattle.rooms.proofs.Sums.{sum-cong, sum-zero}
 use Rattle.rooms.proofs.Trees.{kids, down}
 use Rattle.deals.specs.Figures.{at, cell}
-use Rattle.deals.specs.Metrics.{dealFrom}
+use Rattle.deals.specs.Metrics.{dealFrom, metrics}
 use Rattle.deals.specs.Dealing.{granted}
 use Rattle.deals.specs.Passes.{NodeLists, CordLists, LowsWithin, DealLists, LevelLists, Listed, Absent, NodeFigures, RankLists, RanksDealt, FullRows, onNode, overChildren, Gathered, weightOf, wholeOf, NodesDealt, cordsBefore, CordsDealt}
+use Rattle.deals.proofs.Computed.{request}
 use Rattle.deals.proofs.NodeSums.{kids-none}
 use Rattle.deals.proofs.Links.{chain-of, no-cord}
 use Rattle.deals.proofs.Active.{active-nodes, cords-active}
 use Rattle.deals.proofs.Gathering.{Idle}
-use Rattle.deals.proofs.Ranks.{State, state-of, ranks-dealt, state-start, state-end, state-skip, lows-sum, wants-sum, gather-asks, nodes-ask, cords-ask, cords-room, state-turn}
+use Rattle.deals.proofs.Ranks.{State, state-of, ranks-dealt, state-start, state-end, state-skip, filled-skip, requests-are, lows-sum, wants-sum, gather-asks, nodes-ask, cords-ask, cords-room, state-turn}
 
 -- ---- Lists of zeros, as they are lent at first
 
@@ -205,11 +208,20 @@ module _ {parents limits nodes levels lows wants next : List ℕ} {level from : 
         -- What the four leave.
         pub rank-dealt : {grants₁ : List ℕ} → CordsDealt nodes levels lows wants level pcapmins₂ asked₂ amounts₁ before₁ grants grants₁
             → RanksDealt (dealFrom parents limits nodes levels lows wants) level rows₁ left₁ lower₁ grants₁
+        unfolding dealFrom request
         rank-dealt {grants₁} cd =
             ranks-dealt parents limits nodes levels lows wants ns cs lw
             (state-turn parents limits nodes levels lows wants ns cs lw level left lower grants state pcapmins₁ asked₁ (sums .on-lows) (sums .on-wants) rows rows₁ left₁ lower₁ pcapmins₂ asked₂ g
             amounts₁ before₁ dealt₁ nd grants₁ cd)
-            (λ n j l. g .others n j (λ e. omega arith) ∙ given .ranks .blank n j (omega arith)) (g .full)
+            filled (λ n j l. g .others n j (λ e. omega arith) ∙ given .ranks .blank n j (omega arith)) (g .full)
+          where
+            filled : (n j : ℕ) → n < length parents → level ≤ j → j < highestRank → cell rows₁ n j ≡ request (dealFrom parents limits nodes levels lows wants) n j
+            filled n j l a b =
+                ⊎-elim
+                (λ e. subst (λ (k : ℕ). cell rows₁ n k ≡ request (dealFrom parents limits nodes levels lows wants) n k) e
+                (requests-are parents limits nodes levels lows wants ns cs lw level left lower grants state pcapmins₁ asked₁ (sums .on-lows) (sums .on-wants) rows rows₁ left₁ lower₁ pcapmins₂ asked₂ g n l))
+                (λ more. g .others n j (λ e. omega arith) ∙ given .ranks .filled n j l more b)
+                (eq-or-lt-of-le a)
 
 -- ---- The loop over the ranks
 
@@ -240,7 +252,7 @@ module _ {parents limits nodes levels lows wants : List ℕ} {grantCount : ℕ} 
       → RanksDealt (dealFrom parents limits nodes levels lows wants) highestRank rows left lower grants
   ranks-start grants full blank is sums =
       ranks-dealt parents limits nodes levels lows wants (lists .of-nodes) (lists .of-cords) (lists .lows-within)
-      (state-start parents limits nodes levels lows wants (lists .of-nodes) (lists .of-cords) (lists .lows-within) _ _ grants is sums) (λ n j l. blank n j) full
+      (state-start parents limits nodes levels lows wants (lists .of-nodes) (lists .of-cords) (lists .lows-within) _ _ grants is sums) (λ n j l a b. absurd (omega arith)) (λ n j l. blank n j) full
 
 -- A number above 0 is one more than the number before it.
 pub one-more : (n : ℕ) → 0 < n → n ≡ suc (n - 1)
@@ -257,6 +269,11 @@ module _ {parents limits nodes levels lows wants first next marks : List ℕ} {a
       (subst (λ (a : ℕ). State parents limits nodes levels lows wants (lists .of-nodes) (lists .of-cords) (lists .lows-within) a left lower grants) z
       (state-of parents limits nodes levels lows wants (lists .of-nodes) (lists .of-cords) (lists .lows-within) (inv .ranks)))
 
+  -- The rows are then the Requests of all nodes.
+  pub rows-end : above ≤ 0 → (n j : ℕ) → n < length parents → j < highestRank → cell rows n j ≡ cell (metrics (dealFrom parents limits nodes levels lows wants) .requests) n j
+  unfolding dealFrom
+  rows-end h n j l b = inv .ranks .filled n j l (omega arith) b
+
   module _ (some : 0 < above) where
     abbrev level : ℕ
     level = above - 1
@@ -270,6 +287,7 @@ module _ {parents limits nodes levels lows wants first next marks : List ℕ} {a
 
     -- A rank that no cord has.
     pub loop-skip : {from : ℕ} → from ≡ at first level → length nodes ≤ from → RankLoop parents limits nodes levels lows wants first next marks level active rows left lower pcapmins asked amounts before dealt grants
+    unfolding dealFrom request
     loop-skip is none =
         let lists = inv .lists in
         let n = lists .of-nodes in
@@ -279,10 +297,13 @@ module _ {parents limits nodes levels lows wants first next marks : List ℕ} {a
           by-level = inv .by-level;
           active-size = inv .active-size;
           figures = inv .figures;
-          ranks = ranks-dealt parents limits nodes levels lows wants n k (lists .lows-within)
-              (state-skip parents limits nodes levels lows wants n k (lists .lows-within) level left lower grants
-              (λ c l. no-cord (inv .by-level .linked) level level-fits is (omega (arith, k .levels-size)) c (omega (arith, k .levels-size)))
+          ranks =
+              let none : (c : ℕ) → c < length nodes → at levels c ≡ level → ⊥
+              = λ c l. no-cord (inv .by-level .linked) level level-fits is (omega (arith, k .levels-size)) c (omega (arith, k .levels-size)) in
+              ranks-dealt parents limits nodes levels lows wants n k (lists .lows-within)
+              (state-skip parents limits nodes levels lows wants n k (lists .lows-within) level left lower grants none
               (state-of parents limits nodes levels lows wants n k (lists .lows-within) at-level))
+              (filled-skip parents limits nodes levels lows wants n k (lists .lows-within) level rows level-fits none (at-level .blank) (at-level .filled))
               (λ m j l. inv .ranks .blank m j (omega arith)) (inv .ranks .full);
         }
 

@@ -2,8 +2,9 @@
 use mathlib.Core.Path.{_≡_, refl, sym, ap, ap₂, _∙_, subst}
 use mathlib.Core.Bool.{Bool, true, false}
 use mathlib.Core.List.{List}
+use mathlib.Core.Logic.{⊎-elim}
 use Prim.Native.Nat.{ℕ, zero, suc, _+_, _-_, _*_, _/_, _≤_, _<_, min}
-use native.Mathlib.Nat.{le-trans, le-of-eq, le-refl, mul-le-mul-right}
+use native.Mathlib.Nat.{eq-or-lt-of-le, le-trans, le-of-eq, le-refl, mul-le-mul-right}
 use native.Mathlib.Omega.{arith}
 use lib.Dec.{eqb}
 use lib.ListN.{length}
@@ -123,10 +124,12 @@ module _ (parents limits nodes levels lows wants : List ℕ) (ns : NodeLists par
     grants-are = s .grants-are;
   }
 
-  pub ranks-dealt : {above : ℕ} {rows : List (List ℕ)} {left lower grants : List ℕ} → State above left lower grants → ((n j : ℕ) → j < above → cell rows n j ≡ 0) → FullRows rows
+  pub ranks-dealt : {above : ℕ} {rows : List (List ℕ)} {left lower grants : List ℕ} → State above left lower grants
+      → ((n j : ℕ) → n < length parents → above ≤ j → j < highestRank → cell rows n j ≡ req n j) → ((n j : ℕ) → j < above → cell rows n j ≡ 0) → FullRows rows
       → RanksDealt theDeal above rows left lower grants
   unfolding dealFrom pcapmin request
-  ranks-dealt {above} s blank full = record {
+  ranks-dealt {above} s filled blank full = record {
+    filled = filled;
     within = omega (arith, s .sum-is);
     left-is = λ n l. omega (arith, s .left-is n l, sum-up (s .higher) above highestRank (req n) (s .sum-is));
     lower-is = s .lower-is;
@@ -170,6 +173,16 @@ module _ (parents limits nodes levels lows wants : List ℕ) (ns : NodeLists par
       go : (c : ℕ) → c < length nodes → (t : Bool) → eqb (at levels c) j ≡ t → j ≤ at levels c → at grants c ≡ at (granted theDeal) c
       go c l true e h = absurd (none c l (eqb-true (at levels c) j e))
       go c l false e h = s .grants-are c l (let q : at levels c ≡ j → ⊥ = eqb-false (at levels c) j e in omega arith)
+
+  -- The rows have its Requests too, which are 0.
+  pub filled-skip : (j : ℕ) (rows : List (List ℕ)) → j < highestRank → ((c : ℕ) → c < length nodes → at levels c ≡ j → ⊥) → ((n i : ℕ) → i < suc j → cell rows n i ≡ 0)
+      → ((n i : ℕ) → n < length parents → suc j ≤ i → i < highestRank → cell rows n i ≡ req n i) → (n i : ℕ) → n < length parents → j ≤ i → i < highestRank → cell rows n i ≡ req n i
+  unfolding dealFrom
+  filled-skip j rows h none blank filled n i l a b =
+      ⊎-elim
+      (λ e. subst (λ (k : ℕ). cell rows n k ≡ req n k) e (blank n j (omega arith) ∙ sym (request-none theDeal dealable j h none n l)))
+      (λ more. filled n i l more b)
+      (eq-or-lt-of-le a)
 
   -- ---- A level that some cord has: what its passes ask, and what they leave
 

@@ -269,10 +269,11 @@ pub record CordsDealt (nodes levels lows wants : List ℕ) (level : ℕ) (pcapmi
 
 -- ---- The ranks from the highest down
 
--- The levels from `above` up are dealt: what their Requests leave of each limit, the sums of Pcapmin of the levels below, whose
--- Requests are still 0, and the grants of the cords dealt.
+-- The levels from `above` up are dealt: their Requests, in the rows, where those of the levels below are still 0; what these Requests
+-- leave of each limit, the sums of Pcapmin of the levels below, and the grants of the cords dealt.
 pub record RanksDealt (d : Deal) (above : ℕ) (rows : List (List ℕ)) (left lower grants : List ℕ) : Type 0 where
   pub within : above ≤ d .levels
+  pub filled : (n j : ℕ) → n < d .nodes → above ≤ j → j < d .levels → cell rows n j ≡ cell (metrics d .requests) n j
   pub left-is : (n : ℕ) → n < d .nodes
       → at left n + (sum (d .levels) (cell (metrics d .requests) n) - sum above (cell (metrics d .requests) n)) ≡ d .limit n
   pub lower-is : (n : ℕ) → n < d .nodes → at lower n ≡ sum above (cell (metrics d .pcapmins) n)

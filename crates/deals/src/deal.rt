@@ -1,9 +1,10 @@
 // One deal: rank by rank from the highest, the Requests are gathered into their rows and dealt.
 ghost use mathlib.Core.Path.{_≡_};
-ghost use Prim.Native.Nat.{ℕ};
+ghost use Prim.Native.Nat.{ℕ, _<_};
 ghost use lib.ListN.{length};
+ghost use Rattle.rooms.specs.Table.{highestRank};
 ghost use Rattle.deals.specs.Figures.{cell};
-ghost use Rattle.deals.specs.Metrics.{dealFrom};
+ghost use Rattle.deals.specs.Metrics.{dealFrom, metrics};
 ghost use Rattle.deals.specs.Dealing.{granted};
 ghost use Rattle.deals.specs.Passes.{DealLists, LevelLists, NodeFigures, RankLists, RanksDealt, FullRows};
 use crate::dealing::deal_cords;
@@ -131,6 +132,7 @@ fn deal_ranks(
     requires { ⌜ NodeFigures (length (now parents)) (now left) (now lower) (now pcapmins) (now asked) (now amounts) (now before) (now dealt) ⌝ }
     requires { ⌜ FullRows (now requests) × ((n j : ℕ) → cell (now requests) n j ≡ 0) ⌝ }
     ensures { λ _. ⌜ now (grants .exit) ≡ granted (dealFrom (now (parents .entry)) (now (limits .entry)) (now (nodes .entry)) (now (levels .entry)) (now (lows .entry)) (now (wants .entry))) ⌝ }
+    ensures { λ _. ⌜ ((n j : ℕ) → n < length (now (parents .entry)) → j < highestRank → cell (now (requests .exit)) n j ≡ cell (metrics (dealFrom (now (parents .entry)) (now (limits .entry)) (now (nodes .entry)) (now (levels .entry)) (now (lows .entry)) (now (wants .entry))) .requests) n j) ⌝ }
 {
     widen(limits, left);
     sum_lows(parents, nodes, lows, lower);

@@ -3,7 +3,7 @@ use mathlib.Core.Path.{sym, _∙_}
 use native.Mathlib.Omega.{arith}
 use borrow.Author.Needs.{needs}
 use borrow.Author.Count.{falls-down}
-use Rattle.deals.proofs.RankLoop.{RankLoop, lows-hang, ranks-start, loop-end, level-fits, loop-skip, rank-lists, loop-turn}
+use Rattle.deals.proofs.RankLoop.{RankLoop, lows-hang, ranks-start, loop-end, rows-end, level-fits, loop-skip, rank-lists, loop-turn}
 use Rattle.deals.proofs.deal.deal_ranks.Statement.{statement}
 use Rattle.deals.proofs.deal.deal_ranks.Tie as tie
 
@@ -107,7 +107,7 @@ same-length-9 : tie.Need-same-length-9 Inv-loop μ-loop
 same-length-9 c = c .before .loop .inv .lists .grants-size ∙ sym (c .before .before .before .before .before .before .before .before .before .before .before .before .before .before .before .before .before .before .before .before .before .before .before .before .before .before .before .before .pre .0 .grants-size)
 
 returns : tie.Need-returns Inv-loop μ-loop
-returns c = loop-end (c .before .loop .inv) (c .loop-test .left)
+returns c = (loop-end (c .before .loop .inv) (c .loop-test .left), rows-end (c .before .loop .inv) (c .loop-test .left))
 
 pub deal-ranks-spec : {M : Type 1} → statement M
 deal-ranks-spec =

@@ -16,7 +16,7 @@ use Rattle.rooms.specs.Table.{mostWatts, mostCords}
 use Rattle.rooms.proofs.Sums.{on-yes, on-no, sum-suc, sum-none}
 use Rattle.deals.specs.Figures.{at}
 use Rattle.deals.specs.Split.{part}
-use Rattle.deals.specs.Passes.{NextOf, CordLists, wholeOf, cordsBefore, CordsDealt}
+use Rattle.deals.specs.Passes.{NextOf, CordLists, cordsBefore, CordsDealt}
 use Rattle.deals.proofs.Links.{skipped}
 use Rattle.deals.proofs.Serving.{part-le-amount, sum-within, MayServe, HasServed, Served, served-same, served-part, served-next, may-serve}
 
@@ -25,41 +25,40 @@ on-none true = refl
 on-none false = refl
 
 -- What the pass takes of the cords and of their nodes.
-pub record CordsReady (nodes levels lows wants : List ℕ) (level : ℕ) (pcapmins asked amounts before₀ : List ℕ) : Type 0 where
+pub record CordsReady (nodes levels lows wants : List ℕ) (level : ℕ) (wholes amounts before₀ : List ℕ) : Type 0 where
   pub cords : CordLists (length amounts) nodes levels lows wants
-  pub pcapmins-size : length pcapmins ≡ length amounts
-  pub asked-size : length asked ≡ length amounts
+  pub wholes-size : length wholes ≡ length amounts
   pub amount-most : (n : ℕ) → n < length amounts → at amounts n ≤ mostWatts
-  pub asked-least : (n : ℕ) → n < length amounts → at pcapmins n ≤ at asked n
-  pub asked-most : (n : ℕ) → n < length amounts → at asked n ≤ mostCords * mostWatts
-  pub room : (n : ℕ) → n < length amounts → at before₀ n + cordsBefore nodes levels lows wants level n (length nodes) ≤ wholeOf pcapmins asked n
+  pub amount-inside : (n : ℕ) → n < length amounts → at amounts n ≤ at wholes n
+  pub wholes-most : (n : ℕ) → n < length amounts → at wholes n ≤ mostCords * mostWatts
+  pub room : (n : ℕ) → n < length amounts → at before₀ n + cordsBefore nodes levels lows wants level n (length nodes) ≤ at wholes n
 
 -- The weights served at the node at place n: those before the pass, and of the cords of the rank that stand before place c.
 abbrev pub weightsBefore : List ℕ → List ℕ → List ℕ → List ℕ → ℕ → List ℕ → ℕ → ℕ → ℕ
 weightsBefore nodes levels lows wants level before₀ c n = at before₀ n + cordsBefore nodes levels lows wants level n c
 
 -- The grant of the cord at place h, if it is of the rank.
-abbrev pub CordDealt : List ℕ → List ℕ → List ℕ → List ℕ → ℕ → List ℕ → List ℕ → List ℕ → List ℕ → List ℕ → ℕ → Type 0
-CordDealt nodes levels lows wants level pcapmins asked amounts before₀ grants h =
+abbrev pub CordDealt : List ℕ → List ℕ → List ℕ → List ℕ → ℕ → List ℕ → List ℕ → List ℕ → List ℕ → ℕ → Type 0
+CordDealt nodes levels lows wants level wholes amounts before₀ grants h =
     (n : ℕ) → at levels h ≡ level → at nodes h ≡ suc n
-    → at grants h ≡ at lows h + part (at amounts n) (wholeOf pcapmins asked n) (weightsBefore nodes levels lows wants level before₀ h n) (at wants h - at lows h)
+    → at grants h ≡ at lows h + part (at amounts n) (at wholes n) (weightsBefore nodes levels lows wants level before₀ h n) (at wants h - at lows h)
 
 -- Before the turn at place c: the cords of the rank before it are served and have their grants, and no other grant is changed.
-pub record CordTurn (nodes levels lows wants : List ℕ) (level : ℕ) (pcapmins asked amounts before₀ grants₀ : List ℕ) (c : ℕ) (before dealt grants : List ℕ) : Type 0 where
-  pub ready : CordsReady nodes levels lows wants level pcapmins asked amounts before₀
+pub record CordTurn (nodes levels lows wants : List ℕ) (level : ℕ) (wholes amounts before₀ grants₀ : List ℕ) (c : ℕ) (before dealt grants : List ℕ) : Type 0 where
+  pub ready : CordsReady nodes levels lows wants level wholes amounts before₀
   pub reached : c ≤ length nodes
   pub grants-size : length grants ≡ length nodes
-  pub ours : (h : ℕ) → h < c → CordDealt nodes levels lows wants level pcapmins asked amounts before₀ grants h
+  pub ours : (h : ℕ) → h < c → CordDealt nodes levels lows wants level wholes amounts before₀ grants h
   pub others : (h : ℕ) → (h < c → at levels h ≡ level → ⊥) → at grants h ≡ at grants₀ h
-  pub served : Served (length amounts) (wholeOf pcapmins asked) amounts (weightsBefore nodes levels lows wants level before₀ c) before dealt
+  pub served : Served (length amounts) (at wholes) amounts (weightsBefore nodes levels lows wants level before₀ c) before dealt
 
-module _ {nodes levels lows wants : List ℕ} {level : ℕ} {pcapmins asked amounts before₀ grants₀ : List ℕ} where
-  pub cords-start : {dealt₀ : List ℕ} → CordsReady nodes levels lows wants level pcapmins asked amounts before₀
+module _ {nodes levels lows wants : List ℕ} {level : ℕ} {wholes amounts before₀ grants₀ : List ℕ} where
+  pub cords-start : {dealt₀ : List ℕ} → CordsReady nodes levels lows wants level wholes amounts before₀
       → length grants₀ ≡ length nodes
       → length before₀ ≡ length amounts
       → length dealt₀ ≡ length amounts
-      → ((n : ℕ) → n < length amounts → at dealt₀ n ≡ at amounts n * at before₀ n / wholeOf pcapmins asked n)
-      → CordTurn nodes levels lows wants level pcapmins asked amounts before₀ grants₀ 0 before₀ dealt₀ grants₀
+      → ((n : ℕ) → n < length amounts → at dealt₀ n ≡ at amounts n * at before₀ n / at wholes n)
+      → CordTurn nodes levels lows wants level wholes amounts before₀ grants₀ 0 before₀ dealt₀ grants₀
   cords-start ready size b d dealt-is =
       record {
         ready = ready;
@@ -76,16 +75,16 @@ module _ {nodes levels lows wants : List ℕ} {level : ℕ} {pcapmins asked amou
       }
 
   pub cords-end : {c : ℕ} {before dealt grants : List ℕ}
-      → CordTurn nodes levels lows wants level pcapmins asked amounts before₀ grants₀ c before dealt grants
+      → CordTurn nodes levels lows wants level wholes amounts before₀ grants₀ c before dealt grants
       → length nodes ≤ c
-      → CordsDealt nodes levels lows wants level pcapmins asked amounts before₀ grants₀ grants
+      → CordsDealt nodes levels lows wants level wholes amounts before₀ grants₀ grants
   cords-end turn end =
       record {
         ours = λ h n l. turn .ours h (le-trans l end) n;
         others = λ h l z. turn .others h (λ k. z);
       }
 
-  module _ {c : ℕ} {before dealt grants : List ℕ} (turn : CordTurn nodes levels lows wants level pcapmins asked amounts before₀ grants₀ c before dealt grants) (more : c < length nodes) where
+  module _ {c : ℕ} {before dealt grants : List ℕ} (turn : CordTurn nodes levels lows wants level wholes amounts before₀ grants₀ c before dealt grants) (more : c < length nodes) where
     weights-next : (n : ℕ)
         → weightsBefore nodes levels lows wants level before₀ (c + 1) n
         ≡ weightsBefore nodes levels lows wants level before₀ c n + on (eqb (at nodes c) (suc n)) (on (eqb (at levels c) level) (at wants c - at lows c))
@@ -95,13 +94,13 @@ module _ {nodes levels lows wants : List ℕ} {level : ℕ} {pcapmins asked amou
         ∙ sym (add-assoc (at before₀ n) (cordsBefore nodes levels lows wants level n c) (on (eqb (at nodes c) (suc n)) (on (eqb (at levels c) level) (at wants c - at lows c))))
 
     -- A cord of another rank is passed over.
-    other-next : (at levels c ≡ level → ⊥) → CordTurn nodes levels lows wants level pcapmins asked amounts before₀ grants₀ (c + 1) before dealt grants
+    other-next : (at levels c ≡ level → ⊥) → CordTurn nodes levels lows wants level wholes amounts before₀ grants₀ (c + 1) before dealt grants
     other-next other =
         record {
           ready = turn .ready;
           reached = omega arith;
           grants-size = turn .grants-size;
-          ours = below-more (CordDealt nodes levels lows wants level pcapmins asked amounts before₀ grants) c (turn .ours) (λ n r z. absurd (other r));
+          ours = below-more (CordDealt nodes levels lows wants level wholes amounts before₀ grants) c (turn .ours) (λ n r z. absurd (other r));
           others = λ h z. turn .others h (λ l. z (omega arith));
           served = served-same (turn .served) (weightsBefore nodes levels lows wants level before₀ (c + 1))
               (λ n. weights-next n
@@ -123,7 +122,7 @@ module _ {nodes levels lows wants : List ℕ} {level : ℕ} {pcapmins asked amou
         weight-on : (n : ℕ) → on (eqb (at nodes c) (suc n)) (on (eqb (at levels c) level) (at wants c - at lows c)) ≡ on (eqb (suc (node - 1)) (suc n)) w
         weight-on n = ap₂ (λ (k y : ℕ). on (eqb k (suc n)) y) hangs (on-yes (eqb (at levels c) level) (at wants c - at lows c) (eq-eqb (at levels c) level (sym rank-is ∙ ours-is)) ∙ sym w-is)
 
-        room-for : weightsBefore nodes levels lows wants level before₀ c (node - 1) + w ≤ wholeOf pcapmins asked (node - 1)
+        room-for : weightsBefore nodes levels lows wants level before₀ c (node - 1) + w ≤ at wholes (node - 1)
         room-for =
             omega (
               arith,
@@ -134,12 +133,13 @@ module _ {nodes levels lows wants : List ℕ} {level : ℕ} {pcapmins asked amou
             )
 
         -- What `serve` asks at the node.
-        pub cord-may-serve : MayServe (at amounts (node - 1)) (wholeOf pcapmins asked (node - 1)) w (node - 1) before dealt
+        pub cord-may-serve : MayServe (at amounts (node - 1)) (at wholes (node - 1)) w (node - 1) before dealt
         cord-may-serve =
-            may-serve (turn .served) (node - 1) w node-within room-for (turn .ready .amount-most (node - 1) node-within) (omega (arith, turn .ready .asked-most (node - 1) node-within))
+            may-serve (turn .served) (node - 1) w node-within room-for (turn .ready .amount-inside (node - 1) node-within) (turn .ready .amount-most (node - 1) node-within)
+            (turn .ready .wholes-most (node - 1) node-within)
 
-        module _ {watts : ℕ} {before′ dealt′ : List ℕ} (has : HasServed (at amounts (node - 1)) (wholeOf pcapmins asked (node - 1)) w (node - 1) before dealt watts before′ dealt′) where
-          watts-is : watts ≡ part (at amounts (node - 1)) (wholeOf pcapmins asked (node - 1)) (weightsBefore nodes levels lows wants level before₀ c (node - 1)) w
+        module _ {watts : ℕ} {before′ dealt′ : List ℕ} (has : HasServed (at amounts (node - 1)) (at wholes (node - 1)) w (node - 1) before dealt watts before′ dealt′) where
+          watts-is : watts ≡ part (at amounts (node - 1)) (at wholes (node - 1)) (weightsBefore nodes levels lows wants level before₀ c (node - 1)) w
           watts-is = has .0 ∙ served-part (turn .served) (node - 1) w node-within
 
           pub watts-most : watts ≤ mostWatts
@@ -147,26 +147,26 @@ module _ {nodes levels lows wants : List ℕ} {level : ℕ} {pcapmins asked amou
               omega (
                 arith,
                 watts-is,
-                part-le-amount (at amounts (node - 1)) (wholeOf pcapmins asked (node - 1)) (weightsBefore nodes levels lows wants level before₀ c (node - 1)) w room-for,
+                part-le-amount (at amounts (node - 1)) (at wholes (node - 1)) (weightsBefore nodes levels lows wants level before₀ c (node - 1)) w room-for,
                 turn .ready .amount-most (node - 1) node-within,
               )
 
           pub cord-next : (given : ℕ) {grants′ : List ℕ} → given ≡ watts → grants′ ≡ set grants c (at lows c + given)
-              → CordTurn nodes levels lows wants level pcapmins asked amounts before₀ grants₀ (c + 1) before′ dealt′ grants′
+              → CordTurn nodes levels lows wants level wholes amounts before₀ grants₀ (c + 1) before′ dealt′ grants′
           cord-next given {grants′} given-is g =
               let kept : (h : ℕ) → (h ≡ c → ⊥) → at grants′ h ≡ at grants h = λ h z. ap (λ (l : List ℕ). at l h) g ∙ getD-set-other grants c h (at lows c + given) 0 z in
               let stored : at grants′ c ≡ at lows c + given = ap (λ (l : List ℕ). at l c) g ∙ getD-set-same grants c (at lows c + given) 0 (omega (arith, turn .grants-size)) in
-              let here : at grants′ c ≡ at lows c + part (at amounts (node - 1)) (wholeOf pcapmins asked (node - 1)) (weightsBefore nodes levels lows wants level before₀ c (node - 1)) (at wants c - at lows c)
+              let here : at grants′ c ≡ at lows c + part (at amounts (node - 1)) (at wholes (node - 1)) (weightsBefore nodes levels lows wants level before₀ c (node - 1)) (at wants c - at lows c)
               = stored
               ∙ ap (λ (y : ℕ). at lows c + y) (given-is ∙ watts-is)
-              ∙ ap (λ (y : ℕ). at lows c + part (at amounts (node - 1)) (wholeOf pcapmins asked (node - 1)) (weightsBefore nodes levels lows wants level before₀ c (node - 1)) y) w-is in
+              ∙ ap (λ (y : ℕ). at lows c + part (at amounts (node - 1)) (at wholes (node - 1)) (weightsBefore nodes levels lows wants level before₀ c (node - 1)) y) w-is in
               record {
                 ready = turn .ready;
                 reached = omega arith;
                 grants-size = ap length g ∙ length-set grants c (at lows c + given) ∙ turn .grants-size;
-                ours = below-more (CordDealt nodes levels lows wants level pcapmins asked amounts before₀ grants′) c
+                ours = below-more (CordDealt nodes levels lows wants level wholes amounts before₀ grants′) c
                     (λ h l n r z. kept h (λ q. omega arith) ∙ turn .ours h l n r z)
-                    (λ n r z. subst (λ (k : ℕ). at grants′ c ≡ at lows c + part (at amounts k) (wholeOf pcapmins asked k) (weightsBefore nodes levels lows wants level before₀ c k) (at wants c - at lows c)) (omega (arith, hangs)) here);
+                    (λ n r z. subst (λ (k : ℕ). at grants′ c ≡ at lows c + part (at amounts k) (at wholes k) (weightsBefore nodes levels lows wants level before₀ c k) (at wants c - at lows c)) (omega (arith, hangs)) here);
                 others = λ h z. kept h (λ q. z (omega arith) (ap (at levels) q ∙ sym rank-is ∙ ours-is)) ∙ turn .others h (λ l. z (omega arith));
                 served = served-next (turn .served) (node - 1) w node-within (weightsBefore nodes levels lows wants level before₀ (c + 1))
                     (λ n. weights-next n ∙ ap (λ (y : ℕ). weightsBefore nodes levels lows wants level before₀ c n + y) (weight-on n))
@@ -174,9 +174,9 @@ module _ {nodes levels lows wants : List ℕ} {level : ℕ} {pcapmins asked amou
               }
 
 -- The cords of other ranks up to the next one of the rank are passed over.
-pub cords-skip : {nodes levels lows wants : List ℕ} {level : ℕ} {pcapmins asked amounts before₀ grants₀ : List ℕ} {c d : ℕ} {before dealt grants : List ℕ} → NextOf levels level c d
-    → CordTurn nodes levels lows wants level pcapmins asked amounts before₀ grants₀ c before dealt grants
-    → CordTurn nodes levels lows wants level pcapmins asked amounts before₀ grants₀ d before dealt grants
-cords-skip {nodes} {levels} {lows} {wants} {level} {pcapmins} {asked} {amounts} {before₀} {grants₀} {before = before} {dealt = dealt} {grants = grants} ahead =
-    skipped (λ (i : ℕ). CordTurn nodes levels lows wants level pcapmins asked amounts before₀ grants₀ i before dealt grants) ahead
+pub cords-skip : {nodes levels lows wants : List ℕ} {level : ℕ} {wholes amounts before₀ grants₀ : List ℕ} {c d : ℕ} {before dealt grants : List ℕ} → NextOf levels level c d
+    → CordTurn nodes levels lows wants level wholes amounts before₀ grants₀ c before dealt grants
+    → CordTurn nodes levels lows wants level wholes amounts before₀ grants₀ d before dealt grants
+cords-skip {nodes} {levels} {lows} {wants} {level} {wholes} {amounts} {before₀} {grants₀} {before = before} {dealt = dealt} {grants = grants} ahead =
+    skipped (λ (i : ℕ). CordTurn nodes levels lows wants level wholes amounts before₀ grants₀ i before dealt grants) ahead
     (λ h l other turn. other-next turn (omega (arith, turn .ready .cords .levels-size)) other)

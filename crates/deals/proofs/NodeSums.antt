@@ -5,12 +5,13 @@ use mathlib.Core.Bool.{Bool, true, false}
 use mathlib.Core.List.{List}
 use mathlib.Core.Logic.{_⊎_, inl, inr}
 use Prim.Native.Nat.{ℕ, zero, suc, _+_, _-_, _*_, _^_, _≤_, _<_}
-use native.Mathlib.Nat.{eq-or-lt-of-le, add-zero}
+use native.Mathlib.Nat.{eq-or-lt-of-le, le-refl, add-zero}
 use native.Mathlib.Numerals.{add-one}
 use native.Mathlib.Omega.{arith}
 use lib.Dec.{eqb, eqb·suc-suc}
 use lib.ListN.{length, set, replicate, length-set, length-replicate}
 use lib.Seq.{set-getD, getD-set-same, getD-set-other, ext-getD}
+use borrow.Author.Count.{below-more}
 use borrow.Author.Tests.{eq-eqb, ne-eqb, eqb-true}
 use Rattle.rooms.specs.Sums.{on, sum}
 use Rattle.rooms.specs.Table.{mostCords, mostWatts}
@@ -21,7 +22,7 @@ use Rattle.rooms.proofs.Trees.{kids, kids-cong, own, below-step, down, under, u
 use Rattle.rooms.proofs.Credits.{credited-at, credited-length, zeros-at, sumBeneath-step, sumBeneath-most}
 use Rattle.rooms.proofs.Gather.{Holds, holds-start, holds-turn, holds-most, holds-whole}
 use Rattle.deals.specs.Figures.{at}
-use Rattle.deals.specs.Passes.{NextOf}
+use Rattle.deals.specs.Passes.{NextOf, lowsBeneath, LowsWithin, Spare}
 use Rattle.deals.proofs.Lists.{sum-most}
 use Rattle.deals.proofs.Links.{skipped}
 
@@ -79,21 +80,21 @@ sum-own count kk node figure hangs =
     one (suc m) a p l = sum-cong count _ _ (λ n h. ap (λ (t : Bool). on t a) (eqb·suc-suc m n)) ∙ sum-one count m (λ n. a) l
 
 -- A figure of the cords of a level: 0 at every other cord.
-unfoldable pub ofLevel : List ℕ → List ℕ → ℕ → ℕ → ℕ
-ofLevel levels figures level c = on (eqb (at levels c) level) (at figures c)
+unfoldable pub ofLevel : List ℕ → (ℕ → ℕ) → ℕ → ℕ → ℕ
+ofLevel levels figure level c = on (eqb (at levels c) level) (figure c)
 
-module _ (levels figures : List ℕ) (level c : ℕ) where
-  pub ofLevel-most : ofLevel levels figures level c ≤ at figures c
+module _ (levels : List ℕ) (figure : ℕ → ℕ) (level c : ℕ) where
+  pub ofLevel-most : ofLevel levels figure level c ≤ figure c
   unfolding ofLevel
-  ofLevel-most = on-most (eqb (at levels c) level) (at figures c)
+  ofLevel-most = on-most (eqb (at levels c) level) (figure c)
 
-  pub ofLevel-yes : at levels c ≡ level → at figures c ≡ ofLevel levels figures level c
+  pub ofLevel-yes : at levels c ≡ level → figure c ≡ ofLevel levels figure level c
   unfolding ofLevel
-  ofLevel-yes e = sym (on-yes (eqb (at levels c) level) (at figures c) (eq-eqb (at levels c) level e))
+  ofLevel-yes e = sym (on-yes (eqb (at levels c) level) (figure c) (eq-eqb (at levels c) level e))
 
-  pub ofLevel-no : (at levels c ≡ level → ⊥) → ofLevel levels figures level c ≡ 0
+  pub ofLevel-no : (at levels c ≡ level → ⊥) → ofLevel levels figure level c ≡ 0
   unfolding ofLevel
-  ofLevel-no d = on-no (eqb (at levels c) level) (at figures c) (ne-eqb (at levels c) level d)
+  ofLevel-no d = on-no (eqb (at levels c) level) (figure c) (ne-eqb (at levels c) level d)
 
 -- Each of so many cords hangs on a node, and its figure is within the watts of a word.
 abbrev pub Hangs : ℕ → ℕ → (ℕ → ℕ) → (ℕ → ℕ) → Type 0
@@ -172,10 +173,10 @@ module _ {count : ℕ} {node figure : ℕ → ℕ} {c : ℕ} {sums : List ℕ} (
     )
 
 -- The cords of other levels up to the next one of the level add nothing.
-pub credited-skip : {count : ℕ} {node : ℕ → ℕ} {levels : List ℕ} (figures : List ℕ) {level c d : ℕ} {sums : List ℕ} → NextOf levels level c d
-    → Credited count node (ofLevel levels figures level) c sums → Credited count node (ofLevel levels figures level) d sums
-credited-skip {count} {node} {levels} figures {level} {sums = sums} ahead =
-    skipped (λ (i : ℕ). Credited count node (ofLevel levels figures level) i sums) ahead (λ h l other done. credited-none done (ofLevel-no levels figures level h other))
+pub credited-skip : {count : ℕ} {node : ℕ → ℕ} {levels : List ℕ} (figure : ℕ → ℕ) {level c d : ℕ} {sums : List ℕ} → NextOf levels level c d
+    → Credited count node (ofLevel levels figure level) c sums → Credited count node (ofLevel levels figure level) d sums
+credited-skip {count} {node} {levels} figure {level} {sums = sums} ahead =
+    skipped (λ (i : ℕ). Credited count node (ofLevel levels figure level) i sums) ahead (λ h l other done. credited-none done (ofLevel-no levels figure level h other))
 
 -- ---- Sums over all nodes beneath a node
 
@@ -286,3 +287,36 @@ module _ {parents start : List ℕ} (rises : Rises parents) where
       → parent ≡ at parents (n - 1) → sums′ ≡ credited parent (at sums (n - 1)) sums → Summing parents start (n - 1) sums′
   summing-turn {n = zero} h inv p ep es = absurd (omega arith)
   summing-turn {n = suc m} h inv p ep es = let e : suc m - 1 ≡ m = omega arith in rw e (summing-at h inv (rw e at ep) (rw e at es))
+
+-- ---- What the limits have over the lows beneath
+
+-- Before the turn of the node at place n: the nodes before it have what their limits have over the lows, the others the lows.
+pub record SpareTurn (parents limits nodes lows : List ℕ) (n : ℕ) (spare : List ℕ) : Type 0 where
+  pub reached : n ≤ length limits
+  pub size : length spare ≡ length parents
+  pub done : (m : ℕ) → m < n → at spare m + lowsBeneath parents nodes lows m ≡ at limits m
+  pub rest : (m : ℕ) → n ≤ m → m < length parents → at spare m ≡ lowsBeneath parents nodes lows m
+
+module _ {parents limits nodes lows : List ℕ} where
+  pub spare-start : {spare : List ℕ} → length spare ≡ length parents → ((m : ℕ) → m < length parents → at spare m ≡ lowsBeneath parents nodes lows m)
+      → SpareTurn parents limits nodes lows 0 spare
+  spare-start size lows-are = record { reached = omega arith; size = size; done = λ m l. absurd (omega arith); rest = λ m h. lows-are m }
+
+  module _ (alike : length limits ≡ length parents) {n : ℕ} {spare : List ℕ} (t : SpareTurn parents limits nodes lows n spare) where
+    pub spare-fits : LowsWithin parents limits nodes lows → n < length limits → at spare n ≤ at limits n
+    spare-fits within more = omega (arith, t .rest n (le-refl n) (omega arith), within n (omega arith))
+
+    pub spare-turn : LowsWithin parents limits nodes lows → n < length limits → {limit : ℕ} → limit ≡ at limits n → SpareTurn parents limits nodes lows (n + 1) (set spare n (limit - at spare n))
+    spare-turn within more {limit} is =
+        let kept : (m : ℕ) → (m ≡ n → ⊥) → at (set spare n (limit - at spare n)) m ≡ at spare m = λ m d. getD-set-other spare n m (limit - at spare n) 0 d in
+        record {
+          reached = omega arith;
+          size = length-set spare n (limit - at spare n) ∙ t .size;
+          done = below-more (λ m. at (set spare n (limit - at spare n)) m + lowsBeneath parents nodes lows m ≡ at limits m) n
+              (λ m l. omega (arith, kept m (λ e. omega arith), t .done m l))
+              (omega (arith, getD-set-same spare n (limit - at spare n) 0 (omega (arith, t .size)), t .rest n (le-refl n) (omega arith), within n (omega arith)));
+          rest = λ m h l. kept m (λ e. omega arith) ∙ t .rest m (omega arith) l;
+        }
+
+    pub spare-end : length limits ≤ n → Spare parents limits nodes lows spare
+    spare-end end = record { size = t .size; over = λ m l. t .done m (omega arith) }

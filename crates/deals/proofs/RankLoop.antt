@@ -19,13 +19,13 @@ use Rattle.rooms.proofs.Trees.{kids, down}
 use Rattle.deals.specs.Figures.{at, cell}
 use Rattle.deals.specs.Metrics.{dealFrom, metrics}
 use Rattle.deals.specs.Dealing.{granted}
-use Rattle.deals.specs.Passes.{NodeLists, CordLists, LowsWithin, DealLists, LevelLists, Listed, Absent, NodeFigures, RankLists, RanksDealt, FullRows, onNode, overChildren, Gathered, weightOf, wholeOf, NodesDealt, cordsBefore, CordsDealt}
+use Rattle.deals.specs.Passes.{NodeLists, CordLists, LowsWithin, Spare, DealLists, LevelLists, Listed, Absent, NodeFigures, RankLists, RanksDealt, FullRows, onNode, overChildren, Gathered, cordsBefore, weightOf, NodesDealt, CordsDealt}
 use Rattle.deals.proofs.Computed.{request}
 use Rattle.deals.proofs.NodeSums.{kids-none}
 use Rattle.deals.proofs.Links.{chain-of, no-cord}
 use Rattle.deals.proofs.Active.{active-nodes, cords-active}
-use Rattle.deals.proofs.Gathering.{Idle}
-use Rattle.deals.proofs.Ranks.{State, state-of, ranks-dealt, state-start, state-end, state-skip, filled-skip, requests-are, lows-sum, wants-sum, gather-asks, nodes-ask, cords-ask, cords-room, state-turn}
+use Rattle.deals.proofs.Gathering.{Idle, beneath-none}
+use Rattle.deals.proofs.Ranks.{State, state-of, ranks-dealt, state-start, state-end, state-skip, filled-skip, requests-are, lows-sum, excesses-sum, gather-asks, nodes-ask, cords-ask, cords-room, state-turn}
 
 -- ---- Lists of zeros, as they are lent at first
 
@@ -60,15 +60,15 @@ zeros-cells n j = rows-at (zeros highestRank) (zeros-at highestRank) mostNodes n
 
 -- ---- One rank
 
--- The cords' lows and wants at a level, summed on the nodes that they hang on.
-pub record Summed (nodes levels lows wants : List ℕ) (level count : ℕ) (pcapmins asked : List ℕ) : Type 0 where
+-- The cords' lows and excesses at a level, summed on the nodes that they hang on.
+pub record Summed (nodes levels lows wants : List ℕ) (level count : ℕ) (pcapmins wholes : List ℕ) : Type 0 where
   pub pcapmins-size : length pcapmins ≡ count
-  pub asked-size : length asked ≡ count
+  pub wholes-size : length wholes ≡ count
   pub on-lows : (n : ℕ) → n < count → at pcapmins n ≡ onNode nodes levels lows level n
-  pub on-wants : (n : ℕ) → n < count → at asked n ≡ onNode nodes levels wants level n
+  pub on-excesses : (n : ℕ) → n < count → at wholes n ≡ cordsBefore nodes levels lows wants level n (length nodes)
 
-module _ {parents limits nodes levels lows wants next : List ℕ} {level from : ℕ} {active : List ℕ} {count : ℕ} {rows : List (List ℕ)} {left lower pcapmins asked amounts before dealt grants : List ℕ}
-    (given : RankLists parents limits nodes levels lows wants next level from active count rows left lower pcapmins asked amounts before dealt grants) where
+module _ {parents limits nodes levels lows wants next : List ℕ} {level from : ℕ} {active : List ℕ} {count : ℕ} {rows : List (List ℕ)} {left pcapmins wholes amounts before dealt grants : List ℕ}
+    (given : RankLists parents limits nodes levels lows wants next level from active count rows left pcapmins wholes amounts before dealt grants) where
   ns : NodeLists parents limits
   ns = given .lists .of-nodes
 
@@ -78,140 +78,139 @@ module _ {parents limits nodes levels lows wants next : List ℕ} {level from : 
   lw : LowsWithin parents limits nodes lows
   lw = given .lists .lows-within
 
-  state : State parents limits nodes levels lows wants ns cs lw (suc level) left lower grants
+  state : State parents limits nodes levels lows wants ns cs lw (suc level) left grants
   state = state-of parents limits nodes levels lows wants ns cs lw (given .ranks)
 
   -- What `sum_cords` asks, and what it leaves.
   pub cords-fit : CordLists (length pcapmins) nodes levels lows wants
   cords-fit = subst (λ (n : ℕ). CordLists n nodes levels lows wants) (sym (given .figures .pcapmins-size)) cs
 
-  pub asked-fits : length asked ≡ length pcapmins
-  asked-fits = given .figures .asked-size ∙ sym (given .figures .pcapmins-size)
+  pub wholes-fit : length wholes ≡ length pcapmins
+  wholes-fit = given .figures .wholes-size ∙ sym (given .figures .pcapmins-size)
 
-  pub summed : (pcapmins₁ asked₁ : List ℕ) → length pcapmins₁ ≡ length pcapmins → length asked₁ ≡ length asked
+  pub summed : (pcapmins₁ wholes₁ : List ℕ) → length pcapmins₁ ≡ length pcapmins → length wholes₁ ≡ length wholes
       → ((n : ℕ) → n < length pcapmins → at pcapmins₁ n ≡ onNode nodes levels lows level n)
-      → ((n : ℕ) → n < length pcapmins → at asked₁ n ≡ onNode nodes levels wants level n)
-      → Summed nodes levels lows wants level (length parents) pcapmins₁ asked₁
-  summed pcapmins₁ asked₁ p a on-lows on-wants = record {
+      → ((n : ℕ) → n < length pcapmins → at wholes₁ n ≡ cordsBefore nodes levels lows wants level n (length nodes))
+      → Summed nodes levels lows wants level (length parents) pcapmins₁ wholes₁
+  summed pcapmins₁ wholes₁ p a on-lows on-excesses = record {
     pcapmins-size = p ∙ given .figures .pcapmins-size;
-    asked-size = a ∙ given .figures .asked-size;
+    wholes-size = a ∙ given .figures .wholes-size;
     on-lows = λ n l. on-lows n (omega (arith, given .figures .pcapmins-size));
-    on-wants = λ n l. on-wants n (omega (arith, given .figures .pcapmins-size));
+    on-excesses = λ n l. on-excesses n (omega (arith, given .figures .pcapmins-size));
   }
 
-  module _ {pcapmins₁ asked₁ : List ℕ} (sums : Summed nodes levels lows wants level (length parents) pcapmins₁ asked₁) where
+  module _ {pcapmins₁ wholes₁ : List ℕ} (sums : Summed nodes levels lows wants level (length parents) pcapmins₁ wholes₁) where
     -- No cord of the level hangs on a node that is not active.
-    none-on : (figures : List ℕ) (n : ℕ) → Absent active count n → onNode nodes levels figures level n ≡ 0
-    none-on figures n none = sum-cong (length nodes) _ _ (λ c l. here c l (eqb (at nodes c) (suc n)) refl (eqb (at levels c) level) refl) ∙ sum-zero (length nodes)
+    none-on : (figure : ℕ → ℕ) (n : ℕ) → Absent active count n → sum (length nodes) (λ c. on (eqb (at nodes c) (suc n)) (on (eqb (at levels c) level) (figure c))) ≡ 0
+    none-on figure n none = sum-cong (length nodes) _ _ (λ c l. here c l (eqb (at nodes c) (suc n)) refl (eqb (at levels c) level) refl) ∙ sum-zero (length nodes)
       where
-        here : (c : ℕ) → c < length nodes → (t : Bool) → eqb (at nodes c) (suc n) ≡ t → (u : Bool) → eqb (at levels c) level ≡ u → on t (on u (at figures c)) ≡ 0
+        here : (c : ℕ) → c < length nodes → (t : Bool) → eqb (at nodes c) (suc n) ≡ t → (u : Bool) → eqb (at levels c) level ≡ u → on t (on u (figure c)) ≡ 0
         here c l true e true q = absurd (given .cords-active c n l (eqb-true (at levels c) level q) (eqb-true (at nodes c) (suc n) e) none)
         here c l true e false q = refl
         here c l false e u q = refl
 
     -- What `gather` asks.
-    pub gather-nodes : (length parents ≤ 512) × (level < highestRank) × ((m : ℕ) → m < length parents → at parents m ≤ m)
+    pub gather-nodes : (length parents ≤ mostNodes) × (level < highestRank) × ((m : ℕ) → m < length parents → at parents m ≤ m)
     gather-nodes = (ns .few, omega (arith, state .sum-is), ns .rises)
 
-    pub gather-sizes : (length left ≡ length parents) × (length lower ≡ length parents) × (length pcapmins₁ ≡ length parents) × (length asked₁ ≡ length parents)
-    gather-sizes = (given .figures .left-size, given .figures .lower-size, sums .pcapmins-size, sums .asked-size)
+    pub gather-sizes : (length left ≡ length parents) × (length pcapmins₁ ≡ length parents) × (length wholes₁ ≡ length parents)
+    gather-sizes = (given .figures .left-size, sums .pcapmins-size, sums .wholes-size)
 
-    pub gather-sums : (sum (length parents) (at pcapmins₁) ≤ mostCords * mostWatts) × (sum (length parents) (at asked₁) ≤ mostCords * mostWatts)
+    pub gather-sums : (sum (length parents) (at pcapmins₁) ≤ mostCords * mostWatts) × (sum (length parents) (at wholes₁) ≤ mostCords * mostWatts)
     gather-sums = (
-      lows-sum parents limits nodes levels lows wants ns cs lw level left lower grants state pcapmins₁ asked₁ (sums .on-lows) (sums .on-wants),
-      wants-sum parents limits nodes levels lows wants ns cs lw level left lower grants state pcapmins₁ asked₁ (sums .on-lows) (sums .on-wants),
+      lows-sum parents limits nodes levels lows wants ns cs lw level left grants state pcapmins₁ wholes₁ (sums .on-lows) (sums .on-excesses),
+      excesses-sum parents limits nodes levels lows wants ns cs lw level left grants state pcapmins₁ wholes₁ (sums .on-lows) (sums .on-excesses),
     )
 
-    pub gather-room : (n : ℕ) → n < length parents → (at left n ≤ mostWatts) × (sumBeneath (at parents) (length parents) (at pcapmins₁) n ≤ at lower n)
-        × (at lower n ≤ at left n + sumBeneath (at parents) (length parents) (at pcapmins₁) n)
-    gather-room = gather-asks parents limits nodes levels lows wants ns cs lw level left lower grants state pcapmins₁ asked₁ (sums .on-lows) (sums .on-wants)
+    pub gather-room : (n : ℕ) → n < length parents → at left n + sumBeneath (at parents) (length parents) (at pcapmins₁) n ≤ mostWatts
+    gather-room = gather-asks parents limits nodes levels lows wants ns cs lw level left grants state pcapmins₁ wholes₁ (sums .on-lows) (sums .on-excesses)
 
-    pub gather-idle : Idle parents active count level pcapmins₁ asked₁ rows
-    gather-idle n l none = (sums .on-lows n l ∙ none-on lows n none, sums .on-wants n l ∙ none-on wants n none, given .ranks .blank n level (omega arith))
+    pub gather-idle : Idle parents active count level pcapmins₁ wholes₁ rows
+    gather-idle n l none = (sums .on-lows n l ∙ none-on (at lows) n none, sums .on-excesses n l ∙ none-on (λ c. at wants c - at lows c) n none, given .ranks .blank n level (omega arith))
 
     -- The lists after it.
-    pub gathered-sizes : {rows₁ : List (List ℕ)} {left₁ lower₁ pcapmins₂ asked₂ : List ℕ} → Gathered parents level left lower pcapmins₁ asked₁ rows left₁ lower₁ pcapmins₂ asked₂ rows₁
-        → length left₁ ≡ length left → length lower₁ ≡ length lower → length pcapmins₂ ≡ length pcapmins₁ → length asked₂ ≡ length asked₁
-        → NodeFigures (length parents) left₁ lower₁ pcapmins₂ asked₂ amounts before dealt
-    gathered-sizes g l o p a = record {
+    pub gathered-sizes : {rows₁ : List (List ℕ)} {left₁ pcapmins₂ wholes₂ : List ℕ} → Gathered parents level left pcapmins₁ wholes₁ rows left₁ pcapmins₂ wholes₂ rows₁
+        → length left₁ ≡ length left → length pcapmins₂ ≡ length pcapmins₁ → length wholes₂ ≡ length wholes₁
+        → NodeFigures (length parents) left₁ pcapmins₂ wholes₂ amounts before dealt
+    gathered-sizes g l p w = record {
       left-size = l ∙ given .figures .left-size;
-      lower-size = o ∙ given .figures .lower-size;
       pcapmins-size = p ∙ sums .pcapmins-size;
-      asked-size = a ∙ sums .asked-size;
+      wholes-size = w ∙ sums .wholes-size;
       amounts-size = given .figures .amounts-size;
       before-size = given .figures .before-size;
       dealt-size = given .figures .dealt-size;
     }
 
-    module _ {rows₁ : List (List ℕ)} {left₁ lower₁ pcapmins₂ asked₂ : List ℕ} (sizes : NodeFigures (length parents) left₁ lower₁ pcapmins₂ asked₂ amounts before dealt)
-        (g : Gathered parents level left lower pcapmins₁ asked₁ rows left₁ lower₁ pcapmins₂ asked₂ rows₁) where
+    module _ {rows₁ : List (List ℕ)} {left₁ pcapmins₂ wholes₂ : List ℕ} (sizes : NodeFigures (length parents) left₁ pcapmins₂ wholes₂ amounts before dealt)
+        (g : Gathered parents level left pcapmins₁ wholes₁ rows left₁ pcapmins₂ wholes₂ rows₁) where
       -- What `deal_nodes` asks.
-      pub nodes-sizes : (length pcapmins₂ ≡ length parents) × (length asked₂ ≡ length parents) × (length amounts ≡ length parents) × (length before ≡ length parents) × (length dealt ≡ length parents)
-      nodes-sizes = (sizes .pcapmins-size, sizes .asked-size, sizes .amounts-size, sizes .before-size, sizes .dealt-size)
+      pub nodes-sizes : (length pcapmins₂ ≡ length parents) × (length wholes₂ ≡ length parents) × (length amounts ≡ length parents) × (length before ≡ length parents) × (length dealt ≡ length parents)
+      nodes-sizes = (sizes .pcapmins-size, sizes .wholes-size, sizes .amounts-size, sizes .before-size, sizes .dealt-size)
 
-      pub nodes-room : (n : ℕ) → n < length parents → (at pcapmins₂ n ≤ cell rows₁ n level) × (cell rows₁ n level ≤ mostWatts) × (at pcapmins₂ n ≤ at asked₂ n)
-          × (at asked₂ n ≤ mostCords * mostWatts) × (overChildren parents (weightOf rows₁ level pcapmins₂) n ≤ wholeOf pcapmins₂ asked₂ n)
+      pub nodes-room : (n : ℕ) → n < length parents → (at pcapmins₂ n ≤ cell rows₁ n level) × (cell rows₁ n level ≤ mostWatts) × (weightOf rows₁ level pcapmins₂ n ≤ at wholes₂ n)
+          × (at wholes₂ n ≤ mostCords * mostWatts) × (overChildren parents (weightOf rows₁ level pcapmins₂) n ≤ at wholes₂ n)
       nodes-room =
-          nodes-ask parents limits nodes levels lows wants ns cs lw level left lower grants state pcapmins₁ asked₁ (sums .on-lows) (sums .on-wants) rows rows₁ left₁ lower₁ pcapmins₂ asked₂ g
+          nodes-ask parents limits nodes levels lows wants ns cs lw level left grants state pcapmins₁ wholes₁ (sums .on-lows) (sums .on-excesses) rows rows₁ left₁ pcapmins₂ wholes₂ g
 
       pub nodes-blank : (n : ℕ) → n < length parents → Absent active count n → cell rows₁ n level ≡ 0
       unfolding kids
       nodes-blank = down (length parents) (λ n. Absent active count n → cell rows₁ n level ≡ 0) (λ n l below none.
+          let child : (m : ℕ) → m < length parents → at parents m ≡ suc n → Absent active count m = λ m h e. given .nodes-active .closed m n h e none in
           omega (
             arith,
             g .request n l,
             g .children n l,
+            g .pcapmin n l,
             gather-idle n l none .1,
-            kids-none (length parents) (at parents) n (λ m. cell rows₁ m level) (λ m h e. below m h (omega (arith, ns .rises m h)) (given .nodes-active .closed m n h e none)),
+            beneath-none (given .nodes-active) (ns .rises) pcapmins₁ (λ m h away. gather-idle m h away .0) n l none,
+            kids-none (length parents) (at parents) n (weightOf rows₁ level pcapmins₂) (λ m h e. omega (arith, below m h (omega (arith, ns .rises m h)) (child m h e))),
           ))
 
       -- The lists after it.
-      pub dealt-sizes : {amounts₁ before₁ dealt₁ : List ℕ} → NodesDealt parents level rows₁ pcapmins₂ asked₂ amounts₁ before₁ dealt₁
+      pub dealt-sizes : {amounts₁ before₁ dealt₁ : List ℕ} → NodesDealt parents level rows₁ pcapmins₂ wholes₂ amounts₁ before₁ dealt₁
           → length amounts₁ ≡ length amounts → length before₁ ≡ length before → length dealt₁ ≡ length dealt
-          → NodeFigures (length parents) left₁ lower₁ pcapmins₂ asked₂ amounts₁ before₁ dealt₁
+          → NodeFigures (length parents) left₁ pcapmins₂ wholes₂ amounts₁ before₁ dealt₁
       dealt-sizes nd a b d = record {
         left-size = sizes .left-size;
-        lower-size = sizes .lower-size;
         pcapmins-size = sizes .pcapmins-size;
-        asked-size = sizes .asked-size;
+        wholes-size = sizes .wholes-size;
         amounts-size = a ∙ sizes .amounts-size;
         before-size = b ∙ sizes .before-size;
         dealt-size = d ∙ sizes .dealt-size;
       }
 
-      module _ {amounts₁ before₁ dealt₁ : List ℕ} (sizes₁ : NodeFigures (length parents) left₁ lower₁ pcapmins₂ asked₂ amounts₁ before₁ dealt₁)
-          (nd : NodesDealt parents level rows₁ pcapmins₂ asked₂ amounts₁ before₁ dealt₁) where
+      module _ {amounts₁ before₁ dealt₁ : List ℕ} (sizes₁ : NodeFigures (length parents) left₁ pcapmins₂ wholes₂ amounts₁ before₁ dealt₁)
+          (nd : NodesDealt parents level rows₁ pcapmins₂ wholes₂ amounts₁ before₁ dealt₁) where
         -- What `deal_cords` asks.
         pub cords-lists : CordLists (length amounts₁) nodes levels lows wants
         cords-lists = subst (λ (n : ℕ). CordLists n nodes levels lows wants) (sym (sizes₁ .amounts-size)) cs
 
-        pub cords-sizes : (length pcapmins₂ ≡ length amounts₁) × (length asked₂ ≡ length amounts₁) × (length before₁ ≡ length amounts₁) × (length dealt₁ ≡ length amounts₁) × (length grants ≡ length nodes)
+        pub cords-sizes : (length wholes₂ ≡ length amounts₁) × (length before₁ ≡ length amounts₁) × (length dealt₁ ≡ length amounts₁) × (length grants ≡ length nodes)
         cords-sizes = (
-          sizes₁ .pcapmins-size ∙ sym (sizes₁ .amounts-size),
-          sizes₁ .asked-size ∙ sym (sizes₁ .amounts-size),
+          sizes₁ .wholes-size ∙ sym (sizes₁ .amounts-size),
           sizes₁ .before-size ∙ sym (sizes₁ .amounts-size),
           sizes₁ .dealt-size ∙ sym (sizes₁ .amounts-size),
           given .lists .grants-size,
         )
 
-        pub cords-figures : (n : ℕ) → n < length amounts₁ → (at amounts₁ n ≤ mostWatts) × (at pcapmins₂ n ≤ at asked₂ n) × (at asked₂ n ≤ mostCords * mostWatts)
-            × (at dealt₁ n ≡ at amounts₁ n * at before₁ n / wholeOf pcapmins₂ asked₂ n)
+        pub cords-figures : (n : ℕ) → n < length amounts₁ → (at amounts₁ n ≤ mostWatts) × (at amounts₁ n ≤ at wholes₂ n) × (at wholes₂ n ≤ mostCords * mostWatts)
+            × (at dealt₁ n ≡ at amounts₁ n * at before₁ n / at wholes₂ n)
         cords-figures n l =
-            cords-ask parents limits nodes levels lows wants ns cs lw level left lower grants state pcapmins₁ asked₁ (sums .on-lows) (sums .on-wants) rows rows₁ left₁ lower₁ pcapmins₂ asked₂ g
+            cords-ask parents limits nodes levels lows wants ns cs lw level left grants state pcapmins₁ wholes₁ (sums .on-lows) (sums .on-excesses) rows rows₁ left₁ pcapmins₂ wholes₂ g
             amounts₁ before₁ dealt₁ nd n (omega (arith, sizes₁ .amounts-size))
 
-        pub cords-weights : (n : ℕ) → n < length amounts₁ → at before₁ n + cordsBefore nodes levels lows wants level n (length nodes) ≤ wholeOf pcapmins₂ asked₂ n
+        pub cords-weights : (n : ℕ) → n < length amounts₁ → at before₁ n + cordsBefore nodes levels lows wants level n (length nodes) ≤ at wholes₂ n
         cords-weights n l =
-            cords-room parents limits nodes levels lows wants ns cs lw level left lower grants state pcapmins₁ asked₁ (sums .on-lows) (sums .on-wants) rows rows₁ left₁ lower₁ pcapmins₂ asked₂ g
+            cords-room parents limits nodes levels lows wants ns cs lw level left grants state pcapmins₁ wholes₁ (sums .on-lows) (sums .on-excesses) rows rows₁ left₁ pcapmins₂ wholes₂ g
             amounts₁ before₁ dealt₁ nd n (omega (arith, sizes₁ .amounts-size))
 
         -- What the four leave.
-        pub rank-dealt : {grants₁ : List ℕ} → CordsDealt nodes levels lows wants level pcapmins₂ asked₂ amounts₁ before₁ grants grants₁
-            → RanksDealt (dealFrom parents limits nodes levels lows wants) level rows₁ left₁ lower₁ grants₁
+        pub rank-dealt : {grants₁ : List ℕ} → CordsDealt nodes levels lows wants level wholes₂ amounts₁ before₁ grants grants₁
+            → RanksDealt (dealFrom parents limits nodes levels lows wants) level rows₁ left₁ grants₁
         unfolding dealFrom request
         rank-dealt {grants₁} cd =
             ranks-dealt parents limits nodes levels lows wants ns cs lw
-            (state-turn parents limits nodes levels lows wants ns cs lw level left lower grants state pcapmins₁ asked₁ (sums .on-lows) (sums .on-wants) rows rows₁ left₁ lower₁ pcapmins₂ asked₂ g
+            (state-turn parents limits nodes levels lows wants ns cs lw level left grants state pcapmins₁ wholes₁ (sums .on-lows) (sums .on-excesses) rows rows₁ left₁ pcapmins₂ wholes₂ g
             amounts₁ before₁ dealt₁ nd grants₁ cd)
             filled (λ n j l. g .others n j (λ e. omega arith) ∙ given .ranks .blank n j (omega arith)) (g .full)
           where
@@ -219,19 +218,19 @@ module _ {parents limits nodes levels lows wants next : List ℕ} {level from : 
             filled n j l a b =
                 ⊎-elim
                 (λ e. subst (λ (k : ℕ). cell rows₁ n k ≡ request (dealFrom parents limits nodes levels lows wants) n k) e
-                (requests-are parents limits nodes levels lows wants ns cs lw level left lower grants state pcapmins₁ asked₁ (sums .on-lows) (sums .on-wants) rows rows₁ left₁ lower₁ pcapmins₂ asked₂ g n l))
+                (requests-are parents limits nodes levels lows wants ns cs lw level left grants state pcapmins₁ wholes₁ (sums .on-lows) (sums .on-excesses) rows rows₁ left₁ pcapmins₂ wholes₂ g n l))
                 (λ more. g .others n j (λ e. omega arith) ∙ given .ranks .filled n j l more b)
                 (eq-or-lt-of-le a)
 
 -- ---- The loop over the ranks
 
 -- Before the ranks below `above`.
-pub record RankLoop (parents limits nodes levels lows wants first next marks : List ℕ) (above : ℕ) (active : List ℕ) (rows : List (List ℕ)) (left lower pcapmins asked amounts before dealt grants : List ℕ) : Type 0 where
+pub record RankLoop (parents limits nodes levels lows wants first next marks : List ℕ) (above : ℕ) (active : List ℕ) (rows : List (List ℕ)) (left pcapmins wholes amounts before dealt grants : List ℕ) : Type 0 where
   pub lists : DealLists parents limits nodes levels lows wants (length grants)
   pub by-level : LevelLists parents nodes levels first next marks
   pub active-size : length active ≡ length parents
-  pub figures : NodeFigures (length parents) left lower pcapmins asked amounts before dealt
-  pub ranks : RanksDealt (dealFrom parents limits nodes levels lows wants) above rows left lower grants
+  pub figures : NodeFigures (length parents) left pcapmins wholes amounts before dealt
+  pub ranks : RanksDealt (dealFrom parents limits nodes levels lows wants) above rows left grants
 
 module _ {parents limits nodes levels lows wants : List ℕ} {grantCount : ℕ} (lists : DealLists parents limits nodes levels lows wants grantCount) where
   pub levels-rank : (c : ℕ) → c < length levels → at levels c < highestRank
@@ -247,26 +246,25 @@ module _ {parents limits nodes levels lows wants : List ℕ} {grantCount : ℕ} 
   lows-hang c l = (lists .of-cords .hangs c l, lists .of-cords .within c l, omega (arith, lists .of-cords .ordered c l, lists .of-cords .most c l))
 
   -- Before the first rank.
-  pub ranks-start : {rows : List (List ℕ)} {left lower : List ℕ} (grants : List ℕ) → FullRows rows → ((n j : ℕ) → cell rows n j ≡ 0) → left ≡ limits
-      → ((n : ℕ) → n < length parents → at lower n ≡ sum (length nodes) (λ c. on (beneath (at parents) (length parents) n (at nodes c)) (at lows c)))
-      → RanksDealt (dealFrom parents limits nodes levels lows wants) highestRank rows left lower grants
-  ranks-start grants full blank is sums =
+  pub ranks-start : {rows : List (List ℕ)} {left : List ℕ} (grants : List ℕ) → FullRows rows → ((n j : ℕ) → cell rows n j ≡ 0) → Spare parents limits nodes lows left
+      → RanksDealt (dealFrom parents limits nodes levels lows wants) highestRank rows left grants
+  ranks-start grants full blank spare =
       ranks-dealt parents limits nodes levels lows wants (lists .of-nodes) (lists .of-cords) (lists .lows-within)
-      (state-start parents limits nodes levels lows wants (lists .of-nodes) (lists .of-cords) (lists .lows-within) _ _ grants is sums) (λ n j l a b. absurd (omega arith)) (λ n j l. blank n j) full
+      (state-start parents limits nodes levels lows wants (lists .of-nodes) (lists .of-cords) (lists .lows-within) _ grants spare) (λ n j l a b. absurd (omega arith)) (λ n j l. blank n j) full
 
 -- A number above 0 is one more than the number before it.
 pub one-more : (n : ℕ) → 0 < n → n ≡ suc (n - 1)
 one-more n h = omega arith
 
-module _ {parents limits nodes levels lows wants first next marks : List ℕ} {above : ℕ} {active : List ℕ} {rows : List (List ℕ)} {left lower pcapmins asked amounts before dealt grants : List ℕ}
-    (inv : RankLoop parents limits nodes levels lows wants first next marks above active rows left lower pcapmins asked amounts before dealt grants) where
+module _ {parents limits nodes levels lows wants first next marks : List ℕ} {above : ℕ} {active : List ℕ} {rows : List (List ℕ)} {left pcapmins wholes amounts before dealt grants : List ℕ}
+    (inv : RankLoop parents limits nodes levels lows wants first next marks above active rows left pcapmins wholes amounts before dealt grants) where
   -- After the last rank.
   pub loop-end : above ≤ 0 → grants ≡ granted (dealFrom parents limits nodes levels lows wants)
   loop-end h =
       let z : above ≡ 0 = omega arith in
       let lists = inv .lists in
-      state-end parents limits nodes levels lows wants (lists .of-nodes) (lists .of-cords) (lists .lows-within) left lower grants (lists .grants-size)
-      (subst (λ (a : ℕ). State parents limits nodes levels lows wants (lists .of-nodes) (lists .of-cords) (lists .lows-within) a left lower grants) z
+      state-end parents limits nodes levels lows wants (lists .of-nodes) (lists .of-cords) (lists .lows-within) left grants (lists .grants-size)
+      (subst (λ (a : ℕ). State parents limits nodes levels lows wants (lists .of-nodes) (lists .of-cords) (lists .lows-within) a left grants) z
       (state-of parents limits nodes levels lows wants (lists .of-nodes) (lists .of-cords) (lists .lows-within) (inv .ranks)))
 
   -- The rows are then the Requests of all nodes.
@@ -282,11 +280,11 @@ module _ {parents limits nodes levels lows wants first next marks : List ℕ} {a
     unfolding dealFrom
     level-fits = omega (arith, inv .ranks .within)
 
-    at-level : RanksDealt (dealFrom parents limits nodes levels lows wants) (suc level) rows left lower grants
-    at-level = subst (λ (a : ℕ). RanksDealt (dealFrom parents limits nodes levels lows wants) a rows left lower grants) (one-more above some) (inv .ranks)
+    at-level : RanksDealt (dealFrom parents limits nodes levels lows wants) (suc level) rows left grants
+    at-level = subst (λ (a : ℕ). RanksDealt (dealFrom parents limits nodes levels lows wants) a rows left grants) (one-more above some) (inv .ranks)
 
     -- A rank that no cord has.
-    pub loop-skip : {from : ℕ} → from ≡ at first level → length nodes ≤ from → RankLoop parents limits nodes levels lows wants first next marks level active rows left lower pcapmins asked amounts before dealt grants
+    pub loop-skip : {from : ℕ} → from ≡ at first level → length nodes ≤ from → RankLoop parents limits nodes levels lows wants first next marks level active rows left pcapmins wholes amounts before dealt grants
     unfolding dealFrom request
     loop-skip is none =
         let lists = inv .lists in
@@ -301,7 +299,7 @@ module _ {parents limits nodes levels lows wants first next marks : List ℕ} {a
               let none : (c : ℕ) → c < length nodes → at levels c ≡ level → ⊥
               = λ c l. no-cord (inv .by-level .linked) level level-fits is (omega (arith, k .levels-size)) c (omega (arith, k .levels-size)) in
               ranks-dealt parents limits nodes levels lows wants n k (lists .lows-within)
-              (state-skip parents limits nodes levels lows wants n k (lists .lows-within) level left lower grants none
+              (state-skip parents limits nodes levels lows wants n k (lists .lows-within) level left grants none
               (state-of parents limits nodes levels lows wants n k (lists .lows-within) at-level))
               (filled-skip parents limits nodes levels lows wants n k (lists .lows-within) level rows level-fits none (at-level .blank) (at-level .filled))
               (λ m j l. inv .ranks .blank m j (omega arith)) (inv .ranks .full);
@@ -309,7 +307,7 @@ module _ {parents limits nodes levels lows wants first next marks : List ℕ} {a
 
     -- What one rank asks, once its nodes are listed.
     pub rank-lists : {from count : ℕ} {active₁ : List ℕ} → from ≡ at first level → Listed marks level active₁ count
-        → RankLists parents limits nodes levels lows wants next level from active₁ count rows left lower pcapmins asked amounts before dealt grants
+        → RankLists parents limits nodes levels lows wants next level from active₁ count rows left pcapmins wholes amounts before dealt grants
     rank-lists is listed = record {
       lists = inv .lists;
       chain = chain-of (inv .by-level .linked) level level-fits is;
@@ -320,19 +318,18 @@ module _ {parents limits nodes levels lows wants first next marks : List ℕ} {a
     }
 
     -- The next rank.
-    pub loop-turn : {active₁ : List ℕ} {rows₁ : List (List ℕ)} {left₁ lower₁ pcapmins₁ asked₁ amounts₁ before₁ dealt₁ grants₁ : List ℕ} → length active₁ ≡ length active
-        → length left₁ ≡ length left → length lower₁ ≡ length lower → length pcapmins₁ ≡ length pcapmins → length asked₁ ≡ length asked → length amounts₁ ≡ length amounts → length before₁ ≡ length before → length dealt₁ ≡ length dealt
-        → length grants₁ ≡ length grants → RanksDealt (dealFrom parents limits nodes levels lows wants) level rows₁ left₁ lower₁ grants₁
-        → RankLoop parents limits nodes levels lows wants first next marks level active₁ rows₁ left₁ lower₁ pcapmins₁ asked₁ amounts₁ before₁ dealt₁ grants₁
-    loop-turn v l o p a m b d g ranks = record {
+    pub loop-turn : {active₁ : List ℕ} {rows₁ : List (List ℕ)} {left₁ pcapmins₁ wholes₁ amounts₁ before₁ dealt₁ grants₁ : List ℕ} → length active₁ ≡ length active
+        → length left₁ ≡ length left → length pcapmins₁ ≡ length pcapmins → length wholes₁ ≡ length wholes → length amounts₁ ≡ length amounts → length before₁ ≡ length before → length dealt₁ ≡ length dealt
+        → length grants₁ ≡ length grants → RanksDealt (dealFrom parents limits nodes levels lows wants) level rows₁ left₁ grants₁
+        → RankLoop parents limits nodes levels lows wants first next marks level active₁ rows₁ left₁ pcapmins₁ wholes₁ amounts₁ before₁ dealt₁ grants₁
+    loop-turn v l p w m b d g ranks = record {
       lists = subst (DealLists parents limits nodes levels lows wants) (sym g) (inv .lists);
       by-level = inv .by-level;
       active-size = v ∙ inv .active-size;
       figures = record {
         left-size = l ∙ inv .figures .left-size;
-        lower-size = o ∙ inv .figures .lower-size;
         pcapmins-size = p ∙ inv .figures .pcapmins-size;
-        asked-size = a ∙ inv .figures .asked-size;
+        wholes-size = w ∙ inv .figures .wholes-size;
         amounts-size = m ∙ inv .figures .amounts-size;
         before-size = b ∙ inv .figures .before-size;
         dealt-size = d ∙ inv .figures .dealt-size;

@@ -21,9 +21,9 @@ use Rattle.deals.specs.Figures.{figures, at, cell}
 use Rattle.deals.specs.Metrics.{Deal, dealFrom, metrics, atLevel}
 use Rattle.deals.specs.Split.{part}
 use Rattle.deals.specs.Dealing.{granted, reached}
-use Rattle.deals.specs.Passes.{NodeLists, CordLists, LowsWithin, onNode, childrenBefore, overChildren, Gathered, weightOf, wholeOf, NodesDealt, cordsBefore, CordsDealt, FullRows, RanksDealt}
+use Rattle.deals.specs.Passes.{NodeLists, CordLists, lowsBeneath, LowsWithin, Spare, onNode, childrenBefore, overChildren, cordsBefore, weightOf, Gathered, NodesDealt, CordsDealt, FullRows, RanksDealt}
 use Rattle.deals.proofs.Lists.{sum-most, figures-length}
-use Rattle.deals.proofs.Equations.{Dealable, asked, weights, pcapmin-request, pcapmin-asked, request-asked, requests-left, pcapmin-all, weights-are}
+use Rattle.deals.proofs.Equations.{Dealable, asked, weights, request-asked, pcapmin-all, weights-are}
 use Rattle.deals.proofs.Computed.{pcapmin, request, amountOf, measured, dealt, granted-at}
 use Rattle.deals.proofs.Bounds.{asked-most, request-most}
 use Rattle.deals.proofs.NodeSums.{kids-none}
@@ -105,68 +105,71 @@ module _ (parents limits nodes levels lows wants : List ℕ) (ns : NodeLists par
   abbrev req : ℕ → ℕ → ℕ
   req = request theDeal
 
-  -- Before the ranks below `above`: what is left of each limit, the lows of the ranks to come, and the grants of the ranks dealt.
-  pub record State (above : ℕ) (left lower grants : List ℕ) : Type 0 where
+  -- Before the ranks below `above`: what the ranks dealt and the lows of those to come leave of each limit, and the grants dealt.
+  pub record State (above : ℕ) (left grants : List ℕ) : Type 0 where
     pub higher : ℕ
     pub sum-is : above + higher ≡ highestRank
-    pub left-is : (n : ℕ) → n < length parents → at left n + up higher above (req n) ≡ at limits n
-    pub lower-is : (n : ℕ) → n < length parents → at lower n ≡ sum above (pcap n)
+    pub left-is : (n : ℕ) → n < length parents → at left n + up higher above (req n) + sum above (pcap n) ≡ at limits n
     pub grants-are : (c : ℕ) → c < length nodes → above ≤ at levels c → at grants c ≡ at (granted theDeal) c
 
   -- The same, as the code's contracts have it.
-  pub state-of : {above : ℕ} {rows : List (List ℕ)} {left lower grants : List ℕ} → RanksDealt theDeal above rows left lower grants → State above left lower grants
+  pub state-of : {above : ℕ} {rows : List (List ℕ)} {left grants : List ℕ} → RanksDealt theDeal above rows left grants → State above left grants
   unfolding dealFrom pcapmin request
   state-of {above} s = record {
     higher = highestRank - above;
     sum-is = omega (arith, s .within);
     left-is = λ n l. omega (arith, s .left-is n l, sum-up (highestRank - above) above highestRank (req n) (omega (arith, s .within)));
-    lower-is = s .lower-is;
     grants-are = s .grants-are;
   }
 
-  pub ranks-dealt : {above : ℕ} {rows : List (List ℕ)} {left lower grants : List ℕ} → State above left lower grants
+  pub ranks-dealt : {above : ℕ} {rows : List (List ℕ)} {left grants : List ℕ} → State above left grants
       → ((n j : ℕ) → n < length parents → above ≤ j → j < highestRank → cell rows n j ≡ req n j) → ((n j : ℕ) → j < above → cell rows n j ≡ 0) → FullRows rows
-      → RanksDealt theDeal above rows left lower grants
+      → RanksDealt theDeal above rows left grants
   unfolding dealFrom pcapmin request
   ranks-dealt {above} s filled blank full = record {
     filled = filled;
     within = omega (arith, s .sum-is);
     left-is = λ n l. omega (arith, s .left-is n l, sum-up (s .higher) above highestRank (req n) (s .sum-is));
-    lower-is = s .lower-is;
     grants-are = s .grants-are;
     blank = blank;
     full = full;
   }
 
   -- Before the first rank.
-  pub state-start : (left lower grants : List ℕ) → left ≡ limits
-      → ((n : ℕ) → n < length parents → at lower n ≡ sum (length nodes) (λ c. on (beneath (at parents) (length parents) n (at nodes c)) (at lows c)))
-      → State highestRank left lower grants
+  pub state-start : (left grants : List ℕ) → Spare parents limits nodes lows left → State highestRank left grants
   unfolding dealFrom under up
-  state-start left lower grants el es = record {
+  state-start left grants spare = record {
     higher = 0;
     sum-is = omega arith;
-    left-is = λ n l. omega (arith, ap (λ (z : List ℕ). at z n) el);
-    lower-is = λ n l. es n l ∙ under-is (length parents) (at parents) (ns .rises) (length nodes) (at nodes) (cs .within) n (at lows)
-        ∙ sym (pcapmin-all theDeal dealable (pcapmin theDeal) (request theDeal) (measured theDeal dealable) n l);
+    left-is = λ n l.
+        let e : lowsBeneath parents nodes lows n ≡ sum highestRank (pcap n)
+        = under-is (length parents) (at parents) (ns .rises) (length nodes) (at nodes) (cs .within) n (at lows)
+        ∙ sym (pcapmin-all theDeal dealable (pcapmin theDeal) (request theDeal) (measured theDeal dealable) n l) in
+        omega (arith, spare .over n l);
     grants-are = λ c l h. absurd (omega (arith, cs .ranked c l));
   }
 
   -- After the last.
-  pub state-end : (left lower grants : List ℕ) → length grants ≡ length nodes → State 0 left lower grants → grants ≡ granted theDeal
+  pub state-end : (left grants : List ℕ) → length grants ≡ length nodes → State 0 left grants → grants ≡ granted theDeal
   unfolding dealFrom granted
-  state-end left lower grants size s =
+  state-end left grants size s =
       ext-getD 0 grants (granted theDeal) (size ∙ sym (figures-length (length nodes) _)) (λ c l. s .grants-are c (omega arith) (omega arith))
 
   -- ---- A level that no cord has
 
-  pub state-skip : (j : ℕ) (left lower grants : List ℕ) → ((c : ℕ) → c < length nodes → at levels c ≡ j → ⊥) → State (suc j) left lower grants → State j left lower grants
+  pub state-skip : (j : ℕ) (left grants : List ℕ) → ((c : ℕ) → c < length nodes → at levels c ≡ j → ⊥) → State (suc j) left grants → State j left grants
   unfolding dealFrom
-  state-skip j left lower grants none s = record {
+  state-skip j left grants none s = record {
     higher = suc (s .higher);
     sum-is = omega (arith, s .sum-is);
-    left-is = λ n l. omega (arith, s .left-is n l, up-suc (s .higher) j (req n), request-none theDeal dealable j (omega (arith, s .sum-is)) none n l);
-    lower-is = λ n l. omega (arith, s .lower-is n l, sum-suc j (pcap n), pcapmin-none theDeal dealable j (omega (arith, s .sum-is)) none n l);
+    left-is = λ n l. omega (
+      arith,
+      s .left-is n l,
+      up-suc (s .higher) j (req n),
+      sum-suc j (pcap n),
+      request-none theDeal dealable j (omega (arith, s .sum-is)) none n l,
+      pcapmin-none theDeal dealable j (omega (arith, s .sum-is)) none n l,
+    );
     grants-are = λ c l h. go c l (eqb (at levels c) j) refl h;
   }
     where
@@ -186,9 +189,9 @@ module _ (parents limits nodes levels lows wants : List ℕ) (ns : NodeLists par
 
   -- ---- A level that some cord has: what its passes ask, and what they leave
 
-  module _ (j : ℕ) (left lower grants : List ℕ) (s : State (suc j) left lower grants) (pcapmins₀ asked₀ : List ℕ)
+  module _ (j : ℕ) (left grants : List ℕ) (s : State (suc j) left grants) (pcapmins₀ excesses : List ℕ)
       (own-lows : (n : ℕ) → n < length parents → at pcapmins₀ n ≡ onNode nodes levels lows j n)
-      (own-wants : (n : ℕ) → n < length parents → at asked₀ n ≡ onNode nodes levels wants j n) where
+      (own-excesses : (n : ℕ) → n < length parents → at excesses n ≡ cordsBefore nodes levels lows wants j n (length nodes)) where
     level-fits : j < highestRank
     level-fits = omega (arith, s .sum-is)
 
@@ -208,11 +211,13 @@ module _ (parents limits nodes levels lows wants : List ℕ) (ns : NodeLists par
         le-trans (le-of-eq (sum-cong (length parents) _ _ own-lows))
         (le-trans (own-sum theDeal dealable (atLevel theDeal j (at lows)) mostWatts (level-most (at lows) (λ c l. le-trans (cs .ordered c l) (cs .most c l)))) cords-most)
 
-    pub wants-sum : sum (length parents) (at asked₀) ≤ mostCords * mostWatts
+    pub excesses-sum : sum (length parents) (at excesses) ≤ mostCords * mostWatts
     unfolding dealFrom own
-    wants-sum =
-        le-trans (le-of-eq (sum-cong (length parents) _ _ own-wants))
-        (le-trans (own-sum theDeal dealable (atLevel theDeal j (at wants)) mostWatts (level-most (at wants) (cs .most))) cords-most)
+    excesses-sum =
+        le-trans (le-of-eq (sum-cong (length parents) _ _ own-excesses))
+        (le-trans
+        (own-sum theDeal dealable (atLevel theDeal j (λ c. at wants c - at lows c)) mostWatts (level-most (λ c. at wants c - at lows c) (λ c l. omega (arith, cs .most c l))))
+        cords-most)
 
     beneath-is : (n : ℕ) → n < length parents → sumBeneath (at parents) (length parents) (at pcapmins₀) n ≡ pcap n j
     unfolding dealFrom own sumBeneath
@@ -220,77 +225,62 @@ module _ (parents limits nodes levels lows wants : List ℕ) (ns : NodeLists par
         sum-cong (length parents) _ _ (λ m h. ap (λ (z : ℕ). on (beneath (at parents) (length parents) n (suc m)) z) (own-lows m h))
         ∙ sym (pcapmin-beneath theDeal dealable j level-fits n l)
 
-    left-over : (n : ℕ) → n < length parents → sum j (pcap n) + up (s .higher) (suc j) (req n) ≤ at limits n
-    unfolding dealFrom
-    left-over n l = requests-left theDeal dealable (pcapmin theDeal) (request theDeal) (measured theDeal dealable) n l (s .higher) j (s .sum-is)
+    pub gather-asks : (n : ℕ) → n < length parents → at left n + sumBeneath (at parents) (length parents) (at pcapmins₀) n ≤ mostWatts
+    gather-asks n l = omega (arith, beneath-is n l, s .left-is n l, sum-suc j (pcap n), ns .most n l)
 
-    pub gather-asks : (n : ℕ) → n < length parents → (at left n ≤ mostWatts) × (sumBeneath (at parents) (length parents) (at pcapmins₀) n ≤ at lower n)
-        × (at lower n ≤ at left n + sumBeneath (at parents) (length parents) (at pcapmins₀) n)
-    gather-asks n l =
-        let b = beneath-is n l in
-        let lo : at lower n ≡ sum j (pcap n) + pcap n j = s .lower-is n l ∙ sum-suc j (pcap n) in
-        let le = s .left-is n l in
-        let o = left-over n l in
-        (omega (arith, ns .most n l), omega arith, omega arith)
-
-    module _ (rows rows′ : List (List ℕ)) (left′ lower′ pcapmins asks : List ℕ) (g : Gathered parents j left lower pcapmins₀ asked₀ rows left′ lower′ pcapmins asks rows′) where
+    module _ (rows rows′ : List (List ℕ)) (left′ pcapmins wholes : List ℕ) (g : Gathered parents j left pcapmins₀ excesses rows left′ pcapmins wholes rows′) where
       pcapmins-are : (n : ℕ) → n < length parents → at pcapmins n ≡ pcap n j
       pcapmins-are n l = g .pcapmin n l ∙ beneath-is n l
 
-      asks-by : (n : ℕ) → n < length parents → ((m : ℕ) → m < length parents → n < m → cell rows′ m j ≡ req m j) → at asks n ≡ asked theDeal req n j
-      unfolding dealFrom asked kids own
-      asks-by n l ih =
-          let c : overChildren parents (λ m. cell rows′ m j) n ≡ overChildren parents (λ m. req m j) n
-          = kids-same n (λ m lm q. ih m lm (subst (λ (z : ℕ). z ≤ m) q (ns .rises m lm))) in
-          omega (arith, g .children n l, own-wants n l)
-        where
-          kids-same : (n : ℕ) → ((m : ℕ) → m < length parents → at parents m ≡ suc n → cell rows′ m j ≡ req m j)
-              → overChildren parents (λ m. cell rows′ m j) n ≡ overChildren parents (λ m. req m j) n
-          kids-same n h = kids-cong (length parents) (at parents) n _ _ h
+      -- The children's excesses, once those of the child nodes are the deal's.
+      whole-by : (n : ℕ) → n < length parents → ((m : ℕ) → m < length parents → n < m → cell rows′ m j ≡ req m j) → at wholes n ≡ weights theDeal pcap req n j
+      unfolding dealFrom weights kids own
+      whole-by n l ih =
+          let c : overChildren parents (weightOf rows′ j pcapmins) n ≡ overChildren parents (λ m. req m j - pcap m j) n
+          = kids-cong (length parents) (at parents) n _ _ (λ m lm q. ap₂ _-_ (ih m lm (subst (λ (z : ℕ). z ≤ m) q (ns .rises m lm))) (pcapmins-are m lm)) in
+          omega (arith, g .children n l, own-excesses n l)
 
+      asked-is : (n : ℕ) → n < length parents → weights theDeal pcap req n j + pcap n j ≡ asked theDeal req n j
+      unfolding dealFrom
+      asked-is n l = weights-are theDeal dealable (pcapmin theDeal) (request theDeal) (measured theDeal dealable) (amountOf theDeal) (reached theDeal (metrics theDeal)) (dealt theDeal dealable) n j l level-fits
+
+      -- The lesser of two sums with Pcapmin is Pcapmin and the lesser of the two.
       pub requests-are : (n : ℕ) → n < length parents → cell rows′ n j ≡ req n j
       unfolding dealFrom
       requests-are = down (length parents) (λ n. cell rows′ n j ≡ req n j) (λ n l ih.
-          let a : at asks n ≡ asked theDeal req n j = asks-by n l ih in
-          let lo : at lower n ≡ sum j (pcap n) + pcap n j = s .lower-is n l ∙ sum-suc j (pcap n) in
-          let b : at left n - (at lower n - at pcapmins n) ≡ at limits n - up (s .higher) (suc j) (req n) - sum j (pcap n)
-          = omega (arith, pcapmins-are n l, s .left-is n l) in
-          g .request n l ∙ ap₂ min b a ∙ sym (measured theDeal dealable .request n l (s .higher) j (s .sum-is)))
-
-      asks-are : (n : ℕ) → n < length parents → at asks n ≡ asked theDeal req n j
-      asks-are n l = asks-by n l (λ m lm q. requests-are m lm)
+          omega (
+            arith,
+            g .request n l,
+            pcapmins-are n l,
+            whole-by n l ih,
+            asked-is n l,
+            s .left-is n l,
+            sum-suc j (pcap n),
+            measured theDeal dealable .request n l (s .higher) j (s .sum-is),
+          ))
 
       weight-is : (n : ℕ) → n < length parents → weightOf rows′ j pcapmins n ≡ req n j - pcap n j
       weight-is n l = ap₂ _-_ (requests-are n l) (pcapmins-are n l)
 
-      whole-is : (n : ℕ) → n < length parents → wholeOf pcapmins asks n ≡ weights theDeal pcap req n j
-      unfolding dealFrom
-      whole-is n l =
-          let w = weights-are theDeal dealable (pcapmin theDeal) (request theDeal) (measured theDeal dealable) (amountOf theDeal) (reached theDeal (metrics theDeal)) (dealt theDeal dealable) n j l level-fits in
-          omega (arith, asks-are n l, pcapmins-are n l)
+      whole-is : (n : ℕ) → n < length parents → at wholes n ≡ weights theDeal pcap req n j
+      whole-is n l = whole-by n l (λ m lm q. requests-are m lm)
 
       children-is : (n m : ℕ) → m ≤ length parents → childrenBefore parents (weightOf rows′ j pcapmins) n m ≡ sum m (λ h. on (eqb (at parents h) (suc n)) (req h j - pcap h j))
       children-is n m h = sum-cong m _ _ (λ i l. ap (λ (z : ℕ). on (eqb (at parents i) (suc n)) z) (weight-is i (omega arith)))
 
-      pub nodes-ask : (n : ℕ) → n < length parents → (at pcapmins n ≤ cell rows′ n j) × (cell rows′ n j ≤ mostWatts) × (at pcapmins n ≤ at asks n)
-          × (at asks n ≤ mostCords * mostWatts) × (overChildren parents (weightOf rows′ j pcapmins) n ≤ wholeOf pcapmins asks n)
-      unfolding dealFrom weights kids request
+      pub nodes-ask : (n : ℕ) → n < length parents → (at pcapmins n ≤ cell rows′ n j) × (cell rows′ n j ≤ mostWatts) × (weightOf rows′ j pcapmins n ≤ at wholes n)
+          × (at wholes n ≤ mostCords * mostWatts) × (overChildren parents (weightOf rows′ j pcapmins) n ≤ at wholes n)
+      unfolding dealFrom request
       nodes-ask n l =
-          let p = pcapmins-are n l in
           let r = requests-are n l in
-          let a = asks-are n l in
-          let pr : pcap n j ≤ req n j = pcapmin-request theDeal dealable (pcapmin theDeal) (request theDeal) (measured theDeal dealable) n l j level-fits in
-          let pa : pcap n j ≤ asked theDeal req n j = pcapmin-asked theDeal dealable (pcapmin theDeal) (request theDeal) (measured theDeal dealable) n l j level-fits in
-          let rm : req n j ≤ mostWatts = request-small n l in
+          let rm : req n j ≤ mostWatts = request-most theDeal dealable (cs .few) (ns .most) (cs .most) n j l level-fits in
           let am : asked theDeal req n j ≤ mostCords * mostWatts = asked-most theDeal dealable (cs .few) (ns .most) (cs .most) n j l level-fits in
           let w = whole-is n l in
-          let c = children-is n (length parents) (le-refl (length parents)) in
-          (omega arith, omega arith, omega arith, omega arith, omega arith)
-        where
-          request-small : (n : ℕ) → n < length parents → req n j ≤ mostWatts
-          request-small n l = request-most theDeal dealable (cs .few) (ns .most) (cs .most) n j l level-fits
+          let a = asked-is n l in
+          let q = g .request n l in
+          (omega arith, omega arith, omega arith, omega arith, omega (arith, g .children n l))
 
-      module _ (amounts before dealts : List ℕ) (nd : NodesDealt parents j rows′ pcapmins asks amounts before dealts) where
+      module _ (amounts before dealts : List ℕ) (nd : NodesDealt parents j rows′ pcapmins wholes amounts before dealts) where
         amounts-are : (m : ℕ) → m < length parents → at amounts m ≡ amountOf theDeal m j
         unfolding dealFrom
         amounts-are = rise (length parents) (λ m. at amounts m ≡ amountOf theDeal m j) (λ m l ih. go m l ih (at parents m) refl)
@@ -300,8 +290,8 @@ module _ (parents limits nodes levels lows wants : List ℕ) (ns : NodeLists par
             go m l ih (suc n) e =
                 let u : n < m = subst (λ (z : ℕ). z ≤ m) e (ns .rises m l) in
                 nd .inner m n l e
-                ∙ ap (λ (z : ℕ). part (at amounts n) (wholeOf pcapmins asks n) (childrenBefore parents (weightOf rows′ j pcapmins) n m) z) (weight-is m l)
-                ∙ ap (λ (z : ℕ). part (at amounts n) (wholeOf pcapmins asks n) z (req m j - pcap m j)) (children-is n m (omega arith))
+                ∙ ap (λ (z : ℕ). part (at amounts n) (at wholes n) (childrenBefore parents (weightOf rows′ j pcapmins) n m) z) (weight-is m l)
+                ∙ ap (λ (z : ℕ). part (at amounts n) (at wholes n) z (req m j - pcap m j)) (children-is n m (omega arith))
                 ∙ ap₂ (λ (x w : ℕ). part x w (sum m (λ h. on (eqb (at parents h) (suc n)) (req h j - pcap h j))) (req m j - pcap m j)) (ih n u) (whole-is n (omega arith))
                 ∙ sym (dealt theDeal dealable .inner m n j l e)
 
@@ -309,11 +299,13 @@ module _ (parents limits nodes levels lows wants : List ℕ) (ns : NodeLists par
         unfolding kids
         served-is n l = nd .served n l ∙ children-is n (length parents) (le-refl (length parents))
 
-        pub cords-ask : (n : ℕ) → n < length parents → (at amounts n ≤ mostWatts) × (at pcapmins n ≤ at asks n) × (at asks n ≤ mostCords * mostWatts)
-            × (at dealts n ≡ at amounts n * at before n / wholeOf pcapmins asks n)
-        cords-ask n l = (nd .most n l, nodes-ask n l .2, nodes-ask n l .3, nd .dealt-is n l)
+        pub cords-ask : (n : ℕ) → n < length parents → (at amounts n ≤ mostWatts) × (at amounts n ≤ at wholes n) × (at wholes n ≤ mostCords * mostWatts)
+            × (at dealts n ≡ at amounts n * at before n / at wholes n)
+        cords-ask n l =
+            let asks = nodes-ask n l in
+            (omega (arith, nd .most n l, asks .1), omega (arith, nd .most n l, asks .2), asks .3, nd .dealt-is n l)
 
-        pub cords-room : (n : ℕ) → n < length parents → at before n + cordsBefore nodes levels lows wants j n (length nodes) ≤ wholeOf pcapmins asks n
+        pub cords-room : (n : ℕ) → n < length parents → at before n + cordsBefore nodes levels lows wants j n (length nodes) ≤ at wholes n
         unfolding dealFrom weights own
         cords-room n l = omega (arith, served-is n l, whole-is n l)
 
@@ -330,24 +322,25 @@ module _ (parents limits nodes levels lows wants : List ℕ) (ns : NodeLists par
             (kids (length parents) (at parents) n (λ m. req m i - pcap m i) + cordsBefore nodes levels lows wants i n c) (at wants c - at lows c)) e
             (dealt theDeal dealable .leaf c n l q)
 
-        module _ (grants′ : List ℕ) (cd : CordsDealt nodes levels lows wants j pcapmins asks amounts before grants grants′) where
-          pub state-turn : State j left′ lower′ grants′
+        module _ (grants′ : List ℕ) (cd : CordsDealt nodes levels lows wants j wholes amounts before grants grants′) where
+          pub state-turn : State j left′ grants′
           unfolding dealFrom kids
           state-turn = record {
             higher = suc (s .higher);
             sum-is = omega (arith, s .sum-is);
-            left-is = λ n l.
-                let r = requests-are n l in
-                let o = left-over n l in
-                let q : req n j ≤ at left n = request-left n l in
-                omega (arith, g .left-is n l, s .left-is n l, up-suc (s .higher) j (req n));
-            lower-is = λ n l. omega (arith, g .lower-is n l, pcapmins-are n l, s .lower-is n l, sum-suc j (pcap n));
+            left-is = λ n l. omega (
+              arith,
+              g .left-is n l,
+              g .request n l,
+              requests-are n l,
+              pcapmins-are n l,
+              s .left-is n l,
+              up-suc (s .higher) j (req n),
+              sum-suc j (pcap n),
+            );
             grants-are = λ c l h. go c l (eqb (at levels c) j) refl h (at nodes c) refl;
           }
             where
-              request-left : (n : ℕ) → n < length parents → req n j ≤ at left n
-              request-left n l = omega (arith, sym (requests-are n l), g .request n l)
-
               go : (c : ℕ) → c < length nodes → (t : Bool) → eqb (at levels c) j ≡ t → j ≤ at levels c → (v : ℕ) → at nodes c ≡ v → at grants′ c ≡ at (granted theDeal) c
               go c l false e h v q =
                   let ne : at levels c ≡ j → ⊥ = eqb-false (at levels c) j e in

@@ -4,7 +4,7 @@ use mathlib.Core.Logic.{_⊎_, inl, inr}
 use mathlib.Core.Bool.{Bool, true, false}
 use mathlib.Core.List.{List}
 use Prim.Native.Nat.{ℕ, suc, _+_, _*_, _-_, _/_, _^_, _≤_, _<_}
-use native.Mathlib.Nat.{mul-zero, zero-div, div-zero, mul-div-cancel, mul-le-mul, mul-le-mul-left, eq-zero-or-pos, lt-of-le-of-lt}
+use native.Mathlib.Nat.{mul-zero, sub-zero, zero-div, div-zero, mul-div-cancel, mul-le-mul, mul-le-mul-left, eq-zero-or-pos, lt-of-le-of-lt}
 use native.Mathlib.Omega.{arith}
 use lib.Dec.{eqb, lit<}
 use lib.ListN.{length, set, replicate, length-set, length-replicate, getD-replicate}
@@ -15,7 +15,7 @@ use Rattle.rooms.specs.Table.{mostWatts, mostCords}
 use Rattle.rooms.proofs.Sums.{on-yes, on-no, sum-suc, sum-up}
 use Rattle.deals.specs.Figures.{at}
 use Rattle.deals.specs.Split.{part}
-use Rattle.deals.proofs.Splits.{div-mono, part-none}
+use Rattle.deals.proofs.Splits.{div-mono, part-none, part-whole}
 
 -- ---- One child
 
@@ -30,7 +30,7 @@ part-le-amount x e c d h = go (eq-zero-or-pos e)
 -- What `serve` asks and what it leaves, of an amount x, a whole weight e and a child of weight w.
 abbrev pub MayServe : ℕ → ℕ → ℕ → ℕ → List ℕ → List ℕ → Type 0
 MayServe x e w p before dealt =
-    ((p < length before) × (p < length dealt) × (at before p + w ≤ e) × (x * e < 2 ^ 64) × (e < 2 ^ 63)) × (at dealt p ≡ x * at before p / e)
+    ((p < length before) × (p < length dealt) × (at before p + w ≤ e) × (x ≤ e) × (x * e < 2 ^ 64) × (e < 2 ^ 63)) × (at dealt p ≡ x * at before p / e)
 
 abbrev pub HasServed : ℕ → ℕ → ℕ → ℕ → List ℕ → List ℕ → ℕ → List ℕ → List ℕ → Type 0
 HasServed x e w p before dealt watts before′ dealt′ =
@@ -47,6 +47,19 @@ serve-none x e w p before dealt dealt-is z =
       ),
     )
 
+-- Nothing is dealt where nothing was served.
+dealt-none : (x e b : ℕ) → b ≡ 0 → x * b / e ≡ 0
+dealt-none x e b z = ap (λ (y : ℕ). x * y / e) z ∙ ap (λ (y : ℕ). y / e) (mul-zero x) ∙ zero-div e
+
+-- A child with all the weight gets all.
+pub serve-all : (x e w p : ℕ) (before dealt : List ℕ) → at before p + w ≤ e → x ≤ e → w ≡ e → HasServed x e w p before dealt x (set before p w) (set dealt p x)
+unfolding part
+serve-all x e w p before dealt room h z =
+    let all : x * (at before p + w) / e ≡ x = ap (λ (y : ℕ). x * y / e) (let s : at before p + w ≡ e = omega arith in s) ∙ part-whole x e h in (
+      sym (ap₂ _-_ all (dealt-none x e (at before p) (omega arith)) ∙ sub-zero x),
+      (ap (set before p) (omega arith), ap (set dealt p) (sym all)),
+    )
+
 -- A child of any weight: the watts dealt grow by its part.
 pub serve-some : (x e w p : ℕ) (before dealt : List ℕ) {watts given : ℕ} → at dealt p ≡ x * at before p / e → watts ≡ x * (at before p + w) / e → given ≡ watts - at dealt p
     → HasServed x e w p before dealt given (set before p (at before p + w)) (set dealt p watts)
@@ -61,10 +74,6 @@ pub record Served (count : ℕ) (whole : ℕ → ℕ) (amounts : List ℕ) (weig
   pub dealt-size : length dealt ≡ count
   pub before-is : (n : ℕ) → n < count → at before n ≡ weights n
   pub dealt-is : (n : ℕ) → n < count → at dealt n ≡ at amounts n * at before n / whole n
-
--- Nothing is dealt where nothing was served.
-dealt-none : (x e b : ℕ) → b ≡ 0 → x * b / e ≡ 0
-dealt-none x e b z = ap (λ (y : ℕ). x * y / e) z ∙ ap (λ (y : ℕ). y / e) (mul-zero x) ∙ zero-div e
 
 pub cleared-at : (l₀ l : List ℕ) (n : ℕ) → l ≡ replicate (length l₀) 0 → n < length l₀ → at l n ≡ 0
 cleared-at l₀ l n e h = ap (λ (k : List ℕ). at k n) e ∙ getD-replicate (length l₀) n 0 0 h
@@ -117,12 +126,13 @@ module _ {count : ℕ} {whole : ℕ → ℕ} {amounts : List ℕ} {weights : ℕ
   -- The next child of the node at place p.
   module _ (p w : ℕ) (within : p < count) where
     -- What `serve` asks.
-    pub may-serve : weights p + w ≤ whole p → at amounts p ≤ mostWatts → whole p ≤ mostCords * mostWatts → MayServe (at amounts p) (whole p) w p before dealt
-    may-serve room most few = (
+    pub may-serve : weights p + w ≤ whole p → at amounts p ≤ whole p → at amounts p ≤ mostWatts → whole p ≤ mostCords * mostWatts → MayServe (at amounts p) (whole p) w p before dealt
+    may-serve room inside most few = (
       (
         omega (arith, is .before-size),
         omega (arith, is .dealt-size),
         omega (arith, is .before-is p within),
+        inside,
         lt-of-le-of-lt (mul-le-mul most few) (lit< tt),
         lt-of-le-of-lt few (lit< tt),
       ),

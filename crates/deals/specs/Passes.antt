@@ -41,10 +41,18 @@ pub record NodeLists (parents limits : List ℕ) : Type 0 where
   pub rises : (m : ℕ) → m < length parents → at parents m ≤ m
   pub most : (m : ℕ) → m < length parents → at limits m ≤ mostWatts
 
--- No node whose limit the lows beneath it exceed.
+-- The lows of all cords beneath the node at place n, at any depth.
+abbrev pub lowsBeneath : List ℕ → List ℕ → List ℕ → ℕ → ℕ
+lowsBeneath parents nodes lows n = sum (length nodes) (λ c. on (beneath (at parents) (length parents) n (at nodes c)) (at lows c))
+
+-- No node whose limit they exceed.
 abbrev pub LowsWithin : List ℕ → List ℕ → List ℕ → List ℕ → Type 0
-LowsWithin parents limits nodes lows =
-    (n : ℕ) → n < length parents → sum (length nodes) (λ c. on (beneath (at parents) (length parents) n (at nodes c)) (at lows c)) ≤ at limits n
+LowsWithin parents limits nodes lows = (n : ℕ) → n < length parents → lowsBeneath parents nodes lows n ≤ at limits n
+
+-- What each node's limit has over them.
+pub record Spare (parents limits nodes lows spare : List ℕ) : Type 0 where
+  pub size : length spare ≡ length parents
+  pub over : (n : ℕ) → n < length parents → at spare n + lowsBeneath parents nodes lows n ≡ at limits n
 
 -- What a deal asks of its lists, the grants' among them.
 pub record DealLists (parents limits nodes levels lows wants : List ℕ) (grantCount : ℕ) : Type 0 where
@@ -122,11 +130,10 @@ CordsActive nodes levels level active count = (c n : ℕ) → c < length nodes �
 -- ---- Lists that are lent, and what they hold of a room
 
 -- Lists of one figure a node.
-pub record NodeFigures (nodeCount : ℕ) (left lower pcapmins asked amounts before dealt : List ℕ) : Type 0 where
+pub record NodeFigures (nodeCount : ℕ) (left pcapmins wholes amounts before dealt : List ℕ) : Type 0 where
   pub left-size : length left ≡ nodeCount
-  pub lower-size : length lower ≡ nodeCount
   pub pcapmins-size : length pcapmins ≡ nodeCount
-  pub asked-size : length asked ≡ nodeCount
+  pub wholes-size : length wholes ≡ nodeCount
   pub amounts-size : length amounts ≡ nodeCount
   pub before-size : length before ≡ nodeCount
   pub dealt-size : length dealt ≡ nodeCount
@@ -224,71 +231,66 @@ childrenBefore parents figure n m = sum m (λ h. on (eqb (at parents h) (suc n))
 abbrev pub overChildren : List ℕ → (ℕ → ℕ) → ℕ → ℕ
 overChildren parents figure n = childrenBefore parents figure n (length parents)
 
--- ---- Gathering a rank from the last node to the first
-
--- From what is left of each limit, the Pcapmin of this rank and those below, and the cords' lows and wants on each node: the
--- Pcapmin and the children's Requests at this rank, the Requests in their column of the rows, and what is left for the next.
-pub record Gathered (parents : List ℕ) (level : ℕ) (left lower lows wants : List ℕ) (rows : List (List ℕ)) (left′ lower′ pcapmins asked : List ℕ) (rows′ : List (List ℕ)) : Type 0 where
-  pub pcapmin : (n : ℕ) → n < length parents → at pcapmins n ≡ sumBeneath (at parents) (length parents) (at lows) n
-  pub children : (n : ℕ) → n < length parents → at asked n ≡ at wants n + overChildren parents (λ m. cell rows′ m level) n
-  pub request : (n : ℕ) → n < length parents → cell rows′ n level ≡ min (at left n - (at lower n - at pcapmins n)) (at asked n)
-  pub others : (n j : ℕ) → (j ≡ level → ⊥) → cell rows′ n j ≡ cell rows n j
-  pub left-is : (n : ℕ) → n < length parents → at left′ n ≡ at left n - cell rows′ n level
-  pub lower-is : (n : ℕ) → n < length parents → at lower′ n ≡ at lower n - at pcapmins n
-  pub full : FullRows rows′
-
--- ---- Dealing a rank from the first node to the last, then to the cords
-
--- The weight of the node at place m in the split at its parent: its excess at this rank.
-abbrev pub weightOf : List (List ℕ) → ℕ → List ℕ → ℕ → ℕ
-weightOf rows level pcapmins m = cell rows m level - at pcapmins m
-
--- The weights of the children of the node at place n, summed.
-abbrev pub wholeOf : List ℕ → List ℕ → ℕ → ℕ
-wholeOf pcapmins asked n = at asked n - at pcapmins n
-
--- What each node has to give, the weights of its child nodes, and what these were dealt together.
-pub record NodesDealt (parents : List ℕ) (level : ℕ) (rows : List (List ℕ)) (pcapmins asked amounts before dealt : List ℕ) : Type 0 where
-  pub root : (m : ℕ) → m < length parents → at parents m ≡ 0 → at amounts m ≡ weightOf rows level pcapmins m
-  pub inner : (m n : ℕ) → m < length parents → at parents m ≡ suc n
-      → at amounts m ≡ part (at amounts n) (wholeOf pcapmins asked n) (childrenBefore parents (weightOf rows level pcapmins) n m) (weightOf rows level pcapmins m)
-  pub most : (m : ℕ) → m < length parents → at amounts m ≤ mostWatts
-  pub served : (n : ℕ) → n < length parents → at before n ≡ overChildren parents (weightOf rows level pcapmins) n
-  pub dealt-is : (n : ℕ) → n < length parents → at dealt n ≡ at amounts n * at before n / wholeOf pcapmins asked n
-
 -- The weights of the cords of a level on the node at place n that stand before place c: want less low.
 abbrev pub cordsBefore : List ℕ → List ℕ → List ℕ → List ℕ → ℕ → ℕ → ℕ → ℕ
 cordsBefore nodes levels lows wants level n c =
     sum c (λ h. on (eqb (at nodes h) (suc n)) (on (eqb (at levels h) level) (at wants h - at lows h)))
 
+-- The weight of the node at place m in the split at its parent: its excess at this rank.
+abbrev pub weightOf : List (List ℕ) → ℕ → List ℕ → ℕ → ℕ
+weightOf rows level pcapmins m = cell rows m level - at pcapmins m
+
+-- ---- Gathering a rank from the last node to the first
+
+-- From what is left of each limit over the Requests of higher ranks and the Pcapmin of this rank and those below, and the cords' lows
+-- and excesses on each node: the Pcapmin and the children's excesses at this rank, the Requests in their column of the rows, and what
+-- is left for the next. (The lesser of left + Pcapmin and of the children's Requests is the Pcapmin with the lesser of these excesses.)
+pub record Gathered (parents : List ℕ) (level : ℕ) (left lows excesses : List ℕ) (rows : List (List ℕ)) (left′ pcapmins wholes : List ℕ) (rows′ : List (List ℕ)) : Type 0 where
+  pub pcapmin : (n : ℕ) → n < length parents → at pcapmins n ≡ sumBeneath (at parents) (length parents) (at lows) n
+  pub children : (n : ℕ) → n < length parents → at wholes n ≡ at excesses n + overChildren parents (weightOf rows′ level pcapmins) n
+  pub request : (n : ℕ) → n < length parents → cell rows′ n level ≡ at pcapmins n + min (at left n) (at wholes n)
+  pub others : (n j : ℕ) → (j ≡ level → ⊥) → cell rows′ n j ≡ cell rows n j
+  pub left-is : (n : ℕ) → n < length parents → at left′ n ≡ at left n - weightOf rows′ level pcapmins n
+  pub full : FullRows rows′
+
+-- ---- Dealing a rank from the first node to the last, then to the cords
+
+-- What each node has to give, the weights of its child nodes, and what these were dealt together.
+pub record NodesDealt (parents : List ℕ) (level : ℕ) (rows : List (List ℕ)) (pcapmins wholes amounts before dealt : List ℕ) : Type 0 where
+  pub root : (m : ℕ) → m < length parents → at parents m ≡ 0 → at amounts m ≡ weightOf rows level pcapmins m
+  pub inner : (m n : ℕ) → m < length parents → at parents m ≡ suc n
+      → at amounts m ≡ part (at amounts n) (at wholes n) (childrenBefore parents (weightOf rows level pcapmins) n m) (weightOf rows level pcapmins m)
+  pub most : (m : ℕ) → m < length parents → at amounts m ≤ weightOf rows level pcapmins m
+  pub served : (n : ℕ) → n < length parents → at before n ≡ overChildren parents (weightOf rows level pcapmins) n
+  pub dealt-is : (n : ℕ) → n < length parents → at dealt n ≡ at amounts n * at before n / at wholes n
+
 -- The grants after a rank: a cord of it has its low and its part of its node's amount, every other what it had.
-pub record CordsDealt (nodes levels lows wants : List ℕ) (level : ℕ) (pcapmins asked amounts before grants grants′ : List ℕ) : Type 0 where
+pub record CordsDealt (nodes levels lows wants : List ℕ) (level : ℕ) (wholes amounts before grants grants′ : List ℕ) : Type 0 where
   pub ours : (c n : ℕ) → c < length nodes → at levels c ≡ level → at nodes c ≡ suc n
-      → at grants′ c ≡ at lows c + part (at amounts n) (wholeOf pcapmins asked n) (at before n + cordsBefore nodes levels lows wants level n c) (at wants c - at lows c)
+      → at grants′ c ≡ at lows c + part (at amounts n) (at wholes n) (at before n + cordsBefore nodes levels lows wants level n c) (at wants c - at lows c)
   pub others : (c : ℕ) → c < length nodes → (at levels c ≡ level → ⊥) → at grants′ c ≡ at grants c
 
 -- ---- The ranks from the highest down
 
 -- The levels from `above` up are dealt: their Requests, in the rows, where those of the levels below are still 0; what these Requests
--- leave of each limit, the sums of Pcapmin of the levels below, and the grants of the cords dealt.
-pub record RanksDealt (d : Deal) (above : ℕ) (rows : List (List ℕ)) (left lower grants : List ℕ) : Type 0 where
+-- and the Pcapmin of the levels below leave of each limit; and the grants of the cords dealt.
+pub record RanksDealt (d : Deal) (above : ℕ) (rows : List (List ℕ)) (left grants : List ℕ) : Type 0 where
   pub within : above ≤ d .levels
   pub filled : (n j : ℕ) → n < d .nodes → above ≤ j → j < d .levels → cell rows n j ≡ cell (metrics d .requests) n j
   pub left-is : (n : ℕ) → n < d .nodes
-      → at left n + (sum (d .levels) (cell (metrics d .requests) n) - sum above (cell (metrics d .requests) n)) ≡ d .limit n
-  pub lower-is : (n : ℕ) → n < d .nodes → at lower n ≡ sum above (cell (metrics d .pcapmins) n)
+      → at left n + (sum (d .levels) (cell (metrics d .requests) n) - sum above (cell (metrics d .requests) n)) + sum above (cell (metrics d .pcapmins) n) ≡ d .limit n
   pub grants-are : (c : ℕ) → c < d .cords → above ≤ d .level c → at grants c ≡ at (granted d) c
   pub blank : (n j : ℕ) → j < above → cell rows n j ≡ 0
   pub full : FullRows rows
 
 -- What one rank of a deal asks of its lists.
-pub record RankLists (parents limits nodes levels lows wants next : List ℕ) (level from : ℕ) (active : List ℕ) (count : ℕ) (rows : List (List ℕ)) (left lower pcapmins asked amounts before dealt grants : List ℕ) : Type 0 where
+pub record RankLists (parents limits nodes levels lows wants next : List ℕ) (level from : ℕ) (active : List ℕ) (count : ℕ) (rows : List (List ℕ)) (left pcapmins wholes amounts before dealt grants : List ℕ) : Type 0 where
   pub lists : DealLists parents limits nodes levels lows wants (length grants)
   pub chain : ChainOf levels next level from
   pub nodes-active : ActiveNodes parents active count
   pub cords-active : CordsActive nodes levels level active count
-  pub figures : NodeFigures (length parents) left lower pcapmins asked amounts before dealt
-  pub ranks : RanksDealt (dealFrom parents limits nodes levels lows wants) (suc level) rows left lower grants
+  pub figures : NodeFigures (length parents) left pcapmins wholes amounts before dealt
+  pub ranks : RanksDealt (dealFrom parents limits nodes levels lows wants) (suc level) rows left grants
 
 -- ---- Both deals
 

@@ -7,10 +7,11 @@ ghost use Rattle.rooms.specs.Table.{highestRank};
 ghost use Rattle.deals.specs.Metrics.{dealFrom};
 ghost use Rattle.deals.specs.Dealing.{granted};
 ghost use Rattle.deals.specs.Plan.{firstTooLarge};
-ghost use Rattle.deals.specs.Passes.{DealLists, LevelLists, ServerLists, usableFrom, CordsLent, NodesFit, ServersFit, CordsFit, Planning};
+ghost use Rattle.deals.specs.Passes.{DealLists, LevelLists, Spare, ServerLists, usableFrom, CordsLent, NodesFit, ServersFit, CordsFit, Planning};
 use crate::deal::deal;
 use crate::levels::link_levels;
 use crate::levels::mark_nodes;
+use crate::metrics::spare_limits;
 use crate::reclaim::reclaim;
 use crate::reclaim::usable_of;
 use crate::room::load_cords;
@@ -44,6 +45,7 @@ fn make_deal(
     first: &[u32],
     next: &[u32],
     marks: &[u32],
+    spare: &[u64],
     shares: &[u32],
     servers: &[u32],
     needs: &[u32],
@@ -51,7 +53,7 @@ fn make_deal(
     usable: &mut [u32],
 )
     requires { ⌜ DealLists (now parents) (now limits) (now nodes) (now levels) (now lows) (now wants) (length (now grants)) ⌝ }
-    requires { ⌜ LevelLists (now parents) (now nodes) (now levels) (now first) (now next) (now marks) ⌝ }
+    requires { ⌜ LevelLists (now parents) (now nodes) (now levels) (now first) (now next) (now marks) × Spare (now parents) (now limits) (now nodes) (now lows) (now spare) ⌝ }
     requires { ⌜ ServerLists (now shares) (now servers) (now needs) (length (now grants)) × (length (now usable) ≡ length (now needs)) ⌝ }
     ensures { λ _. ⌜ now (grants .exit) ≡ granted (dealFrom (now (parents .entry)) (now (limits .entry)) (now (nodes .entry)) (now (levels .entry)) (now (lows .entry)) (now (wants .entry))) ⌝ }
     ensures { λ _. ⌜ now (usable .exit) ≡ usableFrom (now (shares .entry)) (now (servers .entry)) (now (needs .entry)) (now (grants .exit)) ⌝ }
@@ -66,6 +68,7 @@ fn make_deal(
         first,
         next,
         marks,
+        spare,
         grants,
     );
     usable_of(shares, servers, needs, grants, usable);
@@ -88,12 +91,13 @@ fn plan_lists(
     first: &mut [u32],
     next: &mut [u32],
     marks: &mut [u32],
+    spare: &mut [u64],
     grants: &mut [u32],
     caps: &mut [u32],
 ) -> u64
     requires { ⌜ CordsLent (now table) (now demands) (now nodes) (now levels) (now lows) (now wants) (now shares) (now servers) (now needs) ⌝ }
     requires { ⌜ NodesFit (now table) (length (now parents)) × NodesFit (now table) (length (now limits)) ⌝ }
-    requires { ⌜ (length (now first) ≡ highestRank) × CordsFit (now table) (length (now next)) × NodesFit (now table) (length (now marks)) ⌝ }
+    requires { ⌜ (length (now first) ≡ highestRank) × CordsFit (now table) (length (now next)) × NodesFit (now table) (length (now marks)) × NodesFit (now table) (length (now spare)) ⌝ }
     requires { ⌜ CordsFit (now table) (length (now grants)) × ServersFit (now table) (length (now caps)) ⌝ }
     ensures { λ r. ⌜ Planning (now (table .entry)) (now (demands .entry)) r (now (grants .exit)) (now (caps .exit)) ⌝ }
 {
@@ -111,6 +115,7 @@ fn plan_lists(
     );
     link_levels(levels, first, next);
     mark_nodes(parents, nodes, levels, marks);
+    spare_limits(parents, limits, nodes, lows, spare);
     make_deal(
         parents,
         limits,
@@ -121,6 +126,7 @@ fn plan_lists(
         first,
         next,
         marks,
+        spare,
         shares,
         servers,
         needs,
@@ -138,6 +144,7 @@ fn plan_lists(
         first,
         next,
         marks,
+        spare,
         shares,
         servers,
         needs,
@@ -166,6 +173,7 @@ pub(crate) fn plan_room(table: &[u32], demands: &[u32], grants: &mut [u32], caps
     let mut first = [0u32; 16];
     let mut next = [0u32; 1024];
     let mut marks = [0u32; 512];
+    let mut spare = [0u64; 512];
     let n = index(table[1]);
     let k = grants.len();
     plan_lists(
@@ -183,6 +191,7 @@ pub(crate) fn plan_room(table: &[u32], demands: &[u32], grants: &mut [u32], caps
         &mut first,
         &mut next[..k],
         &mut marks[..n],
+        &mut spare[..n],
         grants,
         caps,
     )

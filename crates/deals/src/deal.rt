@@ -6,28 +6,26 @@ ghost use Rattle.rooms.specs.Table.{highestRank};
 ghost use Rattle.deals.specs.Figures.{cell};
 ghost use Rattle.deals.specs.Metrics.{dealFrom, metrics};
 ghost use Rattle.deals.specs.Dealing.{granted};
-ghost use Rattle.deals.specs.Passes.{DealLists, LevelLists, NodeFigures, RankLists, RanksDealt, FullRows};
+ghost use Rattle.deals.specs.Passes.{DealLists, LevelLists, Spare, NodeFigures, RankLists, RanksDealt, FullRows};
 use crate::dealing::deal_cords;
 use crate::dealing::deal_nodes;
 use crate::levels::list_active;
 use crate::metrics::gather;
 use crate::metrics::sum_cords;
-use crate::metrics::sum_lows;
 use crate::widths::index;
-use crate::widths::wide;
 
-// Copies 32-bit figures to 64-bit ones, whose sums fit.
-fn widen(from: &[u32], to: &mut [u64])
+// Copies a list to one as long.
+fn copy(from: &[u64], to: &mut [u64])
     requires { ⌜ length (now to) ≡ length (now from) ⌝ }
     ensures { λ _. ⌜ now (to .exit) ≡ now (from .entry) ⌝ }
 {
     for i in 0..from.len() {
-        to[i] = wide(from[i]);
+        to[i] = from[i];
     }
 }
 
-// One rank of a deal, over its cords and its active nodes: the Requests are gathered and the excesses dealt. `pcapmins`, `asked` (the
-// children's Requests), `amounts`, `before` (weights served) and `dealt` have this rank's figure of each node. (`limits` and `levels`
+// One rank of a deal, over its cords and its active nodes: the Requests are gathered and the excesses dealt. `pcapmins`, `wholes` (the
+// children's excesses), `amounts`, `before` (weights served) and `dealt` have this rank's figure of each node. (`limits` and `levels`
 // are for the contracts alone.)
 fn deal_rank(
     parents: &[u32],
@@ -43,16 +41,15 @@ fn deal_rank(
     count: usize,
     requests: &mut [[u32; 16]; 512],
     left: &mut [u64],
-    lower: &mut [u64],
     pcapmins: &mut [u64],
-    asked: &mut [u64],
+    wholes: &mut [u64],
     amounts: &mut [u64],
     before: &mut [u64],
     dealt: &mut [u64],
     grants: &mut [u32],
 )
-    requires { ⌜ RankLists (now parents) (now limits) (now nodes) (now levels) (now lows) (now wants) (now next) level from (now active) count (now requests) (now left) (now lower) (now pcapmins) (now asked) (now amounts) (now before) (now dealt) (now grants) ⌝ }
-    ensures { λ _. ⌜ RanksDealt (dealFrom (now (parents .entry)) (now (limits .entry)) (now (nodes .entry)) (now (levels .entry)) (now (lows .entry)) (now (wants .entry))) level (now (requests .exit)) (now (left .exit)) (now (lower .exit)) (now (grants .exit)) ⌝ }
+    requires { ⌜ RankLists (now parents) (now limits) (now nodes) (now levels) (now lows) (now wants) (now next) level from (now active) count (now requests) (now left) (now pcapmins) (now wholes) (now amounts) (now before) (now dealt) (now grants) ⌝ }
+    ensures { λ _. ⌜ RanksDealt (dealFrom (now (parents .entry)) (now (limits .entry)) (now (nodes .entry)) (now (levels .entry)) (now (lows .entry)) (now (wants .entry))) level (now (requests .exit)) (now (left .exit)) (now (grants .exit)) ⌝ }
 {
     sum_cords(
         nodes,
@@ -63,7 +60,7 @@ fn deal_rank(
         level,
         from,
         pcapmins,
-        asked,
+        wholes,
     );
     gather(
         parents,
@@ -71,9 +68,8 @@ fn deal_rank(
         count,
         level,
         left,
-        lower,
         pcapmins,
-        asked,
+        wholes,
         requests,
     );
     deal_nodes(
@@ -83,7 +79,7 @@ fn deal_rank(
         level,
         requests,
         pcapmins,
-        asked,
+        wholes,
         amounts,
         before,
         dealt,
@@ -96,8 +92,7 @@ fn deal_rank(
         next,
         level,
         from,
-        pcapmins,
-        asked,
+        wholes,
         amounts,
         before,
         dealt,
@@ -105,7 +100,7 @@ fn deal_rank(
     );
 }
 
-// The deal, rank by rank from the highest, with what is left of each limit for the ranks to come and their lows beneath each node.
+// The deal, rank by rank from the highest, with what is left of each limit over the Requests dealt and the lows to come.
 fn deal_ranks(
     parents: &[u32],
     limits: &[u32],
@@ -116,26 +111,25 @@ fn deal_ranks(
     first: &[u32],
     next: &[u32],
     marks: &[u32],
+    spare: &[u64],
     active: &mut [u32],
     requests: &mut [[u32; 16]; 512],
     left: &mut [u64],
-    lower: &mut [u64],
     pcapmins: &mut [u64],
-    asked: &mut [u64],
+    wholes: &mut [u64],
     amounts: &mut [u64],
     before: &mut [u64],
     dealt: &mut [u64],
     grants: &mut [u32],
 )
     requires { ⌜ DealLists (now parents) (now limits) (now nodes) (now levels) (now lows) (now wants) (length (now grants)) ⌝ }
-    requires { ⌜ LevelLists (now parents) (now nodes) (now levels) (now first) (now next) (now marks) × (length (now active) ≡ length (now parents)) ⌝ }
-    requires { ⌜ NodeFigures (length (now parents)) (now left) (now lower) (now pcapmins) (now asked) (now amounts) (now before) (now dealt) ⌝ }
+    requires { ⌜ LevelLists (now parents) (now nodes) (now levels) (now first) (now next) (now marks) × Spare (now parents) (now limits) (now nodes) (now lows) (now spare) × (length (now active) ≡ length (now parents)) ⌝ }
+    requires { ⌜ NodeFigures (length (now parents)) (now left) (now pcapmins) (now wholes) (now amounts) (now before) (now dealt) ⌝ }
     requires { ⌜ FullRows (now requests) × ((n j : ℕ) → cell (now requests) n j ≡ 0) ⌝ }
     ensures { λ _. ⌜ now (grants .exit) ≡ granted (dealFrom (now (parents .entry)) (now (limits .entry)) (now (nodes .entry)) (now (levels .entry)) (now (lows .entry)) (now (wants .entry))) ⌝ }
     ensures { λ _. ⌜ ((n j : ℕ) → n < length (now (parents .entry)) → j < highestRank → cell (now (requests .exit)) n j ≡ cell (metrics (dealFrom (now (parents .entry)) (now (limits .entry)) (now (nodes .entry)) (now (levels .entry)) (now (lows .entry)) (now (wants .entry))) .requests) n j) ⌝ }
 {
-    widen(limits, left);
-    sum_lows(parents, nodes, lows, lower);
+    copy(spare, left);
     let mut level: usize = 16;
     while 0 < level {
         level -= 1;
@@ -156,9 +150,8 @@ fn deal_ranks(
                 count,
                 requests,
                 left,
-                lower,
                 pcapmins,
-                asked,
+                wholes,
                 amounts,
                 before,
                 dealt,
@@ -168,8 +161,8 @@ fn deal_ranks(
     }
 }
 
-// The grants of a deal, from the nodes' parents and limits, the cords' nodes, levels, lows and wants, and the links and marks that
-// `levels.rt` makes.
+// The grants of a deal, from the nodes' parents and limits, the cords' nodes, levels, lows and wants, the links and marks that
+// `levels.rt` makes, and what the limits have over all lows.
 pub(crate) fn deal(
     parents: &[u32],
     limits: &[u32],
@@ -180,18 +173,18 @@ pub(crate) fn deal(
     first: &[u32],
     next: &[u32],
     marks: &[u32],
+    spare: &[u64],
     grants: &mut [u32],
 )
     requires { ⌜ DealLists (now parents) (now limits) (now nodes) (now levels) (now lows) (now wants) (length (now grants)) ⌝ }
-    requires { ⌜ LevelLists (now parents) (now nodes) (now levels) (now first) (now next) (now marks) ⌝ }
+    requires { ⌜ LevelLists (now parents) (now nodes) (now levels) (now first) (now next) (now marks) × Spare (now parents) (now limits) (now nodes) (now lows) (now spare) ⌝ }
     ensures { λ _. ⌜ now (grants .exit) ≡ granted (dealFrom (now (parents .entry)) (now (limits .entry)) (now (nodes .entry)) (now (levels .entry)) (now (lows .entry)) (now (wants .entry))) ⌝ }
 {
     let mut active = [0u32; 512];
     let mut requests = [[0u32; 16]; 512];
     let mut left = [0u64; 512];
-    let mut lower = [0u64; 512];
     let mut pcapmins = [0u64; 512];
-    let mut asked = [0u64; 512];
+    let mut wholes = [0u64; 512];
     let mut amounts = [0u64; 512];
     let mut before = [0u64; 512];
     let mut dealt = [0u64; 512];
@@ -206,12 +199,12 @@ pub(crate) fn deal(
         first,
         next,
         marks,
+        spare,
         &mut active[..n],
         &mut requests,
         &mut left[..n],
-        &mut lower[..n],
         &mut pcapmins[..n],
-        &mut asked[..n],
+        &mut wholes[..n],
         &mut amounts[..n],
         &mut before[..n],
         &mut dealt[..n],

@@ -2,10 +2,10 @@
 ghost use mathlib.Core.Path.{_≡_};
 ghost use Prim.Native.Nat.{ℕ, _+_, _*_, _/_, _^_, _≤_, _<_};
 ghost use lib.ListN.{length, set};
-ghost use Rattle.rooms.specs.Table.{mostWatts, mostCords, highestRank};
+ghost use Rattle.rooms.specs.Table.{mostNodes, mostWatts, mostCords, highestRank};
 ghost use Rattle.deals.specs.Figures.{at, cell};
 ghost use Rattle.deals.specs.Split.{part};
-ghost use Rattle.deals.specs.Passes.{CordLists, ChainOf, weightOf, wholeOf, overChildren, Absent, ActiveNodes, cordsBefore, NodesDealt, CordsDealt};
+ghost use Rattle.deals.specs.Passes.{CordLists, ChainOf, weightOf, overChildren, Absent, ActiveNodes, cordsBefore, NodesDealt, CordsDealt};
 use crate::metrics::clear;
 use crate::widths::index;
 use crate::widths::narrow;
@@ -21,14 +21,17 @@ fn serve(
     before: &mut [u64],
     dealt: &mut [u64],
 ) -> u64
-    requires { ⌜ (p < length (now before)) × (p < length (now dealt)) × (at (now before) p + weight ≤ whole) × (amount * whole < 2 ^ 64) × (whole < 2 ^ 63) ⌝ }
+    requires { ⌜ (p < length (now before)) × (p < length (now dealt)) × (at (now before) p + weight ≤ whole) × (amount ≤ whole) × (amount * whole < 2 ^ 64) × (whole < 2 ^ 63) ⌝ }
     requires { ⌜ at (now dealt) p ≡ amount * at (now before) p / whole ⌝ }
     ensures { λ r. ⌜ r ≡ part amount whole (at (now (before .entry)) p) weight ⌝ }
     ensures { λ _. ⌜ now (before .exit) ≡ set (now (before .entry)) p (at (now (before .entry)) p + weight) ⌝ }
     ensures { λ _. ⌜ now (dealt .exit) ≡ set (now (dealt .entry)) p (amount * (at (now (before .entry)) p + weight) / whole) ⌝ }
 {
-    if weight == 0 {
-        return 0;
+    // A child with all the weight takes all, as an only child does; where no child has weight, there is no amount.
+    if weight == whole {
+        before[p] = weight;
+        dealt[p] = amount;
+        return amount;
     }
     let upto = before[p] + weight;
     let watts = amount * upto / whole;
@@ -47,17 +50,17 @@ pub(crate) fn deal_nodes(
     level: usize,
     requests: &[[u32; 16]; 512],
     pcapmins: &[u64],
-    asked: &[u64],
+    wholes: &[u64],
     amounts: &mut [u64],
     before: &mut [u64],
     dealt: &mut [u64],
 )
-    requires { ⌜ (length (now parents) ≤ 512) × (level < highestRank) × ((m : ℕ) → m < length (now parents) → at (now parents) m ≤ m) ⌝ }
-    requires { ⌜ (length (now pcapmins) ≡ length (now parents)) × (length (now asked) ≡ length (now parents)) × (length (now amounts) ≡ length (now parents)) × (length (now before) ≡ length (now parents)) × (length (now dealt) ≡ length (now parents)) ⌝ }
-    requires { ⌜ ((n : ℕ) → n < length (now parents) → (at (now pcapmins) n ≤ cell (now requests) n level) × (cell (now requests) n level ≤ mostWatts) × (at (now pcapmins) n ≤ at (now asked) n) × (at (now asked) n ≤ mostCords * mostWatts) × (overChildren (now parents) (weightOf (now requests) level (now pcapmins)) n ≤ wholeOf (now pcapmins) (now asked) n)) ⌝ }
+    requires { ⌜ (length (now parents) ≤ mostNodes) × (level < highestRank) × ((m : ℕ) → m < length (now parents) → at (now parents) m ≤ m) ⌝ }
+    requires { ⌜ (length (now pcapmins) ≡ length (now parents)) × (length (now wholes) ≡ length (now parents)) × (length (now amounts) ≡ length (now parents)) × (length (now before) ≡ length (now parents)) × (length (now dealt) ≡ length (now parents)) ⌝ }
+    requires { ⌜ ((n : ℕ) → n < length (now parents) → (at (now pcapmins) n ≤ cell (now requests) n level) × (cell (now requests) n level ≤ mostWatts) × (weightOf (now requests) level (now pcapmins) n ≤ at (now wholes) n) × (at (now wholes) n ≤ mostCords * mostWatts) × (overChildren (now parents) (weightOf (now requests) level (now pcapmins)) n ≤ at (now wholes) n)) ⌝ }
     requires { ⌜ ActiveNodes (now parents) (now active) count ⌝ }
     requires { ⌜ ((n : ℕ) → n < length (now parents) → Absent (now active) count n → cell (now requests) n level ≡ 0) ⌝ }
-    ensures { λ _. ⌜ NodesDealt (now (parents .entry)) level (now (requests .entry)) (now (pcapmins .entry)) (now (asked .entry)) (now (amounts .exit)) (now (before .exit)) (now (dealt .exit)) ⌝ }
+    ensures { λ _. ⌜ NodesDealt (now (parents .entry)) level (now (requests .entry)) (now (pcapmins .entry)) (now (wholes .entry)) (now (amounts .exit)) (now (before .exit)) (now (dealt .exit)) ⌝ }
 {
     clear(amounts);
     clear(before);
@@ -70,7 +73,7 @@ pub(crate) fn deal_nodes(
             amounts[m] = weight;
         } else {
             let p = parent - 1;
-            amounts[m] = serve(amounts[p], asked[p] - pcapmins[p], weight, p, before, dealt);
+            amounts[m] = serve(amounts[p], wholes[p], weight, p, before, dealt);
         }
     }
 }
@@ -85,19 +88,18 @@ pub(crate) fn deal_cords(
     next: &[u32],
     level: usize,
     from: usize,
-    pcapmins: &[u64],
-    asked: &[u64],
+    wholes: &[u64],
     amounts: &[u64],
     before: &mut [u64],
     dealt: &mut [u64],
     grants: &mut [u32],
 )
     requires { ⌜ CordLists (length (now amounts)) (now nodes) (now levels) (now lows) (now wants) ⌝ }
-    requires { ⌜ (length (now pcapmins) ≡ length (now amounts)) × (length (now asked) ≡ length (now amounts)) × (length (now before) ≡ length (now amounts)) × (length (now dealt) ≡ length (now amounts)) × (length (now grants) ≡ length (now nodes)) ⌝ }
-    requires { ⌜ ((n : ℕ) → n < length (now amounts) → (at (now amounts) n ≤ mostWatts) × (at (now pcapmins) n ≤ at (now asked) n) × (at (now asked) n ≤ mostCords * mostWatts) × (at (now dealt) n ≡ at (now amounts) n * at (now before) n / wholeOf (now pcapmins) (now asked) n)) ⌝ }
-    requires { ⌜ ((n : ℕ) → n < length (now amounts) → at (now before) n + cordsBefore (now nodes) (now levels) (now lows) (now wants) level n (length (now nodes)) ≤ wholeOf (now pcapmins) (now asked) n) ⌝ }
+    requires { ⌜ (length (now wholes) ≡ length (now amounts)) × (length (now before) ≡ length (now amounts)) × (length (now dealt) ≡ length (now amounts)) × (length (now grants) ≡ length (now nodes)) ⌝ }
+    requires { ⌜ ((n : ℕ) → n < length (now amounts) → (at (now amounts) n ≤ mostWatts) × (at (now amounts) n ≤ at (now wholes) n) × (at (now wholes) n ≤ mostCords * mostWatts) × (at (now dealt) n ≡ at (now amounts) n * at (now before) n / at (now wholes) n)) ⌝ }
+    requires { ⌜ ((n : ℕ) → n < length (now amounts) → at (now before) n + cordsBefore (now nodes) (now levels) (now lows) (now wants) level n (length (now nodes)) ≤ at (now wholes) n) ⌝ }
     requires { ⌜ ChainOf (now levels) (now next) level from ⌝ }
-    ensures { λ _. ⌜ CordsDealt (now (nodes .entry)) (now (levels .entry)) (now (lows .entry)) (now (wants .entry)) level (now (pcapmins .entry)) (now (asked .entry)) (now (amounts .entry)) (now (before .entry)) (now (grants .entry)) (now (grants .exit)) ⌝ }
+    ensures { λ _. ⌜ CordsDealt (now (nodes .entry)) (now (levels .entry)) (now (lows .entry)) (now (wants .entry)) level (now (wholes .entry)) (now (amounts .entry)) (now (before .entry)) (now (grants .entry)) (now (grants .exit)) ⌝ }
 {
     let mut c = from;
     while c < nodes.len() {
@@ -105,7 +107,7 @@ pub(crate) fn deal_cords(
         let low = lows[c];
         let watts = serve(
             amounts[p],
-            asked[p] - pcapmins[p],
+            wholes[p],
             wide(wants[c] - low),
             p,
             before,

@@ -2,12 +2,11 @@
 ghost use mathlib.Core.Path.{_≡_};
 ghost use Prim.Native.Nat.{ℕ, _+_, _-_, _*_, _^_, _≤_, _<_};
 ghost use lib.ListN.{length, replicate};
-ghost use Rattle.rooms.specs.Sums.{on, sum};
-ghost use Rattle.rooms.specs.Table.{mostWatts, mostCords, highestRank};
-ghost use Rattle.rooms.specs.Limits.{beneath};
+ghost use Rattle.rooms.specs.Sums.{sum};
+ghost use Rattle.rooms.specs.Table.{mostNodes, mostWatts, mostCords, highestRank};
 ghost use Rattle.rooms.specs.Credits.{sumBeneath, credited};
 ghost use Rattle.deals.specs.Figures.{at, cell};
-ghost use Rattle.deals.specs.Passes.{CordLists, ChainOf, onNode, FullRows, Absent, ActiveNodes, Gathered};
+ghost use Rattle.deals.specs.Passes.{NodeLists, CordLists, LowsWithin, ChainOf, onNode, cordsBefore, lowsBeneath, Spare, FullRows, Absent, ActiveNodes, Gathered};
 use crate::widths::index;
 use crate::widths::least;
 use crate::widths::narrow;
@@ -36,7 +35,7 @@ fn credit(sums: &mut [u64], node: usize, figure: u64)
     sums[place] = sum + figure;
 }
 
-// The lows and the wants of the cords of a level, which the links give from the first on, each summed on its cord's node.
+// The lows and the excesses of the cords of a level, which the links give from the first on, each summed on its cord's node.
 // (`levels` is for the contract alone.)
 pub(crate) fn sum_cords(
     nodes: &[u32],
@@ -47,21 +46,22 @@ pub(crate) fn sum_cords(
     level: usize,
     from: usize,
     pcapmins: &mut [u64],
-    asked: &mut [u64],
+    wholes: &mut [u64],
 )
     requires { ⌜ CordLists (length (now pcapmins)) (now nodes) (now levels) (now lows) (now wants) ⌝ }
-    requires { ⌜ length (now asked) ≡ length (now pcapmins) ⌝ }
+    requires { ⌜ length (now wholes) ≡ length (now pcapmins) ⌝ }
     requires { ⌜ ChainOf (now levels) (now next) level from ⌝ }
     ensures { λ _. ⌜ ((n : ℕ) → n < length (now (pcapmins .entry)) → at (now (pcapmins .exit)) n ≡ onNode (now (nodes .entry)) (now (levels .entry)) (now (lows .entry)) level n) ⌝ }
-    ensures { λ _. ⌜ ((n : ℕ) → n < length (now (pcapmins .entry)) → at (now (asked .exit)) n ≡ onNode (now (nodes .entry)) (now (levels .entry)) (now (wants .entry)) level n) ⌝ }
+    ensures { λ _. ⌜ ((n : ℕ) → n < length (now (pcapmins .entry)) → at (now (wholes .exit)) n ≡ cordsBefore (now (nodes .entry)) (now (levels .entry)) (now (lows .entry)) (now (wants .entry)) level n (length (now (nodes .entry)))) ⌝ }
 {
     clear(pcapmins);
-    clear(asked);
+    clear(wholes);
     let mut c = from;
     while c < nodes.len() {
         let node = index(nodes[c]);
-        credit(pcapmins, node, wide(lows[c]));
-        credit(asked, node, wide(wants[c]));
+        let low = lows[c];
+        credit(pcapmins, node, wide(low));
+        credit(wholes, node, wide(wants[c] - low));
         c = index(next[c]);
     }
 }
@@ -81,11 +81,11 @@ fn sum_beneath(parents: &[u32], sums: &mut [u64])
 }
 
 // All lows beneath each node, at any depth.
-pub(crate) fn sum_lows(parents: &[u32], nodes: &[u32], lows: &[u32], sums: &mut [u64])
+fn sum_lows(parents: &[u32], nodes: &[u32], lows: &[u32], sums: &mut [u64])
     requires { ⌜ (length (now lows) ≡ length (now nodes)) × (length (now nodes) ≤ mostCords) × (length (now sums) ≡ length (now parents)) ⌝ }
     requires { ⌜ ((m : ℕ) → m < length (now parents) → at (now parents) m ≤ m) ⌝ }
     requires { ⌜ ((c : ℕ) → c < length (now nodes) → (1 ≤ at (now nodes) c) × (at (now nodes) c ≤ length (now parents)) × (at (now lows) c ≤ mostWatts)) ⌝ }
-    ensures { λ _. ⌜ ((n : ℕ) → n < length (now (parents .entry)) → at (now (sums .exit)) n ≡ sum (length (now (nodes .entry))) (λ c. on (beneath (at (now (parents .entry))) (length (now (parents .entry))) n (at (now (nodes .entry)) c)) (at (now (lows .entry)) c))) ⌝ }
+    ensures { λ _. ⌜ ((n : ℕ) → n < length (now (parents .entry)) → at (now (sums .exit)) n ≡ lowsBeneath (now (parents .entry)) (now (nodes .entry)) (now (lows .entry)) n) ⌝ }
 {
     clear(sums);
     for c in 0..nodes.len() {
@@ -94,41 +94,58 @@ pub(crate) fn sum_lows(parents: &[u32], nodes: &[u32], lows: &[u32], sums: &mut 
     sum_beneath(parents, sums);
 }
 
-// From the last active node to the first: a node's Request is the lesser of what is left for this rank and of what its children ask;
-// its Pcapmin and its Request are added to its parent's sums.
+// What each node's limit has over all lows beneath it.
+pub(crate) fn spare_limits(
+    parents: &[u32],
+    limits: &[u32],
+    nodes: &[u32],
+    lows: &[u32],
+    spare: &mut [u64],
+)
+    requires { ⌜ NodeLists (now parents) (now limits) × LowsWithin (now parents) (now limits) (now nodes) (now lows) ⌝ }
+    requires { ⌜ (length (now lows) ≡ length (now nodes)) × (length (now nodes) ≤ mostCords) × (length (now spare) ≡ length (now parents)) ⌝ }
+    requires { ⌜ ((c : ℕ) → c < length (now nodes) → (1 ≤ at (now nodes) c) × (at (now nodes) c ≤ length (now parents)) × (at (now lows) c ≤ mostWatts)) ⌝ }
+    ensures { λ _. ⌜ Spare (now (parents .entry)) (now (limits .entry)) (now (nodes .entry)) (now (lows .entry)) (now (spare .exit)) ⌝ }
+{
+    sum_lows(parents, nodes, lows, spare);
+    for n in 0..limits.len() {
+        let beneath = spare[n];
+        spare[n] = wide(limits[n]) - beneath;
+    }
+}
+
+// From the last active node to the first: a node's Request is its Pcapmin and its excess, the lesser of what is left and of its
+// children's excesses; its Pcapmin and its excess are added to its parent's sums.
 pub(crate) fn gather(
     parents: &[u32],
     active: &[u32],
     count: usize,
     level: usize,
     left: &mut [u64],
-    lower: &mut [u64],
     pcapmins: &mut [u64],
-    asked: &mut [u64],
+    wholes: &mut [u64],
     requests: &mut [[u32; 16]; 512],
 )
-    requires { ⌜ (length (now parents) ≤ 512) × (level < highestRank) × ((m : ℕ) → m < length (now parents) → at (now parents) m ≤ m) ⌝ }
-    requires { ⌜ (length (now left) ≡ length (now parents)) × (length (now lower) ≡ length (now parents)) × (length (now pcapmins) ≡ length (now parents)) × (length (now asked) ≡ length (now parents)) ⌝ }
-    requires { ⌜ (sum (length (now parents)) (at (now pcapmins)) ≤ mostCords * mostWatts) × (sum (length (now parents)) (at (now asked)) ≤ mostCords * mostWatts) ⌝ }
-    requires { ⌜ ((n : ℕ) → n < length (now parents) → (at (now left) n ≤ mostWatts) × (sumBeneath (at (now parents)) (length (now parents)) (at (now pcapmins)) n ≤ at (now lower) n) × (at (now lower) n ≤ at (now left) n + sumBeneath (at (now parents)) (length (now parents)) (at (now pcapmins)) n)) ⌝ }
+    requires { ⌜ (length (now parents) ≤ mostNodes) × (level < highestRank) × ((m : ℕ) → m < length (now parents) → at (now parents) m ≤ m) ⌝ }
+    requires { ⌜ (length (now left) ≡ length (now parents)) × (length (now pcapmins) ≡ length (now parents)) × (length (now wholes) ≡ length (now parents)) ⌝ }
+    requires { ⌜ (sum (length (now parents)) (at (now pcapmins)) ≤ mostCords * mostWatts) × (sum (length (now parents)) (at (now wholes)) ≤ mostCords * mostWatts) ⌝ }
+    requires { ⌜ ((n : ℕ) → n < length (now parents) → at (now left) n + sumBeneath (at (now parents)) (length (now parents)) (at (now pcapmins)) n ≤ mostWatts) ⌝ }
     requires { ⌜ ActiveNodes (now parents) (now active) count ⌝ }
-    requires { ⌜ ((n : ℕ) → n < length (now parents) → Absent (now active) count n → (at (now pcapmins) n ≡ 0) × (at (now asked) n ≡ 0) × (cell (now requests) n level ≡ 0)) ⌝ }
+    requires { ⌜ ((n : ℕ) → n < length (now parents) → Absent (now active) count n → (at (now pcapmins) n ≡ 0) × (at (now wholes) n ≡ 0) × (cell (now requests) n level ≡ 0)) ⌝ }
     requires { ⌜ FullRows (now requests) ⌝ }
-    ensures { λ _. ⌜ Gathered (now (parents .entry)) level (now (left .entry)) (now (lower .entry)) (now (pcapmins .entry)) (now (asked .entry)) (now (requests .entry)) (now (left .exit)) (now (lower .exit)) (now (pcapmins .exit)) (now (asked .exit)) (now (requests .exit)) ⌝ }
+    ensures { λ _. ⌜ Gathered (now (parents .entry)) level (now (left .entry)) (now (pcapmins .entry)) (now (wholes .entry)) (now (requests .entry)) (now (left .exit)) (now (pcapmins .exit)) (now (wholes .exit)) (now (requests .exit)) ⌝ }
 {
     let mut i = count;
     while 0 < i {
         i -= 1;
         let n = index(active[i]);
         let pcapmin = pcapmins[n];
-        let below = lower[n] - pcapmin;
         let limit = left[n];
-        let request = least(limit - below, asked[n]);
-        lower[n] = below;
-        left[n] = limit - request;
-        requests[n][level] = narrow(request);
+        let excess = least(limit, wholes[n]);
+        left[n] = limit - excess;
+        requests[n][level] = narrow(pcapmin + excess);
         let parent = index(parents[n]);
         credit(pcapmins, parent, pcapmin);
-        credit(asked, parent, request);
+        credit(wholes, parent, excess);
     }
 }

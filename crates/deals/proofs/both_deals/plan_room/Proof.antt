@@ -79,13 +79,18 @@ array-borrow-prefix-marks c = nodes-most _ (c .before .before .before .before .b
 slice-aggregate-plan-lists-12 : tie.Need-slice-aggregate-plan-lists-12
 slice-aggregate-plan-lists-12 c = nodes-front _ (c .before .before .before .before .before .before .before .before .before .before .before .before .before .before .before .before .before .before .pre .0) _ (c .before .before .before .before .before .before .before .before .before .before .before .before .index .ensures .0)
 
+array-borrow-prefix-spare : tie.Need-array-borrow-prefix-spare
+array-borrow-prefix-spare c = nodes-most _ (c .before .before .before .before .before .before .before .before .before .before .before .before .before .before .before .before .before .before .pre .0) _ (c .before .before .before .before .before .before .before .before .before .before .before .before .index .ensures .0)
+
+slice-aggregate-plan-lists-13 : tie.Need-slice-aggregate-plan-lists-13
+slice-aggregate-plan-lists-13 c = nodes-front _ (c .before .before .before .before .before .before .before .before .before .before .before .before .before .before .before .before .before .before .before .pre .0) _ (c .before .before .before .before .before .before .before .before .before .before .before .before .before .index .ensures .0)
+
 plan-lists-requires : tie.Need-plan-lists-requires
 plan-lists-requires c κs =
-    let start = c .before .before .before .before .before .before .before .before .before .before .before .before .before .before .before .before .before .before .before .before in
-    let table = start .args .table .now in
-    let good = start .pre .0 in
-    let fits = start .pre .1 in
-    let nodes = nodes-lent table good _ (c .before .before .before .before .before .before .before .before .before .before .before .before .before .before .index .ensures .0) in
+    let table = c .before .before .before .before .before .before .before .before .before .before .before .before .before .before .before .before .before .before .before .before .before .args .table .now in
+    let good = c .before .before .before .before .before .before .before .before .before .before .before .before .before .before .before .before .before .before .before .before .before .pre .0 in
+    let fits = c .before .before .before .before .before .before .before .before .before .before .before .before .before .before .before .before .before .before .before .before .before .pre .1 in
+    let nodes = nodes-lent table good _ (c .before .before .before .before .before .before .before .before .before .before .before .before .before .before .before .index .ensures .0) in
     let cords = cords-lent table good _ (fits .1) in (
       record {
         good-table = good;
@@ -98,7 +103,7 @@ plan-lists-requires c κs =
         servers-fit = cords;
         needs-fit = servers-lent table good _ (fits .0);
       },
-      ((nodes, nodes), ((search needs, cords, nodes), (fits .1, fits .2))),
+      ((nodes, nodes), ((search needs, cords, nodes, nodes), (fits .1, fits .2))),
     )
 
 same-length : tie.Need-same-length
@@ -139,6 +144,8 @@ plan-room-spec =
     slice-aggregate-plan-lists-11
     array-borrow-prefix-marks
     slice-aggregate-plan-lists-12
+    array-borrow-prefix-spare
+    slice-aggregate-plan-lists-13
     plan-lists-requires
     same-length
     same-length-2

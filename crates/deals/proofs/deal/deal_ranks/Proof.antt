@@ -3,46 +3,40 @@ use mathlib.Core.Path.{sym, _∙_}
 use native.Mathlib.Omega.{arith}
 use borrow.Author.Needs.{needs}
 use borrow.Author.Count.{falls-down}
-use Rattle.deals.proofs.RankLoop.{RankLoop, lows-hang, ranks-start, loop-end, rows-end, level-fits, loop-skip, rank-lists, loop-turn}
+use Rattle.deals.proofs.RankLoop.{RankLoop, ranks-start, loop-end, rows-end, level-fits, loop-skip, rank-lists, loop-turn}
 use Rattle.deals.proofs.deal.deal_ranks.Statement.{statement}
 use Rattle.deals.proofs.deal.deal_ranks.Tie as tie
 
 abbrev Inv-loop : tie.InvT-loop
-Inv-loop parents limits nodes levels lows wants first next marks active₀ requests₀ left₀ lower₀ pcapmins₀ asked₀ amounts₀ before₀ dealt₀ grants₀ level₀ active requests left lower pcapmins asked amounts before dealt grants level =
-    RankLoop parents limits nodes levels lows wants first next marks level active requests left lower pcapmins asked amounts before dealt grants
+Inv-loop parents limits nodes levels lows wants first next marks spare active₀ requests₀ left₀ pcapmins₀ wholes₀ amounts₀ before₀ dealt₀ grants₀ level₀ active requests left pcapmins wholes amounts before dealt grants level =
+    RankLoop parents limits nodes levels lows wants first next marks level active requests left pcapmins wholes amounts before dealt grants
 
 abbrev μ-loop : tie.MeasureT-loop
-μ-loop parents limits nodes levels lows wants first next marks active₀ requests₀ left₀ lower₀ pcapmins₀ asked₀ amounts₀ before₀ dealt₀ grants₀ level₀ active requests left lower pcapmins asked amounts before dealt grants level =
+μ-loop parents limits nodes levels lows wants first next marks spare active₀ requests₀ left₀ pcapmins₀ wholes₀ amounts₀ before₀ dealt₀ grants₀ level₀ active requests left pcapmins wholes amounts before dealt grants level =
     level
 
-widen-requires : tie.Need-widen-requires Inv-loop μ-loop
-widen-requires c κs =
+copy-requires : tie.Need-copy-requires Inv-loop μ-loop
+copy-requires c κs =
     let pre = c .before .before .before .before .before .before .before .before .before .before .before .before .before .before .before .before .before .before .before .pre in
-    pre .1 .1 .0 .left-size ∙ sym (pre .0 .of-nodes .limits-size)
-
-sum-lows-requires : tie.Need-sum-lows-requires Inv-loop μ-loop
-sum-lows-requires c κs =
-    let pre = c .before .before .before .before .before .before .before .before .before .before .before .before .before .before .before .before .before .before .before .before .before .before .before .pre in
-    ((pre .0 .of-cords .lows-size, pre .0 .of-cords .few, pre .1 .1 .0 .lower-size), (pre .0 .of-nodes .rises, lows-hang (pre .0)))
+    pre .1 .1 .0 .left-size ∙ sym (pre .1 .0 .1 .size)
 
 loop-holds : tie.Need-loop-holds Inv-loop μ-loop
 loop-holds c =
-    let pre = c .before .before .before .before .before .before .before .before .before .before .before .before .before .before .before .before .before .before .before .before .before .before .before .before .before .before .pre in
+    let pre = c .before .before .before .before .before .before .before .before .before .before .before .before .before .before .before .before .before .before .before .before .before .before .pre in
     let sizes = pre .1 .1 .0 in
     record {
       lists = pre .0;
       by-level = pre .1 .0 .0;
-      active-size = pre .1 .0 .1;
+      active-size = pre .1 .0 .2;
       figures = record {
-        left-size = c .before .before .before .before .before .before .widen .kept .1 .0 ∙ sizes .left-size;
-        lower-size = c .before .before .sum-lows .kept .1 .1 .1 .0 ∙ sizes .lower-size;
+        left-size = c .before .before .copy .kept .1 .0 ∙ sizes .left-size;
         pcapmins-size = sizes .pcapmins-size;
-        asked-size = sizes .asked-size;
+        wholes-size = sizes .wholes-size;
         amounts-size = sizes .amounts-size;
         before-size = sizes .before-size;
         dealt-size = sizes .dealt-size;
       };
-      ranks = ranks-start (pre .0) _ (pre .1 .1 .1 .0) (pre .1 .1 .1 .1) (c .before .before .before .before .before .before .widen .ensures) (c .before .before .sum-lows .ensures);
+      ranks = ranks-start (pre .0) _ (pre .1 .1 .1 .0) (pre .1 .1 .1 .1) (rw (c .before .before .copy .ensures) (pre .1 .0 .1));
     }
 
 sub-level : tie.Need-sub-level Inv-loop μ-loop
@@ -63,15 +57,15 @@ list-active-requires c κs =
     (level-fits inv (c .before .before .before .before .loop-test .taken), omega (arith, inv .by-level .marks-size, inv .lists .of-nodes .few), inv .active-size ∙ sym (inv .by-level .marks-size))
 
 deal-rank-requires : tie.Need-deal-rank-requires Inv-loop μ-loop
-deal-rank-requires c κs = rank-lists (c .before .before .before .before .before .before .before .before .before .before .before .before .before .before .before .before .before .before .loop .inv) (c .before .before .before .before .before .before .before .before .before .before .before .before .before .before .before .before .before .loop-test .taken) (c .before .before .before .before .before .before .before .before .before .before .before .before .before .before .before .index .ensures .0) (c .before .before .before .before .before .before .before .before .before .before .before .before .list-active .ensures)
+deal-rank-requires c κs = rank-lists (c .before .before .before .before .before .before .before .before .before .before .before .before .before .before .before .before .before .loop .inv) (c .before .before .before .before .before .before .before .before .before .before .before .before .before .before .before .before .loop-test .taken) (c .before .before .before .before .before .before .before .before .before .before .before .before .before .before .index .ensures .0) (c .before .before .before .before .before .before .before .before .before .before .before .list-active .ensures)
 
 loop-less : tie.Need-loop-less Inv-loop μ-loop
-loop-less c = falls-down _ (c .before .before .before .before .before .before .before .before .before .before .before .before .before .before .before .before .before .before .before .before .before .before .before .before .before .before .before .before .before .before .before .before .before .before .loop-test .taken)
+loop-less c = falls-down _ (c .before .before .before .before .before .before .before .before .before .before .before .before .before .before .before .before .before .before .before .before .before .before .before .before .before .before .before .before .before .before .before .loop-test .taken)
 
 loop-again : tie.Need-loop-again Inv-loop μ-loop
 loop-again c =
-    let rank = c .before .before .before .before .before .before .before .before .before .before .before .before .before .before .before .before .deal-rank in
-    loop-turn (c .before .before .before .before .before .before .before .before .before .before .before .before .before .before .before .before .before .before .before .before .before .before .before .before .before .before .before .before .before .before .before .before .before .before .before .loop .inv) (c .before .before .before .before .before .before .before .before .before .before .before .before .before .before .before .before .before .before .before .before .before .before .before .before .before .before .before .before .before .before .before .before .before .before .loop-test .taken) (c .before .before .before .before .before .before .before .before .before .before .before .before .before .before .before .before .before .before .before .before .before .before .before .before .before .before .before .before .before .list-active .kept .1 .1 .0) (rank .kept .1 .1 .1 .1 .1 .1 .1 .1 .1 .1 .1 .1 .0) (rank .kept .1 .1 .1 .1 .1 .1 .1 .1 .1 .1 .1 .1 .1 .0) (rank .kept .1 .1 .1 .1 .1 .1 .1 .1 .1 .1 .1 .1 .1 .1 .0) (rank .kept .1 .1 .1 .1 .1 .1 .1 .1 .1 .1 .1 .1 .1 .1 .1 .0) (rank .kept .1 .1 .1 .1 .1 .1 .1 .1 .1 .1 .1 .1 .1 .1 .1 .1 .0) (rank .kept .1 .1 .1 .1 .1 .1 .1 .1 .1 .1 .1 .1 .1 .1 .1 .1 .1 .0) (rank .kept .1 .1 .1 .1 .1 .1 .1 .1 .1 .1 .1 .1 .1 .1 .1 .1 .1 .1 .0) (rank .kept .1 .1 .1 .1 .1 .1 .1 .1 .1 .1 .1 .1 .1 .1 .1 .1 .1 .1 .1 .0) (rank .ensures)
+    let rank = c .before .before .before .before .before .before .before .before .before .before .before .before .before .before .deal-rank in
+    loop-turn (c .before .before .before .before .before .before .before .before .before .before .before .before .before .before .before .before .before .before .before .before .before .before .before .before .before .before .before .before .before .before .before .before .loop .inv) (c .before .before .before .before .before .before .before .before .before .before .before .before .before .before .before .before .before .before .before .before .before .before .before .before .before .before .before .before .before .before .before .loop-test .taken) (c .before .before .before .before .before .before .before .before .before .before .before .before .before .before .before .before .before .before .before .before .before .before .before .before .before .before .list-active .kept .1 .1 .0) (rank .kept .1 .1 .1 .1 .1 .1 .1 .1 .1 .1 .1 .1 .0) (rank .kept .1 .1 .1 .1 .1 .1 .1 .1 .1 .1 .1 .1 .1 .0) (rank .kept .1 .1 .1 .1 .1 .1 .1 .1 .1 .1 .1 .1 .1 .1 .0) (rank .kept .1 .1 .1 .1 .1 .1 .1 .1 .1 .1 .1 .1 .1 .1 .1 .0) (rank .kept .1 .1 .1 .1 .1 .1 .1 .1 .1 .1 .1 .1 .1 .1 .1 .1 .0) (rank .kept .1 .1 .1 .1 .1 .1 .1 .1 .1 .1 .1 .1 .1 .1 .1 .1 .1 .0) (rank .kept .1 .1 .1 .1 .1 .1 .1 .1 .1 .1 .1 .1 .1 .1 .1 .1 .1 .1 .0) (rank .ensures)
 
 loop-less-2 : tie.Need-loop-less-2 Inv-loop μ-loop
 loop-less-2 c = search needs
@@ -80,31 +74,28 @@ loop-again-2 : tie.Need-loop-again-2 Inv-loop μ-loop
 loop-again-2 c = loop-skip (c .before .before .before .before .loop .inv) (c .before .before .before .loop-test .taken) (c .before .index .ensures .0) (c .if1 .left)
 
 same-length : tie.Need-same-length Inv-loop μ-loop
-same-length c = c .before .loop .inv .active-size ∙ sym (c .before .before .before .before .before .before .before .before .before .before .before .before .before .before .before .before .before .before .before .before .before .before .before .before .before .before .before .before .pre .1 .0 .1)
+same-length c = c .before .loop .inv .active-size ∙ sym (c .before .before .before .before .before .before .before .before .before .before .before .before .before .before .before .before .before .before .before .before .before .before .before .before .pre .1 .0 .2)
 
 same-length-2 : tie.Need-same-length-2 Inv-loop μ-loop
-same-length-2 c = c .before .loop .inv .figures .left-size ∙ sym (c .before .before .before .before .before .before .before .before .before .before .before .before .before .before .before .before .before .before .before .before .before .before .before .before .before .before .before .before .pre .1 .1 .0 .left-size)
+same-length-2 c = c .before .loop .inv .figures .left-size ∙ sym (c .before .before .before .before .before .before .before .before .before .before .before .before .before .before .before .before .before .before .before .before .before .before .before .before .pre .1 .1 .0 .left-size)
 
 same-length-3 : tie.Need-same-length-3 Inv-loop μ-loop
-same-length-3 c = c .before .loop .inv .figures .lower-size ∙ sym (c .before .before .before .before .before .before .before .before .before .before .before .before .before .before .before .before .before .before .before .before .before .before .before .before .before .before .before .before .pre .1 .1 .0 .lower-size)
+same-length-3 c = c .before .loop .inv .figures .pcapmins-size ∙ sym (c .before .before .before .before .before .before .before .before .before .before .before .before .before .before .before .before .before .before .before .before .before .before .before .before .pre .1 .1 .0 .pcapmins-size)
 
 same-length-4 : tie.Need-same-length-4 Inv-loop μ-loop
-same-length-4 c = c .before .loop .inv .figures .pcapmins-size ∙ sym (c .before .before .before .before .before .before .before .before .before .before .before .before .before .before .before .before .before .before .before .before .before .before .before .before .before .before .before .before .pre .1 .1 .0 .pcapmins-size)
+same-length-4 c = c .before .loop .inv .figures .wholes-size ∙ sym (c .before .before .before .before .before .before .before .before .before .before .before .before .before .before .before .before .before .before .before .before .before .before .before .before .pre .1 .1 .0 .wholes-size)
 
 same-length-5 : tie.Need-same-length-5 Inv-loop μ-loop
-same-length-5 c = c .before .loop .inv .figures .asked-size ∙ sym (c .before .before .before .before .before .before .before .before .before .before .before .before .before .before .before .before .before .before .before .before .before .before .before .before .before .before .before .before .pre .1 .1 .0 .asked-size)
+same-length-5 c = c .before .loop .inv .figures .amounts-size ∙ sym (c .before .before .before .before .before .before .before .before .before .before .before .before .before .before .before .before .before .before .before .before .before .before .before .before .pre .1 .1 .0 .amounts-size)
 
 same-length-6 : tie.Need-same-length-6 Inv-loop μ-loop
-same-length-6 c = c .before .loop .inv .figures .amounts-size ∙ sym (c .before .before .before .before .before .before .before .before .before .before .before .before .before .before .before .before .before .before .before .before .before .before .before .before .before .before .before .before .pre .1 .1 .0 .amounts-size)
+same-length-6 c = c .before .loop .inv .figures .before-size ∙ sym (c .before .before .before .before .before .before .before .before .before .before .before .before .before .before .before .before .before .before .before .before .before .before .before .before .pre .1 .1 .0 .before-size)
 
 same-length-7 : tie.Need-same-length-7 Inv-loop μ-loop
-same-length-7 c = c .before .loop .inv .figures .before-size ∙ sym (c .before .before .before .before .before .before .before .before .before .before .before .before .before .before .before .before .before .before .before .before .before .before .before .before .before .before .before .before .pre .1 .1 .0 .before-size)
+same-length-7 c = c .before .loop .inv .figures .dealt-size ∙ sym (c .before .before .before .before .before .before .before .before .before .before .before .before .before .before .before .before .before .before .before .before .before .before .before .before .pre .1 .1 .0 .dealt-size)
 
 same-length-8 : tie.Need-same-length-8 Inv-loop μ-loop
-same-length-8 c = c .before .loop .inv .figures .dealt-size ∙ sym (c .before .before .before .before .before .before .before .before .before .before .before .before .before .before .before .before .before .before .before .before .before .before .before .before .before .before .before .before .pre .1 .1 .0 .dealt-size)
-
-same-length-9 : tie.Need-same-length-9 Inv-loop μ-loop
-same-length-9 c = c .before .loop .inv .lists .grants-size ∙ sym (c .before .before .before .before .before .before .before .before .before .before .before .before .before .before .before .before .before .before .before .before .before .before .before .before .before .before .before .before .pre .0 .grants-size)
+same-length-8 c = c .before .loop .inv .lists .grants-size ∙ sym (c .before .before .before .before .before .before .before .before .before .before .before .before .before .before .before .before .before .before .before .before .before .before .before .before .pre .0 .grants-size)
 
 returns : tie.Need-returns Inv-loop μ-loop
 returns c = (loop-end (c .before .loop .inv) (c .loop-test .left), rows-end (c .before .loop .inv) (c .loop-test .left))
@@ -115,8 +106,7 @@ deal-ranks-spec =
     (tie.spec
     Inv-loop
     μ-loop
-    widen-requires
-    sum-lows-requires
+    copy-requires
     loop-holds
     sub-level
     mul-index
@@ -136,5 +126,4 @@ deal-ranks-spec =
     same-length-6
     same-length-7
     same-length-8
-    same-length-9
     returns)

@@ -12,11 +12,11 @@ use Rattle.deals.proofs.dealing.deal_nodes.Statement.{statement}
 use Rattle.deals.proofs.dealing.deal_nodes.Tie as tie
 
 abbrev Inv-loop : tie.InvT-loop
-Inv-loop parents active count level requests pcapmins asked amounts₀ before₀ dealt₀ i₀ amounts before dealt i =
-    DealTurn parents active count level requests pcapmins asked i amounts before dealt
+Inv-loop parents active count level requests pcapmins wholes amounts₀ before₀ dealt₀ i₀ amounts before dealt i =
+    DealTurn parents active count level requests pcapmins wholes i amounts before dealt
 
 abbrev μ-loop : tie.MeasureT-loop
-μ-loop parents active count level requests pcapmins asked amounts₀ before₀ dealt₀ i₀ amounts before dealt i = count - i
+μ-loop parents active count level requests pcapmins wholes amounts₀ before₀ dealt₀ i₀ amounts before dealt i = count - i
 
 clear-requires : tie.Need-clear-requires Inv-loop μ-loop
 clear-requires c κs = search needs
@@ -29,22 +29,21 @@ clear-requires-3 c κs = search needs
 
 loop-holds : tie.Need-loop-holds Inv-loop μ-loop
 loop-holds c =
-    let s = c .before .before .before .before .before .before .before .before .before .before .before .before .before .before .before .before .before .before .before in
-    let pre = s .pre in
+    let pre = c .before .before .before .before .before .before .before .before .before .before .before .before .before .before .before .before .before .before .before .pre in
     let sizes = pre .1 .0 in
     let amounts = c .before .before .before .before .before .before .before .before .before .before .clear in
-    deal-start (pre .1 .1 .1 .0) (pre .1 .1 .1 .1) (λ h l. cleared-at (s .args .amounts .now) _ h (amounts .ensures) (omega (arith, sizes .2)))
+    deal-start (pre .1 .1 .1 .0) (pre .1 .1 .1 .1) (λ h l. cleared-at (c .before .before .before .before .before .before .before .before .before .before .before .before .before .before .before .before .before .before .before .args .amounts .now) _ h (amounts .ensures) (omega (arith, sizes .2)))
     (nodes-start
     (record {
       few = pre .0 .0;
       ranked = pre .0 .1;
       rises = pre .0 .2;
       pcapmins-size = sizes .0;
-      asked-size = sizes .1;
+      wholes-size = sizes .1;
       bounds = pre .1 .1 .0;
     })
     (amounts .kept .0 ∙ sizes .2)
-    (served-none _ _ _ _ (s .args .before .now) (s .args .dealt .now) (sizes .3) (sizes .4) (c .before .before .before .before .before .before .clear2 .ensures) (c .before .before .clear3 .ensures) (λ n. sum-none _)))
+    (served-none _ _ _ _ (c .before .before .before .before .before .before .before .before .before .before .before .before .before .before .before .before .before .before .before .args .before .now) (c .before .before .before .before .before .before .before .before .before .before .before .before .before .before .before .before .before .before .before .args .dealt .now) (sizes .3) (sizes .4) (c .before .before .before .before .before .before .clear2 .ensures) (c .before .before .clear3 .ensures) (λ n. sum-none _)))
 
 mul-index : tie.Need-mul-index Inv-loop μ-loop
 mul-index c = search needs
@@ -116,37 +115,20 @@ shared-slice-read-serve c =
     let t = c .before .before .before .before .before .before .before .before .before .before .before .loop .inv in
     let more = c .before .before .before .before .before .before .before .before .before .before .loop-test .taken in
     let is = c .before .before .before .before .before .before .before .before .index .ensures .0 in
-    omega (arith, parent-within (deal-here t more is) (deal-within t more is) _ _ (c .before .before .before .before .before .before .wide .ensures .0) (c .before .before .before .index2 .ensures .0) (c .before .before .if1 .left), t .turn .ready .asked-size)
-
-mul-serve-3 : tie.Need-mul-serve-3 Inv-loop μ-loop
-mul-serve-3 c = search needs
-
-shared-slice-read-serve-2 : tie.Need-shared-slice-read-serve-2 Inv-loop μ-loop
-shared-slice-read-serve-2 c =
-    let t = c .before .before .before .before .before .before .before .before .before .before .before .before .loop .inv in
-    let more = c .before .before .before .before .before .before .before .before .before .before .before .loop-test .taken in
-    let is = c .before .before .before .before .before .before .before .before .before .index .ensures .0 in
-    omega (arith, parent-within (deal-here t more is) (deal-within t more is) _ _ (c .before .before .before .before .before .before .before .wide .ensures .0) (c .before .before .before .before .index2 .ensures .0) (c .before .before .before .if1 .left), t .turn .ready .pcapmins-size)
-
-sub-serve : tie.Need-sub-serve Inv-loop μ-loop
-sub-serve c =
-    let t = c .before .before .before .before .before .before .before .before .before .before .before .before .loop .inv in
-    let more = c .before .before .before .before .before .before .before .before .before .before .before .loop-test .taken in
-    let is = c .before .before .before .before .before .before .before .before .before .index .ensures .0 in
-    t .turn .ready .bounds _ (parent-within (deal-here t more is) (deal-within t more is) _ _ (c .before .before .before .before .before .before .before .wide .ensures .0) (c .before .before .before .before .index2 .ensures .0) (c .before .before .before .if1 .left)) .2
+    omega (arith, parent-within (deal-here t more is) (deal-within t more is) _ _ (c .before .before .before .before .before .before .wide .ensures .0) (c .before .before .before .index2 .ensures .0) (c .before .before .if1 .left), t .turn .ready .wholes-size)
 
 serve-requires : tie.Need-serve-requires Inv-loop μ-loop
 serve-requires c κs =
-    let t = c .before .before .before .before .before .before .before .before .before .before .before .before .before .before .loop .inv in
-    let more = c .before .before .before .before .before .before .before .before .before .before .before .before .before .loop-test .taken in
-    let is = c .before .before .before .before .before .before .before .before .before .before .before .index .ensures .0 in
-    node-may-serve (deal-here t more is) (deal-within t more is) _ _ (c .before .before .before .before .before .before .before .before .before .wide .ensures .0) (c .before .before .before .before .before .before .index2 .ensures .0) (c .before .before .before .before .before .if1 .left)
+    let t = c .before .before .before .before .before .before .before .before .before .before .before .before .before .loop .inv in
+    let more = c .before .before .before .before .before .before .before .before .before .before .before .before .loop-test .taken in
+    let is = c .before .before .before .before .before .before .before .before .before .before .index .ensures .0 in
+    node-may-serve (deal-here t more is) (deal-within t more is) _ _ (c .before .before .before .before .before .before .before .before .wide .ensures .0) (c .before .before .before .before .before .index2 .ensures .0) (c .before .before .before .before .if1 .left)
 
 mul-amounts-2 : tie.Need-mul-amounts-2 Inv-loop μ-loop
 mul-amounts-2 c = search needs
 
 slice-write-amounts-2 : tie.Need-slice-write-amounts-2 Inv-loop μ-loop
-slice-write-amounts-2 c = omega (arith, deal-within (c .before .before .before .before .before .before .before .before .before .before .before .before .before .before .before .before .before .before .before .loop .inv) (c .before .before .before .before .before .before .before .before .before .before .before .before .before .before .before .before .before .before .loop-test .taken) (c .before .before .before .before .before .before .before .before .before .before .before .before .before .before .before .before .index .ensures .0), c .before .before .before .before .before .before .before .before .before .before .before .before .before .before .before .before .before .before .before .loop .inv .turn .amounts-size)
+slice-write-amounts-2 c = omega (arith, deal-within (c .before .before .before .before .before .before .before .before .before .before .before .before .before .before .before .before .before .before .loop .inv) (c .before .before .before .before .before .before .before .before .before .before .before .before .before .before .before .before .before .loop-test .taken) (c .before .before .before .before .before .before .before .before .before .before .before .before .before .before .before .index .ensures .0), c .before .before .before .before .before .before .before .before .before .before .before .before .before .before .before .before .before .before .loop .inv .turn .amounts-size)
 
 add-i : tie.Need-add-i Inv-loop μ-loop
 add-i c = search needs
@@ -165,7 +147,7 @@ loop-again c =
     let request = c .before .before .before .before .wide .ensures .0 in
     ⊎-elim
     (λ w. deal-next t more is _ (w .1) (root-next here within _ _ request parent (w .0 .taken) (w .1) (w .2) (w .3)))
-    (λ w. deal-next t more is _ (w .11) (inner-next here within _ _ request parent (w .0 .left) _ (w .6 .ensures .0, (w .12 ∙ w .6 .ensures .1 .0, w .13 ∙ w .6 .ensures .1 .1)) (w .11)))
+    (λ w. deal-next t more is _ (w .10) (inner-next here within _ _ request parent (w .0 .left) _ (w .5 .ensures .0, (w .11 ∙ w .5 .ensures .1 .0, w .12 ∙ w .5 .ensures .1 .1)) (w .10)))
     (c .if1 .came)
 
 same-length : tie.Need-same-length Inv-loop μ-loop
@@ -211,9 +193,6 @@ deal-nodes-spec =
     slice-read-serve
     mul-serve-2
     shared-slice-read-serve
-    mul-serve-3
-    shared-slice-read-serve-2
-    sub-serve
     serve-requires
     mul-amounts-2
     slice-write-amounts-2

@@ -1,4 +1,4 @@
--- `gather` meets its contract: what an active node's children ask, and its Pcapmin, are whole when its turn comes, since all active
+-- `gather` meets its contract: an active node's Pcapmin, and its children's excesses, are whole when its turn comes, since all active
 -- nodes beneath it had their turns before, and the others have nothing.
 use Prim.Native.Nat.{_-_}
 use native.Mathlib.Omega.{arith}
@@ -8,28 +8,24 @@ use Rattle.deals.proofs.metrics.gather.Statement.{statement}
 use Rattle.deals.proofs.metrics.gather.Tie as tie
 
 abbrev Inv-loop : tie.InvT-loop
-Inv-loop parents active count level left₀ lower₀ pcapmins₀ asked₀ requests₀ i₀ left lower pcapmins asked requests i =
-    GatherTurn parents active count level left₀ lower₀ pcapmins₀ asked₀ requests₀ i left lower pcapmins asked requests
+Inv-loop parents active count level left₀ pcapmins₀ wholes₀ requests₀ i₀ left pcapmins wholes requests i =
+    GatherTurn parents active count level left₀ pcapmins₀ wholes₀ requests₀ i left pcapmins wholes requests
 
 abbrev μ-loop : tie.MeasureT-loop
-μ-loop parents active count level left₀ lower₀ pcapmins₀ asked₀ requests₀ i₀ left lower pcapmins asked requests i = i
+μ-loop parents active count level left₀ pcapmins₀ wholes₀ requests₀ i₀ left pcapmins wholes requests i = i
 
 loop-holds : tie.Need-loop-holds Inv-loop μ-loop
 loop-holds c =
-    let pre = c .before .before .before .before .before .before .pre in
-    let bounds = pre .1 .1 .1 .0 in
-    gather-start (pre .1 .1 .1 .1 .0) (pre .1 .0 .2) (pre .1 .1 .1 .1 .1 .0)
+    let pre = c .before .before .before .before .before .pre in
+    gather-start (pre .1 .1 .1 .1 .0) (pre .1 .0 .1) (pre .1 .1 .1 .1 .1 .0)
     (record {
       few = pre .0 .0;
       ranked = pre .0 .1;
       rises = pre .0 .2;
       left-size = pre .1 .0 .0;
-      lower-size = pre .1 .0 .1;
-      wants-size = pre .1 .0 .3;
-      wants-most = pre .1 .1 .0 .1;
-      left-most = λ m l. bounds m l .0;
-      pcapmin-fits = λ m l. bounds m l .1;
-      lower-fits = λ m l. bounds m l .2;
+      excesses-size = pre .1 .0 .2;
+      excesses-most = pre .1 .1 .0 .1;
+      fits = pre .1 .1 .1 .0;
     })
     (pre .1 .1 .1 .1 .1 .1)
 
@@ -55,46 +51,20 @@ slice-read-pcapmin c =
     let is = c .before .index .ensures .0 in
     omega (arith, gather-node t more is .in-parents, gather-size t more is)
 
-mul-below : tie.Need-mul-below Inv-loop μ-loop
-mul-below c = search needs
-
-slice-read-below : tie.Need-slice-read-below Inv-loop μ-loop
-slice-read-below c = gather-node (c .before .before .before .before .before .loop .inv) (c .before .before .before .before .loop-test .taken) (c .before .before .index .ensures .0) .in-lower
-
-sub-below : tie.Need-sub-below Inv-loop μ-loop
-sub-below c =
-    let t = c .before .before .before .before .before .loop .inv in
-    let more = c .before .before .before .before .loop-test .taken in
-    let is = c .before .before .index .ensures .0 in
-    omega (arith, gather-node t more is .pcapmin-fits, gather-whole t more is)
-
 mul-limit : tie.Need-mul-limit Inv-loop μ-loop
 mul-limit c = search needs
 
 slice-read-limit : tie.Need-slice-read-limit Inv-loop μ-loop
-slice-read-limit c = gather-node (c .before .before .before .before .before .before .loop .inv) (c .before .before .before .before .before .loop-test .taken) (c .before .before .before .index .ensures .0) .in-left
-
-sub-least : tie.Need-sub-least Inv-loop μ-loop
-sub-least c =
-    let t = c .before .before .before .before .before .before .loop .inv in
-    let more = c .before .before .before .before .before .loop-test .taken in
-    let is = c .before .before .before .index .ensures .0 in
-    omega (arith, gather-node t more is .below-fits, gather-whole t more is)
+slice-read-limit c = gather-node (c .before .before .before .before .before .loop .inv) (c .before .before .before .before .loop-test .taken) (c .before .before .index .ensures .0) .in-left
 
 mul-least : tie.Need-mul-least Inv-loop μ-loop
 mul-least c = search needs
 
 slice-read-least : tie.Need-slice-read-least Inv-loop μ-loop
-slice-read-least c = gather-node (c .before .before .before .before .before .before .before .loop .inv) (c .before .before .before .before .before .before .loop-test .taken) (c .before .before .before .before .index .ensures .0) .in-asked
+slice-read-least c = gather-node (c .before .before .before .before .before .before .loop .inv) (c .before .before .before .before .before .loop-test .taken) (c .before .before .before .index .ensures .0) .in-wholes
 
 least-requires : tie.Need-least-requires Inv-loop μ-loop
 least-requires c κs = search needs
-
-mul-lower : tie.Need-mul-lower Inv-loop μ-loop
-mul-lower c = search needs
-
-slice-write-lower : tie.Need-slice-write-lower Inv-loop μ-loop
-slice-write-lower c = gather-node (c .before .before .before .before .before .before .before .before .loop .inv) (c .before .before .before .before .before .before .before .loop-test .taken) (c .before .before .before .before .before .index .ensures .0) .in-lower
 
 sub-left : tie.Need-sub-left Inv-loop μ-loop
 sub-left c = search needs
@@ -103,19 +73,30 @@ mul-left : tie.Need-mul-left Inv-loop μ-loop
 mul-left c = search needs
 
 slice-write-left : tie.Need-slice-write-left Inv-loop μ-loop
-slice-write-left c = gather-node (c .before .before .before .before .before .before .before .before .loop .inv) (c .before .before .before .before .before .before .before .loop-test .taken) (c .before .before .before .before .before .index .ensures .0) .in-left
+slice-write-left c = gather-node (c .before .before .before .before .before .before .before .loop .inv) (c .before .before .before .before .before .before .loop-test .taken) (c .before .before .before .before .index .ensures .0) .in-left
+
+add-narrow : tie.Need-add-narrow Inv-loop μ-loop
+add-narrow c =
+    let t = c .before .before .before .before .before .before .before .loop .inv in
+    let more = c .before .before .before .before .before .before .loop-test .taken in
+    let is = c .before .before .before .before .index .ensures .0 in
+    omega (arith, gather-node t more is .fits, gather-whole t more is, c .least .ensures)
 
 narrow-requires : tie.Need-narrow-requires Inv-loop μ-loop
-narrow-requires c κs = omega (arith, gather-node (c .before .before .before .before .before .before .before .before .loop .inv) (c .before .before .before .before .before .before .before .loop-test .taken) (c .before .before .before .before .before .index .ensures .0) .left-most)
+narrow-requires c κs =
+    let t = c .before .before .before .before .before .before .before .loop .inv in
+    let more = c .before .before .before .before .before .before .loop-test .taken in
+    let is = c .before .before .before .before .index .ensures .0 in
+    omega (arith, gather-node t more is .fits, gather-whole t more is, c .least .ensures)
 
 mul-requests : tie.Need-mul-requests Inv-loop μ-loop
-mul-requests c = omega (arith, gather-node (c .before .before .before .before .before .before .before .before .before .loop .inv) (c .before .before .before .before .before .before .before .before .loop-test .taken) (c .before .before .before .before .before .before .index .ensures .0) .in-rows)
+mul-requests c = omega (arith, gather-node (c .before .before .before .before .before .before .before .before .loop .inv) (c .before .before .before .before .before .before .before .loop-test .taken) (c .before .before .before .before .before .index .ensures .0) .in-rows)
 
 mul-requests-2 : tie.Need-mul-requests-2 Inv-loop μ-loop
-mul-requests-2 c = omega (arith, gather-node (c .before .before .before .before .before .before .before .before .before .loop .inv) (c .before .before .before .before .before .before .before .before .loop-test .taken) (c .before .before .before .before .before .before .index .ensures .0) .in-rows)
+mul-requests-2 c = omega (arith, gather-node (c .before .before .before .before .before .before .before .before .loop .inv) (c .before .before .before .before .before .before .before .loop-test .taken) (c .before .before .before .before .before .index .ensures .0) .in-rows)
 
 index-1-requests : tie.Need-index-1-requests Inv-loop μ-loop
-index-1-requests c = gather-node (c .before .before .before .before .before .before .before .before .before .loop .inv) (c .before .before .before .before .before .before .before .before .loop-test .taken) (c .before .before .before .before .before .before .index .ensures .0) .in-rows
+index-1-requests c = gather-node (c .before .before .before .before .before .before .before .before .loop .inv) (c .before .before .before .before .before .before .before .loop-test .taken) (c .before .before .before .before .before .index .ensures .0) .in-rows
 
 index-2-requests : tie.Need-index-2-requests Inv-loop μ-loop
 index-2-requests c = search needs
@@ -124,27 +105,27 @@ mul-index-2 : tie.Need-mul-index-2 Inv-loop μ-loop
 mul-index-2 c = search needs
 
 shared-slice-read-index-2 : tie.Need-shared-slice-read-index-2 Inv-loop μ-loop
-shared-slice-read-index-2 c = gather-node (c .before .before .before .before .before .before .before .before .before .before .loop .inv) (c .before .before .before .before .before .before .before .before .before .loop-test .taken) (c .before .before .before .before .before .before .before .index .ensures .0) .in-parents
+shared-slice-read-index-2 c = gather-node (c .before .before .before .before .before .before .before .before .before .loop .inv) (c .before .before .before .before .before .before .before .before .loop-test .taken) (c .before .before .before .before .before .before .index .ensures .0) .in-parents
 
 index-requires-2 : tie.Need-index-requires-2 Inv-loop μ-loop
 index-requires-2 c κs = search needs
 
 credit-requires : tie.Need-credit-requires Inv-loop μ-loop
 credit-requires c κs =
-    let t = c .before .before .before .before .before .before .before .before .before .before .before .before .loop .inv in
-    let more = c .before .before .before .before .before .before .before .before .before .before .before .loop-test .taken in
-    let is = c .before .before .before .before .before .before .before .before .before .index .ensures .0 in
-    let pre = c .before .before .before .before .before .before .before .before .before .before .before .before .before .before .before .before .before .before .before .pre in
+    let t = c .before .before .before .before .before .before .before .before .before .before .before .loop .inv in
+    let more = c .before .before .before .before .before .before .before .before .before .before .loop-test .taken in
+    let is = c .before .before .before .before .before .before .before .before .index .ensures .0 in
+    let pre = c .before .before .before .before .before .before .before .before .before .before .before .before .before .before .before .before .before .pre in
     let here = gather-node t more is .in-parents in
-    let rise = pre .0 .2 (c .before .before .before .before .before .before .before .before .before .index .result) here in
+    let rise = pre .0 .2 (c .before .before .before .before .before .before .before .before .index .result) here in
     let most = gather-most t more is in (
       omega (arith, c .before .index2 .ensures .0, gather-size t more is),
-      omega (arith, c .before .index2 .ensures .0, most (c .before .before .before .before .before .before .before .before .before .index .result) here, most (c .before .index2 .result - 1) (omega (arith, c .before .index2 .ensures .0)), pre .1 .1 .0),
+      omega (arith, c .before .index2 .ensures .0, most (c .before .before .before .before .before .before .before .before .index .result) here, most (c .before .index2 .result - 1) (omega (arith, c .before .index2 .ensures .0)), pre .1 .1 .0),
     )
 
 credit-requires-2 : tie.Need-credit-requires-2 Inv-loop μ-loop
 credit-requires-2 c κs =
-    gather-node (c .before .before .before .before .before .before .before .before .before .before .before .before .before .before .before .before .loop .inv) (c .before .before .before .before .before .before .before .before .before .before .before .before .before .before .before .loop-test .taken) (c .before .before .before .before .before .before .before .before .before .before .before .before .before .index .ensures .0) .credit-fits (c .before .before .before .before .before .index2 .ensures .0)
+    gather-node (c .before .before .before .before .before .before .before .before .before .before .before .before .before .before .before .loop .inv) (c .before .before .before .before .before .before .before .before .before .before .before .before .before .before .loop-test .taken) (c .before .before .before .before .before .before .before .before .before .before .before .before .index .ensures .0) .credit-fits (c .before .before .before .before .before .index2 .ensures .0)
     (omega (arith, c .before .before .before .before .before .before .before .before .least .ensures))
 
 loop-less : tie.Need-loop-less Inv-loop μ-loop
@@ -152,20 +133,17 @@ loop-less c = search needs
 
 loop-again : tie.Need-loop-again Inv-loop μ-loop
 loop-again c =
-    gather-turn (c .before .before .before .before .before .before .before .before .before .before .before .before .before .before .before .before .before .before .before .loop .inv) (c .before .before .before .before .before .before .before .before .before .before .before .before .before .before .before .before .before .before .loop-test .taken) (c .before .before .before .before .before .before .before .before .before .before .before .before .before .before .before .before .index .ensures .0) (c .before .before .before .before .before .before .before .before .before .before .before .least .ensures) (c .before .before .before .before .before .before .before .before .before .before .narrow .ensures) (c .before .before .before .before .before .before .before .before .index2 .ensures .0)
+    gather-turn (c .before .before .before .before .before .before .before .before .before .before .before .before .before .before .before .before .before .before .loop .inv) (c .before .before .before .before .before .before .before .before .before .before .before .before .before .before .before .before .before .loop-test .taken) (c .before .before .before .before .before .before .before .before .before .before .before .before .before .before .before .index .ensures .0) (c .before .before .before .before .before .before .before .before .before .before .before .least .ensures) (c .before .before .before .before .before .before .before .before .before .before .narrow .ensures) (c .before .before .before .before .before .before .before .before .index2 .ensures .0)
     (c .before .before .before .before .before .before .credit .ensures) (c .before .before .credit2 .ensures)
 
 same-length : tie.Need-same-length Inv-loop μ-loop
 same-length c = c .before .loop .inv .requesting .left-size
 
 same-length-2 : tie.Need-same-length-2 Inv-loop μ-loop
-same-length-2 c = c .before .loop .inv .requesting .lower-size
+same-length-2 c = c .before .loop .inv .summing .size
 
 same-length-3 : tie.Need-same-length-3 Inv-loop μ-loop
-same-length-3 c = c .before .loop .inv .summing .size
-
-same-length-4 : tie.Need-same-length-4 Inv-loop μ-loop
-same-length-4 c = c .before .loop .inv .requesting .asked-size
+same-length-3 c = c .before .loop .inv .requesting .wholes-size
 
 returns : tie.Need-returns Inv-loop μ-loop
 returns c = gather-end (c .before .loop .inv) (c .loop-test .left)
@@ -183,20 +161,15 @@ gather-spec =
     index-requires
     mul-pcapmin
     slice-read-pcapmin
-    mul-below
-    slice-read-below
-    sub-below
     mul-limit
     slice-read-limit
-    sub-least
     mul-least
     slice-read-least
     least-requires
-    mul-lower
-    slice-write-lower
     sub-left
     mul-left
     slice-write-left
+    add-narrow
     narrow-requires
     mul-requests
     mul-requests-2
@@ -212,5 +185,4 @@ gather-spec =
     same-length
     same-length-2
     same-length-3
-    same-length-4
     returns)

@@ -13,14 +13,14 @@ use Rattle.deals.proofs.metrics.sum_cords.Statement.{statement}
 use Rattle.deals.proofs.metrics.sum_cords.Tie as tie
 
 abbrev Inv-loop : tie.InvT-loop
-Inv-loop nodes levels lows wants next level from pcapmins₀ asked₀ c₀ pcapmins asked c =
+Inv-loop nodes levels lows wants next level from pcapmins₀ wholes₀ c₀ pcapmins wholes c =
     (c ≤ length nodes)
     × (c < length nodes → at levels c ≡ level)
-    × (Hangs (length pcapmins₀) (length nodes) (at nodes) (at lows) × Credited (length pcapmins₀) (at nodes) (ofLevel levels lows level) c pcapmins)
-    × (Hangs (length asked₀) (length nodes) (at nodes) (at wants) × Credited (length asked₀) (at nodes) (ofLevel levels wants level) c asked)
+    × (Hangs (length pcapmins₀) (length nodes) (at nodes) (at lows) × Credited (length pcapmins₀) (at nodes) (ofLevel levels (at lows) level) c pcapmins)
+    × (Hangs (length wholes₀) (length nodes) (at nodes) (λ h. at wants h - at lows h) × Credited (length wholes₀) (at nodes) (ofLevel levels (λ h. at wants h - at lows h) level) c wholes)
 
 abbrev μ-loop : tie.MeasureT-loop
-μ-loop nodes levels lows wants next level from pcapmins₀ asked₀ c₀ pcapmins asked c = length nodes - c
+μ-loop nodes levels lows wants next level from pcapmins₀ wholes₀ c₀ pcapmins wholes c = length nodes - c
 
 clear-requires : tie.Need-clear-requires Inv-loop μ-loop
 clear-requires c κs = search needs
@@ -44,7 +44,7 @@ loop-holds c =
       ),
       (
         λ i l. omega (arith, second .kept .0, pre .1 .0, cords .hangs i l, cords .within i l, cords .most i l),
-        credited-skip _ (chain .start) (credited-start _ _ (start .asked .now) (second .ensures)),
+        credited-skip _ (chain .start) (credited-start _ _ (start .wholes .now) (second .ensures)),
       ),
     )
 
@@ -57,11 +57,11 @@ shared-slice-read-index c = search needs
 index-requires : tie.Need-index-requires Inv-loop μ-loop
 index-requires c κs = search needs
 
-mul-wide : tie.Need-mul-wide Inv-loop μ-loop
-mul-wide c = search needs
+mul-low : tie.Need-mul-low Inv-loop μ-loop
+mul-low c = search needs
 
-shared-slice-read-wide : tie.Need-shared-slice-read-wide Inv-loop μ-loop
-shared-slice-read-wide c = search needs
+shared-slice-read-low : tie.Need-shared-slice-read-low Inv-loop μ-loop
+shared-slice-read-low c = search needs
 
 wide-requires : tie.Need-wide-requires Inv-loop μ-loop
 wide-requires c κs = search needs
@@ -71,11 +71,14 @@ credit-requires c κs =
     let inv = c .before .before .before .before .before .before .loop .inv .2 in
     credited-fits (inv .1) (c .before .before .before .before .before .before .before .before .before .before .before .before .before .before .before .before .before .before .before .before .before .before .pre .0 .few) (inv .0) (ofLevel-most _ _ _) (search needs) (c .before .before .before .index .ensures .0) (c .wide .ensures .0)
 
-mul-wide-2 : tie.Need-mul-wide-2 Inv-loop μ-loop
-mul-wide-2 c = search needs
+mul-wide : tie.Need-mul-wide Inv-loop μ-loop
+mul-wide c = search needs
 
-shared-slice-read-wide-2 : tie.Need-shared-slice-read-wide-2 Inv-loop μ-loop
-shared-slice-read-wide-2 c = search needs
+shared-slice-read-wide : tie.Need-shared-slice-read-wide Inv-loop μ-loop
+shared-slice-read-wide c = search needs
+
+sub-wide : tie.Need-sub-wide Inv-loop μ-loop
+sub-wide c = c .before .before .before .before .before .before .before .before .before .before .before .before .before .before .before .before .before .before .before .before .before .before .before .before .before .before .before .pre .0 .ordered _ (c .before .before .before .before .before .before .before .before .before .before .loop-test .taken)
 
 wide-requires-2 : tie.Need-wide-requires-2 Inv-loop μ-loop
 wide-requires-2 c κs = search needs
@@ -149,12 +152,13 @@ sum-cords-spec =
     mul-index
     shared-slice-read-index
     index-requires
-    mul-wide
-    shared-slice-read-wide
+    mul-low
+    shared-slice-read-low
     wide-requires
     credit-requires
-    mul-wide-2
-    shared-slice-read-wide-2
+    mul-wide
+    shared-slice-read-wide
+    sub-wide
     wide-requires-2
     credit-requires-2
     mul-index-2

@@ -7,7 +7,7 @@ use native.Mathlib.Nat.{not-suc-le-zero, le-of-suc-le-suc, eq-or-lt-of-le}
 use native.Mathlib.Omega.{arith}
 use native.Mathlib.Numerals.{add-one}
 use lib.ListN.{length, set, length-set}
-use lib.Seq.{getD-set-same, getD-set-other, set-getD, ext-getD}
+use lib.Seq.{getD-set-same, getD-set-other, ext-getD}
 use Rattle.deals.specs.Figures.{figures, at}
 use Rattle.deals.proofs.Lists.{figures-at, figures-length}
 
@@ -29,10 +29,6 @@ module _ {g : ℕ → ℕ} {size c : ℕ} {l : List ℕ} where
       go : (i : ℕ) → (i ≡ c) ⊎ (i < c) → at (set l c x) i ≡ g i
       go i (inl q) = rw q (getD-set-same l c x 0 (omega (arith, f .size-is)) ∙ e)
       go i (inr q) = getD-set-other l c i x 0 (λ z. omega arith) ∙ f .done i q
-
-  -- A figure that is there already need not be put.
-  pub filled-kept : Filled g size c l → c < size → at l c ≡ g c → Filled g size (c + 1) l
-  filled-kept f h e = rw (set-getD l c 0) at (filled-one (at l c) f h e)
 
   -- A list filled to its end is the list of the figures, by whatever name.
   pub filled-all : (n : ℕ) (f : ℕ → ℕ) → Filled g size c l → size ≡ n → n ≤ c → ((i : ℕ) → i < n → g i ≡ f i) → l ≡ figures n f

@@ -18,7 +18,7 @@ use Rattle.deals.specs.Figures.{figures, at, sumOf}
 use Rattle.deals.specs.Passes.{ServerLists, usableBefore, usableFrom, usedFrom, strandedFrom, wantsFrom}
 use Rattle.deals.proofs.Lists.{figures-at, figures-length, total-sum}
 use Rattle.deals.proofs.Loads.{leastOver-next, leastOver-zero, leastOver-start}
-use Rattle.deals.proofs.Filled.{Filled, filled-none, filled-one, filled-kept, filled-all}
+use Rattle.deals.proofs.Filled.{Filled, filled-none, filled-one, filled-all}
 
 -- ---- The usable watts
 
@@ -115,12 +115,11 @@ module _ {shares servers usable grants first : List ℕ} where
     stranded-here : at (strandedFrom (usedFrom shares servers usable) grants) c ≡ watts
     stranded-here = figures-at _ c _ placed ∙ ap (λ (y : ℕ). at grants c - y) used-here ∙ sym stranded-is
 
-    want-here : (t : Bool) → ltb 0 watts ≡ t → cond t x (at first c) ≡ at (wantsFrom (usedFrom shares servers usable) grants first) c
-    want-here t e =
-        sym
-        (figures-at _ c _ placed
-        ∙ ap₂ (λ (y z : ℕ). cond (ltb 0 y) z (at first c)) stranded-here used-here
-        ∙ ap (λ (t : Bool). cond t x (at first c)) e)
+    want-here : {want : ℕ} → want ≡ cond (ltb 0 watts) x (at wants c) → want ≡ at (wantsFrom (usedFrom shares servers usable) grants first) c
+    want-here e =
+        e
+        ∙ ap (cond (ltb 0 watts) x) (by .wants-left c (omega arith))
+        ∙ sym (figures-at _ c _ placed ∙ ap₂ (λ (y z : ℕ). cond (ltb 0 y) z (at first c)) stranded-here used-here)
 
     freed-here : more ≡ sum (c + 1) (at (strandedFrom (usedFrom shares servers usable) grants))
     freed-here =
@@ -128,23 +127,14 @@ module _ {shares servers usable grants first : List ℕ} where
         ∙ ap₂ _+_ (by .freed-is) (sym stranded-here)
         ∙ sym (ap (λ (n : ℕ). sum n (at (strandedFrom (usedFrom shares servers usable) grants))) (add-one c) ∙ sum-suc c _)
 
-    -- One cord more: it leaves watts stranded and wants its used watts, or it leaves none and wants what it did.
-    pub reclaiming-more : 0 < watts → Reclaiming shares servers usable grants first (c + 1) more (set wants c x)
-    reclaiming-more h =
+    -- One cord more: it wants its used watts if it leaves watts stranded, else what it did.
+    pub reclaiming-more : {want : ℕ} → want ≡ cond (ltb 0 watts) x (at wants c) → Reclaiming shares servers usable grants first (c + 1) more (set wants c want)
+    reclaiming-more {want} e =
         record {
           freed-is = freed-here;
           freed-most = omega (arith, by .freed-most);
-          wants-done = filled-one x (by .wants-done) (omega arith) (want-here true (lt-ltb 0 watts h));
-          wants-left = λ i l. getD-set-other wants c i x 0 (λ e. omega arith) ∙ by .wants-left i (omega arith);
-        }
-
-    pub reclaiming-kept : watts ≤ 0 → Reclaiming shares servers usable grants first (c + 1) more wants
-    reclaiming-kept h =
-        record {
-          freed-is = freed-here;
-          freed-most = omega (arith, by .freed-most);
-          wants-done = filled-kept (by .wants-done) (omega arith) (by .wants-left c (omega arith) ∙ want-here false (le-ltb 0 watts h));
-          wants-left = λ i l. by .wants-left i (omega arith);
+          wants-done = filled-one want (by .wants-done) (omega arith) (want-here e);
+          wants-left = λ i l. getD-set-other wants c i want 0 (λ e. omega arith) ∙ by .wants-left i (omega arith);
         }
 
   pub reclaiming-end : {c freed : ℕ} {wants : List ℕ} → Reclaiming shares servers usable grants first c freed wants → length first ≡ length shares → c ≡ length shares

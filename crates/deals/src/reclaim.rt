@@ -1,5 +1,8 @@
 // What servers can use of their cords' grants, and the wants of the second deal.
 ghost use mathlib.Core.Path.{_≡_};
+ghost use mathlib.Core.Bool.{cond};
+ghost use Prim.Native.Nat.{_^_, _<_};
+ghost use lib.Dec.{ltb};
 ghost use lib.ListN.{length};
 ghost use Rattle.deals.specs.Figures.{sumOf};
 ghost use Rattle.deals.specs.Passes.{ServerLists, usableFrom, usedFrom, strandedFrom, wantsFrom};
@@ -31,6 +34,17 @@ pub(crate) fn usable_of(
     }
 }
 
+// A cord's want in the next deal: its used watts if it has stranded watts, else its want as before. It is chosen without a
+// branch: the processor would often foretell that wrongly.
+fn next_want(stranded: u64, used: u32, want: u32) -> u32
+    requires { ⌜ stranded < 2 ^ 32 ⌝ }
+    ensures { λ r. ⌜ r ≡ cond (ltb 0 stranded) used want ⌝ }
+{
+    // 1 if watts are stranded, else 0: as a sum that carries, since a test may be compiled to a branch.
+    let some = (stranded + 4294967295) / 4294967296;
+    narrow(some * wide(used) + (1 - some) * wide(want))
+}
+
 // After the first deal: the cords that have stranded watts want their used watts from now on; gives the watts freed.
 pub(crate) fn reclaim(
     shares: &[u32],
@@ -48,9 +62,7 @@ pub(crate) fn reclaim(
         let used = carried_by(shares[c], usable[index(servers[c])]);
         let stranded = over(wide(grants[c]), wide(used));
         freed += stranded;
-        if 0 < stranded {
-            wants[c] = used;
-        }
+        wants[c] = next_want(stranded, used, wants[c]);
     }
     freed
 }

@@ -1,11 +1,10 @@
 -- `reclaim` meets its contract: before each turn the watts freed and the wants are those after the cords passed.
 use mathlib.Core.Path.{ap₂, _∙_}
-use mathlib.Core.Logic.{⊎-elim}
 use Prim.Native.Nat.{_-_, _≤_}
 use native.Mathlib.Omega.{arith}
 use lib.ListN.{length}
 use borrow.Author.Needs.{needs}
-use Rattle.deals.proofs.Reclaiming.{Reclaiming, reclaiming-start, reclaiming-more, reclaiming-kept, reclaiming-end}
+use Rattle.deals.proofs.Reclaiming.{Reclaiming, reclaiming-start, reclaiming-more, reclaiming-end}
 use Rattle.deals.proofs.reclaim.reclaim.Statement.{statement}
 use Rattle.deals.proofs.reclaim.reclaim.Tie as tie
 
@@ -63,6 +62,15 @@ over-requires c κs = search needs
 add-freed : tie.Need-add-freed Inv-loop μ-loop
 add-freed c = search needs
 
+mul-next-want : tie.Need-mul-next-want Inv-loop μ-loop
+mul-next-want c = search needs
+
+slice-read-next-want : tie.Need-slice-read-next-want Inv-loop μ-loop
+slice-read-next-want c = search needs
+
+next-want-requires : tie.Need-next-want-requires Inv-loop μ-loop
+next-want-requires c κs = omega (arith, c .before .over .ensures, c .before .before .before .wide .ensures .1)
+
 mul-wants : tie.Need-mul-wants Inv-loop μ-loop
 mul-wants c = search needs
 
@@ -77,17 +85,15 @@ loop-less c = search needs
 
 loop-again : tie.Need-loop-again Inv-loop μ-loop
 loop-again c =
-    let over = c .before .over in
-    let stranded = over .ensures ∙ ap₂ _-_ (c .before .before .before .wide .ensures .0) (c .before .before .wide2 .ensures .0) in
-    let most : over .result ≤ 4294967295 = omega (arith, over .ensures, c .before .before .before .wide .ensures .1) in
-    let size = c .before .before .before .before .before .before .before .before .before .before .before .before .before .before .before .before .before .pre .1 in
-    let by = c .before .before .before .before .before .before .before .before .before .before .before .loop .inv .1 in
-    let used = c .before .before .before .before .before .carried-by .ensures in
-    let place = c .before .before .before .before .before .before .before .index .ensures .0 in
-    ⊎-elim
-    (λ w. (search needs, rw (w .1) (reclaiming-more by size (search needs) place used stranded most (omega arith) (omega (arith, w .0 .taken)))))
-    (λ w. (search needs, rw (w .1) (reclaiming-kept by size (search needs) place used stranded most (omega arith) (omega (arith, w .0 .left)))))
-    (c .if1 .came)
+    let over = c .before .before .over in
+    let wide = c .before .before .before .before .wide .ensures in
+    let by = c .before .before .before .before .before .before .before .before .before .before .before .before .loop .inv .1 in
+    let size = c .before .before .before .before .before .before .before .before .before .before .before .before .before .before .before .before .before .before .pre .1 in
+    let place = c .before .before .before .before .before .before .before .before .index .ensures .0 in
+    let used = c .before .before .before .before .before .before .carried-by .ensures in
+    let stranded = over .ensures ∙ ap₂ _-_ (wide .0) (c .before .before .before .wide2 .ensures .0) in
+    let most : over .result ≤ 4294967295 = omega (arith, over .ensures, wide .1) in
+    (search needs, reclaiming-more by size (search needs) place used stranded most (omega arith) (c .next-want .ensures))
 
 same-length : tie.Need-same-length Inv-loop μ-loop
 same-length c = search needs
@@ -116,6 +122,9 @@ reclaim-spec =
     wide-requires-2
     over-requires
     add-freed
+    mul-next-want
+    slice-read-next-want
+    next-want-requires
     mul-wants
     slice-write-wants
     add-c

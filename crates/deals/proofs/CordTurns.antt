@@ -18,7 +18,8 @@ use Rattle.deals.specs.Figures.{at}
 use Rattle.deals.specs.Split.{part}
 use Rattle.deals.specs.Passes.{NextOf, CordLists, cordsBefore, CordsDealt}
 use Rattle.deals.proofs.Links.{skipped}
-use Rattle.deals.proofs.Serving.{part-le-amount, sum-within, MayServe, HasServed, Served, served-same, served-part, served-next, may-serve}
+use Rattle.deals.proofs.Splits.{part-le}
+use Rattle.deals.proofs.Serving.{sum-within, MayServe, HasServed, Served, served-same, served-part, served-next, may-serve}
 
 on-none : (t : Bool) → on t 0 ≡ 0
 on-none true = refl
@@ -147,8 +148,9 @@ module _ {nodes levels lows wants : List ℕ} {level : ℕ} {wholes amounts befo
               omega (
                 arith,
                 watts-is,
-                part-le-amount (at amounts (node - 1)) (at wholes (node - 1)) (weightsBefore nodes levels lows wants level before₀ c (node - 1)) w room-for,
-                turn .ready .amount-most (node - 1) node-within,
+                part-le (at amounts (node - 1)) (at wholes (node - 1)) (weightsBefore nodes levels lows wants level before₀ c (node - 1)) w (turn .ready .amount-inside (node - 1) node-within),
+                w-is,
+                turn .ready .cords .most c more,
               )
 
           pub cord-next : (given : ℕ) {grants′ : List ℕ} → given ≡ watts → grants′ ≡ set grants c (at lows c + given)

@@ -12,7 +12,6 @@ use lib.Seq.{length-take-le}
 use borrow.Author.Tests.{eqb-true}
 use Rattle.rooms.specs.Sums.{on, sum}
 use Rattle.rooms.specs.Table.{mostNodes, mostCords, mostWatts, highestRank}
-use Rattle.rooms.specs.Limits.{beneath}
 use Rattle.rooms.specs.Credits.{sumBeneath}
 use Rattle.rooms.proofs.Sums.{sum-cong, sum-zero}
 use Rattle.rooms.proofs.Trees.{kids, down}

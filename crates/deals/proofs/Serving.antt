@@ -1,10 +1,9 @@
 -- A node's children served in turn: the parts that they get of its amount, and the weights served and the watts dealt there.
 use mathlib.Core.Path.{_≡_, refl, sym, ap, ap₂, subst, _∙_}
-use mathlib.Core.Logic.{_⊎_, inl, inr}
 use mathlib.Core.Bool.{Bool, true, false}
 use mathlib.Core.List.{List}
 use Prim.Native.Nat.{ℕ, suc, _+_, _*_, _-_, _/_, _^_, _≤_, _<_}
-use native.Mathlib.Nat.{mul-zero, sub-zero, zero-div, div-zero, mul-div-cancel, mul-le-mul, mul-le-mul-left, eq-zero-or-pos, lt-of-le-of-lt}
+use native.Mathlib.Nat.{mul-zero, sub-zero, zero-div, mul-le-mul, lt-of-le-of-lt}
 use native.Mathlib.Omega.{arith}
 use lib.Dec.{eqb, lit<}
 use lib.ListN.{length, set, replicate, length-set, length-replicate, getD-replicate}
@@ -15,17 +14,9 @@ use Rattle.rooms.specs.Table.{mostWatts, mostCords}
 use Rattle.rooms.proofs.Sums.{on-yes, on-no, sum-suc, sum-up}
 use Rattle.deals.specs.Figures.{at}
 use Rattle.deals.specs.Split.{part}
-use Rattle.deals.proofs.Splits.{div-mono, part-none, part-whole}
+use Rattle.deals.proofs.Splits.{part-none, part-whole}
 
 -- ---- One child
-
-pub part-le-amount : (x e c d : ℕ) → c + d ≤ e → part x e c d ≤ x
-unfolding part
-part-le-amount x e c d h = go (eq-zero-or-pos e)
-  where
-    go : (e ≡ 0) ⊎ (0 < e) → x * (c + d) / e - x * c / e ≤ x
-    go (inl z) = rw z (simp div-zero (omega arith))
-    go (inr q) = omega (arith, div-mono (x * (c + d)) (x * e) e (mul-le-mul-left x h), mul-div-cancel x q)
 
 -- What `serve` asks and what it leaves, of an amount x, a whole weight e and a child of weight w.
 abbrev pub MayServe : ℕ → ℕ → ℕ → ℕ → List ℕ → List ℕ → Type 0

@@ -140,9 +140,9 @@ pub(crate) fn gather(
         i -= 1;
         let n = index(active[i]);
         let pcapmin = pcapmins[n];
-        let limit = left[n];
-        let excess = least(limit, wholes[n]);
-        left[n] = limit - excess;
+        let spare = left[n];
+        let excess = least(spare, wholes[n]);
+        left[n] = spare - excess;
         requests[n][level] = narrow(pcapmin + excess);
         let parent = index(parents[n]);
         credit(pcapmins, parent, pcapmin);

@@ -51,11 +51,11 @@ slice-read-pcapmin c =
     let is = c .before .index .ensures .0 in
     omega (arith, gather-node t more is .in-parents, gather-size t more is)
 
-mul-limit : tie.Need-mul-limit Inv-loop μ-loop
-mul-limit c = search needs
+mul-spare : tie.Need-mul-spare Inv-loop μ-loop
+mul-spare c = search needs
 
-slice-read-limit : tie.Need-slice-read-limit Inv-loop μ-loop
-slice-read-limit c = gather-node (c .before .before .before .before .before .loop .inv) (c .before .before .before .before .loop-test .taken) (c .before .before .index .ensures .0) .in-left
+slice-read-spare : tie.Need-slice-read-spare Inv-loop μ-loop
+slice-read-spare c = gather-node (c .before .before .before .before .before .loop .inv) (c .before .before .before .before .loop-test .taken) (c .before .before .index .ensures .0) .in-left
 
 mul-least : tie.Need-mul-least Inv-loop μ-loop
 mul-least c = search needs
@@ -161,8 +161,8 @@ gather-spec =
     index-requires
     mul-pcapmin
     slice-read-pcapmin
-    mul-limit
-    slice-read-limit
+    mul-spare
+    slice-read-spare
     mul-least
     slice-read-least
     least-requires

@@ -100,7 +100,8 @@ fn deal_rank(
     );
 }
 
-// The deal, rank by rank from the highest, with what is left of each limit over the Requests dealt and the lows to come.
+// The deal, rank by rank from the highest. `left` has what each limit has over the Requests dealt and the lows to come, at first
+// `spare`. (`limits` is for the contracts alone, here and in `deal`.)
 fn deal_ranks(
     parents: &[u32],
     limits: &[u32],

@@ -1,4 +1,4 @@
-// One rank's Pcapmin and Requests: summed from the cords onto their nodes, then gathered from the last node to the first.
+// Sums on the nodes: what the limits have over all lows, and one rank's Pcapmin and Requests, from the cords up to the roots.
 ghost use mathlib.Core.Path.{_≡_};
 ghost use Prim.Native.Nat.{ℕ, _+_, _-_, _*_, _^_, _≤_, _<_};
 ghost use lib.ListN.{length, replicate};

@@ -1,19 +1,20 @@
 -- What the calls return and leave, from what the functions that they call ensure.
 use mathlib.Core.Path.{_≡_, refl, sym, ap, _∙_}
-use mathlib.Core.List.{List, [], _++_}
+use mathlib.Core.List.{List, _++_}
 use Prim.Native.Nat.{ℕ, suc, _+_, _/_, _≤_, _<_, min}
 use native.Mathlib.Nat.{le-refl}
 use native.Mathlib.Omega.{arith}
-use lib.ListN.{length, take, drop, length-append, take-append-drop}
-use lib.Seq.{sets, length-sets, length-take-le, take-all, take-length, take-append-le}
+use lib.ListN.{length, take, drop, length-append}
+use lib.Seq.{sets, length-sets, length-take-le, take-all, take-nil, take-length, take-append-le}
 use Rattle.words.specs.Bytes.{wordsOf, bytesOf, answered}
 use Rattle.words.proofs.Lists.{take-sets}
 use Rattle.words.proofs.Bytes.{holdsAnswer-short, holdsAnswer-long, answered-short, take-loaded}
-use Rattle.rooms.specs.Outcome.{Outcome, accepted, refused, answerOf, answerNumber, answerFigure, after, reading, writing}
+use Rattle.rooms.specs.Outcome.{Outcome, answerOf, answerNumber, answerFigure, after, reading, readingFirst, writing}
 use Rattle.rooms.specs.declared.Answer.{Answer}
+use Rattle.rooms.specs.declared.Answer.the-variants.{Accepted, Refused}
 use Rattle.rooms.proofs.Reach.{mostWords}
-use Rattle.rooms.proofs.Outcomes.{front-length}
-use Rattle.rooms.proofs.Lent.{reading-cut, reading-fits, writing-cut}
+use Rattle.rooms.proofs.Outcomes.{front-length, refused-told}
+use Rattle.rooms.proofs.Lent.{reading-first, reading-fits, Stands, writing-cut}
 use Rattle.capi.specs.Calls.{Call, OutcomeCall, ReadCall, WriteCall, bytesAfter}
 use Rattle.capi.specs.Counts.{writtenCount}
 
@@ -59,12 +60,6 @@ module _ (list : List ℕ) (space : ℕ) (written : List ℕ) {front′ : List �
   pub count-fits : count ≤ length list′
   count-fits = omega (arith, length-append front′ (drop space list), size)
 
-  -- The list is as long as it was.
-  pub list-length : length list′ ≡ length list
-  list-length =
-      length-append front′ (drop space list) ∙ ap (λ (n : ℕ). n + length (drop space list)) size
-      ∙ sym (length-append (take space list) (drop space list)) ∙ ap length (take-append-drop space list)
-
   -- Just what was written is stored, where the bytes have space for what was lent.
   pub written-stored : (bytes : List ℕ) {bytes′ : List ℕ} → space ≡ min (length bytes / 4) (length list)
       → bytes′ ≡ sets bytes 0 (bytesOf (take (length bytes / 4) (take count list′))) → bytes′ ≡ sets bytes 0 (bytesOf written)
@@ -76,62 +71,41 @@ module _ (list : List ℕ) (space : ℕ) (written : List ℕ) {front′ : List �
 
 -- ---- Read
 
--- The words of an outcome: none where refused.
-abbrev wordsIn : Outcome → List ℕ
-wordsIn (accepted words) = words
-wordsIn (refused refusal) = []
+-- Read by way of a list of words, which becomes `words′`: those that are accepted stand at its front.
+module _ (sheet words table : List ℕ) {words′ : List ℕ} {told : Answer} {count : ℕ} (is : told ≡ answerOf (readingFirst (length words) sheet (length table / 4)))
+    (stands : (n : ℕ) → told ≡ Accepted n → Stands sheet (length table / 4) words words′ n) (n : count ≡ writtenCount told) where
+  pub read-fits : count ≤ length words′
+  read-fits = go told refl
+    where
+      go : (t : Answer) → told ≡ t → count ≤ length words′
+      go (Accepted k) e = let c : count ≡ k = n ∙ ap writtenCount e in omega (arith, stands k e .fits)
+      go (Refused q) e = let c : count ≡ 0 = n ∙ ap writtenCount e in omega arith
 
-words-after : (o : Outcome) (list : List ℕ) → after o list ≡ sets list 0 (wordsIn o)
-words-after (accepted words) list = refl
-words-after (refused refusal) list = refl
+  module _ (h : suc mostWords ≤ length words) where
+    abbrev own : Outcome
+    own = readingFirst (length words) sheet (length table / 4)
 
-word-bytes : (o : Outcome) (bytes : List ℕ) → sets bytes 0 (bytesOf (wordsIn o)) ≡ bytesAfter o bytes
-unfolding bytesOf
-word-bytes (accepted words) bytes = refl
-word-bytes (refused refusal) bytes = refl
+    same-reading : own ≡ reading sheet (length table / 4)
+    same-reading = reading-first sheet (length table / 4) (length words) h
 
-words-counted : (o : Outcome) → writtenCount (answerOf o) ≡ length (wordsIn o)
-words-counted (accepted words) = refl
-words-counted (refused refusal) = refl
+    -- Just what is accepted is stored.
+    read-stored : {table′ : List ℕ} → table′ ≡ sets table 0 (bytesOf (take (length table / 4) (take count words′))) → table′ ≡ bytesAfter own table
+    unfolding bytesOf
+    read-stored {table′ = table′} t = go told refl
+      where
+        go : (a : Answer) → told ≡ a → table′ ≡ bytesAfter own table
+        go (Accepted k) e =
+            let c : count ≡ k = n ∙ ap writtenCount e in
+            let all = take-all (length table / 4) (take k words′) (reading-fits sheet (length table / 4) (sym same-reading ∙ stands k e .is)) in
+            t ∙ rw (c, stands k e .is, all) refl
+        go (Refused q) e =
+            let c : count ≡ 0 = n ∙ ap writtenCount e in
+            t ∙ rw (c, refused-told own is e, take-nil {A = ℕ} (length table / 4)) refl
 
-words-fit : (sheet : List ℕ) (entries : ℕ) → length (wordsIn (reading sheet entries)) ≤ entries
-words-fit sheet entries = go (reading sheet entries) refl
-  where
-    go : (o : Outcome) → reading sheet entries ≡ o → length (wordsIn o) ≤ entries
-    go (accepted words) e = reading-fits sheet entries e
-    go (refused refusal) e = omega arith
-
--- Read by way of the front of a list of words, which becomes `front′`.
-module _ (sheet words : List ℕ) (space : ℕ) where
-  abbrev own : Outcome
-  own = reading sheet (length (take space words))
-
-  same-reading : (entries : ℕ) → suc mostWords ≤ length words → space ≡ min entries (length words) → own ≡ reading sheet entries
-  same-reading entries h r =
-      ap (reading sheet) (sym (front-length entries words r) ∙ r) ∙ reading-cut sheet entries (length words) (omega arith)
-
-  module _ {told : Answer} {front′ : List ℕ} {count : ℕ} (is : told ≡ answerOf own) (f : front′ ≡ after own (take space words)) (n : count ≡ writtenCount told) where
-    fits : length (wordsIn own) ≤ length (take space words)
-    fits = words-fit sheet (length (take space words))
-
-    written : front′ ≡ sets (take space words) 0 (wordsIn own)
-    written = f ∙ words-after own (take space words)
-
-    counted : count ≡ length (wordsIn own)
-    counted = n ∙ ap writtenCount is ∙ words-counted own
-
-    pub read-fits : count ≤ length (front′ ++ drop space words)
-    read-fits = count-fits words space (wordsIn own) fits written counted
-
-    pub read-length : length (front′ ++ drop space words) ≡ length words
-    read-length = list-length words space (wordsIn own) fits written counted
-
-    pub read-done : (table answer : List ℕ) {table′ answer′ : List ℕ} → suc mostWords ≤ length words → space ≡ min (length table / 4) (length words) → 16 ≤ length answer
-        → table′ ≡ sets table 0 (bytesOf (take (length table / 4) (take count (front′ ++ drop space words)))) → answer′ ≡ answered (answerNumber told) (answerFigure told) answer
+    pub read-done : (answer : List ℕ) {table′ answer′ : List ℕ} → 16 ≤ length answer
+        → table′ ≡ sets table 0 (bytesOf (take (length table / 4) (take count words′))) → answer′ ≡ answered (answerNumber told) (answerFigure told) answer
         → ReadCall sheet table answer 1 table′ answer′
-    read-done table answer h r long t =
-        outcome-done bytesAfter table answer (same-reading (length table / 4) h r) long is
-        (written-stored words space (wordsIn own) fits written counted table r t ∙ word-bytes own table)
+    read-done answer long t = outcome-done bytesAfter table answer same-reading long is (read-stored t)
 
 -- ---- Write
 

@@ -76,7 +76,7 @@ pub extern "C" fn hutplan_plan(
     )
 }
 
-// Read by way of a list of words, of which no more are lent than the table has space for.
+// Read by way of a list of words, of which just the accepted are stored.
 fn read_by(sheet: &[u8], words: &mut [u32], table: &mut [u8], answer: &mut [u8]) -> u32
     requires { ⌜ 5124 ≤ length (now words) ⌝ }
     ensures { λ r. ⌜ ReadCall (now (sheet .entry)) (now (table .entry)) (now (answer .entry)) r (now (table .exit)) (now (answer .exit)) ⌝ }
@@ -84,8 +84,7 @@ fn read_by(sheet: &[u8], words: &mut [u32], table: &mut [u8], answer: &mut [u8])
     if answer.len() < ANSWER_BYTES {
         return 0;
     }
-    let space = least(table.len() / 4, words.len());
-    let read = rooms::read(sheet, &mut words[..space]);
+    let read = rooms::read_words(sheet, words, table.len() / 4);
     let count = written_count(read);
     words::store(&words[..count], table);
     tell(read, answer);

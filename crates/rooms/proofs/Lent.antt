@@ -1,57 +1,58 @@
--- How long a list must be that is lent to Read or Write: `mostWords` words take every table that is read, and one word more
--- decides every table that is written. A caller whose own buffers may be of any length may lend such lists in their place.
-use mathlib.Core.Path.{_≡_, refl}
+-- How long a list must be that is lent to Read or Write: one word more than `mostWords`, which a table may have, decides every
+-- table. A caller whose own buffers may be of any length may lend such lists in their place.
+use mathlib.Core.Path.{_≡_, refl, sym, ap, _∙_}
 use mathlib.Core.Bool.{Bool, true, false, cond}
 use mathlib.Core.List.{List}
 use Prim.Native.Nat.{ℕ, suc, _≤_, min}
 use native.Mathlib.Omega.{arith}
 use lib.ListN.{length, take}
-use lib.Seq.{take-all}
+use lib.Seq.{sets, length-sets, length-take-le, take-all}
 use lib.Dec.{leb}
-use borrow.Author.Tests.{leb-true, leb-false, le-leb, lt-leb}
+use borrow.Author.Tests.{leb-true}
 use Rattle.numbers.specs.Sheet.{Ending, whole, sheetOf, bytesOf}
 use Rattle.numbers.specs.Sheet as sheet
 use Rattle.rooms.specs.Part.{Step, good, bad}
 use Rattle.rooms.specs.Table.{Room}
 use Rattle.rooms.specs.Limits.{checked}
 use Rattle.rooms.specs.declared.Refusal.the-variants.{OutputTooShort}
-use Rattle.rooms.specs.Outcome.{accepted, refused, unlessRefused, fitting, readWords, reading, writing}
+use Rattle.rooms.specs.declared.Answer.{Answer}
+use Rattle.rooms.specs.declared.Answer.the-variants.{Accepted}
+use Rattle.rooms.specs.Outcome.{accepted, refused, answerOf, unlessRefused, fitting, readWords, reading, readingFirst, writing}
 use Rattle.rooms.proofs.Reach.{mostWords, prefix-decides, length-small}
+use Rattle.rooms.proofs.Outcomes.{accepted-told, accepted-is, front-sets, front-size}
 
-module _ (output : List ℕ) (entries : ℕ) where
-  -- A list is long enough as it is when it is cut no shorter than the output.
-  fitting-cut : (k : ℕ) → length output ≤ k → fitting output (min entries k) ≡ fitting output entries
-  fitting-cut k h = go (leb (length output) entries) refl
-    where
-      go : (t : Bool) → leb (length output) entries ≡ t → fitting output (min entries k) ≡ fitting output entries
-      go true e = rw (e, le-leb (length output) (min entries k) (omega (arith, leb-true (length output) entries e)))
-      go false e = rw (e, lt-leb (length output) (min entries k) (omega (arith, leb-false (length output) entries e)))
+-- A table that is cut comes to the same, if it is cut no shorter than decides its check.
+table-cut : (output : List ℕ → List ℕ) (table : List ℕ) (entries k : ℕ) → suc mostWords ≤ k
+    → unlessRefused (checked (take k table) 0) (fitting (output (take k table)) entries) ≡ unlessRefused (checked table 0) (fitting (output table) entries)
+table-cut output table entries k h = rw (prefix-decides table k h) (go (checked table 0) refl)
+  where
+    go : (s : Step Room) → checked table 0 ≡ s → unlessRefused s (fitting (output (take k table)) entries) ≡ unlessRefused s (fitting (output table) entries)
+    go (good r j) e = rw (take-all k table (omega (arith, length-small table r j e)))
+    go (bad q) e = refl
 
-  fitting-fits : {written : List ℕ} → fitting output entries ≡ accepted written → length written ≤ entries
-  fitting-fits {written = written} e = go (leb (length output) entries) refl e
-    where
-      go : (t : Bool) → leb (length output) entries ≡ t → cond t (accepted output) (refused (OutputTooShort (length output))) ≡ accepted written → length written ≤ entries
-      go true l e = let w : output ≡ written = cc in rw (← w) (leb-true (length output) entries l)
-      go false l e = let z : _≡_ {A = ℕ} 0 1 = cc in absurd (omega arith)
+-- ---- Read
+
+fitting-fits : (output : List ℕ) (entries : ℕ) {written : List ℕ} → fitting output entries ≡ accepted written → length written ≤ entries
+fitting-fits output entries {written = written} e = go (leb (length output) entries) refl e
+  where
+    go : (t : Bool) → leb (length output) entries ≡ t → cond t (accepted output) (refused (OutputTooShort (length output))) ≡ accepted written → length written ≤ entries
+    go true l e = let w : output ≡ written = cc in rw (← w) (leb-true (length output) entries l)
+    go false l e = let z : _≡_ {A = ℕ} 0 1 = cc in absurd (omega arith)
 
 module _ (bytes : List ℕ) (entries : ℕ) where
   abbrev words : List ℕ
   words = sheetOf bytes .words
 
-  -- Read comes to the same in a list that is cut, if it is cut no shorter than a table can be.
-  pub reading-cut : (k : ℕ) → mostWords ≤ k → reading bytes (min entries k) ≡ reading bytes entries
-  unfolding reading
-  reading-cut k h = ending (sheetOf bytes .ending)
+  -- Read by way of a list is Read, if the list takes what decides.
+  pub reading-first : (taken : ℕ) → suc mostWords ≤ taken → readingFirst taken bytes entries ≡ reading bytes entries
+  unfolding reading readingFirst
+  reading-first taken h = ending (sheetOf bytes .ending)
     where
-      table : (s : Step Room) → checked words 0 ≡ s → unlessRefused s (fitting words (min entries k)) ≡ unlessRefused s (fitting words entries)
-      table (good r j) e = fitting-cut words entries k (omega (arith, length-small words r j e))
-      table (bad q) e = refl
-
-      ending : (e : Ending) → readWords words e (min entries k) ≡ readWords words e entries
-      ending whole = table (checked words 0) refl
+      ending : (e : Ending) → readWords (take taken words) e entries ≡ readWords words e entries
+      ending whole = table-cut (λ l. l) words entries taken h
       ending (sheet.refused fault place) = refl
 
-  -- What is read fits the list.
+  -- What is read fits the output,
   pub reading-fits : {written : List ℕ} → reading bytes entries ≡ accepted written → length written ≤ entries
   unfolding reading
   reading-fits {written = written} e = ending (sheetOf bytes .ending) e
@@ -64,11 +65,36 @@ module _ (bytes : List ℕ) (entries : ℕ) where
       ending whole e = table (checked words 0) e
       ending (sheet.refused fault place) e = let z : _≡_ {A = ℕ} 0 1 = cc in absurd (omega arith)
 
+  -- and stands at the front of the list by way of which it is read.
+  pub record Stands (list list′ : List ℕ) (count : ℕ) : Type 0 where
+    pub fits : count ≤ length list′
+    pub counted : length (take count list′) ≡ count
+    pub is : readingFirst (length list) bytes entries ≡ accepted (take count list′)
+
+  first-is : (taken : ℕ) {output : List ℕ} → readingFirst taken bytes entries ≡ accepted output → take taken words ≡ output
+  unfolding readingFirst
+  first-is taken {output = output} e = ending (sheetOf bytes .ending) e
+    where
+      ending : (end : Ending) → readWords (take taken words) end entries ≡ accepted output → take taken words ≡ output
+      ending whole e = accepted-is (checked (take taken words) 0) (take taken words) entries e .1
+      ending (sheet.refused fault place) e = let z : _≡_ {A = ℕ} 0 1 = cc in absurd (omega arith)
+
+  pub first-stands : (list : List ℕ) {list′ : List ℕ} {told : Answer} {count : ℕ} → told ≡ answerOf (readingFirst (length list) bytes entries) → told ≡ Accepted count
+      → list′ ≡ sets list 0 words → Stands list list′ count
+  first-stands list {list′ = list′} {count = count} d e s =
+      let o = accepted-told _ d e in
+      let first : take (length list) words ≡ o .output = first-is (length list) (o .is) in
+      let n : count ≡ min (length words) (length list) = sym (front-size list words refl ∙ ap length first ∙ o .counted) in
+      let fits : count ≤ length list′ = omega (arith, n, ap length s ∙ length-sets list 0 words) in
+      record {
+        fits = fits;
+        counted = length-take-le count list′ fits;
+        is = o .is ∙ ap accepted (sym (rw s (front-sets list words n) ∙ first));
+      }
+
+-- ---- Write
+
 -- Write comes to the same of a table that is cut, if it is cut no shorter than decides its check.
 pub writing-cut : (table : List ℕ) (entries k : ℕ) → suc mostWords ≤ k → writing (take k table) entries ≡ writing table entries
 unfolding writing
-writing-cut table entries k h = rw (prefix-decides table k h) (go (checked table 0) refl)
-  where
-    go : (s : Step Room) → checked table 0 ≡ s → unlessRefused s (fitting (bytesOf (take k table)) entries) ≡ unlessRefused s (fitting (bytesOf table) entries)
-    go (good r j) e = rw (take-all k table (omega (arith, length-small table r j e)))
-    go (bad q) e = refl
+writing-cut table entries k h = table-cut bytesOf table entries k h

@@ -1,13 +1,12 @@
--- The outcomes of Read and Write in the code's terms: one law for each answer; and that the first words of a long table
--- decide, so that a list of `suc mostWords` words is long enough for every input.
+-- The outcomes of Read and Write in the code's terms: one law for each answer.
 use mathlib.Core.Path.{_≡_, refl, sym, ap, _∙_}
 use mathlib.Core.Bool.{Bool, true, false, cond}
 use mathlib.Core.List.{List}
-use Prim.Native.Nat.{ℕ, suc, _≤_, _<_, min}
+use Prim.Native.Nat.{ℕ, _≤_, _<_, min}
 use native.Mathlib.Nat.{suc-ne-zero}
 use native.Mathlib.Omega.{arith}
 use lib.ListN.{length, take}
-use lib.Seq.{sets, length-sets, take-all, length-take-le}
+use lib.Seq.{sets, length-sets, length-take-le}
 use lib.Dec.{leb}
 use borrow.Author.Tests.{le-leb, lt-leb}
 use Rattle.words.proofs.Lists.{take-sets, take-min}
@@ -22,13 +21,14 @@ use Rattle.numbers.specs.declared.Written.the-variants.{Bytes, TooLarge, TooSho
 use Rattle.numbers.proofs.SheetLaws.{written-forms}
 use Rattle.rooms.specs.Part.{Step, good, bad}
 use Rattle.rooms.specs.Part as part
-use Rattle.rooms.specs.Table.{Room, roomCords}
+use Rattle.rooms.specs.Table.{Room}
 use Rattle.rooms.specs.Limits.{checked}
 use Rattle.rooms.specs.Told.{told}
-use Rattle.rooms.specs.Outcome.{Outcome, accepted, refused, answerOf, after, unlessRefused, fitting, readWords, reading, writing}
-use Rattle.rooms.proofs.Reach.{mostWords, prefix-decides, length-small, words-small}
+use Rattle.rooms.specs.Outcome.{Outcome, accepted, refused, answerOf, after, unlessRefused, fitting, readWords, reading, readingFirst, writing}
+use Rattle.rooms.proofs.Reach.{words-small}
 use Rattle.rooms.specs.declared.Refusal.{Refusal}
 use Rattle.rooms.specs.declared.Refusal.the-variants.{BadNumber, OutputTooShort}
+use Rattle.rooms.specs.declared.Answer.{Answer}
 use Rattle.rooms.specs.declared.Answer.the-variants.{Accepted}
 use Rattle.rooms.specs.declared.Answer.the-variants as answers
 use Rattle.rooms.specs.declared.Checked.{Checked}
@@ -49,6 +49,20 @@ pub accepted-done : (outcome : Outcome) (list list′ output : List ℕ) {count 
     → list′ ≡ sets list 0 output
     → (Accepted count ≡ answerOf outcome) × (list′ ≡ after outcome list)
 accepted-done outcome list list′ output e n w = rw e (ap Accepted (sym n), w)
+
+-- What an answer tells of its outcome: that it is refused so, or accepted with an output of so many entries.
+pub refused-told : (outcome : Outcome) {told : Answer} {q : Refusal} → told ≡ answerOf outcome → told ≡ answers.Refused q → outcome ≡ refused q
+refused-told (accepted output) d e = absurd (suc-ne-zero 0 (cc))
+refused-told (refused r) {q = q} d e = let z : r ≡ q = cc in ap refused z
+
+pub record Output (outcome : Outcome) (count : ℕ) : Type 0 where
+  pub output : List ℕ
+  pub is : outcome ≡ accepted output
+  pub counted : length output ≡ count
+
+pub accepted-told : (outcome : Outcome) {told : Answer} {count : ℕ} → told ≡ answerOf outcome → told ≡ Accepted count → Output outcome count
+accepted-told (accepted output) d e = record { output = output; is = refl; counted = cc }
+accepted-told (refused refusal) d e = absurd (suc-ne-zero 0 (cc))
 
 module _ (output : List ℕ) (entries : ℕ) where
   pub fitting-short : entries < length output → fitting output entries ≡ refused (OutputTooShort (length output))
@@ -72,6 +86,14 @@ accepted-is (good r j) output entries {given = given} e = go (leb (length output
 -- The length of a front that is no longer than its list.
 pub front-length : (count : ℕ) (list : List ℕ) {front : ℕ} → front ≡ min count (length list) → front ≡ length (take front list)
 front-length count list {front = front} e = sym (length-take-le front list (omega arith))
+
+-- A list that takes what it can of some words has it at its front.
+module _ (list words : List ℕ) {front : ℕ} (e : front ≡ min (length words) (length list)) where
+  pub front-sets : take front (sets list 0 words) ≡ take (length list) words
+  front-sets = take-sets front list words (omega arith) (omega arith) ∙ ap (λ (m : ℕ). take m words) e ∙ take-min (length list) words
+
+  pub front-size : front ≡ length (take (length list) words)
+  front-size = sym (ap length (sym front-sets) ∙ length-take-le front (sets list 0 words) (omega (arith, length-sets list 0 words)))
 
 -- A sheet of so many good numbers.
 pub record Whole (bytes : List ℕ) (count : ℕ) : Type 0 where
@@ -106,51 +128,42 @@ module _ (bytes : List ℕ) where
             record { ends = is; words-are = a .1; checks = rw (a .1) at (a .0) }
         go (sheet.refused f p) is e = absurd (suc-ne-zero 0 (cc))
 
-    pub reading-bad-number : {r : Judged} {f : Fault} {p : ℕ} → r ≡ judged (sheetOf bytes) → r ≡ judge.Refused f p
-        → reading bytes entries ≡ refused (BadNumber f p)
-    unfolding reading
-    reading-bad-number {r = r} {f = f} {p = p} d e = go (sheetOf bytes .ending) d
-      where
-        go : (ending : Ending) → r ≡ answer (length words) ending → readWords words ending entries ≡ refused (BadNumber f p)
-        go whole d = absurd (suc-ne-zero 0 (cc))
-        go (sheet.refused g q) d =
-            let a : g ≡ f = cc in
-            let b : q ≡ p = cc in
-            rw (a, b)
+-- The answer on a table whose words are to go to an output of so many.
+module _ (table : List ℕ) (entries : ℕ) where
+  abbrev outcome : Outcome
+  outcome = unlessRefused (checked table 0) (fitting table entries)
 
-    module _ {count : ℕ} (is : Whole bytes count) where
-      pub reading-table : reading bytes entries ≡ unlessRefused (checked words 0) (fitting words entries)
-      unfolding reading
-      reading-table = rw (is .ends)
+  pub table-refused : {q : Refusal} → checked table 0 ≡ bad q → answers.Refused q ≡ answerOf outcome
+  table-refused c = rw c refl
 
-      pub reading-refused : {q : Refusal} → checked words 0 ≡ bad q → reading bytes entries ≡ refused q
-      reading-refused c = reading-table ∙ rw c
+  pub table-short : {r : Room} {j : ℕ} → checked table 0 ≡ good r j → entries < length table → answers.Refused (OutputTooShort (length table)) ≡ answerOf outcome
+  table-short c h = rw (c, fitting-short table entries h) refl
 
-      pub reading-short : {r : Room} {j : ℕ} → checked words 0 ≡ good r j → entries < count → reading bytes entries ≡ refused (OutputTooShort count)
-      reading-short c h = reading-table ∙ rw c (fitting-short words entries (rw (is .counted) h) ∙ ap (λ (n : ℕ). refused (OutputTooShort n)) (is .counted))
+  pub table-accepted : {r : Room} {j : ℕ} → checked table 0 ≡ good r j → length table ≤ entries → Accepted (length table) ≡ answerOf outcome
+  table-accepted c h = rw (c, fitting-whole table entries h) refl
 
-      pub reading-accepted : {r : Room} {j : ℕ} → checked words 0 ≡ good r j → count ≤ entries → reading bytes entries ≡ accepted words
-      reading-accepted c h = reading-table ∙ rw c (fitting-whole words entries (rw (is .counted) h))
+-- Read by way of a list, which becomes `list′`.
+module _ (bytes list : List ℕ) (entries : ℕ) where
+  pub first-bad-number : {r : Judged} {f : Fault} {p : ℕ} → r ≡ judged (sheetOf bytes) → r ≡ judge.Refused f p
+      → answers.Refused (BadNumber f p) ≡ answerOf (readingFirst (length list) bytes entries)
+  unfolding readingFirst
+  first-bad-number {r = r} {f = f} {p = p} d e = go (sheetOf bytes .ending) d
+    where
+      go : (ending : Ending) → r ≡ answer (length (words bytes)) ending
+          → answers.Refused (BadNumber f p) ≡ answerOf (readWords (take (length list) (words bytes)) ending entries)
+      go whole d = absurd (suc-ne-zero 0 (cc))
+      go (sheet.refused g q) d =
+          let a : g ≡ f = cc in
+          let b : q ≡ p = cc in
+          rw (a, b)
 
-  -- The words that fit a list decide, and where the table is good they are all its words.
-  module _ {count : ℕ} (is : Whole bytes count) (list list′ : List ℕ) (front : ℕ)
-      (h : suc mostWords ≤ length list) (e : list′ ≡ sets list 0 words) (f : front ≡ min count (length list′)) where
-    same-size : length list′ ≡ length list
-    same-size = ap length e ∙ length-sets list 0 words
-
-    front-is : take front list′ ≡ take (length list) words
-    front-is =
-        let n : front ≡ min (length words) (length list) = omega (arith, is .counted, same-size) in
-        rw e (take-sets front list words (omega arith) (omega arith) ∙ ap (λ (m : ℕ). take m words) n ∙ take-min (length list) words)
-
-    pub front-decides : checked (take front list′) 0 ≡ checked words 0
-    front-decides = ap (λ (l : List ℕ). checked l 0) front-is ∙ prefix-decides words (length list) h
-
-    pub front-told : {answer : Checked} → answer ≡ told roomCords (checked (take front list′) 0) → answer ≡ told roomCords (checked words 0)
-    front-told d = d ∙ ap (told roomCords) front-decides
-
-    pub front-whole : {r : Room} {j : ℕ} → checked words 0 ≡ good r j → take front list′ ≡ words
-    front-whole {r = r} {j = j} c = front-is ∙ take-all (length list) words (omega (arith, length-small words r j c))
+  pub first-answered : {count front : ℕ} {list′ : List ℕ} {told : Answer} → Whole bytes count → list′ ≡ sets list 0 (words bytes) → front ≡ min count (length list′)
+      → told ≡ answerOf (outcome (take front list′) entries) → told ≡ answerOf (readingFirst (length list) bytes entries)
+  unfolding readingFirst
+  first-answered {front = front} {list′ = list′} is e f a =
+      let n : front ≡ min (length (words bytes)) (length list) = omega (arith, is .counted, ap length e ∙ length-sets list 0 (words bytes)) in
+      let taken : take front list′ ≡ take (length list) (words bytes) = rw e (front-sets list (words bytes) n) in
+      a ∙ ap (λ (l : List ℕ). answerOf (outcome l entries)) taken ∙ rw (is .ends)
 
 -- ---- Write
 

@@ -2,7 +2,7 @@
 use mathlib.Core.Bool.{cond}
 use mathlib.Core.List.{List}
 use Prim.Native.Nat.{ℕ}
-use lib.ListN.{length}
+use lib.ListN.{length, take}
 use lib.Seq.{sets}
 use lib.Dec.{leb}
 use Rattle.numbers.specs.Number.{faultNumber}
@@ -85,6 +85,11 @@ readWords words (sheet.refused fault place) entries = refused (BadNumber fault p
 -- Read: sheet bytes into a list of so many words.
 unfoldable pub reading : List ℕ → ℕ → Outcome
 reading bytes entries = readWords (sheetOf bytes .words) (sheetOf bytes .ending) entries
+
+-- Read by way of a list that takes only so many words, the first of the sheet's: these are read as the whole table, once all
+-- bytes are judged. Where it takes 5,124 or more, this is Read (`reading-first`, proofs/Lent.antt).
+unfoldable pub readingFirst : ℕ → List ℕ → ℕ → Outcome
+readingFirst taken bytes entries = readWords (take taken (sheetOf bytes .words)) (sheetOf bytes .ending) entries
 
 -- Write: a table into a buffer of so many bytes.
 unfoldable pub writing : List ℕ → ℕ → Outcome

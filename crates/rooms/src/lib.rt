@@ -2,11 +2,13 @@
 ghost use mathlib.Core.Path.{_≡_};
 ghost use Prim.Native.Nat.{_≤_, min};
 ghost use lib.ListN.{length};
+ghost use lib.Seq.{sets};
 ghost use Rattle.numbers.specs.Number.{faultNumber};
+ghost use Rattle.numbers.specs.Sheet.{sheetOf};
 ghost use Rattle.rooms.specs.Limits.{checked};
 ghost use Rattle.rooms.specs.Table.{roomCords};
 ghost use Rattle.rooms.specs.Told.{told};
-ghost use Rattle.rooms.specs.Outcome.{refusalNumber, refusalPlace, answerNumber, answerFigure, answerOf, after, reading, writing};
+ghost use Rattle.rooms.specs.Outcome.{refusalNumber, refusalPlace, answerNumber, answerFigure, answerOf, after, unlessRefused, fitting, reading, readingFirst, writing};
 use numbers::Fault;
 use numbers::Judged;
 use numbers::Written;
@@ -131,11 +133,26 @@ fn lesser(a: usize, b: usize) -> usize
     if a < b { a } else { b }
 }
 
-// Read by way of a list of its own, which takes the words until all is checked.
-fn read_by(sheet: &[u8], words: &mut [u32], table: &mut [u32]) -> Answer
-    requires { ⌜ 5124 ≤ length (now words) ⌝ }
-    ensures { λ r. ⌜ r ≡ answerOf (reading (now (sheet .entry)) (length (now (table .entry)))) ⌝ }
-    ensures { λ _. ⌜ now (table .exit) ≡ after (reading (now (sheet .entry)) (length (now (table .entry)))) (now (table .entry)) ⌝ }
+// The answer on a table whose words are to go to an output of `space` words.
+fn answer_for(table: &[u32], space: usize) -> Answer
+    ensures { λ r. ⌜ r ≡ answerOf (unlessRefused (checked (now (table .entry)) 0) (fitting (now (table .entry)) space)) ⌝ }
+{
+    let checked = check(table);
+    if let Checked::Refused(refusal) = checked {
+        return Answer::Refused(refusal);
+    }
+    let count = table.len();
+    if space < count {
+        return Answer::Refused(Refusal::OutputTooShort(count));
+    }
+    Answer::Accepted(count)
+}
+
+// Read by way of a lent list, for an output of `space` words: the list gets the first words of a sheet, as many as it takes, and
+// these are answered for. One of DECIDING_WORDS takes enough for the answer to be that of Read.
+pub fn read_words(sheet: &[u8], words: &mut [u32], space: usize) -> Answer
+    ensures { λ r. ⌜ r ≡ answerOf (readingFirst (length (now (words .entry))) (now (sheet .entry)) space) ⌝ }
+    ensures { λ _. ⌜ now (words .exit) ≡ sets (now (words .entry)) 0 (sheetOf (now (sheet .entry)) .words) ⌝ }
 {
     let judged = numbers::decode_sheet(sheet, words);
     let count = match judged {
@@ -145,15 +162,21 @@ fn read_by(sheet: &[u8], words: &mut [u32], table: &mut [u32]) -> Answer
         }
     };
     let front = lesser(count, words.len());
-    let checked = check(&words[..front]);
-    if let Checked::Refused(refusal) = checked {
-        return Answer::Refused(refusal);
-    }
-    if table.len() < count {
-        return Answer::Refused(Refusal::OutputTooShort(count));
-    }
-    words::copy(&words[..front], table);
-    Answer::Accepted(count)
+    answer_for(&words[..front], space)
+}
+
+// Read by way of a list of its own, which takes the words until all is checked.
+fn read_by(sheet: &[u8], words: &mut [u32], table: &mut [u32]) -> Answer
+    requires { ⌜ 5124 ≤ length (now words) ⌝ }
+    ensures { λ r. ⌜ r ≡ answerOf (reading (now (sheet .entry)) (length (now (table .entry)))) ⌝ }
+    ensures { λ _. ⌜ now (table .exit) ≡ after (reading (now (sheet .entry)) (length (now (table .entry)))) (now (table .entry)) ⌝ }
+{
+    let read = read_words(sheet, words, table.len());
+    let Answer::Accepted(count) = read else {
+        return read;
+    };
+    words::copy(&words[..count], table);
+    read
 }
 
 // Read: the words of a sheet, at the front of the table. Refused, it leaves the table unchanged.

@@ -1,0 +1,64 @@
+-- `read_words` meets its contract: the words that the list takes are at its front, and are answered for.
+use Rattle.rooms.proofs.Outcomes.{whole-so, front-length, first-bad-number, first-answered}
+use borrow.Author.Needs.{needs}
+use Rattle.rooms.proofs.read_words.Statement.{statement}
+use Rattle.rooms.proofs.read_words.Tie as tie
+
+decode-sheet-requires : tie.Need-decode-sheet-requires
+decode-sheet-requires c κs = search needs
+
+enum-known-judged : tie.Need-enum-known-judged
+enum-known-judged c = search needs
+
+enum-known-judged-2 : tie.Need-enum-known-judged-2
+enum-known-judged-2 c = search needs
+
+same-length : tie.Need-same-length
+same-length c = search needs
+
+returns : tie.Need-returns
+returns c =
+    let call = c .before .before .before .before .before in
+    let args = call .before .before .before .before .args in
+    let sheet = call .decode-sheet .ensures in
+    (first-bad-number (args .sheet .now) (args .words .now) (args .space) (sheet .0) (c .before .judged2 .given .1), sheet .1)
+
+lesser-requires : tie.Need-lesser-requires
+lesser-requires c κs = search needs
+
+slice-reshare-prefix-answer-for : tie.Need-slice-reshare-prefix-answer-for
+slice-reshare-prefix-answer-for c = search needs
+
+slice-aggregate-answer-for : tie.Need-slice-aggregate-answer-for
+slice-aggregate-answer-for c = front-length _ _ (c .before .lesser .ensures)
+
+answer-for-requires : tie.Need-answer-for-requires
+answer-for-requires c κs = search needs
+
+same-length-2 : tie.Need-same-length-2
+same-length-2 c = search needs
+
+returns-2 : tie.Need-returns-2
+returns-2 c =
+    let front = c .before .before in
+    let judged = front .before .before in
+    let call = judged .before .before .before .before in
+    let args = call .before .before .before .before .args in
+    let sheet = call .decode-sheet .ensures in
+    (first-answered (args .sheet .now) (args .words .now) (args .space) (whole-so _ (sheet .0) (judged .judged .given .1)) (sheet .1) (front .lesser .ensures) (c .answer-for .ensures), sheet .1)
+
+pub read-words-spec : {M : Type 1} → statement M
+read-words-spec =
+    tie.close
+    (tie.spec
+    decode-sheet-requires
+    enum-known-judged
+    enum-known-judged-2
+    same-length
+    returns
+    lesser-requires
+    slice-reshare-prefix-answer-for
+    slice-aggregate-answer-for
+    answer-for-requires
+    same-length-2
+    returns-2)

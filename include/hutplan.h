@@ -31,9 +31,8 @@
  *   - there is enough stack (see below).
  * There is no other duty: any bytes, of any length, are good input.
  *
- * Stack, as measured on x86-64 (docs/PERFORMANCE.md has the figures): about 45 KB for hutplan_read,
- * about 25 KB for hutplan_write and about 130 KB for hutplan_plan. It does not grow with the
- * input.
+ * Stack, as measured on x86-64 (docs/PERFORMANCE.md has the figures): about 25 KB for hutplan_read
+ * and for hutplan_write, and about 130 KB for hutplan_plan. It does not grow with the input.
  */
 #ifndef HUTPLAN_H
 #define HUTPLAN_H

@@ -13,9 +13,10 @@
 //                           uint8_t *caps, size_t caps_len,
 //                           uint8_t *answer, size_t answer_len);
 ghost use mathlib.Core.Path.{_≡_};
-ghost use Prim.Native.Nat.{_≤_, _<_, _^_, min};
+ghost use Prim.Native.Nat.{suc, _≤_, _<_, _^_, min};
 ghost use lib.ListN.{length};
 ghost use Rattle.words.specs.Bytes.{wordsOf, answered};
+ghost use Rattle.rooms.specs.Table.{mostServers, mostCords};
 ghost use Rattle.rooms.specs.Outcome.{answerNumber, answerFigure};
 ghost use Rattle.capi.specs.Calls.{ReadCall, WriteCall, PlanCall};
 ghost use Rattle.capi.specs.Counts.{writtenCount, plannedCount, cordCount};
@@ -116,7 +117,7 @@ fn plan_loaded(
     answer: &mut [u8],
 ) -> u32
     requires { ⌜ 5124 ≤ length (now words) ⌝ }
-    requires { ⌜ 513 ≤ length (now figures) ⌝ }
+    requires { ⌜ suc mostServers ≤ length (now figures) ⌝ }
     ensures { λ r. ⌜ PlanCall (wordsOf (now (table .entry))) (wordsOf (now (demands .entry))) (now (grants .entry)) (now (caps .entry)) (now (answer .entry)) r (now (grants .exit)) (now (caps .exit)) (now (answer .exit)) ⌝ }
 {
     let word_count = words::load(table, words);
@@ -163,8 +164,8 @@ fn plan_by(
     caps: &mut [u8],
     answer: &mut [u8],
 ) -> u32
-    requires { ⌜ 1024 ≤ length (now granted) ⌝ }
-    requires { ⌜ 512 ≤ length (now capped) ⌝ }
+    requires { ⌜ mostCords ≤ length (now granted) ⌝ }
+    requires { ⌜ mostServers ≤ length (now capped) ⌝ }
     ensures { λ r. ⌜ PlanCall (now (table .entry)) (now (demands .entry)) (now (grants .entry)) (now (caps .entry)) (now (answer .entry)) r (now (grants .exit)) (now (caps .exit)) (now (answer .exit)) ⌝ }
 {
     if answer.len() < ANSWER_BYTES {

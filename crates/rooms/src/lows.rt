@@ -6,7 +6,7 @@ ghost use lib.ListN.{length, getD};
 ghost use lib.Dec.{ltb};
 ghost use Rattle.rooms.specs.Sums.{sum};
 ghost use Rattle.rooms.specs.Part.{good, Good};
-ghost use Rattle.rooms.specs.Table.{Room, cords, servers, table, scale};
+ghost use Rattle.rooms.specs.Table.{Room, mostNodes, mostServerCords, mostWatts, scale, cords, servers, table};
 ghost use Rattle.rooms.specs.Limits.{carried, percent, firstNode, overloaded};
 ghost use Rattle.rooms.specs.Credits.{parentAt, figures, exceeds, credited, creditedCords, creditedServers, rowOf};
 
@@ -31,7 +31,7 @@ fn limit_of(rating: u32) -> u64
 
 // A cord's low, by its share and its server's least.
 fn low_of(share: u32, least: u32) -> u64
-    requires { ⌜ (share ≤ 1000) × (least ≤ 16777215) ⌝ }
+    requires { ⌜ (share ≤ scale) × (least ≤ mostWatts) ⌝ }
     ensures { λ r. ⌜ r ≡ carried scale share least ⌝ }
 {
     (wide(share) * wide(least) + 999) / 1000
@@ -53,10 +53,10 @@ fn credit(sums: &mut [u64], node: usize, figure: u64)
 
 // The lows of so many cords from i on, credited to their nodes.
 fn credit_cords(w: &[u32], i: usize, count: u32, least: u32, node_count: u32, sums: &mut [u64])
-    requires { ⌜ (least ≤ 16777215) × («node_count» ≤ length (now sums)) × (sum «node_count» (figures (now sums)) + 16777215 * count < 2 ^ 63) ⌝ }
+    requires { ⌜ (least ≤ mostWatts) × («node_count» ≤ length (now sums)) × (sum «node_count» (figures (now sums)) + mostWatts * count < 2 ^ 63) ⌝ }
     requires { ⌜ Good (cords «node_count» count (now w) i) ⌝ }
     ensures { λ _. ⌜ now (sums .exit) ≡ creditedCords least (rowOf (cords «node_count» count (now (w .entry)) i)) (now (sums .entry)) ⌝ }
-    ensures { λ _. ⌜ sum «node_count» (figures (now (sums .exit))) ≤ sum «node_count» (figures (now (sums .entry))) + 16777215 * count ⌝ }
+    ensures { λ _. ⌜ sum «node_count» (figures (now (sums .exit))) ≤ sum «node_count» (figures (now (sums .entry))) + mostWatts * count ⌝ }
 {
     let mut left = count;
     let mut j = i;
@@ -71,10 +71,10 @@ fn credit_cords(w: &[u32], i: usize, count: u32, least: u32, node_count: u32, su
 
 // The lows of so many servers' cords from i on, credited to their nodes.
 fn credit_servers(w: &[u32], i: usize, count: u32, node_count: u32, sums: &mut [u64])
-    requires { ⌜ («node_count» ≤ length (now sums)) × (sum «node_count» (figures (now sums)) + 67108860 * count < 2 ^ 63) ⌝ }
+    requires { ⌜ («node_count» ≤ length (now sums)) × (sum «node_count» (figures (now sums)) + mostServerCords * mostWatts * count < 2 ^ 63) ⌝ }
     requires { ⌜ Good (servers «node_count» count 0 (now w) i) ⌝ }
     ensures { λ _. ⌜ now (sums .exit) ≡ creditedServers (rowOf (servers «node_count» count 0 (now (w .entry)) i)) (now (sums .entry)) ⌝ }
-    ensures { λ _. ⌜ sum «node_count» (figures (now (sums .exit))) ≤ sum «node_count» (figures (now (sums .entry))) + 67108860 * count ⌝ }
+    ensures { λ _. ⌜ sum «node_count» (figures (now (sums .exit))) ≤ sum «node_count» (figures (now (sums .entry))) + mostServerCords * mostWatts * count ⌝ }
 {
     let mut left = count;
     let mut j = i;
@@ -89,7 +89,7 @@ fn credit_servers(w: &[u32], i: usize, count: u32, node_count: u32, sums: &mut [
 
 // The node's number where its sum exceeds its limit, else what was found before.
 fn noted(limit: u64, sum: u64, place: usize, found: usize) -> usize
-    requires { ⌜ place < 512 ⌝ }
+    requires { ⌜ place < mostNodes ⌝ }
     ensures { λ r. ⌜ r ≡ cond (ltb limit sum) (suc place) found ⌝ }
 {
     if limit < sum { place + 1 } else { found }
@@ -98,7 +98,7 @@ fn noted(limit: u64, sum: u64, place: usize, found: usize) -> usize
 // From the last node to the first, each node's sum is compared with its limit and credited to its parent.
 // The lowest node whose sum, with all beneath it, exceeds its limit; 0 if there is none.
 fn lowest_over(w: &[u32], node_count: usize, sums: &mut [u64]) -> usize
-    requires { ⌜ («node_count» ≤ 512) × («node_count» ≤ length (now sums)) × (2 + 2 * «node_count» ≤ length (now w)) ⌝ }
+    requires { ⌜ («node_count» ≤ mostNodes) × («node_count» ≤ length (now sums)) × (2 + 2 * «node_count» ≤ length (now w)) ⌝ }
     requires { ⌜ ((m : ℕ) → m < «node_count» → parentAt (now w) m ≤ m) ⌝ }
     requires { ⌜ sum «node_count» (figures (now sums)) < 2 ^ 63 ⌝ }
     ensures { λ r. ⌜ r ≡ firstNode «node_count» 0 (exceeds (now (w .entry)) «node_count» (now (sums .entry))) ⌝ }
@@ -119,7 +119,7 @@ fn lowest_over(w: &[u32], node_count: usize, sums: &mut [u64]) -> usize
 // The lowest node of a good table whose limit the lows beneath it exceed; 0 if there is none. The sums start at 0.
 pub(crate) fn overloaded(w: &[u32], sums: &mut [u64]) -> usize
     requires { ⌜ Good (table (now w) 0) ⌝ }
-    requires { ⌜ (512 ≤ length (now sums)) × ((i : ℕ) → getD (now sums) i 0 ≡ 0) ⌝ }
+    requires { ⌜ (mostNodes ≤ length (now sums)) × ((i : ℕ) → getD (now sums) i 0 ≡ 0) ⌝ }
     ensures { λ r. ⌜ ((q : Room) (j : ℕ) → table (now (w .entry)) 0 ≡ good q j → r ≡ overloaded q) ⌝ }
 {
     let node_count = w[1];

@@ -3,7 +3,7 @@ ghost use mathlib.Core.Path.{_≡_};
 ghost use Prim.Native.Nat.{_<_, _≤_, min};
 ghost use lib.ListN.{length};
 ghost use Rattle.rooms.specs.Part.{word, within, total};
-ghost use Rattle.rooms.specs.Table.{node, nodes, cord, cords, shareOf, shareSum, range, load, server, servers, cordCount, table, roomCords};
+ghost use Rattle.rooms.specs.Table.{mostNodes, mostServerCords, mostCords, node, nodes, cord, cords, shareOf, shareSum, range, load, server, servers, cordCount, table, roomCords};
 ghost use Rattle.rooms.specs.Told.{told, itself, nothing};
 use crate::Checked;
 use crate::Refusal;
@@ -60,7 +60,7 @@ fn check_node(w: &[u32], i: usize, own: u32) -> Checked
 
 // So many nodes from i on, numbered from 1.
 fn check_nodes(w: &[u32], i: usize, count: u32) -> Checked
-    requires { ⌜ count ≤ 512 ⌝ }
+    requires { ⌜ count ≤ mostNodes ⌝ }
     ensures { λ r. ⌜ r ≡ told nothing (nodes count 1 (now (w .entry)) i) ⌝ }
 {
     let mut left = count;
@@ -91,7 +91,7 @@ fn check_cord(w: &[u32], i: usize, node_count: u32) -> Checked
 
 // So many cords from i on, and the sum of their shares.
 fn check_cords(w: &[u32], i: usize, node_count: u32, count: u32) -> Checked
-    requires { ⌜ count ≤ 4 ⌝ }
+    requires { ⌜ count ≤ mostServerCords ⌝ }
     ensures { λ r. ⌜ r ≡ told shareSum (cords «node_count» count (now (w .entry)) i) ⌝ }
 {
     let mut left = count;
@@ -136,7 +136,7 @@ fn lesser(a: u32, b: u32) -> u32
 
 // The count of a server's cords, and the cords, from i on; `start` is the index of the server's rank.
 fn check_load(w: &[u32], i: usize, node_count: u32, before: u32, start: usize) -> Checked
-    requires { ⌜ before ≤ 1024 ⌝ }
+    requires { ⌜ before ≤ mostCords ⌝ }
     ensures { λ r. ⌜ r ≡ told length (load «node_count» before start (now (w .entry)) i) ⌝ }
 {
     let first = check_word(w, i, 1, lesser(MOST_SERVER_CORDS, MOST_CORDS - before));
@@ -155,7 +155,7 @@ fn check_load(w: &[u32], i: usize, node_count: u32, before: u32, start: usize) -
 
 // The server at i, and the count of its cords; the room has `before` cords so far.
 fn check_server(w: &[u32], i: usize, node_count: u32, before: u32) -> Checked
-    requires { ⌜ before ≤ 1024 ⌝ }
+    requires { ⌜ before ≤ mostCords ⌝ }
     ensures { λ r. ⌜ r ≡ told cordCount (server «node_count» before (now (w .entry)) i) ⌝ }
 {
     let rank = check_word(w, i, 1, HIGHEST_RANK);

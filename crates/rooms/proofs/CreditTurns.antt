@@ -1,81 +1,78 @@
--- The turns of the loops that credit the lows of a row of parts: the parts that are left, credited to what stands now, give the whole row's credits.
+-- The checks that credit the lows of the parts they find good: one law for each way that they go on or return.
 use mathlib.Core.Path.{_≡_, refl, sym, ap, ap₂, _∙_}
 use mathlib.Core.List.{List, [], _∷_}
 use Prim.Native.Nat.{ℕ, zero, suc, _+_, _-_, _*_, _^_, _≤_, _<_}
 use native.Mathlib.Omega.{arith}
-use native.Mathlib.Nat.{mul-suc, mul-le-mul}
+use native.Mathlib.Nat.{suc-ne-zero, mul-suc, mul-le-mul}
 use lib.ListN.{length, getD}
 use Rattle.rooms.specs.Sums.{sum}
-use Rattle.rooms.specs.Part.{good, Good, Part, many}
-use Rattle.rooms.specs.Table.{Cord, Server, scale, mostWatts, mostServerCords, cord, cords, server, cordCount}
+use Rattle.rooms.specs.Part.{Step, good, bad, Part, follow, many, word, within}
+use Rattle.rooms.specs.Table.{Cord, Server, Range, scale, mostWatts, mostServerCords, highestRank, cord, cords, range, load, server, servers, shareOf, cordCount}
 use Rattle.rooms.specs.Limits.{low, carried}
-use Rattle.rooms.specs.Credits.{figures, credited, creditedCords, creditedServers, rowOf}
-use Rattle.rooms.proofs.Inversion.{many-is, cord-is, server-is}
-use Rattle.rooms.proofs.Rows.{cords-words}
-use Rattle.rooms.proofs.Credits.{credited-length, sum-credited, figure-in-sum, creditedCords-length}
+use Rattle.rooms.specs.Credits.{figures, credited, creditedCords, creditedServer, creditedServers, rowOf, LowsCredited}
+use Rattle.rooms.specs.Told.{told}
+use Rattle.rooms.specs.declared.Refusal.{Refusal}
+use Rattle.rooms.specs.declared.Checked.{Checked}
+use Rattle.rooms.specs.declared.Checked.the-variants.{Good, Refused}
+use Rattle.rooms.proofs.Inversion.{took, said, cord-is, load-is}
+use Rattle.rooms.proofs.Steps.{known}
+use Rattle.rooms.proofs.Credits.{credited-length, sum-credited, figure-in-sum}
+
+-- Where a part is refused, nothing is claimed of the sums.
+pub credits-refused : {A : Type 0} (f : A → ℕ) (s : Step A) {credit : A → List ℕ → List ℕ} {nodeCount most : ℕ} {sums sums′ : List ℕ} {r : Checked} {q : Refusal}
+    → r ≡ told f s → r ≡ Refused q → LowsCredited s credit nodeCount most sums sums′
+unfolding told
+credits-refused f (good a j) d e = absurd (suc-ne-zero 0 (cc))
+credits-refused f (bad m) d e = record { are = λ a j is. absurd (suc-ne-zero 0 (cc)); grow = λ a j is. absurd (suc-ne-zero 0 (cc)) }
+
+pub stopped : {A : Type 0} (f : A → ℕ) (s : Step A) {credit : A → List ℕ → List ℕ} {nodeCount most : ℕ} {sums sums′ : List ℕ} {r : Checked} {q : Refusal}
+    → r ≡ told f s → r ≡ Refused q → (r ≡ told f s) × LowsCredited s credit nodeCount most sums sums′
+stopped f s d e = (d, credits-refused f s d e)
 
 -- ---- A row of any parts
 
--- The state of the loop: `left` parts from index j on are still to be credited. Each adds at most `most` to the sum of all figures.
-pub record Left {A : Type 0} (part : ℕ → Part A) (next : ℕ → A → ℕ) (credits : List A → List ℕ → List ℕ) (nodeCount most : ℕ) (w goal : List ℕ) (size bound left j : ℕ)
-    (sums : List ℕ) : Type 0 where
-  pub given : ℕ
-  pub rest : List A
-  pub end : ℕ
-  pub is : many left part next given w j ≡ good rest end
-  pub same : credits rest sums ≡ goal
+-- Before the next of `left` parts from index j on: the parts that are left, if they are good, credited to the sums as they stand, give
+-- the whole row's credits. Each adds at most `most` to the sum of all figures.
+pub record Crediting {A : Type 0} (part : ℕ → Part A) (next : ℕ → A → ℕ) (credits : List A → List ℕ → List ℕ) (nodeCount most : ℕ) (w goal : List ℕ)
+    (size bound left given j : ℕ) (sums : List ℕ) : Type 0 where
+  pub same : (rest : List A) (end : ℕ) → many left part next given w j ≡ good rest end → credits rest sums ≡ goal
   pub length-is : length sums ≡ size
   pub sum-is : sum nodeCount (figures sums) + most * left ≤ bound
 
-pub left-start : {A : Type 0} {part : ℕ → Part A} {next : ℕ → A → ℕ} (credits : List A → List ℕ → List ℕ) (nodeCount most : ℕ) {w : List ℕ} {count i : ℕ} (given : ℕ) (sums : List ℕ)
-    → Good (many count part next given w i)
-    → Left part next credits nodeCount most w (credits (rowOf (many count part next given w i)) sums) (length sums) (sum nodeCount (figures sums) + most * count) count i sums
-left-start credits nodeCount most given sums row =
-    record { given = given; rest = row .value; end = row .next; is = row .is; same = rw (row .is); length-is = refl; sum-is = omega arith }
+pub crediting-start : {A : Type 0} {part : ℕ → Part A} {next : ℕ → A → ℕ} (credits : List A → List ℕ → List ℕ) (nodeCount most : ℕ) {w : List ℕ} {count i : ℕ} (given : ℕ) (sums : List ℕ)
+    → Crediting part next credits nodeCount most w (credits (rowOf (many count part next given w i)) sums) (length sums) (sum nodeCount (figures sums) + most * count) count given i sums
+crediting-start {A} credits nodeCount most given sums =
+    record { same = λ rest end e. sym (ap (λ (s : Step (List A)). credits (rowOf s) sums) e); length-is = refl; sum-is = omega arith }
 
--- The part that stands next, and the state after its credit.
-record First {A : Type 0} (part : ℕ → Part A) (next : ℕ → A → ℕ) (credits : List A → List ℕ → List ℕ) (credit : A → List ℕ → List ℕ) (nodeCount most : ℕ) (w goal : List ℕ)
-    (size bound left j : ℕ) (sums : List ℕ) : Type 0 where
-  given : ℕ
-  value : A
-  after : ℕ
-  is : part given w j ≡ good value after
-  turn : (sums′ : List ℕ) → sums′ ≡ credit value sums → length sums′ ≡ length sums → sum nodeCount (figures sums′) ≤ sum nodeCount (figures sums) + most
-      → Left part next credits nodeCount most w goal size bound (left - 1) after sums′
-
-module _ {A : Type 0} {part : ℕ → Part A} {next : ℕ → A → ℕ} {credits : List A → List ℕ → List ℕ} {nodeCount most : ℕ} {w goal : List ℕ} {size bound : ℕ} where
-  left-end : ((l : List ℕ) → credits [] l ≡ l) → (left j : ℕ) (sums : List ℕ) → Left part next credits nodeCount most w goal size bound left j sums
-      → left ≤ 0 → sums ≡ goal
+module _ {A : Type 0} {part : ℕ → Part A} {next : ℕ → A → ℕ} {credits : List A → List ℕ → List ℕ} {nodeCount most : ℕ} {w : List ℕ} where
+  crediting-end : ((l : List ℕ) → credits [] l ≡ l) → (count given₀ i : ℕ) (sums₀ : List ℕ) {size left given j : ℕ} {sums : List ℕ}
+      → Crediting part next credits nodeCount most w (credits (rowOf (many count part next given₀ w i)) sums₀) size (sum nodeCount (figures sums₀) + most * count) left given j sums
+      → left ≤ 0 → LowsCredited (many count part next given₀ w i) credits nodeCount (most * count) sums₀ sums
   unfolding many
-  left-end none zero j sums r z =
-      let e : [] ≡ r .rest = let i = r .is in cc in
-      sym (none sums) ∙ ap (λ (l : List A). credits l sums) e ∙ r .same
-  left-end none (suc l) j sums r z = absurd (omega arith)
+  crediting-end none count given₀ i sums₀ {left = zero} {j = j} {sums = sums} c z = record {
+    are = λ a k e. sym (none sums) ∙ c .same [] j refl ∙ ap (λ (s : Step (List A)). credits (rowOf s) sums₀) e;
+    grow = λ a k e. omega (arith, c .sum-is);
+  }
+  crediting-end none count given₀ i sums₀ {left = suc l} c z = absurd (omega arith)
 
-  left-first : (credit : A → List ℕ → List ℕ) → ((a : A) (rest : List A) (l : List ℕ) → credits (a ∷ rest) l ≡ credits rest (credit a l))
-      → (left j : ℕ) (sums : List ℕ) → Left part next credits nodeCount most w goal size bound left j sums → 0 < left
-      → First part next credits credit nodeCount most w goal size bound left j sums
-  left-first credit some zero j sums r z = absurd (omega arith)
-  left-first credit some (suc l) j sums r z =
-      let a = many-is l part next (r .given) w j (r .rest) (r .end) (r .is) in
+  crediting-turn : (credit : A → List ℕ → List ℕ) → ((a : A) (rest : List A) (l : List ℕ) → credits (a ∷ rest) l ≡ credits rest (credit a l))
+      → {goal : List ℕ} {size bound left given j : ℕ} {sums : List ℕ} → Crediting part next credits nodeCount most w goal size bound left given j sums → 0 < left
+      → {value : A} {after given′ : ℕ} {sums′ : List ℕ} → part given w j ≡ good value after → next given value ≡ given′
+      → sums′ ≡ credit value sums → length sums′ ≡ length sums → sum nodeCount (figures sums′) ≤ sum nodeCount (figures sums) + most
+      → Crediting part next credits nodeCount most w goal size bound (left - 1) given′ after sums′
+  unfolding many follow
+  crediting-turn credit some {left = zero} c z is en es el em = absurd (omega arith)
+  crediting-turn credit some {left = suc l} {given = given} {j = j} {sums = sums} c z {value} {after} {given′} {sums′} is en es el em =
       let e : suc l - 1 ≡ l = omega arith in
       let m : most * suc l ≡ most * l + most = mul-suc most l in
-      record {
-        given = r .given;
-        value = a .got;
-        after = a .at;
-        is = a .first;
-        turn = λ sums′ es el em. rw e
-            (record {
-              given = next (r .given) (a .got);
-              rest = a .rest;
-              end = r .end;
-              is = a .others;
-              same = ap (credits (a .rest)) es ∙ sym (some (a .got) (a .rest) sums) ∙ ap (λ (x : List A). credits x sums) (sym (a .is)) ∙ r .same;
-              length-is = el ∙ r .length-is;
-              sum-is = omega (arith, r .sum-is);
-            });
-      }
+      let whole : (rest : List A) (end : ℕ) → many l part next given′ w after ≡ good rest end → many (suc l) part next given w j ≡ good (value ∷ rest) end
+      = λ rest end q. rw (is, en, q) in
+      rw e
+      (record {
+        same = λ rest end q. ap (credits rest) es ∙ sym (some value rest sums) ∙ c .same (value ∷ rest) end (whole rest end q);
+        length-is = el ∙ c .length-is;
+        sum-is = omega (arith, c .sum-is);
+      })
 
 -- ---- The cords of a server
 
@@ -83,95 +80,112 @@ module _ {A : Type 0} {part : ℕ → Part A} {next : ℕ → A → ℕ} {credit
 pub product-most : (share least : ℕ) → share ≤ scale → least ≤ mostWatts → share * least ≤ 16777215000
 product-most share least h k = omega (arith, mul-le-mul h k)
 
-abbrev pub CordsLeft : ℕ → ℕ → List ℕ → List ℕ → ℕ → ℕ → ℕ → ℕ → List ℕ → Type 0
-CordsLeft nodeCount least = Left (λ _. cord nodeCount) (λ given _. given) (creditedCords least) nodeCount mostWatts
+abbrev pub CordsCrediting : ℕ → ℕ → List ℕ → List ℕ → ℕ → ℕ → ℕ → ℕ → List ℕ → Type 0
+CordsCrediting nodeCount least w goal size bound left j =
+    Crediting (λ _. cord nodeCount) (λ given _. given) (creditedCords least) nodeCount mostWatts w goal size bound left 0 j
 
--- The cord that stands next, in the terms of the code.
-pub record NextCord (nodeCount least : ℕ) (w goal : List ℕ) (size bound left j : ℕ) (sums : List ℕ) (at-share after : ℕ) : Type 0 where
-  pub there : at-share < length w
+-- The cord that is found good, in the terms of the code.
+pub record NextCord (nodeCount least : ℕ) (w goal : List ℕ) (size bound left j : ℕ) (sums : List ℕ) (share after : ℕ) : Type 0 where
+  pub there : j < length w
   pub node-most : getD w j 0 ≤ nodeCount
-  pub share-most : getD w at-share 0 ≤ scale
+  pub share-most : share ≤ scale
   pub fits : least ≤ mostWatts → bound < 2 ^ 63
-      → (node figure : ℕ) → node ≡ getD w j 0 → figure ≡ carried scale (getD w at-share 0) least → getD sums (node - 1) 0 + figure < 2 ^ 64
+      → (node figure : ℕ) → node ≡ getD w j 0 → figure ≡ carried scale share least → getD sums (node - 1) 0 + figure < 2 ^ 64
   pub turn : least ≤ mostWatts → nodeCount ≤ size
-      → (node figure : ℕ) (sums′ : List ℕ) → node ≡ getD w j 0 → figure ≡ carried scale (getD w at-share 0) least → sums′ ≡ credited node figure sums
-      → CordsLeft nodeCount least w goal size bound (left - 1) after sums′
+      → (node figure : ℕ) (sums′ : List ℕ) → node ≡ getD w j 0 → figure ≡ carried scale share least → sums′ ≡ credited node figure sums
+      → CordsCrediting nodeCount least w goal size bound (left - 1) after sums′
 
-module _ {nodeCount : ℕ} (least : ℕ) {w goal : List ℕ} {size bound left j : ℕ} {sums : List ℕ} where
-  pub cords-end : CordsLeft nodeCount least w goal size bound left j sums → left ≤ 0 → sums ≡ goal
+module _ {nodeCount : ℕ} (least : ℕ) {w : List ℕ} where
+  pub cords-end : (count i : ℕ) (sums₀ : List ℕ) {size left j : ℕ} {sums : List ℕ}
+      → CordsCrediting nodeCount least w (creditedCords least (rowOf (cords nodeCount count w i)) sums₀) size (sum nodeCount (figures sums₀) + mostWatts * count) left j sums → left ≤ 0
+      → LowsCredited (cords nodeCount count w i) (creditedCords least) nodeCount (mostWatts * count) sums₀ sums
   unfolding creditedCords
-  cords-end = left-end (λ l. refl) left j sums
+  cords-end count i sums₀ = crediting-end (λ l. refl) count 0 i sums₀
 
-  pub next-cord : CordsLeft nodeCount least w goal size bound left j sums → 0 < left → NextCord nodeCount least w goal size bound left j sums (j + 1) (j + 2)
+  pub next-cord : {goal : List ℕ} {size bound left j : ℕ} {sums : List ℕ} → CordsCrediting nodeCount least w goal size bound left j sums → 0 < left
+      → {r : Checked} {share after : ℕ} → r ≡ told shareOf (cord nodeCount w j) → r ≡ Good share after → NextCord nodeCount least w goal size bound left j sums share after
   unfolding creditedCords
-  next-cord r z =
-      let f = left-first (λ c. credited (c .node) (low least c)) (λ a rest l. refl) left j sums r z in
-      let c = cord-is nodeCount w j (f .value) (f .after) (f .is) in
-      let n : getD w j 0 ≡ f .value .node = sym (ap (λ (x : Cord). x .node) (c .is)) in
-      let s : getD w (suc j) 0 ≡ f .value .share = sym (ap (λ (x : Cord). x .share) (c .is)) in
-      let m : least ≤ mostWatts → carried scale (getD w (suc j) 0) least ≤ mostWatts
-      = λ k. omega (arith, product-most (getD w (suc j) 0) least (omega (arith, c .share)) k) in
-      let e1 : j + 1 ≡ suc j = omega arith in
-      let e2 : j + 2 ≡ f .after = omega (arith, c .next) in
-      rw (e1, e2)
-      (record {
-        there = c .there;
+  next-cord {j = j} {sums = sums} t z {share = share} {after = after} d e =
+      let a = known shareOf (cord nodeCount w j) d e in
+      let c = cord-is nodeCount w j (a .got) after (a .is) in
+      let n : getD w j 0 ≡ a .got .node = sym (ap (λ (x : Cord). x .node) (c .is)) in
+      let m : least ≤ mostWatts → carried scale share least ≤ mostWatts = λ k. omega (arith, product-most share least (omega (arith, c .share, a .figure)) k) in
+      record {
+        there = omega (arith, c .there);
         node-most = omega (arith, c .last);
-        share-most = omega (arith, c .share);
-        fits = λ k b node figure en ef. omega (arith, m k, figure-in-sum nodeCount (node - 1) sums (omega (arith, c .first, c .last)), r .sum-is);
-        turn = λ k h node figure sums′ en ef es. f .turn sums′
-            (es ∙ ap₂ (λ (x y : ℕ). credited x y sums) (en ∙ n) (ef ∙ ap (λ (x : ℕ). carried scale x least) s))
+        share-most = omega (arith, c .share, a .figure);
+        fits = λ k b node figure en ef. omega (arith, m k, figure-in-sum nodeCount (node - 1) sums (omega (arith, c .first, c .last)), t .sum-is);
+        turn = λ k h node figure sums′ en ef es. crediting-turn (λ c. credited (c .node) (low least c)) (λ a rest l. refl) t z (a .is) refl
+            (es ∙ ap₂ (λ (x y : ℕ). credited x y sums) (en ∙ n) (ef ∙ ap (λ (x : ℕ). carried scale x least) (sym (a .figure))))
             (ap length es ∙ credited-length node figure sums)
             (omega (
               arith,
               m k,
               ap (λ (l : List ℕ). sum nodeCount (figures l)) es,
-              sum-credited nodeCount node figure sums (omega (arith, c .first)) (omega (arith, c .last)) (omega (arith, r .length-is)),
+              sum-credited nodeCount node figure sums (omega (arith, c .first)) (omega (arith, c .last)) (omega (arith, t .length-is)),
             ));
-      })
+      }
+
+-- A server's load credits what its cords do.
+pub load-credits : (nodeCount before start : ℕ) (w : List ℕ) (i least : ℕ) {count at-cords : ℕ} {sums sums′ : List ℕ} → count ≡ getD w i 0 → at-cords ≡ suc i → count ≤ mostServerCords
+    → LowsCredited (cords nodeCount count w at-cords) (creditedCords least) nodeCount (mostWatts * count) sums sums′
+    → LowsCredited (load nodeCount before start w i) (creditedCords least) nodeCount (mostServerCords * mostWatts) sums sums′
+load-credits nodeCount before start w i least counted begun few credits =
+    let cords-are : (a : List Cord) (j : ℕ) → load nodeCount before start w i ≡ good a j → cords nodeCount _ w _ ≡ good a j
+    = λ a j e. ap₂ (λ (k h : ℕ). cords nodeCount k w h) counted begun ∙ load-is nodeCount before start w i a j e .are in
+    record {
+      are = λ a j e. credits .are a j (cords-are a j e);
+      grow = λ a j e. omega (arith, credits .grow a j (cords-are a j e));
+    }
 
 -- ---- The servers of a room
 
-abbrev pub ServersLeft : ℕ → List ℕ → List ℕ → ℕ → ℕ → ℕ → ℕ → List ℕ → Type 0
-ServersLeft nodeCount = Left (server nodeCount) (λ before s. before + cordCount s) creditedServers nodeCount (mostServerCords * mostWatts)
+-- A good server's load, after its rank and its range.
+pub server-load : (nodeCount before : ℕ) (w : List ℕ) (i : ℕ) {rank at-range : ℕ} {ends : Range} {at-load : ℕ} → word (within 1 highestRank) w i ≡ good rank at-range → range w at-range ≡ good ends at-load
+    → (s : Server) (j : ℕ) → server nodeCount before w i ≡ good s j → (load nodeCount before i w at-load ≡ good (s .cords) j) × (s .least ≡ ends .least)
+unfolding server
+server-load nodeCount before w i {at-range = at-range} {ends = ends} {at-load = at-load} ranked ranged s j e =
+    let a = took _ _ _ _ (said _ _ _ _ _ e) in
+    let b = took _ _ _ _ (a .rest) in
+    let c = took _ _ _ _ (b .rest) in
+    let p : a .at ≡ at-range = cc in
+    let r : range w (a .at) ≡ good ends at-load = ap (range w) p ∙ ranged in
+    let g : b .got ≡ ends = cc in
+    let h : at-load ≡ b .at = cc in
+    let x : record { rank = a .got; least = b .got .least; greatest = b .got .greatest; cords = c .got } ≡ s = cc in
+    let y : c .at ≡ j = cc in (
+      ap (load nodeCount before i w) h ∙ c .first ∙ ap₂ good (ap (λ (s : Server). s .cords) x) y,
+      sym (ap (λ (s : Server). s .least) x) ∙ ap (λ (g : Range). g .least) g,
+    )
 
--- The server that stands next, in the terms of the code.
-pub record NextServer (nodeCount : ℕ) (w goal : List ℕ) (size bound left j : ℕ) (sums : List ℕ) (at-least at-count at-cords : ℕ) : Type 0 where
-  pub there : at-count < length w
-  pub least-most : getD w at-least 0 ≤ mostWatts
-  pub count-most : getD w at-count 0 ≤ mostServerCords
-  pub cords-good : Good (cords nodeCount (getD w at-count 0) w at-cords)
-  pub past : at-cords + 2 * getD w at-count 0 ≤ length w
-  pub turn : (k : ℕ) (sums′ : List ℕ) → k ≡ at-cords + 2 * getD w at-count 0
-      → sums′ ≡ creditedCords (getD w at-least 0) (rowOf (cords nodeCount (getD w at-count 0) w at-cords)) sums
-      → sum nodeCount (figures sums′) ≤ sum nodeCount (figures sums) + mostWatts * getD w at-count 0
-      → ServersLeft nodeCount w goal size bound (left - 1) k sums′
+-- A server credits what its load does, by its least.
+pub server-credits : (nodeCount before : ℕ) (w : List ℕ) (i : ℕ) {rank at-range : ℕ} {ends : Range} {at-load least : ℕ} {sums sums′ : List ℕ}
+    → word (within 1 highestRank) w i ≡ good rank at-range → range w at-range ≡ good ends at-load → ends .least ≡ least
+    → LowsCredited (load nodeCount before i w at-load) (creditedCords least) nodeCount (mostServerCords * mostWatts) sums sums′
+    → LowsCredited (server nodeCount before w i) creditedServer nodeCount (mostServerCords * mostWatts) sums sums′
+server-credits nodeCount before w i {sums = sums} ranked ranged lowest credits =
+    record {
+      are = λ s j e.
+          let l = server-load nodeCount before w i ranked ranged s j e in
+          credits .are (s .cords) j (l .0) ∙ ap (λ (x : ℕ). creditedCords x (s .cords) sums) (sym (l .1 ∙ lowest));
+      grow = λ s j e. credits .grow (s .cords) j (server-load nodeCount before w i ranked ranged s j e .0);
+    }
 
-module _ {nodeCount : ℕ} {w goal : List ℕ} {size bound left j : ℕ} {sums : List ℕ} where
-  pub servers-end : ServersLeft nodeCount w goal size bound left j sums → left ≤ 0 → sums ≡ goal
+abbrev pub ServersCrediting : ℕ → List ℕ → List ℕ → ℕ → ℕ → ℕ → ℕ → ℕ → List ℕ → Type 0
+ServersCrediting nodeCount = Crediting (server nodeCount) (λ before s. before + cordCount s) creditedServers nodeCount (mostServerCords * mostWatts)
+
+module _ {nodeCount : ℕ} {w : List ℕ} where
+  pub servers-end : (count i : ℕ) (sums₀ : List ℕ) {size left before j : ℕ} {sums : List ℕ}
+      → ServersCrediting nodeCount w (creditedServers (rowOf (servers nodeCount count 0 w i)) sums₀) size (sum nodeCount (figures sums₀) + mostServerCords * mostWatts * count) left before j sums
+      → left ≤ 0 → LowsCredited (servers nodeCount count 0 w i) creditedServers nodeCount (mostServerCords * mostWatts * count) sums₀ sums
   unfolding creditedServers
-  servers-end = left-end (λ l. refl) left j sums
+  servers-end count i sums₀ = crediting-end (λ l. refl) count 0 i sums₀
 
-  pub next-server : ServersLeft nodeCount w goal size bound left j sums → 0 < left → NextServer nodeCount w goal size bound left j sums (j + 1) (j + 3) (j + 4)
+  pub servers-turn : {goal : List ℕ} {size bound left before j : ℕ} {sums : List ℕ} → ServersCrediting nodeCount w goal size bound left before j sums → 0 < left
+      → {r : Checked} {count after : ℕ} {sums′ : List ℕ} → r ≡ told cordCount (server nodeCount before w j) → r ≡ Good count after
+      → LowsCredited (server nodeCount before w j) creditedServer nodeCount (mostServerCords * mostWatts) sums sums′ → length sums′ ≡ length sums
+      → ServersCrediting nodeCount w goal size bound (left - 1) (before + count) after sums′
   unfolding creditedServers
-  next-server r z =
-      let f = left-first (λ s. creditedCords (s .least) (s .cords)) (λ a rest l. refl) left j sums r z in
-      let s = server-is nodeCount (f .given) w j (f .value) (f .after) (f .is) in
-      let c = cords-words nodeCount (getD w (suc (suc (suc j))) 0) w (suc (suc (suc (suc j)))) (f .value .cords) (f .after) (s .load .there) (s .load .are) in
-      let e1 : j + 1 ≡ suc j = omega arith in
-      let e3 : j + 3 ≡ suc (suc (suc j)) = omega arith in
-      let e4 : j + 4 ≡ suc (suc (suc (suc j))) = omega arith in
-      let q : getD w (suc j) 0 ≡ f .value .least = sym (ap (λ (x : Server). x .least) (s .is)) in
-      rw (e1, e3, e4)
-      (record {
-        there = s .load .there;
-        least-most = omega (arith, s .ordered, s .greatest);
-        count-most = omega (arith, s .load .few, s .load .count);
-        cords-good = record { value = f .value .cords; next = f .after; is = s .load .are };
-        past = omega (arith, c .0, c .1);
-        turn = λ k sums′ ek es em.
-            let t : sums′ ≡ creditedCords (f .value .least) (f .value .cords) sums = rw (q, s .load .are) at es in
-            let a : k ≡ f .after = ek ∙ sym (c .0) in
-            rw a
-            (f .turn sums′ t (ap length t ∙ creditedCords-length (f .value .least) (f .value .cords) sums) (omega (arith, s .load .few, s .load .count)));
-      })
+  servers-turn {before = before} {j = j} t z d e credits el =
+      let a = known cordCount (server nodeCount before w j) d e in
+      crediting-turn creditedServer (λ a rest l. refl) t z (a .is) (ap (λ (n : ℕ). before + n) (a .figure)) (credits .are (a .got) _ (a .is)) el (credits .grow (a .got) _ (a .is))

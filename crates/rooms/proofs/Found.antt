@@ -5,16 +5,16 @@ use mathlib.Core.List.{List}
 use Prim.Native.Nat.{ℕ, suc, _+_, _*_, _≤_, _<_}
 use native.Mathlib.Omega.{arith}
 use native.Mathlib.Numerals.{add-one}
-use lib.ListN.{length, getD}
+use lib.ListN.{length, getD, replicate, length-replicate}
 use lib.Dec.{ltb}
-use Rattle.rooms.specs.Part.{Step, good, Good}
-use Rattle.rooms.specs.Table.{Node, Server, Room, mostNodes, mostServers, node, nodes, servers, table}
+use Rattle.rooms.specs.Part.{good}
+use Rattle.rooms.specs.Table.{Node, Room, mostNodes, mostServers, mostServerCords, mostWatts, node, nodes, servers, table}
 use Rattle.rooms.specs.Limits.{limit, beneath, nodeAt, parentOf, lows, lowsBeneath, firstNode, overloaded}
-use Rattle.rooms.specs.Credits.{parentAt, limitAt, figures, sumBeneath, exceeds, creditedServers, rowOf}
+use Rattle.rooms.specs.Credits.{parentAt, limitAt, figures, sumBeneath, exceeds, creditedServers, creditedRoom, LowsCredited}
 use Rattle.rooms.proofs.Inversion.{many-length, NodeIs}
 use Rattle.rooms.proofs.Whole.{table-is}
 use Rattle.rooms.proofs.Rows.{nodes-words, nodes-at, servers-hang}
-use Rattle.rooms.proofs.Credits.{sumBeneath-cong, sumBeneath-zero, sumBeneath-servers}
+use Rattle.rooms.proofs.Credits.{zeros-at, sumBeneath-cong, sumBeneath-zero, sumBeneath-servers}
 use Rattle.rooms.proofs.Search.{firstNode-cong}
 use Rattle.rooms.proofs.Gather.{Rises}
 
@@ -57,12 +57,6 @@ module _ (w : List ℕ) (r : Room) (j n at : ℕ) (is : Layout w r j n at) where
   pub table-rises : Rises w n
   table-rises m g = omega (arith, node-at m g .parent, same-parent m g)
 
-  servers-read : servers (getD w 1 0) (getD w at 0) 0 w (at + 1) ≡ good (r .servers) j
-  servers-read = ap (λ (k : ℕ). servers k (getD w at 0) 0 w (at + 1)) (sym (is .counted)) ∙ is .servers-are
-
-  pub table-servers : Good (servers (getD w 1 0) (getD w at 0) 0 w (at + 1))
-  table-servers = record { value = r .servers; next = j; is = servers-read }
-
   node-count : length (r .nodes) ≡ n
   node-count = many-length n node (λ own _. suc own) 1 w 2 (r .nodes) at (is .nodes-are)
 
@@ -82,14 +76,28 @@ module _ (w : List ℕ) (r : Room) (j n at : ℕ) (is : Layout w r j n at) where
         = λ m g. ap₂ ltb (same-limit m (omega arith)) (credited-lows m) in
         firstNode-cong n 0 (exceeds w n (creditedServers (r .servers) l)) over same ∙ ap (λ (k : ℕ). firstNode k 0 over) (sym node-count)
 
--- The same in the terms of the code: the search, after the credits, over sums that start at 0.
-pub overloaded-from : (w : List ℕ) (n : ℕ) (start sums : List ℕ) (found : ℕ) → n ≡ getD w 1 0 → ((i : ℕ) → getD start i 0 ≡ 0) → mostNodes ≤ length start
-    → sums ≡ creditedServers (rowOf (servers (getD w 1 0) (getD w (2 + 2 * n) 0) 0 w (2 + 2 * n + 1))) start
-    → found ≡ firstNode n 0 (exceeds w n sums)
-    → (r : Room) (j : ℕ) → table w 0 ≡ good r j → found ≡ overloaded r
-overloaded-from w n start sums found count zeros size es ef r j e =
+-- A table credits what its servers do.
+pub table-credits : (w : List ℕ) {nodeCount at-node : ℕ} {read : List Node} {at-servers serverCount at-server : ℕ} {sums sums′ : List ℕ}
+    → nodeCount ≡ getD w 1 0 → at-node ≡ 2 → nodes nodeCount 1 w at-node ≡ good read at-servers → serverCount ≡ getD w at-servers 0 → at-server ≡ suc at-servers → serverCount ≤ mostServers
+    → LowsCredited (servers nodeCount serverCount 0 w at-server) creditedServers nodeCount (mostServerCords * mostWatts * serverCount) sums sums′
+    → LowsCredited (table w 0) creditedRoom (getD w 1 0) (mostServerCords * mostWatts * mostServers) sums sums′
+table-credits w {nodeCount} {at-node} {read} {at-servers} {serverCount} {at-server} counted begun nodes-read told after few credits =
+    let servers-are : (r : Room) (j : ℕ) → table w 0 ≡ good r j → servers nodeCount serverCount 0 w at-server ≡ good (r .servers) j
+    = λ r j e.
+    let is = layout w r j nodeCount counted e in
+    let d : good read at-servers ≡ good (r .nodes) (2 + 2 * nodeCount) = sym nodes-read ∙ ap (nodes nodeCount 1 w) begun ∙ is .nodes-are in
+    let at-is : at-servers ≡ 2 + 2 * nodeCount = cc in
+    ap₂ (λ (k i : ℕ). servers nodeCount k 0 w i) (told ∙ ap (λ (k : ℕ). getD w k 0) at-is) (omega arith) ∙ is .servers-are in
+    record {
+      are = λ r j e. credits .are (r .servers) j (servers-are r j e);
+      grow = λ r j e. rw (← counted) (omega (arith, credits .grow (r .servers) j (servers-are r j e)));
+    }
+
+-- The same in the terms of the code: the search, over sums that have the lows on each node.
+pub overloaded-from : (w : List ℕ) (n : ℕ) (sums : List ℕ) (found : ℕ) → n ≡ getD w 1 0 → (r : Room) (j : ℕ) → table w 0 ≡ good r j
+    → sums ≡ creditedRoom r (replicate mostNodes 0) → found ≡ firstNode n 0 (exceeds w n sums) → found ≡ overloaded r
+overloaded-from w n sums found count r j e es ef =
     let is = layout w r j n count e in
-    let s : sums ≡ creditedServers (r .servers) start = es ∙ ap (λ (x : Step (List Server)). creditedServers (rowOf x) start) (servers-read w r j n _ is) in
     ef
-    ∙ ap (λ (l : List ℕ). firstNode n 0 (exceeds w n l)) s
-    ∙ overloaded-found w r j n _ is start zeros (omega (arith, is .most))
+    ∙ ap (λ (l : List ℕ). firstNode n 0 (exceeds w n l)) es
+    ∙ overloaded-found w r j n _ is (replicate mostNodes 0) (zeros-at mostNodes) (omega (arith, is .most, length-replicate {A = ℕ} mostNodes 0))

@@ -1,5 +1,5 @@
 -- What the code's answers tell of the parts of a table: one law for each way that a check goes on or returns.
-use mathlib.Core.Path.{_≡_, refl, ap, _∙_}
+use mathlib.Core.Path.{_≡_, refl, sym, ap, _∙_}
 use mathlib.Core.Bool.{Bool, true, false}
 use mathlib.Core.List.{List, [], _∷_}
 use Prim.Native.Nat.{ℕ, zero, suc, _+_, _-_, _≤_, _<_}
@@ -186,6 +186,16 @@ follow-good : {A : Type 0} (s : Step A) → follow s (λ x y. good x y) ≡ s
 unfolding follow
 follow-good (good a j) = refl
 follow-good (bad q) = refl
+
+-- A word that is told is the one that stands there.
+pub word-told : (w : List ℕ) (i low high : ℕ) {r : Checked} {v j : ℕ} → r ≡ told itself (word (within low high) w i) → r ≡ Good v j → (v ≡ getD w i 0) × (j ≡ suc i)
+word-told w i low high {j = j} d e =
+    let a = known itself (word (within low high) w i) d e in
+    let f : follow (word (within low high) w i) (λ x y. good x y) ≡ good (a .got) j = follow-good (word (within low high) w i) ∙ a .is in
+    let b = word-is w i low high (λ x y. good x y) (a .got) j f in
+    let x : getD w i 0 ≡ a .got = cc in
+    let y : suc i ≡ j = cc in
+    (sym (a .figure) ∙ sym x, sym y)
 
 pub word-most : (w : List ℕ) (i low high : ℕ) {r : Checked} {v j : ℕ} → r ≡ told itself (word (within low high) w i) → r ≡ Good v j → v ≤ high
 word-most w i low high {j = j} d e =

@@ -1,14 +1,15 @@
 -- Figures credited to nodes: what contracts of private functions cite, those behind refusal 9 and the metrics of a deal. No public
 -- contract does.
+use mathlib.Core.Path.{_≡_}
 use mathlib.Core.Bool.{Bool}
 use mathlib.Core.List.{List, [], _∷_}
-use Prim.Native.Nat.{ℕ, zero, suc, _+_, _*_, _/_}
+use Prim.Native.Nat.{ℕ, zero, suc, _+_, _*_, _/_, _≤_}
 use lib.ListN.{getD, set}
 use lib.Dec.{ltb}
 use Rattle.rooms.specs.Sums.{on, sum}
 use Rattle.rooms.specs.Part.{Step, good, bad}
 pub use Rattle.rooms.specs.Part.{Good}
-use Rattle.rooms.specs.Table.{Cord, Server}
+use Rattle.rooms.specs.Table.{Cord, Server, Room}
 use Rattle.rooms.specs.Limits.{low, percent, beneath}
 
 -- A node's parent and limit, by its place, in the words of a table.
@@ -43,6 +44,19 @@ creditedCords least (c ∷ cs) l = creditedCords least cs (credited (c .node) (l
 unfoldable pub creditedServers : List Server → List ℕ → List ℕ
 creditedServers [] l = l
 creditedServers (s ∷ ss) l = creditedServers ss (creditedCords (s .least) (s .cords) l)
+
+-- What a check of a part leaves in the sums, once the part is good: its cords' lows are credited, and all sums together have grown by
+-- no more than `most`.
+pub record LowsCredited {A : Type 0} (step : Step A) (credit : A → List ℕ → List ℕ) (nodeCount most : ℕ) (sums sums′ : List ℕ) : Type 0 where
+  pub are : (a : A) (j : ℕ) → step ≡ good a j → sums′ ≡ credit a sums
+  pub grow : (a : A) (j : ℕ) → step ≡ good a j → sum nodeCount (figures sums′) ≤ sum nodeCount (figures sums) + most
+
+-- The lows of a server's cords, of a room's.
+abbrev pub creditedServer : Server → List ℕ → List ℕ
+creditedServer s = creditedCords (s .least) (s .cords)
+
+abbrev pub creditedRoom : Room → List ℕ → List ℕ
+creditedRoom r = creditedServers (r .servers)
 
 -- What a good row of parts gives.
 abbrev pub rowOf : {A : Type 0} → Step (List A) → List A

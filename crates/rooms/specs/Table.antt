@@ -103,6 +103,9 @@ pub record Range : Type 0 where
   pub least : ℕ
   pub greatest : ℕ
 
+abbrev pub leastOf : Range → ℕ
+leastOf r = r .least
+
 unfoldable pub range : Part Range
 range = do
   least ← watts

@@ -114,11 +114,11 @@ impl Answer {
 pub fn check(table: &[u32]) -> Checked
     ensures { λ r. ⌜ r ≡ told roomCords (checked (now (table .entry)) 0) ⌝ }
 {
-    let words = table::check_table(table);
+    let mut sums = [0u64; 512];
+    let words = table::check_table(table, &mut sums);
     let Checked::Good(cords, length) = words else {
         return words;
     };
-    let mut sums = [0u64; 512];
     let node = lows::overloaded(table, &mut sums);
     if node != 0 {
         return Checked::Refused(Refusal::LowsAboveLimit(node));

@@ -1,12 +1,17 @@
-// The words of a table, checked one by one in their order: refusals 4 to 8.
+// The words of a table, checked one by one in their order: refusals 4 to 8. On the way each cord's low is credited to its node.
 ghost use mathlib.Core.Path.{_≡_};
-ghost use Prim.Native.Nat.{_<_, _≤_, min};
-ghost use lib.ListN.{length};
+ghost use Prim.Native.Nat.{ℕ, _+_, _*_, _^_, _<_, _≤_, min};
+ghost use lib.ListN.{length, getD};
+ghost use Rattle.rooms.specs.Sums.{sum};
 ghost use Rattle.rooms.specs.Part.{word, within, total};
-ghost use Rattle.rooms.specs.Table.{mostNodes, mostServerCords, mostCords, node, nodes, cord, cords, shareOf, shareSum, range, load, server, servers, cordCount, table, roomCords};
+ghost use Rattle.rooms.specs.Table.{mostNodes, mostServers, mostServerCords, mostCords, mostWatts, node, nodes, cord, cords, shareOf, shareSum, leastOf, range, load, server, servers, cordCount, table, roomCords};
+ghost use Rattle.rooms.specs.Credits.{figures, creditedCords, creditedServer, creditedServers, creditedRoom, LowsCredited};
 ghost use Rattle.rooms.specs.Told.{told, itself, nothing};
 use crate::Checked;
 use crate::Refusal;
+use crate::lows::credit;
+use crate::lows::index;
+use crate::lows::low_of;
 
 // The figures of the table, as specs/Table.antt names them.
 const VERSION: u32 = 1;
@@ -90,9 +95,18 @@ fn check_cord(w: &[u32], i: usize, node_count: u32) -> Checked
 }
 
 // So many cords from i on, and the sum of their shares.
-fn check_cords(w: &[u32], i: usize, node_count: u32, count: u32) -> Checked
-    requires { ⌜ count ≤ mostServerCords ⌝ }
+fn check_cords(
+    w: &[u32],
+    i: usize,
+    node_count: u32,
+    count: u32,
+    least: u32,
+    sums: &mut [u64],
+) -> Checked
+    requires { ⌜ (count ≤ mostServerCords) × (least ≤ mostWatts) ⌝ }
+    requires { ⌜ («node_count» ≤ length (now sums)) × (sum «node_count» (figures (now sums)) + mostWatts * count < 2 ^ 63) ⌝ }
     ensures { λ r. ⌜ r ≡ told shareSum (cords «node_count» count (now (w .entry)) i) ⌝ }
+    ensures { λ _. ⌜ LowsCredited (cords «node_count» count (now (w .entry)) i) (creditedCords least) «node_count» (mostWatts * count) (now (sums .entry)) (now (sums .exit)) ⌝ }
 {
     let mut left = count;
     let mut sum: u32 = 0;
@@ -102,6 +116,7 @@ fn check_cords(w: &[u32], i: usize, node_count: u32, count: u32) -> Checked
         let Checked::Good(share, next) = cord else {
             return cord;
         };
+        credit(sums, index(w[j]), low_of(share, least));
         sum += share;
         j = next;
         left -= 1;
@@ -109,9 +124,9 @@ fn check_cords(w: &[u32], i: usize, node_count: u32, count: u32) -> Checked
     Checked::Good(sum, j)
 }
 
-// The least and the greatest of a server, from i on.
+// The least and the greatest of a server, from i on; the least is told.
 fn check_range(w: &[u32], i: usize) -> Checked
-    ensures { λ r. ⌜ r ≡ told nothing (range (now (w .entry)) i) ⌝ }
+    ensures { λ r. ⌜ r ≡ told leastOf (range (now (w .entry)) i) ⌝ }
 {
     let first = check_word(w, i, 0, MOST_WATTS);
     let Checked::Good(least, at_greatest) = first else {
@@ -124,7 +139,7 @@ fn check_range(w: &[u32], i: usize) -> Checked
     if greatest < least {
         return Checked::Refused(Refusal::GreatestBelowLeast(at_greatest));
     }
-    Checked::Good(0, next)
+    Checked::Good(least, next)
 }
 
 // The lesser of two numbers.
@@ -135,15 +150,25 @@ fn lesser(a: u32, b: u32) -> u32
 }
 
 // The count of a server's cords, and the cords, from i on; `start` is the index of the server's rank.
-fn check_load(w: &[u32], i: usize, node_count: u32, before: u32, start: usize) -> Checked
-    requires { ⌜ before ≤ mostCords ⌝ }
+fn check_load(
+    w: &[u32],
+    i: usize,
+    node_count: u32,
+    before: u32,
+    start: usize,
+    least: u32,
+    sums: &mut [u64],
+) -> Checked
+    requires { ⌜ (before ≤ mostCords) × (least ≤ mostWatts) ⌝ }
+    requires { ⌜ («node_count» ≤ length (now sums)) × (sum «node_count» (figures (now sums)) + mostServerCords * mostWatts < 2 ^ 63) ⌝ }
     ensures { λ r. ⌜ r ≡ told length (load «node_count» before start (now (w .entry)) i) ⌝ }
+    ensures { λ _. ⌜ LowsCredited (load «node_count» before start (now (w .entry)) i) (creditedCords least) «node_count» (mostServerCords * mostWatts) (now (sums .entry)) (now (sums .exit)) ⌝ }
 {
     let first = check_word(w, i, 1, lesser(MOST_SERVER_CORDS, MOST_CORDS - before));
     let Checked::Good(count, at_cords) = first else {
         return first;
     };
-    let cords = check_cords(w, at_cords, node_count, count);
+    let cords = check_cords(w, at_cords, node_count, count, least, sums);
     let Checked::Good(shares, next) = cords else {
         return cords;
     };
@@ -154,30 +179,33 @@ fn check_load(w: &[u32], i: usize, node_count: u32, before: u32, start: usize) -
 }
 
 // The server at i, and the count of its cords; the room has `before` cords so far.
-fn check_server(w: &[u32], i: usize, node_count: u32, before: u32) -> Checked
-    requires { ⌜ before ≤ mostCords ⌝ }
+fn check_server(w: &[u32], i: usize, node_count: u32, before: u32, sums: &mut [u64]) -> Checked
+    requires { ⌜ (before ≤ mostCords) × («node_count» ≤ length (now sums)) × (sum «node_count» (figures (now sums)) + mostServerCords * mostWatts < 2 ^ 63) ⌝ }
     ensures { λ r. ⌜ r ≡ told cordCount (server «node_count» before (now (w .entry)) i) ⌝ }
+    ensures { λ _. ⌜ LowsCredited (server «node_count» before (now (w .entry)) i) creditedServer «node_count» (mostServerCords * mostWatts) (now (sums .entry)) (now (sums .exit)) ⌝ }
 {
     let rank = check_word(w, i, 1, HIGHEST_RANK);
     let Checked::Good(_, at_range) = rank else {
         return rank;
     };
     let range = check_range(w, at_range);
-    let Checked::Good(_, at_load) = range else {
+    let Checked::Good(least, at_load) = range else {
         return range;
     };
-    check_load(w, at_load, node_count, before, i)
+    check_load(w, at_load, node_count, before, i, least, sums)
 }
 
 // So many servers from i on, and the count of all their cords.
-fn check_servers(w: &[u32], i: usize, node_count: u32, count: u32) -> Checked
+fn check_servers(w: &[u32], i: usize, node_count: u32, count: u32, sums: &mut [u64]) -> Checked
+    requires { ⌜ («node_count» ≤ length (now sums)) × (sum «node_count» (figures (now sums)) + mostServerCords * mostWatts * count < 2 ^ 63) ⌝ }
     ensures { λ r. ⌜ r ≡ told (total cordCount) (servers «node_count» count 0 (now (w .entry)) i) ⌝ }
+    ensures { λ _. ⌜ LowsCredited (servers «node_count» count 0 (now (w .entry)) i) creditedServers «node_count» (mostServerCords * mostWatts * count) (now (sums .entry)) (now (sums .exit)) ⌝ }
 {
     let mut left = count;
     let mut before: u32 = 0;
     let mut j = i;
     while 0 < left {
-        let server = check_server(w, j, node_count, before);
+        let server = check_server(w, j, node_count, before, sums);
         let Checked::Good(cords, next) = server else {
             return server;
         };
@@ -188,9 +216,11 @@ fn check_servers(w: &[u32], i: usize, node_count: u32, count: u32) -> Checked
     Checked::Good(before, j)
 }
 
-// The whole table, and the count of its cords.
-pub(crate) fn check_table(w: &[u32]) -> Checked
+// The whole table, and the count of its cords. The sums of the lows on the nodes start at 0.
+pub(crate) fn check_table(w: &[u32], sums: &mut [u64]) -> Checked
+    requires { ⌜ (mostNodes ≤ length (now sums)) × ((i : ℕ) → getD (now sums) i 0 ≡ 0) ⌝ }
     ensures { λ r. ⌜ r ≡ told roomCords (table (now (w .entry)) 0) ⌝ }
+    ensures { λ _. ⌜ LowsCredited (table (now (w .entry)) 0) creditedRoom (getD (now (w .entry)) 1 0) (mostServerCords * mostWatts * mostServers) (now (sums .entry)) (now (sums .exit)) ⌝ }
 {
     let version = check_word(w, 0, VERSION, VERSION);
     let Checked::Good(_, at_nodes) = version else {
@@ -208,7 +238,7 @@ pub(crate) fn check_table(w: &[u32]) -> Checked
     let Checked::Good(server_count, first_server) = second else {
         return second;
     };
-    let servers = check_servers(w, first_server, node_count, server_count);
+    let servers = check_servers(w, first_server, node_count, server_count, sums);
     let Checked::Good(cords, next) = servers else {
         return servers;
     };

@@ -1,27 +1,14 @@
--- `check_load` tells a server's cords: their count, the cords, and that their shares make the whole.
-use mathlib.Core.Path.{sym, _∙_}
+-- `check_load` tells a server's cords: their count, the cords, and that their shares make the whole; and credits their lows.
+use mathlib.Core.Path.{refl, sym, _∙_}
 use native.Mathlib.Omega.{arith}
-use lib.ListN.{length}
 use borrow.Author.Tests.{eq-eqb, ne-eqb}
-use Rattle.rooms.specs.Table.{Cord, load}
-use Rattle.rooms.specs.Told.{told}
-use Rattle.rooms.specs.declared.Checked.{Checked}
+use Rattle.rooms.specs.Table.{load}
 use Rattle.rooms.proofs.Inversion.{many-length}
-use Rattle.rooms.proofs.Steps.{Reached, stop, pass, pass-word, ensured, denied, gives, word-most}
+use Rattle.rooms.proofs.Steps.{stop, pass, pass-word, ensured, denied, gives, word-told, word-most}
+use Rattle.rooms.proofs.CreditTurns.{stopped, load-credits}
 use borrow.Author.Needs.{needs}
 use Rattle.rooms.proofs.table.check_load.Statement.{statement}
 use Rattle.rooms.proofs.table.check_load.Tie as tie
-
-abbrev goal : tie.Start → Checked
-goal s = told length (load (s .args .node-count) (s .args .before) (s .args .start) (s .args .w .now) (s .args .i))
-
--- The count is passed.
-abbrev counted : (c : tie.After-known-told) → Reached (length {A = Cord}) (goal (c .before .before .before .before .before .before))
-unfolding load
-counted c = record {
-  left = _;
-  decides = λ h. pass-word _ _ _ (rw (c .before .before .before .before .lesser .ensures) at (c .before .before .before .check-word .ensures)) (c .before .first .given .1) h;
-}
 
 sub-lesser : tie.Need-sub-lesser
 sub-lesser c = search needs
@@ -40,11 +27,13 @@ enum-told c = search needs
 
 returns : tie.Need-returns
 unfolding load
-returns c = stop _ _ _ _ (rw (c .before .before .before .lesser .ensures) at (c .before .before .check-word .ensures)) (c .enum-told .given .1)
+returns c = stopped _ _ (stop _ _ _ _ (rw (c .before .before .before .lesser .ensures) at (c .before .before .check-word .ensures)) (c .enum-told .given .1)) (c .enum-told .given .1)
 
 check-cords-requires : tie.Need-check-cords-requires
 check-cords-requires c κs =
-    omega (arith, word-most _ _ _ _ (c .before .before .before .check-word .ensures) (c .before .first .given .1), c .before .before .before .before .lesser .ensures)
+    let pre = c .before .before .before .before .before .before .before .before .pre in
+    let few = word-most _ _ _ _ (c .before .before .before .before .check-word .ensures) (c .before .before .first .given .1) in
+    ((omega (arith, few, c .before .before .before .before .before .lesser .ensures), pre .0 .1), (pre .1 .0, omega (arith, few, c .before .before .before .before .before .lesser .ensures, pre .1 .1)))
 
 enum-known-cords : tie.Need-enum-known-cords
 enum-known-cords c = search needs
@@ -52,21 +41,37 @@ enum-known-cords c = search needs
 enum-told-2 : tie.Need-enum-told-2
 enum-told-2 c = search needs
 
+same-length : tie.Need-same-length
+same-length c = search needs
+
 returns-2 : tie.Need-returns-2
 unfolding load
-returns-2 c = counted (c .before .before .before) .decides (stop _ _ _ _ (c .before .before .check-cords .ensures) (c .enum-told2 .given .1))
+returns-2 c = stopped _ _ (pass-word _ _ _ (rw (c .before .before .before .before .before .before .before .before .before .before .lesser .ensures) at (c .before .before .before .before .before .before .before .before .before .check-word .ensures)) (c .before .before .before .before .before .before .before .first .given .1) (stop _ _ _ _ (c .before .before .before .before .check-cords .ensures .0) (c .enum-told2 .given .1))) (c .enum-told2 .given .1)
+
+same-length-2 : tie.Need-same-length-2
+same-length-2 c = search needs
 
 returns-3 : tie.Need-returns-3
 unfolding load
-returns-3 c = counted (c .before .before .before .before .before) .decides
-    (pass _ _ _ _ (c .before .before .before .before .check-cords .ensures) (c .before .before .cords .given .1) (λ l is sum.
-    denied _ _ _ _ _ _ (ne-eqb _ _ (λ z. c .if1 .taken (sym sum ∙ z)))))
+returns-3 c =
+    stopped _ _
+    (pass-word _ _ _ (rw (c .before .before .before .before .before .before .before .before .before .before .before .before .lesser .ensures) at (c .before .before .before .before .before .before .before .before .before .before .before .check-word .ensures)) (c .before .before .before .before .before .before .before .before .before .first .given .1)
+    (pass _ _ _ _ (c .before .before .before .before .before .before .check-cords .ensures .0) (c .before .before .cords .given .1) (λ l is sum.
+    denied _ _ _ _ _ _ (ne-eqb _ _ (λ z. c .if1 .taken (sym sum ∙ z))))))
+    refl
+
+same-length-3 : tie.Need-same-length-3
+same-length-3 c = search needs
 
 returns-4 : tie.Need-returns-4
 unfolding load
-returns-4 c = counted (c .before .before .before .before .before) .decides
-    (pass _ _ _ _ (c .before .before .before .before .check-cords .ensures) (c .before .before .cords .given .1) (λ l is sum.
-    ensured _ _ _ _ _ _ (eq-eqb _ _ (sum ∙ c .if1 .left)) (gives _ _ _ (sym (many-length _ _ _ _ _ _ _ _ is)))))
+returns-4 c =
+    let word = word-told _ _ _ _ (c .before .before .before .before .before .before .before .before .before .before .before .check-word .ensures) (c .before .before .before .before .before .before .before .before .before .first .given .1) in (
+      pass-word _ _ _ (rw (c .before .before .before .before .before .before .before .before .before .before .before .before .lesser .ensures) at (c .before .before .before .before .before .before .before .before .before .before .before .check-word .ensures)) (c .before .before .before .before .before .before .before .before .before .first .given .1)
+          (pass _ _ _ _ (c .before .before .before .before .before .before .check-cords .ensures .0) (c .before .before .cords .given .1) (λ l is sum.
+          ensured _ _ _ _ _ _ (eq-eqb _ _ (sum ∙ c .if1 .left)) (gives _ _ _ (sym (many-length _ _ _ _ _ _ _ _ is))))),
+      load-credits _ _ _ _ _ _ (word .0) (word .1) (omega (arith, word-most _ _ _ _ (c .before .before .before .before .before .before .before .before .before .before .before .check-word .ensures) (c .before .before .before .before .before .before .before .before .before .first .given .1), c .before .before .before .before .before .before .before .before .before .before .before .before .lesser .ensures)) (c .before .before .before .before .before .before .check-cords .ensures .1),
+    )
 
 pub check-load-spec : {M : Type 1} → statement M
 check-load-spec =
@@ -81,6 +86,9 @@ check-load-spec =
     check-cords-requires
     enum-known-cords
     enum-told-2
+    same-length
     returns-2
+    same-length-2
     returns-3
+    same-length-3
     returns-4)

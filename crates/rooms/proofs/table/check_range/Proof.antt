@@ -1,6 +1,6 @@
 -- `check_range` tells least and greatest, and that they are in order.
-use Rattle.rooms.specs.Table.{Range, range}
-use Rattle.rooms.specs.Told.{told, nothing}
+use Rattle.rooms.specs.Table.{leastOf, range}
+use Rattle.rooms.specs.Told.{told}
 use Rattle.rooms.specs.declared.Checked.{Checked}
 use Rattle.rooms.proofs.Steps.{Reached, stop, pass-word, pass-value, ensured, denied, gives}
 use borrow.Author.Tests.{le-leb, lt-leb}
@@ -11,10 +11,10 @@ use Rattle.rooms.proofs.table.check_range.Tie as tie
 
 -- What is to be told, after the least.
 abbrev goal : tie.After-known-told → Checked
-goal c = told nothing (range (c .before .before .before .before .before .args .w .now) (c .before .before .before .before .before .args .i))
+goal c = told leastOf (range (c .before .before .before .before .before .args .w .now) (c .before .before .before .before .before .args .i))
 
 -- The least is passed.
-abbrev least-passed : (c : tie.After-known-told) → Reached (nothing {A = Range}) (goal c)
+abbrev least-passed : (c : tie.After-known-told) → Reached leastOf (goal c)
 unfolding range
 least-passed c = record {
   left = _;
@@ -22,7 +22,7 @@ least-passed c = record {
 }
 
 -- The greatest is passed.
-abbrev greatest-passed : (c : tie.After-known-told2) → Reached (nothing {A = Range}) (goal (c .before .before .before .before))
+abbrev greatest-passed : (c : tie.After-known-told2) → Reached leastOf (goal (c .before .before .before .before))
 unfolding range
 greatest-passed c = record {
   left = _;

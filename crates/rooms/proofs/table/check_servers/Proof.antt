@@ -1,25 +1,33 @@
--- `check_servers` tells a row of servers and the count of all their cords.
+-- `check_servers` tells a row of servers and the count of all their cords, and credits their lows.
 use mathlib.Core.Path.{ap}
-use Prim.Native.Nat.{ℕ, _+_, _≤_}
+use Prim.Native.Nat.{ℕ, _+_, _*_, _≤_}
+use lib.ListN.{length}
+use Rattle.rooms.specs.Sums.{sum}
 use native.Mathlib.Omega.{arith}
-use Rattle.rooms.specs.Table.{server, cordCount, mostCords}
+use Rattle.rooms.specs.Table.{server, servers, cordCount, mostServerCords, mostCords, mostWatts}
+use Rattle.rooms.specs.Credits.{figures, creditedServers, rowOf}
 use Rattle.rooms.proofs.Steps.{Row, row-start, row-end, row-stop, row-turn, server-most}
+use Rattle.rooms.proofs.CreditTurns.{stopped, crediting-start, ServersCrediting, servers-end, servers-turn}
 use borrow.Author.Needs.{needs}
 use Rattle.rooms.proofs.table.check_servers.Statement.{statement}
 use Rattle.rooms.proofs.table.check_servers.Tie as tie
 
 abbrev Inv-loop : tie.InvT-loop
-Inv-loop w i node-count count left₀ before₀ j₀ left before j =
-    (before ≤ mostCords) × Row cordCount (server node-count) (λ before s. before + cordCount s) w count 0 i before left before j
+Inv-loop w i node-count count sums₀ left₀ before₀ j₀ sums left before j =
+    (before ≤ mostCords)
+    × Row cordCount (server node-count) (λ before s. before + cordCount s) w count 0 i before left before j
+    × ServersCrediting node-count w (creditedServers (rowOf (servers node-count count 0 w i)) sums₀) (length sums₀) (sum node-count (figures sums₀) + mostServerCords * mostWatts * count) left before j sums
 
 abbrev μ-loop : tie.MeasureT-loop
-μ-loop w i node-count count left₀ before₀ j₀ left before j = left
+μ-loop w i node-count count sums₀ left₀ before₀ j₀ sums left before j = left
 
 loop-holds : tie.Need-loop-holds Inv-loop μ-loop
-loop-holds c = (search needs, row-start _ _ _ _ _ _ _)
+loop-holds c = (search needs, row-start _ _ _ _ _ _ _, crediting-start _ _ _ 0 _)
 
 check-server-requires : tie.Need-check-server-requires Inv-loop μ-loop
-check-server-requires c κs = search needs
+check-server-requires c κs =
+    let inv = c .before .before .loop .inv in
+    (inv .0, omega (arith, inv .2 .length-is, c .before .before .before .before .before .pre .0), omega (arith, inv .2 .sum-is, c .before .before .before .before .before .pre .1, c .before .loop-test .taken))
 
 enum-known-server : tie.Need-enum-known-server Inv-loop μ-loop
 enum-known-server c = search needs
@@ -27,11 +35,14 @@ enum-known-server c = search needs
 enum-told : tie.Need-enum-told Inv-loop μ-loop
 enum-told c = search needs
 
+same-length : tie.Need-same-length Inv-loop μ-loop
+same-length c = omega (arith, c .before .before .before .before .check-server .kept, c .before .before .before .before .before .before .before .loop .inv .2 .length-is)
+
 returns : tie.Need-returns Inv-loop μ-loop
-returns c = row-stop _ _ _ _ _ _ _ (search needs) (c .before .before .before .before .loop .inv .1) (c .before .before .check-server .ensures) (c .enum-told .given .1)
+returns c = stopped _ _ (row-stop _ _ _ _ _ _ _ (search needs) (c .before .before .before .before .before .before .before .loop .inv .1) (c .before .before .before .before .check-server .ensures .0) (c .enum-told .given .1)) (c .enum-told .given .1)
 
 add-before : tie.Need-add-before Inv-loop μ-loop
-add-before c = omega (arith, server-most _ _ _ _ (c .before .before .before .before .before .loop .inv .0) (c .before .before .before .check-server .ensures) (c .before .server .given .1))
+add-before c = omega (arith, server-most _ _ _ _ (c .before .before .before .before .before .before .before .before .loop .inv .0) (c .before .before .before .before .before .check-server .ensures .0) (c .before .server .given .1))
 
 sub-left : tie.Need-sub-left Inv-loop μ-loop
 sub-left c = search needs
@@ -41,15 +52,19 @@ loop-less c = search needs
 
 loop-again : tie.Need-loop-again Inv-loop μ-loop
 loop-again c =
-    let loop = c .before .before .before .before .before .loop in
-    let tells = c .before .before .before .check-server .ensures in
+    let inv = c .before .before .before .before .before .before .before .before .loop .inv in
+    let tells = c .before .before .before .before .before .check-server .ensures .0 in
     let server = c .before .server .given .1 in (
-      server-most _ _ _ _ (loop .inv .0) tells server,
-      row-turn _ _ _ _ _ _ _ (search needs) (loop .inv .1) tells server (λ s count. ap (λ (n : ℕ). loop .before + n) count),
+      server-most _ _ _ _ (inv .0) tells server,
+      row-turn _ _ _ _ _ _ _ (search needs) (inv .1) tells server (λ s count. ap (λ (n : ℕ). c .before .before .before .before .before .before .before .before .loop .before + n) count),
+      servers-turn (inv .2) (search needs) tells server (c .before .before .before .before .before .check-server .ensures .1) (c .before .before .before .before .before .check-server .kept .1 .1 .1 .1 .0),
     )
 
+same-length-2 : tie.Need-same-length-2 Inv-loop μ-loop
+same-length-2 c = c .before .loop .inv .2 .length-is
+
 returns-2 : tie.Need-returns-2 Inv-loop μ-loop
-returns-2 c = row-end _ _ _ _ _ _ _ (search needs) (c .before .loop .inv .1)
+returns-2 c = (row-end _ _ _ _ _ _ _ (search needs) (c .before .loop .inv .1), servers-end _ _ _ (c .before .loop .inv .2) (search needs))
 
 pub check-servers-spec : {M : Type 1} → statement M
 check-servers-spec =
@@ -61,9 +76,11 @@ check-servers-spec =
     check-server-requires
     enum-known-server
     enum-told
+    same-length
     returns
     add-before
     sub-left
     loop-less
     loop-again
+    same-length-2
     returns-2)

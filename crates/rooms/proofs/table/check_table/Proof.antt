@@ -1,16 +1,22 @@
--- `check_table` tells the whole table: version, nodes, servers and the end.
-use mathlib.Core.Path.{sym}
+-- `check_table` tells the whole table: version, nodes, servers and the end; and credits the lows of its cords.
+use mathlib.Core.Path.{refl, sym, ap, _∙_}
+use Prim.Native.Nat.{ℕ}
+use native.Mathlib.Omega.{arith}
+use lib.ListN.{getD}
 use Rattle.rooms.specs.Table.{table, roomCords}
 use Rattle.rooms.specs.Told.{told}
 use Rattle.rooms.specs.declared.Checked.{Checked}
-use Rattle.rooms.proofs.Steps.{Reached, known, stop, pass, pass-known, pass-word, left-over, ended, gives, word-most}
+use Rattle.rooms.proofs.Steps.{Reached, known, stop, pass, pass-known, pass-word, left-over, ended, gives, word-told, word-most}
+use Rattle.rooms.proofs.Credits.{sum-zeros}
+use Rattle.rooms.proofs.CreditTurns.{stopped}
+use Rattle.rooms.proofs.Found.{table-credits}
 use borrow.Author.Needs.{needs}
 use Rattle.rooms.proofs.table.check_table.Statement.{statement}
 use Rattle.rooms.proofs.table.check_table.Tie as tie
 
 -- What is to be told, after each of the first four parts.
 abbrev goal : tie.After-known-told → Checked
-goal c = told roomCords (table (c .before .before .before .before .before .args .w .now) 0)
+goal c = told roomCords (table (c .before .before .before .before .before .before .args .w .now) 0)
 
 abbrev goal2 : tie.After-known-told2 → Checked
 goal2 c = goal (c .before .before .before .before)
@@ -65,7 +71,7 @@ enum-told c = search needs
 
 returns : tie.Need-returns
 unfolding table
-returns c = stop _ _ _ _ (c .before .before .check-word .ensures) (c .enum-told .given .1)
+returns c = stopped _ _ (stop _ _ _ _ (c .before .before .check-word .ensures) (c .enum-told .given .1)) (c .enum-told .given .1)
 
 check-word-requires-2 : tie.Need-check-word-requires-2
 check-word-requires-2 c κs = search needs
@@ -78,7 +84,7 @@ enum-told-2 c = search needs
 
 returns-2 : tie.Need-returns-2
 unfolding table
-returns-2 c = version-passed (c .before .before .before) .decides (stop _ _ _ _ (c .before .before .check-word2 .ensures) (c .enum-told2 .given .1))
+returns-2 c = stopped _ _ (version-passed (c .before .before .before) .decides (stop _ _ _ _ (c .before .before .check-word2 .ensures) (c .enum-told2 .given .1))) (c .enum-told2 .given .1)
 
 check-nodes-requires : tie.Need-check-nodes-requires
 check-nodes-requires c κs = word-most _ _ _ _ (c .before .before .before .check-word2 .ensures) (c .before .first .given .1)
@@ -91,7 +97,7 @@ enum-told-3 c = search needs
 
 returns-3 : tie.Need-returns-3
 unfolding table
-returns-3 c = node-count-passed (c .before .before .before) .decides (stop _ _ _ _ (c .before .before .check-nodes .ensures) (c .enum-told3 .given .1))
+returns-3 c = stopped _ _ (node-count-passed (c .before .before .before) .decides (stop _ _ _ _ (c .before .before .check-nodes .ensures) (c .enum-told3 .given .1))) (c .enum-told3 .given .1)
 
 check-word-requires-3 : tie.Need-check-word-requires-3
 check-word-requires-3 c κs = search needs
@@ -104,10 +110,14 @@ enum-told-4 c = search needs
 
 returns-4 : tie.Need-returns-4
 unfolding table
-returns-4 c = nodes-passed (c .before .before .before) .decides (stop _ _ _ _ (c .before .before .check-word3 .ensures) (c .enum-told4 .given .1))
+returns-4 c = stopped _ _ (nodes-passed (c .before .before .before) .decides (stop _ _ _ _ (c .before .before .check-word3 .ensures) (c .enum-told4 .given .1))) (c .enum-told4 .given .1)
 
 check-servers-requires : tie.Need-check-servers-requires
-check-servers-requires c κs = search needs
+check-servers-requires c κs =
+    let pre = c .before .before .before .before .before .before .before .before .before .before .before .before .before .before .before .before .before .before .before .pre in
+    let nodes = word-most _ _ _ _ (c .before .before .before .before .before .before .before .before .before .before .before .before .check-word2 .ensures) (c .before .before .before .before .before .before .before .before .before .before .first .given .1) in
+    let servers = word-most _ _ _ _ (c .before .before .before .before .check-word3 .ensures) (c .before .before .second .given .1) in
+    (omega (arith, nodes, pre .0), omega (arith, servers, sum-zeros (c .before .before .before .before .before .before .before .before .before .before .first .given .0 .0) (c .before .before .before .before .before .before .before .before .before .before .before .before .before .before .before .before .before .before .before .args .sums .now) (pre .1)))
 
 enum-known-servers : tie.Need-enum-known-servers
 enum-known-servers c = search needs
@@ -115,21 +125,41 @@ enum-known-servers c = search needs
 enum-told-5 : tie.Need-enum-told-5
 enum-told-5 c = search needs
 
+same-length : tie.Need-same-length
+same-length c = search needs
+
 returns-5 : tie.Need-returns-5
 unfolding table
-returns-5 c = server-count-passed (c .before .before .before) .decides (stop _ _ _ _ (c .before .before .check-servers .ensures) (c .enum-told5 .given .1))
+returns-5 c = stopped _ _ (server-count-passed (c .before .before .before .before .before .before) .decides (stop _ _ _ _ (c .before .before .before .before .check-servers .ensures .0) (c .enum-told5 .given .1))) (c .enum-told5 .given .1)
+
+same-length-2 : tie.Need-same-length-2
+same-length-2 c = search needs
 
 returns-6 : tie.Need-returns-6
 unfolding table
-returns-6 c = server-count-passed (c .before .before .before .before .before) .decides
-    (pass _ _ _ _ (c .before .before .before .before .check-servers .ensures) (c .before .before .servers .given .1) (λ servers is cords.
-    left-over _ _ _ _ (c .if1 .taken)))
+returns-6 c =
+    stopped _ _
+    (server-count-passed (c .before .before .before .before .before .before .before .before) .decides
+    (pass _ _ _ _ (c .before .before .before .before .before .before .check-servers .ensures .0) (c .before .before .servers .given .1) (λ servers is cords.
+    left-over _ _ _ _ (c .if1 .taken))))
+    refl
+
+same-length-3 : tie.Need-same-length-3
+same-length-3 c = search needs
 
 returns-7 : tie.Need-returns-7
 unfolding table
-returns-7 c = server-count-passed (c .before .before .before .before .before) .decides
-    (pass _ _ _ _ (c .before .before .before .before .check-servers .ensures) (c .before .before .servers .given .1) (λ servers is cords.
-    ended _ _ _ _ (c .if1 .left) (gives _ _ _ (sym cords))))
+returns-7 c =
+    let version = word-told _ _ _ _ (c .before .before .before .before .before .before .before .before .before .before .before .before .before .before .before .before .before .before .before .before .before .before .before .check-word .ensures) (c .before .before .before .before .before .before .before .before .before .before .before .before .before .before .before .before .before .before .before .before .before .version .given .1) in
+    let first = word-told _ _ _ _ (c .before .before .before .before .before .before .before .before .before .before .before .before .before .before .before .before .before .before .before .check-word2 .ensures) (c .before .before .before .before .before .before .before .before .before .before .before .before .before .before .before .before .before .first .given .1) in
+    let nodes = known _ _ (c .before .before .before .before .before .before .before .before .before .before .before .before .before .before .before .check-nodes .ensures) (c .before .before .before .before .before .before .before .before .before .before .before .before .before .nodes .given .1) in
+    let second = word-told _ _ _ _ (c .before .before .before .before .before .before .before .before .before .before .before .check-word3 .ensures) (c .before .before .before .before .before .before .before .before .before .second .given .1) in
+    let few = word-most _ _ _ _ (c .before .before .before .before .before .before .before .before .before .before .before .check-word3 .ensures) (c .before .before .before .before .before .before .before .before .before .second .given .1) in (
+      server-count-passed (c .before .before .before .before .before .before .before .before) .decides
+          (pass _ _ _ _ (c .before .before .before .before .before .before .check-servers .ensures .0) (c .before .before .servers .given .1) (λ servers is cords.
+          ended _ _ _ _ (c .if1 .left) (gives _ _ _ (sym cords)))),
+      table-credits _ (first .0 ∙ ap (λ (k : ℕ). getD (c .before .before .before .before .before .before .before .before .before .before .before .before .before .before .before .before .before .before .before .before .before .before .before .before .before .before .args .w .now) k 0) (version .1)) (first .1 ∙ omega (arith, version .1)) (nodes .is) (second .0) (second .1) few (c .before .before .before .before .before .before .check-servers .ensures .1),
+    )
 
 pub check-table-spec : {M : Type 1} → statement M
 check-table-spec =
@@ -154,6 +184,9 @@ check-table-spec =
     check-servers-requires
     enum-known-servers
     enum-told-5
+    same-length
     returns-5
+    same-length-2
     returns-6
+    same-length-3
     returns-7)

@@ -77,7 +77,7 @@ pub extern "C" fn hutplan_plan(
     )
 }
 
-// Read by way of a list of words, of which just the accepted are stored.
+// Read by way of a list of words, of which those of an accepted table are stored.
 fn read_by(sheet: &[u8], words: &mut [u32], table: &mut [u8], answer: &mut [u8]) -> u32
     requires { ⌜ 5124 ≤ length (now words) ⌝ }
     ensures { λ r. ⌜ ReadCall (now (sheet .entry)) (now (table .entry)) (now (answer .entry)) r (now (table .exit)) (now (answer .exit)) ⌝ }

@@ -22,7 +22,7 @@ use Rattle.rooms.proofs.Trees.{kids, kids-cong, own, below-step, down, under, u
 use Rattle.rooms.proofs.Credits.{credited-at, credited-length, zeros-at, sumBeneath-step, sumBeneath-most}
 use Rattle.rooms.proofs.Gather.{Holds, holds-start, holds-turn, holds-most, holds-whole}
 use Rattle.deals.specs.Figures.{at}
-use Rattle.deals.specs.Passes.{NextOf, lowsBeneath, LowsWithin, Spare}
+use Rattle.deals.specs.Passes.{NextOf, lowsUnder, LowsWithin, Spare}
 use Rattle.deals.proofs.Lists.{sum-most}
 use Rattle.deals.proofs.Links.{skipped}
 
@@ -294,11 +294,11 @@ module _ {parents start : List ℕ} (rises : Rises parents) where
 pub record SpareTurn (parents limits nodes lows : List ℕ) (n : ℕ) (spare : List ℕ) : Type 0 where
   pub reached : n ≤ length limits
   pub size : length spare ≡ length parents
-  pub done : (m : ℕ) → m < n → at spare m + lowsBeneath parents nodes lows m ≡ at limits m
-  pub rest : (m : ℕ) → n ≤ m → m < length parents → at spare m ≡ lowsBeneath parents nodes lows m
+  pub done : (m : ℕ) → m < n → at spare m + lowsUnder parents nodes lows m ≡ at limits m
+  pub rest : (m : ℕ) → n ≤ m → m < length parents → at spare m ≡ lowsUnder parents nodes lows m
 
 module _ {parents limits nodes lows : List ℕ} where
-  pub spare-start : {spare : List ℕ} → length spare ≡ length parents → ((m : ℕ) → m < length parents → at spare m ≡ lowsBeneath parents nodes lows m)
+  pub spare-start : {spare : List ℕ} → length spare ≡ length parents → ((m : ℕ) → m < length parents → at spare m ≡ lowsUnder parents nodes lows m)
       → SpareTurn parents limits nodes lows 0 spare
   spare-start size lows-are = record { reached = omega arith; size = size; done = λ m l. absurd (omega arith); rest = λ m h. lows-are m }
 
@@ -312,7 +312,7 @@ module _ {parents limits nodes lows : List ℕ} where
         record {
           reached = omega arith;
           size = length-set spare n (limit - at spare n) ∙ t .size;
-          done = below-more (λ m. at (set spare n (limit - at spare n)) m + lowsBeneath parents nodes lows m ≡ at limits m) n
+          done = below-more (λ m. at (set spare n (limit - at spare n)) m + lowsUnder parents nodes lows m ≡ at limits m) n
               (λ m l. omega (arith, kept m (λ e. omega arith), t .done m l))
               (omega (arith, getD-set-same spare n (limit - at spare n) 0 (omega (arith, t .size)), t .rest n (le-refl n) (omega arith), within n (omega arith)));
           rest = λ m h l. kept m (λ e. omega arith) ∙ t .rest m (omega arith) l;

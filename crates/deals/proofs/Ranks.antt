@@ -21,7 +21,7 @@ use Rattle.deals.specs.Figures.{figures, at, cell}
 use Rattle.deals.specs.Metrics.{Deal, dealFrom, metrics, atLevel}
 use Rattle.deals.specs.Split.{part}
 use Rattle.deals.specs.Dealing.{granted, reached}
-use Rattle.deals.specs.Passes.{NodeLists, CordLists, lowsBeneath, LowsWithin, Spare, onNode, childrenBefore, overChildren, cordsBefore, weightOf, Gathered, NodesDealt, CordsDealt, FullRows, RanksDealt}
+use Rattle.deals.specs.Passes.{NodeLists, CordLists, lowsUnder, LowsWithin, Spare, onNode, childrenBefore, overChildren, cordsBefore, weightOf, Gathered, NodesDealt, CordsDealt, FullRows, RanksDealt}
 use Rattle.deals.proofs.Lists.{sum-most, figures-length}
 use Rattle.deals.proofs.Equations.{Dealable, asked, weights, request-asked, pcapmin-all, weights-are}
 use Rattle.deals.proofs.Computed.{pcapmin, request, amountOf, measured, dealt, granted-at}
@@ -142,7 +142,7 @@ module _ (parents limits nodes levels lows wants : List ℕ) (ns : NodeLists par
     higher = 0;
     sum-is = omega arith;
     left-is = λ n l.
-        let e : lowsBeneath parents nodes lows n ≡ sum highestRank (pcap n)
+        let e : lowsUnder parents nodes lows n ≡ sum highestRank (pcap n)
         = under-is (length parents) (at parents) (ns .rises) (length nodes) (at nodes) (cs .within) n (at lows)
         ∙ sym (pcapmin-all theDeal dealable (pcapmin theDeal) (request theDeal) (measured theDeal dealable) n l) in
         omega (arith, spare .over n l);

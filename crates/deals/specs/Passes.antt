@@ -41,18 +41,18 @@ pub record NodeLists (parents limits : List ℕ) : Type 0 where
   pub rises : (m : ℕ) → m < length parents → at parents m ≤ m
   pub most : (m : ℕ) → m < length parents → at limits m ≤ mostWatts
 
--- The lows of all cords beneath the node at place n, at any depth.
-abbrev pub lowsBeneath : List ℕ → List ℕ → List ℕ → ℕ → ℕ
-lowsBeneath parents nodes lows n = sum (length nodes) (λ c. on (beneath (at parents) (length parents) n (at nodes c)) (at lows c))
+-- The lows of all cords beneath the node at place n, at any depth: rooms' `lowsBeneath`, over lists.
+abbrev pub lowsUnder : List ℕ → List ℕ → List ℕ → ℕ → ℕ
+lowsUnder parents nodes lows n = sum (length nodes) (λ c. on (beneath (at parents) (length parents) n (at nodes c)) (at lows c))
 
--- No node whose limit they exceed.
+-- No node has a limit that the lows beneath it exceed.
 abbrev pub LowsWithin : List ℕ → List ℕ → List ℕ → List ℕ → Type 0
-LowsWithin parents limits nodes lows = (n : ℕ) → n < length parents → lowsBeneath parents nodes lows n ≤ at limits n
+LowsWithin parents limits nodes lows = (n : ℕ) → n < length parents → lowsUnder parents nodes lows n ≤ at limits n
 
--- What each node's limit has over them.
+-- `spare` has what each node's limit has over the lows beneath it.
 pub record Spare (parents limits nodes lows spare : List ℕ) : Type 0 where
   pub size : length spare ≡ length parents
-  pub over : (n : ℕ) → n < length parents → at spare n + lowsBeneath parents nodes lows n ≡ at limits n
+  pub over : (n : ℕ) → n < length parents → at spare n + lowsUnder parents nodes lows n ≡ at limits n
 
 -- What a deal asks of its lists, the grants' among them.
 pub record DealLists (parents limits nodes levels lows wants : List ℕ) (grantCount : ℕ) : Type 0 where
@@ -244,7 +244,8 @@ weightOf rows level pcapmins m = cell rows m level - at pcapmins m
 
 -- From what is left of each limit over the Requests of higher ranks and the Pcapmin of this rank and those below, and the cords' lows
 -- and excesses on each node: the Pcapmin and the children's excesses at this rank, the Requests in their column of the rows, and what
--- is left for the next. (The lesser of left + Pcapmin and of the children's Requests is the Pcapmin with the lesser of these excesses.)
+-- is left for the next. (Document 01's two sides are `left` + Pcapmin and `wholes` + Pcapmin, so that their lesser is
+-- Pcapmin and the lesser of `left` and `wholes`.)
 pub record Gathered (parents : List ℕ) (level : ℕ) (left lows excesses : List ℕ) (rows : List (List ℕ)) (left′ pcapmins wholes : List ℕ) (rows′ : List (List ℕ)) : Type 0 where
   pub pcapmin : (n : ℕ) → n < length parents → at pcapmins n ≡ sumBeneath (at parents) (length parents) (at lows) n
   pub children : (n : ℕ) → n < length parents → at wholes n ≡ at excesses n + overChildren parents (weightOf rows′ level pcapmins) n

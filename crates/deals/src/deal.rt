@@ -101,7 +101,7 @@ fn deal_rank(
 }
 
 // The deal, rank by rank from the highest. `left` has what each limit has over the Requests dealt and the lows to come, at first
-// `spare`. (`limits` is for the contracts alone, here and in `deal`.)
+// `spare`. (`limits` and `levels` are for the contracts alone, here, in `deal` and in `make_deal`.)
 fn deal_ranks(
     parents: &[u32],
     limits: &[u32],

@@ -27,7 +27,8 @@ fn serve(
     ensures { λ _. ⌜ now (before .exit) ≡ set (now (before .entry)) p (at (now (before .entry)) p + weight) ⌝ }
     ensures { λ _. ⌜ now (dealt .exit) ≡ set (now (dealt .entry)) p (amount * (at (now (before .entry)) p + weight) / whole) ⌝ }
 {
-    // A child with all the weight takes all, as an only child does; where no child has weight, there is no amount.
+    // A child with all the weight takes all, without a division. Where no child has weight, each has all of it, and the amount
+    // is 0: so nothing is divided by 0.
     if weight == whole {
         before[p] = weight;
         dealt[p] = amount;

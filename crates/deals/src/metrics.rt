@@ -6,7 +6,7 @@ ghost use Rattle.rooms.specs.Sums.{sum};
 ghost use Rattle.rooms.specs.Table.{mostNodes, mostWatts, mostCords, highestRank};
 ghost use Rattle.rooms.specs.Credits.{sumBeneath, credited};
 ghost use Rattle.deals.specs.Figures.{at, cell};
-ghost use Rattle.deals.specs.Passes.{NodeLists, CordLists, LowsWithin, ChainOf, onNode, cordsBefore, lowsBeneath, Spare, FullRows, Absent, ActiveNodes, Gathered};
+ghost use Rattle.deals.specs.Passes.{NodeLists, CordLists, LowsWithin, ChainOf, onNode, cordsBefore, lowsUnder, Spare, FullRows, Absent, ActiveNodes, Gathered};
 use crate::widths::index;
 use crate::widths::least;
 use crate::widths::narrow;
@@ -85,7 +85,7 @@ fn sum_lows(parents: &[u32], nodes: &[u32], lows: &[u32], sums: &mut [u64])
     requires { ⌜ (length (now lows) ≡ length (now nodes)) × (length (now nodes) ≤ mostCords) × (length (now sums) ≡ length (now parents)) ⌝ }
     requires { ⌜ ((m : ℕ) → m < length (now parents) → at (now parents) m ≤ m) ⌝ }
     requires { ⌜ ((c : ℕ) → c < length (now nodes) → (1 ≤ at (now nodes) c) × (at (now nodes) c ≤ length (now parents)) × (at (now lows) c ≤ mostWatts)) ⌝ }
-    ensures { λ _. ⌜ ((n : ℕ) → n < length (now (parents .entry)) → at (now (sums .exit)) n ≡ lowsBeneath (now (parents .entry)) (now (nodes .entry)) (now (lows .entry)) n) ⌝ }
+    ensures { λ _. ⌜ ((n : ℕ) → n < length (now (parents .entry)) → at (now (sums .exit)) n ≡ lowsUnder (now (parents .entry)) (now (nodes .entry)) (now (lows .entry)) n) ⌝ }
 {
     clear(sums);
     for c in 0..nodes.len() {
@@ -114,8 +114,8 @@ pub(crate) fn spare_limits(
     }
 }
 
-// From the last active node to the first: a node's Request is its Pcapmin and its excess, the lesser of what is left and of its
-// children's excesses; its Pcapmin and its excess are added to its parent's sums.
+// From the last active node to the first: a node's Request is its Pcapmin and its excess, the lesser of what is left of its limit
+// and of its children's excesses; its Pcapmin and its excess are added to its parent's sums.
 pub(crate) fn gather(
     parents: &[u32],
     active: &[u32],
@@ -140,9 +140,9 @@ pub(crate) fn gather(
         i -= 1;
         let n = index(active[i]);
         let pcapmin = pcapmins[n];
-        let spare = left[n];
-        let excess = least(spare, wholes[n]);
-        left[n] = spare - excess;
+        let rest = left[n];
+        let excess = least(rest, wholes[n]);
+        left[n] = rest - excess;
         requests[n][level] = narrow(pcapmin + excess);
         let parent = index(parents[n]);
         credit(pcapmins, parent, pcapmin);

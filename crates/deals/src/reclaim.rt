@@ -40,7 +40,7 @@ fn next_want(stranded: u64, used: u32, want: u32) -> u32
     requires { ⌜ stranded < 2 ^ 32 ⌝ }
     ensures { λ r. ⌜ r ≡ cond (ltb 0 stranded) used want ⌝ }
 {
-    // 1 if watts are stranded, else 0: as a sum that carries, since a test may be compiled to a branch.
+    // 1 if watts are stranded, else 0: only then the sum carries into bit 32. A comparison might be compiled to a branch.
     let some = (stranded + 4294967295) / 4294967296;
     narrow(some * wide(used) + (1 - some) * wide(want))
 }

@@ -9,7 +9,7 @@ use Rattle.rooms.specs.Sums.{sum}
 use Rattle.rooms.specs.Part.{Step, good, bad, Part, follow, many, word, within}
 use Rattle.rooms.specs.Table.{Cord, Server, Range, scale, mostWatts, mostServerCords, highestRank, cord, cords, range, load, server, servers, shareOf, cordCount}
 use Rattle.rooms.specs.Limits.{low, carried}
-use Rattle.rooms.specs.Credits.{figures, credited, creditedCords, creditedServer, creditedServers, rowOf, LowsCredited}
+use Rattle.rooms.specs.Credits.{figures, credited, creditedCords, creditedServer, creditedServers, LowsCredited}
 use Rattle.rooms.specs.Told.{told}
 use Rattle.rooms.specs.declared.Refusal.{Refusal}
 use Rattle.rooms.specs.declared.Checked.{Checked}
@@ -30,6 +30,11 @@ pub stopped : {A : Type 0} (f : A → ℕ) (s : Step A) {credit : A → List ℕ
 stopped f s d e = (d, credits-refused f s d e)
 
 -- ---- A row of any parts
+
+-- What a good row of parts gives.
+abbrev pub rowOf : {A : Type 0} → Step (List A) → List A
+rowOf (good l j) = l
+rowOf (bad refusal) = []
 
 -- Before the next of `left` parts from index j on: the parts that are left, if they are good, credited to the sums as they stand, give
 -- the whole row's credits. Each adds at most `most` to the sum of all figures.

@@ -7,7 +7,7 @@ use Prim.Native.Nat.{ℕ, zero, suc, _+_, _*_, _/_, _≤_}
 use lib.ListN.{getD, set}
 use lib.Dec.{ltb}
 use Rattle.rooms.specs.Sums.{on, sum}
-use Rattle.rooms.specs.Part.{Step, good, bad}
+use Rattle.rooms.specs.Part.{Step, good}
 pub use Rattle.rooms.specs.Part.{Good}
 use Rattle.rooms.specs.Table.{Cord, Server, Room}
 use Rattle.rooms.specs.Limits.{low, percent, beneath}
@@ -36,29 +36,23 @@ unfoldable pub credited : ℕ → ℕ → List ℕ → List ℕ
 credited zero figure l = l
 credited (suc m) figure l = set l m (getD l m 0 + figure)
 
--- The lows of a server's cords, by its least, and of all servers' cords, credited to the cords' nodes.
+-- The lows of a server's cords, by its least, credited to the cords' nodes; and those of all servers, of a room.
 unfoldable pub creditedCords : ℕ → List Cord → List ℕ → List ℕ
 creditedCords least [] l = l
 creditedCords least (c ∷ cs) l = creditedCords least cs (credited (c .node) (low least c) l)
 
-unfoldable pub creditedServers : List Server → List ℕ → List ℕ
-creditedServers [] l = l
-creditedServers (s ∷ ss) l = creditedServers ss (creditedCords (s .least) (s .cords) l)
-
--- What a check of a part leaves in the sums, once the part is good: its cords' lows are credited, and all sums together have grown by
--- no more than `most`.
-pub record LowsCredited {A : Type 0} (step : Step A) (credit : A → List ℕ → List ℕ) (nodeCount most : ℕ) (sums sums′ : List ℕ) : Type 0 where
-  pub are : (a : A) (j : ℕ) → step ≡ good a j → sums′ ≡ credit a sums
-  pub grow : (a : A) (j : ℕ) → step ≡ good a j → sum nodeCount (figures sums′) ≤ sum nodeCount (figures sums) + most
-
--- The lows of a server's cords, of a room's.
 abbrev pub creditedServer : Server → List ℕ → List ℕ
 creditedServer s = creditedCords (s .least) (s .cords)
+
+unfoldable pub creditedServers : List Server → List ℕ → List ℕ
+creditedServers [] l = l
+creditedServers (s ∷ ss) l = creditedServers ss (creditedServer s l)
 
 abbrev pub creditedRoom : Room → List ℕ → List ℕ
 creditedRoom r = creditedServers (r .servers)
 
--- What a good row of parts gives.
-abbrev pub rowOf : {A : Type 0} → Step (List A) → List A
-rowOf (good l j) = l
-rowOf (bad refusal) = []
+-- What a check of a part leaves in the sums, if the part is good: its cords' lows are credited, and all sums together have grown by
+-- no more than `most`. Else nothing is claimed.
+pub record LowsCredited {A : Type 0} (step : Step A) (credit : A → List ℕ → List ℕ) (nodeCount most : ℕ) (sums sums′ : List ℕ) : Type 0 where
+  pub are : (a : A) (j : ℕ) → step ≡ good a j → sums′ ≡ credit a sums
+  pub grow : (a : A) (j : ℕ) → step ≡ good a j → sum nodeCount (figures sums′) ≤ sum nodeCount (figures sums) + most

@@ -103,6 +103,7 @@ pub record Range : Type 0 where
   pub least : ℕ
   pub greatest : ℕ
 
+-- (What the check of a range tells.)
 abbrev pub leastOf : Range → ℕ
 leastOf r = r .least
 

@@ -1,4 +1,5 @@
-// The words of a table, checked one by one in their order: refusals 4 to 8. On the way each cord's low is credited to its node.
+// The words of a table, checked one by one in their order: refusals 4 to 8. On the way each cord's low is credited to its
+// node, so that refusal 9 needs no second walk.
 ghost use mathlib.Core.Path.{_≡_};
 ghost use Prim.Native.Nat.{ℕ, _+_, _*_, _^_, _<_, _≤_, min};
 ghost use lib.ListN.{length, getD};
@@ -94,7 +95,7 @@ fn check_cord(w: &[u32], i: usize, node_count: u32) -> Checked
     check_word(w, at_share, 0, SCALE)
 }
 
-// So many cords from i on, and the sum of their shares.
+// So many cords from i on, and the sum of their shares. Each good cord's low is credited to its node in `sums`.
 fn check_cords(
     w: &[u32],
     i: usize,
@@ -216,7 +217,7 @@ fn check_servers(w: &[u32], i: usize, node_count: u32, count: u32, sums: &mut [u
     Checked::Good(before, j)
 }
 
-// The whole table, and the count of its cords. The sums of the lows on the nodes start at 0.
+// The whole table, and the count of its cords. The sums, 0 at first, get the lows of the cords on each node.
 pub(crate) fn check_table(w: &[u32], sums: &mut [u64]) -> Checked
     requires { ⌜ (mostNodes ≤ length (now sums)) × ((i : ℕ) → getD (now sums) i 0 ≡ 0) ⌝ }
     ensures { λ r. ⌜ r ≡ told roomCords (table (now (w .entry)) 0) ⌝ }

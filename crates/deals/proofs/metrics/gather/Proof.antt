@@ -51,11 +51,11 @@ slice-read-pcapmin c =
     let is = c .before .index .ensures .0 in
     omega (arith, gather-node t more is .in-parents, gather-size t more is)
 
-mul-spare : tie.Need-mul-spare Inv-loop μ-loop
-mul-spare c = search needs
+mul-rest : tie.Need-mul-rest Inv-loop μ-loop
+mul-rest c = search needs
 
-slice-read-spare : tie.Need-slice-read-spare Inv-loop μ-loop
-slice-read-spare c = gather-node (c .before .before .before .before .before .loop .inv) (c .before .before .before .before .loop-test .taken) (c .before .before .index .ensures .0) .in-left
+slice-read-rest : tie.Need-slice-read-rest Inv-loop μ-loop
+slice-read-rest c = gather-node (c .before .before .before .before .before .loop .inv) (c .before .before .before .before .loop-test .taken) (c .before .before .index .ensures .0) .in-left
 
 mul-least : tie.Need-mul-least Inv-loop μ-loop
 mul-least c = search needs
@@ -161,8 +161,8 @@ gather-spec =
     index-requires
     mul-pcapmin
     slice-read-pcapmin
-    mul-spare
-    slice-read-spare
+    mul-rest
+    slice-read-rest
     mul-least
     slice-read-least
     least-requires

@@ -5,9 +5,9 @@ use mathlib.Core.Path.{refl}
 use lib.ListN.{length}
 use Rattle.rooms.specs.Sums.{sum}
 use Rattle.rooms.specs.Table.{cord, cords, shareOf, mostWatts}
-use Rattle.rooms.specs.Credits.{figures, creditedCords, rowOf}
+use Rattle.rooms.specs.Credits.{figures, creditedCords}
 use Rattle.rooms.proofs.Steps.{Row, row-start, row-end, row-stop, row-turn, cord-most}
-use Rattle.rooms.proofs.CreditTurns.{stopped, crediting-start, CordsCrediting, cords-end, next-cord}
+use Rattle.rooms.proofs.CreditTurns.{stopped, rowOf, crediting-start, CordsCrediting, cords-end, next-cord}
 use borrow.Author.Needs.{needs}
 use Rattle.rooms.proofs.table.check_cords.Statement.{statement}
 use Rattle.rooms.proofs.table.check_cords.Tie as tie

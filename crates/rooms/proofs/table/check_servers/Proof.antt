@@ -5,9 +5,9 @@ use lib.ListN.{length}
 use Rattle.rooms.specs.Sums.{sum}
 use native.Mathlib.Omega.{arith}
 use Rattle.rooms.specs.Table.{server, servers, cordCount, mostServerCords, mostCords, mostWatts}
-use Rattle.rooms.specs.Credits.{figures, creditedServers, rowOf}
+use Rattle.rooms.specs.Credits.{figures, creditedServers}
 use Rattle.rooms.proofs.Steps.{Row, row-start, row-end, row-stop, row-turn, server-most}
-use Rattle.rooms.proofs.CreditTurns.{stopped, crediting-start, ServersCrediting, servers-end, servers-turn}
+use Rattle.rooms.proofs.CreditTurns.{stopped, rowOf, crediting-start, ServersCrediting, servers-end, servers-turn}
 use borrow.Author.Needs.{needs}
 use Rattle.rooms.proofs.table.check_servers.Statement.{statement}
 use Rattle.rooms.proofs.table.check_servers.Tie as tie

@@ -4,10 +4,11 @@ use native.Mathlib.Omega.{arith}
 use Rattle.numbers.specs.Sheet.{bytesOf}
 use Rattle.numbers.proofs.Promises as numbers
 use Rattle.rooms.specs.Outcome.{reading}
-use Rattle.rooms.specs.Promises.{RefusalNine, TableReadsBack, SheetWritesBack, ReadIsChecked}
+use Rattle.rooms.specs.Promises.{RefusalNine, TableReadsBack, SheetWritesBack, ReadIsChecked, FirstWordsDecide}
 use Rattle.rooms.proofs.Reach.{words-small}
 use Rattle.rooms.proofs.Overloaded as overloaded
 use Rattle.rooms.proofs.Outcomes.{fitting-whole, reading-is, writing-is, writing-good}
+use Rattle.rooms.proofs.Lent.{reading-first}
 
 pub refusal-nine : RefusalNine
 refusal-nine = overloaded.refusal-nine
@@ -27,3 +28,6 @@ sheet-writes-back sheet table words bytes all e h =
 
 pub read-is-checked : ReadIsChecked
 read-is-checked sheet table words e = reading-is sheet words e .checks
+
+pub first-words-decide : FirstWordsDecide
+first-words-decide taken sheet words h = reading-first sheet words taken h

@@ -8,7 +8,6 @@ use lib.ListN.{getD, set}
 use lib.Dec.{ltb}
 use Rattle.rooms.specs.Sums.{on, sum}
 use Rattle.rooms.specs.Part.{Step, good}
-pub use Rattle.rooms.specs.Part.{Good}
 use Rattle.rooms.specs.Table.{Cord, Server, Room}
 use Rattle.rooms.specs.Limits.{low, percent, beneath}
 

@@ -10,7 +10,7 @@ use Rattle.numbers.specs.Sheet.{whole, sheetOf}
 use Rattle.rooms.specs.Part.{good, Good}
 use Rattle.rooms.specs.Table.{Room, table}
 use Rattle.rooms.specs.Limits.{limit, nodeAt, lowsBeneath, checked}
-use Rattle.rooms.specs.Outcome.{accepted, answerOf, answerNumber, answerFigure, reading, writing}
+use Rattle.rooms.specs.Outcome.{accepted, answerOf, answerNumber, answerFigure, reading, readingFirst, writing}
 use Rattle.rooms.specs.declared.Answer.{Answer}
 
 -- ---- Refusal 9
@@ -68,3 +68,7 @@ SheetWritesBack = (sheet table : List ℕ) (words bytes : ℕ)
 -- A table that Read gives passes every check of a table.
 abbrev pub ReadIsChecked : Type 0
 ReadIsChecked = (sheet table : List ℕ) (words : ℕ) → reading sheet words ≡ accepted table → Good (checked table 0)
+
+-- Read by way of a list of 5,124 words or more is Read: no later word of a sheet changes an answer.
+abbrev pub FirstWordsDecide : Type 0
+FirstWordsDecide = (taken : ℕ) (sheet : List ℕ) (words : ℕ) → 5124 ≤ taken → readingFirst taken sheet words ≡ reading sheet words

@@ -150,7 +150,7 @@ fn answer_for(table: &[u32], space: usize) -> Answer
 
 // Read by way of a lent list, for an output of `space` words: the list gets the first words of a sheet, as many as it takes, also
 // where the sheet is refused, and these are answered for. A list of DECIDING_WORDS words takes enough for the answer to be that of
-// Read. A shorter one may accept, by the words that it takes, a sheet that Read refuses.
+// Read (`FirstWordsDecide`). A shorter one may accept, by the words that it takes, a sheet that Read refuses.
 pub fn read_words(sheet: &[u8], words: &mut [u32], space: usize) -> Answer
     ensures { λ r. ⌜ r ≡ answerOf (readingFirst (length (now (words .entry))) (now (sheet .entry)) space) ⌝ }
     ensures { λ _. ⌜ now (words .exit) ≡ sets (now (words .entry)) 0 (sheetOf (now (sheet .entry)) .words) ⌝ }

@@ -5,7 +5,7 @@ use Prim.Native.Nat.{ℕ, _+_, _-_, _*_, _≤_, _<_, min, max}
 use native.Mathlib.Omega.{arith}
 use lib.ListN.{length, set}
 use Rattle.rooms.specs.Part.{good}
-use Rattle.rooms.specs.Table.{Room, scale, mostWatts, mostServers, mostCords, roomCords}
+use Rattle.rooms.specs.Table.{Room, scale, mostWatts, mostNodes, mostServers, mostCords, roomCords}
 use Rattle.rooms.specs.Limits.{checked, carried}
 use Rattle.rooms.proofs.Accepted.{accepted}
 use Rattle.deals.specs.Figures.{figures, at}
@@ -57,6 +57,7 @@ pub record LoadingServer (table demands : List ℕ) (v start first count c word 
 -- What code relies on at that cord.
 pub record CordFits (table : List ℕ) (v start c word : ℕ) (nodes levels lows wants shares servers : List ℕ) : Type 0 where
   pub there : word + 1 < length table
+  pub node-most : at table word ≤ mostNodes
   pub share-most : at table (word + 1) ≤ scale
   pub greatest-most : at table (start + 2) ≤ mostWatts
   pub least-most : at table (start + 1) ≤ mostWatts
@@ -164,6 +165,7 @@ module _ {table demands : List ℕ} {v start first count c word : ℕ} {nodes le
         let standing = loading-server loading (server .more) in
         record {
           there = omega (arith, cord-here .there, at-share);
+          node-most = omega (arith, rw at-word at (cord-here .node-most), begun (loading .read) .most);
           share-most = rw at-share at (cord-here .share-most);
           greatest-most = standing .most;
           least-most = omega (arith, standing .ordered, standing .most);
@@ -182,14 +184,15 @@ module _ {table demands : List ℕ} {v start first count c word : ℕ} {nodes le
         f ∙ ap (carried scale (at table (word + 1))) e ∙ ap (λ (x : RoomCord). carried scale (x .share) (at loads (x .server))) is
 
     -- One cord more.
-    pub server-cord : {load level low want place : ℕ} → load ≡ needWord table start (at demands v)
+    pub server-cord : {load level node low want place : ℕ} → load ≡ needWord table start (at demands v)
         → level ≡ at table start - 1
+        → node ≡ at table word
         → low ≡ carried scale (at table (word + 1)) (at table (start + 1))
         → want ≡ carried scale (at table (word + 1)) load
         → place ≡ v
-        → LoadingServer table demands v start first count (c + 1) (word + 2) (set nodes c (at table word)) (set levels c level) (set lows c low)
+        → LoadingServer table demands v start first count (c + 1) (word + 2) (set nodes c node) (set levels c level) (set lows c low)
         (set wants c want) (set shares c (at table (word + 1))) (set servers c place) needed
-    server-cord {level = level} {low = low} {want = want} {place = place} el eh ec ew ep =
+    server-cord {level = level} {node = node} {low = low} {want = want} {place = place} el eh en ec ew ep =
         let within : c < roomCords r = rw at-c at (cord-here .within) in
         let standing = loading-server loading (server .more) in
         record {
@@ -199,7 +202,7 @@ module _ {table demands : List ℕ} {v start first count c word : ℕ} {nodes le
             read = loading .read;
             served = loading .served;
             walk = loading .walk;
-            nodes-done = filled-one _ (loading .nodes-done) within (ap (λ (x : RoomCord). x .node) is);
+            nodes-done = filled-one node (loading .nodes-done) within (en ∙ ap (λ (x : RoomCord). x .node) is);
             levels-done =
                 filled-one level (loading .levels-done) within
                 (eh ∙ ap (λ (x : ℕ). x - 1) (sym (standing .rank)) ∙ ap (λ (x : RoomCord). serverAt r (x .server) .rank - 1) is);

@@ -8,7 +8,7 @@ use native.Mathlib.Numerals.{add-one}
 use lib.ListN.{length, getD, drop, List·getD-append, drop-of-length-le}
 use lib.Seq.{drop-cons, drop-drop, drop-at, getD-drop}
 use Rattle.rooms.specs.Part.{good, Good, total}
-use Rattle.rooms.specs.Table.{Node, Cord, Server, Room, scale, mostNodes, mostCords, mostWatts, cord, cords, server, servers, cordCount, roomCords}
+use Rattle.rooms.specs.Table.{Node, Cord, Server, Room, scale, mostNodes, mostCords, mostWatts, highestRank, cord, cords, server, servers, cordCount, roomCords}
 use Rattle.rooms.specs.Limits.{checked, nodeAt}
 use Rattle.rooms.proofs.Inversion.{many-is, CordIs, cord-is, server-is}
 use Rattle.rooms.proofs.Rows.{nodes-words, nodes-at, cords-words}
@@ -32,6 +32,7 @@ pub record NodeHere (table : List ℕ) (r : Room) (m : ℕ) : Type 0 where
   pub there : 3 + 2 * m < length table
   pub parent : getD table (2 + 2 * m) 0 ≡ nodeAt r m .parent
   pub rating : getD table (3 + 2 * m) 0 ≡ nodeAt r m .rating
+  pub parent-below : getD table (2 + 2 * m) 0 ≤ m
   pub most : nodeAt r m .rating ≤ mostWatts
 
 module _ {table : List ℕ} {r : Room} {end : ℕ} (e : checked table 0 ≡ good r end) where
@@ -49,6 +50,7 @@ module _ {table : List ℕ} {r : Room} {end : ℕ} (e : checked table 0 ≡ good
         there = omega (arith, n .there);
         parent = sym (ap (λ (x : Node). x .parent) (n .is));
         rating = rw q (sym (ap (λ (x : Node). x .rating) (n .is)));
+        parent-below = omega (arith, n .parent, ap (λ (x : Node). x .parent) (n .is));
         most = n .rating;
       }
 
@@ -100,6 +102,7 @@ pub record Walk (table : List ℕ) (r : Room) (v index c : ℕ) : Type 0 where
 pub record CordHere (table : List ℕ) (r : Room) (v index c k : ℕ) : Type 0 where
   pub there : index + 5 + 2 * k < length table
   pub is : cordAt r (c + k) ≡ record { server = v; node = getD table (index + 4 + 2 * k) 0; share = getD table (index + 5 + 2 * k) 0 }
+  pub node-most : getD table (index + 4 + 2 * k) 0 ≤ length (r .nodes)
   pub share-most : getD table (index + 5 + 2 * k) 0 ≤ scale
   pub within : c + k < roomCords r
 
@@ -110,6 +113,7 @@ pub record ServerHere (table : List ℕ) (r : Room) (v index c : ℕ) : Type 0 w
   pub least : serverAt r v .least ≡ getD table (index + 1) 0
   pub greatest : serverAt r v .greatest ≡ getD table (index + 2) 0
   pub lowest : 1 ≤ getD table index 0
+  pub highest : getD table index 0 ≤ highestRank
   pub ordered : getD table (index + 1) 0 ≤ getD table (index + 2) 0
   pub most : getD table (index + 2) 0 ≤ mostWatts
   pub cords-within : c + getD table (index + 3) 0 ≤ roomCords r
@@ -180,6 +184,7 @@ module _ (table : List ℕ) (r : Room) (v index c before left end after : ℕ) (
       record {
         there = omega (arith, i .there);
         is = cord-placed k h ∙ ap₂ (λ (x y : ℕ). record { server = v; node = x; share = y }) n m;
+        node-most = rw (← n) (i .last);
         share-most = rw (← m) (i .share);
         within = omega (arith, count-after);
       }
@@ -217,6 +222,7 @@ module _ (table : List ℕ) (r : Room) (v index c before left end after : ℕ) (
         least = ap (λ (x : Server). x .least) (here .0) ∙ b;
         greatest = ap (λ (x : Server). x .greatest) (here .0) ∙ d;
         lowest = rw (← a) (i .lowest);
+        highest = rw (← a) (i .highest);
         ordered = rw (← b, ← d) (i .ordered);
         most = rw (← d) (i .greatest);
         cords-within = omega (arith, count-after);

@@ -16,7 +16,7 @@ use crate::reclaim::reclaim;
 use crate::reclaim::usable_of;
 use crate::room::load_cords;
 use crate::room::load_nodes;
-use crate::widths::index;
+use crate::widths::word_index;
 
 const MOST_WATTS: u32 = 16_777_215;
 
@@ -36,18 +36,18 @@ pub(crate) fn first_too_large(demands: &[u32]) -> usize
 
 // A deal: its grants, and what each server can use of them.
 fn make_deal(
-    parents: &[u32],
+    parents: &[u16],
     limits: &[u32],
-    nodes: &[u32],
-    levels: &[u32],
+    nodes: &[u16],
+    levels: &[u16],
     lows: &[u32],
     wants: &[u32],
-    first: &[u32],
-    next: &[u32],
-    marks: &[u32],
+    first: &[u16],
+    next: &[u16],
+    marks: &[u16],
     spare: &[u64],
     shares: &[u32],
-    servers: &[u32],
+    servers: &[u16],
     needs: &[u32],
     grants: &mut [u32],
     usable: &mut [u32],
@@ -79,18 +79,18 @@ fn make_deal(
 fn plan_lists(
     table: &[u32],
     demands: &[u32],
-    parents: &mut [u32],
+    parents: &mut [u16],
     limits: &mut [u32],
-    nodes: &mut [u32],
-    levels: &mut [u32],
+    nodes: &mut [u16],
+    levels: &mut [u16],
     lows: &mut [u32],
     wants: &mut [u32],
     shares: &mut [u32],
-    servers: &mut [u32],
+    servers: &mut [u16],
     needs: &mut [u32],
-    first: &mut [u32],
-    next: &mut [u32],
-    marks: &mut [u32],
+    first: &mut [u16],
+    next: &mut [u16],
+    marks: &mut [u16],
     spare: &mut [u64],
     grants: &mut [u32],
     caps: &mut [u32],
@@ -161,20 +161,20 @@ pub(crate) fn plan_room(table: &[u32], demands: &[u32], grants: &mut [u32], caps
     requires { ⌜ ServersFit (now table) (length (now demands)) × CordsFit (now table) (length (now grants)) × ServersFit (now table) (length (now caps)) ⌝ }
     ensures { λ r. ⌜ Planning (now (table .entry)) (now (demands .entry)) r (now (grants .exit)) (now (caps .exit)) ⌝ }
 {
-    let mut parents = [0u32; 512];
+    let mut parents = [0u16; 512];
     let mut limits = [0u32; 512];
-    let mut nodes = [0u32; 1024];
-    let mut levels = [0u32; 1024];
+    let mut nodes = [0u16; 1024];
+    let mut levels = [0u16; 1024];
     let mut lows = [0u32; 1024];
     let mut wants = [0u32; 1024];
     let mut shares = [0u32; 1024];
-    let mut servers = [0u32; 1024];
+    let mut servers = [0u16; 1024];
     let mut needs = [0u32; 512];
-    let mut first = [0u32; 16];
-    let mut next = [0u32; 1024];
-    let mut marks = [0u32; 512];
+    let mut first = [0u16; 16];
+    let mut next = [0u16; 1024];
+    let mut marks = [0u16; 512];
     let mut spare = [0u64; 512];
-    let n = index(table[1]);
+    let n = word_index(table[1]);
     let k = grants.len();
     plan_lists(
         table,

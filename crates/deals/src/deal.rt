@@ -28,16 +28,16 @@ fn copy(from: &[u64], to: &mut [u64])
 // children's excesses), `amounts`, `before` (weights served) and `dealt` have this rank's figure of each node. (`limits` and `levels`
 // are for the contracts alone.)
 fn deal_rank(
-    parents: &[u32],
+    parents: &[u16],
     limits: &[u32],
-    nodes: &[u32],
-    levels: &[u32],
+    nodes: &[u16],
+    levels: &[u16],
     lows: &[u32],
     wants: &[u32],
-    next: &[u32],
+    next: &[u16],
     level: usize,
     from: usize,
-    active: &[u32],
+    active: &[u16],
     count: usize,
     requests: &mut [[u32; 16]; 512],
     left: &mut [u64],
@@ -103,17 +103,17 @@ fn deal_rank(
 // The deal, rank by rank from the highest. `left` has what each limit has over the Requests dealt and the lows to come, at first
 // `spare`. (`limits` and `levels` are for the contracts alone, here, in `deal` and in `make_deal`.)
 fn deal_ranks(
-    parents: &[u32],
+    parents: &[u16],
     limits: &[u32],
-    nodes: &[u32],
-    levels: &[u32],
+    nodes: &[u16],
+    levels: &[u16],
     lows: &[u32],
     wants: &[u32],
-    first: &[u32],
-    next: &[u32],
-    marks: &[u32],
+    first: &[u16],
+    next: &[u16],
+    marks: &[u16],
     spare: &[u64],
-    active: &mut [u32],
+    active: &mut [u16],
     requests: &mut [[u32; 16]; 512],
     left: &mut [u64],
     pcapmins: &mut [u64],
@@ -165,15 +165,15 @@ fn deal_ranks(
 // The grants of a deal, from the nodes' parents and limits, the cords' nodes, levels, lows and wants, the links and marks that
 // `levels.rt` makes, and what the limits have over all lows.
 pub(crate) fn deal(
-    parents: &[u32],
+    parents: &[u16],
     limits: &[u32],
-    nodes: &[u32],
-    levels: &[u32],
+    nodes: &[u16],
+    levels: &[u16],
     lows: &[u32],
     wants: &[u32],
-    first: &[u32],
-    next: &[u32],
-    marks: &[u32],
+    first: &[u16],
+    next: &[u16],
+    marks: &[u16],
     spare: &[u64],
     grants: &mut [u32],
 )
@@ -181,7 +181,7 @@ pub(crate) fn deal(
     requires { ⌜ LevelLists (now parents) (now nodes) (now levels) (now first) (now next) (now marks) × Spare (now parents) (now limits) (now nodes) (now lows) (now spare) ⌝ }
     ensures { λ _. ⌜ now (grants .exit) ≡ granted (dealFrom (now (parents .entry)) (now (limits .entry)) (now (nodes .entry)) (now (levels .entry)) (now (lows .entry)) (now (wants .entry))) ⌝ }
 {
-    let mut active = [0u32; 512];
+    let mut active = [0u16; 512];
     let mut requests = [[0u32; 16]; 512];
     let mut left = [0u64; 512];
     let mut pcapmins = [0u64; 512];

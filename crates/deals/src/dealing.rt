@@ -45,8 +45,8 @@ fn serve(
 
 // What each node has to give at a level: a root its excess, any other its part of its parent's; one that is not active, nothing.
 pub(crate) fn deal_nodes(
-    parents: &[u32],
-    active: &[u32],
+    parents: &[u16],
+    active: &[u16],
     count: usize,
     level: usize,
     requests: &[[u32; 16]; 512],
@@ -82,11 +82,11 @@ pub(crate) fn deal_nodes(
 // The grants of the cords of a level, which the links give from the first on: each its low and its part of its node's amount.
 // (`levels` is for the contract alone.)
 pub(crate) fn deal_cords(
-    nodes: &[u32],
-    levels: &[u32],
+    nodes: &[u16],
+    levels: &[u16],
     lows: &[u32],
     wants: &[u32],
-    next: &[u32],
+    next: &[u16],
     level: usize,
     from: usize,
     wholes: &[u64],

@@ -5,7 +5,7 @@ ghost use Rattle.deals.specs.Plan.{plan, answerOf, grantsAfter, capsAfte
 use both_deals::first_too_large;
 use both_deals::plan_room;
 use rooms::Checked;
-use widths::index;
+use widths::word_index;
 
 mod both_deals;
 mod deal;
@@ -93,8 +93,8 @@ pub fn plan(table: &[u32], demands: &[u32], grants: &mut [u32], caps: &mut [u32]
         Checked::Good(cords, _) => cords,
         Checked::Refused(refusal) => return Planned::Refused(PlanRefusal::Table(refusal)),
     };
-    let cords = index(count);
-    let servers = index(table[2 + 2 * index(table[1])]);
+    let cords = word_index(count);
+    let servers = word_index(table[2 + 2 * word_index(table[1])]);
     if demands.len() != servers {
         return Planned::Refused(PlanRefusal::DemandCount(servers));
     }

@@ -38,11 +38,11 @@ fn credit(sums: &mut [u64], node: usize, figure: u64)
 // The lows and the excesses of the cords of a level, which the links give from the first on, each summed on its cord's node.
 // (`levels` is for the contract alone.)
 pub(crate) fn sum_cords(
-    nodes: &[u32],
-    levels: &[u32],
+    nodes: &[u16],
+    levels: &[u16],
     lows: &[u32],
     wants: &[u32],
-    next: &[u32],
+    next: &[u16],
     level: usize,
     from: usize,
     pcapmins: &mut [u64],
@@ -67,7 +67,7 @@ pub(crate) fn sum_cords(
 }
 
 // From the last node to the first, each node's sum is added to its parent's: a parent's number is below its child's.
-fn sum_beneath(parents: &[u32], sums: &mut [u64])
+fn sum_beneath(parents: &[u16], sums: &mut [u64])
     requires { ⌜ (length (now sums) ≡ length (now parents)) × (sum (length (now parents)) (at (now sums)) ≤ mostCords * mostWatts) ⌝ }
     requires { ⌜ ((m : ℕ) → m < length (now parents) → at (now parents) m ≤ m) ⌝ }
     ensures { λ _. ⌜ ((n : ℕ) → n < length (now (parents .entry)) → at (now (sums .exit)) n ≡ sumBeneath (at (now (parents .entry))) (length (now (parents .entry))) (at (now (sums .entry))) n) ⌝ }
@@ -81,7 +81,7 @@ fn sum_beneath(parents: &[u32], sums: &mut [u64])
 }
 
 // All lows beneath each node, at any depth.
-fn sum_lows(parents: &[u32], nodes: &[u32], lows: &[u32], sums: &mut [u64])
+fn sum_lows(parents: &[u16], nodes: &[u16], lows: &[u32], sums: &mut [u64])
     requires { ⌜ (length (now lows) ≡ length (now nodes)) × (length (now nodes) ≤ mostCords) × (length (now sums) ≡ length (now parents)) ⌝ }
     requires { ⌜ ((m : ℕ) → m < length (now parents) → at (now parents) m ≤ m) ⌝ }
     requires { ⌜ ((c : ℕ) → c < length (now nodes) → (1 ≤ at (now nodes) c) × (at (now nodes) c ≤ length (now parents)) × (at (now lows) c ≤ mostWatts)) ⌝ }
@@ -96,9 +96,9 @@ fn sum_lows(parents: &[u32], nodes: &[u32], lows: &[u32], sums: &mut [u64])
 
 // What each node's limit has over all lows beneath it.
 pub(crate) fn spare_limits(
-    parents: &[u32],
+    parents: &[u16],
     limits: &[u32],
-    nodes: &[u32],
+    nodes: &[u16],
     lows: &[u32],
     spare: &mut [u64],
 )
@@ -117,8 +117,8 @@ pub(crate) fn spare_limits(
 // From the last active node to the first: a node's Request is its Pcapmin and its excess, the lesser of what is left of its limit
 // and of its children's excesses; its Pcapmin and its excess are added to its parent's sums.
 pub(crate) fn gather(
-    parents: &[u32],
-    active: &[u32],
+    parents: &[u16],
+    active: &[u16],
     count: usize,
     level: usize,
     left: &mut [u64],

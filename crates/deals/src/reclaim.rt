@@ -16,7 +16,7 @@ use crate::widths::wide;
 // Each server's usable watts: the least of its need and, over its cords with share above 0, of floor(1000 × grant / share).
 pub(crate) fn usable_of(
     shares: &[u32],
-    servers: &[u32],
+    servers: &[u16],
     needs: &[u32],
     grants: &[u32],
     usable: &mut [u32],
@@ -48,7 +48,7 @@ fn next_want(stranded: u64, used: u32, want: u32) -> u32
 // After the first deal: the cords that have stranded watts want their used watts from now on; gives the watts freed.
 pub(crate) fn reclaim(
     shares: &[u32],
-    servers: &[u32],
+    servers: &[u16],
     usable: &[u32],
     grants: &[u32],
     wants: &mut [u32],

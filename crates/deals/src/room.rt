@@ -7,10 +7,11 @@ ghost use Rattle.rooms.specs.Table.{scale, mostWatts};
 ghost use Rattle.rooms.specs.Limits.{checked, carried};
 ghost use Rattle.deals.specs.Metrics.{parentsOf, limitsOf};
 ghost use Rattle.deals.specs.Passes.{OfRoom, NodesFit, CordsLent, CordsLaidOut};
-use crate::widths::index;
 use crate::widths::narrow;
 use crate::widths::place;
+use crate::widths::short;
 use crate::widths::wide;
+use crate::widths::word_index;
 
 // A server's need: its demand, raised to least and cut to greatest.
 fn need_of(demand: u32, least: u32, greatest: u32) -> u32
@@ -29,13 +30,13 @@ pub(crate) fn carried_by(share: u32, load: u32) -> u32
 }
 
 // The parents and the limits of a good table's nodes.
-pub(crate) fn load_nodes(table: &[u32], parents: &mut [u32], limits: &mut [u32])
+pub(crate) fn load_nodes(table: &[u32], parents: &mut [u16], limits: &mut [u32])
     requires { ⌜ Good (checked (now table) 0) ⌝ }
     requires { ⌜ NodesFit (now table) (length (now parents)) × NodesFit (now table) (length (now limits)) ⌝ }
     ensures { λ _. ⌜ OfRoom (now (table .entry)) (λ r. (now (parents .exit) ≡ parentsOf r) × (now (limits .exit) ≡ limitsOf r)) ⌝ }
 {
     for m in 0..parents.len() {
-        parents[m] = table[2 + 2 * m];
+        parents[m] = short(table[2 + 2 * m]);
         limits[m] = narrow(wide(table[3 + 2 * m]) * 80 / 100);
     }
 }
@@ -44,28 +45,28 @@ pub(crate) fn load_nodes(table: &[u32], parents: &mut [u32], limits: &mut [u32])
 pub(crate) fn load_cords(
     table: &[u32],
     demands: &[u32],
-    nodes: &mut [u32],
-    levels: &mut [u32],
+    nodes: &mut [u16],
+    levels: &mut [u16],
     lows: &mut [u32],
     wants: &mut [u32],
     shares: &mut [u32],
-    servers: &mut [u32],
+    servers: &mut [u16],
     needs: &mut [u32],
 )
     requires { ⌜ CordsLent (now table) (now demands) (now nodes) (now levels) (now lows) (now wants) (now shares) (now servers) (now needs) ⌝ }
     ensures { λ _. ⌜ OfRoom (now (table .entry)) (λ r. CordsLaidOut r (now (demands .entry)) (now (nodes .exit)) (now (levels .exit)) (now (lows .exit)) (now (wants .exit)) (now (shares .exit)) (now (servers .exit)) (now (needs .exit))) ⌝ }
 {
-    let mut start = 3 + 2 * index(table[1]);
+    let mut start = 3 + 2 * word_index(table[1]);
     let mut first = 0;
     for v in 0..demands.len() {
-        let level = table[start] - 1;
+        let level = short(table[start] - 1);
         let least = table[start + 1];
         let need = need_of(demands[v], least, table[start + 2]);
-        let count = index(table[start + 3]);
+        let count = word_index(table[start + 3]);
         let mut word = start + 4;
         for c in first..first + count {
             let share = table[word + 1];
-            nodes[c] = table[word];
+            nodes[c] = short(table[word]);
             levels[c] = level;
             lows[c] = carried_by(share, least);
             wants[c] = carried_by(share, need);

@@ -15,17 +15,31 @@ pub(crate) fn narrow(x: u64) -> u32
     x as u32
 }
 
-pub(crate) fn index(x: u32) -> usize
-    ensures { λ r. ⌜ (r ≡ x) × (r < 2 ^ 32) ⌝ }
+pub(crate) fn short(x: u32) -> u16
+    requires { ⌜ x < 2 ^ 16 ⌝ }
+    ensures { λ r. ⌜ r ≡ x ⌝ }
+{
+    x as u16
+}
+
+pub(crate) fn index(x: u16) -> usize
+    ensures { λ r. ⌜ (r ≡ x) × (r < 2 ^ 16) ⌝ }
 {
     x as usize
 }
 
-pub(crate) fn place(x: usize) -> u32
-    requires { ⌜ x < 2 ^ 32 ⌝ }
+pub(crate) fn place(x: usize) -> u16
+    requires { ⌜ x < 2 ^ 16 ⌝ }
     ensures { λ r. ⌜ r ≡ x ⌝ }
 {
-    x as u32
+    x as u16
+}
+
+// The index, or the count, that a word of the table has.
+pub(crate) fn word_index(x: u32) -> usize
+    ensures { λ r. ⌜ (r ≡ x) × (r < 2 ^ 32) ⌝ }
+{
+    x as usize
 }
 
 pub(crate) fn least(a: u64, b: u64) -> u64

@@ -19,29 +19,29 @@ enum-known-checked-2 c = search needs
 returns : tie.Need-returns
 returns c = refused-done _ _ _ (bad-table _ _ _ _ (c .before .before .before .check .ensures) (c .before .checked2 .given .1))
 
-index-requires : tie.Need-index-requires
-index-requires c κs = search needs
+word-index-requires : tie.Need-word-index-requires
+word-index-requires c κs = search needs
 
-shared-slice-read-index : tie.Need-shared-slice-read-index
-shared-slice-read-index c = table-begun _ (table-good _ (c .before .before .before .before .before .check .ensures) (c .before .before .before .checked .given .1))
+shared-slice-read-word-index : tie.Need-shared-slice-read-word-index
+shared-slice-read-word-index c = table-begun _ (table-good _ (c .before .before .before .before .before .check .ensures) (c .before .before .before .checked .given .1))
 
-index-requires-2 : tie.Need-index-requires-2
-index-requires-2 c κs = search needs
+word-index-requires-2 : tie.Need-word-index-requires-2
+word-index-requires-2 c κs = search needs
 
-mul-index : tie.Need-mul-index
-mul-index c = search needs
+mul-word-index : tie.Need-mul-word-index
+mul-word-index c = search needs
 
-add-index : tie.Need-add-index
-add-index c = search needs
+add-word-index : tie.Need-add-word-index
+add-word-index c = search needs
 
-mul-index-2 : tie.Need-mul-index-2
-mul-index-2 c = search needs
+mul-word-index-2 : tie.Need-mul-word-index-2
+mul-word-index-2 c = search needs
 
-shared-slice-read-index-2 : tie.Need-shared-slice-read-index-2
-shared-slice-read-index-2 c = let g = table-good (c .before .before .before .before .before .before .before .before .before .before .before .before .args .table .now) (c .before .before .before .before .before .before .before .check .ensures) (c .before .before .before .before .before .checked .given .1) in server-word _ _ (c .before .index2 .ensures .0) (g .value) (g .next) (g .is) .0
+shared-slice-read-word-index-2 : tie.Need-shared-slice-read-word-index-2
+shared-slice-read-word-index-2 c = let g = table-good (c .before .before .before .before .before .before .before .before .before .before .before .before .args .table .now) (c .before .before .before .before .before .before .before .check .ensures) (c .before .before .before .before .before .checked .given .1) in server-word _ _ (c .before .word-index2 .ensures .0) (g .value) (g .next) (g .is) .0
 
-index-requires-3 : tie.Need-index-requires-3
-index-requires-3 c κs = search needs
+word-index-requires-3 : tie.Need-word-index-requires-3
+word-index-requires-3 c κs = search needs
 
 returns-2 : tie.Need-returns-2
 returns-2 c =
@@ -50,8 +50,8 @@ returns-2 c =
     let told = c .before .before .before .before .before .before .before .before .before .check .ensures in
     let is = c .before .before .before .before .before .before .before .checked .given .1 in
     let g = table-good table told is in
-    let fit = servers-told table _ (c .before .before .before .index2 .ensures .0) (c .before .index3 .ensures .0) in
-    let cords = cords-fit table (c .before .before .before .before .before .index .ensures .0) (cords-told table told is) in
+    let fit = servers-told table _ (c .before .before .before .word-index2 .ensures .0) (c .before .word-index3 .ensures .0) in
+    let cords = cords-fit table (c .before .before .before .before .before .word-index .ensures .0) (cords-told table told is) in
     refused-done _ _ _ (count-refused _ (start .args .demands .now) _ _ g _ fit (c .if1 .taken))
 
 first-too-large-requires : tie.Need-first-too-large-requires
@@ -64,8 +64,8 @@ returns-3 c =
     let told = c .before .before .before .before .before .before .before .before .before .before .before .check .ensures in
     let is = c .before .before .before .before .before .before .before .before .before .checked .given .1 in
     let g = table-good table told is in
-    let fit = servers-told table _ (c .before .before .before .before .before .index2 .ensures .0) (c .before .before .before .index3 .ensures .0) in
-    let cords = cords-fit table (c .before .before .before .before .before .before .before .index .ensures .0) (cords-told table told is) in
+    let fit = servers-told table _ (c .before .before .before .before .before .word-index2 .ensures .0) (c .before .before .before .word-index3 .ensures .0) in
+    let cords = cords-fit table (c .before .before .before .before .before .before .before .word-index .ensures .0) (cords-told table told is) in
     refused-done _ _ _ (large-refused _ (start .args .demands .now) _ _ g _ fit (c .before .before .if1 .left) _ (c .before .first-too-large .ensures) (c .if2 .taken))
 
 returns-4 : tie.Need-returns-4
@@ -75,8 +75,8 @@ returns-4 c =
     let told = c .before .before .before .before .before .before .before .before .before .before .before .before .check .ensures in
     let is = c .before .before .before .before .before .before .before .before .before .before .checked .given .1 in
     let g = table-good table told is in
-    let fit = servers-told table _ (c .before .before .before .before .before .before .index2 .ensures .0) (c .before .before .before .before .index3 .ensures .0) in
-    let cords = cords-fit table (c .before .before .before .before .before .before .before .before .index .ensures .0) (cords-told table told is) in
+    let fit = servers-told table _ (c .before .before .before .before .before .before .word-index2 .ensures .0) (c .before .before .before .before .word-index3 .ensures .0) in
+    let cords = cords-fit table (c .before .before .before .before .before .before .before .before .word-index .ensures .0) (cords-told table told is) in
     refused-done _ _ _ (grants-refused _ (start .args .demands .now) _ _ g _ fit (c .before .before .before .if1 .left) _ (c .before .before .first-too-large .ensures) (c .before .if2 .left) _ cords (c .if3 .taken))
 
 returns-5 : tie.Need-returns-5
@@ -86,8 +86,8 @@ returns-5 c =
     let told = c .before .before .before .before .before .before .before .before .before .before .before .before .before .check .ensures in
     let is = c .before .before .before .before .before .before .before .before .before .before .before .checked .given .1 in
     let g = table-good table told is in
-    let fit = servers-told table _ (c .before .before .before .before .before .before .before .index2 .ensures .0) (c .before .before .before .before .before .index3 .ensures .0) in
-    let cords = cords-fit table (c .before .before .before .before .before .before .before .before .before .index .ensures .0) (cords-told table told is) in
+    let fit = servers-told table _ (c .before .before .before .before .before .before .before .word-index2 .ensures .0) (c .before .before .before .before .before .word-index3 .ensures .0) in
+    let cords = cords-fit table (c .before .before .before .before .before .before .before .before .before .word-index .ensures .0) (cords-told table told is) in
     refused-done _ _ _ (caps-refused _ (start .args .demands .now) _ _ g _ fit (c .before .before .before .before .if1 .left) _ (c .before .before .before .first-too-large .ensures) (c .before .before .if2 .left) _ cords (c .before .if3 .left) (c .if4 .taken))
 
 slice-relend-prefix-plan-room : tie.Need-slice-relend-prefix-plan-room
@@ -109,8 +109,8 @@ plan-room-requires c κs =
     let told = c .before .before .before .before .before .before .before .before .before .before .before .before .before .before .before .check .ensures in
     let is = c .before .before .before .before .before .before .before .before .before .before .before .before .before .checked .given .1 in
     let g = table-good table told is in
-    let fit = servers-told table _ (c .before .before .before .before .before .before .before .before .before .index2 .ensures .0) (c .before .before .before .before .before .before .before .index3 .ensures .0) in
-    let cords = cords-fit table (c .before .before .before .before .before .before .before .before .before .before .before .index .ensures .0) (cords-told table told is) in
+    let fit = servers-told table _ (c .before .before .before .before .before .before .before .before .before .word-index2 .ensures .0) (c .before .before .before .before .before .before .before .word-index3 .ensures .0) in
+    let cords = cords-fit table (c .before .before .before .before .before .before .before .before .before .before .before .word-index .ensures .0) (cords-told table told is) in
     (g, (servers-fit table (c .before .before .before .before .before .before .if1 .left) fit, cords-fit table (length-take-le _ _ (c .before .before .before .if3 .left)) cords, servers-fit table (length-take-le _ _ (c .before .before .if4 .left)) fit))
 
 same-length : tie.Need-same-length
@@ -126,8 +126,8 @@ returns-6 c =
     let told = c .before .before .before .before .before .before .before .before .before .before .before .before .before .before .before .before .before .before .before .before .check .ensures in
     let is = c .before .before .before .before .before .before .before .before .before .before .before .before .before .before .before .before .before .before .checked .given .1 in
     let g = table-good table told is in
-    let fit = servers-told table _ (c .before .before .before .before .before .before .before .before .before .before .before .before .before .before .index2 .ensures .0) (c .before .before .before .before .before .before .before .before .before .before .before .before .index3 .ensures .0) in
-    let cords = cords-fit table (c .before .before .before .before .before .before .before .before .before .before .before .before .before .before .before .before .index .ensures .0) (cords-told table told is) in
+    let fit = servers-told table _ (c .before .before .before .before .before .before .before .before .before .before .before .before .before .before .word-index2 .ensures .0) (c .before .before .before .before .before .before .before .before .before .before .before .before .word-index3 .ensures .0) in
+    let cords = cords-fit table (c .before .before .before .before .before .before .before .before .before .before .before .before .before .before .before .before .word-index .ensures .0) (cords-told table told is) in
     let room = c .before .before .before .before .plan-room in
     let long = c .before .before .before .before .before .before .before .before .if3 .left in
     let longer = c .before .before .before .before .before .before .before .if4 .left in
@@ -143,14 +143,14 @@ plan-spec =
     enum-known-checked
     enum-known-checked-2
     returns
-    index-requires
-    shared-slice-read-index
-    index-requires-2
-    mul-index
-    add-index
-    mul-index-2
-    shared-slice-read-index-2
-    index-requires-3
+    word-index-requires
+    shared-slice-read-word-index
+    word-index-requires-2
+    mul-word-index
+    add-word-index
+    mul-word-index-2
+    shared-slice-read-word-index-2
+    word-index-requires-3
     returns-2
     first-too-large-requires
     returns-3

@@ -4,23 +4,23 @@ use borrow.Author.Needs.{needs}
 use Rattle.deals.proofs.both_deals.plan_room.Statement.{statement}
 use Rattle.deals.proofs.both_deals.plan_room.Tie as tie
 
-shared-slice-read-index : tie.Need-shared-slice-read-index
-shared-slice-read-index c = table-begun _ (c .before .before .before .before .before .pre .0)
+shared-slice-read-word-index : tie.Need-shared-slice-read-word-index
+shared-slice-read-word-index c = table-begun _ (c .before .before .before .before .before .pre .0)
 
-index-requires : tie.Need-index-requires
-index-requires c κs = search needs
+word-index-requires : tie.Need-word-index-requires
+word-index-requires c κs = search needs
 
 array-borrow-prefix-parents : tie.Need-array-borrow-prefix-parents
-array-borrow-prefix-parents c = nodes-most _ (c .before .before .before .before .before .before .pre .0) _ (c .index .ensures .0)
+array-borrow-prefix-parents c = nodes-most _ (c .before .before .before .before .before .before .pre .0) _ (c .word-index .ensures .0)
 
 slice-aggregate-plan-lists : tie.Need-slice-aggregate-plan-lists
-slice-aggregate-plan-lists c = nodes-front _ (c .before .before .before .before .before .before .before .pre .0) _ (c .before .index .ensures .0)
+slice-aggregate-plan-lists c = nodes-front _ (c .before .before .before .before .before .before .before .pre .0) _ (c .before .word-index .ensures .0)
 
 array-borrow-prefix-limits : tie.Need-array-borrow-prefix-limits
-array-borrow-prefix-limits c = nodes-most _ (c .before .before .before .before .before .before .before .pre .0) _ (c .before .index .ensures .0)
+array-borrow-prefix-limits c = nodes-most _ (c .before .before .before .before .before .before .before .pre .0) _ (c .before .word-index .ensures .0)
 
 slice-aggregate-plan-lists-2 : tie.Need-slice-aggregate-plan-lists-2
-slice-aggregate-plan-lists-2 c = nodes-front _ (c .before .before .before .before .before .before .before .before .pre .0) _ (c .before .before .index .ensures .0)
+slice-aggregate-plan-lists-2 c = nodes-front _ (c .before .before .before .before .before .before .before .before .pre .0) _ (c .before .before .word-index .ensures .0)
 
 array-borrow-prefix-nodes : tie.Need-array-borrow-prefix-nodes
 array-borrow-prefix-nodes c = cords-most _ (c .before .before .before .before .before .before .before .before .pre .0) _ (c .before .before .before .before .before .before .before .before .pre .1 .1)
@@ -74,23 +74,23 @@ slice-aggregate-plan-lists-11 : tie.Need-slice-aggregate-plan-lists-11
 slice-aggregate-plan-lists-11 c = cords-front _ (c .before .before .before .before .before .before .before .before .before .before .before .before .before .before .before .before .before .pre .0) _ (c .before .before .before .before .before .before .before .before .before .before .before .before .before .before .before .before .before .pre .1 .1)
 
 array-borrow-prefix-marks : tie.Need-array-borrow-prefix-marks
-array-borrow-prefix-marks c = nodes-most _ (c .before .before .before .before .before .before .before .before .before .before .before .before .before .before .before .before .before .pre .0) _ (c .before .before .before .before .before .before .before .before .before .before .before .index .ensures .0)
+array-borrow-prefix-marks c = nodes-most _ (c .before .before .before .before .before .before .before .before .before .before .before .before .before .before .before .before .before .pre .0) _ (c .before .before .before .before .before .before .before .before .before .before .before .word-index .ensures .0)
 
 slice-aggregate-plan-lists-12 : tie.Need-slice-aggregate-plan-lists-12
-slice-aggregate-plan-lists-12 c = nodes-front _ (c .before .before .before .before .before .before .before .before .before .before .before .before .before .before .before .before .before .before .pre .0) _ (c .before .before .before .before .before .before .before .before .before .before .before .before .index .ensures .0)
+slice-aggregate-plan-lists-12 c = nodes-front _ (c .before .before .before .before .before .before .before .before .before .before .before .before .before .before .before .before .before .before .pre .0) _ (c .before .before .before .before .before .before .before .before .before .before .before .before .word-index .ensures .0)
 
 array-borrow-prefix-spare : tie.Need-array-borrow-prefix-spare
-array-borrow-prefix-spare c = nodes-most _ (c .before .before .before .before .before .before .before .before .before .before .before .before .before .before .before .before .before .before .pre .0) _ (c .before .before .before .before .before .before .before .before .before .before .before .before .index .ensures .0)
+array-borrow-prefix-spare c = nodes-most _ (c .before .before .before .before .before .before .before .before .before .before .before .before .before .before .before .before .before .before .pre .0) _ (c .before .before .before .before .before .before .before .before .before .before .before .before .word-index .ensures .0)
 
 slice-aggregate-plan-lists-13 : tie.Need-slice-aggregate-plan-lists-13
-slice-aggregate-plan-lists-13 c = nodes-front _ (c .before .before .before .before .before .before .before .before .before .before .before .before .before .before .before .before .before .before .before .pre .0) _ (c .before .before .before .before .before .before .before .before .before .before .before .before .before .index .ensures .0)
+slice-aggregate-plan-lists-13 c = nodes-front _ (c .before .before .before .before .before .before .before .before .before .before .before .before .before .before .before .before .before .before .before .pre .0) _ (c .before .before .before .before .before .before .before .before .before .before .before .before .before .word-index .ensures .0)
 
 plan-lists-requires : tie.Need-plan-lists-requires
 plan-lists-requires c κs =
     let table = c .before .before .before .before .before .before .before .before .before .before .before .before .before .before .before .before .before .before .before .before .before .args .table .now in
     let good = c .before .before .before .before .before .before .before .before .before .before .before .before .before .before .before .before .before .before .before .before .before .pre .0 in
     let fits = c .before .before .before .before .before .before .before .before .before .before .before .before .before .before .before .before .before .before .before .before .before .pre .1 in
-    let nodes = nodes-lent table good _ (c .before .before .before .before .before .before .before .before .before .before .before .before .before .before .before .index .ensures .0) in
+    let nodes = nodes-lent table good _ (c .before .before .before .before .before .before .before .before .before .before .before .before .before .before .before .word-index .ensures .0) in
     let cords = cords-lent table good _ (fits .1) in (
       record {
         good-table = good;
@@ -119,8 +119,8 @@ pub plan-room-spec : {M : Type 1} → statement M
 plan-room-spec =
     tie.close
     (tie.spec
-    shared-slice-read-index
-    index-requires
+    shared-slice-read-word-index
+    word-index-requires
     array-borrow-prefix-parents
     slice-aggregate-plan-lists
     array-borrow-prefix-limits

@@ -8,7 +8,7 @@ use Rattle.rooms.specs.Limits.{limit, nodeAt, parentOf}
 use Rattle.deals.specs.Figures.{at}
 use Rattle.deals.specs.Metrics.{parentsOf, limitsOf}
 use Rattle.deals.proofs.Filled.{Filled, filled-none, filled-one, filled-all}
-use Rattle.deals.proofs.Walk.{node-here, node-read, nodes-same}
+use Rattle.deals.proofs.Walk.{begun, node-here, node-read, nodes-same}
 use Rattle.deals.proofs.room.load_nodes.Statement.{statement}
 use Rattle.deals.proofs.room.load_nodes.Tie as tie
 
@@ -22,41 +22,44 @@ abbrev μ-loop : tie.MeasureT-loop
 loop-holds : tie.Need-loop-holds Inv-loop μ-loop
 loop-holds c = (search needs, filled-none _ _, filled-none _ _)
 
+mul-short : tie.Need-mul-short Inv-loop μ-loop
+mul-short c = omega (arith, node-read _ _ (c .before .before .before .before .before .pre .0) (c .before .before .before .before .before .pre .1 .0) (c .before .loop .m) (search needs) .there)
+
+add-short : tie.Need-add-short Inv-loop μ-loop
+add-short c = omega (arith, node-read _ _ (c .before .before .before .before .before .pre .0) (c .before .before .before .before .before .pre .1 .0) (c .before .loop .m) (search needs) .there)
+
+mul-short-2 : tie.Need-mul-short-2 Inv-loop μ-loop
+mul-short-2 c = omega (arith, node-read _ _ (c .before .before .before .before .before .pre .0) (c .before .before .before .before .before .pre .1 .0) (c .before .loop .m) (search needs) .there)
+
+shared-slice-read-short : tie.Need-shared-slice-read-short Inv-loop μ-loop
+shared-slice-read-short c = omega (arith, node-read _ _ (c .before .before .before .before .before .before .pre .0) (c .before .before .before .before .before .before .pre .1 .0) (c .before .before .loop .m) (search needs) .there)
+
+short-requires : tie.Need-short-requires Inv-loop μ-loop
+short-requires c κs = omega (arith, node-read _ _ (c .before .before .before .before .before .before .pre .0) (c .before .before .before .before .before .before .pre .1 .0) (c .before .before .loop .m) (search needs) .parent-below, c .before .loop-test .taken, c .before .before .before .before .before .before .pre .1 .0 _ _ (c .before .before .before .before .before .before .pre .0 .is), begun (c .before .before .before .before .before .before .pre .0 .is) .most)
+
 mul-parents : tie.Need-mul-parents Inv-loop μ-loop
-mul-parents c = omega (arith, node-read _ _ (c .before .before .before .before .before .pre .0) (c .before .before .before .before .before .pre .1 .0) (c .before .loop .m) (search needs) .there)
-
-add-parents : tie.Need-add-parents Inv-loop μ-loop
-add-parents c = omega (arith, node-read _ _ (c .before .before .before .before .before .pre .0) (c .before .before .before .before .before .pre .1 .0) (c .before .loop .m) (search needs) .there)
-
-mul-parents-2 : tie.Need-mul-parents-2 Inv-loop μ-loop
-mul-parents-2 c = omega (arith, node-read _ _ (c .before .before .before .before .before .pre .0) (c .before .before .before .before .before .pre .1 .0) (c .before .loop .m) (search needs) .there)
-
-shared-slice-read-parents : tie.Need-shared-slice-read-parents Inv-loop μ-loop
-shared-slice-read-parents c = omega (arith, node-read _ _ (c .before .before .before .before .before .before .pre .0) (c .before .before .before .before .before .before .pre .1 .0) (c .before .before .loop .m) (search needs) .there)
-
-mul-parents-3 : tie.Need-mul-parents-3 Inv-loop μ-loop
-mul-parents-3 c = omega (arith, node-read _ _ (c .before .before .before .before .before .before .pre .0) (c .before .before .before .before .before .before .pre .1 .0) (c .before .before .loop .m) (search needs) .there)
+mul-parents c = omega (arith, node-read _ _ (c .before .before .before .before .before .before .before .pre .0) (c .before .before .before .before .before .before .before .pre .1 .0) (c .before .before .before .loop .m) (search needs) .there)
 
 slice-write-parents : tie.Need-slice-write-parents Inv-loop μ-loop
-slice-write-parents c = omega (arith, node-read _ _ (c .before .before .before .before .before .before .pre .0) (c .before .before .before .before .before .before .pre .1 .0) (c .before .before .loop .m) (search needs) .there)
+slice-write-parents c = omega (arith, node-read _ _ (c .before .before .before .before .before .before .before .pre .0) (c .before .before .before .before .before .before .before .pre .1 .0) (c .before .before .before .loop .m) (search needs) .there)
 
 mul-wide : tie.Need-mul-wide Inv-loop μ-loop
-mul-wide c = omega (arith, node-read _ _ (c .before .before .before .before .before .before .pre .0) (c .before .before .before .before .before .before .pre .1 .0) (c .before .before .loop .m) (search needs) .there)
+mul-wide c = omega (arith, node-read _ _ (c .before .before .before .before .before .before .before .pre .0) (c .before .before .before .before .before .before .before .pre .1 .0) (c .before .before .before .loop .m) (search needs) .there)
 
 add-wide : tie.Need-add-wide Inv-loop μ-loop
-add-wide c = omega (arith, node-read _ _ (c .before .before .before .before .before .before .pre .0) (c .before .before .before .before .before .before .pre .1 .0) (c .before .before .loop .m) (search needs) .there)
+add-wide c = omega (arith, node-read _ _ (c .before .before .before .before .before .before .before .pre .0) (c .before .before .before .before .before .before .before .pre .1 .0) (c .before .before .before .loop .m) (search needs) .there)
 
 mul-wide-2 : tie.Need-mul-wide-2 Inv-loop μ-loop
-mul-wide-2 c = omega (arith, node-read _ _ (c .before .before .before .before .before .before .pre .0) (c .before .before .before .before .before .before .pre .1 .0) (c .before .before .loop .m) (search needs) .there)
+mul-wide-2 c = omega (arith, node-read _ _ (c .before .before .before .before .before .before .before .pre .0) (c .before .before .before .before .before .before .before .pre .1 .0) (c .before .before .before .loop .m) (search needs) .there)
 
 shared-slice-read-wide : tie.Need-shared-slice-read-wide Inv-loop μ-loop
-shared-slice-read-wide c = omega (arith, node-read _ _ (c .before .before .before .before .before .before .before .pre .0) (c .before .before .before .before .before .before .before .pre .1 .0) (c .before .before .before .loop .m) (search needs) .there)
+shared-slice-read-wide c = omega (arith, node-read _ _ (c .before .before .before .before .before .before .before .before .pre .0) (c .before .before .before .before .before .before .before .before .pre .1 .0) (c .before .before .before .before .loop .m) (search needs) .there)
 
 mul-limits : tie.Need-mul-limits Inv-loop μ-loop
-mul-limits c = omega (arith, node-read _ _ (c .before .before .before .before .before .before .before .before .before .pre .0) (c .before .before .before .before .before .before .before .before .before .pre .1 .0) (c .before .before .before .before .before .loop .m) (search needs) .there)
+mul-limits c = omega (arith, node-read _ _ (c .before .before .before .before .before .before .before .before .before .before .pre .0) (c .before .before .before .before .before .before .before .before .before .before .pre .1 .0) (c .before .before .before .before .before .before .loop .m) (search needs) .there)
 
 slice-write-limits : tie.Need-slice-write-limits Inv-loop μ-loop
-slice-write-limits c = let pre = c .before .before .before .before .before .before .before .before .before .pre in omega (arith, nodes-same _ (pre .0) (pre .1 .0) (pre .1 .1))
+slice-write-limits c = let pre = c .before .before .before .before .before .before .before .before .before .before .pre in omega (arith, nodes-same _ (pre .0) (pre .1 .0) (pre .1 .1))
 
 wide-requires : tie.Need-wide-requires Inv-loop μ-loop
 wide-requires c κs = search needs
@@ -75,11 +78,11 @@ loop-less c = search needs
 
 loop-again : tie.Need-loop-again Inv-loop μ-loop
 loop-again c =
-    let inv = c .before .before .before .before .before .loop .inv in
-    let pre = c .before .before .before .before .before .before .before .before .before .pre in
+    let inv = c .before .before .before .before .before .before .loop .inv in
+    let pre = c .before .before .before .before .before .before .before .before .before .before .pre in
     let n = nodes-same _ (pre .0) (pre .1 .0) (pre .1 .1) in (
       search needs,
-      filled-one _ (inv .1) (search needs) refl,
+      filled-one _ (inv .1) (search needs) (c .before .before .before .short .ensures),
       filled-one _ (inv .2) (omega arith) (c .narrow .ensures ∙ ap (λ (x : ℕ). x * 80 / 100) (c .before .wide .ensures .0)),
     )
 
@@ -106,11 +109,12 @@ load-nodes-spec =
     Inv-loop
     μ-loop
     loop-holds
+    mul-short
+    add-short
+    mul-short-2
+    shared-slice-read-short
+    short-requires
     mul-parents
-    add-parents
-    mul-parents-2
-    shared-slice-read-parents
-    mul-parents-3
     slice-write-parents
     mul-wide
     add-wide

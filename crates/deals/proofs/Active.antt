@@ -2,19 +2,20 @@
 -- list alone.
 use mathlib.Core.Path.{_≡_, refl, sym, ap, _∙_, subst}
 use mathlib.Core.Bool.{Bool, true, false}
-use mathlib.Core.List.{List}
+use mathlib.Core.List.{List, []}
 use Prim.Native.Nat.{ℕ, suc, _+_, _-_, _/_, _%_, _^_, _≤_, _<_, max}
 use native.Mathlib.Nat.{le-refl, div-self, mod-lt}
 use native.Mathlib.Omega.{arith}
 use lib.Bits.{bitOr, or-shr, or-step}
 use lib.Pow.{pow-pos}
 use lib.Dec.{eqb, ltb}
-use lib.ListN.{length, set, length-set}
+use lib.ListN.{length, getD, set, length-set}
 use lib.Seq.{getD-set-same, getD-set-other}
 use borrow.Author.Count.{below-more}
 use borrow.Author.Tests.{eqb-true, eqb-false, ltb-true, ltb-false}
+use Rattle.rooms.specs.Table.{mostNodes, highestRank}
 use Rattle.deals.specs.Figures.{at}
-use Rattle.deals.specs.Passes.{Marked, MarksAdded, NodeMarks, Listed, Absent, ActiveNodes, CordsActive}
+use Rattle.deals.specs.Passes.{Marked, MarksAdded, NodeMarks, Linked, Listed, Absent, FullLists, LevelsListed, ActiveNodes, CordsActive, LevelLists}
 
 -- ---- Marks
 
@@ -131,14 +132,14 @@ marking-end inv z = record { cords = λ c n l. inv .cords c l n; children = λ m
 -- Before the turn of the node at place n.
 pub record Listing (marks : List ℕ) (level n : ℕ) (list : List ℕ) (count : ℕ) : Type 0 where
   pub reached : n ≤ length marks
-  pub size : length list ≡ length marks
+  pub size : length marks ≤ length list
   pub few : count ≤ n
   pub within : (i : ℕ) → i < count → at list i < n
   pub rises : (i k : ℕ) → i < k → k < count → at list i < at list k
   pub marked : (i : ℕ) → i < count → Marked (at marks (at list i)) level
   pub all : (m : ℕ) → m < n → Marked (at marks m) level → Absent list count m → ⊥
 
-pub listing-start : (marks : List ℕ) (level : ℕ) (list : List ℕ) → length list ≡ length marks → Listing marks level 0 list 0
+pub listing-start : (marks : List ℕ) (level : ℕ) (list : List ℕ) → length marks ≤ length list → Listing marks level 0 list 0
 listing-start marks level list size = record {
   reached = omega arith;
   size = size;
@@ -179,7 +180,7 @@ module _ {marks : List ℕ} {level n : ℕ} {list : List ℕ} {count : ℕ} (inv
     unfolding put
     passed-over none = record {
       reached = omega arith;
-      size = length-set list count n ∙ inv .size;
+      size = omega (arith, length-set list count n, inv .size);
       few = omega (arith, inv .few);
       within = λ i l. omega (arith, other i l, inv .within i l);
       rises = λ i k l h. omega (arith, other i (omega arith), other k h, inv .rises i k l h);
@@ -192,7 +193,7 @@ module _ {marks : List ℕ} {level n : ℕ} {list : List ℕ} {count : ℕ} (inv
     unfolding put
     kept some = record {
       reached = omega arith;
-      size = length-set list count n ∙ inv .size;
+      size = omega (arith, length-set list count n, inv .size);
       few = omega (arith, inv .few);
       within = below-more (λ i. at put i < n + 1) count (λ i l. omega (arith, other i l, inv .within i l)) (omega (arith, here));
       rises = λ i k l h. below-more (λ k. i < k → at put i < at put k) count
@@ -235,6 +236,89 @@ module _ {parents nodes levels marks : List ℕ} (size : length marks ≡ length
   pub cords-active : ((c : ℕ) → c < length nodes → at nodes c ≤ length parents) → CordsActive nodes levels level active count
   cords-active within c n l e q none =
       listed .all n (omega (arith, within c l)) (subst (Marked (at marks n)) e (is .cords c n l q)) none
+
+-- ---- The active nodes of all levels
+
+-- Before the turns of the levels below `above`.
+pub record Levelling (marks first : List ℕ) (cords above : ℕ) (actives : List (List ℕ)) (counts : List ℕ) : Type 0 where
+  pub within : above ≤ highestRank
+  pub counts-size : length counts ≡ highestRank
+  pub full : FullLists actives
+  pub listed : (j : ℕ) → above ≤ j → j < highestRank → at first j < cords → Listed marks j (getD actives j []) (at counts j)
+
+pub levelling-start : {marks first : List ℕ} {cords : ℕ} {actives : List (List ℕ)} {counts : List ℕ} → length counts ≡ highestRank → FullLists actives
+    → Levelling marks first cords highestRank actives counts
+levelling-start size full = record { within = le-refl highestRank; counts-size = size; full = full; listed = λ j l h. absurd (omega arith) }
+
+module _ {marks first : List ℕ} {cords above : ℕ} {actives : List (List ℕ)} {counts : List ℕ} (inv : Levelling marks first cords above actives counts) where
+  pub levelling-end : above ≤ 0 → LevelsListed marks first cords actives counts
+  levelling-end h = record { counts-size = inv .counts-size; full = inv .full; listed = λ j l. inv .listed j (omega arith) l }
+
+  module _ (some : 0 < above) where
+    abbrev level : ℕ
+    level = above - 1
+
+    pub level-few : level < highestRank
+    level-few = omega (arith, inv .within)
+
+    -- What holds of the levels passed and of this one.
+    passed : (holds : ℕ → Type 0) → ((j : ℕ) → above ≤ j → j < highestRank → holds j) → holds level → (j : ℕ) → level ≤ j → j < highestRank → holds j
+    passed holds before here j l h = go (eqb j level) refl
+      where
+        go : (t : Bool) → eqb j level ≡ t → holds j
+        go true e = rw (eqb-true j level e) here
+        go false e =
+            let d : j ≡ level → ⊥ = eqb-false j level e in
+            before j (omega arith) h
+
+    -- A level that no cord has.
+    pub levelling-skip : cords ≤ at first level → Levelling marks first cords level actives counts
+    levelling-skip none = record {
+      within = omega (arith, inv .within);
+      counts-size = inv .counts-size;
+      full = inv .full;
+      listed = passed (λ j. at first j < cords → Listed marks j (getD actives j []) (at counts j)) (inv .listed) (λ has. absurd (omega arith));
+    }
+
+    pub levelling-turn : (list : List ℕ) {v count : ℕ} → v ≡ count → length list ≡ length (getD actives level []) → Listed marks level list count
+        → Levelling marks first cords level (set actives level list) (set counts level v)
+    levelling-turn list {v} {count} e size listed = record {
+      within = omega (arith, inv .within);
+      counts-size = length-set counts level v ∙ inv .counts-size;
+      full = (
+        length-set actives level list ∙ inv .full .0,
+        λ j h. set-length (eqb j level) j refl h,
+      );
+      listed = passed (λ j. at first j < cords → Listed marks j (getD (set actives level list) j []) (at (set counts level v) j))
+          (λ j l h has. rw (getD-set-other actives level j list [] (λ q. omega arith), getD-set-other counts level j v 0 (λ q. omega arith)) (inv .listed j l h has))
+          (λ has. rw (row, told) listed);
+    }
+      where
+        row : getD (set actives level list) level [] ≡ list
+        row = getD-set-same actives level list [] (omega (arith, inv .full .0, inv .within))
+
+        told : at (set counts level v) level ≡ count
+        told = getD-set-same counts level v 0 (omega (arith, inv .counts-size, inv .within)) ∙ e
+
+        set-length : (t : Bool) (j : ℕ) → eqb j level ≡ t → j < highestRank → length (getD (set actives level list) j []) ≡ mostNodes
+        set-length true j q h = rw (eqb-true j level q, row) (size ∙ inv .full .1 level level-few)
+        set-length false j q h = rw (getD-set-other actives level j list [] (eqb-false j level q)) (inv .full .1 j h)
+
+-- What both deals take of the levels.
+pub level-lists : {parents nodes levels first next marks : List ℕ} {actives : List (List ℕ)} {counts : List ℕ} → length marks ≡ length parents
+    → NodeMarks parents nodes levels marks
+    → ((m : ℕ) → m < length parents → at parents m ≤ m)
+    → ((c : ℕ) → c < length nodes → at nodes c ≤ length parents)
+    → Linked levels first next
+    → LevelsListed marks first (length nodes) actives counts
+    → LevelLists parents nodes levels first next actives counts
+level-lists size marked rises within linked all = record {
+  linked = linked;
+  counts-size = all .counts-size;
+  full = all .full;
+  nodes-active = λ j l some. active-nodes size marked (all .listed j l some) rises;
+  cords-active = λ j l some. cords-active size marked (all .listed j l some) within;
+}
 
 -- ---- Passing over the nodes that are not active
 

@@ -37,6 +37,9 @@ module _ (table : List ℕ) (g : Good (checked table 0)) where
   pub nodes-alike : {a b c : ℕ} → NodesFit table a → b ≡ c → NodesFit table c → a ≡ b
   nodes-alike x e y = x (g .value) (g .next) (g .is) ∙ sym (e ∙ y (g .value) (g .next) (g .is))
 
+  pub nodes-few : {a : ℕ} → NodesFit table a → a ≤ mostNodes
+  nodes-few x = omega (arith, x (g .value) (g .next) (g .is), begun (g .is) .most)
+
   pub cords-alike : {a b : ℕ} → CordsFit table a → CordsFit table b → a ≡ b
   cords-alike x y = x (g .value) (g .next) (g .is) ∙ sym (y (g .value) (g .next) (g .is))
 
@@ -188,17 +191,6 @@ module _ (table demands : List ℕ) {parents limits nodes levels lows wants shar
         let fit = cords r (g .next) (g .is) in (
           deal-lists r (g .next) (g .is) (wanted r (g .next) (g .is)) fit,
           (server-lists r (g .next) (g .is) fit, caps r (g .next) (g .is) ∙ sym (needs-size r (g .next) (g .is))),
-        )
-
-    -- The first deal's stranded watts.
-    pub reclaim-asks : (grants : List ℕ) {watts : List ℕ} → CordsFit table (length grants) → watts ≡ usableFrom shares servers needed grants
-        → ServerLists shares servers watts (length grants) × (length wants ≡ length shares)
-    unfolding firstWants
-    reclaim-asks grants cords e =
-        let r = g .value in
-        let l = of-cords r (g .next) (g .is) in (
-          rw e (usable-lists grants (server-lists r (g .next) (g .is) (cords r (g .next) (g .is)))),
-          ap length (l .wants-are) ∙ carriedBy-length r (needs r demands) ∙ sym (ap length (l .shares-are) ∙ figures-length (roomCords r) _),
         )
 
   -- After the first deal, with its grants and what the servers can use of them.

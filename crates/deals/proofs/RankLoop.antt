@@ -7,7 +7,7 @@ use Prim.Native.Nat.{ℕ, zero, suc, _+_, _-_, _*_, _/_, _≤_, _<_}
 use native.Mathlib.Nat.{eq-or-lt-of-le}
 use native.Mathlib.Omega.{arith}
 use lib.Dec.{eqb}
-use lib.ListN.{length, take, replicate, length-replicate, getD-replicate}
+use lib.ListN.{length, getD, take, replicate, length-replicate, getD-replicate}
 use lib.Seq.{length-take-le}
 use borrow.Author.Tests.{eqb-true}
 use Rattle.rooms.specs.Sums.{on, sum}
@@ -18,11 +18,10 @@ use Rattle.rooms.proofs.Trees.{kids, down}
 use Rattle.deals.specs.Figures.{at, cell}
 use Rattle.deals.specs.Metrics.{dealFrom, metrics}
 use Rattle.deals.specs.Dealing.{granted}
-use Rattle.deals.specs.Passes.{NodeLists, CordLists, LowsWithin, Spare, DealLists, LevelLists, Listed, Absent, NodeFigures, RankLists, RanksDealt, FullRows, onNode, overChildren, Gathered, cordsBefore, weightOf, NodesDealt, CordsDealt}
+use Rattle.deals.specs.Passes.{NodeLists, CordLists, LowsWithin, Spare, DealLists, LevelLists, Absent, NodeFigures, RankLists, RanksDealt, FullRows, onNode, overChildren, Gathered, cordsBefore, weightOf, NodesDealt, CordsDealt}
 use Rattle.deals.proofs.Computed.{request}
 use Rattle.deals.proofs.NodeSums.{kids-none}
 use Rattle.deals.proofs.Links.{chain-of, no-cord}
-use Rattle.deals.proofs.Active.{active-nodes, cords-active}
 use Rattle.deals.proofs.Gathering.{Idle, beneath-none}
 use Rattle.deals.proofs.Ranks.{State, state-of, ranks-dealt, state-start, state-end, state-skip, filled-skip, requests-are, lows-sum, excesses-sum, gather-asks, nodes-ask, cords-ask, cords-room, state-turn}
 
@@ -35,12 +34,9 @@ pub zeros-front : (k n : ℕ) → n ≤ k → length {A = ℕ} (take n (replicat
 unfolding zeros
 zeros-front k n h = length-take-le n (zeros k) (omega (arith, length-replicate {A = ℕ} k 0))
 
-pub zeros-rows : FullRows (replicate mostNodes (replicate highestRank 0))
+pub zeros-rows : (k n : ℕ) → (length (replicate k (replicate {A = ℕ} n 0)) ≡ k) × ((m : ℕ) → m < k → length (getD (replicate k (replicate {A = ℕ} n 0)) m []) ≡ n)
 unfolding zeros
-zeros-rows = (
-  length-replicate mostNodes (zeros highestRank),
-  λ m l. ap length (getD-replicate mostNodes m (zeros highestRank) [] l) ∙ length-replicate {A = ℕ} highestRank 0,
-)
+zeros-rows k n = (length-replicate k (zeros n), λ m l. ap length (getD-replicate k m (zeros n) [] l) ∙ length-replicate {A = ℕ} n 0)
 
 zeros-at : (k j : ℕ) → at (zeros k) j ≡ 0
 unfolding zeros
@@ -224,10 +220,9 @@ module _ {parents limits nodes levels lows wants next : List ℕ} {level from : 
 -- ---- The loop over the ranks
 
 -- Before the ranks below `above`.
-pub record RankLoop (parents limits nodes levels lows wants first next marks : List ℕ) (above : ℕ) (active : List ℕ) (rows : List (List ℕ)) (left pcapmins wholes amounts before dealt grants : List ℕ) : Type 0 where
+pub record RankLoop (parents limits nodes levels lows wants first next : List ℕ) (actives : List (List ℕ)) (counts : List ℕ) (above : ℕ) (rows : List (List ℕ)) (left pcapmins wholes amounts before dealt grants : List ℕ) : Type 0 where
   pub lists : DealLists parents limits nodes levels lows wants (length grants)
-  pub by-level : LevelLists parents nodes levels first next marks
-  pub active-size : length active ≡ length parents
+  pub by-level : LevelLists parents nodes levels first next actives counts
   pub figures : NodeFigures (length parents) left pcapmins wholes amounts before dealt
   pub ranks : RanksDealt (dealFrom parents limits nodes levels lows wants) above rows left grants
 
@@ -255,8 +250,8 @@ module _ {parents limits nodes levels lows wants : List ℕ} {grantCount : ℕ} 
 pub one-more : (n : ℕ) → 0 < n → n ≡ suc (n - 1)
 one-more n h = omega arith
 
-module _ {parents limits nodes levels lows wants first next marks : List ℕ} {above : ℕ} {active : List ℕ} {rows : List (List ℕ)} {left pcapmins wholes amounts before dealt grants : List ℕ}
-    (inv : RankLoop parents limits nodes levels lows wants first next marks above active rows left pcapmins wholes amounts before dealt grants) where
+module _ {parents limits nodes levels lows wants first next : List ℕ} {actives : List (List ℕ)} {counts : List ℕ} {above : ℕ} {rows : List (List ℕ)} {left pcapmins wholes amounts before dealt grants : List ℕ}
+    (inv : RankLoop parents limits nodes levels lows wants first next actives counts above rows left pcapmins wholes amounts before dealt grants) where
   -- After the last rank.
   pub loop-end : above ≤ 0 → grants ≡ granted (dealFrom parents limits nodes levels lows wants)
   loop-end h =
@@ -283,7 +278,7 @@ module _ {parents limits nodes levels lows wants first next marks : List ℕ} {a
     at-level = subst (λ (a : ℕ). RanksDealt (dealFrom parents limits nodes levels lows wants) a rows left grants) (one-more above some) (inv .ranks)
 
     -- A rank that no cord has.
-    pub loop-skip : {from : ℕ} → from ≡ at first level → length nodes ≤ from → RankLoop parents limits nodes levels lows wants first next marks level active rows left pcapmins wholes amounts before dealt grants
+    pub loop-skip : {from : ℕ} → from ≡ at first level → length nodes ≤ from → RankLoop parents limits nodes levels lows wants first next actives counts level rows left pcapmins wholes amounts before dealt grants
     unfolding dealFrom request
     loop-skip is none =
         let lists = inv .lists in
@@ -292,7 +287,6 @@ module _ {parents limits nodes levels lows wants first next marks : List ℕ} {a
         record {
           lists = lists;
           by-level = inv .by-level;
-          active-size = inv .active-size;
           figures = inv .figures;
           ranks =
               let none : (c : ℕ) → c < length nodes → at levels c ≡ level → ⊥
@@ -304,27 +298,27 @@ module _ {parents limits nodes levels lows wants first next marks : List ℕ} {a
               (λ m j l. inv .ranks .blank m j (omega arith)) (inv .ranks .full);
         }
 
-    -- What one rank asks, once its nodes are listed.
-    pub rank-lists : {from count : ℕ} {active₁ : List ℕ} → from ≡ at first level → Listed marks level active₁ count
-        → RankLists parents limits nodes levels lows wants next level from active₁ count rows left pcapmins wholes amounts before dealt grants
-    rank-lists is listed = record {
-      lists = inv .lists;
-      chain = chain-of (inv .by-level .linked) level level-fits is;
-      nodes-active = active-nodes (inv .by-level .marks-size) (inv .by-level .marked) listed (inv .lists .of-nodes .rises);
-      cords-active = cords-active (inv .by-level .marks-size) (inv .by-level .marked) listed (inv .lists .of-cords .within);
-      figures = inv .figures;
-      ranks = at-level;
-    }
+    -- What one rank asks.
+    pub rank-lists : {from count : ℕ} → from ≡ at first level → from < length nodes → count ≡ at counts level
+        → RankLists parents limits nodes levels lows wants next level from (getD actives level []) count rows left pcapmins wholes amounts before dealt grants
+    rank-lists is some counted =
+        rw counted
+        (record {
+          lists = inv .lists;
+          chain = chain-of (inv .by-level .linked) level level-fits is;
+          nodes-active = inv .by-level .nodes-active level level-fits (omega arith);
+          cords-active = inv .by-level .cords-active level level-fits (omega arith);
+          figures = inv .figures;
+          ranks = at-level;
+        })
 
     -- The next rank.
-    pub loop-turn : {active₁ : List ℕ} {rows₁ : List (List ℕ)} {left₁ pcapmins₁ wholes₁ amounts₁ before₁ dealt₁ grants₁ : List ℕ} → length active₁ ≡ length active
-        → length left₁ ≡ length left → length pcapmins₁ ≡ length pcapmins → length wholes₁ ≡ length wholes → length amounts₁ ≡ length amounts → length before₁ ≡ length before → length dealt₁ ≡ length dealt
+    pub loop-turn : {rows₁ : List (List ℕ)} {left₁ pcapmins₁ wholes₁ amounts₁ before₁ dealt₁ grants₁ : List ℕ} → length left₁ ≡ length left → length pcapmins₁ ≡ length pcapmins → length wholes₁ ≡ length wholes → length amounts₁ ≡ length amounts → length before₁ ≡ length before → length dealt₁ ≡ length dealt
         → length grants₁ ≡ length grants → RanksDealt (dealFrom parents limits nodes levels lows wants) level rows₁ left₁ grants₁
-        → RankLoop parents limits nodes levels lows wants first next marks level active₁ rows₁ left₁ pcapmins₁ wholes₁ amounts₁ before₁ dealt₁ grants₁
-    loop-turn v l p w m b d g ranks = record {
+        → RankLoop parents limits nodes levels lows wants first next actives counts level rows₁ left₁ pcapmins₁ wholes₁ amounts₁ before₁ dealt₁ grants₁
+    loop-turn l p w m b d g ranks = record {
       lists = subst (DealLists parents limits nodes levels lows wants) (sym g) (inv .lists);
       by-level = inv .by-level;
-      active-size = v ∙ inv .active-size;
       figures = record {
         left-size = l ∙ inv .figures .left-size;
         pcapmins-size = p ∙ inv .figures .pcapmins-size;

@@ -11,7 +11,7 @@ use Rattle.rooms.specs.Part.{good, Good}
 use Rattle.rooms.specs.Table.{Room, roomCords, mostNodes, mostCords, mostWatts, highestRank, scale}
 use Rattle.rooms.specs.Limits.{carried, beneath, checked}
 use Rattle.rooms.specs.Credits.{sumBeneath}
-use Rattle.deals.specs.Figures.{figures, at, cell}
+use Rattle.deals.specs.Figures.{figures, at, cell, sumOf}
 use Rattle.deals.specs.Cords.{cordAt}
 use Rattle.deals.specs.Metrics.{Deal, dealFrom, metrics, nodesOf, levelsOf}
 use Rattle.deals.specs.Wants.{needs, lowsOf, firstWants}
@@ -102,12 +102,6 @@ pub record NodeMarks (parents nodes levels marks : List ℕ) : Type 0 where
 abbrev pub Absent : List ℕ → ℕ → ℕ → Type 0
 Absent list count n = (i : ℕ) → i < count → at list i ≡ n → ⊥
 
--- What is made of a room's levels once for both deals.
-pub record LevelLists (parents nodes levels first next marks : List ℕ) : Type 0 where
-  pub linked : Linked levels first next
-  pub marks-size : length marks ≡ length parents
-  pub marked : NodeMarks parents nodes levels marks
-
 -- The first `count` entries of a list are the places that are marked with a level, in order.
 pub record Listed (marks : List ℕ) (level : ℕ) (list : List ℕ) (count : ℕ) : Type 0 where
   pub few : count ≤ length list
@@ -115,6 +109,16 @@ pub record Listed (marks : List ℕ) (level : ℕ) (list : List ℕ) (count : �
   pub rises : (i k : ℕ) → i < k → k < count → at list i < at list k
   pub marked : (i : ℕ) → i < count → Marked (at marks (at list i)) level
   pub all : (n : ℕ) → n < length marks → Marked (at marks n) level → Absent list count n → ⊥
+
+-- A list for each level, with an entry for each place of a node.
+abbrev pub FullLists : List (List ℕ) → Type 0
+FullLists lists = (length lists ≡ highestRank) × ((j : ℕ) → j < highestRank → length (getD lists j []) ≡ mostNodes)
+
+-- For each level that some of so many cords has, the places that are marked with it, in its list, and how many there are.
+pub record LevelsListed (marks first : List ℕ) (cords : ℕ) (actives : List (List ℕ)) (counts : List ℕ) : Type 0 where
+  pub counts-size : length counts ≡ highestRank
+  pub full : FullLists actives
+  pub listed : (j : ℕ) → j < highestRank → at first j < cords → Listed marks j (getD actives j []) (at counts j)
 
 -- The first `count` entries of `active` are places of nodes, rising; if a node is among them, so is its parent.
 pub record ActiveNodes (parents active : List ℕ) (count : ℕ) : Type 0 where
@@ -126,6 +130,14 @@ pub record ActiveNodes (parents active : List ℕ) (count : ℕ) : Type 0 where
 -- Every node with a cord of the level on it is among them.
 abbrev pub CordsActive : List ℕ → List ℕ → ℕ → List ℕ → ℕ → Type 0
 CordsActive nodes levels level active count = (c n : ℕ) → c < length nodes → at levels c ≡ level → at nodes c ≡ suc n → Absent active count n → ⊥
+
+-- What is made of a room's levels once for both deals: for each level its cords, linked, and its active nodes, listed.
+pub record LevelLists (parents nodes levels first next : List ℕ) (actives : List (List ℕ)) (counts : List ℕ) : Type 0 where
+  pub linked : Linked levels first next
+  pub counts-size : length counts ≡ highestRank
+  pub full : FullLists actives
+  pub nodes-active : (j : ℕ) → j < highestRank → at first j < length nodes → ActiveNodes parents (getD actives j []) (at counts j)
+  pub cords-active : (j : ℕ) → j < highestRank → at first j < length nodes → CordsActive nodes levels j (getD actives j []) (at counts j)
 
 -- ---- Lists that are lent, and what they hold of a room
 
@@ -216,6 +228,26 @@ strandedFrom used grants = figures (length used) (λ c. at grants c - at used c)
 -- The wants of the next deal.
 abbrev pub wantsFrom : List ℕ → List ℕ → List ℕ → List ℕ
 wantsFrom used grants wants = figures (length used) (λ c. cond (ltb 0 (at (strandedFrom used grants) c)) (at used c) (at wants c))
+
+-- The same by the grants alone.
+abbrev pub wantsNext : List ℕ → List ℕ → List ℕ → List ℕ → List ℕ → List ℕ
+wantsNext shares servers needs grants wants = wantsFrom (usedFrom shares servers (usableFrom shares servers needs grants)) grants wants
+
+-- What is freed after so many deals, and the wants of the next: before the first, nothing is freed and no want is changed.
+pub record ReclaimedAfter (deals : ℕ) (shares servers usable grants wants : List ℕ) (freed : ℕ) (wants′ : List ℕ) : Type 0 where
+  pub none : deals ≡ 0 → wants′ ≡ wants
+  pub freed-is : 0 < deals → freed ≡ sumOf (strandedFrom (usedFrom shares servers usable) grants)
+  pub wants-are : 0 < deals → wants′ ≡ wantsFrom (usedFrom shares servers usable) grants wants
+
+-- What both deals leave, by the wants of the first: the watts freed by its grants, the grants of the second, and what each server can
+-- use of these.
+pub record DealtTwice (parents limits nodes levels lows wants shares servers needs : List ℕ) (freed : ℕ) (grants usable : List ℕ) : Type 0 where
+  pub freed-is :
+      freed
+      ≡ sumOf (strandedFrom (usedFrom shares servers (usableFrom shares servers needs (granted (dealFrom parents limits nodes levels lows wants)))) (granted (dealFrom parents limits nodes levels lows wants)))
+  pub grants-are :
+      grants ≡ granted (dealFrom parents limits nodes levels lows (wantsNext shares servers needs (granted (dealFrom parents limits nodes levels lows wants)) wants))
+  pub usable-are : usable ≡ usableFrom shares servers needs grants
 
 -- ---- Sums on the nodes
 

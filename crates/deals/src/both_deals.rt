@@ -7,12 +7,13 @@ ghost use Rattle.rooms.specs.Table.{highestRank};
 ghost use Rattle.deals.specs.Metrics.{dealFrom};
 ghost use Rattle.deals.specs.Dealing.{granted};
 ghost use Rattle.deals.specs.Plan.{firstTooLarge};
-ghost use Rattle.deals.specs.Passes.{DealLists, LevelLists, Spare, ServerLists, usableFrom, CordsLent, NodesFit, ServersFit, CordsFit, Planning};
+ghost use Rattle.deals.specs.Passes.{DealLists, LevelLists, FullLists, Spare, ServerLists, usableFrom, wantsNext, DealtTwice, CordsLent, NodesFit, ServersFit, CordsFit, Planning};
 use crate::deal::deal;
 use crate::levels::link_levels;
+use crate::levels::list_levels;
 use crate::levels::mark_nodes;
 use crate::metrics::spare_limits;
-use crate::reclaim::reclaim;
+use crate::reclaim::reclaim_after;
 use crate::reclaim::usable_of;
 use crate::room::load_cords;
 use crate::room::load_nodes;
@@ -44,7 +45,8 @@ fn make_deal(
     wants: &[u32],
     first: &[u16],
     next: &[u16],
-    marks: &[u16],
+    actives: &[[u16; 512]; 16],
+    counts: &[u16],
     spare: &[u64],
     shares: &[u32],
     servers: &[u16],
@@ -53,7 +55,7 @@ fn make_deal(
     usable: &mut [u32],
 )
     requires { ⌜ DealLists (now parents) (now limits) (now nodes) (now levels) (now lows) (now wants) (length (now grants)) ⌝ }
-    requires { ⌜ LevelLists (now parents) (now nodes) (now levels) (now first) (now next) (now marks) × Spare (now parents) (now limits) (now nodes) (now lows) (now spare) ⌝ }
+    requires { ⌜ LevelLists (now parents) (now nodes) (now levels) (now first) (now next) (now actives) (now counts) × Spare (now parents) (now limits) (now nodes) (now lows) (now spare) ⌝ }
     requires { ⌜ ServerLists (now shares) (now servers) (now needs) (length (now grants)) × (length (now usable) ≡ length (now needs)) ⌝ }
     ensures { λ _. ⌜ now (grants .exit) ≡ granted (dealFrom (now (parents .entry)) (now (limits .entry)) (now (nodes .entry)) (now (levels .entry)) (now (lows .entry)) (now (wants .entry))) ⌝ }
     ensures { λ _. ⌜ now (usable .exit) ≡ usableFrom (now (shares .entry)) (now (servers .entry)) (now (needs .entry)) (now (grants .exit)) ⌝ }
@@ -67,15 +69,66 @@ fn make_deal(
         wants,
         first,
         next,
-        marks,
+        actives,
+        counts,
         spare,
         grants,
     );
     usable_of(shares, servers, needs, grants, usable);
 }
 
-// Makes the plan, in lists with one entry for each node, cord or server of the room; gives the freed watts. Until the second deal,
-// `caps` holds what each server can use of the first grants.
+// Both deals, in turn; gives the watts freed between them. Until the second, `usable` has what each server can use of the first grants.
+// One call makes both, so that it is compiled once, among the lists that it works on.
+fn deal_twice(
+    parents: &[u16],
+    limits: &[u32],
+    nodes: &[u16],
+    levels: &[u16],
+    lows: &[u32],
+    wants: &mut [u32],
+    first: &[u16],
+    next: &[u16],
+    actives: &[[u16; 512]; 16],
+    counts: &[u16],
+    spare: &[u64],
+    shares: &[u32],
+    servers: &[u16],
+    needs: &[u32],
+    grants: &mut [u32],
+    usable: &mut [u32],
+) -> u64
+    requires { ⌜ DealLists (now parents) (now limits) (now nodes) (now levels) (now lows) (now wants) (length (now grants)) ⌝ }
+    requires { ⌜ LevelLists (now parents) (now nodes) (now levels) (now first) (now next) (now actives) (now counts) × Spare (now parents) (now limits) (now nodes) (now lows) (now spare) ⌝ }
+    requires { ⌜ ServerLists (now shares) (now servers) (now needs) (length (now grants)) × (length (now usable) ≡ length (now needs)) ⌝ }
+    requires { ⌜ DealLists (now parents) (now limits) (now nodes) (now levels) (now lows) (wantsNext (now shares) (now servers) (now needs) (granted (dealFrom (now parents) (now limits) (now nodes) (now levels) (now lows) (now wants))) (now wants)) (length (now grants)) ⌝ }
+    ensures { λ freed. ⌜ DealtTwice (now (parents .entry)) (now (limits .entry)) (now (nodes .entry)) (now (levels .entry)) (now (lows .entry)) (now (wants .entry)) (now (shares .entry)) (now (servers .entry)) (now (needs .entry)) freed (now (grants .exit)) (now (usable .exit)) ⌝ }
+{
+    let mut freed = 0;
+    for made in 0..2 {
+        freed = reclaim_after(made, shares, servers, usable, grants, wants);
+        make_deal(
+            parents,
+            limits,
+            nodes,
+            levels,
+            lows,
+            wants,
+            first,
+            next,
+            actives,
+            counts,
+            spare,
+            shares,
+            servers,
+            needs,
+            grants,
+            usable,
+        );
+    }
+    freed
+}
+
+// Makes the plan, in lists with one entry for each node, cord or server of the room; gives the freed watts.
 fn plan_lists(
     table: &[u32],
     demands: &[u32],
@@ -91,6 +144,8 @@ fn plan_lists(
     first: &mut [u16],
     next: &mut [u16],
     marks: &mut [u16],
+    actives: &mut [[u16; 512]; 16],
+    counts: &mut [u16],
     spare: &mut [u64],
     grants: &mut [u32],
     caps: &mut [u32],
@@ -98,6 +153,7 @@ fn plan_lists(
     requires { ⌜ CordsLent (now table) (now demands) (now nodes) (now levels) (now lows) (now wants) (now shares) (now servers) (now needs) ⌝ }
     requires { ⌜ NodesFit (now table) (length (now parents)) × NodesFit (now table) (length (now limits)) ⌝ }
     requires { ⌜ (length (now first) ≡ highestRank) × CordsFit (now table) (length (now next)) × NodesFit (now table) (length (now marks)) × NodesFit (now table) (length (now spare)) ⌝ }
+    requires { ⌜ FullLists (now actives) × (length (now counts) ≡ highestRank) ⌝ }
     requires { ⌜ CordsFit (now table) (length (now grants)) × ServersFit (now table) (length (now caps)) ⌝ }
     ensures { λ r. ⌜ Planning (now (table .entry)) (now (demands .entry)) r (now (grants .exit)) (now (caps .exit)) ⌝ }
 {
@@ -115,8 +171,9 @@ fn plan_lists(
     );
     link_levels(levels, first, next);
     mark_nodes(parents, nodes, levels, marks);
+    list_levels(marks, first, nodes.len(), actives, counts);
     spare_limits(parents, limits, nodes, lows, spare);
-    make_deal(
+    deal_twice(
         parents,
         limits,
         nodes,
@@ -125,33 +182,15 @@ fn plan_lists(
         wants,
         first,
         next,
-        marks,
+        actives,
+        counts,
         spare,
         shares,
         servers,
         needs,
         grants,
         caps,
-    );
-    let freed = reclaim(shares, servers, caps, grants, wants);
-    make_deal(
-        parents,
-        limits,
-        nodes,
-        levels,
-        lows,
-        wants,
-        first,
-        next,
-        marks,
-        spare,
-        shares,
-        servers,
-        needs,
-        grants,
-        caps,
-    );
-    freed
+    )
 }
 
 // The grants and caps of a good table with a demand for each server, in lists with one entry for each cord and each server; gives the
@@ -173,6 +212,8 @@ pub(crate) fn plan_room(table: &[u32], demands: &[u32], grants: &mut [u32], caps
     let mut first = [0u16; 16];
     let mut next = [0u16; 1024];
     let mut marks = [0u16; 512];
+    let mut actives = [[0u16; 512]; 16];
+    let mut counts = [0u16; 16];
     let mut spare = [0u64; 512];
     let n = word_index(table[1]);
     let k = grants.len();
@@ -191,6 +232,8 @@ pub(crate) fn plan_room(table: &[u32], demands: &[u32], grants: &mut [u32], caps
         &mut first,
         &mut next[..k],
         &mut marks[..n],
+        &mut actives,
+        &mut counts,
         &mut spare[..n],
         grants,
         caps,

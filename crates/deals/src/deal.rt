@@ -9,7 +9,6 @@ ghost use Rattle.deals.specs.Dealing.{granted};
 ghost use Rattle.deals.specs.Passes.{DealLists, LevelLists, Spare, NodeFigures, RankLists, RanksDealt, FullRows};
 use crate::dealing::deal_cords;
 use crate::dealing::deal_nodes;
-use crate::levels::list_active;
 use crate::metrics::gather;
 use crate::metrics::sum_cords;
 use crate::widths::index;
@@ -111,9 +110,9 @@ fn deal_ranks(
     wants: &[u32],
     first: &[u16],
     next: &[u16],
-    marks: &[u16],
+    actives: &[[u16; 512]; 16],
+    counts: &[u16],
     spare: &[u64],
-    active: &mut [u16],
     requests: &mut [[u32; 16]; 512],
     left: &mut [u64],
     pcapmins: &mut [u64],
@@ -124,7 +123,7 @@ fn deal_ranks(
     grants: &mut [u32],
 )
     requires { ⌜ DealLists (now parents) (now limits) (now nodes) (now levels) (now lows) (now wants) (length (now grants)) ⌝ }
-    requires { ⌜ LevelLists (now parents) (now nodes) (now levels) (now first) (now next) (now marks) × Spare (now parents) (now limits) (now nodes) (now lows) (now spare) × (length (now active) ≡ length (now parents)) ⌝ }
+    requires { ⌜ LevelLists (now parents) (now nodes) (now levels) (now first) (now next) (now actives) (now counts) × Spare (now parents) (now limits) (now nodes) (now lows) (now spare) ⌝ }
     requires { ⌜ NodeFigures (length (now parents)) (now left) (now pcapmins) (now wholes) (now amounts) (now before) (now dealt) ⌝ }
     requires { ⌜ FullRows (now requests) × ((n j : ℕ) → cell (now requests) n j ≡ 0) ⌝ }
     ensures { λ _. ⌜ now (grants .exit) ≡ granted (dealFrom (now (parents .entry)) (now (limits .entry)) (now (nodes .entry)) (now (levels .entry)) (now (lows .entry)) (now (wants .entry))) ⌝ }
@@ -136,7 +135,7 @@ fn deal_ranks(
         level -= 1;
         let from = index(first[level]);
         if from < nodes.len() {
-            let count = list_active(marks, level, active);
+            let count = index(counts[level]);
             deal_rank(
                 parents,
                 limits,
@@ -147,7 +146,7 @@ fn deal_ranks(
                 next,
                 level,
                 from,
-                active,
+                &actives[level],
                 count,
                 requests,
                 left,
@@ -162,7 +161,7 @@ fn deal_ranks(
     }
 }
 
-// The grants of a deal, from the nodes' parents and limits, the cords' nodes, levels, lows and wants, the links and marks that
+// The grants of a deal, from the nodes' parents and limits, the cords' nodes, levels, lows and wants, the links and lists that
 // `levels.rt` makes, and what the limits have over all lows.
 pub(crate) fn deal(
     parents: &[u16],
@@ -173,15 +172,15 @@ pub(crate) fn deal(
     wants: &[u32],
     first: &[u16],
     next: &[u16],
-    marks: &[u16],
+    actives: &[[u16; 512]; 16],
+    counts: &[u16],
     spare: &[u64],
     grants: &mut [u32],
 )
     requires { ⌜ DealLists (now parents) (now limits) (now nodes) (now levels) (now lows) (now wants) (length (now grants)) ⌝ }
-    requires { ⌜ LevelLists (now parents) (now nodes) (now levels) (now first) (now next) (now marks) × Spare (now parents) (now limits) (now nodes) (now lows) (now spare) ⌝ }
+    requires { ⌜ LevelLists (now parents) (now nodes) (now levels) (now first) (now next) (now actives) (now counts) × Spare (now parents) (now limits) (now nodes) (now lows) (now spare) ⌝ }
     ensures { λ _. ⌜ now (grants .exit) ≡ granted (dealFrom (now (parents .entry)) (now (limits .entry)) (now (nodes .entry)) (now (levels .entry)) (now (lows .entry)) (now (wants .entry))) ⌝ }
 {
-    let mut active = [0u16; 512];
     let mut requests = [[0u32; 16]; 512];
     let mut left = [0u64; 512];
     let mut pcapmins = [0u64; 512];
@@ -199,9 +198,9 @@ pub(crate) fn deal(
         wants,
         first,
         next,
-        marks,
+        actives,
+        counts,
         spare,
-        &mut active[..n],
         &mut requests,
         &mut left[..n],
         &mut pcapmins[..n],

@@ -5,7 +5,7 @@ ghost use Prim.Native.Nat.{_^_, _<_};
 ghost use lib.Dec.{ltb};
 ghost use lib.ListN.{length};
 ghost use Rattle.deals.specs.Figures.{sumOf};
-ghost use Rattle.deals.specs.Passes.{ServerLists, usableFrom, usedFrom, strandedFrom, wantsFrom};
+ghost use Rattle.deals.specs.Passes.{ServerLists, usableFrom, usedFrom, strandedFrom, wantsFrom, ReclaimedAfter};
 use crate::room::carried_by;
 use crate::widths::index;
 use crate::widths::least;
@@ -46,7 +46,7 @@ fn next_want(stranded: u64, used: u32, want: u32) -> u32
 }
 
 // After the first deal: the cords that have stranded watts want their used watts from now on; gives the watts freed.
-pub(crate) fn reclaim(
+fn reclaim(
     shares: &[u32],
     servers: &[u16],
     usable: &[u32],
@@ -65,4 +65,22 @@ pub(crate) fn reclaim(
         wants[c] = next_want(stranded, used, wants[c]);
     }
     freed
+}
+
+// After so many deals: before the first, nothing is reclaimed.
+pub(crate) fn reclaim_after(
+    deals: usize,
+    shares: &[u32],
+    servers: &[u16],
+    usable: &[u32],
+    grants: &[u32],
+    wants: &mut [u32],
+) -> u64
+    requires { ⌜ (0 < deals → ServerLists (now shares) (now servers) (now usable) (length (now grants)) × (length (now wants) ≡ length (now shares))) ⌝ }
+    ensures { λ freed. ⌜ ReclaimedAfter deals (now (shares .entry)) (now (servers .entry)) (now (usable .entry)) (now (grants .entry)) (now (wants .entry)) freed (now (wants .exit)) ⌝ }
+{
+    if deals == 0 {
+        return 0;
+    }
+    reclaim(shares, servers, usable, grants, wants)
 }

@@ -8,7 +8,7 @@ deal-requires : tie.Need-deal-requires
 deal-requires c κs = search needs
 
 usable-of-requires : tie.Need-usable-of-requires
-usable-of-requires c κs = (search (grants-kept, needs), search needs)
+usable-of-requires c κs = let served = c .before .before .before .before .before .before .before .before .before .before .before .before .before .before .before .before .before .before .before .before .before .pre .1 .1 in (grants-kept (served .0) (c .before .before .before .before .deal .kept .1 .1 .1 .1 .1 .1 .1 .1 .1 .1 .1 .0), served .1)
 
 same-length : tie.Need-same-length
 same-length c = search needs

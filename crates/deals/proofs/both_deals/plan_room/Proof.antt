@@ -1,5 +1,6 @@
 -- `plan_room` meets its contract: it lends lists of zeros as long as the room's nodes, cords and servers are many.
 use Rattle.deals.proofs.Planning.{table-begun, nodes-most, cords-most, servers-most, nodes-front, cords-front, servers-front, nodes-lent, cords-lent, servers-lent}
+use Rattle.deals.proofs.RankLoop.{zeros-rows}
 use borrow.Author.Needs.{needs}
 use Rattle.deals.proofs.both_deals.plan_room.Statement.{statement}
 use Rattle.deals.proofs.both_deals.plan_room.Tie as tie
@@ -79,18 +80,21 @@ array-borrow-prefix-marks c = nodes-most _ (c .before .before .before .before .b
 slice-aggregate-plan-lists-12 : tie.Need-slice-aggregate-plan-lists-12
 slice-aggregate-plan-lists-12 c = nodes-front _ (c .before .before .before .before .before .before .before .before .before .before .before .before .before .before .before .before .before .before .pre .0) _ (c .before .before .before .before .before .before .before .before .before .before .before .before .word-index .ensures .0)
 
-array-borrow-prefix-spare : tie.Need-array-borrow-prefix-spare
-array-borrow-prefix-spare c = nodes-most _ (c .before .before .before .before .before .before .before .before .before .before .before .before .before .before .before .before .before .before .pre .0) _ (c .before .before .before .before .before .before .before .before .before .before .before .before .word-index .ensures .0)
-
 slice-aggregate-plan-lists-13 : tie.Need-slice-aggregate-plan-lists-13
-slice-aggregate-plan-lists-13 c = nodes-front _ (c .before .before .before .before .before .before .before .before .before .before .before .before .before .before .before .before .before .before .before .pre .0) _ (c .before .before .before .before .before .before .before .before .before .before .before .before .before .word-index .ensures .0)
+slice-aggregate-plan-lists-13 c = search needs
+
+array-borrow-prefix-spare : tie.Need-array-borrow-prefix-spare
+array-borrow-prefix-spare c = nodes-most _ (c .before .before .before .before .before .before .before .before .before .before .before .before .before .before .before .before .before .before .before .before .pre .0) _ (c .before .before .before .before .before .before .before .before .before .before .before .before .before .before .word-index .ensures .0)
+
+slice-aggregate-plan-lists-14 : tie.Need-slice-aggregate-plan-lists-14
+slice-aggregate-plan-lists-14 c = nodes-front _ (c .before .before .before .before .before .before .before .before .before .before .before .before .before .before .before .before .before .before .before .before .before .pre .0) _ (c .before .before .before .before .before .before .before .before .before .before .before .before .before .before .before .word-index .ensures .0)
 
 plan-lists-requires : tie.Need-plan-lists-requires
 plan-lists-requires c κs =
-    let table = c .before .before .before .before .before .before .before .before .before .before .before .before .before .before .before .before .before .before .before .before .before .args .table .now in
-    let good = c .before .before .before .before .before .before .before .before .before .before .before .before .before .before .before .before .before .before .before .before .before .pre .0 in
-    let fits = c .before .before .before .before .before .before .before .before .before .before .before .before .before .before .before .before .before .before .before .before .before .pre .1 in
-    let nodes = nodes-lent table good _ (c .before .before .before .before .before .before .before .before .before .before .before .before .before .before .before .word-index .ensures .0) in
+    let table = c .before .before .before .before .before .before .before .before .before .before .before .before .before .before .before .before .before .before .before .before .before .before .before .args .table .now in
+    let good = c .before .before .before .before .before .before .before .before .before .before .before .before .before .before .before .before .before .before .before .before .before .before .before .pre .0 in
+    let fits = c .before .before .before .before .before .before .before .before .before .before .before .before .before .before .before .before .before .before .before .before .before .before .before .pre .1 in
+    let nodes = nodes-lent table good _ (c .before .before .before .before .before .before .before .before .before .before .before .before .before .before .before .before .before .word-index .ensures .0) in
     let cords = cords-lent table good _ (fits .1) in (
       record {
         good-table = good;
@@ -103,7 +107,7 @@ plan-lists-requires c κs =
         servers-fit = cords;
         needs-fit = servers-lent table good _ (fits .0);
       },
-      ((nodes, nodes), ((search needs, cords, nodes, nodes), (fits .1, fits .2))),
+      ((nodes, nodes), ((search needs, cords, nodes, nodes), ((zeros-rows 16 512, search needs), (fits .1, fits .2)))),
     )
 
 same-length : tie.Need-same-length
@@ -144,8 +148,9 @@ plan-room-spec =
     slice-aggregate-plan-lists-11
     array-borrow-prefix-marks
     slice-aggregate-plan-lists-12
-    array-borrow-prefix-spare
     slice-aggregate-plan-lists-13
+    array-borrow-prefix-spare
+    slice-aggregate-plan-lists-14
     plan-lists-requires
     same-length
     same-length-2

@@ -5,53 +5,47 @@ use borrow.Author.Needs.{needs}
 use Rattle.deals.proofs.deal.deal.Statement.{statement}
 use Rattle.deals.proofs.deal.deal.Tie as tie
 
-array-borrow-prefix-active : tie.Need-array-borrow-prefix-active
-array-borrow-prefix-active c = c .before .before .before .before .before .before .before .before .before .before .before .pre .0 .of-nodes .few
+array-borrow-prefix-left : tie.Need-array-borrow-prefix-left
+array-borrow-prefix-left c = c .before .before .before .before .before .before .before .before .before .before .before .before .pre .0 .of-nodes .few
 
 slice-aggregate-deal-ranks : tie.Need-slice-aggregate-deal-ranks
-slice-aggregate-deal-ranks c = sym (zeros-front 512 _ (c .before .before .before .before .before .before .before .before .before .before .before .before .pre .0 .of-nodes .few))
-
-array-borrow-prefix-left : tie.Need-array-borrow-prefix-left
-array-borrow-prefix-left c = search needs
-
-slice-aggregate-deal-ranks-2 : tie.Need-slice-aggregate-deal-ranks-2
-slice-aggregate-deal-ranks-2 c = sym (zeros-front 512 _ (c .before .before .before .before .before .before .before .before .before .before .before .before .before .before .pre .0 .of-nodes .few))
+slice-aggregate-deal-ranks c = sym (zeros-front 512 _ (c .before .before .before .before .before .before .before .before .before .before .before .before .before .pre .0 .of-nodes .few))
 
 array-borrow-prefix-pcapmins : tie.Need-array-borrow-prefix-pcapmins
 array-borrow-prefix-pcapmins c = search needs
 
-slice-aggregate-deal-ranks-3 : tie.Need-slice-aggregate-deal-ranks-3
-slice-aggregate-deal-ranks-3 c = sym (zeros-front 512 _ (c .before .before .before .before .before .before .before .before .before .before .before .before .before .before .before .pre .0 .of-nodes .few))
+slice-aggregate-deal-ranks-2 : tie.Need-slice-aggregate-deal-ranks-2
+slice-aggregate-deal-ranks-2 c = sym (zeros-front 512 _ (c .before .before .before .before .before .before .before .before .before .before .before .before .before .before .pre .0 .of-nodes .few))
 
 array-borrow-prefix-wholes : tie.Need-array-borrow-prefix-wholes
 array-borrow-prefix-wholes c = search needs
 
-slice-aggregate-deal-ranks-4 : tie.Need-slice-aggregate-deal-ranks-4
-slice-aggregate-deal-ranks-4 c = sym (zeros-front 512 _ (c .before .before .before .before .before .before .before .before .before .before .before .before .before .before .before .before .pre .0 .of-nodes .few))
+slice-aggregate-deal-ranks-3 : tie.Need-slice-aggregate-deal-ranks-3
+slice-aggregate-deal-ranks-3 c = sym (zeros-front 512 _ (c .before .before .before .before .before .before .before .before .before .before .before .before .before .before .before .pre .0 .of-nodes .few))
 
 array-borrow-prefix-amounts : tie.Need-array-borrow-prefix-amounts
 array-borrow-prefix-amounts c = search needs
 
-slice-aggregate-deal-ranks-5 : tie.Need-slice-aggregate-deal-ranks-5
-slice-aggregate-deal-ranks-5 c = sym (zeros-front 512 _ (c .before .before .before .before .before .before .before .before .before .before .before .before .before .before .before .before .before .pre .0 .of-nodes .few))
+slice-aggregate-deal-ranks-4 : tie.Need-slice-aggregate-deal-ranks-4
+slice-aggregate-deal-ranks-4 c = sym (zeros-front 512 _ (c .before .before .before .before .before .before .before .before .before .before .before .before .before .before .before .before .pre .0 .of-nodes .few))
 
 array-borrow-prefix-before : tie.Need-array-borrow-prefix-before
 array-borrow-prefix-before c = search needs
 
-slice-aggregate-deal-ranks-6 : tie.Need-slice-aggregate-deal-ranks-6
-slice-aggregate-deal-ranks-6 c = sym (zeros-front 512 _ (c .before .before .before .before .before .before .before .before .before .before .before .before .before .before .before .before .before .before .pre .0 .of-nodes .few))
+slice-aggregate-deal-ranks-5 : tie.Need-slice-aggregate-deal-ranks-5
+slice-aggregate-deal-ranks-5 c = sym (zeros-front 512 _ (c .before .before .before .before .before .before .before .before .before .before .before .before .before .before .before .before .before .pre .0 .of-nodes .few))
 
 array-borrow-prefix-dealt : tie.Need-array-borrow-prefix-dealt
 array-borrow-prefix-dealt c = search needs
 
-slice-aggregate-deal-ranks-7 : tie.Need-slice-aggregate-deal-ranks-7
-slice-aggregate-deal-ranks-7 c = sym (zeros-front 512 _ (c .before .before .before .before .before .before .before .before .before .before .before .before .before .before .before .before .before .before .before .pre .0 .of-nodes .few))
+slice-aggregate-deal-ranks-6 : tie.Need-slice-aggregate-deal-ranks-6
+slice-aggregate-deal-ranks-6 c = sym (zeros-front 512 _ (c .before .before .before .before .before .before .before .before .before .before .before .before .before .before .before .before .before .before .pre .0 .of-nodes .few))
 
 deal-ranks-requires : tie.Need-deal-ranks-requires
 deal-ranks-requires c κs =
-    let pre = c .before .before .before .before .before .before .before .before .before .before .before .before .before .before .before .before .before .before .before .before .pre in
+    let pre = c .before .before .before .before .before .before .before .before .before .before .before .before .before .before .before .before .before .before .before .pre in
     let size = zeros-front 512 _ (pre .0 .of-nodes .few) in
-    (pre .0, ((pre .1 .0, pre .1 .1, size), (record { left-size = size; pcapmins-size = size; wholes-size = size; amounts-size = size; before-size = size; dealt-size = size }, (zeros-rows, zeros-cells))))
+    (pre .0, (pre .1, (record { left-size = size; pcapmins-size = size; wholes-size = size; amounts-size = size; before-size = size; dealt-size = size }, (zeros-rows 512 16, zeros-cells))))
 
 same-length : tie.Need-same-length
 same-length c = search needs
@@ -63,20 +57,18 @@ pub deal-spec : {M : Type 1} → statement M
 deal-spec =
     tie.close
     (tie.spec
-    array-borrow-prefix-active
-    slice-aggregate-deal-ranks
     array-borrow-prefix-left
-    slice-aggregate-deal-ranks-2
+    slice-aggregate-deal-ranks
     array-borrow-prefix-pcapmins
-    slice-aggregate-deal-ranks-3
+    slice-aggregate-deal-ranks-2
     array-borrow-prefix-wholes
-    slice-aggregate-deal-ranks-4
+    slice-aggregate-deal-ranks-3
     array-borrow-prefix-amounts
-    slice-aggregate-deal-ranks-5
+    slice-aggregate-deal-ranks-4
     array-borrow-prefix-before
-    slice-aggregate-deal-ranks-6
+    slice-aggregate-deal-ranks-5
     array-borrow-prefix-dealt
-    slice-aggregate-deal-ranks-7
+    slice-aggregate-deal-ranks-6
     deal-ranks-requires
     same-length
     returns)

@@ -1,7 +1,6 @@
 -- The turns of a rank's dealing to the cords, in table order: a cord of the rank is served by its node, every other is passed over.
 use mathlib.Core.Path.{_≡_, refl, sym, ap, ap₂, subst, _∙_}
 use mathlib.Core.List.{List}
-use mathlib.Core.Bool.{Bool, true, false}
 use Prim.Native.Nat.{ℕ, suc, _+_, _*_, _-_, _/_, _≤_, _<_}
 use native.Mathlib.Nat.{le-trans, add-zero, add-assoc}
 use native.Mathlib.Numerals.{add-one}
@@ -16,23 +15,20 @@ use Rattle.rooms.specs.Table.{mostWatts, mostCords}
 use Rattle.rooms.proofs.Sums.{on-yes, on-no, sum-suc, sum-none}
 use Rattle.deals.specs.Figures.{at}
 use Rattle.deals.specs.Split.{part}
-use Rattle.deals.specs.Passes.{NextOf, CordLists, cordsBefore, CordsDealt}
+use Rattle.deals.specs.Passes.{NextOf, CordLists, HasCord, cordsBefore, CordsDealt}
 use Rattle.deals.proofs.Links.{skipped}
+use Rattle.deals.proofs.NodeSums.{on-zero}
 use Rattle.deals.proofs.Splits.{part-le}
 use Rattle.deals.proofs.Serving.{sum-within, MayServe, HasServed, Served, served-same, served-part, served-next, may-serve}
-
-on-none : (t : Bool) → on t 0 ≡ 0
-on-none true = refl
-on-none false = refl
 
 -- What the pass takes of the cords and of their nodes.
 pub record CordsReady (nodes levels lows wants : List ℕ) (level : ℕ) (wholes amounts before₀ : List ℕ) : Type 0 where
   pub cords : CordLists (length amounts) nodes levels lows wants
   pub wholes-size : length wholes ≡ length amounts
-  pub amount-most : (n : ℕ) → n < length amounts → at amounts n ≤ mostWatts
-  pub amount-inside : (n : ℕ) → n < length amounts → at amounts n ≤ at wholes n
-  pub wholes-most : (n : ℕ) → n < length amounts → at wholes n ≤ mostCords * mostWatts
-  pub room : (n : ℕ) → n < length amounts → at before₀ n + cordsBefore nodes levels lows wants level n (length nodes) ≤ at wholes n
+  pub amount-most : (n : ℕ) → HasCord nodes levels level n → at amounts n ≤ mostWatts
+  pub amount-inside : (n : ℕ) → HasCord nodes levels level n → at amounts n ≤ at wholes n
+  pub wholes-most : (n : ℕ) → HasCord nodes levels level n → at wholes n ≤ mostCords * mostWatts
+  pub room : (n : ℕ) → HasCord nodes levels level n → at before₀ n + cordsBefore nodes levels lows wants level n (length nodes) ≤ at wholes n
 
 -- The weights served at the node at place n: those before the pass, and of the cords of the rank that stand before place c.
 abbrev pub weightsBefore : List ℕ → List ℕ → List ℕ → List ℕ → ℕ → List ℕ → ℕ → ℕ → ℕ
@@ -51,14 +47,14 @@ pub record CordTurn (nodes levels lows wants : List ℕ) (level : ℕ) (wholes a
   pub grants-size : length grants ≡ length nodes
   pub ours : (h : ℕ) → h < c → CordDealt nodes levels lows wants level wholes amounts before₀ grants h
   pub others : (h : ℕ) → (h < c → at levels h ≡ level → ⊥) → at grants h ≡ at grants₀ h
-  pub served : Served (length amounts) (at wholes) amounts (weightsBefore nodes levels lows wants level before₀ c) before dealt
+  pub served : Served (length amounts) (HasCord nodes levels level) (at wholes) amounts (weightsBefore nodes levels lows wants level before₀ c) before dealt
 
 module _ {nodes levels lows wants : List ℕ} {level : ℕ} {wholes amounts before₀ grants₀ : List ℕ} where
   pub cords-start : {dealt₀ : List ℕ} → CordsReady nodes levels lows wants level wholes amounts before₀
       → length grants₀ ≡ length nodes
       → length before₀ ≡ length amounts
       → length dealt₀ ≡ length amounts
-      → ((n : ℕ) → n < length amounts → at dealt₀ n ≡ at amounts n * at before₀ n / at wholes n)
+      → ((n : ℕ) → HasCord nodes levels level n → at dealt₀ n ≡ at amounts n * at before₀ n / at wholes n)
       → CordTurn nodes levels lows wants level wholes amounts before₀ grants₀ 0 before₀ dealt₀ grants₀
   cords-start ready size b d dealt-is =
       record {
@@ -106,7 +102,7 @@ module _ {nodes levels lows wants : List ℕ} {level : ℕ} {wholes amounts befo
           served = served-same (turn .served) (weightsBefore nodes levels lows wants level before₀ (c + 1))
               (λ n. weights-next n
               ∙ ap (λ (y : ℕ). weightsBefore nodes levels lows wants level before₀ c n + y)
-              (ap (on (eqb (at nodes c) (suc n))) (on-no (eqb (at levels c) level) (at wants c - at lows c) (ne-eqb (at levels c) level other)) ∙ on-none (eqb (at nodes c) (suc n)))
+              (on-zero (eqb (at nodes c) (suc n)) _ (on-no (eqb (at levels c) level) (at wants c - at lows c) (ne-eqb (at levels c) level other)))
               ∙ add-zero (weightsBefore nodes levels lows wants level before₀ c n))
               refl refl;
         }
@@ -120,6 +116,9 @@ module _ {nodes levels lows wants : List ℕ} {level : ℕ} {wholes amounts befo
       node-within = omega (arith, hangs, turn .ready .cords .within c more)
 
       module _ (rank : ℕ) (rank-is : rank ≡ at levels c) (ours-is : rank ≡ level) (w : ℕ) (w-is : w ≡ at wants c - at lows c) where
+        here : HasCord nodes levels level (node - 1)
+        here = record { cord = c; within = more; ranked = sym rank-is ∙ ours-is; hangs = hangs }
+
         weight-on : (n : ℕ) → on (eqb (at nodes c) (suc n)) (on (eqb (at levels c) level) (at wants c - at lows c)) ≡ on (eqb (suc (node - 1)) (suc n)) w
         weight-on n = ap₂ (λ (k y : ℕ). on (eqb k (suc n)) y) hangs (on-yes (eqb (at levels c) level) (at wants c - at lows c) (eq-eqb (at levels c) level (sym rank-is ∙ ours-is)) ∙ sym w-is)
 
@@ -130,25 +129,25 @@ module _ {nodes levels lows wants : List ℕ} {level : ℕ} {wholes amounts befo
               sum-within c (length nodes) (λ h. on (eqb (at nodes h) (suc (node - 1))) (on (eqb (at levels h) level) (at wants h - at lows h))) more,
               weight-on (node - 1),
               on-yes (eqb (suc (node - 1)) (suc (node - 1))) w (eq-eqb (suc (node - 1)) (suc (node - 1)) refl),
-              turn .ready .room (node - 1) node-within,
+              turn .ready .room (node - 1) here,
             )
 
         -- What `serve` asks at the node.
         pub cord-may-serve : MayServe (at amounts (node - 1)) (at wholes (node - 1)) w (node - 1) before dealt
         cord-may-serve =
-            may-serve (turn .served) (node - 1) w node-within room-for (turn .ready .amount-inside (node - 1) node-within) (turn .ready .amount-most (node - 1) node-within)
-            (turn .ready .wholes-most (node - 1) node-within)
+            may-serve (turn .served) (node - 1) w node-within here room-for (turn .ready .amount-inside (node - 1) here) (turn .ready .amount-most (node - 1) here)
+            (turn .ready .wholes-most (node - 1) here)
 
         module _ {watts : ℕ} {before′ dealt′ : List ℕ} (has : HasServed (at amounts (node - 1)) (at wholes (node - 1)) w (node - 1) before dealt watts before′ dealt′) where
           watts-is : watts ≡ part (at amounts (node - 1)) (at wholes (node - 1)) (weightsBefore nodes levels lows wants level before₀ c (node - 1)) w
-          watts-is = has .0 ∙ served-part (turn .served) (node - 1) w node-within
+          watts-is = has .0 ∙ served-part (turn .served) (node - 1) w node-within here
 
           pub watts-most : watts ≤ mostWatts
           watts-most =
               omega (
                 arith,
                 watts-is,
-                part-le (at amounts (node - 1)) (at wholes (node - 1)) (weightsBefore nodes levels lows wants level before₀ c (node - 1)) w (turn .ready .amount-inside (node - 1) node-within),
+                part-le (at amounts (node - 1)) (at wholes (node - 1)) (weightsBefore nodes levels lows wants level before₀ c (node - 1)) w (turn .ready .amount-inside (node - 1) here),
                 w-is,
                 turn .ready .cords .most c more,
               )
@@ -158,7 +157,7 @@ module _ {nodes levels lows wants : List ℕ} {level : ℕ} {wholes amounts befo
           cord-next given {grants′} given-is g =
               let kept : (h : ℕ) → (h ≡ c → ⊥) → at grants′ h ≡ at grants h = λ h z. ap (λ (l : List ℕ). at l h) g ∙ getD-set-other grants c h (at lows c + given) 0 z in
               let stored : at grants′ c ≡ at lows c + given = ap (λ (l : List ℕ). at l c) g ∙ getD-set-same grants c (at lows c + given) 0 (omega (arith, turn .grants-size)) in
-              let here : at grants′ c ≡ at lows c + part (at amounts (node - 1)) (at wholes (node - 1)) (weightsBefore nodes levels lows wants level before₀ c (node - 1)) (at wants c - at lows c)
+              let granted : at grants′ c ≡ at lows c + part (at amounts (node - 1)) (at wholes (node - 1)) (weightsBefore nodes levels lows wants level before₀ c (node - 1)) (at wants c - at lows c)
               = stored
               ∙ ap (λ (y : ℕ). at lows c + y) (given-is ∙ watts-is)
               ∙ ap (λ (y : ℕ). at lows c + part (at amounts (node - 1)) (at wholes (node - 1)) (weightsBefore nodes levels lows wants level before₀ c (node - 1)) y) w-is in
@@ -168,9 +167,9 @@ module _ {nodes levels lows wants : List ℕ} {level : ℕ} {wholes amounts befo
                 grants-size = ap length g ∙ length-set grants c (at lows c + given) ∙ turn .grants-size;
                 ours = below-more (CordDealt nodes levels lows wants level wholes amounts before₀ grants′) c
                     (λ h l n r z. kept h (λ q. omega arith) ∙ turn .ours h l n r z)
-                    (λ n r z. subst (λ (k : ℕ). at grants′ c ≡ at lows c + part (at amounts k) (at wholes k) (weightsBefore nodes levels lows wants level before₀ c k) (at wants c - at lows c)) (omega (arith, hangs)) here);
+                    (λ n r z. subst (λ (k : ℕ). at grants′ c ≡ at lows c + part (at amounts k) (at wholes k) (weightsBefore nodes levels lows wants level before₀ c k) (at wants c - at lows c)) (omega (arith, hangs)) granted);
                 others = λ h z. kept h (λ q. z (omega arith) (ap (at levels) q ∙ sym rank-is ∙ ours-is)) ∙ turn .others h (λ l. z (omega arith));
-                served = served-next (turn .served) (node - 1) w node-within (weightsBefore nodes levels lows wants level before₀ (c + 1))
+                served = served-next (turn .served) (node - 1) w node-within here (weightsBefore nodes levels lows wants level before₀ (c + 1))
                     (λ n. weights-next n ∙ ap (λ (y : ℕ). weightsBefore nodes levels lows wants level before₀ c n + y) (weight-on n))
                     has;
               }

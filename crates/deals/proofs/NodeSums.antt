@@ -59,7 +59,7 @@ on-most : (t : Bool) (a : ℕ) → on t a ≤ a
 on-most true a = omega arith
 on-most false a = omega arith
 
-on-zero : (t : Bool) (a : ℕ) → a ≡ 0 → on t a ≡ 0
+pub on-zero : (t : Bool) (a : ℕ) → a ≡ 0 → on t a ≡ 0
 on-zero true a e = e
 on-zero false a e = refl
 

@@ -18,7 +18,7 @@ use Rattle.rooms.proofs.Trees.{kids, down}
 use Rattle.deals.specs.Figures.{at, cell}
 use Rattle.deals.specs.Metrics.{dealFrom, metrics}
 use Rattle.deals.specs.Dealing.{granted}
-use Rattle.deals.specs.Passes.{NodeLists, CordLists, LowsWithin, Spare, DealLists, LevelLists, Absent, NodeFigures, RankLists, RanksDealt, FullRows, onNode, overChildren, Gathered, cordsBefore, weightOf, NodesDealt, CordsDealt}
+use Rattle.deals.specs.Passes.{NodeLists, CordLists, LowsWithin, Spare, DealLists, LevelLists, Absent, HasCord, NodeFigures, RankLists, RanksDealt, FullRows, onNode, overChildren, Gathered, cordsBefore, weightOf, NodesDealt, CordsDealt}
 use Rattle.deals.proofs.Computed.{request}
 use Rattle.deals.proofs.NodeSums.{kids-none}
 use Rattle.deals.proofs.Links.{chain-of, no-cord}
@@ -162,7 +162,7 @@ module _ {parents limits nodes levels lows wants next : List ℕ} {level from : 
           ))
 
       -- The lists after it.
-      pub dealt-sizes : {amounts₁ before₁ dealt₁ : List ℕ} → NodesDealt parents level rows₁ pcapmins₂ wholes₂ amounts₁ before₁ dealt₁
+      pub dealt-sizes : {amounts₁ before₁ dealt₁ : List ℕ} → NodesDealt parents active count level rows₁ pcapmins₂ wholes₂ amounts₁ before₁ dealt₁
           → length amounts₁ ≡ length amounts → length before₁ ≡ length before → length dealt₁ ≡ length dealt
           → NodeFigures (length parents) left₁ pcapmins₂ wholes₂ amounts₁ before₁ dealt₁
       dealt-sizes nd a b d = record {
@@ -175,7 +175,7 @@ module _ {parents limits nodes levels lows wants next : List ℕ} {level from : 
       }
 
       module _ {amounts₁ before₁ dealt₁ : List ℕ} (sizes₁ : NodeFigures (length parents) left₁ pcapmins₂ wholes₂ amounts₁ before₁ dealt₁)
-          (nd : NodesDealt parents level rows₁ pcapmins₂ wholes₂ amounts₁ before₁ dealt₁) where
+          (nd : NodesDealt parents active count level rows₁ pcapmins₂ wholes₂ amounts₁ before₁ dealt₁) where
         -- What `deal_cords` asks.
         pub cords-lists : CordLists (length amounts₁) nodes levels lows wants
         cords-lists = subst (λ (n : ℕ). CordLists n nodes levels lows wants) (sym (sizes₁ .amounts-size)) cs
@@ -188,16 +188,16 @@ module _ {parents limits nodes levels lows wants next : List ℕ} {level from : 
           given .lists .grants-size,
         )
 
-        pub cords-figures : (n : ℕ) → n < length amounts₁ → (at amounts₁ n ≤ mostWatts) × (at amounts₁ n ≤ at wholes₂ n) × (at wholes₂ n ≤ mostCords * mostWatts)
+        pub cords-figures : (n : ℕ) → HasCord nodes levels level n → (at amounts₁ n ≤ mostWatts) × (at amounts₁ n ≤ at wholes₂ n) × (at wholes₂ n ≤ mostCords * mostWatts)
             × (at dealt₁ n ≡ at amounts₁ n * at before₁ n / at wholes₂ n)
-        cords-figures n l =
+        cords-figures n has =
             cords-ask parents limits nodes levels lows wants ns cs lw level left grants state pcapmins₁ wholes₁ (sums .on-lows) (sums .on-excesses) rows rows₁ left₁ pcapmins₂ wholes₂ g
-            amounts₁ before₁ dealt₁ nd n (omega (arith, sizes₁ .amounts-size))
+            active count (given .nodes-active) (given .cords-active) amounts₁ before₁ dealt₁ nd n has
 
-        pub cords-weights : (n : ℕ) → n < length amounts₁ → at before₁ n + cordsBefore nodes levels lows wants level n (length nodes) ≤ at wholes₂ n
-        cords-weights n l =
+        pub cords-weights : (n : ℕ) → HasCord nodes levels level n → at before₁ n + cordsBefore nodes levels lows wants level n (length nodes) ≤ at wholes₂ n
+        cords-weights n has =
             cords-room parents limits nodes levels lows wants ns cs lw level left grants state pcapmins₁ wholes₁ (sums .on-lows) (sums .on-excesses) rows rows₁ left₁ pcapmins₂ wholes₂ g
-            amounts₁ before₁ dealt₁ nd n (omega (arith, sizes₁ .amounts-size))
+            active count (given .nodes-active) (given .cords-active) amounts₁ before₁ dealt₁ nd n has
 
         -- What the four leave.
         pub rank-dealt : {grants₁ : List ℕ} → CordsDealt nodes levels lows wants level wholes₂ amounts₁ before₁ grants grants₁
@@ -206,7 +206,7 @@ module _ {parents limits nodes levels lows wants next : List ℕ} {level from : 
         rank-dealt {grants₁} cd =
             ranks-dealt parents limits nodes levels lows wants ns cs lw
             (state-turn parents limits nodes levels lows wants ns cs lw level left grants state pcapmins₁ wholes₁ (sums .on-lows) (sums .on-excesses) rows rows₁ left₁ pcapmins₂ wholes₂ g
-            amounts₁ before₁ dealt₁ nd grants₁ cd)
+            active count (given .nodes-active) (given .cords-active) amounts₁ before₁ dealt₁ nd grants₁ cd)
             filled (λ n j l. g .others n j (λ e. omega arith) ∙ given .ranks .blank n j (omega arith)) (g .full)
           where
             filled : (n j : ℕ) → n < length parents → level ≤ j → j < highestRank → cell rows₁ n j ≡ request (dealFrom parents limits nodes levels lows wants) n j

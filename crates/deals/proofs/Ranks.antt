@@ -21,12 +21,12 @@ use Rattle.deals.specs.Figures.{figures, at, cell}
 use Rattle.deals.specs.Metrics.{Deal, dealFrom, metrics, atLevel}
 use Rattle.deals.specs.Split.{part}
 use Rattle.deals.specs.Dealing.{granted, reached}
-use Rattle.deals.specs.Passes.{NodeLists, CordLists, lowsUnder, LowsWithin, Spare, onNode, childrenBefore, overChildren, cordsBefore, weightOf, Gathered, NodesDealt, CordsDealt, FullRows, RanksDealt}
+use Rattle.deals.specs.Passes.{NodeLists, CordLists, lowsUnder, LowsWithin, Spare, Present, ActiveNodes, HasCord, CordsActive, onNode, childrenBefore, overChildren, cordsBefore, weightOf, Gathered, NodesDealt, CordsDealt, FullRows, RanksDealt}
 use Rattle.deals.proofs.Lists.{sum-most, figures-length}
 use Rattle.deals.proofs.Equations.{Dealable, asked, weights, request-asked, pcapmin-all, weights-are}
 use Rattle.deals.proofs.Computed.{pcapmin, request, amountOf, measured, dealt, granted-at}
 use Rattle.deals.proofs.Bounds.{asked-most, request-most}
-use Rattle.deals.proofs.NodeSums.{kids-none}
+use Rattle.deals.proofs.NodeSums.{on-zero, kids-none}
 
 -- ---- One rank of a deal, over functions of the places
 
@@ -61,12 +61,8 @@ module _ (d : Deal) (ok : Dealable d) where
     unfolding own
     own-none f n = sum-cong cords _ _ (λ c l. zero-at c l) ∙ sum-zero cords
       where
-        zero-on : (t : Bool) → on t 0 ≡ 0
-        zero-on true = refl
-        zero-on false = refl
-
         zero-at : (c : ℕ) → c < cords → on (eqb (node c) (suc n)) (atLevel d j f c) ≡ 0
-        zero-at c l = ap (λ (z : ℕ). on (eqb (node c) (suc n)) z) (on-no (eqb (level c) j) (f c) (ne-eqb (level c) j (none c l))) ∙ zero-on (eqb (node c) (suc n))
+        zero-at c l = on-zero (eqb (node c) (suc n)) (atLevel d j f c) (on-no (eqb (level c) j) (f c) (ne-eqb (level c) j (none c l)))
 
     pub pcapmin-none : (n : ℕ) → n < nodes → pcapmin d n j ≡ 0
     pcapmin-none = down nodes (λ n. pcapmin d n j ≡ 0) (λ n l ih.
@@ -280,34 +276,45 @@ module _ (parents limits nodes levels lows wants : List ℕ) (ns : NodeLists par
           let q = g .request n l in
           (omega arith, omega arith, omega arith, omega arith, omega (arith, g .children n l))
 
-      module _ (amounts before dealts : List ℕ) (nd : NodesDealt parents j rows′ pcapmins wholes amounts before dealts) where
-        amounts-are : (m : ℕ) → m < length parents → at amounts m ≡ amountOf theDeal m j
+      module _ (active : List ℕ) (count : ℕ) (nodes-active : ActiveNodes parents active count) (cords-active : CordsActive nodes levels j active count)
+          (amounts before dealts : List ℕ) (nd : NodesDealt parents active count j rows′ pcapmins wholes amounts before dealts) where
+        -- From each parent to its children: the parent of an active node is active too.
+        amounts-are : (m : ℕ) → m < length parents → Present active count m → at amounts m ≡ amountOf theDeal m j
         unfolding dealFrom
-        amounts-are = rise (length parents) (λ m. at amounts m ≡ amountOf theDeal m j) (λ m l ih. go m l ih (at parents m) refl)
+        amounts-are = rise (length parents) (λ m. Present active count m → at amounts m ≡ amountOf theDeal m j) (λ m l ih some. go m l ih some (at parents m) refl)
           where
-            go : (m : ℕ) → m < length parents → ((i : ℕ) → i < m → at amounts i ≡ amountOf theDeal i j) → (v : ℕ) → at parents m ≡ v → at amounts m ≡ amountOf theDeal m j
-            go m l ih zero e = nd .root m l e ∙ weight-is m l ∙ sym (dealt theDeal dealable .root m j l e)
-            go m l ih (suc n) e =
+            go : (m : ℕ) → m < length parents → ((i : ℕ) → i < m → Present active count i → at amounts i ≡ amountOf theDeal i j) → Present active count m → (v : ℕ) → at parents m ≡ v → at amounts m ≡ amountOf theDeal m j
+            go m l ih some zero e = nd .root m l some e ∙ weight-is m l ∙ sym (dealt theDeal dealable .root m j l e)
+            go m l ih some (suc n) e =
                 let u : n < m = subst (λ (z : ℕ). z ≤ m) e (ns .rises m l) in
-                nd .inner m n l e
+                nd .inner m n l some e
                 ∙ ap (λ (z : ℕ). part (at amounts n) (at wholes n) (childrenBefore parents (weightOf rows′ j pcapmins) n m) z) (weight-is m l)
                 ∙ ap (λ (z : ℕ). part (at amounts n) (at wholes n) z (req m j - pcap m j)) (children-is n m (omega arith))
-                ∙ ap₂ (λ (x w : ℕ). part x w (sum m (λ h. on (eqb (at parents h) (suc n)) (req h j - pcap h j))) (req m j - pcap m j)) (ih n u) (whole-is n (omega arith))
+                ∙ ap₂ (λ (x w : ℕ). part x w (sum m (λ h. on (eqb (at parents h) (suc n)) (req h j - pcap h j))) (req m j - pcap m j)) (ih n u (λ none. some (nodes-active .closed m n l e none))) (whole-is n (omega arith))
                 ∙ sym (dealt theDeal dealable .inner m n j l e)
 
-        served-is : (n : ℕ) → n < length parents → at before n ≡ kids (length parents) (at parents) n (λ m. req m j - pcap m j)
+        served-is : (n : ℕ) → n < length parents → Present active count n → at before n ≡ kids (length parents) (at parents) n (λ m. req m j - pcap m j)
         unfolding kids
-        served-is n l = nd .served n l ∙ children-is n (length parents) (le-refl (length parents))
+        served-is n l some = nd .served n l some ∙ children-is n (length parents) (le-refl (length parents))
 
-        pub cords-ask : (n : ℕ) → n < length parents → (at amounts n ≤ mostWatts) × (at amounts n ≤ at wholes n) × (at wholes n ≤ mostCords * mostWatts)
+        -- A node with a cord of the level on it is active.
+        module _ (n : ℕ) (has : HasCord nodes levels j n) where
+          there : n < length parents
+          there = omega (arith, cs .within (has .cord) (has .within), has .hangs)
+
+          some : Present active count n
+          some = cords-active (has .cord) n (has .within) (has .ranked) (has .hangs)
+
+        pub cords-ask : (n : ℕ) → HasCord nodes levels j n → (at amounts n ≤ mostWatts) × (at amounts n ≤ at wholes n) × (at wholes n ≤ mostCords * mostWatts)
             × (at dealts n ≡ at amounts n * at before n / at wholes n)
-        cords-ask n l =
-            let asks = nodes-ask n l in
-            (omega (arith, nd .most n l, asks .1), omega (arith, nd .most n l, asks .2), asks .3, nd .dealt-is n l)
+        cords-ask n has =
+            let asks = nodes-ask n (there n has) in
+            let most = nd .most n (there n has) (some n has) in
+            (omega (arith, most, asks .1), omega (arith, most, asks .2), asks .3, nd .dealt-is n (there n has) (some n has))
 
-        pub cords-room : (n : ℕ) → n < length parents → at before n + cordsBefore nodes levels lows wants j n (length nodes) ≤ at wholes n
+        pub cords-room : (n : ℕ) → HasCord nodes levels j n → at before n + cordsBefore nodes levels lows wants j n (length nodes) ≤ at wholes n
         unfolding dealFrom weights own
-        cords-room n l = omega (arith, served-is n l, whole-is n l)
+        cords-room n has = omega (arith, served-is n (there n has) (some n has), whole-is n (there n has))
 
         -- What reaches a cord of this level.
         reached-is : (c n i : ℕ) → c < length nodes → at nodes c ≡ suc n → at levels c ≡ i
@@ -352,7 +359,7 @@ module _ (parents limits nodes levels lows wants : List ℕ) (ns : NodeLists par
                   ours c n l e q ln =
                       cd .ours c n l e q
                       ∙ ap (λ (z : ℕ). at lows c + z)
-                      (ap₂ (λ (x w : ℕ). part x w (at before n + cordsBefore nodes levels lows wants j n c) (at wants c - at lows c)) (amounts-are n ln) (whole-is n ln)
-                      ∙ ap (λ (z : ℕ). part (amountOf theDeal n j) (weights theDeal pcap req n j) (z + cordsBefore nodes levels lows wants j n c) (at wants c - at lows c)) (served-is n ln)
+                      (ap₂ (λ (x w : ℕ). part x w (at before n + cordsBefore nodes levels lows wants j n c) (at wants c - at lows c)) (amounts-are n ln (cords-active c n l e q)) (whole-is n ln)
+                      ∙ ap (λ (z : ℕ). part (amountOf theDeal n j) (weights theDeal pcap req n j) (z + cordsBefore nodes levels lows wants j n c) (at wants c - at lows c)) (served-is n ln (cords-active c n l e q))
                       ∙ sym (reached-is c n j l q e))
                       ∙ sym (granted-at theDeal dealable c l)

@@ -6,15 +6,15 @@ use Prim.Native.Nat.{ℕ, suc, _+_, _*_, _-_, _/_, _^_, _≤_, _<_}
 use native.Mathlib.Nat.{mul-zero, sub-zero, zero-div, mul-le-mul, lt-of-le-of-lt}
 use native.Mathlib.Omega.{arith}
 use lib.Dec.{eqb, lit<}
-use lib.ListN.{length, set, replicate, length-set, length-replicate, getD-replicate}
-use lib.Seq.{set-getD, getD-set-same, getD-set-other}
+use lib.ListN.{length, set, length-set}
+use lib.Seq.{getD-set-same, getD-set-other}
 use borrow.Author.Tests.{eq-eqb, ne-eqb, eqb-true, eqb-false}
 use Rattle.rooms.specs.Sums.{on, sum}
 use Rattle.rooms.specs.Table.{mostWatts, mostCords}
 use Rattle.rooms.proofs.Sums.{on-yes, on-no, sum-suc, sum-up}
 use Rattle.deals.specs.Figures.{at}
 use Rattle.deals.specs.Split.{part}
-use Rattle.deals.proofs.Splits.{part-none, part-whole}
+use Rattle.deals.proofs.Splits.{part-whole}
 
 -- ---- One child
 
@@ -26,17 +26,6 @@ MayServe x e w p before dealt =
 abbrev pub HasServed : ℕ → ℕ → ℕ → ℕ → List ℕ → List ℕ → ℕ → List ℕ → List ℕ → Type 0
 HasServed x e w p before dealt watts before′ dealt′ =
     (watts ≡ part x e (at before p) w) × ((before′ ≡ set before p (at before p + w)) × (dealt′ ≡ set dealt p (x * (at before p + w) / e)))
-
--- A child of weight 0 gets nothing and changes nothing.
-pub serve-none : (x e w p : ℕ) (before dealt : List ℕ) → at dealt p ≡ x * at before p / e → w ≡ 0 → HasServed x e w p before dealt 0 before dealt
-serve-none x e w p before dealt dealt-is z =
-    let a : at before p + w ≡ at before p = omega arith in (
-      sym (ap (part x e (at before p)) z ∙ part-none x e (at before p)),
-      (
-        sym (ap (set before p) a ∙ set-getD before p 0),
-        sym (ap (λ (y : ℕ). set dealt p (x * y / e)) a ∙ ap (set dealt p) (sym dealt-is) ∙ set-getD dealt p 0),
-      ),
-    )
 
 -- Nothing is dealt where nothing was served.
 dealt-none : (x e b : ℕ) → b ≡ 0 → x * b / e ≡ 0
@@ -59,36 +48,17 @@ serve-some x e w p before dealt dealt-is watts-are given-is = (given-is ∙ ap�
 
 -- ---- The children served so far
 
--- Of each node: the weights of its children that were served, and the watts dealt to them.
-pub record Served (count : ℕ) (whole : ℕ → ℕ) (amounts : List ℕ) (weights : ℕ → ℕ) (before dealt : List ℕ) : Type 0 where
+-- Of each node of some: the weights of its children that were served, and the watts dealt to them.
+pub record Served (count : ℕ) (some : ℕ → Type 0) (whole : ℕ → ℕ) (amounts : List ℕ) (weights : ℕ → ℕ) (before dealt : List ℕ) : Type 0 where
   pub before-size : length before ≡ count
   pub dealt-size : length dealt ≡ count
-  pub before-is : (n : ℕ) → n < count → at before n ≡ weights n
-  pub dealt-is : (n : ℕ) → n < count → at dealt n ≡ at amounts n * at before n / whole n
+  pub before-is : (n : ℕ) → some n → at before n ≡ weights n
+  pub dealt-is : (n : ℕ) → some n → at dealt n ≡ at amounts n * at before n / whole n
 
-pub cleared-at : (l₀ l : List ℕ) (n : ℕ) → l ≡ replicate (length l₀) 0 → n < length l₀ → at l n ≡ 0
-cleared-at l₀ l n e h = ap (λ (k : List ℕ). at k n) e ∙ getD-replicate (length l₀) n 0 0 h
-
-pub served-none : (count : ℕ) (whole : ℕ → ℕ) (amounts : List ℕ) (weights : ℕ → ℕ) (before₀ dealt₀ : List ℕ) {before dealt : List ℕ}
-    → length before₀ ≡ count
-    → length dealt₀ ≡ count
-    → before ≡ replicate (length before₀) 0
-    → dealt ≡ replicate (length dealt₀) 0
-    → ((n : ℕ) → weights n ≡ 0)
-    → Served count whole amounts weights before dealt
-served-none count whole amounts weights before₀ dealt₀ {before} {dealt} b d b-is d-is z =
-    let at-before : (n : ℕ) → n < count → at before n ≡ 0 = λ n h. cleared-at before₀ before n b-is (omega arith) in
-    record {
-      before-size = ap length b-is ∙ length-replicate (length before₀) 0 ∙ b;
-      dealt-size = ap length d-is ∙ length-replicate (length dealt₀) 0 ∙ d;
-      before-is = λ n h. at-before n h ∙ sym (z n);
-      dealt-is = λ n h. cleared-at dealt₀ dealt n d-is (omega arith) ∙ sym (dealt-none (at amounts n) (whole n) (at before n) (at-before n h));
-    }
-
-module _ {count : ℕ} {whole : ℕ → ℕ} {amounts : List ℕ} {weights : ℕ → ℕ} {before dealt : List ℕ} (is : Served count whole amounts weights before dealt) where
+module _ {count : ℕ} {some : ℕ → Type 0} {whole : ℕ → ℕ} {amounts : List ℕ} {weights : ℕ → ℕ} {before dealt : List ℕ} (is : Served count some whole amounts weights before dealt) where
   -- Nothing is served.
   pub served-same : (weights′ : ℕ → ℕ) {before′ dealt′ : List ℕ} → ((n : ℕ) → weights′ n ≡ weights n) → before′ ≡ before → dealt′ ≡ dealt
-      → Served count whole amounts weights′ before′ dealt′
+      → Served count some whole amounts weights′ before′ dealt′
   served-same weights′ e b d =
       record {
         before-size = ap length b ∙ is .before-size;
@@ -98,7 +68,7 @@ module _ {count : ℕ} {whole : ℕ → ℕ} {amounts : List ℕ} {weights : ℕ
       }
 
   -- The amount of a node may be set while none of its children is served.
-  pub served-amount : (m a : ℕ) {amounts′ : List ℕ} → amounts′ ≡ set amounts m a → weights m ≡ 0 → Served count whole amounts′ weights before dealt
+  pub served-amount : (m a : ℕ) {amounts′ : List ℕ} → amounts′ ≡ set amounts m a → weights m ≡ 0 → Served count some whole amounts′ weights before dealt
   served-amount m a {amounts′} e z =
       record {
         before-size = is .before-size;
@@ -107,37 +77,60 @@ module _ {count : ℕ} {whole : ℕ → ℕ} {amounts : List ℕ} {weights : ℕ
         dealt-is = λ n h. is .dealt-is n h ∙ dealt-same n h (eqb n m) refl;
       }
     where
-      dealt-same : (n : ℕ) → n < count → (t : Bool) → eqb n m ≡ t → at amounts n * at before n / whole n ≡ at amounts′ n * at before n / whole n
+      dealt-same : (n : ℕ) → some n → (t : Bool) → eqb n m ≡ t → at amounts n * at before n / whole n ≡ at amounts′ n * at before n / whole n
       dealt-same n h true q =
           let b : at before n ≡ 0 = is .before-is n h ∙ ap weights (eqb-true n m q) ∙ z in
           dealt-none (at amounts n) (whole n) (at before n) b ∙ sym (dealt-none (at amounts′ n) (whole n) (at before n) b)
       dealt-same n h false q =
           ap (λ (y : ℕ). y * at before n / whole n) (sym (ap (λ (l : List ℕ). at l n) e ∙ getD-set-other amounts m n a 0 (eqb-false n m q)))
 
+  -- A node joins them, while none of its children is served.
+  pub served-more : (some′ : ℕ → Type 0) (m : ℕ) → m < count → weights m ≡ 0 → ((n : ℕ) → (n ≡ m → ⊥) → some′ n → some n)
+      → Served count some′ whole amounts weights (set before m 0) (set dealt m 0)
+  served-more some′ m within z others =
+      record {
+        before-size = length-set before m 0 ∙ is .before-size;
+        dealt-size = length-set dealt m 0 ∙ is .dealt-size;
+        before-is = λ n h. here-or-not n h (eqb n m) refl .0;
+        dealt-is = λ n h. here-or-not n h (eqb n m) refl .1;
+      }
+    where
+      here : (at (set before m 0) m ≡ weights m) × (at (set dealt m 0) m ≡ at amounts m * at (set before m 0) m / whole m)
+      here =
+          let b : at (set before m 0) m ≡ 0 = getD-set-same before m 0 0 (omega (arith, is .before-size)) in
+          (b ∙ sym z, getD-set-same dealt m 0 0 (omega (arith, is .dealt-size)) ∙ sym (dealt-none (at amounts m) (whole m) (at (set before m 0) m) b))
+
+      here-or-not : (n : ℕ) → some′ n → (t : Bool) → eqb n m ≡ t → (at (set before m 0) n ≡ weights n) × (at (set dealt m 0) n ≡ at amounts n * at (set before m 0) n / whole n)
+      here-or-not n h true q = subst (λ (k : ℕ). (at (set before m 0) k ≡ weights k) × (at (set dealt m 0) k ≡ at amounts k * at (set before m 0) k / whole k)) (sym (eqb-true n m q)) here
+      here-or-not n h false q =
+          let old = others n (eqb-false n m q) h in
+          let b : at (set before m 0) n ≡ at before n = getD-set-other before m n 0 0 (eqb-false n m q) in
+          (b ∙ is .before-is n old, getD-set-other dealt m n 0 0 (eqb-false n m q) ∙ is .dealt-is n old ∙ ap (λ (y : ℕ). at amounts n * y / whole n) (sym b))
+
   -- The next child of the node at place p.
-  module _ (p w : ℕ) (within : p < count) where
+  module _ (p w : ℕ) (within : p < count) (is-some : some p) where
     -- What `serve` asks.
     pub may-serve : weights p + w ≤ whole p → at amounts p ≤ whole p → at amounts p ≤ mostWatts → whole p ≤ mostCords * mostWatts → MayServe (at amounts p) (whole p) w p before dealt
     may-serve room inside most few = (
       (
         omega (arith, is .before-size),
         omega (arith, is .dealt-size),
-        omega (arith, is .before-is p within),
+        omega (arith, is .before-is p is-some),
         inside,
         lt-of-le-of-lt (mul-le-mul most few) (lit< tt),
         lt-of-le-of-lt few (lit< tt),
       ),
-      is .dealt-is p within,
+      is .dealt-is p is-some,
     )
 
     pub served-part : part (at amounts p) (whole p) (at before p) w ≡ part (at amounts p) (whole p) (weights p) w
-    served-part = ap (λ (b : ℕ). part (at amounts p) (whole p) b w) (is .before-is p within)
+    served-part = ap (λ (b : ℕ). part (at amounts p) (whole p) b w) (is .before-is p is-some)
 
     -- What `serve` leaves.
     pub served-next : (weights′ : ℕ → ℕ) {watts : ℕ} {before′ dealt′ : List ℕ}
         → ((n : ℕ) → weights′ n ≡ weights n + on (eqb (suc p) (suc n)) w)
         → HasServed (at amounts p) (whole p) w p before dealt watts before′ dealt′
-        → Served count whole amounts weights′ before′ dealt′
+        → Served count some whole amounts weights′ before′ dealt′
     served-next weights′ {watts} {before′} {dealt′} more has =
         record {
           before-size = ap length (has .1 .0) ∙ length-set before p (at before p + w) ∙ is .before-size;
@@ -149,13 +142,13 @@ module _ {count : ℕ} {whole : ℕ → ℕ} {amounts : List ℕ} {weights : ℕ
         here : (at before′ p ≡ weights′ p) × (at dealt′ p ≡ at amounts p * at before′ p / whole p)
         here =
             let b-is : at before′ p ≡ at before p + w = ap (λ (l : List ℕ). at l p) (has .1 .0) ∙ getD-set-same before p (at before p + w) 0 (omega (arith, is .before-size)) in (
-              omega (arith, is .before-is p within, more p, on-yes (eqb (suc p) (suc p)) w (eq-eqb (suc p) (suc p) refl)),
+              omega (arith, is .before-is p is-some, more p, on-yes (eqb (suc p) (suc p)) w (eq-eqb (suc p) (suc p) refl)),
               ap (λ (l : List ℕ). at l p) (has .1 .1)
                   ∙ getD-set-same dealt p (at amounts p * (at before p + w) / whole p) 0 (omega (arith, is .dealt-size))
                   ∙ ap (λ (y : ℕ). at amounts p * y / whole p) (sym b-is),
             )
 
-        here-or-not : (n : ℕ) → n < count → (t : Bool) → eqb n p ≡ t → (at before′ n ≡ weights′ n) × (at dealt′ n ≡ at amounts n * at before′ n / whole n)
+        here-or-not : (n : ℕ) → some n → (t : Bool) → eqb n p ≡ t → (at before′ n ≡ weights′ n) × (at dealt′ n ≡ at amounts n * at before′ n / whole n)
         here-or-not n h true q = subst (λ (k : ℕ). (at before′ k ≡ weights′ k) × (at dealt′ k ≡ at amounts k * at before′ k / whole k)) (sym (eqb-true n p q)) here
         here-or-not n h false q =
             let b-is : at before′ n ≡ at before n = ap (λ (l : List ℕ). at l n) (has .1 .0) ∙ getD-set-other before p n (at before p + w) 0 (eqb-false n p q) in (

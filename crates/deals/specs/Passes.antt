@@ -83,6 +83,13 @@ pub record ChainOf (levels next : List ℕ) (level from : ℕ) : Type 0 where
   pub start : NextOf levels level 0 from
   pub nexts : (c : ℕ) → c < length levels → NextOf levels (at levels c) (c + 1) (at next c)
 
+-- A cord of the level hangs on the node at place n.
+pub record HasCord (nodes levels : List ℕ) (level n : ℕ) : Type 0 where
+  pub cord : ℕ
+  pub within : cord < length nodes
+  pub ranked : at levels cord ≡ level
+  pub hangs : at nodes cord ≡ suc n
+
 -- The mark of a level, one bit, is among a node's marks.
 abbrev pub Marked : ℕ → ℕ → Type 0
 Marked marks level = marks / 2 ^ level % 2 ≡ 1
@@ -101,6 +108,10 @@ pub record NodeMarks (parents nodes levels marks : List ℕ) : Type 0 where
 -- A place that the first `count` entries of a list do not have.
 abbrev pub Absent : List ℕ → ℕ → ℕ → Type 0
 Absent list count n = (i : ℕ) → i < count → at list i ≡ n → ⊥
+
+-- A place that they do have.
+abbrev pub Present : List ℕ → ℕ → ℕ → Type 0
+Present list count n = Absent list count n → ⊥
 
 -- The first `count` entries of a list are the places that are marked with a level, in order.
 pub record Listed (marks : List ℕ) (level : ℕ) (list : List ℕ) (count : ℕ) : Type 0 where
@@ -288,14 +299,14 @@ pub record Gathered (parents : List ℕ) (level : ℕ) (left lows excesses : Lis
 
 -- ---- Dealing a rank from the first node to the last, then to the cords
 
--- What each node has to give, the weights of its child nodes, and what these were dealt together.
-pub record NodesDealt (parents : List ℕ) (level : ℕ) (rows : List (List ℕ)) (pcapmins wholes amounts before dealt : List ℕ) : Type 0 where
-  pub root : (m : ℕ) → m < length parents → at parents m ≡ 0 → at amounts m ≡ weightOf rows level pcapmins m
-  pub inner : (m n : ℕ) → m < length parents → at parents m ≡ suc n
+-- What each active node has to give, the weights of its child nodes, and what these were dealt together.
+pub record NodesDealt (parents active : List ℕ) (count level : ℕ) (rows : List (List ℕ)) (pcapmins wholes amounts before dealt : List ℕ) : Type 0 where
+  pub root : (m : ℕ) → m < length parents → Present active count m → at parents m ≡ 0 → at amounts m ≡ weightOf rows level pcapmins m
+  pub inner : (m n : ℕ) → m < length parents → Present active count m → at parents m ≡ suc n
       → at amounts m ≡ part (at amounts n) (at wholes n) (childrenBefore parents (weightOf rows level pcapmins) n m) (weightOf rows level pcapmins m)
-  pub most : (m : ℕ) → m < length parents → at amounts m ≤ weightOf rows level pcapmins m
-  pub served : (n : ℕ) → n < length parents → at before n ≡ overChildren parents (weightOf rows level pcapmins) n
-  pub dealt-is : (n : ℕ) → n < length parents → at dealt n ≡ at amounts n * at before n / at wholes n
+  pub most : (m : ℕ) → m < length parents → Present active count m → at amounts m ≤ weightOf rows level pcapmins m
+  pub served : (n : ℕ) → n < length parents → Present active count n → at before n ≡ overChildren parents (weightOf rows level pcapmins) n
+  pub dealt-is : (n : ℕ) → n < length parents → Present active count n → at dealt n ≡ at amounts n * at before n / at wholes n
 
 -- The grants after a rank: a cord of it has its low and its part of its node's amount, every other what it had.
 pub record CordsDealt (nodes levels lows wants : List ℕ) (level : ℕ) (wholes amounts before grants grants′ : List ℕ) : Type 0 where

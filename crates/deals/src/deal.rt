@@ -23,9 +23,9 @@ fn copy(from: &[u64], to: &mut [u64])
     }
 }
 
-// One rank of a deal, over its cords and its active nodes: the Requests are gathered and the excesses dealt. `pcapmins`, `wholes` (the
-// children's excesses), `amounts`, `before` (weights served) and `dealt` have this rank's figure of each node. (`limits` and `levels`
-// are for the contracts alone.)
+// One rank of a deal, over its cords and its active nodes: the Requests are gathered and the excesses dealt. `pcapmins` and `wholes`
+// (the children's excesses) have this rank's figure of each node; `amounts`, `before` (weights served) and `dealt` that of each active
+// one. (`limits` and `levels` are for the contracts alone.)
 fn deal_rank(
     parents: &[u16],
     limits: &[u32],

@@ -5,8 +5,7 @@ ghost use lib.ListN.{length, set};
 ghost use Rattle.rooms.specs.Table.{mostNodes, mostWatts, mostCords, highestRank};
 ghost use Rattle.deals.specs.Figures.{at, cell};
 ghost use Rattle.deals.specs.Split.{part};
-ghost use Rattle.deals.specs.Passes.{CordLists, ChainOf, weightOf, overChildren, Absent, ActiveNodes, cordsBefore, NodesDealt, CordsDealt};
-use crate::metrics::clear;
+ghost use Rattle.deals.specs.Passes.{CordLists, ChainOf, weightOf, overChildren, Absent, ActiveNodes, HasCord, cordsBefore, NodesDealt, CordsDealt};
 use crate::widths::index;
 use crate::widths::narrow;
 use crate::widths::over;
@@ -43,7 +42,8 @@ fn serve(
     given
 }
 
-// What each node has to give at a level: a root its excess, any other its part of its parent's; one that is not active, nothing.
+// What each active node has to give at a level: a root its excess, any other its part of its parent's. The figures of a node are begun
+// in its own turn, which comes before those of its child nodes; those of a node that is not active are left as they are.
 pub(crate) fn deal_nodes(
     parents: &[u16],
     active: &[u16],
@@ -61,13 +61,12 @@ pub(crate) fn deal_nodes(
     requires { ⌜ ((n : ℕ) → n < length (now parents) → (at (now pcapmins) n ≤ cell (now requests) n level) × (cell (now requests) n level ≤ mostWatts) × (weightOf (now requests) level (now pcapmins) n ≤ at (now wholes) n) × (at (now wholes) n ≤ mostCords * mostWatts) × (overChildren (now parents) (weightOf (now requests) level (now pcapmins)) n ≤ at (now wholes) n)) ⌝ }
     requires { ⌜ ActiveNodes (now parents) (now active) count ⌝ }
     requires { ⌜ ((n : ℕ) → n < length (now parents) → Absent (now active) count n → cell (now requests) n level ≡ 0) ⌝ }
-    ensures { λ _. ⌜ NodesDealt (now (parents .entry)) level (now (requests .entry)) (now (pcapmins .entry)) (now (wholes .entry)) (now (amounts .exit)) (now (before .exit)) (now (dealt .exit)) ⌝ }
+    ensures { λ _. ⌜ NodesDealt (now (parents .entry)) (now (active .entry)) count level (now (requests .entry)) (now (pcapmins .entry)) (now (wholes .entry)) (now (amounts .exit)) (now (before .exit)) (now (dealt .exit)) ⌝ }
 {
-    clear(amounts);
-    clear(before);
-    clear(dealt);
     for i in 0..count {
         let m = index(active[i]);
+        before[m] = 0;
+        dealt[m] = 0;
         let weight = wide(requests[m][level]) - pcapmins[m];
         let parent = index(parents[m]);
         if parent == 0 {
@@ -97,8 +96,8 @@ pub(crate) fn deal_cords(
 )
     requires { ⌜ CordLists (length (now amounts)) (now nodes) (now levels) (now lows) (now wants) ⌝ }
     requires { ⌜ (length (now wholes) ≡ length (now amounts)) × (length (now before) ≡ length (now amounts)) × (length (now dealt) ≡ length (now amounts)) × (length (now grants) ≡ length (now nodes)) ⌝ }
-    requires { ⌜ ((n : ℕ) → n < length (now amounts) → (at (now amounts) n ≤ mostWatts) × (at (now amounts) n ≤ at (now wholes) n) × (at (now wholes) n ≤ mostCords * mostWatts) × (at (now dealt) n ≡ at (now amounts) n * at (now before) n / at (now wholes) n)) ⌝ }
-    requires { ⌜ ((n : ℕ) → n < length (now amounts) → at (now before) n + cordsBefore (now nodes) (now levels) (now lows) (now wants) level n (length (now nodes)) ≤ at (now wholes) n) ⌝ }
+    requires { ⌜ ((n : ℕ) → HasCord (now nodes) (now levels) level n → (at (now amounts) n ≤ mostWatts) × (at (now amounts) n ≤ at (now wholes) n) × (at (now wholes) n ≤ mostCords * mostWatts) × (at (now dealt) n ≡ at (now amounts) n * at (now before) n / at (now wholes) n)) ⌝ }
+    requires { ⌜ ((n : ℕ) → HasCord (now nodes) (now levels) level n → at (now before) n + cordsBefore (now nodes) (now levels) (now lows) (now wants) level n (length (now nodes)) ≤ at (now wholes) n) ⌝ }
     requires { ⌜ ChainOf (now levels) (now next) level from ⌝ }
     ensures { λ _. ⌜ CordsDealt (now (nodes .entry)) (now (levels .entry)) (now (lows .entry)) (now (wants .entry)) level (now (wholes .entry)) (now (amounts .entry)) (now (before .entry)) (now (grants .entry)) (now (grants .exit)) ⌝ }
 {

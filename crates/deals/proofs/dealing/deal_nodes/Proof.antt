@@ -1,13 +1,11 @@
--- `deal_nodes` meets its contract: before each turn the nodes passed have their amounts and are served as children; a node that is not
--- active has neither weight nor amount.
-use mathlib.Core.Path.{_∙_}
+-- `deal_nodes` meets its contract: before each turn the active nodes passed have their amounts and are served as children; a node that
+-- is not active has no weight.
+use mathlib.Core.Path.{sym, _∙_}
 use mathlib.Core.Logic.{⊎-elim}
 use Prim.Native.Nat.{_-_}
 use native.Mathlib.Omega.{arith}
 use borrow.Author.Needs.{needs}
-use Rattle.rooms.proofs.Sums.{sum-none}
-use Rattle.deals.proofs.Serving.{cleared-at, served-none}
-use Rattle.deals.proofs.NodeTurns.{nodes-start, parent-within, node-may-serve, root-next, inner-next, DealTurn, deal-start, deal-within, deal-here, deal-next, deal-end}
+use Rattle.deals.proofs.NodeTurns.{nodes-start, parent-within, node-may-serve, root-next, inner-next, DealTurn, deal-start, deal-within, deal-present, deal-here, deal-next, deal-end}
 use Rattle.deals.proofs.dealing.deal_nodes.Statement.{statement}
 use Rattle.deals.proofs.dealing.deal_nodes.Tie as tie
 
@@ -18,21 +16,11 @@ Inv-loop parents active count level requests pcapmins wholes amounts₀ before�
 abbrev μ-loop : tie.MeasureT-loop
 μ-loop parents active count level requests pcapmins wholes amounts₀ before₀ dealt₀ i₀ amounts before dealt i = count - i
 
-clear-requires : tie.Need-clear-requires Inv-loop μ-loop
-clear-requires c κs = search needs
-
-clear-requires-2 : tie.Need-clear-requires-2 Inv-loop μ-loop
-clear-requires-2 c κs = search needs
-
-clear-requires-3 : tie.Need-clear-requires-3 Inv-loop μ-loop
-clear-requires-3 c κs = search needs
-
 loop-holds : tie.Need-loop-holds Inv-loop μ-loop
 loop-holds c =
-    let pre = c .before .before .before .before .before .before .before .before .before .before .before .before .before .before .before .before .before .before .before .pre in
+    let pre = c .before .before .before .before .before .before .before .pre in
     let sizes = pre .1 .0 in
-    let amounts = c .before .before .before .before .before .before .before .before .before .before .clear in
-    deal-start (pre .1 .1 .1 .0) (pre .1 .1 .1 .1) (λ h l. cleared-at (c .before .before .before .before .before .before .before .before .before .before .before .before .before .before .before .before .before .before .before .args .amounts .now) _ h (amounts .ensures) (omega (arith, sizes .2)))
+    deal-start
     (nodes-start
     (record {
       few = pre .0 .0;
@@ -41,18 +29,33 @@ loop-holds c =
       pcapmins-size = sizes .0;
       wholes-size = sizes .1;
       bounds = pre .1 .1 .0;
+      nodes = pre .1 .1 .1 .0;
+      blank = pre .1 .1 .1 .1;
     })
-    (amounts .kept .0 ∙ sizes .2)
-    (served-none _ _ _ _ (c .before .before .before .before .before .before .before .before .before .before .before .before .before .before .before .before .before .before .before .args .before .now) (c .before .before .before .before .before .before .before .before .before .before .before .before .before .before .before .before .before .before .before .args .dealt .now) (sizes .3) (sizes .4) (c .before .before .before .before .before .before .clear2 .ensures) (c .before .before .clear3 .ensures) (λ n. sum-none _)))
+    (sizes .2)
+    (sizes .3)
+    (sizes .4))
 
 mul-index : tie.Need-mul-index Inv-loop μ-loop
 mul-index c = search needs
 
 shared-slice-read-index : tie.Need-shared-slice-read-index Inv-loop μ-loop
-shared-slice-read-index c = omega (arith, c .before .before .loop .inv .nodes .few, c .before .loop-test .taken)
+shared-slice-read-index c = omega (arith, c .before .before .loop .inv .turn .ready .nodes .few, c .before .loop-test .taken)
 
 index-requires : tie.Need-index-requires Inv-loop μ-loop
 index-requires c κs = search needs
+
+mul-before : tie.Need-mul-before Inv-loop μ-loop
+mul-before c = search needs
+
+slice-write-before : tie.Need-slice-write-before Inv-loop μ-loop
+slice-write-before c = omega (arith, deal-within (c .before .before .before .loop .inv) (c .before .before .loop-test .taken) (c .index .ensures .0), c .before .before .before .loop .inv .turn .served .before-size)
+
+mul-dealt : tie.Need-mul-dealt Inv-loop μ-loop
+mul-dealt c = search needs
+
+slice-write-dealt : tie.Need-slice-write-dealt Inv-loop μ-loop
+slice-write-dealt c = omega (arith, deal-within (c .before .before .before .loop .inv) (c .before .before .loop-test .taken) (c .index .ensures .0), c .before .before .before .loop .inv .turn .served .dealt-size)
 
 mul-wide : tie.Need-mul-wide Inv-loop μ-loop
 mul-wide c = omega (arith, deal-within (c .before .before .before .loop .inv) (c .before .before .loop-test .taken) (c .index .ensures .0), c .before .before .before .loop .inv .turn .ready .few)
@@ -105,7 +108,7 @@ slice-read-serve c =
     let t = c .before .before .before .before .before .before .before .before .before .before .loop .inv in
     let more = c .before .before .before .before .before .before .before .before .before .loop-test .taken in
     let is = c .before .before .before .before .before .before .before .index .ensures .0 in
-    omega (arith, parent-within (deal-here t more is) (deal-within t more is) _ _ (c .before .before .before .before .before .wide .ensures .0) (c .before .before .index2 .ensures .0) (c .before .if1 .left), t .turn .amounts-size)
+    omega (arith, parent-within (deal-here t more is) (deal-within t more is) _ _ (c .before .before .before .before .before .wide .ensures .0) (c .before .before .index2 .ensures .0) (deal-present t more is) (c .before .if1 .left), t .turn .amounts-size)
 
 mul-serve-2 : tie.Need-mul-serve-2 Inv-loop μ-loop
 mul-serve-2 c = search needs
@@ -115,14 +118,14 @@ shared-slice-read-serve c =
     let t = c .before .before .before .before .before .before .before .before .before .before .before .loop .inv in
     let more = c .before .before .before .before .before .before .before .before .before .before .loop-test .taken in
     let is = c .before .before .before .before .before .before .before .before .index .ensures .0 in
-    omega (arith, parent-within (deal-here t more is) (deal-within t more is) _ _ (c .before .before .before .before .before .before .wide .ensures .0) (c .before .before .before .index2 .ensures .0) (c .before .before .if1 .left), t .turn .ready .wholes-size)
+    omega (arith, parent-within (deal-here t more is) (deal-within t more is) _ _ (c .before .before .before .before .before .before .wide .ensures .0) (c .before .before .before .index2 .ensures .0) (deal-present t more is) (c .before .before .if1 .left), t .turn .ready .wholes-size)
 
 serve-requires : tie.Need-serve-requires Inv-loop μ-loop
 serve-requires c κs =
     let t = c .before .before .before .before .before .before .before .before .before .before .before .before .before .loop .inv in
     let more = c .before .before .before .before .before .before .before .before .before .before .before .before .loop-test .taken in
     let is = c .before .before .before .before .before .before .before .before .before .before .index .ensures .0 in
-    node-may-serve (deal-here t more is) (deal-within t more is) _ _ (c .before .before .before .before .before .before .before .before .wide .ensures .0) (c .before .before .before .before .before .index2 .ensures .0) (c .before .before .before .before .if1 .left)
+    node-may-serve (deal-here t more is) (deal-within t more is) _ _ (c .before .before .before .before .before .before .before .before .wide .ensures .0) (c .before .before .before .before .before .index2 .ensures .0) (deal-present t more is) (c .before .before .before .before .if1 .left)
 
 mul-amounts-2 : tie.Need-mul-amounts-2 Inv-loop μ-loop
 mul-amounts-2 c = search needs
@@ -146,18 +149,18 @@ loop-again c =
     let parent = c .before .index2 .ensures .0 in
     let request = c .before .before .before .before .wide .ensures .0 in
     ⊎-elim
-    (λ w. deal-next t more is _ (w .1) (root-next here within _ _ request parent (w .0 .taken) (w .1) (w .2) (w .3)))
-    (λ w. deal-next t more is _ (w .10) (inner-next here within _ _ request parent (w .0 .left) _ (w .5 .ensures .0, (w .11 ∙ w .5 .ensures .1 .0, w .12 ∙ w .5 .ensures .1 .1)) (w .10)))
+    (λ w. deal-next t more is (root-next here within _ _ request parent (w .0 .taken) (w .1) (w .2) (w .3)))
+    (λ w. deal-next t more is (inner-next here within _ _ request parent (deal-present t more is) (w .0 .left) _ (w .5 .ensures .0, (w .11 ∙ w .5 .ensures .1 .0, w .12 ∙ w .5 .ensures .1 .1)) (w .10)))
     (c .if1 .came)
 
 same-length : tie.Need-same-length Inv-loop μ-loop
-same-length c = search needs
+same-length c = c .before .loop .inv .turn .amounts-size ∙ sym (c .before .before .before .before .before .before .before .before .before .pre .1 .0 .2)
 
 same-length-2 : tie.Need-same-length-2 Inv-loop μ-loop
-same-length-2 c = search needs
+same-length-2 c = c .before .loop .inv .turn .served .before-size ∙ sym (c .before .before .before .before .before .before .before .before .before .pre .1 .0 .3)
 
 same-length-3 : tie.Need-same-length-3 Inv-loop μ-loop
-same-length-3 c = search needs
+same-length-3 c = c .before .loop .inv .turn .served .dealt-size ∙ sym (c .before .before .before .before .before .before .before .before .before .pre .1 .0 .4)
 
 returns : tie.Need-returns Inv-loop μ-loop
 returns c = deal-end (c .before .loop .inv) (c .loop-test .left)
@@ -168,13 +171,14 @@ deal-nodes-spec =
     (tie.spec
     Inv-loop
     μ-loop
-    clear-requires
-    clear-requires-2
-    clear-requires-3
     loop-holds
     mul-index
     shared-slice-read-index
     index-requires
+    mul-before
+    slice-write-before
+    mul-dealt
+    slice-write-dealt
     mul-wide
     mul-wide-2
     index-1-wide

@@ -245,14 +245,15 @@ pub record Levelling (marks first : List ℕ) (cords above : ℕ) (actives : Lis
   pub counts-size : length counts ≡ highestRank
   pub full : FullLists actives
   pub listed : (j : ℕ) → above ≤ j → j < highestRank → at first j < cords → Listed marks j (getD actives j []) (at counts j)
+  pub none : (j : ℕ) → above ≤ j → j < highestRank → cords ≤ at first j → at counts j ≡ 0
 
 pub levelling-start : {marks first : List ℕ} {cords : ℕ} {actives : List (List ℕ)} {counts : List ℕ} → length counts ≡ highestRank → FullLists actives
     → Levelling marks first cords highestRank actives counts
-levelling-start size full = record { within = le-refl highestRank; counts-size = size; full = full; listed = λ j l h. absurd (omega arith) }
+levelling-start size full = record { within = le-refl highestRank; counts-size = size; full = full; listed = λ j l h. absurd (omega arith); none = λ j l h. absurd (omega arith) }
 
 module _ {marks first : List ℕ} {cords above : ℕ} {actives : List (List ℕ)} {counts : List ℕ} (inv : Levelling marks first cords above actives counts) where
   pub levelling-end : above ≤ 0 → LevelsListed marks first cords actives counts
-  levelling-end h = record { counts-size = inv .counts-size; full = inv .full; listed = λ j l. inv .listed j (omega arith) l }
+  levelling-end h = record { counts-size = inv .counts-size; full = inv .full; listed = λ j l. inv .listed j (omega arith) l; none = λ j l. inv .none j (omega arith) l }
 
   module _ (some : 0 < above) where
     abbrev level : ℕ
@@ -272,17 +273,20 @@ module _ {marks first : List ℕ} {cords above : ℕ} {actives : List (List ℕ)
             before j (omega arith) h
 
     -- A level that no cord has.
-    pub levelling-skip : cords ≤ at first level → Levelling marks first cords level actives counts
+    pub levelling-skip : cords ≤ at first level → Levelling marks first cords level actives (set counts level 0)
     levelling-skip none = record {
       within = omega (arith, inv .within);
-      counts-size = inv .counts-size;
+      counts-size = length-set counts level 0 ∙ inv .counts-size;
       full = inv .full;
-      listed = passed (λ j. at first j < cords → Listed marks j (getD actives j []) (at counts j)) (inv .listed) (λ has. absurd (omega arith));
+      listed = passed (λ j. at first j < cords → Listed marks j (getD actives j []) (at (set counts level 0) j))
+          (λ j l h has. rw (getD-set-other counts level j 0 0 (λ q. omega arith)) (inv .listed j l h has)) (λ has. absurd (omega arith));
+      none = passed (λ j. cords ≤ at first j → at (set counts level 0) j ≡ 0) (λ j l h has. getD-set-other counts level j 0 0 (λ q. omega arith) ∙ inv .none j l h has)
+          (λ has. getD-set-same counts level 0 0 (omega (arith, inv .counts-size, inv .within)));
     }
 
-    pub levelling-turn : (list : List ℕ) {v count : ℕ} → v ≡ count → length list ≡ length (getD actives level []) → Listed marks level list count
+    pub levelling-turn : at first level < cords → (list : List ℕ) {v count : ℕ} → v ≡ count → length list ≡ length (getD actives level []) → Listed marks level list count
         → Levelling marks first cords level (set actives level list) (set counts level v)
-    levelling-turn list {v} {count} e size listed = record {
+    levelling-turn some-cord list {v} {count} e size listed = record {
       within = omega (arith, inv .within);
       counts-size = length-set counts level v ∙ inv .counts-size;
       full = (
@@ -292,6 +296,8 @@ module _ {marks first : List ℕ} {cords above : ℕ} {actives : List (List ℕ)
       listed = passed (λ j. at first j < cords → Listed marks j (getD (set actives level list) j []) (at (set counts level v) j))
           (λ j l h has. rw (getD-set-other actives level j list [] (λ q. omega arith), getD-set-other counts level j v 0 (λ q. omega arith)) (inv .listed j l h has))
           (λ has. rw (row, told) listed);
+      none = passed (λ j. cords ≤ at first j → at (set counts level v) j ≡ 0) (λ j l h has. getD-set-other counts level j v 0 (λ q. omega arith) ∙ inv .none j l h has)
+          (λ has. absurd (omega arith));
     }
       where
         row : getD (set actives level list) level [] ≡ list
@@ -318,6 +324,7 @@ level-lists size marked rises within linked all = record {
   full = all .full;
   nodes-active = λ j l some. active-nodes size marked (all .listed j l some) rises;
   cords-active = λ j l some. cords-active size marked (all .listed j l some) within;
+  none = all .none;
 }
 
 -- ---- Passing over the nodes that are not active

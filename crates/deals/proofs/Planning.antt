@@ -1,5 +1,5 @@
 -- Both deals in the room's lists: what each call asks, and that what it leaves is what the plan's definition says.
-use mathlib.Core.Path.{_≡_, sym, ap, _∙_}
+use mathlib.Core.Path.{_≡_, refl, sym, ap, _∙_}
 use mathlib.Core.Bool.{cond, _&&_}
 use mathlib.Core.List.{List}
 use Prim.Native.Nat.{ℕ, _-_, _*_, _/_, _≤_, _<_}
@@ -19,7 +19,7 @@ use Rattle.deals.specs.Metrics.{dealFrom, dealOf, parentsOf, limitsOf, n
 use Rattle.deals.specs.Dealing.{granted, grantsBy}
 use Rattle.deals.specs.SecondDeal.{leastOver, usable, stranded, wantsAfter, firstGrants, firstUsable, firstUsed, secondWants, secondGrants}
 use Rattle.deals.specs.SecondDeal as second
-use Rattle.deals.specs.Passes.{NodeLists, CordLists, LowsWithin, DealLists, ServerLists, OfRoom, NodesFit, ServersFit, CordsFit, CordsLaidOut, sharesOf, serversOf, usableFrom, usedFrom, strandedFrom, wantsFrom}
+use Rattle.deals.specs.Passes.{DealtTwice, Planning, NodeLists, CordLists, LowsWithin, DealLists, ServerLists, OfRoom, NodesFit, ServersFit, CordsFit, CordsLaidOut, sharesOf, serversOf, usableFrom, usedFrom, strandedFrom, wantsFrom}
 use Rattle.deals.proofs.Lists.{figures-length}
 use Rattle.deals.proofs.RoomDeals.{parentsOf-length, limitsOf-length, nodesOf-length, levelsOf-length, sharesOf-at, serversOf-at}
 use Rattle.deals.proofs.BothDeals.{cord-facts, lowsOf-length, carriedBy-length, dealable, firstWants-lows, secondWants-lows}
@@ -211,7 +211,7 @@ module _ (table demands : List ℕ) {parents limits nodes levels lows wants shar
       unfolding firstUsed
       used-size = carriedBy-length r (firstUsable r demands)
 
-    pub freed-is : {freed : ℕ} → freed ≡ sumOf (strandedFrom (usedFrom shares servers watts) grants) → OfRoom table (λ r. freed ≡ second.freed r demands)
+    freed-is : {freed : ℕ} → freed ≡ sumOf (strandedFrom (usedFrom shares servers watts) grants) → OfRoom table (λ r. freed ≡ second.freed r demands)
     unfolding second.freed
     freed-is e r end is = e ∙ rw (first-used r end is, first-grants r end is) (ap sumOf (stranded-is r (firstUsed r demands) (firstGrants r demands) (used-size r end is)))
 
@@ -224,13 +224,23 @@ module _ (table demands : List ℕ) {parents limits nodes levels lows wants shar
 
   -- After the second.
   module _ {given grants : List ℕ} (wanted : OfRoom table (λ r. given ≡ secondWants r demands)) (dealt : grants ≡ granted (dealFrom parents limits nodes levels lows given)) where
-    pub second-grants : OfRoom table (λ r. grants ≡ secondGrants r demands)
+    second-grants : OfRoom table (λ r. grants ≡ secondGrants r demands)
     unfolding secondGrants
     second-grants r end is = grants-are r end is given dealt ∙ ap (grantsBy r) (wanted r end is)
 
-    pub caps-are : {caps : List ℕ} → caps ≡ usableFrom shares servers needed grants → OfRoom table (λ r. caps ≡ second.caps r demands)
+    caps-are : {caps : List ℕ} → caps ≡ usableFrom shares servers needed grants → OfRoom table (λ r. caps ≡ second.caps r demands)
     unfolding second.caps
     caps-are e r end is = usable-are r end is grants e ∙ ap (usable r (needs r demands)) (second-grants r end is)
+
+  -- After both: the plan.
+  pub planned : {freed : ℕ} {grants caps : List ℕ} → DealtTwice parents limits nodes levels lows wants shares servers needed freed grants caps → Planning table demands freed grants caps
+  planned made =
+      let second = second-wants refl refl refl in
+      record {
+        freed-is = freed-is refl refl (made .freed-is);
+        grants-are = second-grants second (made .grants-are);
+        caps-are = caps-are second (made .grants-are) (made .usable-are);
+      }
 
 -- ---- The lists that are lent
 

@@ -9,7 +9,7 @@ use native.Mathlib.Omega.{arith}
 use lib.Dec.{eqb}
 use lib.ListN.{length, getD, take, replicate, length-replicate, getD-replicate}
 use lib.Seq.{length-take-le}
-use borrow.Author.Tests.{eqb-true}
+use borrow.Author.Tests.{eqb-true, eqb-false}
 use Rattle.rooms.specs.Sums.{on, sum}
 use Rattle.rooms.specs.Table.{mostNodes, mostCords, mostWatts, highestRank}
 use Rattle.rooms.specs.Credits.{sumBeneath}
@@ -18,7 +18,7 @@ use Rattle.rooms.proofs.Trees.{kids, down}
 use Rattle.deals.specs.Figures.{at, cell}
 use Rattle.deals.specs.Metrics.{dealFrom, metrics}
 use Rattle.deals.specs.Dealing.{granted}
-use Rattle.deals.specs.Passes.{NodeLists, CordLists, LowsWithin, Spare, DealLists, LevelLists, Absent, HasCord, NodeFigures, RankLists, RanksDealt, FullRows, onNode, overChildren, Gathered, cordsBefore, weightOf, NodesDealt, CordsDealt}
+use Rattle.deals.specs.Passes.{NodeLists, CordLists, LowsWithin, Spare, DealLists, LevelLists, Absent, HasCord, NodeFigures, RankLists, RanksDealt, ColumnFilled, FullRows, BlankRows, onNode, overChildren, Gathered, cordsBefore, weightOf, NodesDealt, CordsDealt}
 use Rattle.deals.proofs.Computed.{request}
 use Rattle.deals.proofs.NodeSums.{kids-none}
 use Rattle.deals.proofs.Links.{chain-of, no-cord}
@@ -121,7 +121,7 @@ module _ {parents limits nodes levels lows wants next : List ℕ} {level from : 
     gather-room = gather-asks parents limits nodes levels lows wants ns cs lw level left grants state pcapmins₁ wholes₁ (sums .on-lows) (sums .on-excesses)
 
     pub gather-idle : Idle parents active count level pcapmins₁ wholes₁ rows
-    gather-idle n l none = (sums .on-lows n l ∙ none-on (at lows) n none, sums .on-excesses n l ∙ none-on (λ c. at wants c - at lows c) n none, given .ranks .blank n level (omega arith))
+    gather-idle n l none = (sums .on-lows n l ∙ none-on (at lows) n none, sums .on-excesses n l ∙ none-on (λ c. at wants c - at lows c) n none, given .blank n l none)
 
     -- The lists after it.
     pub gathered-sizes : {rows₁ : List (List ℕ)} {left₁ pcapmins₂ wholes₂ : List ℕ} → Gathered parents level left pcapmins₁ wholes₁ rows left₁ pcapmins₂ wholes₂ rows₁
@@ -160,6 +160,9 @@ module _ {parents limits nodes levels lows wants next : List ℕ} {level from : 
             beneath-none (given .nodes-active) (ns .rises) pcapmins₁ (λ m h away. gather-idle m h away .0) n l none,
             kids-none (length parents) (at parents) n (weightOf rows₁ level pcapmins₂) (λ m h e. omega (arith, below m h (omega (arith, ns .rises m h)) (child m h e))),
           ))
+
+      pub column-filled : ColumnFilled (length parents) level active count rows rows₁
+      column-filled = record { others = g .others; blank = nodes-blank }
 
       -- The lists after it.
       pub dealt-sizes : {amounts₁ before₁ dealt₁ : List ℕ} → NodesDealt parents active count level rows₁ pcapmins₂ wholes₂ amounts₁ before₁ dealt₁
@@ -207,7 +210,7 @@ module _ {parents limits nodes levels lows wants next : List ℕ} {level from : 
             ranks-dealt parents limits nodes levels lows wants ns cs lw
             (state-turn parents limits nodes levels lows wants ns cs lw level left grants state pcapmins₁ wholes₁ (sums .on-lows) (sums .on-excesses) rows rows₁ left₁ pcapmins₂ wholes₂ g
             active count (given .nodes-active) (given .cords-active) amounts₁ before₁ dealt₁ nd grants₁ cd)
-            filled (λ n j l. g .others n j (λ e. omega arith) ∙ given .ranks .blank n j (omega arith)) (g .full)
+            filled (g .full)
           where
             filled : (n j : ℕ) → n < length parents → level ≤ j → j < highestRank → cell rows₁ n j ≡ request (dealFrom parents limits nodes levels lows wants) n j
             filled n j l a b =
@@ -225,6 +228,7 @@ pub record RankLoop (parents limits nodes levels lows wants first next : List �
   pub by-level : LevelLists parents nodes levels first next actives counts
   pub figures : NodeFigures (length parents) left pcapmins wholes amounts before dealt
   pub ranks : RanksDealt (dealFrom parents limits nodes levels lows wants) above rows left grants
+  pub blank : BlankRows (length parents) actives counts rows
 
 module _ {parents limits nodes levels lows wants : List ℕ} {grantCount : ℕ} (lists : DealLists parents limits nodes levels lows wants grantCount) where
   pub levels-rank : (c : ℕ) → c < length levels → at levels c < highestRank
@@ -240,11 +244,11 @@ module _ {parents limits nodes levels lows wants : List ℕ} {grantCount : ℕ} 
   lows-hang c l = (lists .of-cords .hangs c l, lists .of-cords .within c l, omega (arith, lists .of-cords .ordered c l, lists .of-cords .most c l))
 
   -- Before the first rank.
-  pub ranks-start : {rows : List (List ℕ)} {left : List ℕ} (grants : List ℕ) → FullRows rows → ((n j : ℕ) → cell rows n j ≡ 0) → Spare parents limits nodes lows left
+  pub ranks-start : {rows : List (List ℕ)} {left : List ℕ} (grants : List ℕ) → FullRows rows → Spare parents limits nodes lows left
       → RanksDealt (dealFrom parents limits nodes levels lows wants) highestRank rows left grants
-  ranks-start grants full blank spare =
+  ranks-start grants full spare =
       ranks-dealt parents limits nodes levels lows wants (lists .of-nodes) (lists .of-cords) (lists .lows-within)
-      (state-start parents limits nodes levels lows wants (lists .of-nodes) (lists .of-cords) (lists .lows-within) _ grants spare) (λ n j l a b. absurd (omega arith)) (λ n j l. blank n j) full
+      (state-start parents limits nodes levels lows wants (lists .of-nodes) (lists .of-cords) (lists .lows-within) _ grants spare) (λ n j l a b. absurd (omega arith)) full
 
 -- A number above 0 is one more than the number before it.
 pub one-more : (n : ℕ) → 0 < n → n ≡ suc (n - 1)
@@ -289,13 +293,15 @@ module _ {parents limits nodes levels lows wants first next : List ℕ} {actives
           by-level = inv .by-level;
           figures = inv .figures;
           ranks =
+              let counted = inv .by-level .none level level-fits (omega arith) in
               let none : (c : ℕ) → c < length nodes → at levels c ≡ level → ⊥
               = λ c l. no-cord (inv .by-level .linked) level level-fits is (omega (arith, k .levels-size)) c (omega (arith, k .levels-size)) in
+              let blank-here : (n : ℕ) → n < length parents → cell rows n level ≡ 0 = λ n l. inv .blank .blank n level l level-fits (λ i h. absurd (omega arith)) in
               ranks-dealt parents limits nodes levels lows wants n k (lists .lows-within)
               (state-skip parents limits nodes levels lows wants n k (lists .lows-within) level left grants none
               (state-of parents limits nodes levels lows wants n k (lists .lows-within) at-level))
-              (filled-skip parents limits nodes levels lows wants n k (lists .lows-within) level rows level-fits none (at-level .blank) (at-level .filled))
-              (λ m j l. inv .ranks .blank m j (omega arith)) (inv .ranks .full);
+              (filled-skip parents limits nodes levels lows wants n k (lists .lows-within) level rows level-fits none blank-here (at-level .filled)) (inv .ranks .full);
+          blank = inv .blank;
         }
 
     -- What one rank asks.
@@ -310,13 +316,15 @@ module _ {parents limits nodes levels lows wants first next : List ℕ} {actives
           cords-active = inv .by-level .cords-active level level-fits (omega arith);
           figures = inv .figures;
           ranks = at-level;
+          blank = λ n l absent. inv .blank .blank n level l level-fits absent;
         })
 
     -- The next rank.
     pub loop-turn : {rows₁ : List (List ℕ)} {left₁ pcapmins₁ wholes₁ amounts₁ before₁ dealt₁ grants₁ : List ℕ} → length left₁ ≡ length left → length pcapmins₁ ≡ length pcapmins → length wholes₁ ≡ length wholes → length amounts₁ ≡ length amounts → length before₁ ≡ length before → length dealt₁ ≡ length dealt
         → length grants₁ ≡ length grants → RanksDealt (dealFrom parents limits nodes levels lows wants) level rows₁ left₁ grants₁
+        → {count : ℕ} → count ≡ at counts level → ColumnFilled (length parents) level (getD actives level []) count rows rows₁
         → RankLoop parents limits nodes levels lows wants first next actives counts level rows₁ left₁ pcapmins₁ wholes₁ amounts₁ before₁ dealt₁ grants₁
-    loop-turn l p w m b d g ranks = record {
+    loop-turn {rows₁} l p w m b d g ranks counted column = record {
       lists = subst (DealLists parents limits nodes levels lows wants) (sym g) (inv .lists);
       by-level = inv .by-level;
       figures = record {
@@ -328,4 +336,11 @@ module _ {parents limits nodes levels lows wants first next : List ℕ} {actives
         dealt-size = d ∙ inv .figures .dealt-size;
       };
       ranks = ranks;
+      blank = record { full = ranks .full; blank = λ n j h u absent. kept n j h u absent (eqb j level) refl };
     }
+      where
+        kept : (n j : ℕ) → n < length parents → j < highestRank → Absent (getD actives j []) (at counts j) n → (t : Bool) → eqb j level ≡ t → cell rows₁ n j ≡ 0
+        kept n j h u absent true e =
+            let q = eqb-true j level e in
+            rw q (column .blank n h (rw counted (rw q at absent)))
+        kept n j h u absent false e = column .others n j (eqb-false j level e) ∙ inv .blank .blank n j h u absent

@@ -119,15 +119,14 @@ module _ (parents limits nodes levels lows wants : List ℕ) (ns : NodeLists par
   }
 
   pub ranks-dealt : {above : ℕ} {rows : List (List ℕ)} {left grants : List ℕ} → State above left grants
-      → ((n j : ℕ) → n < length parents → above ≤ j → j < highestRank → cell rows n j ≡ req n j) → ((n j : ℕ) → j < above → cell rows n j ≡ 0) → FullRows rows
+      → ((n j : ℕ) → n < length parents → above ≤ j → j < highestRank → cell rows n j ≡ req n j) → FullRows rows
       → RanksDealt theDeal above rows left grants
   unfolding dealFrom pcapmin request
-  ranks-dealt {above} s filled blank full = record {
+  ranks-dealt {above} s filled full = record {
     filled = filled;
     within = omega (arith, s .sum-is);
     left-is = λ n l. omega (arith, s .left-is n l, sum-up (s .higher) above highestRank (req n) (s .sum-is));
     grants-are = s .grants-are;
-    blank = blank;
     full = full;
   }
 
@@ -174,12 +173,12 @@ module _ (parents limits nodes levels lows wants : List ℕ) (ns : NodeLists par
       go c l false e h = s .grants-are c l (let q : at levels c ≡ j → ⊥ = eqb-false (at levels c) j e in omega arith)
 
   -- The rows have its Requests too, which are 0.
-  pub filled-skip : (j : ℕ) (rows : List (List ℕ)) → j < highestRank → ((c : ℕ) → c < length nodes → at levels c ≡ j → ⊥) → ((n i : ℕ) → i < suc j → cell rows n i ≡ 0)
+  pub filled-skip : (j : ℕ) (rows : List (List ℕ)) → j < highestRank → ((c : ℕ) → c < length nodes → at levels c ≡ j → ⊥) → ((n : ℕ) → n < length parents → cell rows n j ≡ 0)
       → ((n i : ℕ) → n < length parents → suc j ≤ i → i < highestRank → cell rows n i ≡ req n i) → (n i : ℕ) → n < length parents → j ≤ i → i < highestRank → cell rows n i ≡ req n i
   unfolding dealFrom
   filled-skip j rows h none blank filled n i l a b =
       ⊎-elim
-      (λ e. subst (λ (k : ℕ). cell rows n k ≡ req n k) e (blank n j (omega arith) ∙ sym (request-none theDeal dealable j h none n l)))
+      (λ e. subst (λ (k : ℕ). cell rows n k ≡ req n k) e (blank n l ∙ sym (request-none theDeal dealable j h none n l)))
       (λ more. filled n i l more b)
       (eq-or-lt-of-le a)
 

@@ -125,11 +125,13 @@ pub record Listed (marks : List ℕ) (level : ℕ) (list : List ℕ) (count : �
 abbrev pub FullLists : List (List ℕ) → Type 0
 FullLists lists = (length lists ≡ highestRank) × ((j : ℕ) → j < highestRank → length (getD lists j []) ≡ mostNodes)
 
--- For each level that some of so many cords has, the places that are marked with it, in its list, and how many there are.
+-- For each level that some of so many cords has, the places that are marked with it, in its list, and how many there are; for any other
+-- none.
 pub record LevelsListed (marks first : List ℕ) (cords : ℕ) (actives : List (List ℕ)) (counts : List ℕ) : Type 0 where
   pub counts-size : length counts ≡ highestRank
   pub full : FullLists actives
   pub listed : (j : ℕ) → j < highestRank → at first j < cords → Listed marks j (getD actives j []) (at counts j)
+  pub none : (j : ℕ) → j < highestRank → cords ≤ at first j → at counts j ≡ 0
 
 -- The first `count` entries of `active` are places of nodes, rising; if a node is among them, so is its parent.
 pub record ActiveNodes (parents active : List ℕ) (count : ℕ) : Type 0 where
@@ -149,6 +151,7 @@ pub record LevelLists (parents nodes levels first next : List ℕ) (actives : Li
   pub full : FullLists actives
   pub nodes-active : (j : ℕ) → j < highestRank → at first j < length nodes → ActiveNodes parents (getD actives j []) (at counts j)
   pub cords-active : (j : ℕ) → j < highestRank → at first j < length nodes → CordsActive nodes levels j (getD actives j []) (at counts j)
+  pub none : (j : ℕ) → j < highestRank → length nodes ≤ at first j → at counts j ≡ 0
 
 -- ---- Lists that are lent, and what they hold of a room
 
@@ -208,6 +211,11 @@ pub record CordsLaidOut (r : Room) (demands nodes levels lows wants shares serve
 -- A row for each place of a node, with a figure for each level.
 abbrev pub FullRows : List (List ℕ) → Type 0
 FullRows rows = (length rows ≡ mostNodes) × ((m : ℕ) → m < mostNodes → length (getD rows m []) ≡ highestRank)
+
+-- At each level the rows of nodes that are not active have 0. So it is after a deal too: the rows of one serve the next.
+pub record BlankRows (nodeCount : ℕ) (actives : List (List ℕ)) (counts : List ℕ) (rows : List (List ℕ)) : Type 0 where
+  pub full : FullRows rows
+  pub blank : (n j : ℕ) → n < nodeCount → j < highestRank → Absent (getD actives j []) (at counts j) n → cell rows n j ≡ 0
 
 -- ---- After a deal: shares, servers and grants by the places of cords, needs and usable watts by those of servers
 
@@ -316,16 +324,20 @@ pub record CordsDealt (nodes levels lows wants : List ℕ) (level : ℕ) (wholes
 
 -- ---- The ranks from the highest down
 
--- The levels from `above` up are dealt: their Requests, in the rows, where those of the levels below are still 0; what these Requests
--- and the Pcapmin of the levels below leave of each limit; and the grants of the cords dealt.
+-- The levels from `above` up are dealt: their Requests, in the rows; what these and the Pcapmin of the levels below leave of each limit;
+-- and the grants of the cords dealt.
 pub record RanksDealt (d : Deal) (above : ℕ) (rows : List (List ℕ)) (left grants : List ℕ) : Type 0 where
   pub within : above ≤ d .levels
   pub filled : (n j : ℕ) → n < d .nodes → above ≤ j → j < d .levels → cell rows n j ≡ cell (metrics d .requests) n j
   pub left-is : (n : ℕ) → n < d .nodes
       → at left n + (sum (d .levels) (cell (metrics d .requests) n) - sum above (cell (metrics d .requests) n)) + sum above (cell (metrics d .pcapmins) n) ≡ d .limit n
   pub grants-are : (c : ℕ) → c < d .cords → above ≤ d .level c → at grants c ≡ at (granted d) c
-  pub blank : (n j : ℕ) → j < above → cell rows n j ≡ 0
   pub full : FullRows rows
+
+-- A rank changes its own column of the rows alone, and leaves 0 there at nodes that are not active.
+pub record ColumnFilled (nodeCount level : ℕ) (active : List ℕ) (count : ℕ) (rows rows′ : List (List ℕ)) : Type 0 where
+  pub others : (n j : ℕ) → (j ≡ level → ⊥) → cell rows′ n j ≡ cell rows n j
+  pub blank : (n : ℕ) → n < nodeCount → Absent active count n → cell rows′ n level ≡ 0
 
 -- What one rank of a deal asks of its lists.
 pub record RankLists (parents limits nodes levels lows wants next : List ℕ) (level from : ℕ) (active : List ℕ) (count : ℕ) (rows : List (List ℕ)) (left pcapmins wholes amounts before dealt grants : List ℕ) : Type 0 where
@@ -335,6 +347,7 @@ pub record RankLists (parents limits nodes levels lows wants next : List ℕ) (l
   pub cords-active : CordsActive nodes levels level active count
   pub figures : NodeFigures (length parents) left pcapmins wholes amounts before dealt
   pub ranks : RanksDealt (dealFrom parents limits nodes levels lows wants) (suc level) rows left grants
+  pub blank : (n : ℕ) → n < length parents → Absent active count n → cell rows n level ≡ 0
 
 -- ---- Both deals
 

@@ -1,13 +1,15 @@
 // Both deals of a good table with its servers' demands.
 ghost use mathlib.Core.Path.{_≡_};
+ghost use Prim.Native.Nat.{ℕ};
 ghost use lib.ListN.{length};
 ghost use Rattle.rooms.specs.Part.{Good};
 ghost use Rattle.rooms.specs.Limits.{checked};
 ghost use Rattle.rooms.specs.Table.{highestRank};
+ghost use Rattle.deals.specs.Figures.{cell};
 ghost use Rattle.deals.specs.Metrics.{dealFrom};
 ghost use Rattle.deals.specs.Dealing.{granted};
 ghost use Rattle.deals.specs.Plan.{firstTooLarge};
-ghost use Rattle.deals.specs.Passes.{DealLists, LevelLists, FullLists, Spare, ServerLists, usableFrom, wantsNext, DealtTwice, CordsLent, NodesFit, ServersFit, CordsFit, Planning};
+ghost use Rattle.deals.specs.Passes.{DealLists, LevelLists, FullLists, FullRows, BlankRows, Spare, ServerLists, usableFrom, wantsNext, DealtTwice, CordsLent, NodesFit, ServersFit, CordsFit, Planning};
 use crate::deal::deal;
 use crate::levels::link_levels;
 use crate::levels::list_levels;
@@ -48,6 +50,7 @@ fn make_deal(
     actives: &[[u16; 512]; 16],
     counts: &[u16],
     spare: &[u64],
+    requests: &mut [[u32; 16]; 512],
     shares: &[u32],
     servers: &[u16],
     needs: &[u32],
@@ -57,8 +60,10 @@ fn make_deal(
     requires { ⌜ DealLists (now parents) (now limits) (now nodes) (now levels) (now lows) (now wants) (length (now grants)) ⌝ }
     requires { ⌜ LevelLists (now parents) (now nodes) (now levels) (now first) (now next) (now actives) (now counts) × Spare (now parents) (now limits) (now nodes) (now lows) (now spare) ⌝ }
     requires { ⌜ ServerLists (now shares) (now servers) (now needs) (length (now grants)) × (length (now usable) ≡ length (now needs)) ⌝ }
+    requires { ⌜ BlankRows (length (now parents)) (now actives) (now counts) (now requests) ⌝ }
     ensures { λ _. ⌜ now (grants .exit) ≡ granted (dealFrom (now (parents .entry)) (now (limits .entry)) (now (nodes .entry)) (now (levels .entry)) (now (lows .entry)) (now (wants .entry))) ⌝ }
     ensures { λ _. ⌜ now (usable .exit) ≡ usableFrom (now (shares .entry)) (now (servers .entry)) (now (needs .entry)) (now (grants .exit)) ⌝ }
+    ensures { λ _. ⌜ BlankRows (length (now (parents .entry))) (now (actives .entry)) (now (counts .entry)) (now (requests .exit)) ⌝ }
 {
     deal(
         parents,
@@ -72,6 +77,7 @@ fn make_deal(
         actives,
         counts,
         spare,
+        requests,
         grants,
     );
     usable_of(shares, servers, needs, grants, usable);
@@ -91,6 +97,7 @@ fn deal_twice(
     actives: &[[u16; 512]; 16],
     counts: &[u16],
     spare: &[u64],
+    requests: &mut [[u32; 16]; 512],
     shares: &[u32],
     servers: &[u16],
     needs: &[u32],
@@ -101,6 +108,7 @@ fn deal_twice(
     requires { ⌜ LevelLists (now parents) (now nodes) (now levels) (now first) (now next) (now actives) (now counts) × Spare (now parents) (now limits) (now nodes) (now lows) (now spare) ⌝ }
     requires { ⌜ ServerLists (now shares) (now servers) (now needs) (length (now grants)) × (length (now usable) ≡ length (now needs)) ⌝ }
     requires { ⌜ DealLists (now parents) (now limits) (now nodes) (now levels) (now lows) (wantsNext (now shares) (now servers) (now needs) (granted (dealFrom (now parents) (now limits) (now nodes) (now levels) (now lows) (now wants))) (now wants)) (length (now grants)) ⌝ }
+    requires { ⌜ BlankRows (length (now parents)) (now actives) (now counts) (now requests) ⌝ }
     ensures { λ freed. ⌜ DealtTwice (now (parents .entry)) (now (limits .entry)) (now (nodes .entry)) (now (levels .entry)) (now (lows .entry)) (now (wants .entry)) (now (shares .entry)) (now (servers .entry)) (now (needs .entry)) freed (now (grants .exit)) (now (usable .exit)) ⌝ }
 {
     let mut freed = 0;
@@ -118,6 +126,7 @@ fn deal_twice(
             actives,
             counts,
             spare,
+            requests,
             shares,
             servers,
             needs,
@@ -147,6 +156,7 @@ fn plan_lists(
     actives: &mut [[u16; 512]; 16],
     counts: &mut [u16],
     spare: &mut [u64],
+    requests: &mut [[u32; 16]; 512],
     grants: &mut [u32],
     caps: &mut [u32],
 ) -> u64
@@ -154,6 +164,7 @@ fn plan_lists(
     requires { ⌜ NodesFit (now table) (length (now parents)) × NodesFit (now table) (length (now limits)) ⌝ }
     requires { ⌜ (length (now first) ≡ highestRank) × CordsFit (now table) (length (now next)) × NodesFit (now table) (length (now marks)) × NodesFit (now table) (length (now spare)) ⌝ }
     requires { ⌜ FullLists (now actives) × (length (now counts) ≡ highestRank) ⌝ }
+    requires { ⌜ FullRows (now requests) × ((n j : ℕ) → cell (now requests) n j ≡ 0) ⌝ }
     requires { ⌜ CordsFit (now table) (length (now grants)) × ServersFit (now table) (length (now caps)) ⌝ }
     ensures { λ r. ⌜ Planning (now (table .entry)) (now (demands .entry)) r (now (grants .exit)) (now (caps .exit)) ⌝ }
 {
@@ -185,6 +196,7 @@ fn plan_lists(
         actives,
         counts,
         spare,
+        requests,
         shares,
         servers,
         needs,
@@ -215,6 +227,7 @@ pub(crate) fn plan_room(table: &[u32], demands: &[u32], grants: &mut [u32], caps
     let mut actives = [[0u16; 512]; 16];
     let mut counts = [0u16; 16];
     let mut spare = [0u64; 512];
+    let mut requests = [[0u32; 16]; 512];
     let n = word_index(table[1]);
     let k = grants.len();
     plan_lists(
@@ -235,6 +248,7 @@ pub(crate) fn plan_room(table: &[u32], demands: &[u32], grants: &mut [u32], caps
         &mut actives,
         &mut counts,
         &mut spare[..n],
+        &mut requests,
         grants,
         caps,
     )

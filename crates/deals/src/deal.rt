@@ -6,7 +6,7 @@ ghost use Rattle.rooms.specs.Table.{highestRank};
 ghost use Rattle.deals.specs.Figures.{cell};
 ghost use Rattle.deals.specs.Metrics.{dealFrom, metrics};
 ghost use Rattle.deals.specs.Dealing.{granted};
-ghost use Rattle.deals.specs.Passes.{DealLists, LevelLists, Spare, NodeFigures, RankLists, RanksDealt, FullRows};
+ghost use Rattle.deals.specs.Passes.{DealLists, LevelLists, Spare, NodeFigures, RankLists, RanksDealt, ColumnFilled, BlankRows};
 use crate::dealing::deal_cords;
 use crate::dealing::deal_nodes;
 use crate::metrics::gather;
@@ -49,6 +49,7 @@ fn deal_rank(
 )
     requires { ⌜ RankLists (now parents) (now limits) (now nodes) (now levels) (now lows) (now wants) (now next) level from (now active) count (now requests) (now left) (now pcapmins) (now wholes) (now amounts) (now before) (now dealt) (now grants) ⌝ }
     ensures { λ _. ⌜ RanksDealt (dealFrom (now (parents .entry)) (now (limits .entry)) (now (nodes .entry)) (now (levels .entry)) (now (lows .entry)) (now (wants .entry))) level (now (requests .exit)) (now (left .exit)) (now (grants .exit)) ⌝ }
+    ensures { λ _. ⌜ ColumnFilled (length (now (parents .entry))) level (now (active .entry)) count (now (requests .entry)) (now (requests .exit)) ⌝ }
 {
     sum_cords(
         nodes,
@@ -125,9 +126,10 @@ fn deal_ranks(
     requires { ⌜ DealLists (now parents) (now limits) (now nodes) (now levels) (now lows) (now wants) (length (now grants)) ⌝ }
     requires { ⌜ LevelLists (now parents) (now nodes) (now levels) (now first) (now next) (now actives) (now counts) × Spare (now parents) (now limits) (now nodes) (now lows) (now spare) ⌝ }
     requires { ⌜ NodeFigures (length (now parents)) (now left) (now pcapmins) (now wholes) (now amounts) (now before) (now dealt) ⌝ }
-    requires { ⌜ FullRows (now requests) × ((n j : ℕ) → cell (now requests) n j ≡ 0) ⌝ }
+    requires { ⌜ BlankRows (length (now parents)) (now actives) (now counts) (now requests) ⌝ }
     ensures { λ _. ⌜ now (grants .exit) ≡ granted (dealFrom (now (parents .entry)) (now (limits .entry)) (now (nodes .entry)) (now (levels .entry)) (now (lows .entry)) (now (wants .entry))) ⌝ }
     ensures { λ _. ⌜ ((n j : ℕ) → n < length (now (parents .entry)) → j < highestRank → cell (now (requests .exit)) n j ≡ cell (metrics (dealFrom (now (parents .entry)) (now (limits .entry)) (now (nodes .entry)) (now (levels .entry)) (now (lows .entry)) (now (wants .entry))) .requests) n j) ⌝ }
+    ensures { λ _. ⌜ BlankRows (length (now (parents .entry))) (now (actives .entry)) (now (counts .entry)) (now (requests .exit)) ⌝ }
 {
     copy(spare, left);
     let mut level: usize = 16;
@@ -175,13 +177,15 @@ pub(crate) fn deal(
     actives: &[[u16; 512]; 16],
     counts: &[u16],
     spare: &[u64],
+    requests: &mut [[u32; 16]; 512],
     grants: &mut [u32],
 )
     requires { ⌜ DealLists (now parents) (now limits) (now nodes) (now levels) (now lows) (now wants) (length (now grants)) ⌝ }
     requires { ⌜ LevelLists (now parents) (now nodes) (now levels) (now first) (now next) (now actives) (now counts) × Spare (now parents) (now limits) (now nodes) (now lows) (now spare) ⌝ }
+    requires { ⌜ BlankRows (length (now parents)) (now actives) (now counts) (now requests) ⌝ }
     ensures { λ _. ⌜ now (grants .exit) ≡ granted (dealFrom (now (parents .entry)) (now (limits .entry)) (now (nodes .entry)) (now (levels .entry)) (now (lows .entry)) (now (wants .entry))) ⌝ }
+    ensures { λ _. ⌜ BlankRows (length (now (parents .entry))) (now (actives .entry)) (now (counts .entry)) (now (requests .exit)) ⌝ }
 {
-    let mut requests = [[0u32; 16]; 512];
     let mut left = [0u64; 512];
     let mut pcapmins = [0u64; 512];
     let mut wholes = [0u64; 512];
@@ -201,7 +205,7 @@ pub(crate) fn deal(
         actives,
         counts,
         spare,
-        &mut requests,
+        requests,
         &mut left[..n],
         &mut pcapmins[..n],
         &mut wholes[..n],

@@ -4,58 +4,59 @@ use Prim.Native.Nat.{_-_}
 use native.Mathlib.Omega.{arith}
 use borrow.Author.Needs.{needs}
 use lib.ListN.{length}
+use Rattle.deals.specs.Passes.{BlankRows}
 use Rattle.deals.proofs.Reclaiming.{grants-kept, DealsMade, deals-start, reclaimable, dealable, deals-next}
 use Rattle.deals.proofs.both_deals.deal_twice.Statement.{statement}
 use Rattle.deals.proofs.both_deals.deal_twice.Tie as tie
 
 abbrev Inv-loop : tie.InvT-loop
-Inv-loop parents limits nodes levels lows wants₀ first next actives counts spare shares servers needed grants₀ usable₀ made₀ made-end wants grants usable freed made =
-    DealsMade parents limits nodes levels lows wants₀ shares servers needed (length grants₀) made freed wants grants usable
+Inv-loop parents limits nodes levels lows wants₀ first next actives counts spare requests₀ shares servers needed grants₀ usable₀ made₀ made-end wants requests grants usable freed made =
+    DealsMade parents limits nodes levels lows wants₀ shares servers needed (length grants₀) made freed wants grants usable × BlankRows (length parents) actives counts requests
 
 abbrev μ-loop : tie.MeasureT-loop
-μ-loop parents limits nodes levels lows wants₀ first next actives counts spare shares servers needed grants₀ usable₀ made₀ made-end wants grants usable freed made =
+μ-loop parents limits nodes levels lows wants₀ first next actives counts spare requests₀ shares servers needed grants₀ usable₀ made₀ made-end wants requests grants usable freed made =
     2 - made
 
 loop-holds : tie.Need-loop-holds Inv-loop μ-loop
 loop-holds c =
     let pre = c .before .before .before .before .before .before .before .before .before .before .before .before .before .before .before .pre in
-    deals-start (pre .0) (pre .1 .1 .0 .0) (pre .1 .1 .1) refl (pre .1 .1 .0 .1)
+    (deals-start (pre .0) (pre .1 .1 .0 .0) (pre .1 .1 .1 .0) refl (pre .1 .1 .0 .1), pre .1 .1 .1 .1)
 
 reclaim-after-requires : tie.Need-reclaim-after-requires Inv-loop μ-loop
 reclaim-after-requires c κs =
     let pre = c .before .before .before .before .before .before .before .before .before .before .before .before .before .before .before .before .before .before .before .before .pre in
-    reclaimable (pre .0) (pre .1 .1 .0 .0) (pre .1 .1 .1) (c .before .before .before .before .loop .inv) (c .before .before .before .loop-test .taken)
+    reclaimable (pre .0) (pre .1 .1 .0 .0) (pre .1 .1 .1 .0) (c .before .before .before .before .loop .inv .0) (c .before .before .before .loop-test .taken)
 
 make-deal-requires : tie.Need-make-deal-requires Inv-loop μ-loop
 make-deal-requires c κs =
-    let pre = c .before .before .before .before .before .before .before .before .before .before .before .before .before .before .before .before .before .before .before .before .before .before .before .before .before .before .pre in
-    let inv = c .before .before .before .before .before .before .before .before .before .before .loop .inv in
-    let lists = dealable (pre .0) (pre .1 .1 .0 .0) (pre .1 .1 .1) inv (c .before .before .before .before .before .before .before .before .before .loop-test .taken) (c .before .before .before .before .before .reclaim-after .ensures) in
-    (lists, (pre .1 .0, (grants-kept (pre .1 .1 .0 .0) (inv .grants-size), inv .usable-size)))
+    let pre = c .before .before .before .before .before .before .before .before .before .before .before .before .before .before .before .before .before .before .before .before .before .before .before .before .before .before .before .pre in
+    let inv = c .before .before .before .before .before .before .before .before .before .before .before .loop .inv .0 in
+    let lists = dealable (pre .0) (pre .1 .1 .0 .0) (pre .1 .1 .1 .0) inv (c .before .before .before .before .before .before .before .before .before .before .loop-test .taken) (c .before .before .before .before .before .before .reclaim-after .ensures) in
+    (lists, (pre .1 .0, ((grants-kept (pre .1 .1 .0 .0) (inv .grants-size), inv .usable-size), c .before .before .before .before .before .before .before .before .before .before .before .loop .inv .1)))
 
 add-made : tie.Need-add-made Inv-loop μ-loop
 add-made c = search needs
 
 loop-less : tie.Need-loop-less Inv-loop μ-loop
-loop-less c = omega (arith, c .before .before .before .before .before .before .before .before .before .before .before .before .before .before .loop-test .taken)
+loop-less c = omega (arith, c .before .before .before .before .before .before .before .before .before .before .before .before .before .before .before .loop-test .taken)
 
 loop-again : tie.Need-loop-again Inv-loop μ-loop
 loop-again c =
-    let pre = c .before .before .before .before .before .before .before .before .before .before .before .before .before .before .before .before .before .before .before .before .before .before .before .before .before .before .before .before .before .before .before .pre in
+    let pre = c .before .before .before .before .before .before .before .before .before .before .before .before .before .before .before .before .before .before .before .before .before .before .before .before .before .before .before .before .before .before .before .before .pre in
     let deal = c .before .before .before .before .make-deal in
-    deals-next (pre .0) (pre .1 .1 .0 .0) (pre .1 .1 .1) (c .before .before .before .before .before .before .before .before .before .before .before .before .before .before .before .loop .inv) (c .before .before .before .before .before .before .before .before .before .before .before .before .before .before .loop-test .taken) (c .before .before .before .before .before .before .before .before .before .before .reclaim-after .ensures) (c .before .before .before .before .before .before .before .before .before .before .reclaim-after .kept .1 .1 .1 .1 .1 .0) (deal .kept .1 .1 .1 .1 .1 .1 .1 .1 .1 .1 .1 .1 .1 .1 .0) (deal .kept .1 .1 .1 .1 .1 .1 .1 .1 .1 .1 .1 .1 .1 .1 .1 .0) (deal .ensures .0) (deal .ensures .1)
+    (deals-next (pre .0) (pre .1 .1 .0 .0) (pre .1 .1 .1 .0) (c .before .before .before .before .before .before .before .before .before .before .before .before .before .before .before .before .loop .inv .0) (c .before .before .before .before .before .before .before .before .before .before .before .before .before .before .before .loop-test .taken) (c .before .before .before .before .before .before .before .before .before .before .before .reclaim-after .ensures) (c .before .before .before .before .before .before .before .before .before .before .before .reclaim-after .kept .1 .1 .1 .1 .1 .0) (deal .kept .1 .1 .1 .1 .1 .1 .1 .1 .1 .1 .1 .1 .1 .1 .1 .0) (deal .kept .1 .1 .1 .1 .1 .1 .1 .1 .1 .1 .1 .1 .1 .1 .1 .1 .0) (deal .ensures .0) (deal .ensures .1 .0), deal .ensures .1 .1)
 
 same-length : tie.Need-same-length Inv-loop μ-loop
-same-length c = c .before .loop .inv .wants-size
+same-length c = c .before .loop .inv .0 .wants-size
 
 same-length-2 : tie.Need-same-length-2 Inv-loop μ-loop
-same-length-2 c = c .before .loop .inv .grants-size
+same-length-2 c = c .before .loop .inv .0 .grants-size
 
 same-length-3 : tie.Need-same-length-3 Inv-loop μ-loop
-same-length-3 c = c .before .loop .inv .usable-size ∙ sym (c .before .before .before .before .before .before .before .before .before .before .before .before .before .before .before .before .before .pre .1 .1 .0 .1)
+same-length-3 c = c .before .loop .inv .0 .usable-size ∙ sym (c .before .before .before .before .before .before .before .before .before .before .before .before .before .before .before .before .before .pre .1 .1 .0 .1)
 
 returns : tie.Need-returns Inv-loop μ-loop
-returns c = let inv = c .before .loop .inv in inv .both (omega (arith, inv .few, c .loop-test .left))
+returns c = let inv = c .before .loop .inv .0 in inv .both (omega (arith, inv .few, c .loop-test .left))
 
 pub deal-twice-spec : {M : Type 1} → statement M
 deal-twice-spec =

@@ -5,10 +5,10 @@ use Rattle.deals.proofs.both_deals.make_deal.Statement.{statement}
 use Rattle.deals.proofs.both_deals.make_deal.Tie as tie
 
 deal-requires : tie.Need-deal-requires
-deal-requires c κs = search needs
+deal-requires c κs = let pre = c .before .before .before .before .before .before .before .before .before .before .before .before .before .before .before .before .before .pre in (pre .0, (pre .1 .0, pre .1 .1 .1))
 
 usable-of-requires : tie.Need-usable-of-requires
-usable-of-requires c κs = let served = c .before .before .before .before .before .before .before .before .before .before .before .before .before .before .before .before .before .before .before .before .before .pre .1 .1 in (grants-kept (served .0) (c .before .before .before .before .deal .kept .1 .1 .1 .1 .1 .1 .1 .1 .1 .1 .1 .0), served .1)
+usable-of-requires c κs = let served = c .before .before .before .before .before .before .before .before .before .before .before .before .before .before .before .before .before .before .before .before .before .before .pre .1 .1 .0 in (grants-kept (served .0) (c .before .before .before .before .deal .kept .1 .1 .1 .1 .1 .1 .1 .1 .1 .1 .1 .1 .0), served .1)
 
 same-length : tie.Need-same-length
 same-length c = search needs
@@ -17,7 +17,7 @@ same-length-2 : tie.Need-same-length-2
 same-length-2 c = search needs
 
 returns : tie.Need-returns
-returns c = (search needs, search needs)
+returns c = (search needs, (search needs, search needs))
 
 pub make-deal-spec : {M : Type 1} → statement M
 make-deal-spec = tie.close (tie.spec deal-requires usable-of-requires same-length same-length-2 returns)

@@ -1,6 +1,6 @@
 -- `plan_room` meets its contract: it lends lists of zeros as long as the room's nodes, cords and servers are many.
 use Rattle.deals.proofs.Planning.{table-begun, nodes-most, cords-most, servers-most, nodes-front, cords-front, servers-front, nodes-lent, cords-lent, servers-lent}
-use Rattle.deals.proofs.RankLoop.{zeros-rows}
+use Rattle.deals.proofs.RankLoop.{zeros-rows, zeros-cells}
 use borrow.Author.Needs.{needs}
 use Rattle.deals.proofs.both_deals.plan_room.Statement.{statement}
 use Rattle.deals.proofs.both_deals.plan_room.Tie as tie
@@ -91,10 +91,10 @@ slice-aggregate-plan-lists-14 c = nodes-front _ (c .before .before .before .befo
 
 plan-lists-requires : tie.Need-plan-lists-requires
 plan-lists-requires c κs =
-    let table = c .before .before .before .before .before .before .before .before .before .before .before .before .before .before .before .before .before .before .before .before .before .before .before .args .table .now in
-    let good = c .before .before .before .before .before .before .before .before .before .before .before .before .before .before .before .before .before .before .before .before .before .before .before .pre .0 in
-    let fits = c .before .before .before .before .before .before .before .before .before .before .before .before .before .before .before .before .before .before .before .before .before .before .before .pre .1 in
-    let nodes = nodes-lent table good _ (c .before .before .before .before .before .before .before .before .before .before .before .before .before .before .before .before .before .word-index .ensures .0) in
+    let table = c .before .before .before .before .before .before .before .before .before .before .before .before .before .before .before .before .before .before .before .before .before .before .before .before .args .table .now in
+    let good = c .before .before .before .before .before .before .before .before .before .before .before .before .before .before .before .before .before .before .before .before .before .before .before .before .pre .0 in
+    let fits = c .before .before .before .before .before .before .before .before .before .before .before .before .before .before .before .before .before .before .before .before .before .before .before .before .pre .1 in
+    let nodes = nodes-lent table good _ (c .before .before .before .before .before .before .before .before .before .before .before .before .before .before .before .before .before .before .word-index .ensures .0) in
     let cords = cords-lent table good _ (fits .1) in (
       record {
         good-table = good;
@@ -107,7 +107,7 @@ plan-lists-requires c κs =
         servers-fit = cords;
         needs-fit = servers-lent table good _ (fits .0);
       },
-      ((nodes, nodes), ((search needs, cords, nodes, nodes), ((zeros-rows 16 512, search needs), (fits .1, fits .2)))),
+      ((nodes, nodes), ((search needs, cords, nodes, nodes), ((zeros-rows 16 512, search needs), ((zeros-rows 512 16, zeros-cells), (fits .1, fits .2))))),
     )
 
 same-length : tie.Need-same-length

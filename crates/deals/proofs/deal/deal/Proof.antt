@@ -1,6 +1,6 @@
--- `deal` meets its contract: it lends lists of zeros, one figure a node, and rows of zeros.
+-- `deal` meets its contract: it lends lists of zeros, one figure a node.
 use mathlib.Core.Path.{sym}
-use Rattle.deals.proofs.RankLoop.{zeros-front, zeros-rows, zeros-cells}
+use Rattle.deals.proofs.RankLoop.{zeros-front}
 use borrow.Author.Needs.{needs}
 use Rattle.deals.proofs.deal.deal.Statement.{statement}
 use Rattle.deals.proofs.deal.deal.Tie as tie
@@ -45,13 +45,13 @@ deal-ranks-requires : tie.Need-deal-ranks-requires
 deal-ranks-requires c κs =
     let pre = c .before .before .before .before .before .before .before .before .before .before .before .before .before .before .before .before .before .before .before .pre in
     let size = zeros-front 512 _ (pre .0 .of-nodes .few) in
-    (pre .0, (pre .1, (record { left-size = size; pcapmins-size = size; wholes-size = size; amounts-size = size; before-size = size; dealt-size = size }, (zeros-rows 512 16, zeros-cells))))
+    (pre .0, (pre .1 .0, (record { left-size = size; pcapmins-size = size; wholes-size = size; amounts-size = size; before-size = size; dealt-size = size }, pre .1 .1)))
 
 same-length : tie.Need-same-length
 same-length c = search needs
 
 returns : tie.Need-returns
-returns c = search needs
+returns c = (search needs, search needs)
 
 pub deal-spec : {M : Type 1} → statement M
 deal-spec =

@@ -1,6 +1,6 @@
 -- `deal_rank` meets its contract: what each pass leaves is what the next one asks, and all four together deal the rank.
 use mathlib.Core.Path.{_∙_}
-use Rattle.deals.proofs.RankLoop.{cords-fit, wholes-fit, summed, gathered-sizes, dealt-sizes, gather-nodes, gather-sizes, gather-sums, gather-room, gather-idle, nodes-sizes, nodes-room, nodes-blank, cords-lists, cords-sizes, cords-figures, cords-weights, rank-dealt}
+use Rattle.deals.proofs.RankLoop.{cords-fit, wholes-fit, summed, gathered-sizes, dealt-sizes, gather-nodes, gather-sizes, gather-sums, gather-room, gather-idle, nodes-sizes, nodes-room, nodes-blank, cords-lists, cords-sizes, cords-figures, cords-weights, column-filled, rank-dealt}
 use Rattle.deals.proofs.deal.deal_rank.Statement.{statement}
 use Rattle.deals.proofs.deal.deal_rank.Tie as tie
 
@@ -66,7 +66,7 @@ returns c =
     let g = gathered .ensures in
     let nodes = c .before .before .before .before .before .before .before .before .before .before .before .before .before .before .before .before .before .before .deal-nodes in
     let sizes₁ = dealt-sizes given sums sizes g (nodes .ensures) (nodes .kept .1 .1 .1 .1 .1 .1 .1 .0) (nodes .kept .1 .1 .1 .1 .1 .1 .1 .1 .0) (nodes .kept .1 .1 .1 .1 .1 .1 .1 .1 .1 .0) in
-    rank-dealt given sums sizes g sizes₁ (nodes .ensures) (c .before .before .before .before .before .before .deal-cords .ensures)
+    (rank-dealt given sums sizes g sizes₁ (nodes .ensures) (c .before .before .before .before .before .before .deal-cords .ensures), column-filled given sums sizes g)
 
 pub deal-rank-spec : {M : Type 1} → statement M
 deal-rank-spec =

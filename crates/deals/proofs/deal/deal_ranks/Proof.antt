@@ -35,7 +35,8 @@ loop-holds c =
         before-size = sizes .before-size;
         dealt-size = sizes .dealt-size;
       };
-      ranks = ranks-start (pre .0) _ (pre .1 .1 .1 .0) (pre .1 .1 .1 .1) (rw (c .before .before .copy .ensures) (pre .1 .0 .1));
+      ranks = ranks-start (pre .0) _ (pre .1 .1 .1 .full) (rw (c .before .before .copy .ensures) (pre .1 .0 .1));
+      blank = pre .1 .1 .1;
     }
 
 sub-level : tie.Need-sub-level Inv-loop μ-loop
@@ -74,7 +75,7 @@ loop-less c = falls-down _ (c .before .before .before .before .before .before .b
 loop-again : tie.Need-loop-again Inv-loop μ-loop
 loop-again c =
     let rank = c .before .before .before .before .before .before .before .before .before .before .before .before .before .before .deal-rank in
-    loop-turn (c .before .before .before .before .before .before .before .before .before .before .before .before .before .before .before .before .before .before .before .before .before .before .before .before .before .before .before .before .before .before .before .loop .inv) (c .before .before .before .before .before .before .before .before .before .before .before .before .before .before .before .before .before .before .before .before .before .before .before .before .before .before .before .before .before .before .loop-test .taken) (rank .kept .1 .1 .1 .1 .1 .1 .1 .1 .1 .1 .1 .1 .0) (rank .kept .1 .1 .1 .1 .1 .1 .1 .1 .1 .1 .1 .1 .1 .0) (rank .kept .1 .1 .1 .1 .1 .1 .1 .1 .1 .1 .1 .1 .1 .1 .0) (rank .kept .1 .1 .1 .1 .1 .1 .1 .1 .1 .1 .1 .1 .1 .1 .1 .0) (rank .kept .1 .1 .1 .1 .1 .1 .1 .1 .1 .1 .1 .1 .1 .1 .1 .1 .0) (rank .kept .1 .1 .1 .1 .1 .1 .1 .1 .1 .1 .1 .1 .1 .1 .1 .1 .1 .0) (rank .kept .1 .1 .1 .1 .1 .1 .1 .1 .1 .1 .1 .1 .1 .1 .1 .1 .1 .1 .0) (rank .ensures)
+    loop-turn (c .before .before .before .before .before .before .before .before .before .before .before .before .before .before .before .before .before .before .before .before .before .before .before .before .before .before .before .before .before .before .before .loop .inv) (c .before .before .before .before .before .before .before .before .before .before .before .before .before .before .before .before .before .before .before .before .before .before .before .before .before .before .before .before .before .before .loop-test .taken) (rank .kept .1 .1 .1 .1 .1 .1 .1 .1 .1 .1 .1 .1 .0) (rank .kept .1 .1 .1 .1 .1 .1 .1 .1 .1 .1 .1 .1 .1 .0) (rank .kept .1 .1 .1 .1 .1 .1 .1 .1 .1 .1 .1 .1 .1 .1 .0) (rank .kept .1 .1 .1 .1 .1 .1 .1 .1 .1 .1 .1 .1 .1 .1 .1 .0) (rank .kept .1 .1 .1 .1 .1 .1 .1 .1 .1 .1 .1 .1 .1 .1 .1 .1 .0) (rank .kept .1 .1 .1 .1 .1 .1 .1 .1 .1 .1 .1 .1 .1 .1 .1 .1 .1 .0) (rank .kept .1 .1 .1 .1 .1 .1 .1 .1 .1 .1 .1 .1 .1 .1 .1 .1 .1 .1 .0) (rank .ensures .0) (c .before .before .before .before .before .before .before .before .before .before .before .before .before .before .before .before .before .before .before .before .before .before .before .before .before .index2 .ensures .0) (rank .ensures .1)
 
 loop-less-2 : tie.Need-loop-less-2 Inv-loop μ-loop
 loop-less-2 c = search needs
@@ -104,7 +105,7 @@ same-length-7 : tie.Need-same-length-7 Inv-loop μ-loop
 same-length-7 c = c .before .loop .inv .lists .grants-size ∙ sym (c .before .before .before .before .before .before .before .before .before .before .before .before .before .before .before .before .before .before .before .before .before .before .before .pre .0 .grants-size)
 
 returns : tie.Need-returns Inv-loop μ-loop
-returns c = (loop-end (c .before .loop .inv) (c .loop-test .left), rows-end (c .before .loop .inv) (c .loop-test .left))
+returns c = (loop-end (c .before .loop .inv) (c .loop-test .left), (rows-end (c .before .loop .inv) (c .loop-test .left), c .before .loop .inv .blank))
 
 pub deal-ranks-spec : {M : Type 1} → statement M
 deal-ranks-spec =

@@ -17,12 +17,12 @@ use Rattle.rooms.specs.Credits.{credited}
 use Rattle.rooms.proofs.Sums.{on-no, sum-suc, up-cong}
 use Rattle.rooms.proofs.Trees.{kids, kids-cong, down}
 use Rattle.rooms.proofs.Credits.{sumBeneath-step, credited-at, credited-length, figure-in-sum, sum-credited}
-use Rattle.rooms.proofs.Gather.{Holds, holds-start, holds-turn, holds-whole}
+use Rattle.rooms.proofs.Gather.{Holds, holds-start, holds-turn, holds-end, holds-whole}
 use Rattle.deals.specs.Figures.{at, cell}
 use Rattle.deals.specs.Passes.{FullRows, Absent, ActiveNodes, Gathered}
 use Rattle.deals.proofs.Lists.{passed-down}
 use Rattle.deals.proofs.Active.{Parted, parted-none, parted-all, parted-at, parted-after, between}
-use Rattle.deals.proofs.NodeSums.{Rises, beneathAll, holds-end, credited-nothing, kids-none, Summing, summing-start, summing-most, whole-at, summing-at, summing-idle, summing-end}
+use Rattle.deals.proofs.NodeSums.{Rises, beneathAll, credited-nothing, kids-none, Summing, summing-start, summing-most, whole-at, summing-at, summing-idle, summing-end}
 
 -- ---- A figure stored in a row
 

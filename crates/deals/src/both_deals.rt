@@ -1,13 +1,14 @@
 // Both deals of a good table with its servers' demands.
 ghost use mathlib.Core.Path.{_≡_};
+ghost use Prim.Native.Nat.{_≤_};
 ghost use lib.ListN.{length};
 ghost use Rattle.rooms.specs.Part.{Good};
 ghost use Rattle.rooms.specs.Limits.{checked};
-ghost use Rattle.rooms.specs.Table.{highestRank};
+ghost use Rattle.rooms.specs.Table.{mostNodes, highestRank};
 ghost use Rattle.deals.specs.Metrics.{dealFrom};
 ghost use Rattle.deals.specs.Dealing.{granted};
 ghost use Rattle.deals.specs.Plan.{firstTooLarge};
-ghost use Rattle.deals.specs.Passes.{DealLists, LevelLists, Spare, ServerLists, usableFrom, CordsLent, NodesFit, ServersFit, CordsFit, Planning};
+ghost use Rattle.deals.specs.Passes.{DealLists, LevelLists, Spare, ServerLists, usableFrom, CordsLent, NodesFit, ServersFit, CordsFit, HasLowsBeneath, Planning};
 use crate::deal::deal;
 use crate::levels::link_levels;
 use crate::levels::mark_nodes;
@@ -74,8 +75,8 @@ fn make_deal(
     usable_of(shares, servers, needs, grants, usable);
 }
 
-// Makes the plan, in lists with one entry for each node, cord or server of the room; gives the freed watts. Until the second deal,
-// `caps` holds what each server can use of the first grants.
+// Makes the plan, in lists with one entry for each node, cord or server of the room; gives the freed watts. `spare` comes with the
+// lows beneath each node. Until the second deal, `caps` holds what each server can use of the first grants.
 fn plan_lists(
     table: &[u32],
     demands: &[u32],
@@ -97,7 +98,7 @@ fn plan_lists(
 ) -> u64
     requires { ⌜ CordsLent (now table) (now demands) (now nodes) (now levels) (now lows) (now wants) (now shares) (now servers) (now needs) ⌝ }
     requires { ⌜ NodesFit (now table) (length (now parents)) × NodesFit (now table) (length (now limits)) ⌝ }
-    requires { ⌜ (length (now first) ≡ highestRank) × CordsFit (now table) (length (now next)) × NodesFit (now table) (length (now marks)) × NodesFit (now table) (length (now spare)) ⌝ }
+    requires { ⌜ (length (now first) ≡ highestRank) × CordsFit (now table) (length (now next)) × NodesFit (now table) (length (now marks)) × NodesFit (now table) (length (now spare)) × HasLowsBeneath (now table) (now spare) ⌝ }
     requires { ⌜ CordsFit (now table) (length (now grants)) × ServersFit (now table) (length (now caps)) ⌝ }
     ensures { λ r. ⌜ Planning (now (table .entry)) (now (demands .entry)) r (now (grants .exit)) (now (caps .exit)) ⌝ }
 {
@@ -115,7 +116,7 @@ fn plan_lists(
     );
     link_levels(levels, first, next);
     mark_nodes(parents, nodes, levels, marks);
-    spare_limits(parents, limits, nodes, lows, spare);
+    spare_limits(limits, spare);
     make_deal(
         parents,
         limits,
@@ -155,10 +156,16 @@ fn plan_lists(
 }
 
 // The grants and caps of a good table with a demand for each server, in lists with one entry for each cord and each server; gives the
-// freed watts.
-pub(crate) fn plan_room(table: &[u32], demands: &[u32], grants: &mut [u32], caps: &mut [u32]) -> u64
+// freed watts. `spare` comes with the lows beneath each node, as the check of the table leaves them.
+pub(crate) fn plan_room(
+    table: &[u32],
+    demands: &[u32],
+    spare: &mut [u64],
+    grants: &mut [u32],
+    caps: &mut [u32],
+) -> u64
     requires { ⌜ Good (checked (now table) 0) ⌝ }
-    requires { ⌜ ServersFit (now table) (length (now demands)) × CordsFit (now table) (length (now grants)) × ServersFit (now table) (length (now caps)) ⌝ }
+    requires { ⌜ ServersFit (now table) (length (now demands)) × CordsFit (now table) (length (now grants)) × ServersFit (now table) (length (now caps)) × (mostNodes ≤ length (now spare)) × HasLowsBeneath (now table) (now spare) ⌝ }
     ensures { λ r. ⌜ Planning (now (table .entry)) (now (demands .entry)) r (now (grants .exit)) (now (caps .exit)) ⌝ }
 {
     let mut parents = [0u32; 512];
@@ -173,7 +180,6 @@ pub(crate) fn plan_room(table: &[u32], demands: &[u32], grants: &mut [u32], caps
     let mut first = [0u32; 16];
     let mut next = [0u32; 1024];
     let mut marks = [0u32; 512];
-    let mut spare = [0u64; 512];
     let n = index(table[1]);
     let k = grants.len();
     plan_lists(

@@ -12,7 +12,7 @@ use lib.Dec.{ltb}
 use borrow.Author.Tests.{ltb-true, ltb-false}
 use Rattle.rooms.specs.Part.{Step, good, bad}
 use Rattle.rooms.specs.Table.{Node, Room, mostNodes, mostServers, mostServerCords, mostWatts, node, nodes, servers, table, roomCords}
-use Rattle.rooms.specs.Limits.{limit, beneath, nodeAt, parentOf, lows, lowsBeneath, lowsFrom, nodeLows, firstNode, overloaded}
+use Rattle.rooms.specs.Limits.{limit, beneath, nodeAt, parentOf, lows, lowsBeneath, lowsFrom, nodeLows, firstNode, overloaded, lowsTold}
 use Rattle.rooms.specs.Credits.{parentAt, limitAt, figures, sumBeneath, exceeds, creditedServers, creditedRoom, LowsCredited, SumsGathered}
 use Rattle.rooms.specs.Told.{told}
 use Rattle.rooms.specs.declared.Refusal.{Refusal}
@@ -41,6 +41,11 @@ lowsFrom-length (suc count) n r = ap suc (lowsFrom-length count (suc n) r)
 -- What the list of a check has at a place.
 pub nodeLows-at : (r : Room) (i : ℕ) → i < mostNodes → getD (nodeLows r) i 0 ≡ lowsBeneath r i
 nodeLows-at r i h = lowsFrom-at mostNodes 0 i r h ∙ ap (lowsBeneath r) (zero-add i)
+
+pub lowsTold-length : (s : Step Room) → length (lowsTold s) ≡ mostNodes
+unfolding lowsTold
+lowsTold-length (good r end) = lowsFrom-length mostNodes 0 r
+lowsTold-length (bad refusal) = length-replicate {A = ℕ} mostNodes 0
 
 -- ---- The search
 

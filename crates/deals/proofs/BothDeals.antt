@@ -1,7 +1,7 @@
 -- Both deals of a room whose table is accepted: each goes by wants that lie above the lows, so that what holds of every deal holds of both.
 use mathlib.Core.Path.{_≡_, refl, sym, ap, ap₂, _∙_, subst}
 use mathlib.Core.Bool.{Bool, true, false, cond, _&&_}
-use mathlib.Core.List.{List}
+use mathlib.Core.List.{List, []}
 use mathlib.Core.Logic.{_⊎_, inl, inr}
 use Prim.Native.Nat.{ℕ, _*_, _-_, _≤_, _<_}
 use native.Mathlib.Nat.{le-refl, le-trans, le-of-eq, eq-zero-or-pos, zero-mul}
@@ -9,9 +9,9 @@ use native.Mathlib.Omega.{arith}
 use lib.Dec.{eqb, ltb}
 use lib.ListN.{length}
 use borrow.Author.Tests.{eqb-true, eq-eqb, ltb-true, lt-ltb}
-use Rattle.rooms.specs.Sums.{on}
+use Rattle.rooms.specs.Sums.{on, sum}
 use Rattle.rooms.specs.Table.{Room, scale, roomCords}
-use Rattle.rooms.specs.Limits.{carried, limit, nodeAt, parentOf, hangsBeneath}
+use Rattle.rooms.specs.Limits.{carried, limit, beneath, nodeAt, parentOf, hangsBeneath, lowsBeneath}
 use Rattle.rooms.proofs.All.{all-at}
 use Rattle.rooms.proofs.Accepted.{CordAccepted, ServerAccepted, Accepted}
 use Rattle.rooms.proofs.Sums.{sum-cong}
@@ -19,9 +19,10 @@ use Rattle.rooms.proofs.Trees.{below, under, under-is}
 use Rattle.deals.specs.Figures.{figures, at}
 use Rattle.deals.specs.Cords.{RoomCord, cordAt, serverAt, serverOf}
 use Rattle.deals.specs.Wants.{need, needs, carriedBy, lowsOf, firstWants}
-use Rattle.deals.specs.Metrics.{dealOf}
+use Rattle.deals.specs.Metrics.{Deal, dealFrom, dealOf, parentsOf, nodesOf}
 use Rattle.deals.specs.SecondDeal.{leastOver, loaded, loadOf, usable, stranded, wantsAfter, firstGrants, firstUsable, firstUsed, secondWants, secondGrants, caps}
 use Rattle.deals.specs.Dealing.{grantsBy}
+use Rattle.deals.specs.Passes.{lowsUnder}
 use Rattle.deals.proofs.Equations.{Dealable, WholeWay}
 use Rattle.deals.proofs.Lists.{figures-at, figures-length}
 use Rattle.deals.proofs.Computed.{granted-way}
@@ -162,6 +163,16 @@ module _ (r : Room) (ok : Accepted r) where
 
   -- ---- A deal by wants at or above the lows
 
+  -- The lows beneath a node, over the room's cords and over its lists.
+  lows-are : (n : ℕ) → sum (roomCords r) (λ c. on (hangsBeneath r n (cordAt r c .node)) (at (lowsOf r) c)) ≡ lowsBeneath r n
+  lows-are n =
+      sum-cong (roomCords r) _ _ (λ c l. ap (λ (z : ℕ). on (hangsBeneath r n (cordAt r c .node)) z) (lowsOf-at c l)) ∙ sym (lows-sum r (hangsBeneath r n))
+
+  pub lows-under : (n : ℕ) → lowsUnder (parentsOf r) (nodesOf r) (lowsOf r) n ≡ lowsBeneath r n
+  unfolding dealOf dealFrom
+  lows-under n =
+      ap (λ (d : Deal). sum (d .cords) (λ c. on (beneath (d .parent) (d .nodes) n (d .node c)) (d .low c))) (dealOf-is r []) ∙ lows-are n
+
   lows-fit : (n : ℕ) → n < length (r .nodes)
       → below (length (r .nodes)) (parentOf r) (roomCords r) (λ c. cordAt r c .node) n (at (lowsOf r)) ≤ limit (nodeAt r n)
   unfolding under
@@ -169,8 +180,7 @@ module _ (r : Room) (ok : Accepted r) where
       le-trans
       (le-of-eq
       (sym (under-is (length (r .nodes)) (parentOf r) parents-below (roomCords r) (λ c. cordAt r c .node) (λ c lc. cord-facts c lc .2) n (at (lowsOf r)))
-      ∙ sum-cong (roomCords r) _ _ (λ c lc. ap (λ (z : ℕ). on (hangsBeneath r n (cordAt r c .node)) z) (lowsOf-at c lc))
-      ∙ sym (lows-sum r (hangsBeneath r n))))
+      ∙ lows-are n))
       (ok .lows n l)
 
   pub room-dealable : (wants : List ℕ) → ((c : ℕ) → c < roomCords r → at (lowsOf r) c ≤ at wants c) → Dealable (roomDeal r wants)

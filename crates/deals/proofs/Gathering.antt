@@ -17,12 +17,12 @@ use Rattle.rooms.specs.Credits.{credited}
 use Rattle.rooms.proofs.Sums.{on-no, sum-suc, up-cong}
 use Rattle.rooms.proofs.Trees.{kids, kids-cong, down}
 use Rattle.rooms.proofs.Credits.{sumBeneath-step, credited-at, credited-length, figure-in-sum, sum-credited}
-use Rattle.rooms.proofs.Gather.{Holds, holds-start, holds-turn, holds-whole}
+use Rattle.rooms.proofs.Gather.{Holds, holds-start, holds-turn, holds-end, holds-whole}
 use Rattle.deals.specs.Figures.{at, cell}
 use Rattle.deals.specs.Passes.{FullRows, Absent, ActiveNodes, Gathered}
 use Rattle.deals.proofs.Lists.{passed-down}
 use Rattle.deals.proofs.Active.{Parted, parted-none, parted-all, parted-at, parted-after, between}
-use Rattle.deals.proofs.NodeSums.{Rises, beneathAll, holds-end, credited-nothing, kids-none, Summing, summing-start, summing-most, whole-at, summing-at, summing-idle, summing-end}
+use Rattle.deals.proofs.NodeSums.{Rises, beneathAll, credited-nothing, kids-none, Summing, summing-start, summing-most, whole-at, summing-at, summing-idle, summing-end}
 
 -- ---- A figure stored in a row
 
@@ -336,21 +336,23 @@ module _ {parents active : List ℕ} {count level : ℕ} {left₀ lows excesses 
       pub gather-size : length pcapmins ≡ length parents
       gather-size = here .1 .size ∙ t .lows-size
 
-      pub gather-turn : {v u parent : ℕ} {wholes′ pcapmins′ : List ℕ} → v ≡ excessOf left wholes n → u ≡ at pcapmins n + v → parent ≡ at parents n
+      pub gather-turn : {rest v w u parent : ℕ} {wholes′ pcapmins′ : List ℕ} → rest ≡ at left n → v ≡ min rest (at wholes n) → w ≡ rest - v → u ≡ at pcapmins n + v → parent ≡ at parents n
           → pcapmins′ ≡ credited parent (at pcapmins n) pcapmins → wholes′ ≡ credited parent v wholes
-          → GatherTurn parents active count level left₀ lows excesses rows₀ (i - 1) (set left n (at left n - v)) pcapmins′ wholes′ (stored rows n level u)
-      gather-turn {u = u} ev eu ep es ew = record {
-        nodes = t .nodes;
-        lows-size = t .lows-size;
-        n = n;
-        parted = rw (sym is) at (parted-at (t .nodes) (i - 1) (omega (arith, t .parted .reached)));
-        idle = λ m l none. (
-          t .idle m l none .0,
-          t .idle m l none .1,
-          cell-elsewhere rows n level u (omega (arith, here .0 .full .0, here .0 .given .few, gather-node .in-parents)) m level
-              (λ e. none (i - 1) (omega (arith, t .parted .reached)) (sym is ∙ sym e))
-              ∙ t .idle m l none .2,
-        );
-        requesting = gather-node .turn gather-whole ev eu ep ew;
-        summing = summing-at rises (t .lows-size) (here .1) ep es;
-      }
+          → GatherTurn parents active count level left₀ lows excesses rows₀ (i - 1) (set left n w) pcapmins′ wholes′ (stored rows n level u)
+      gather-turn {v = v} {u = u} er ev el eu ep es ew =
+          rw (el, er)
+          (record {
+            nodes = t .nodes;
+            lows-size = t .lows-size;
+            n = n;
+            parted = rw (sym is) at (parted-at (t .nodes) (i - 1) (omega (arith, t .parted .reached)));
+            idle = λ m l none. (
+              t .idle m l none .0,
+              t .idle m l none .1,
+              cell-elsewhere rows n level u (omega (arith, here .0 .full .0, here .0 .given .few, gather-node .in-parents)) m level
+                  (λ e. none (i - 1) (omega (arith, t .parted .reached)) (sym is ∙ sym e))
+                  ∙ t .idle m l none .2,
+            );
+            requesting = gather-node .turn gather-whole (ev ∙ ap (λ (x : ℕ). min x (at wholes n)) er) eu ep ew;
+            summing = summing-at rises (t .lows-size) (here .1) ep es;
+          })

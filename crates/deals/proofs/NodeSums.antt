@@ -8,21 +8,20 @@ use Prim.Native.Nat.{ℕ, zero, suc, _+_, _-_, _*_, _^_, _≤_, _<_}
 use native.Mathlib.Nat.{eq-or-lt-of-le, le-refl, add-zero}
 use native.Mathlib.Numerals.{add-one}
 use native.Mathlib.Omega.{arith}
-use lib.Dec.{eqb, eqb·suc-suc}
+use lib.Dec.{eqb}
 use lib.ListN.{length, set, replicate, length-set, length-replicate}
 use lib.Seq.{set-getD, getD-set-same, getD-set-other, ext-getD}
 use borrow.Author.Count.{below-more}
 use borrow.Author.Tests.{eq-eqb, ne-eqb, eqb-true}
 use Rattle.rooms.specs.Sums.{on, sum}
 use Rattle.rooms.specs.Table.{mostCords, mostWatts}
-use Rattle.rooms.specs.Limits.{beneath}
 use Rattle.rooms.specs.Credits.{sumBeneath, credited}
-use Rattle.rooms.proofs.Sums.{on-yes, on-no, sum-suc, sum-none, sum-cong, sum-zero, sum-le, sum-one, sum-swap, sum-up}
-use Rattle.rooms.proofs.Trees.{kids, kids-cong, own, below-step, down, under, under-is}
+use Rattle.rooms.proofs.Sums.{on-yes, on-no, sum-suc, sum-none, sum-cong, sum-zero, sum-le}
+use Rattle.rooms.proofs.Trees.{kids, own}
 use Rattle.rooms.proofs.Credits.{credited-at, credited-length, zeros-at, sumBeneath-step, sumBeneath-most}
-use Rattle.rooms.proofs.Gather.{Holds, holds-start, holds-turn, holds-most, holds-whole}
+use Rattle.rooms.proofs.Gather.{Holds, holds-start, holds-turn, holds-most, holds-end, holds-whole}
 use Rattle.deals.specs.Figures.{at}
-use Rattle.deals.specs.Passes.{NextOf, lowsUnder, LowsWithin, Spare}
+use Rattle.deals.specs.Passes.{NextOf}
 use Rattle.deals.proofs.Lists.{sum-most}
 use Rattle.deals.proofs.Links.{skipped}
 
@@ -67,17 +66,6 @@ on-zero false a e = refl
 own-most : (kk : ℕ) (node : ℕ → ℕ) (n : ℕ) (figure : ℕ → ℕ) → own kk node n figure ≤ sum kk figure
 unfolding own
 own-most kk node n figure = sum-le kk _ figure (λ c l. on-most (eqb (node c) (suc n)) (figure c))
-
--- Each cord hangs on one node, so the nodes' sums have each cord's figure once.
-sum-own : (count kk : ℕ) (node figure : ℕ → ℕ) → ((c : ℕ) → c < kk → (1 ≤ node c) × (node c ≤ count))
-    → sum count (λ n. own kk node n figure) ≡ sum kk figure
-unfolding own
-sum-own count kk node figure hangs =
-    sum-swap count kk (λ n c. on (eqb (node c) (suc n)) (figure c)) ∙ sum-cong kk _ figure (λ c l. one (node c) (figure c) (hangs c l .0) (hangs c l .1))
-  where
-    one : (x a : ℕ) → 1 ≤ x → x ≤ count → sum count (λ n. on (eqb x (suc n)) a) ≡ a
-    one zero a p l = absurd (omega arith)
-    one (suc m) a p l = sum-cong count _ _ (λ n h. ap (λ (t : Bool). on t a) (eqb·suc-suc m n)) ∙ sum-one count m (λ n. a) l
 
 -- A figure of the cords of a level: 0 at every other cord.
 unfoldable pub ofLevel : List ℕ → (ℕ → ℕ) → ℕ → ℕ → ℕ
@@ -159,19 +147,6 @@ module _ {count : ℕ} {node figure : ℕ → ℕ} {c : ℕ} {sums : List ℕ} (
           omega (arith, h .0, h .1, h .2, inv .sums-are (x - 1) (omega (arith, h .0, h .1))),
         )
 
-    -- All nodes' sums together do not pass it either.
-    pub credited-sum : c ≡ kk → Hangs count kk node figure → {size : ℕ} → count ≡ size → (length sums ≡ size) × (sum size (at sums) ≤ mostCords * mostWatts)
-    credited-sum e hangs z = (
-      inv .size ∙ z,
-      omega (
-        arith,
-        ap (λ (k : ℕ). sum k (at sums)) z,
-        sum-cong count (at sums) (λ n. own c node n figure) (λ n l. inv .sums-are n l),
-        sum-own count c node figure (λ i l. (hangs i (omega arith) .0, hangs i (omega arith) .1)),
-        sum-most c mostWatts figure (λ i l. hangs i (omega arith) .2),
-      ),
-    )
-
 -- The cords of other levels up to the next one of the level add nothing.
 pub credited-skip : {count : ℕ} {node : ℕ → ℕ} {levels : List ℕ} (figure : ℕ → ℕ) {level c d : ℕ} {sums : List ℕ} → NextOf levels level c d
     → Credited count node (ofLevel levels figure level) c sums → Credited count node (ofLevel levels figure level) d sums
@@ -179,28 +154,6 @@ credited-skip {count} {node} {levels} figure {level} {sums = sums} ahead =
     skipped (λ (i : ℕ). Credited count node (ofLevel levels figure level) i sums) ahead (λ h l other done. credited-none done (ofLevel-no levels figure level h other))
 
 -- ---- Sums over all nodes beneath a node
-
--- A node's own cords, summed over all nodes beneath it, are the cords beneath it.
-pub sumBeneath-own : (count : ℕ) (parent : ℕ → ℕ) → ((m : ℕ) → m < count → parent m ≤ m) → (kk : ℕ) (node : ℕ → ℕ) → ((c : ℕ) → c < kk → node c ≤ count)
-    → (figure sums : ℕ → ℕ) → ((n : ℕ) → n < count → sums n ≡ own kk node n figure)
-    → (n : ℕ) → n < count → sumBeneath parent count sums n ≡ sum kk (λ c. on (beneath parent count n (node c)) (figure c))
-unfolding under
-sumBeneath-own count parent rises kk node here figure sums are =
-    down count (λ n. sumBeneath parent count sums n ≡ under count parent kk node n figure)
-    (λ n l later.
-    sumBeneath-step count parent rises sums n l
-    ∙ ap₂ _+_ (are n l)
-    (kids-cong count parent n _ _ (λ m h e. later m h (omega (arith, rises m h)) ∙ under-is count parent rises kk node here m figure))
-    ∙ sym (below-step count parent rises kk node here n figure)
-    ∙ sym (under-is count parent rises kk node here n figure))
-
--- When all nodes had their turns, each has what all its children passed to it.
-pub holds-end : (count : ℕ) (parent own passed : ℕ → ℕ) (done : ℕ) (now : ℕ → ℕ) → 0 + done ≡ count → Holds count parent own passed done 0 now
-    → (i : ℕ) → i < count → now i ≡ own i + kids count parent i passed
-unfolding Holds kids
-holds-end count parent own passed done now e h i l =
-    let f : ℕ → ℕ = λ m. on (eqb (parent m) (suc i)) (passed m) in
-    omega (arith, h i l, sum-up done 0 count f e, sum-none f)
 
 -- The figures that stand on the nodes, summed over each node and all beneath it.
 abbrev pub beneathAll : List ℕ → List ℕ → ℕ → ℕ
@@ -282,41 +235,24 @@ module _ {parents start : List ℕ} (rises : Rises parents) where
   summing-idle {m} {sums} h none inv =
       summing-at h inv refl (sym (ap (λ (x : ℕ). credited (at parents m) x sums) (whole-at inv ∙ none) ∙ credited-nothing (at parents m) sums))
 
-  -- In the terms of a loop over all nodes.
-  pub summing-turn : {n : ℕ} {sums : List ℕ} {parent : ℕ} {sums′ : List ℕ} → length start ≡ length parents → Summing parents start n sums → 0 < n
-      → parent ≡ at parents (n - 1) → sums′ ≡ credited parent (at sums (n - 1)) sums → Summing parents start (n - 1) sums′
-  summing-turn {n = zero} h inv p ep es = absurd (omega arith)
-  summing-turn {n = suc m} h inv p ep es = let e : suc m - 1 ≡ m = omega arith in rw e (summing-at h inv (rw e at ep) (rw e at es))
-
 -- ---- What the limits have over the lows beneath
 
--- Before the turn of the node at place n: the nodes before it have what their limits have over the lows, the others the lows.
-pub record SpareTurn (parents limits nodes lows : List ℕ) (n : ℕ) (spare : List ℕ) : Type 0 where
+-- Before the turn of the node at place n: the nodes before it have what their limits have over the lows beneath them.
+pub record SpareTurn (limits beneath : List ℕ) (n : ℕ) (spare : List ℕ) : Type 0 where
   pub reached : n ≤ length limits
-  pub size : length spare ≡ length parents
-  pub done : (m : ℕ) → m < n → at spare m + lowsUnder parents nodes lows m ≡ at limits m
-  pub rest : (m : ℕ) → n ≤ m → m < length parents → at spare m ≡ lowsUnder parents nodes lows m
+  pub size : length spare ≡ length limits
+  pub done : (m : ℕ) → m < n → at spare m + at beneath m ≡ at limits m
 
-module _ {parents limits nodes lows : List ℕ} where
-  pub spare-start : {spare : List ℕ} → length spare ≡ length parents → ((m : ℕ) → m < length parents → at spare m ≡ lowsUnder parents nodes lows m)
-      → SpareTurn parents limits nodes lows 0 spare
-  spare-start size lows-are = record { reached = omega arith; size = size; done = λ m l. absurd (omega arith); rest = λ m h. lows-are m }
+module _ {limits beneath : List ℕ} where
+  pub spare-start : {spare : List ℕ} → length spare ≡ length limits → SpareTurn limits beneath 0 spare
+  spare-start size = record { reached = omega arith; size = size; done = λ m l. absurd (omega arith) }
 
-  module _ (alike : length limits ≡ length parents) {n : ℕ} {spare : List ℕ} (t : SpareTurn parents limits nodes lows n spare) where
-    pub spare-fits : LowsWithin parents limits nodes lows → n < length limits → at spare n ≤ at limits n
-    spare-fits within more = omega (arith, t .rest n (le-refl n) (omega arith), within n (omega arith))
-
-    pub spare-turn : LowsWithin parents limits nodes lows → n < length limits → {limit : ℕ} → limit ≡ at limits n → SpareTurn parents limits nodes lows (n + 1) (set spare n (limit - at spare n))
-    spare-turn within more {limit} is =
-        let kept : (m : ℕ) → (m ≡ n → ⊥) → at (set spare n (limit - at spare n)) m ≡ at spare m = λ m d. getD-set-other spare n m (limit - at spare n) 0 d in
-        record {
-          reached = omega arith;
-          size = length-set spare n (limit - at spare n) ∙ t .size;
-          done = below-more (λ m. at (set spare n (limit - at spare n)) m + lowsUnder parents nodes lows m ≡ at limits m) n
-              (λ m l. omega (arith, kept m (λ e. omega arith), t .done m l))
-              (omega (arith, getD-set-same spare n (limit - at spare n) 0 (omega (arith, t .size)), t .rest n (le-refl n) (omega arith), within n (omega arith)));
-          rest = λ m h l. kept m (λ e. omega arith) ∙ t .rest m (omega arith) l;
-        }
-
-    pub spare-end : length limits ≤ n → Spare parents limits nodes lows spare
-    spare-end end = record { size = t .size; over = λ m l. t .done m (omega arith) }
+  pub spare-turn : {n over : ℕ} {spare : List ℕ} → SpareTurn limits beneath n spare → n < length limits → at beneath n ≤ at limits n → over ≡ at limits n - at beneath n
+      → SpareTurn limits beneath (n + 1) (set spare n over)
+  spare-turn {n} {over} {spare} t more within is = record {
+    reached = omega arith;
+    size = length-set spare n over ∙ t .size;
+    done = below-more (λ m. at (set spare n over) m + at beneath m ≡ at limits m) n
+        (λ m l. omega (arith, getD-set-other spare n m over 0 (λ e. omega arith), t .done m l))
+        (omega (arith, getD-set-same spare n over 0 (omega (arith, t .size))));
+  }

@@ -7,20 +7,22 @@ use lib.ListN.{length, getD, drop}
 use lib.Seq.{sets, take-all}
 use Rattle.words.proofs.Lists.{sets-front}
 use Rattle.rooms.specs.Part.{good, Good}
-use Rattle.rooms.specs.Table.{Room, roomCords, server}
-use Rattle.rooms.specs.Limits.{checked}
+use Rattle.rooms.specs.Table.{Room, mostNodes, roomCords, server}
+use Rattle.rooms.specs.Limits.{checked, lowsTold}
 use Rattle.rooms.specs.Told.{told}
 use Rattle.rooms.specs.declared.Checked.{Checked}
 use Rattle.rooms.specs.declared.Checked.the-variants as checks
 use Rattle.rooms.specs.declared.Refusal.{Refusal}
 use Rattle.rooms.proofs.Inversion.{many-length}
 use Rattle.rooms.proofs.Whole.{checked-is}
-use Rattle.rooms.proofs.Found.{layout}
+use Rattle.rooms.proofs.Found.{layout, nodeLows-at, lowsTold-length}
+use Rattle.rooms.proofs.Accepted as rooms
 use Rattle.rooms.proofs.Steps.{known}
 use Rattle.rooms.proofs.Outcomes.{refused-so}
+use Rattle.deals.specs.Figures.{at}
 use Rattle.deals.specs.SecondDeal.{freed, secondGrants, caps}
 use Rattle.deals.specs.Plan.{Outcome, accepted, refused, firstTooLarge, plan, planRoom, answerOf, grantsAfter, capsAfter}
-use Rattle.deals.specs.Passes.{ServersFit, CordsFit, Planning}
+use Rattle.deals.specs.Passes.{ServersFit, CordsFit, HasLowsBeneath, Planning}
 use Rattle.deals.specs.declared.PlanRefusal.{PlanRefusal}
 use Rattle.deals.specs.declared.PlanRefusal.the-variants.{Table, DemandCount, DemandTooLarge, GrantsTooShort, CapsTooShort}
 use Rattle.deals.specs.declared.Planned.the-variants.{Accepted, Refused}
@@ -45,6 +47,15 @@ cords-told table {answer = answer} {v = v} d e r end is = let t : answer ≡ che
 
 pub servers-told : (table : List ℕ) (n : ℕ) → n ≡ getD table 1 0 → {v : ℕ} → v ≡ getD table (2 + 2 * n) 0 → ServersFit table v
 servers-told table n e w r end is = w ∙ server-word table n e r end is .1
+
+-- The list that the check hands out has a place for each node, and there the lows beneath it.
+pub lows-long : (table list : List ℕ) → list ≡ lowsTold (checked table 0) → mostNodes ≡ length list
+lows-long table list e = sym (ap length e ∙ lowsTold-length (checked table 0))
+
+pub lows-told : (table list : List ℕ) → list ≡ lowsTold (checked table 0) → HasLowsBeneath table list
+unfolding lowsTold
+lows-told table list e r end is n l =
+    ap (λ (x : List ℕ). at x n) (e ∙ ap lowsTold is) ∙ nodeLows-at r n (omega (arith, rooms.accepted table r end is .fewNodes))
 
 -- ---- The answers
 

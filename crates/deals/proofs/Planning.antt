@@ -2,11 +2,12 @@
 use mathlib.Core.Path.{_≡_, refl, sym, ap, _∙_}
 use mathlib.Core.Bool.{cond, _&&_}
 use mathlib.Core.List.{List}
-use Prim.Native.Nat.{ℕ, _-_, _*_, _/_, _≤_, _<_}
+use Prim.Native.Nat.{ℕ, _+_, _-_, _*_, _/_, _≤_, _<_}
 use native.Mathlib.Nat.{le-trans, le-of-eq}
 use native.Mathlib.Omega.{arith}
 use lib.Dec.{eqb, ltb}
 use lib.ListN.{length, getD, take, replicate}
+use lib.Seq.{length-take-le, getD-take}
 use Rattle.rooms.specs.Part.{good, Good}
 use Rattle.rooms.specs.Table.{Room, scale, roomCords, mostWatts, mostNodes, mostServers, mostCords}
 use Rattle.rooms.specs.Limits.{checked, carried}
@@ -19,10 +20,10 @@ use Rattle.deals.specs.Metrics.{dealFrom, dealOf, parentsOf, limitsOf, n
 use Rattle.deals.specs.Dealing.{granted, grantsBy}
 use Rattle.deals.specs.SecondDeal.{leastOver, usable, stranded, wantsAfter, firstGrants, firstUsable, firstUsed, secondWants, secondGrants}
 use Rattle.deals.specs.SecondDeal as second
-use Rattle.deals.specs.Passes.{DealtTwice, Planning, NodeLists, CordLists, LowsWithin, DealLists, ServerLists, OfRoom, NodesFit, ServersFit, CordsFit, CordsLaidOut, sharesOf, serversOf, usableFrom, usedFrom, strandedFrom, wantsFrom}
+use Rattle.deals.specs.Passes.{DealtTwice, Planning, NodeLists, CordLists, lowsUnder, LowsWithin, Spare, DealLists, ServerLists, OfRoom, NodesFit, ServersFit, CordsFit, HasLowsBeneath, CordsLaidOut, sharesOf, serversOf, usableFrom, usedFrom, strandedFrom, wantsFrom}
 use Rattle.deals.proofs.Lists.{figures-length}
 use Rattle.deals.proofs.RoomDeals.{parentsOf-length, limitsOf-length, nodesOf-length, levelsOf-length, sharesOf-at, serversOf-at}
-use Rattle.deals.proofs.BothDeals.{cord-facts, lowsOf-length, carriedBy-length, dealable, firstWants-lows, secondWants-lows}
+use Rattle.deals.proofs.BothDeals.{cord-facts, lowsOf-length, carriedBy-length, lows-under, dealable, firstWants-lows, secondWants-lows}
 use Rattle.deals.proofs.Bounds.{bounded}
 use Rattle.deals.proofs.RankLoop.{zeros-front}
 use Rattle.deals.proofs.Walk.{begun}
@@ -183,6 +184,34 @@ module _ (table demands : List ℕ) {parents limits nodes levels lows wants shar
         e ∙ rw (l .shares-are, l .servers-are) (usable-is r needed grants needs-size) ∙ ap (λ (n : List ℕ). usable r n grants) (l .needs-are)
 
   module _ (g : Good (checked table 0)) where
+    -- The limits against the lows beneath the nodes, and what they have over them.
+    module _ (sums : List ℕ) (fit : NodesFit table (length sums)) (has : HasLowsBeneath table sums) where
+      node-count : length parents ≡ length (g .value .nodes)
+      node-count = ap length (of-nodes (g .value) (g .next) (g .is) .0) ∙ parentsOf-length (g .value)
+
+      lows-there : (n : ℕ) → n < length parents → at sums n ≡ lowsUnder parents nodes lows n
+      lows-there n l =
+          let r = g .value in
+          let c = of-cords r (g .next) (g .is) in
+          has r (g .next) (g .is) n (omega (arith, node-count))
+          ∙ sym (rw (of-nodes r (g .next) (g .is) .0, c .nodes-are, c .lows-are) (lows-under r (accepted table r (g .next) (g .is)) n))
+
+      pub spare-asks : {size : ℕ} → NodesFit table size → NodeLists parents limits → LowsWithin parents limits nodes lows
+          → (size ≡ length limits) × (length sums ≡ length limits) × ((n : ℕ) → n < length limits → at sums n ≤ at limits n)
+      spare-asks spare ns within =
+          let count = ns .limits-size ∙ node-count in (
+            spare (g .value) (g .next) (g .is) ∙ sym count,
+            fit (g .value) (g .next) (g .is) ∙ sym count,
+            λ n l. omega (arith, lows-there n (omega (arith, ns .limits-size)), within n (omega (arith, ns .limits-size))),
+          )
+
+      pub spare-is : {size : ℕ} {spare : List ℕ} → NodesFit table size → NodeLists parents limits → length spare ≡ size
+          → ((n : ℕ) → n < length limits → at spare n + at sums n ≡ at limits n) → Spare parents limits nodes lows spare
+      spare-is lent ns size over = record {
+        size = size ∙ lent (g .value) (g .next) (g .is) ∙ sym node-count;
+        over = λ n l. omega (arith, over n (omega (arith, ns .limits-size)), lows-there n l);
+      }
+
     -- A deal by wants that the room can be dealt by.
     pub deal-asks : {given : List ℕ} {grantCount usableCount : ℕ} → OfRoom table (λ r. Wanted r given) → CordsFit table grantCount → ServersFit table usableCount
         → DealLists parents limits nodes levels lows given grantCount × (ServerLists shares servers needed grantCount × (usableCount ≡ length needed))
@@ -275,3 +304,14 @@ module _ (table : List ℕ) (g : Good (checked table 0)) where
 
   pub servers-lent : (k : ℕ) → ServersFit table k → ServersFit table (length {A = ℕ} (take k (replicate mostServers 0)))
   servers-lent k h = servers-fit table (sym (servers-front k h)) h
+
+  -- The list with the lows beneath each node is lent to that length too.
+  module _ (n : ℕ) (e : n ≡ getD table 1 0) (list : List ℕ) (long : mostNodes ≤ length list) where
+    pub lows-front : n ≡ length (take n list)
+    lows-front = sym (length-take-le n list (omega (arith, nodes-most n e)))
+
+    pub lows-lent : NodesFit table (length (take n list))
+    lows-lent r end is = sym lows-front ∙ e ∙ begun is .count
+
+    pub lows-still : HasLowsBeneath table list → HasLowsBeneath table (take n list)
+    lows-still has r end is i l = getD-take n list i 0 (omega (arith, begun is .count)) ∙ has r end is i l

@@ -240,9 +240,6 @@ module _ {parents limits nodes levels lows wants : List ℕ} {grantCount : ℕ} 
   pub cords-within : (c : ℕ) → c < length nodes → (at nodes c ≤ length parents) × (at levels c < highestRank)
   cords-within c l = (lists .of-cords .within c l, lists .of-cords .ranked c l)
 
-  pub lows-hang : (c : ℕ) → c < length nodes → (1 ≤ at nodes c) × (at nodes c ≤ length parents) × (at lows c ≤ mostWatts)
-  lows-hang c l = (lists .of-cords .hangs c l, lists .of-cords .within c l, omega (arith, lists .of-cords .ordered c l, lists .of-cords .most c l))
-
   -- Before the first rank.
   pub ranks-start : {rows : List (List ℕ)} {left : List ℕ} (grants : List ℕ) → FullRows rows → Spare parents limits nodes lows left
       → RanksDealt (dealFrom parents limits nodes levels lows wants) highestRank rows left grants

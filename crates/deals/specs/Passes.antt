@@ -9,7 +9,7 @@ use lib.ListN.{length, getD}
 use Rattle.rooms.specs.Sums.{on, sum}
 use Rattle.rooms.specs.Part.{good, Good}
 use Rattle.rooms.specs.Table.{Room, roomCords, mostNodes, mostCords, mostWatts, highestRank, scale}
-use Rattle.rooms.specs.Limits.{carried, beneath, checked}
+use Rattle.rooms.specs.Limits.{carried, beneath, lowsBeneath, checked}
 use Rattle.rooms.specs.Credits.{sumBeneath}
 use Rattle.deals.specs.Figures.{figures, at, cell, sumOf}
 use Rattle.deals.specs.Cords.{cordAt}
@@ -177,6 +177,10 @@ ServersFit table size = OfRoom table (λ r. size ≡ length (r .servers))
 
 abbrev pub CordsFit : List ℕ → ℕ → Type 0
 CordsFit table size = OfRoom table (λ r. size ≡ roomCords r)
+
+-- A list has at each node's place the lows of all cords beneath the node.
+abbrev pub HasLowsBeneath : List ℕ → List ℕ → Type 0
+HasLowsBeneath table list = OfRoom table (λ r. (n : ℕ) → n < length (r .nodes) → at list n ≡ lowsBeneath r n)
 
 -- The lists that are lent for a good table's cords and servers are as long as these are many: for each cord its node's number, its
 -- level, its low, its want, its share and the place of its server; for each server its need.

@@ -1,15 +1,15 @@
 // Both deals of a good table with its servers' demands.
 ghost use mathlib.Core.Path.{_≡_};
-ghost use Prim.Native.Nat.{ℕ};
+ghost use Prim.Native.Nat.{ℕ, _≤_};
 ghost use lib.ListN.{length};
 ghost use Rattle.rooms.specs.Part.{Good};
 ghost use Rattle.rooms.specs.Limits.{checked};
-ghost use Rattle.rooms.specs.Table.{highestRank};
+ghost use Rattle.rooms.specs.Table.{mostNodes, highestRank};
 ghost use Rattle.deals.specs.Figures.{cell};
 ghost use Rattle.deals.specs.Metrics.{dealFrom};
 ghost use Rattle.deals.specs.Dealing.{granted};
 ghost use Rattle.deals.specs.Plan.{firstTooLarge};
-ghost use Rattle.deals.specs.Passes.{DealLists, LevelLists, FullLists, FullRows, BlankRows, Spare, ServerLists, usableFrom, wantsNext, DealtTwice, CordsLent, NodesFit, ServersFit, CordsFit, Planning};
+ghost use Rattle.deals.specs.Passes.{DealLists, LevelLists, FullLists, FullRows, BlankRows, Spare, ServerLists, usableFrom, wantsNext, DealtTwice, CordsLent, NodesFit, ServersFit, CordsFit, HasLowsBeneath, Planning};
 use crate::deal::deal;
 use crate::levels::link_levels;
 use crate::levels::list_levels;
@@ -49,7 +49,7 @@ fn make_deal(
     next: &[u16],
     actives: &[[u16; 512]; 16],
     counts: &[u16],
-    spare: &[u64],
+    spare: &[u32],
     requests: &mut [[u32; 16]; 512],
     shares: &[u32],
     servers: &[u16],
@@ -96,7 +96,7 @@ fn deal_twice(
     next: &[u16],
     actives: &[[u16; 512]; 16],
     counts: &[u16],
-    spare: &[u64],
+    spare: &[u32],
     requests: &mut [[u32; 16]; 512],
     shares: &[u32],
     servers: &[u16],
@@ -137,10 +137,12 @@ fn deal_twice(
     freed
 }
 
-// Makes the plan, in lists with one entry for each node, cord or server of the room; gives the freed watts.
+// Makes the plan, in lists with one entry for each node, cord or server of the room; gives the freed watts. `beneath` has
+// the lows beneath each node.
 fn plan_lists(
     table: &[u32],
     demands: &[u32],
+    beneath: &[u64],
     parents: &mut [u16],
     limits: &mut [u32],
     nodes: &mut [u16],
@@ -155,14 +157,14 @@ fn plan_lists(
     marks: &mut [u16],
     actives: &mut [[u16; 512]; 16],
     counts: &mut [u16],
-    spare: &mut [u64],
+    spare: &mut [u32],
     requests: &mut [[u32; 16]; 512],
     grants: &mut [u32],
     caps: &mut [u32],
 ) -> u64
     requires { ⌜ CordsLent (now table) (now demands) (now nodes) (now levels) (now lows) (now wants) (now shares) (now servers) (now needs) ⌝ }
     requires { ⌜ NodesFit (now table) (length (now parents)) × NodesFit (now table) (length (now limits)) ⌝ }
-    requires { ⌜ (length (now first) ≡ highestRank) × CordsFit (now table) (length (now next)) × NodesFit (now table) (length (now marks)) × NodesFit (now table) (length (now spare)) ⌝ }
+    requires { ⌜ (length (now first) ≡ highestRank) × CordsFit (now table) (length (now next)) × NodesFit (now table) (length (now marks)) × NodesFit (now table) (length (now spare)) × NodesFit (now table) (length (now beneath)) × HasLowsBeneath (now table) (now beneath) ⌝ }
     requires { ⌜ FullLists (now actives) × (length (now counts) ≡ highestRank) ⌝ }
     requires { ⌜ FullRows (now requests) × ((n j : ℕ) → cell (now requests) n j ≡ 0) ⌝ }
     requires { ⌜ CordsFit (now table) (length (now grants)) × ServersFit (now table) (length (now caps)) ⌝ }
@@ -183,7 +185,7 @@ fn plan_lists(
     link_levels(levels, first, next);
     mark_nodes(parents, nodes, levels, marks);
     list_levels(marks, first, nodes.len(), actives, counts);
-    spare_limits(parents, limits, nodes, lows, spare);
+    spare_limits(limits, beneath, spare);
     deal_twice(
         parents,
         limits,
@@ -206,10 +208,16 @@ fn plan_lists(
 }
 
 // The grants and caps of a good table with a demand for each server, in lists with one entry for each cord and each server; gives the
-// freed watts.
-pub(crate) fn plan_room(table: &[u32], demands: &[u32], grants: &mut [u32], caps: &mut [u32]) -> u64
+// freed watts. `beneath` has the lows beneath each node, as the check of the table leaves them.
+pub(crate) fn plan_room(
+    table: &[u32],
+    demands: &[u32],
+    beneath: &[u64],
+    grants: &mut [u32],
+    caps: &mut [u32],
+) -> u64
     requires { ⌜ Good (checked (now table) 0) ⌝ }
-    requires { ⌜ ServersFit (now table) (length (now demands)) × CordsFit (now table) (length (now grants)) × ServersFit (now table) (length (now caps)) ⌝ }
+    requires { ⌜ ServersFit (now table) (length (now demands)) × CordsFit (now table) (length (now grants)) × ServersFit (now table) (length (now caps)) × (mostNodes ≤ length (now beneath)) × HasLowsBeneath (now table) (now beneath) ⌝ }
     ensures { λ r. ⌜ Planning (now (table .entry)) (now (demands .entry)) r (now (grants .exit)) (now (caps .exit)) ⌝ }
 {
     let mut parents = [0u16; 512];
@@ -226,13 +234,14 @@ pub(crate) fn plan_room(table: &[u32], demands: &[u32], grants: &mut [u32], caps
     let mut marks = [0u16; 512];
     let mut actives = [[0u16; 512]; 16];
     let mut counts = [0u16; 16];
-    let mut spare = [0u64; 512];
+    let mut spare = [0u32; 512];
     let mut requests = [[0u32; 16]; 512];
     let n = word_index(table[1]);
     let k = grants.len();
     plan_lists(
         table,
         demands,
+        &beneath[..n],
         &mut parents[..n],
         &mut limits[..n],
         &mut nodes[..k],

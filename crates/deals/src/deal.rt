@@ -13,16 +13,6 @@ use crate::metrics::gather;
 use crate::metrics::sum_cords;
 use crate::widths::index;
 
-// Copies a list to one as long.
-fn copy(from: &[u64], to: &mut [u64])
-    requires { ⌜ length (now to) ≡ length (now from) ⌝ }
-    ensures { λ _. ⌜ now (to .exit) ≡ now (from .entry) ⌝ }
-{
-    for i in 0..from.len() {
-        to[i] = from[i];
-    }
-}
-
 // One rank of a deal, over its cords and its active nodes: the Requests are gathered and the excesses dealt. `pcapmins` and `wholes`
 // (the children's excesses) have this rank's figure of each node; `amounts`, `before` (weights served) and `dealt` that of each active
 // one. (`limits` and `levels` are for the contracts alone.)
@@ -39,7 +29,7 @@ fn deal_rank(
     active: &[u16],
     count: usize,
     requests: &mut [[u32; 16]; 512],
-    left: &mut [u64],
+    left: &mut [u32],
     pcapmins: &mut [u64],
     wholes: &mut [u64],
     amounts: &mut [u64],
@@ -113,9 +103,9 @@ fn deal_ranks(
     next: &[u16],
     actives: &[[u16; 512]; 16],
     counts: &[u16],
-    spare: &[u64],
+    spare: &[u32],
     requests: &mut [[u32; 16]; 512],
-    left: &mut [u64],
+    left: &mut [u32],
     pcapmins: &mut [u64],
     wholes: &mut [u64],
     amounts: &mut [u64],
@@ -131,7 +121,7 @@ fn deal_ranks(
     ensures { λ _. ⌜ ((n j : ℕ) → n < length (now (parents .entry)) → j < highestRank → cell (now (requests .exit)) n j ≡ cell (metrics (dealFrom (now (parents .entry)) (now (limits .entry)) (now (nodes .entry)) (now (levels .entry)) (now (lows .entry)) (now (wants .entry))) .requests) n j) ⌝ }
     ensures { λ _. ⌜ BlankRows (length (now (parents .entry))) (now (actives .entry)) (now (counts .entry)) (now (requests .exit)) ⌝ }
 {
-    copy(spare, left);
+    words::copy(spare, left);
     let mut level: usize = 16;
     while 0 < level {
         level -= 1;
@@ -176,7 +166,7 @@ pub(crate) fn deal(
     next: &[u16],
     actives: &[[u16; 512]; 16],
     counts: &[u16],
-    spare: &[u64],
+    spare: &[u32],
     requests: &mut [[u32; 16]; 512],
     grants: &mut [u32],
 )
@@ -186,7 +176,7 @@ pub(crate) fn deal(
     ensures { λ _. ⌜ now (grants .exit) ≡ granted (dealFrom (now (parents .entry)) (now (limits .entry)) (now (nodes .entry)) (now (levels .entry)) (now (lows .entry)) (now (wants .entry))) ⌝ }
     ensures { λ _. ⌜ BlankRows (length (now (parents .entry))) (now (actives .entry)) (now (counts .entry)) (now (requests .exit)) ⌝ }
 {
-    let mut left = [0u64; 512];
+    let mut left = [0u32; 512];
     let mut pcapmins = [0u64; 512];
     let mut wholes = [0u64; 512];
     let mut amounts = [0u64; 512];

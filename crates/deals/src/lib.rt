@@ -88,7 +88,8 @@ pub fn plan(table: &[u32], demands: &[u32], grants: &mut [u32], caps: &mut [u32]
     ensures { λ _. ⌜ now (grants .exit) ≡ grantsAfter (plan (now (table .entry)) (now (demands .entry)) (length (now (grants .entry))) (length (now (caps .entry)))) (now (grants .entry)) ⌝ }
     ensures { λ _. ⌜ now (caps .exit) ≡ capsAfter (plan (now (table .entry)) (now (demands .entry)) (length (now (grants .entry))) (length (now (caps .entry)))) (now (caps .entry)) ⌝ }
 {
-    let checked = rooms::check(table);
+    let mut beneath = [0u64; 512];
+    let checked = rooms::check_lows(table, &mut beneath);
     let count = match checked {
         Checked::Good(cords, _) => cords,
         Checked::Refused(refusal) => return Planned::Refused(PlanRefusal::Table(refusal)),
@@ -108,6 +109,12 @@ pub fn plan(table: &[u32], demands: &[u32], grants: &mut [u32], caps: &mut [u32]
     if caps.len() < servers {
         return Planned::Refused(PlanRefusal::CapsTooShort(servers));
     }
-    let freed = plan_room(table, demands, &mut grants[..cords], &mut caps[..servers]);
+    let freed = plan_room(
+        table,
+        demands,
+        &beneath,
+        &mut grants[..cords],
+        &mut caps[..servers],
+    );
     Planned::Accepted(freed)
 }

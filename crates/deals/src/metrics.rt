@@ -6,7 +6,7 @@ ghost use Rattle.rooms.specs.Sums.{sum};
 ghost use Rattle.rooms.specs.Table.{mostNodes, mostWatts, mostCords, highestRank};
 ghost use Rattle.rooms.specs.Credits.{sumBeneath, credited};
 ghost use Rattle.deals.specs.Figures.{at, cell};
-ghost use Rattle.deals.specs.Passes.{NodeLists, CordLists, LowsWithin, ChainOf, onNode, cordsBefore, lowsUnder, Spare, FullRows, Absent, ActiveNodes, Gathered};
+ghost use Rattle.deals.specs.Passes.{CordLists, ChainOf, onNode, cordsBefore, FullRows, Absent, ActiveNodes, Gathered};
 use crate::widths::index;
 use crate::widths::least;
 use crate::widths::narrow;
@@ -66,51 +66,13 @@ pub(crate) fn sum_cords(
     }
 }
 
-// From the last node to the first, each node's sum is added to its parent's: a parent's number is below its child's.
-fn sum_beneath(parents: &[u16], sums: &mut [u64])
-    requires { ⌜ (length (now sums) ≡ length (now parents)) × (sum (length (now parents)) (at (now sums)) ≤ mostCords * mostWatts) ⌝ }
-    requires { ⌜ ((m : ℕ) → m < length (now parents) → at (now parents) m ≤ m) ⌝ }
-    ensures { λ _. ⌜ ((n : ℕ) → n < length (now (parents .entry)) → at (now (sums .exit)) n ≡ sumBeneath (at (now (parents .entry))) (length (now (parents .entry))) (at (now (sums .entry))) n) ⌝ }
-{
-    let mut n = parents.len();
-    while 0 < n {
-        n -= 1;
-        let figure = sums[n];
-        credit(sums, index(parents[n]), figure);
-    }
-}
-
-// All lows beneath each node, at any depth.
-fn sum_lows(parents: &[u16], nodes: &[u16], lows: &[u32], sums: &mut [u64])
-    requires { ⌜ (length (now lows) ≡ length (now nodes)) × (length (now nodes) ≤ mostCords) × (length (now sums) ≡ length (now parents)) ⌝ }
-    requires { ⌜ ((m : ℕ) → m < length (now parents) → at (now parents) m ≤ m) ⌝ }
-    requires { ⌜ ((c : ℕ) → c < length (now nodes) → (1 ≤ at (now nodes) c) × (at (now nodes) c ≤ length (now parents)) × (at (now lows) c ≤ mostWatts)) ⌝ }
-    ensures { λ _. ⌜ ((n : ℕ) → n < length (now (parents .entry)) → at (now (sums .exit)) n ≡ lowsUnder (now (parents .entry)) (now (nodes .entry)) (now (lows .entry)) n) ⌝ }
-{
-    clear(sums);
-    for c in 0..nodes.len() {
-        credit(sums, index(nodes[c]), wide(lows[c]));
-    }
-    sum_beneath(parents, sums);
-}
-
 // What each node's limit has over all lows beneath it.
-pub(crate) fn spare_limits(
-    parents: &[u16],
-    limits: &[u32],
-    nodes: &[u16],
-    lows: &[u32],
-    spare: &mut [u64],
-)
-    requires { ⌜ NodeLists (now parents) (now limits) × LowsWithin (now parents) (now limits) (now nodes) (now lows) ⌝ }
-    requires { ⌜ (length (now lows) ≡ length (now nodes)) × (length (now nodes) ≤ mostCords) × (length (now spare) ≡ length (now parents)) ⌝ }
-    requires { ⌜ ((c : ℕ) → c < length (now nodes) → (1 ≤ at (now nodes) c) × (at (now nodes) c ≤ length (now parents)) × (at (now lows) c ≤ mostWatts)) ⌝ }
-    ensures { λ _. ⌜ Spare (now (parents .entry)) (now (limits .entry)) (now (nodes .entry)) (now (lows .entry)) (now (spare .exit)) ⌝ }
+pub(crate) fn spare_limits(limits: &[u32], beneath: &[u64], spare: &mut [u32])
+    requires { ⌜ (length (now spare) ≡ length (now limits)) × (length (now beneath) ≡ length (now limits)) × ((n : ℕ) → n < length (now limits) → at (now beneath) n ≤ at (now limits) n) ⌝ }
+    ensures { λ _. ⌜ ((n : ℕ) → n < length (now (limits .entry)) → at (now (spare .exit)) n + at (now (beneath .entry)) n ≡ at (now (limits .entry)) n) ⌝ }
 {
-    sum_lows(parents, nodes, lows, spare);
     for n in 0..limits.len() {
-        let beneath = spare[n];
-        spare[n] = wide(limits[n]) - beneath;
+        spare[n] = narrow(wide(limits[n]) - beneath[n]);
     }
 }
 
@@ -121,7 +83,7 @@ pub(crate) fn gather(
     active: &[u16],
     count: usize,
     level: usize,
-    left: &mut [u64],
+    left: &mut [u32],
     pcapmins: &mut [u64],
     wholes: &mut [u64],
     requests: &mut [[u32; 16]; 512],
@@ -140,9 +102,9 @@ pub(crate) fn gather(
         i -= 1;
         let n = index(active[i]);
         let pcapmin = pcapmins[n];
-        let rest = left[n];
+        let rest = wide(left[n]);
         let excess = least(rest, wholes[n]);
-        left[n] = rest - excess;
+        left[n] = narrow(rest - excess);
         requests[n][level] = narrow(pcapmin + excess);
         let parent = index(parents[n]);
         credit(pcapmins, parent, pcapmin);

@@ -1,5 +1,5 @@
 -- The checks that credit the lows of the parts they find good: one law for each way that they go on or return.
-use mathlib.Core.Path.{_≡_, refl, sym, ap, ap₂, _∙_}
+use mathlib.Core.Path.{_≡_, refl, sym, ap, ap₂, _∙_, subst}
 use mathlib.Core.List.{List, [], _∷_}
 use Prim.Native.Nat.{ℕ, zero, suc, _+_, _-_, _*_, _^_, _≤_, _<_}
 use native.Mathlib.Omega.{arith}
@@ -28,6 +28,11 @@ credits-refused f (bad m) d e = record { are = λ a j is. absurd (suc-ne-zero 0 
 pub stopped : {A : Type 0} (f : A → ℕ) (s : Step A) {credit : A → List ℕ → List ℕ} {nodeCount most : ℕ} {sums sums′ : List ℕ} {r : Checked} {q : Refusal}
     → r ≡ told f s → r ≡ Refused q → (r ≡ told f s) × LowsCredited s credit nodeCount most sums sums′
 stopped f s d e = (d, credits-refused f s d e)
+
+-- The sums before are known by another name.
+pub credits-from : {A : Type 0} {s : Step A} {credit : A → List ℕ → List ℕ} {nodeCount most : ℕ} {sums start sums′ : List ℕ} → sums ≡ start
+    → LowsCredited s credit nodeCount most sums sums′ → LowsCredited s credit nodeCount most start sums′
+credits-from {s = s} {credit = credit} {nodeCount = nodeCount} {most = most} {sums′ = sums′} e = subst (λ (l : List ℕ). LowsCredited s credit nodeCount most l sums′) e
 
 -- ---- A row of any parts
 

@@ -3,8 +3,9 @@ use mathlib.Core.Path.{_≡_, refl, sym, ap, ap₂, _∙_}
 use mathlib.Core.Bool.{Bool, true, false, _||_}
 use mathlib.Core.List.{List, [], _∷_}
 use Prim.Native.Nat.{ℕ, zero, suc, _+_, _-_, _≤_, _<_}
+use native.Mathlib.Nat.{le-of-eq}
 use native.Mathlib.Omega.{arith}
-use lib.ListN.{length, getD, set, replicate, length-set}
+use lib.ListN.{length, getD, set, replicate, length-set, length-replicate}
 use lib.Seq.{getD-set-same, getD-set-other}
 use lib.Dec.{eqb, eqb·zero-suc, eqb·suc-suc}
 use borrow.Author.Tests.{eqb-true, eqb-false, eq-eqb, ne-eqb}
@@ -70,6 +71,12 @@ credited-at (suc m) figure l i h = go (eqb m i) refl
         let o = on-no (eqb (suc m) (suc i)) figure (eqb·suc-suc m i ∙ e) in
         omega (arith, getD-set-other l m i (getD l m 0 + figure) 0 (λ q. eqb-false m i e (sym q)))
 
+-- A place past the node is left as it is.
+pub credited-past : (node figure : ℕ) (l : List ℕ) (i : ℕ) → node ≤ i → getD (credited node figure l) i 0 ≡ getD l i 0
+unfolding credited
+credited-past zero figure l i h = refl
+credited-past (suc m) figure l i h = getD-set-other l m i (getD l m 0 + figure) 0 (λ e. omega arith)
+
 -- The same with the node by its place.
 placed : (m figure : ℕ) (l : List ℕ) (i : ℕ) → m < length l → getD (credited (suc m) figure l) i 0 ≡ getD l i 0 + on (eqb m i) figure
 placed m figure l i h = credited-at (suc m) figure l i h ∙ ap (λ (t : Bool). getD l i 0 + on t figure) (eqb·suc-suc m i)
@@ -89,6 +96,9 @@ pub zeros-at : (n i : ℕ) → _≡_ {A = ℕ} (getD (replicate n 0) i 0) 0
 zeros-at zero i = refl
 zeros-at (suc n) zero = refl
 zeros-at (suc n) (suc i) = zeros-at n i
+
+pub all-zeros : (n : ℕ) (l : List ℕ) → l ≡ replicate n 0 → (n ≤ length l) × ((i : ℕ) → getD l i 0 ≡ 0)
+all-zeros n l e = rw e (le-of-eq (sym (length-replicate {A = ℕ} n 0)), zeros-at n)
 
 pub sum-zeros : (count : ℕ) (l : List ℕ) → ((i : ℕ) → getD l i 0 ≡ 0) → sum count (figures l) ≡ 0
 sum-zeros count l z = sum-cong count (figures l) (λ i. 0) (λ i g. z i) ∙ sum-zero count
@@ -155,6 +165,21 @@ unfolding sumBeneath
 sumBeneath-cong count p q figure e rises n =
     sum-cong count _ _ (λ m l. ap (λ (t : Bool). on t (figure m)) (beneath-cong count p q e rises count n (suc m) l))
 
+-- No way along the parents meets a place past all nodes, so nothing is beneath it.
+beneath-past : (count : ℕ) (parent : ℕ → ℕ) → ((m : ℕ) → m < count → parent m ≤ m) → (steps n v : ℕ) → v ≤ count → count ≤ n
+    → beneath parent steps n v ≡ false
+unfolding beneath
+beneath-past count parent rises zero n v h l = refl
+beneath-past count parent rises (suc steps) n zero h l = refl
+beneath-past count parent rises (suc steps) n (suc m) h l =
+    ap₂ _||_ (ne-eqb m n (λ e. omega arith)) (beneath-past count parent rises steps n (parent m) (omega (arith, rises m h)) l)
+
+pub sumBeneath-past : (count : ℕ) (parent figure : ℕ → ℕ) → ((m : ℕ) → m < count → parent m ≤ m) → (n : ℕ) → count ≤ n
+    → sumBeneath parent count figure n ≡ 0
+unfolding sumBeneath
+sumBeneath-past count parent figure rises n h =
+    sum-cong count _ (λ m. 0) (λ m l. on-no _ (figure m) (beneath-past count parent rises count n (suc m) l h)) ∙ sum-zero count
+
 -- ---- The credits of cords and of servers
 
 pub creditedCords-length : (least : ℕ) (cs : List Cord) (l : List ℕ) → length (creditedCords least cs l) ≡ length l
@@ -162,6 +187,25 @@ unfolding creditedCords
 creditedCords-length least [] l = refl
 creditedCords-length least (c ∷ cs) l =
     creditedCords-length least cs (credited (c .node) (low least c) l) ∙ credited-length (c .node) (low least c) l
+
+pub creditedServers-length : (ss : List Server) (l : List ℕ) → length (creditedServers ss l) ≡ length l
+unfolding creditedServers
+creditedServers-length [] l = refl
+creditedServers-length (s ∷ ss) l = creditedServers-length ss (creditedCords (s .least) (s .cords) l) ∙ creditedCords-length (s .least) (s .cords) l
+
+-- They leave a place past all nodes as it is.
+module _ (count i : ℕ) (h : count ≤ i) where
+  creditedCords-past : (least : ℕ) (cs : List Cord) (l : List ℕ) → All (CordHangs count) cs → getD (creditedCords least cs l) i 0 ≡ getD l i 0
+  unfolding creditedCords All
+  creditedCords-past least [] l g = refl
+  creditedCords-past least (c ∷ cs) l g =
+      creditedCords-past least cs (credited (c .node) (low least c) l) (g .1) ∙ credited-past (c .node) (low least c) l i (omega (arith, g .0 .1))
+
+  pub creditedServers-past : (ss : List Server) (l : List ℕ) → All (ServerHangs count) ss → getD (creditedServers ss l) i 0 ≡ getD l i 0
+  unfolding creditedServers All
+  creditedServers-past [] l g = refl
+  creditedServers-past (s ∷ ss) l g =
+      creditedServers-past ss (creditedCords (s .least) (s .cords) l) (g .1) ∙ creditedCords-past (s .least) (s .cords) l (g .0)
 
 module _ (count : ℕ) (parent : ℕ → ℕ) (n : ℕ) where
   sumBeneath-cords : (least : ℕ) (cs : List Cord) (l : List ℕ) → count ≤ length l → All (CordHangs count) cs

@@ -1,22 +1,53 @@
 -- The search over the credited lows of a good table finds its overloaded node.
-use mathlib.Core.Path.{_≡_, sym, ap, ap₂, _∙_}
-use mathlib.Core.Bool.{Bool}
+use mathlib.Core.Path.{_≡_, refl, sym, ap, ap₂, _∙_, subst}
+use mathlib.Core.Bool.{Bool, true, false}
 use mathlib.Core.List.{List}
-use Prim.Native.Nat.{ℕ, suc, _+_, _*_, _≤_, _<_}
+use Prim.Native.Nat.{ℕ, zero, suc, _+_, _*_, _≤_, _<_}
+use native.Mathlib.Nat.{zero-add, suc-ne-zero}
 use native.Mathlib.Omega.{arith}
 use native.Mathlib.Numerals.{add-one}
 use lib.ListN.{length, getD, replicate, length-replicate}
+use lib.Seq.{ext-getD}
 use lib.Dec.{ltb}
-use Rattle.rooms.specs.Part.{good}
-use Rattle.rooms.specs.Table.{Node, Room, mostNodes, mostServers, mostServerCords, mostWatts, node, nodes, servers, table}
-use Rattle.rooms.specs.Limits.{limit, beneath, nodeAt, parentOf, lows, lowsBeneath, firstNode, overloaded}
-use Rattle.rooms.specs.Credits.{parentAt, limitAt, figures, sumBeneath, exceeds, creditedServers, creditedRoom, LowsCredited}
+use borrow.Author.Tests.{ltb-true, ltb-false}
+use Rattle.rooms.specs.Part.{Step, good, bad}
+use Rattle.rooms.specs.Table.{Node, Room, mostNodes, mostServers, mostServerCords, mostWatts, node, nodes, servers, table, roomCords}
+use Rattle.rooms.specs.Limits.{limit, beneath, nodeAt, parentOf, lows, lowsBeneath, lowsFrom, nodeLows, firstNode, overloaded, lowsTold}
+use Rattle.rooms.specs.Credits.{parentAt, limitAt, figures, sumBeneath, exceeds, creditedServers, creditedRoom, LowsCredited, SumsGathered}
+use Rattle.rooms.specs.Told.{told}
+use Rattle.rooms.specs.declared.Refusal.{Refusal}
+use Rattle.rooms.specs.declared.Checked.{Checked}
+use Rattle.rooms.specs.declared.Checked.the-variants.{Refused}
 use Rattle.rooms.proofs.Inversion.{many-length, NodeIs}
 use Rattle.rooms.proofs.Whole.{table-is}
 use Rattle.rooms.proofs.Rows.{nodes-words, nodes-at, servers-hang}
-use Rattle.rooms.proofs.Credits.{zeros-at, sumBeneath-cong, sumBeneath-zero, sumBeneath-servers}
+use Rattle.rooms.proofs.Credits.{zeros-at, sumBeneath-cong, sumBeneath-zero, sumBeneath-past, sumBeneath-servers, creditedServers-length, creditedServers-past}
 use Rattle.rooms.proofs.Search.{firstNode-cong}
 use Rattle.rooms.proofs.Gather.{Rises}
+
+-- ---- The lows beneath each place, as a list
+
+lowsFrom-at : (count n i : ℕ) (r : Room) → i < count → getD (lowsFrom count n r) i 0 ≡ lowsBeneath r (n + i)
+unfolding lowsFrom
+lowsFrom-at zero n i r h = absurd (omega arith)
+lowsFrom-at (suc count) n zero r h = ap (lowsBeneath r) (omega arith)
+lowsFrom-at (suc count) n (suc i) r h = lowsFrom-at count (suc n) i r (omega arith) ∙ ap (lowsBeneath r) (omega arith)
+
+lowsFrom-length : (count n : ℕ) (r : Room) → length (lowsFrom count n r) ≡ count
+unfolding lowsFrom
+lowsFrom-length zero n r = refl
+lowsFrom-length (suc count) n r = ap suc (lowsFrom-length count (suc n) r)
+
+-- What the list of a check has at a place.
+pub nodeLows-at : (r : Room) (i : ℕ) → i < mostNodes → getD (nodeLows r) i 0 ≡ lowsBeneath r i
+nodeLows-at r i h = lowsFrom-at mostNodes 0 i r h ∙ ap (lowsBeneath r) (zero-add i)
+
+pub lowsTold-length : (s : Step Room) → length (lowsTold s) ≡ mostNodes
+unfolding lowsTold
+lowsTold-length (good r end) = lowsFrom-length mostNodes 0 r
+lowsTold-length (bad refusal) = length-replicate {A = ℕ} mostNodes 0
+
+-- ---- The search
 
 -- Where the parts of a good table stand: n nodes from index 2 on, and the count of servers at index `at`.
 pub record Layout (w : List ℕ) (r : Room) (j n at : ℕ) : Type 0 where
@@ -68,6 +99,23 @@ module _ (w : List ℕ) (r : Room) (j n at : ℕ) (is : Layout w r j n at) where
         ∙ ap (λ (x : ℕ). x + lows (beneath (parentOf r) n m) (r .servers)) (sumBeneath-zero n (parentOf r) (figures l) m zeros)
         ∙ rw (← node-count) (omega arith)
 
+    -- Gathered, the credited lows are those beneath each place.
+    gathered-lows : {sums : List ℕ} → length l ≡ mostNodes → SumsGathered w n (creditedServers (r .servers) l) sums → sums ≡ nodeLows r
+    gathered-lows {sums} full g =
+        ext-getD 0 sums (nodeLows r) (g .size ∙ creditedServers-length (r .servers) l ∙ full ∙ sym (lowsFrom-length mostNodes 0 r))
+        (λ i h. at-place i (ltb i n) refl
+        ∙ sym (nodeLows-at r i (omega (arith, g .size, creditedServers-length (r .servers) l))))
+      where
+        at-place : (i : ℕ) (t : Bool) → ltb i n ≡ t → getD sums i 0 ≡ lowsBeneath r i
+        at-place i true e = g .nodes i (ltb-true i n e) ∙ credited-lows i
+        at-place i false e =
+            let past : n ≤ i = ltb-false i n e in
+            g .past i past
+            ∙ creditedServers-past n i past (r .servers) l (servers-hang n (getD w at 0) 0 w (at + 1) (r .servers) j (is .servers-are))
+            ∙ zeros i
+            ∙ sym (sumBeneath-past n (parentAt w) (figures (creditedServers (r .servers) l)) table-rises i past)
+            ∙ credited-lows i
+
     pub overloaded-found : firstNode n 0 (exceeds w n (creditedServers (r .servers) l)) ≡ overloaded r
     unfolding overloaded
     overloaded-found =
@@ -101,3 +149,18 @@ overloaded-from w n sums found count r j e es ef =
     ef
     ∙ ap (λ (l : List ℕ). firstNode n 0 (exceeds w n l)) es
     ∙ overloaded-found w r j n _ is (replicate mostNodes 0) (zeros-at mostNodes) (omega (arith, is .most, length-replicate {A = ℕ} mostNodes 0))
+
+pub lows-from : (w : List ℕ) (n : ℕ) (sums : List ℕ) {sums′ : List ℕ} → n ≡ getD w 1 0 → (r : Room) (j : ℕ) → table w 0 ≡ good r j
+    → sums ≡ creditedRoom r (replicate mostNodes 0) → SumsGathered w n sums sums′ → sums′ ≡ nodeLows r
+lows-from w n sums {sums′} count r j e es g =
+    let is = layout w r j n count e in
+    let size : length {A = ℕ} (replicate mostNodes 0) ≡ mostNodes = length-replicate {A = ℕ} mostNodes 0 in
+    gathered-lows w r j n _ is (replicate mostNodes 0) (zeros-at mostNodes) (omega (arith, is .most, size)) size
+    (subst (λ (l : List ℕ). SumsGathered w n l sums′) es g)
+
+-- Of a refused table nothing is claimed but the refusal.
+pub unclaimed : (s : Step Room) {r : Checked} {q : Refusal} {l : List ℕ} → r ≡ told roomCords s → r ≡ Refused q
+    → (r ≡ told roomCords s) × ((room : Room) (j : ℕ) → s ≡ good room j → l ≡ nodeLows room)
+unfolding told
+unclaimed (good a j) d e = absurd (suc-ne-zero 0 (cc))
+unclaimed (bad m) d e = (d, λ room j is. absurd (suc-ne-zero 0 (cc)))

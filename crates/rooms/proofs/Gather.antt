@@ -10,10 +10,10 @@ use lib.Dec.{eqb, ltb}
 use borrow.Author.Tests.{ne-eqb}
 use Rattle.rooms.specs.Sums.{on, sum}
 use Rattle.rooms.specs.Limits.{firstNode}
-use Rattle.rooms.specs.Credits.{parentAt, limitAt, figures, sumBeneath, exceeds, credited}
-use Rattle.rooms.proofs.Sums.{on-no, sum-cong, sum-zero, up, sum-up}
+use Rattle.rooms.specs.Credits.{parentAt, limitAt, figures, sumBeneath, exceeds, credited, SumsGathered}
+use Rattle.rooms.proofs.Sums.{on-no, sum-cong, sum-zero, sum-none, up, sum-up}
 use Rattle.rooms.proofs.Trees.{kids}
-use Rattle.rooms.proofs.Credits.{credited-at, credited-length, sumBeneath-step, sumBeneath-most}
+use Rattle.rooms.proofs.Credits.{credited-at, credited-length, credited-past, sumBeneath-step, sumBeneath-most}
 
 -- ---- What stands on the nodes, where each has its own figure and passes `passed` on to its parent
 
@@ -35,6 +35,13 @@ module _ (count : ℕ) (parent own passed : ℕ → ℕ) where
   pub holds-most : (done n : ℕ) (now : ℕ → ℕ) → n + done ≡ count → Holds done n now → (i : ℕ) → i < count → now i ≤ own i + kids count parent i passed
   unfolding Holds kids
   holds-most done n now e h i l = omega (arith, h i l, sum-up done n count (λ m. on (eqb (parent m) (suc i)) (passed m)) e)
+
+  -- When all nodes had their turns, each has what all its children passed to it.
+  pub holds-end : (done : ℕ) (now : ℕ → ℕ) → 0 + done ≡ count → Holds done 0 now → (i : ℕ) → i < count → now i ≡ own i + kids count parent i passed
+  unfolding Holds kids
+  holds-end done now e h i l =
+      let f : ℕ → ℕ = λ m. on (eqb (parent m) (suc i)) (passed m) in
+      omega (arith, h i l, sum-up done 0 count f e, sum-none f)
 
   module _ (rises : (m : ℕ) → m < count → parent m ≤ m) where
     kids-later : (done m : ℕ) → suc m + done ≡ count → kids count parent m passed ≡ up done (suc m) (λ h. on (eqb (parent h) (suc m)) (passed h))
@@ -68,6 +75,7 @@ pub record Gathered (w : List ℕ) (count : ℕ) (start : List ℕ) (found n : �
   pub all : n + done ≡ count
   pub held : Holds count (parentAt w) (figures start) (whole w count start) done n (figures sums)
   pub size : length sums ≡ length start
+  pub past : (i : ℕ) → count ≤ i → getD sums i 0 ≡ getD start i 0
   pub first : found ≡ firstNode done n (exceeds w count start)
 
 pub gathered-start : (w : List ℕ) (count : ℕ) (start : List ℕ) → Gathered w count start 0 count start
@@ -78,6 +86,7 @@ gathered-start w count start =
       all = omega arith;
       held = holds-start count (parentAt w) (figures start) (whole w count start);
       size = refl;
+      past = λ i l. refl;
       first = refl;
     }
 
@@ -89,6 +98,16 @@ module _ {w : List ℕ} {count : ℕ} {start : List ℕ} where
   gathered-end {n = suc m} inv z = absurd (omega arith)
 
   module _ (rises : Rises w count) where
+    -- At the end each node has its whole sum.
+    pub gathered-sums : {found n : ℕ} {sums : List ℕ} → Gathered w count start found n sums → n ≤ 0 → SumsGathered w count start sums
+    gathered-sums {n = zero} {sums = sums} inv z = record {
+      size = inv .size;
+      nodes = λ i l. holds-end count (parentAt w) (figures start) (whole w count start) (inv .done) (figures sums) (inv .all) (inv .held) i l
+          ∙ sym (sumBeneath-step count (parentAt w) rises (figures start) i l);
+      past = inv .past;
+    }
+    gathered-sums {n = suc m} inv z = absurd (omega arith)
+
     gathered-whole : (found n : ℕ) (sums : List ℕ) → Gathered w count start found n sums → 0 < n → getD sums (n - 1) 0 ≡ whole w count start (n - 1)
     gathered-whole found zero sums inv p = absurd (omega arith)
     gathered-whole found (suc m) sums inv p =
@@ -122,6 +141,7 @@ module _ {w : List ℕ} {count : ℕ} {start : List ℕ} where
           held = holds-turn count (parentAt w) (figures start) (whole w count start) (inv .done) m (figures sums) (figures (credited (parentAt w m) figure sums)) (inv .held)
               (λ i l. credited-at (parentAt w m) figure sums i (omega (arith, inv .all, inv .size)));
           size = credited-length (parentAt w m) figure sums ∙ inv .size;
+          past = λ i l. credited-past (parentAt w m) figure sums i (omega (arith, inv .all)) ∙ inv .past i l;
           first = rw (← inv .first);
         })
 

@@ -3,8 +3,8 @@
 use mathlib.Core.Path.{_≡_}
 use mathlib.Core.Bool.{Bool}
 use mathlib.Core.List.{List, [], _∷_}
-use Prim.Native.Nat.{ℕ, zero, suc, _+_, _*_, _/_, _≤_}
-use lib.ListN.{getD, set}
+use Prim.Native.Nat.{ℕ, zero, suc, _+_, _*_, _/_, _≤_, _<_}
+use lib.ListN.{length, getD, set}
 use lib.Dec.{ltb}
 use Rattle.rooms.specs.Sums.{on, sum}
 use Rattle.rooms.specs.Part.{Step, good}
@@ -55,3 +55,10 @@ creditedRoom r = creditedServers (r .servers)
 pub record LowsCredited {A : Type 0} (step : Step A) (credit : A → List ℕ → List ℕ) (nodeCount most : ℕ) (sums sums′ : List ℕ) : Type 0 where
   pub are : (a : A) (j : ℕ) → step ≡ good a j → sums′ ≡ credit a sums
   pub grow : (a : A) (j : ℕ) → step ≡ good a j → sum nodeCount (figures sums′) ≤ sum nodeCount (figures sums) + most
+
+-- What the sums come to where each node's sum, from the last node to the first, is credited to its parent: a node has what stood on it
+-- and beneath it, and past the nodes nothing changes.
+pub record SumsGathered (w : List ℕ) (count : ℕ) (sums sums′ : List ℕ) : Type 0 where
+  pub size : length sums′ ≡ length sums
+  pub nodes : (n : ℕ) → n < count → getD sums′ n 0 ≡ sumBeneath (parentAt w) count (figures sums) n
+  pub past : (n : ℕ) → count ≤ n → getD sums′ n 0 ≡ getD sums n 0

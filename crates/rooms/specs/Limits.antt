@@ -1,12 +1,12 @@
 -- What a node may carry: limits, lows, and the cords beneath a node at any depth.
 use mathlib.Core.Bool.{Bool, false, cond, _||_}
-use mathlib.Core.List.{List}
+use mathlib.Core.List.{List, [], _∷_}
 use Prim.Native.Nat.{ℕ, zero, suc, _+_, _-_, _*_, _/_}
-use lib.ListN.{length, getD}
+use lib.ListN.{length, getD, replicate}
 use lib.Dec.{eqb, ltb}
-use Rattle.rooms.specs.Part.{Part, _>>=_, give, ensure, total}
+use Rattle.rooms.specs.Part.{Step, good, bad, Part, _>>=_, give, ensure, total}
 use Rattle.rooms.specs.Sums.{on}
-use Rattle.rooms.specs.Table.{Node, Cord, Server, Room, scale, table}
+use Rattle.rooms.specs.Table.{Node, Cord, Server, Room, scale, mostNodes, table}
 use Rattle.rooms.specs.declared.Refusal.the-variants.{LowsAboveLimit}
 
 -- The percent of its rating that a node may carry.
@@ -55,6 +55,15 @@ lows test = total (serverLows test)
 abbrev pub lowsBeneath : Room → ℕ → ℕ
 lowsBeneath r n = lows (hangsBeneath r n) (r .servers)
 
+-- The lows beneath each of so many places from n on, as a list. A place past the room's nodes has no cord beneath it, and so 0.
+unfoldable pub lowsFrom : ℕ → ℕ → Room → List ℕ
+lowsFrom zero n r = []
+lowsFrom (suc count) n r = lowsBeneath r n ∷ lowsFrom count (suc n) r
+
+-- The lows beneath each place that a room may have a node at.
+abbrev pub nodeLows : Room → List ℕ
+nodeLows r = lowsFrom mostNodes 0 r
+
 -- The number of the first node, of so many from place n on, of which a test holds; 0 if there is none.
 unfoldable pub firstNode : ℕ → ℕ → (ℕ → Bool) → ℕ
 firstNode zero n test = 0
@@ -70,3 +79,8 @@ checked = do
   r ← table
   _ ← ensure (eqb (overloaded r) 0) (LowsAboveLimit (overloaded r))
   give r
+
+-- The lows that a check hands out: those beneath each place of a good table's room; all 0 if the table is refused.
+unfoldable pub lowsTold : Step Room → List ℕ
+lowsTold (good r end) = nodeLows r
+lowsTold (bad refusal) = replicate mostNodes 0

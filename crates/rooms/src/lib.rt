@@ -1,12 +1,13 @@
 // The room table and its rules: the check of a table, Read and Write.
 ghost use mathlib.Core.Path.{_≡_};
-ghost use Prim.Native.Nat.{_≤_, min};
-ghost use lib.ListN.{length};
+ghost use Prim.Native.Nat.{ℕ, _≤_, min};
+ghost use lib.ListN.{length, replicate};
 ghost use lib.Seq.{sets};
 ghost use Rattle.numbers.specs.Number.{faultNumber};
 ghost use Rattle.numbers.specs.Sheet.{sheetOf};
-ghost use Rattle.rooms.specs.Limits.{checked};
-ghost use Rattle.rooms.specs.Table.{roomCords};
+ghost use Rattle.rooms.specs.Part.{good};
+ghost use Rattle.rooms.specs.Limits.{checked, nodeLows, lowsTold};
+ghost use Rattle.rooms.specs.Table.{Room, mostNodes, roomCords};
 ghost use Rattle.rooms.specs.Told.{told};
 ghost use Rattle.rooms.specs.Outcome.{refusalNumber, refusalPlace, answerNumber, answerFigure, answerOf, after, unlessRefused, fitting, reading, readingFirst, writing};
 use numbers::Fault;
@@ -110,20 +111,51 @@ impl Answer {
     }
 }
 
-// The whole check of a table: the count of its cords and its length, or its refusal.
-pub fn check(table: &[u32]) -> Checked
-    ensures { λ r. ⌜ r ≡ told roomCords (checked (now (table .entry)) 0) ⌝ }
+// Sets all lows to 0.
+fn clear(lows: &mut [u64; 512])
+    ensures { λ _. ⌜ now (lows .exit) ≡ replicate mostNodes 0 ⌝ }
 {
-    let mut sums = [0u64; 512];
-    let words = table::check_table(table, &mut sums);
+    *lows = [0u64; 512];
+}
+
+// The whole check of a table over lows that are 0. A good table leaves the lows beneath each node; a refused one may leave anything.
+fn check_summing(table: &[u32], lows: &mut [u64; 512]) -> Checked
+    requires { ⌜ now lows ≡ replicate mostNodes 0 ⌝ }
+    ensures { λ r. ⌜ r ≡ told roomCords (checked (now (table .entry)) 0) ⌝ }
+    ensures { λ _. ⌜ ((q : Room) (j : ℕ) → checked (now (table .entry)) 0 ≡ good q j → now (lows .exit) ≡ nodeLows q) ⌝ }
+{
+    let words = table::check_table(table, lows);
     let Checked::Good(cords, length) = words else {
         return words;
     };
-    let node = lows::overloaded(table, &mut sums);
+    let node = lows::overloaded(table, lows);
     if node != 0 {
         return Checked::Refused(Refusal::LowsAboveLimit(node));
     }
     Checked::Good(cords, length)
+}
+
+// The whole check of a table, as `check`, with the lows of all cords beneath each node, at any depth, by the nodes' places: a caller that
+// goes on with a good table need not sum them again. Past the nodes, and where the table is refused, the lows are 0.
+pub fn check_lows(table: &[u32], lows: &mut [u64; 512]) -> Checked
+    ensures { λ r. ⌜ r ≡ told roomCords (checked (now (table .entry)) 0) ⌝ }
+    ensures { λ _. ⌜ now (lows .exit) ≡ lowsTold (checked (now (table .entry)) 0) ⌝ }
+{
+    clear(lows);
+    let checked = check_summing(table, lows);
+    if let Checked::Refused(_) = checked {
+        clear(lows);
+        return checked;
+    }
+    checked
+}
+
+// The whole check of a table: the count of its cords and its length, or its refusal.
+pub fn check(table: &[u32]) -> Checked
+    ensures { λ r. ⌜ r ≡ told roomCords (checked (now (table .entry)) 0) ⌝ }
+{
+    let mut lows = [0u64; 512];
+    check_lows(table, &mut lows)
 }
 
 // The lesser of two lengths.

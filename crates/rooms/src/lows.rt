@@ -7,8 +7,8 @@ ghost use lib.Dec.{ltb};
 ghost use Rattle.rooms.specs.Sums.{sum};
 ghost use Rattle.rooms.specs.Part.{good, Good};
 ghost use Rattle.rooms.specs.Table.{Room, mostNodes, mostServers, mostServerCords, mostWatts, scale, table};
-ghost use Rattle.rooms.specs.Limits.{carried, percent, firstNode, overloaded};
-ghost use Rattle.rooms.specs.Credits.{parentAt, figures, exceeds, credited, creditedRoom, LowsCredited};
+ghost use Rattle.rooms.specs.Limits.{carried, percent, nodeLows, firstNode, overloaded};
+ghost use Rattle.rooms.specs.Credits.{parentAt, figures, exceeds, credited, creditedRoom, LowsCredited, SumsGathered};
 
 fn wide(x: u32) -> u64
     ensures { λ r. ⌜ r ≡ x ⌝ }
@@ -66,6 +66,7 @@ fn lowest_over(w: &[u32], node_count: usize, sums: &mut [u64]) -> usize
     requires { ⌜ ((m : ℕ) → m < «node_count» → parentAt (now w) m ≤ m) ⌝ }
     requires { ⌜ sum «node_count» (figures (now sums)) < 2 ^ 63 ⌝ }
     ensures { λ r. ⌜ r ≡ firstNode «node_count» 0 (exceeds (now (w .entry)) «node_count» (now (sums .entry))) ⌝ }
+    ensures { λ _. ⌜ SumsGathered (now (w .entry)) «node_count» (now (sums .entry)) (now (sums .exit)) ⌝ }
 {
     let mut found = 0;
     let mut n = node_count;
@@ -80,11 +81,13 @@ fn lowest_over(w: &[u32], node_count: usize, sums: &mut [u64]) -> usize
     found
 }
 
-// The lowest node of a good table whose limit the lows beneath it exceed; 0 if there is none. The sums have the lows on each node.
+// The lowest node of a good table whose limit the lows beneath it exceed; 0 if there is none. The sums come with the lows on each
+// node and leave with those beneath it.
 pub(crate) fn overloaded(w: &[u32], sums: &mut [u64]) -> usize
     requires { ⌜ Good (table (now w) 0) × (mostNodes ≤ length (now sums)) ⌝ }
     requires { ⌜ LowsCredited (table (now w) 0) creditedRoom (getD (now w) 1 0) (mostServerCords * mostWatts * mostServers) (replicate mostNodes 0) (now sums) ⌝ }
     ensures { λ r. ⌜ ((q : Room) (j : ℕ) → table (now (w .entry)) 0 ≡ good q j → r ≡ overloaded q) ⌝ }
+    ensures { λ _. ⌜ ((q : Room) (j : ℕ) → table (now (w .entry)) 0 ≡ good q j → now (sums .exit) ≡ nodeLows q) ⌝ }
 {
     let n = index(w[1]);
     lowest_over(w, n, sums)

@@ -1,6 +1,7 @@
 -- `deal_ranks` meets its contract: rank by rank, what the passes leave is what the deal's definition says.
 use mathlib.Core.Path.{sym, _∙_}
 use native.Mathlib.Omega.{arith}
+use Rattle.words.proofs.Lists.{sets-all}
 use borrow.Author.Needs.{needs}
 use borrow.Author.Count.{falls-down}
 use Rattle.deals.proofs.RankLoop.{RankLoop, ranks-start, loop-end, rows-end, level-fits, loop-skip, rank-lists, loop-turn}
@@ -16,14 +17,13 @@ abbrev μ-loop : tie.MeasureT-loop
     level
 
 copy-requires : tie.Need-copy-requires Inv-loop μ-loop
-copy-requires c κs =
-    let pre = c .before .before .before .before .before .before .before .before .before .before .before .before .before .before .before .before .before .before .pre in
-    pre .1 .1 .0 .left-size ∙ sym (pre .1 .0 .1 .size)
+copy-requires c κs = search needs
 
 loop-holds : tie.Need-loop-holds Inv-loop μ-loop
 loop-holds c =
     let pre = c .before .before .before .before .before .before .before .before .before .before .before .before .before .before .before .before .before .before .before .before .before .pre in
     let sizes = pre .1 .1 .0 in
+    let copied = c .before .before .copy .ensures ∙ sets-all _ _ (sizes .left-size ∙ sym (pre .1 .0 .1 .size)) in
     record {
       lists = pre .0;
       by-level = pre .1 .0 .0;
@@ -35,7 +35,7 @@ loop-holds c =
         before-size = sizes .before-size;
         dealt-size = sizes .dealt-size;
       };
-      ranks = ranks-start (pre .0) _ (pre .1 .1 .1 .full) (rw (c .before .before .copy .ensures) (pre .1 .0 .1));
+      ranks = ranks-start (pre .0) _ (pre .1 .1 .1 .full) (rw copied (pre .1 .0 .1));
       blank = pre .1 .1 .1;
     }
 

@@ -51,52 +51,58 @@ slice-read-pcapmin c =
     let is = c .before .index .ensures .0 in
     omega (arith, gather-node t more is .in-parents, gather-size t more is)
 
-mul-rest : tie.Need-mul-rest Inv-loop μ-loop
-mul-rest c = search needs
+mul-wide : tie.Need-mul-wide Inv-loop μ-loop
+mul-wide c = search needs
 
-slice-read-rest : tie.Need-slice-read-rest Inv-loop μ-loop
-slice-read-rest c = gather-node (c .before .before .before .before .before .loop .inv) (c .before .before .before .before .loop-test .taken) (c .before .before .index .ensures .0) .in-left
+slice-read-wide : tie.Need-slice-read-wide Inv-loop μ-loop
+slice-read-wide c = gather-node (c .before .before .before .before .before .loop .inv) (c .before .before .before .before .loop-test .taken) (c .before .before .index .ensures .0) .in-left
+
+wide-requires : tie.Need-wide-requires Inv-loop μ-loop
+wide-requires c κs = search needs
 
 mul-least : tie.Need-mul-least Inv-loop μ-loop
 mul-least c = search needs
 
 slice-read-least : tie.Need-slice-read-least Inv-loop μ-loop
-slice-read-least c = gather-node (c .before .before .before .before .before .before .loop .inv) (c .before .before .before .before .before .loop-test .taken) (c .before .before .before .index .ensures .0) .in-wholes
+slice-read-least c = gather-node (c .before .before .before .before .before .before .before .loop .inv) (c .before .before .before .before .before .before .loop-test .taken) (c .before .before .before .before .index .ensures .0) .in-wholes
 
 least-requires : tie.Need-least-requires Inv-loop μ-loop
 least-requires c κs = search needs
 
-sub-left : tie.Need-sub-left Inv-loop μ-loop
-sub-left c = search needs
+sub-narrow : tie.Need-sub-narrow Inv-loop μ-loop
+sub-narrow c = search needs
+
+narrow-requires : tie.Need-narrow-requires Inv-loop μ-loop
+narrow-requires c κs = omega (arith, c .before .before .wide .ensures .1)
 
 mul-left : tie.Need-mul-left Inv-loop μ-loop
 mul-left c = search needs
 
 slice-write-left : tie.Need-slice-write-left Inv-loop μ-loop
-slice-write-left c = gather-node (c .before .before .before .before .before .before .before .loop .inv) (c .before .before .before .before .before .before .loop-test .taken) (c .before .before .before .before .index .ensures .0) .in-left
+slice-write-left c = gather-node (c .before .before .before .before .before .before .before .before .before .loop .inv) (c .before .before .before .before .before .before .before .before .loop-test .taken) (c .before .before .before .before .before .before .index .ensures .0) .in-left
 
 add-narrow : tie.Need-add-narrow Inv-loop μ-loop
 add-narrow c =
-    let t = c .before .before .before .before .before .before .before .loop .inv in
-    let more = c .before .before .before .before .before .before .loop-test .taken in
-    let is = c .before .before .before .before .index .ensures .0 in
-    omega (arith, gather-node t more is .fits, gather-whole t more is, c .least .ensures)
+    let t = c .before .before .before .before .before .before .before .before .before .loop .inv in
+    let more = c .before .before .before .before .before .before .before .before .loop-test .taken in
+    let is = c .before .before .before .before .before .before .index .ensures .0 in
+    omega (arith, gather-node t more is .fits, gather-whole t more is, c .before .before .before .wide .ensures .0, c .before .least .ensures)
 
-narrow-requires : tie.Need-narrow-requires Inv-loop μ-loop
-narrow-requires c κs =
-    let t = c .before .before .before .before .before .before .before .loop .inv in
-    let more = c .before .before .before .before .before .before .loop-test .taken in
-    let is = c .before .before .before .before .index .ensures .0 in
-    omega (arith, gather-node t more is .fits, gather-whole t more is, c .least .ensures)
+narrow-requires-2 : tie.Need-narrow-requires-2 Inv-loop μ-loop
+narrow-requires-2 c κs =
+    let t = c .before .before .before .before .before .before .before .before .before .loop .inv in
+    let more = c .before .before .before .before .before .before .before .before .loop-test .taken in
+    let is = c .before .before .before .before .before .before .index .ensures .0 in
+    omega (arith, gather-node t more is .fits, gather-whole t more is, c .before .before .before .wide .ensures .0, c .before .least .ensures)
 
 mul-requests : tie.Need-mul-requests Inv-loop μ-loop
-mul-requests c = omega (arith, gather-node (c .before .before .before .before .before .before .before .before .loop .inv) (c .before .before .before .before .before .before .before .loop-test .taken) (c .before .before .before .before .before .index .ensures .0) .in-rows)
+mul-requests c = omega (arith, gather-node (c .before .before .before .before .before .before .before .before .before .before .loop .inv) (c .before .before .before .before .before .before .before .before .before .loop-test .taken) (c .before .before .before .before .before .before .before .index .ensures .0) .in-rows)
 
 mul-requests-2 : tie.Need-mul-requests-2 Inv-loop μ-loop
-mul-requests-2 c = omega (arith, gather-node (c .before .before .before .before .before .before .before .before .loop .inv) (c .before .before .before .before .before .before .before .loop-test .taken) (c .before .before .before .before .before .index .ensures .0) .in-rows)
+mul-requests-2 c = omega (arith, gather-node (c .before .before .before .before .before .before .before .before .before .before .loop .inv) (c .before .before .before .before .before .before .before .before .before .loop-test .taken) (c .before .before .before .before .before .before .before .index .ensures .0) .in-rows)
 
 index-1-requests : tie.Need-index-1-requests Inv-loop μ-loop
-index-1-requests c = gather-node (c .before .before .before .before .before .before .before .before .loop .inv) (c .before .before .before .before .before .before .before .loop-test .taken) (c .before .before .before .before .before .index .ensures .0) .in-rows
+index-1-requests c = gather-node (c .before .before .before .before .before .before .before .before .before .before .loop .inv) (c .before .before .before .before .before .before .before .before .before .loop-test .taken) (c .before .before .before .before .before .before .before .index .ensures .0) .in-rows
 
 index-2-requests : tie.Need-index-2-requests Inv-loop μ-loop
 index-2-requests c = search needs
@@ -105,35 +111,35 @@ mul-index-2 : tie.Need-mul-index-2 Inv-loop μ-loop
 mul-index-2 c = search needs
 
 shared-slice-read-index-2 : tie.Need-shared-slice-read-index-2 Inv-loop μ-loop
-shared-slice-read-index-2 c = gather-node (c .before .before .before .before .before .before .before .before .before .loop .inv) (c .before .before .before .before .before .before .before .before .loop-test .taken) (c .before .before .before .before .before .before .index .ensures .0) .in-parents
+shared-slice-read-index-2 c = gather-node (c .before .before .before .before .before .before .before .before .before .before .before .loop .inv) (c .before .before .before .before .before .before .before .before .before .before .loop-test .taken) (c .before .before .before .before .before .before .before .before .index .ensures .0) .in-parents
 
 index-requires-2 : tie.Need-index-requires-2 Inv-loop μ-loop
 index-requires-2 c κs = search needs
 
 credit-requires : tie.Need-credit-requires Inv-loop μ-loop
 credit-requires c κs =
-    let t = c .before .before .before .before .before .before .before .before .before .before .before .loop .inv in
-    let more = c .before .before .before .before .before .before .before .before .before .before .loop-test .taken in
-    let is = c .before .before .before .before .before .before .before .before .index .ensures .0 in
-    let pre = c .before .before .before .before .before .before .before .before .before .before .before .before .before .before .before .before .before .pre in
+    let t = c .before .before .before .before .before .before .before .before .before .before .before .before .before .loop .inv in
+    let more = c .before .before .before .before .before .before .before .before .before .before .before .before .loop-test .taken in
+    let is = c .before .before .before .before .before .before .before .before .before .before .index .ensures .0 in
+    let pre = c .before .before .before .before .before .before .before .before .before .before .before .before .before .before .before .before .before .before .before .pre in
     let here = gather-node t more is .in-parents in
-    let rise = pre .0 .2 (c .before .before .before .before .before .before .before .before .index .result) here in
+    let rise = pre .0 .2 (c .before .before .before .before .before .before .before .before .before .before .index .result) here in
     let most = gather-most t more is in (
       omega (arith, c .before .index2 .ensures .0, gather-size t more is),
-      omega (arith, c .before .index2 .ensures .0, most (c .before .before .before .before .before .before .before .before .index .result) here, most (c .before .index2 .result - 1) (omega (arith, c .before .index2 .ensures .0)), pre .1 .1 .0),
+      omega (arith, c .before .index2 .ensures .0, most (c .before .before .before .before .before .before .before .before .before .before .index .result) here, most (c .before .index2 .result - 1) (omega (arith, c .before .index2 .ensures .0)), pre .1 .1 .0),
     )
 
 credit-requires-2 : tie.Need-credit-requires-2 Inv-loop μ-loop
 credit-requires-2 c κs =
-    gather-node (c .before .before .before .before .before .before .before .before .before .before .before .before .before .before .before .loop .inv) (c .before .before .before .before .before .before .before .before .before .before .before .before .before .before .loop-test .taken) (c .before .before .before .before .before .before .before .before .before .before .before .before .index .ensures .0) .credit-fits (c .before .before .before .before .before .index2 .ensures .0)
-    (omega (arith, c .before .before .before .before .before .before .before .before .least .ensures))
+    gather-node (c .before .before .before .before .before .before .before .before .before .before .before .before .before .before .before .before .before .loop .inv) (c .before .before .before .before .before .before .before .before .before .before .before .before .before .before .before .before .loop-test .taken) (c .before .before .before .before .before .before .before .before .before .before .before .before .before .before .index .ensures .0) .credit-fits (c .before .before .before .before .before .index2 .ensures .0)
+    (omega (arith, c .before .before .before .before .before .before .before .before .before .before .before .wide .ensures .0, c .before .before .before .before .before .before .before .before .before .least .ensures))
 
 loop-less : tie.Need-loop-less Inv-loop μ-loop
 loop-less c = search needs
 
 loop-again : tie.Need-loop-again Inv-loop μ-loop
 loop-again c =
-    gather-turn (c .before .before .before .before .before .before .before .before .before .before .before .before .before .before .before .before .before .before .loop .inv) (c .before .before .before .before .before .before .before .before .before .before .before .before .before .before .before .before .before .loop-test .taken) (c .before .before .before .before .before .before .before .before .before .before .before .before .before .before .before .index .ensures .0) (c .before .before .before .before .before .before .before .before .before .before .before .least .ensures) (c .before .before .before .before .before .before .before .before .before .before .narrow .ensures) (c .before .before .before .before .before .before .before .before .index2 .ensures .0)
+    gather-turn (c .before .before .before .before .before .before .before .before .before .before .before .before .before .before .before .before .before .before .before .before .loop .inv) (c .before .before .before .before .before .before .before .before .before .before .before .before .before .before .before .before .before .before .before .loop-test .taken) (c .before .before .before .before .before .before .before .before .before .before .before .before .before .before .before .before .before .index .ensures .0) (c .before .before .before .before .before .before .before .before .before .before .before .before .before .before .wide .ensures .0) (c .before .before .before .before .before .before .before .before .before .before .before .before .least .ensures) (c .before .before .before .before .before .before .before .before .before .before .before .narrow .ensures) (c .before .before .before .before .before .before .before .before .before .before .narrow2 .ensures) (c .before .before .before .before .before .before .before .before .index2 .ensures .0)
     (c .before .before .before .before .before .before .credit .ensures) (c .before .before .credit2 .ensures)
 
 same-length : tie.Need-same-length Inv-loop μ-loop
@@ -161,16 +167,18 @@ gather-spec =
     index-requires
     mul-pcapmin
     slice-read-pcapmin
-    mul-rest
-    slice-read-rest
+    mul-wide
+    slice-read-wide
+    wide-requires
     mul-least
     slice-read-least
     least-requires
-    sub-left
+    sub-narrow
+    narrow-requires
     mul-left
     slice-write-left
     add-narrow
-    narrow-requires
+    narrow-requires-2
     mul-requests
     mul-requests-2
     index-1-requests

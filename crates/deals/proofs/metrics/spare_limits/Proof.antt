@@ -1,32 +1,22 @@
--- `spare_limits` meets its contract: turn by turn a node's lows give way to what its limit has over them.
-use mathlib.Core.Path.{_∙_}
-use Prim.Native.Nat.{_-_}
+-- `spare_limits` meets its contract: before each turn the nodes passed have what their limits have over the lows.
+use mathlib.Core.Path.{sym, ap, _∙_}
+use Prim.Native.Nat.{ℕ, _-_}
 use native.Mathlib.Omega.{arith}
 use borrow.Author.Needs.{needs}
 use lib.ListN.{length}
-use Rattle.deals.proofs.NodeSums.{SpareTurn, spare-start, spare-fits, spare-turn, spare-end}
+use Rattle.deals.specs.Figures.{at}
+use Rattle.deals.proofs.NodeSums.{SpareTurn, spare-start, spare-turn}
 use Rattle.deals.proofs.metrics.spare_limits.Statement.{statement}
 use Rattle.deals.proofs.metrics.spare_limits.Tie as tie
 
 abbrev Inv-loop : tie.InvT-loop
-Inv-loop parents limits nodes lows spare₀ n₀ n-end spare n = SpareTurn parents limits nodes lows n spare
+Inv-loop limits beneath spare₀ n₀ n-end spare n = SpareTurn limits beneath n spare
 
 abbrev μ-loop : tie.MeasureT-loop
-μ-loop parents limits nodes lows spare₀ n₀ n-end spare n = length limits - n
-
-sum-lows-requires : tie.Need-sum-lows-requires Inv-loop μ-loop
-sum-lows-requires c κs =
-    let pre = c .before .before .before .before .before .before .pre in
-    (pre .1 .0, (pre .0 .0 .rises, pre .1 .1))
+μ-loop limits beneath spare₀ n₀ n-end spare n = length limits - n
 
 loop-holds : tie.Need-loop-holds Inv-loop μ-loop
-loop-holds c = spare-start (c .before .before .sum-lows .kept .1 .1 .1 .0 ∙ c .before .before .before .before .before .before .before .before .before .pre .1 .0 .2) (c .before .before .sum-lows .ensures)
-
-mul-beneath : tie.Need-mul-beneath Inv-loop μ-loop
-mul-beneath c = search needs
-
-slice-read-beneath : tie.Need-slice-read-beneath Inv-loop μ-loop
-slice-read-beneath c = omega (arith, c .before .before .loop .inv .size, c .before .loop-test .taken, c .before .before .before .before .before .before .before .before .before .before .before .before .pre .0 .0 .limits-size)
+loop-holds c = spare-start (c .before .before .before .pre .0)
 
 mul-wide : tie.Need-mul-wide Inv-loop μ-loop
 mul-wide c = search needs
@@ -37,14 +27,23 @@ shared-slice-read-wide c = search needs
 wide-requires : tie.Need-wide-requires Inv-loop μ-loop
 wide-requires c κs = search needs
 
-sub-spare : tie.Need-sub-spare Inv-loop μ-loop
-sub-spare c = omega (arith, spare-fits (c .before .before .before .before .before .before .before .before .before .before .before .before .before .before .pre .0 .0 .limits-size) (c .before .before .before .before .loop .inv) (c .before .before .before .before .before .before .before .before .before .before .before .before .before .before .pre .0 .1) (c .before .before .before .loop-test .taken), c .wide .ensures .0)
+mul-narrow : tie.Need-mul-narrow Inv-loop μ-loop
+mul-narrow c = search needs
+
+shared-slice-read-narrow : tie.Need-shared-slice-read-narrow Inv-loop μ-loop
+shared-slice-read-narrow c = omega (arith, c .before .before .before .before .before .before .before .before .pre .1, c .before .before .before .loop-test .taken)
+
+sub-narrow : tie.Need-sub-narrow Inv-loop μ-loop
+sub-narrow c = omega (arith, c .before .before .before .before .before .before .before .before .pre .2 _ (c .before .before .before .loop-test .taken), c .before .wide .ensures .0)
+
+narrow-requires : tie.Need-narrow-requires Inv-loop μ-loop
+narrow-requires c κs = omega (arith, c .before .wide .ensures .1)
 
 mul-spare : tie.Need-mul-spare Inv-loop μ-loop
 mul-spare c = search needs
 
 slice-write-spare : tie.Need-slice-write-spare Inv-loop μ-loop
-slice-write-spare c = omega (arith, c .before .before .before .before .loop .inv .size, c .before .before .before .loop-test .taken, c .before .before .before .before .before .before .before .before .before .before .before .before .before .before .pre .0 .0 .limits-size)
+slice-write-spare c = omega (arith, c .before .before .before .before .before .loop .inv .size, c .before .before .before .before .loop-test .taken)
 
 add-n : tie.Need-add-n Inv-loop μ-loop
 add-n c = search needs
@@ -53,13 +52,15 @@ loop-less : tie.Need-loop-less Inv-loop μ-loop
 loop-less c = search needs
 
 loop-again : tie.Need-loop-again Inv-loop μ-loop
-loop-again c = spare-turn (c .before .before .before .before .before .before .before .before .before .before .before .before .before .before .pre .0 .0 .limits-size) (c .before .before .before .before .loop .inv) (c .before .before .before .before .before .before .before .before .before .before .before .before .before .before .pre .0 .1) (c .before .before .before .loop-test .taken) (c .wide .ensures .0)
+loop-again c =
+    let more = c .before .before .before .before .loop-test .taken in
+    spare-turn (c .before .before .before .before .before .loop .inv) more (c .before .before .before .before .before .before .before .before .before .pre .2 _ more) (c .narrow .ensures ∙ ap (λ (x : ℕ). x - at (c .before .before .before .before .before .before .before .before .before .args .beneath .now) (c .before .before .before .before .before .loop .n)) (c .before .before .wide .ensures .0))
 
 same-length : tie.Need-same-length Inv-loop μ-loop
-same-length c = omega (arith, c .before .loop .inv .size, c .before .before .before .before .before .before .before .before .before .before .before .pre .1 .0 .2)
+same-length c = c .before .loop .inv .size ∙ sym (c .before .before .before .before .before .pre .0)
 
 returns : tie.Need-returns Inv-loop μ-loop
-returns c = spare-end (c .before .before .before .before .before .before .before .before .before .before .before .pre .0 .0 .limits-size) (c .before .loop .inv) (c .loop-test .left)
+returns c = λ n l. c .before .loop .inv .done n (omega (arith, c .loop-test .left))
 
 pub spare-limits-spec : {M : Type 1} → statement M
 spare-limits-spec =
@@ -67,14 +68,14 @@ spare-limits-spec =
     (tie.spec
     Inv-loop
     μ-loop
-    sum-lows-requires
     loop-holds
-    mul-beneath
-    slice-read-beneath
     mul-wide
     shared-slice-read-wide
     wide-requires
-    sub-spare
+    mul-narrow
+    shared-slice-read-narrow
+    sub-narrow
+    narrow-requires
     mul-spare
     slice-write-spare
     add-n

@@ -3,7 +3,7 @@ use Prim.Native.Nat.{_-_}
 use mathlib.Core.Path.{refl}
 use native.Mathlib.Omega.{arith}
 use borrow.Author.Needs.{needs}
-use Rattle.rooms.proofs.Gather.{Gathered, gathered-start, gathered-end, gathered-most, gathered-turn}
+use Rattle.rooms.proofs.Gather.{Gathered, gathered-start, gathered-end, gathered-sums, gathered-most, gathered-turn}
 use Rattle.rooms.proofs.lows.lowest_over.Statement.{statement}
 use Rattle.rooms.proofs.lows.lowest_over.Tie as tie
 
@@ -85,7 +85,7 @@ same-length : tie.Need-same-length Inv-loop μ-loop
 same-length c = c .before .loop .inv .size
 
 returns : tie.Need-returns Inv-loop μ-loop
-returns c = gathered-end (c .before .loop .inv) (search needs)
+returns c = (gathered-end (c .before .loop .inv) (search needs), gathered-sums (c .before .before .before .before .pre .1 .0) (c .before .loop .inv) (search needs))
 
 pub lowest-over-spec : {M : Type 1} → statement M
 lowest-over-spec =

@@ -5,7 +5,7 @@ use lib.ListN.{getD, replicate}
 use borrow.Author.Needs.{needs}
 use Rattle.rooms.specs.Table.{mostNodes}
 use Rattle.rooms.proofs.Credits.{zeros-at, sum-zeros}
-use Rattle.rooms.proofs.Found.{layout, table-rises, overloaded-from}
+use Rattle.rooms.proofs.Found.{layout, table-rises, overloaded-from, lows-from}
 use Rattle.rooms.proofs.lows.overloaded.Statement.{statement}
 use Rattle.rooms.proofs.lows.overloaded.Tie as tie
 
@@ -29,7 +29,13 @@ same-length : tie.Need-same-length
 same-length c = search needs
 
 returns : tie.Need-returns
-returns c = λ q j e. overloaded-from _ _ _ _ (c .before .before .before .before .index .ensures) q j e (c .before .before .before .before .before .before .before .before .pre .1 .are q j e) (c .before .before .lowest-over .ensures)
+returns c =
+    let count = c .before .before .before .before .index .ensures in
+    let credited = c .before .before .before .before .before .before .before .before .pre .1 .are in
+    let gathered = c .before .before .lowest-over .ensures in (
+      λ q j e. overloaded-from _ _ _ _ count q j e (credited q j e) (gathered .0),
+      λ q j e. lows-from _ _ _ count q j e (credited q j e) (gathered .1),
+    )
 
 pub overloaded-spec : {M : Type 1} → statement M
 overloaded-spec =

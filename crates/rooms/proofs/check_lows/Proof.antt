@@ -1,0 +1,48 @@
+-- `check_lows` meets its contract: a good table leaves the lows beneath each node, and a refused one's are cleared.
+use mathlib.Core.Path.{sym, ap, _∙_}
+use borrow.Author.Needs.{needs}
+use Rattle.rooms.specs.Limits.{lowsTold}
+use Rattle.rooms.proofs.Steps.{known}
+use Rattle.rooms.proofs.Outcomes.{refused-so}
+use Rattle.rooms.proofs.check_lows.Statement.{statement}
+use Rattle.rooms.proofs.check_lows.Tie as tie
+
+clear-requires : tie.Need-clear-requires
+clear-requires c κs = search needs
+
+check-summing-requires : tie.Need-check-summing-requires
+check-summing-requires c κs = search needs
+
+enum-told : tie.Need-enum-told
+enum-told c = search needs
+
+clear-requires-2 : tie.Need-clear-requires-2
+clear-requires-2 c κs = search needs
+
+returns : tie.Need-returns
+unfolding lowsTold
+returns c =
+    let checked = c .before .before .before .before .check-summing .ensures .0 in
+    (checked, c .clear2 .ensures ∙ sym (ap lowsTold (refused-so _ _ checked (c .before .before .enum-told .given .1))))
+
+enum-told-2 : tie.Need-enum-told-2
+enum-told-2 c = search needs
+
+returns-2 : tie.Need-returns-2
+unfolding lowsTold
+returns-2 c =
+    let call = c .before .before .check-summing in
+    let room = known _ _ (call .ensures .0) (c .enum-told2 .given .1) in
+    (call .ensures .0, call .ensures .1 (room .got) _ (room .is) ∙ sym (ap lowsTold (room .is)))
+
+pub check-lows-spec : {M : Type 1} → statement M
+check-lows-spec =
+    tie.close
+    (tie.spec
+    clear-requires
+    check-summing-requires
+    enum-told
+    clear-requires-2
+    returns
+    enum-told-2
+    returns-2)

@@ -27,7 +27,6 @@ use Rattle.deals.proofs.BothDeals.{cord-facts, lowsOf-length, carriedBy
 use Rattle.deals.proofs.Bounds.{bounded}
 use Rattle.deals.proofs.RankLoop.{zeros-front}
 use Rattle.deals.proofs.Walk.{begun}
-use Rattle.deals.proofs.Reclaiming.{usable-lists}
 
 -- A list as long as another one that fits.
 pub cords-fit : (table : List ℕ) {m n : ℕ} → m ≡ n → CordsFit table n → CordsFit table m

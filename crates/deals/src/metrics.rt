@@ -13,7 +13,7 @@ use crate::widths::narrow;
 use crate::widths::wide;
 
 // Sets every entry to 0.
-pub(crate) fn clear(list: &mut [u64])
+fn clear(list: &mut [u64])
     ensures { λ _. ⌜ now (list .exit) ≡ replicate (length (now (list .entry))) 0 ⌝ }
 {
     for i in 0..list.len() {

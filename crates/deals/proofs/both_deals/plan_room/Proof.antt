@@ -1,7 +1,6 @@
 -- `plan_room` meets its contract: it lends lists of zeros as long as the room's nodes, cords and servers are many, and as much of the
 -- list of the lows.
 use Rattle.deals.proofs.Planning.{table-begun, nodes-most, cords-most, servers-most, nodes-front, cords-front, servers-front, nodes-lent, cords-lent, servers-lent, lows-front, lows-lent, lows-still}
-use native.Mathlib.Omega.{arith}
 use Rattle.deals.proofs.RankLoop.{zeros-rows, zeros-cells}
 use borrow.Author.Needs.{needs}
 use Rattle.deals.proofs.both_deals.plan_room.Statement.{statement}

@@ -1,5 +1,5 @@
 -- `load_nodes` meets its contract: before each turn both lists have the figures of the nodes passed, in the table's words.
-use mathlib.Core.Path.{refl, ap, _∙_}
+use mathlib.Core.Path.{ap, _∙_}
 use Prim.Native.Nat.{ℕ, _+_, _-_, _*_, _/_, _≤_}
 use native.Mathlib.Omega.{arith}
 use lib.ListN.{length}

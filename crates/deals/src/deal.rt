@@ -13,6 +13,10 @@ use crate::metrics::gather;
 use crate::metrics::sum_cords;
 use crate::widths::index;
 
+// The length of the lists with a figure of each node: a little more than the most nodes, which would fill a page. Figures of one node
+// in two lists would then stand at the same place of their pages, and the processor would take a store to one for a store to the other.
+const FIGURES: usize = 520;
+
 // One rank of a deal, over its cords and its active nodes: the Requests are gathered and the excesses dealt. `pcapmins` and `wholes`
 // (the children's excesses) have this rank's figure of each node; `amounts`, `before` (weights served) and `dealt` that of each active
 // one. (`limits` and `levels` are for the contracts alone.)
@@ -177,11 +181,11 @@ pub(crate) fn deal(
     ensures { λ _. ⌜ BlankRows (length (now (parents .entry))) (now (actives .entry)) (now (counts .entry)) (now (requests .exit)) ⌝ }
 {
     let mut left = [0u32; 512];
-    let mut pcapmins = [0u64; 512];
-    let mut wholes = [0u64; 512];
-    let mut amounts = [0u64; 512];
-    let mut before = [0u64; 512];
-    let mut dealt = [0u64; 512];
+    let mut pcapmins = [0u64; FIGURES];
+    let mut wholes = [0u64; FIGURES];
+    let mut amounts = [0u64; FIGURES];
+    let mut before = [0u64; FIGURES];
+    let mut dealt = [0u64; FIGURES];
     let n = parents.len();
     deal_ranks(
         parents,

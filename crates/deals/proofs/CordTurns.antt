@@ -152,19 +152,19 @@ module _ {nodes levels lows wants : List ℕ} {level : ℕ} {wholes amounts befo
                 turn .ready .cords .most c more,
               )
 
-          pub cord-next : (given : ℕ) {grants′ : List ℕ} → given ≡ watts → grants′ ≡ set grants c (at lows c + given)
+          pub cord-next : {grants′ : List ℕ} → grants′ ≡ set grants c (at lows c + watts)
               → CordTurn nodes levels lows wants level wholes amounts before₀ grants₀ (c + 1) before′ dealt′ grants′
-          cord-next given {grants′} given-is g =
-              let kept : (h : ℕ) → (h ≡ c → ⊥) → at grants′ h ≡ at grants h = λ h z. ap (λ (l : List ℕ). at l h) g ∙ getD-set-other grants c h (at lows c + given) 0 z in
-              let stored : at grants′ c ≡ at lows c + given = ap (λ (l : List ℕ). at l c) g ∙ getD-set-same grants c (at lows c + given) 0 (omega (arith, turn .grants-size)) in
+          cord-next {grants′} g =
+              let kept : (h : ℕ) → (h ≡ c → ⊥) → at grants′ h ≡ at grants h = λ h z. ap (λ (l : List ℕ). at l h) g ∙ getD-set-other grants c h (at lows c + watts) 0 z in
+              let stored : at grants′ c ≡ at lows c + watts = ap (λ (l : List ℕ). at l c) g ∙ getD-set-same grants c (at lows c + watts) 0 (omega (arith, turn .grants-size)) in
               let granted : at grants′ c ≡ at lows c + part (at amounts (node - 1)) (at wholes (node - 1)) (weightsBefore nodes levels lows wants level before₀ c (node - 1)) (at wants c - at lows c)
               = stored
-              ∙ ap (λ (y : ℕ). at lows c + y) (given-is ∙ watts-is)
+              ∙ ap (λ (y : ℕ). at lows c + y) watts-is
               ∙ ap (λ (y : ℕ). at lows c + part (at amounts (node - 1)) (at wholes (node - 1)) (weightsBefore nodes levels lows wants level before₀ c (node - 1)) y) w-is in
               record {
                 ready = turn .ready;
                 reached = omega arith;
-                grants-size = ap length g ∙ length-set grants c (at lows c + given) ∙ turn .grants-size;
+                grants-size = ap length g ∙ length-set grants c (at lows c + watts) ∙ turn .grants-size;
                 ours = below-more (CordDealt nodes levels lows wants level wholes amounts before₀ grants′) c
                     (λ h l n r z. kept h (λ q. omega arith) ∙ turn .ours h l n r z)
                     (λ n r z. subst (λ (k : ℕ). at grants′ c ≡ at lows c + part (at amounts k) (at wholes k) (weightsBefore nodes levels lows wants level before₀ c k) (at wants c - at lows c)) (omega (arith, hangs)) granted);

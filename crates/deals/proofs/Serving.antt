@@ -3,7 +3,7 @@ use mathlib.Core.Path.{_≡_, refl, sym, ap, ap₂, subst, _∙_}
 use mathlib.Core.Bool.{Bool, true, false}
 use mathlib.Core.List.{List}
 use Prim.Native.Nat.{ℕ, suc, _+_, _*_, _-_, _/_, _^_, _≤_, _<_}
-use native.Mathlib.Nat.{mul-zero, sub-zero, zero-div, mul-le-mul, lt-of-le-of-lt}
+use native.Mathlib.Nat.{mul-zero, sub-zero, zero-div, mul-le-mul, mul-le-mul-left, lt-of-le-of-lt, le-trans, le-of-eq}
 use native.Mathlib.Omega.{arith}
 use lib.Dec.{eqb, lit<}
 use lib.ListN.{length, set, length-set}
@@ -14,7 +14,7 @@ use Rattle.rooms.specs.Table.{mostWatts, mostCords}
 use Rattle.rooms.proofs.Sums.{on-yes, on-no, sum-suc, sum-up}
 use Rattle.deals.specs.Figures.{at}
 use Rattle.deals.specs.Split.{part}
-use Rattle.deals.proofs.Splits.{part-whole}
+use Rattle.deals.proofs.Splits.{div-mono, part-whole}
 
 -- ---- One child
 
@@ -30,6 +30,10 @@ HasServed x e w p before dealt watts before′ dealt′ =
 -- Nothing is dealt where nothing was served.
 dealt-none : (x e b : ℕ) → b ≡ 0 → x * b / e ≡ 0
 dealt-none x e b z = ap (λ (y : ℕ). x * y / e) z ∙ ap (λ (y : ℕ). y / e) (mul-zero x) ∙ zero-div e
+
+-- No more is dealt than the amount.
+pub dealt-most : (x e u : ℕ) → u ≤ e → x ≤ e → x * u / e ≤ x
+dealt-most x e u h room = le-trans (div-mono (x * u) (x * e) e (mul-le-mul-left x h)) (le-of-eq (part-whole x e room))
 
 -- A child with all the weight gets all.
 pub serve-all : (x e w p : ℕ) (before dealt : List ℕ) → at before p + w ≤ e → x ≤ e → w ≡ e → HasServed x e w p before dealt x (set before p w) (set dealt p x)

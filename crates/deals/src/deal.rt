@@ -36,9 +36,9 @@ fn deal_rank(
     left: &mut [u32],
     pcapmins: &mut [u64],
     wholes: &mut [u64],
-    amounts: &mut [u64],
+    amounts: &mut [u32],
     before: &mut [u64],
-    dealt: &mut [u64],
+    dealt: &mut [u32],
     grants: &mut [u32],
 )
     requires { ⌜ RankLists (now parents) (now limits) (now nodes) (now levels) (now lows) (now wants) (now next) level from (now active) count (now requests) (now left) (now pcapmins) (now wholes) (now amounts) (now before) (now dealt) (now grants) ⌝ }
@@ -112,9 +112,9 @@ fn deal_ranks(
     left: &mut [u32],
     pcapmins: &mut [u64],
     wholes: &mut [u64],
-    amounts: &mut [u64],
+    amounts: &mut [u32],
     before: &mut [u64],
-    dealt: &mut [u64],
+    dealt: &mut [u32],
     grants: &mut [u32],
 )
     requires { ⌜ DealLists (now parents) (now limits) (now nodes) (now levels) (now lows) (now wants) (length (now grants)) ⌝ }
@@ -183,9 +183,9 @@ pub(crate) fn deal(
     let mut left = [0u32; 512];
     let mut pcapmins = [0u64; FIGURES];
     let mut wholes = [0u64; FIGURES];
-    let mut amounts = [0u64; FIGURES];
+    let mut amounts = [0u32; FIGURES];
     let mut before = [0u64; FIGURES];
-    let mut dealt = [0u64; FIGURES];
+    let mut dealt = [0u32; FIGURES];
     let n = parents.len();
     deal_ranks(
         parents,

@@ -13,13 +13,13 @@ use crate::widths::wide;
 
 // The part of the next child of the node at place p, by its weight. The weights served and the watts dealt there grow by it.
 fn serve(
-    amount: u64,
+    amount: u32,
     whole: u64,
     weight: u64,
     p: usize,
     before: &mut [u64],
-    dealt: &mut [u64],
-) -> u64
+    dealt: &mut [u32],
+) -> u32
     requires { ⌜ (p < length (now before)) × (p < length (now dealt)) × (at (now before) p + weight ≤ whole) × (amount ≤ whole) × (amount * whole < 2 ^ 64) × (whole < 2 ^ 63) ⌝ }
     requires { ⌜ at (now dealt) p ≡ amount * at (now before) p / whole ⌝ }
     ensures { λ r. ⌜ r ≡ part amount whole (at (now (before .entry)) p) weight ⌝ }
@@ -34,12 +34,12 @@ fn serve(
         return amount;
     }
     let upto = before[p] + weight;
-    let watts = amount * upto / whole;
+    let watts = wide(amount) * upto / whole;
     // The quotients rise, so nothing is cut off; `over` needs no proof of it.
-    let given = over(watts, dealt[p]);
+    let given = over(watts, wide(dealt[p]));
     before[p] = upto;
-    dealt[p] = watts;
-    given
+    dealt[p] = narrow(watts);
+    narrow(given)
 }
 
 // What each active node has to give at a level: a root its excess, any other its part of its parent's. The figures of a node are begun
@@ -52,9 +52,9 @@ pub(crate) fn deal_nodes(
     requests: &[[u32; 16]; 512],
     pcapmins: &[u64],
     wholes: &[u64],
-    amounts: &mut [u64],
+    amounts: &mut [u32],
     before: &mut [u64],
-    dealt: &mut [u64],
+    dealt: &mut [u32],
 )
     requires { ⌜ (length (now parents) ≤ mostNodes) × (level < highestRank) × ((m : ℕ) → m < length (now parents) → at (now parents) m ≤ m) ⌝ }
     requires { ⌜ (length (now pcapmins) ≡ length (now parents)) × (length (now wholes) ≡ length (now parents)) × (length (now amounts) ≡ length (now parents)) × (length (now before) ≡ length (now parents)) × (length (now dealt) ≡ length (now parents)) ⌝ }
@@ -70,7 +70,7 @@ pub(crate) fn deal_nodes(
         let weight = wide(requests[m][level]) - pcapmins[m];
         let parent = index(parents[m]);
         if parent == 0 {
-            amounts[m] = weight;
+            amounts[m] = narrow(weight);
         } else {
             let p = parent - 1;
             amounts[m] = serve(amounts[p], wholes[p], weight, p, before, dealt);
@@ -89,9 +89,9 @@ pub(crate) fn deal_cords(
     level: usize,
     from: usize,
     wholes: &[u64],
-    amounts: &[u64],
+    amounts: &[u32],
     before: &mut [u64],
-    dealt: &mut [u64],
+    dealt: &mut [u32],
     grants: &mut [u32],
 )
     requires { ⌜ CordLists (length (now amounts)) (now nodes) (now levels) (now lows) (now wants) ⌝ }
@@ -113,7 +113,7 @@ pub(crate) fn deal_cords(
             before,
             dealt,
         );
-        grants[c] = low + narrow(watts);
+        grants[c] = low + watts;
         c = index(next[c]);
     }
 }

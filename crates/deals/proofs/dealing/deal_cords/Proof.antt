@@ -90,49 +90,43 @@ serve-requires c κs =
     let more = c .before .before .before .before .before .before .before .before .before .loop-test .taken in
     cord-may-serve (c .before .before .before .before .before .before .before .before .before .before .loop .inv .1) more _ (c .before .before .before .before .before .before .before .index .ensures .0) _ refl (c .before .before .before .before .before .before .before .before .before .before .loop .inv .0 more) _ (c .before .before .wide .ensures .0)
 
-narrow-requires : tie.Need-narrow-requires Inv-loop μ-loop
-narrow-requires c κs =
-    let more = c .before .before .before .before .before .before .before .before .before .before .before .before .before .before .loop-test .taken in
-    let most = watts-most (c .before .before .before .before .before .before .before .before .before .before .before .before .before .before .before .loop .inv .1) more _ (c .before .before .before .before .before .before .before .before .before .before .before .before .index .ensures .0) _ refl (c .before .before .before .before .before .before .before .before .before .before .before .before .before .before .before .loop .inv .0 more) _ (c .before .before .before .before .before .before .before .wide .ensures .0) (c .before .before .before .before .serve .ensures) in
-    omega arith
-
 add-grants : tie.Need-add-grants Inv-loop μ-loop
 add-grants c =
-    let inv = c .before .before .before .before .before .before .before .before .before .before .before .before .before .before .before .before .loop .inv .1 in
-    let more = c .before .before .before .before .before .before .before .before .before .before .before .before .before .before .before .loop-test .taken in
-    let most = watts-most inv more _ (c .before .before .before .before .before .before .before .before .before .before .before .before .before .index .ensures .0) _ refl (c .before .before .before .before .before .before .before .before .before .before .before .before .before .before .before .before .loop .inv .0 more) _ (c .before .before .before .before .before .before .before .before .wide .ensures .0) (c .before .before .before .before .before .serve .ensures) in
-    record { fits = omega (arith, c .narrow .ensures, inv .ready .cords .ordered _ more, inv .ready .cords .most _ more) }
+    let inv = c .before .before .before .before .before .before .before .before .before .before .before .before .before .before .before .loop .inv .1 in
+    let more = c .before .before .before .before .before .before .before .before .before .before .before .before .before .before .loop-test .taken in
+    let most = watts-most inv more _ (c .before .before .before .before .before .before .before .before .before .before .before .before .index .ensures .0) _ refl (c .before .before .before .before .before .before .before .before .before .before .before .before .before .before .before .loop .inv .0 more) _ (c .before .before .before .before .before .before .before .wide .ensures .0) (c .before .before .before .before .serve .ensures) in
+    record { fits = omega (arith, inv .ready .cords .ordered _ more, inv .ready .cords .most _ more) }
 
 mul-grants : tie.Need-mul-grants Inv-loop μ-loop
-mul-grants c = omega (arith, c .before .before .before .before .before .before .before .before .before .before .before .before .before .before .before .before .loop .inv .1 .grants-size, c .before .before .before .before .before .before .before .before .before .before .before .before .before .before .before .loop-test .taken)
+mul-grants c = omega (arith, c .before .before .before .before .before .before .before .before .before .before .before .before .before .before .before .loop .inv .1 .grants-size, c .before .before .before .before .before .before .before .before .before .before .before .before .before .before .loop-test .taken)
 
 slice-write-grants : tie.Need-slice-write-grants Inv-loop μ-loop
-slice-write-grants c = omega (arith, c .before .before .before .before .before .before .before .before .before .before .before .before .before .before .before .before .loop .inv .1 .grants-size, c .before .before .before .before .before .before .before .before .before .before .before .before .before .before .before .loop-test .taken)
+slice-write-grants c = omega (arith, c .before .before .before .before .before .before .before .before .before .before .before .before .before .before .before .loop .inv .1 .grants-size, c .before .before .before .before .before .before .before .before .before .before .before .before .before .before .loop-test .taken)
 
 mul-index-2 : tie.Need-mul-index-2 Inv-loop μ-loop
 mul-index-2 c = search needs
 
 shared-slice-read-index-2 : tie.Need-shared-slice-read-index-2 Inv-loop μ-loop
-shared-slice-read-index-2 c = omega (arith, c .before .before .before .before .before .before .before .before .before .before .before .before .before .before .before .before .before .before .before .before .before .before .before .before .before .before .before .before .pre .1 .1 .1 .1 .next-size, c .before .before .before .before .before .before .before .before .before .before .before .before .before .before .before .before .before .before .before .before .before .before .before .before .before .before .before .before .pre .0 .levels-size, c .before .before .before .before .before .before .before .before .before .before .before .before .before .before .before .before .loop-test .taken)
+shared-slice-read-index-2 c = omega (arith, c .before .before .before .before .before .before .before .before .before .before .before .before .before .before .before .before .before .before .before .before .before .before .before .before .before .before .before .pre .1 .1 .1 .1 .next-size, c .before .before .before .before .before .before .before .before .before .before .before .before .before .before .before .before .before .before .before .before .before .before .before .before .before .before .before .pre .0 .levels-size, c .before .before .before .before .before .before .before .before .before .before .before .before .before .before .before .loop-test .taken)
 
 index-requires-2 : tie.Need-index-requires-2 Inv-loop μ-loop
 index-requires-2 c κs = search needs
 
 loop-less : tie.Need-loop-less Inv-loop μ-loop
 loop-less c =
-    let more = c .before .before .before .before .before .before .before .before .before .before .before .before .before .before .before .before .before .loop-test .taken in
-    let ahead = chain-next (c .before .before .before .before .before .before .before .before .before .before .before .before .before .before .before .before .before .before .before .before .before .before .before .before .before .before .before .before .before .pre .1 .1 .1 .1) (omega (arith, c .before .before .before .before .before .before .before .before .before .before .before .before .before .before .before .before .before .before .before .before .before .before .before .before .before .before .before .before .before .pre .0 .levels-size)) (c .before .before .before .before .before .before .before .before .before .before .before .before .before .before .before .before .before .before .loop .inv .0 more) (c .index2 .ensures .0) in
+    let more = c .before .before .before .before .before .before .before .before .before .before .before .before .before .before .before .before .loop-test .taken in
+    let ahead = chain-next (c .before .before .before .before .before .before .before .before .before .before .before .before .before .before .before .before .before .before .before .before .before .before .before .before .before .before .before .before .pre .1 .1 .1 .1) (omega (arith, c .before .before .before .before .before .before .before .before .before .before .before .before .before .before .before .before .before .before .before .before .before .before .before .before .before .before .before .before .pre .0 .levels-size)) (c .before .before .before .before .before .before .before .before .before .before .before .before .before .before .before .before .before .loop .inv .0 more) (c .index2 .ensures .0) in
     omega (arith, ahead .after)
 
 loop-again : tie.Need-loop-again Inv-loop μ-loop
 loop-again c =
-    let inv = c .before .before .before .before .before .before .before .before .before .before .before .before .before .before .before .before .before .before .loop .inv .1 in
-    let more = c .before .before .before .before .before .before .before .before .before .before .before .before .before .before .before .before .before .loop-test .taken in
-    let here = c .before .before .before .before .before .before .before .before .before .before .before .before .before .before .before .before .before .before .loop .inv .0 more in
-    let levels-size = c .before .before .before .before .before .before .before .before .before .before .before .before .before .before .before .before .before .before .before .before .before .before .before .before .before .before .before .before .before .pre .0 .levels-size in
-    let ahead = chain-next (c .before .before .before .before .before .before .before .before .before .before .before .before .before .before .before .before .before .before .before .before .before .before .before .before .before .before .before .before .before .pre .1 .1 .1 .1) (omega (arith, levels-size)) here (c .index2 .ensures .0) in (
+    let inv = c .before .before .before .before .before .before .before .before .before .before .before .before .before .before .before .before .before .loop .inv .1 in
+    let more = c .before .before .before .before .before .before .before .before .before .before .before .before .before .before .before .before .loop-test .taken in
+    let here = c .before .before .before .before .before .before .before .before .before .before .before .before .before .before .before .before .before .loop .inv .0 more in
+    let levels-size = c .before .before .before .before .before .before .before .before .before .before .before .before .before .before .before .before .before .before .before .before .before .before .before .before .before .before .before .before .pre .0 .levels-size in
+    let ahead = chain-next (c .before .before .before .before .before .before .before .before .before .before .before .before .before .before .before .before .before .before .before .before .before .before .before .before .before .before .before .before .pre .1 .1 .1 .1) (omega (arith, levels-size)) here (c .index2 .ensures .0) in (
       λ l. ahead .here (omega (arith, levels-size)),
-      cords-skip ahead (cord-next inv more _ (c .before .before .before .before .before .before .before .before .before .before .before .before .before .before .before .index .ensures .0) _ refl here _ (c .before .before .before .before .before .before .before .before .before .before .wide .ensures .0) (c .before .before .before .before .before .before .before .serve .ensures) _ (c .before .before .narrow .ensures) refl),
+      cords-skip ahead (cord-next inv more _ (c .before .before .before .before .before .before .before .before .before .before .before .before .before .before .index .ensures .0) _ refl here _ (c .before .before .before .before .before .before .before .before .before .wide .ensures .0) (c .before .before .before .before .before .before .serve .ensures) refl),
     )
 
 same-length : tie.Need-same-length Inv-loop μ-loop
@@ -169,7 +163,6 @@ deal-cords-spec =
     sub-wide
     wide-requires
     serve-requires
-    narrow-requires
     add-grants
     mul-grants
     slice-write-grants

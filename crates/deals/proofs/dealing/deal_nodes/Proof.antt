@@ -1,9 +1,10 @@
 -- `deal_nodes` meets its contract: before each turn the active nodes passed have their amounts and are served as children; a node that
 -- is not active has no weight.
-use mathlib.Core.Path.{sym, _∙_}
+use mathlib.Core.Path.{sym, ap, _∙_}
 use mathlib.Core.Logic.{⊎-elim}
 use Prim.Native.Nat.{_-_}
 use native.Mathlib.Omega.{arith}
+use lib.ListN.{set}
 use borrow.Author.Needs.{needs}
 use Rattle.deals.proofs.NodeTurns.{nodes-start, parent-within, node-may-serve, root-next, inner-next, DealTurn, deal-start, deal-within, deal-present, deal-here, deal-next, deal-end}
 use Rattle.deals.proofs.dealing.deal_nodes.Statement.{statement}
@@ -91,11 +92,14 @@ shared-slice-read-index-2 c = deal-within (c .before .before .before .before .be
 index-requires-2 : tie.Need-index-requires-2 Inv-loop μ-loop
 index-requires-2 c κs = search needs
 
+narrow-requires : tie.Need-narrow-requires Inv-loop μ-loop
+narrow-requires c κs = omega (arith, c .before .before .before .before .wide .ensures .1)
+
 mul-amounts : tie.Need-mul-amounts Inv-loop μ-loop
 mul-amounts c = search needs
 
 slice-write-amounts : tie.Need-slice-write-amounts Inv-loop μ-loop
-slice-write-amounts c = omega (arith, deal-within (c .before .before .before .before .before .before .before .before .before .loop .inv) (c .before .before .before .before .before .before .before .before .loop-test .taken) (c .before .before .before .before .before .before .index .ensures .0), c .before .before .before .before .before .before .before .before .before .loop .inv .turn .amounts-size)
+slice-write-amounts c = omega (arith, deal-within (c .before .before .before .before .before .before .before .before .before .before .loop .inv) (c .before .before .before .before .before .before .before .before .before .loop-test .taken) (c .before .before .before .before .before .before .before .index .ensures .0), c .before .before .before .before .before .before .before .before .before .before .loop .inv .turn .amounts-size)
 
 sub-p : tie.Need-sub-p Inv-loop μ-loop
 sub-p c = search needs
@@ -149,7 +153,7 @@ loop-again c =
     let parent = c .before .index2 .ensures .0 in
     let request = c .before .before .before .before .wide .ensures .0 in
     ⊎-elim
-    (λ w. deal-next t more is (root-next here within _ _ request parent (w .0 .taken) (w .1) (w .2) (w .3)))
+    (λ w. deal-next t more is (root-next here within _ _ request parent (w .0 .taken) (w .2 ∙ ap (set (c .before .before .before .before .before .before .before .before .before .loop .amounts) (c .before .before .before .before .before .before .index .result)) (w .1 .ensures)) (w .3) (w .4)))
     (λ w. deal-next t more is (inner-next here within _ _ request parent (deal-present t more is) (w .0 .left) _ (w .5 .ensures .0, (w .11 ∙ w .5 .ensures .1 .0, w .12 ∙ w .5 .ensures .1 .1)) (w .10)))
     (c .if1 .came)
 
@@ -190,6 +194,7 @@ deal-nodes-spec =
     mul-index-2
     shared-slice-read-index-2
     index-requires-2
+    narrow-requires
     mul-amounts
     slice-write-amounts
     sub-p

@@ -109,7 +109,7 @@ pub record NodeMarks (parents nodes levels marks : List ℕ) : Type 0 where
 abbrev pub Absent : List ℕ → ℕ → ℕ → Type 0
 Absent list count n = (i : ℕ) → i < count → at list i ≡ n → ⊥
 
--- A place that they do have.
+-- A place that they do have: one that is not absent.
 abbrev pub Present : List ℕ → ℕ → ℕ → Type 0
 Present list count n = Absent list count n → ⊥
 
@@ -119,14 +119,18 @@ pub record Listed (marks : List ℕ) (level : ℕ) (list : List ℕ) (count : �
   pub within : (i : ℕ) → i < count → at list i < length marks
   pub rises : (i k : ℕ) → i < k → k < count → at list i < at list k
   pub marked : (i : ℕ) → i < count → Marked (at marks (at list i)) level
-  pub all : (n : ℕ) → n < length marks → Marked (at marks n) level → Absent list count n → ⊥
+  pub all : (n : ℕ) → n < length marks → Marked (at marks n) level → Present list count n
+
+-- So many lists, each of a given length.
+abbrev pub Full : ℕ → ℕ → List (List ℕ) → Type 0
+Full count size lists = (length lists ≡ count) × ((i : ℕ) → i < count → length (getD lists i []) ≡ size)
 
 -- A list for each level, with an entry for each place of a node.
 abbrev pub FullLists : List (List ℕ) → Type 0
-FullLists lists = (length lists ≡ highestRank) × ((j : ℕ) → j < highestRank → length (getD lists j []) ≡ mostNodes)
+FullLists = Full highestRank mostNodes
 
--- For each level that some of so many cords has, the places that are marked with it, in its list, and how many there are; for any other
--- none.
+-- For each level whose first cord is one of so many, the places that are marked with it, in its list, and how many there are; for any
+-- other none.
 pub record LevelsListed (marks first : List ℕ) (cords : ℕ) (actives : List (List ℕ)) (counts : List ℕ) : Type 0 where
   pub counts-size : length counts ≡ highestRank
   pub full : FullLists actives
@@ -142,7 +146,7 @@ pub record ActiveNodes (parents active : List ℕ) (count : ℕ) : Type 0 where
 
 -- Every node with a cord of the level on it is among them.
 abbrev pub CordsActive : List ℕ → List ℕ → ℕ → List ℕ → ℕ → Type 0
-CordsActive nodes levels level active count = (c n : ℕ) → c < length nodes → at levels c ≡ level → at nodes c ≡ suc n → Absent active count n → ⊥
+CordsActive nodes levels level active count = (c n : ℕ) → c < length nodes → at levels c ≡ level → at nodes c ≡ suc n → Present active count n
 
 -- What is made of a room's levels once for both deals: for each level its cords, linked, and its active nodes, listed.
 pub record LevelLists (parents nodes levels first next : List ℕ) (actives : List (List ℕ)) (counts : List ℕ) : Type 0 where
@@ -214,9 +218,13 @@ pub record CordsLaidOut (r : Room) (demands nodes levels lows wants shares serve
 
 -- A row for each place of a node, with a figure for each level.
 abbrev pub FullRows : List (List ℕ) → Type 0
-FullRows rows = (length rows ≡ mostNodes) × ((m : ℕ) → m < mostNodes → length (getD rows m []) ≡ highestRank)
+FullRows = Full mostNodes highestRank
 
--- At each level the rows of nodes that are not active have 0. So it is after a deal too: the rows of one serve the next.
+-- At a level the rows of nodes that are not active have 0.
+abbrev pub BlankColumn : ℕ → ℕ → List ℕ → ℕ → List (List ℕ) → Type 0
+BlankColumn nodeCount level active count rows = (n : ℕ) → n < nodeCount → Absent active count n → cell rows n level ≡ 0
+
+-- So it is at each level, before a deal and after it: the rows of one serve the next.
 pub record BlankRows (nodeCount : ℕ) (actives : List (List ℕ)) (counts : List ℕ) (rows : List (List ℕ)) : Type 0 where
   pub full : FullRows rows
   pub blank : (n j : ℕ) → n < nodeCount → j < highestRank → Absent (getD actives j []) (at counts j) n → cell rows n j ≡ 0
@@ -248,18 +256,22 @@ usedFrom shares servers usable = figures (length shares) (λ c. carried scale (a
 abbrev pub strandedFrom : List ℕ → List ℕ → List ℕ
 strandedFrom used grants = figures (length used) (λ c. at grants c - at used c)
 
+-- The watts freed.
+abbrev pub freedFrom : List ℕ → List ℕ → List ℕ → List ℕ → ℕ
+freedFrom shares servers usable grants = sumOf (strandedFrom (usedFrom shares servers usable) grants)
+
 -- The wants of the next deal.
 abbrev pub wantsFrom : List ℕ → List ℕ → List ℕ → List ℕ
 wantsFrom used grants wants = figures (length used) (λ c. cond (ltb 0 (at (strandedFrom used grants) c)) (at used c) (at wants c))
 
--- The same by the grants alone.
+-- The same, with the used watts worked out from the grants.
 abbrev pub wantsNext : List ℕ → List ℕ → List ℕ → List ℕ → List ℕ → List ℕ
 wantsNext shares servers needs grants wants = wantsFrom (usedFrom shares servers (usableFrom shares servers needs grants)) grants wants
 
--- What is freed after so many deals, and the wants of the next: before the first, nothing is freed and no want is changed.
+-- What is freed after so many deals, and the wants of the next: before the first, no want is changed.
 pub record ReclaimedAfter (deals : ℕ) (shares servers usable grants wants : List ℕ) (freed : ℕ) (wants′ : List ℕ) : Type 0 where
   pub none : deals ≡ 0 → wants′ ≡ wants
-  pub freed-is : 0 < deals → freed ≡ sumOf (strandedFrom (usedFrom shares servers usable) grants)
+  pub freed-is : 0 < deals → freed ≡ freedFrom shares servers usable grants
   pub wants-are : 0 < deals → wants′ ≡ wantsFrom (usedFrom shares servers usable) grants wants
 
 -- What both deals leave, by the wants of the first: the watts freed by its grants, the grants of the second, and what each server can
@@ -267,7 +279,7 @@ pub record ReclaimedAfter (deals : ℕ) (shares servers usable grants wants : Li
 pub record DealtTwice (parents limits nodes levels lows wants shares servers needs : List ℕ) (freed : ℕ) (grants usable : List ℕ) : Type 0 where
   pub freed-is :
       freed
-      ≡ sumOf (strandedFrom (usedFrom shares servers (usableFrom shares servers needs (granted (dealFrom parents limits nodes levels lows wants)))) (granted (dealFrom parents limits nodes levels lows wants)))
+      ≡ freedFrom shares servers (usableFrom shares servers needs (granted (dealFrom parents limits nodes levels lows wants))) (granted (dealFrom parents limits nodes levels lows wants))
   pub grants-are :
       grants ≡ granted (dealFrom parents limits nodes levels lows (wantsNext shares servers needs (granted (dealFrom parents limits nodes levels lows wants)) wants))
   pub usable-are : usable ≡ usableFrom shares servers needs grants
@@ -341,7 +353,7 @@ pub record RanksDealt (d : Deal) (above : ℕ) (rows : List (List ℕ)) (left gr
 -- A rank changes its own column of the rows alone, and leaves 0 there at nodes that are not active.
 pub record ColumnFilled (nodeCount level : ℕ) (active : List ℕ) (count : ℕ) (rows rows′ : List (List ℕ)) : Type 0 where
   pub others : (n j : ℕ) → (j ≡ level → ⊥) → cell rows′ n j ≡ cell rows n j
-  pub blank : (n : ℕ) → n < nodeCount → Absent active count n → cell rows′ n level ≡ 0
+  pub blank : BlankColumn nodeCount level active count rows′
 
 -- What one rank of a deal asks of its lists.
 pub record RankLists (parents limits nodes levels lows wants next : List ℕ) (level from : ℕ) (active : List ℕ) (count : ℕ) (rows : List (List ℕ)) (left pcapmins wholes amounts before dealt grants : List ℕ) : Type 0 where
@@ -351,7 +363,7 @@ pub record RankLists (parents limits nodes levels lows wants next : List ℕ) (l
   pub cords-active : CordsActive nodes levels level active count
   pub figures : NodeFigures (length parents) left pcapmins wholes amounts before dealt
   pub ranks : RanksDealt (dealFrom parents limits nodes levels lows wants) (suc level) rows left grants
-  pub blank : (n : ℕ) → n < length parents → Absent active count n → cell rows n level ≡ 0
+  pub blank : BlankColumn (length parents) level active count rows
 
 -- ---- Both deals
 

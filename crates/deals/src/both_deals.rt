@@ -83,8 +83,8 @@ fn make_deal(
     usable_of(shares, servers, needs, grants, usable);
 }
 
-// Both deals, in turn; gives the watts freed between them. Until the second, `usable` has what each server can use of the first grants.
-// One call makes both, so that it is compiled once, among the lists that it works on.
+// Both deals, in turn; gives the watts freed between them. Until the second, `usable` has what each server can use of the first grants;
+// `wants` end as those of the second. The deal is called in one place, so that it is compiled into the function that has its lists.
 fn deal_twice(
     parents: &[u16],
     limits: &[u32],
@@ -137,8 +137,8 @@ fn deal_twice(
     freed
 }
 
-// Makes the plan, in lists with one entry for each node, cord or server of the room; gives the freed watts. `beneath` has
-// the lows beneath each node.
+// Makes the plan, in lists with one entry for each node, cord or server of the room, but for `first`, `actives` and `counts`, which go
+// by level; gives the freed watts. `beneath` has the lows beneath each node, and `requests` come as zeros.
 fn plan_lists(
     table: &[u32],
     demands: &[u32],

@@ -13,8 +13,9 @@ use crate::metrics::gather;
 use crate::metrics::sum_cords;
 use crate::widths::index;
 
-// The length of the lists with a figure of each node: a little more than the most nodes, which would fill a page. Figures of one node
-// in two lists would then stand at the same place of their pages, and the processor would take a store to one for a store to the other.
+// The length of the lists with a rank's figure of each node: a little more than the most nodes. 512 figures of 64 bits fill a page, so
+// that such lists would start at the same place of their pages. The processor, which compares that place alone, would let a load from
+// one wait for a store to another.
 const FIGURES: usize = 520;
 
 // One rank of a deal, over its cords and its active nodes: the Requests are gathered and the excesses dealt. `pcapmins` and `wholes`
@@ -95,7 +96,7 @@ fn deal_rank(
 }
 
 // The deal, rank by rank from the highest. `left` has what each limit has over the Requests dealt and the lows to come, at first
-// `spare`. (`limits` and `levels` are for the contracts alone, here, in `deal` and in `make_deal`.)
+// `spare`. (`limits` and `levels` are for the contracts alone, here and in its callers up to `deal_twice`.)
 fn deal_ranks(
     parents: &[u16],
     limits: &[u32],
@@ -158,7 +159,7 @@ fn deal_ranks(
 }
 
 // The grants of a deal, from the nodes' parents and limits, the cords' nodes, levels, lows and wants, the links and lists that
-// `levels.rt` makes, and what the limits have over all lows.
+// `levels.rt` makes, and what the limits have over all lows. `requests` come with 0 where a node is not active at a rank, and leave so.
 pub(crate) fn deal(
     parents: &[u16],
     limits: &[u32],

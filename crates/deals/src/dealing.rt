@@ -5,7 +5,7 @@ ghost use lib.ListN.{length, set};
 ghost use Rattle.rooms.specs.Table.{mostNodes, mostWatts, mostCords, highestRank};
 ghost use Rattle.deals.specs.Figures.{at, cell};
 ghost use Rattle.deals.specs.Split.{part};
-ghost use Rattle.deals.specs.Passes.{CordLists, ChainOf, weightOf, overChildren, Absent, ActiveNodes, HasCord, cordsBefore, NodesDealt, CordsDealt};
+ghost use Rattle.deals.specs.Passes.{CordLists, ChainOf, weightOf, overChildren, ActiveNodes, BlankColumn, HasCord, cordsBefore, NodesDealt, CordsDealt};
 use crate::widths::index;
 use crate::widths::narrow;
 use crate::widths::over;
@@ -42,8 +42,8 @@ fn serve(
     narrow(given)
 }
 
-// What each active node has to give at a level: a root its excess, any other its part of its parent's. The figures of a node are begun
-// in its own turn, which comes before those of its child nodes; those of a node that is not active are left as they are.
+// What each active node has to give at a level: a root its excess, any other its part of its parent's. A node's figures start at
+// 0 in its own turn, before the turns of its child nodes. The figures of nodes that are not active are not touched.
 pub(crate) fn deal_nodes(
     parents: &[u16],
     active: &[u16],
@@ -60,7 +60,7 @@ pub(crate) fn deal_nodes(
     requires { ⌜ (length (now pcapmins) ≡ length (now parents)) × (length (now wholes) ≡ length (now parents)) × (length (now amounts) ≡ length (now parents)) × (length (now before) ≡ length (now parents)) × (length (now dealt) ≡ length (now parents)) ⌝ }
     requires { ⌜ ((n : ℕ) → n < length (now parents) → (at (now pcapmins) n ≤ cell (now requests) n level) × (cell (now requests) n level ≤ mostWatts) × (weightOf (now requests) level (now pcapmins) n ≤ at (now wholes) n) × (at (now wholes) n ≤ mostCords * mostWatts) × (overChildren (now parents) (weightOf (now requests) level (now pcapmins)) n ≤ at (now wholes) n)) ⌝ }
     requires { ⌜ ActiveNodes (now parents) (now active) count ⌝ }
-    requires { ⌜ ((n : ℕ) → n < length (now parents) → Absent (now active) count n → cell (now requests) n level ≡ 0) ⌝ }
+    requires { ⌜ BlankColumn (length (now parents)) level (now active) count (now requests) ⌝ }
     ensures { λ _. ⌜ NodesDealt (now (parents .entry)) (now (active .entry)) count level (now (requests .entry)) (now (pcapmins .entry)) (now (wholes .entry)) (now (amounts .exit)) (now (before .exit)) (now (dealt .exit)) ⌝ }
 {
     for i in 0..count {

@@ -1,4 +1,4 @@
-// Sums on the nodes: what the limits have over all lows, and one rank's Pcapmin and Requests, from the cords up to the roots.
+// What the limits have over all lows; and one rank's Pcapmin and Requests, summed on the nodes from the cords up to the roots.
 ghost use mathlib.Core.Path.{_≡_};
 ghost use Prim.Native.Nat.{ℕ, _+_, _-_, _*_, _^_, _≤_, _<_};
 ghost use lib.ListN.{length, replicate};

@@ -4,8 +4,7 @@ ghost use mathlib.Core.Bool.{cond};
 ghost use Prim.Native.Nat.{_^_, _<_};
 ghost use lib.Dec.{ltb};
 ghost use lib.ListN.{length};
-ghost use Rattle.deals.specs.Figures.{sumOf};
-ghost use Rattle.deals.specs.Passes.{ServerLists, usableFrom, usedFrom, strandedFrom, wantsFrom, ReclaimedAfter};
+ghost use Rattle.deals.specs.Passes.{ServerLists, usableFrom, usedFrom, freedFrom, wantsFrom, ReclaimedAfter};
 use crate::room::carried_by;
 use crate::widths::index;
 use crate::widths::least;
@@ -54,7 +53,7 @@ fn reclaim(
     wants: &mut [u32],
 ) -> u64
     requires { ⌜ ServerLists (now shares) (now servers) (now usable) (length (now grants)) × (length (now wants) ≡ length (now shares)) ⌝ }
-    ensures { λ freed. ⌜ freed ≡ sumOf (strandedFrom (usedFrom (now (shares .entry)) (now (servers .entry)) (now (usable .entry))) (now (grants .entry))) ⌝ }
+    ensures { λ freed. ⌜ freed ≡ freedFrom (now (shares .entry)) (now (servers .entry)) (now (usable .entry)) (now (grants .entry)) ⌝ }
     ensures { λ _. ⌜ now (wants .exit) ≡ wantsFrom (usedFrom (now (shares .entry)) (now (servers .entry)) (now (usable .entry))) (now (grants .entry)) (now (wants .entry)) ⌝ }
 {
     let mut freed: u64 = 0;
@@ -67,7 +66,7 @@ fn reclaim(
     freed
 }
 
-// After so many deals: before the first, nothing is reclaimed.
+// `reclaim`, after so many deals: before the first it changes nothing and gives 0.
 pub(crate) fn reclaim_after(
     deals: usize,
     shares: &[u32],

@@ -22,12 +22,14 @@ pub(crate) fn short(x: u32) -> u16
     x as u16
 }
 
+// The index, or the count, that an entry of 16 bits has.
 pub(crate) fn index(x: u16) -> usize
     ensures { λ r. ⌜ (r ≡ x) × (r < 2 ^ 16) ⌝ }
 {
     x as usize
 }
 
+// An index, or a count, as an entry of 16 bits.
 pub(crate) fn place(x: usize) -> u16
     requires { ⌜ x < 2 ^ 16 ⌝ }
     ensures { λ r. ⌜ r ≡ x ⌝ }

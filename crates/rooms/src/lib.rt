@@ -118,7 +118,7 @@ fn clear(lows: &mut [u64; 512])
     *lows = [0u64; 512];
 }
 
-// The whole check of a table over lows that are 0. A good table leaves the lows beneath each node; a refused one may leave anything.
+// The whole check of a table. `lows` come as zeros; a good table leaves those beneath each node there, a refused one may leave anything.
 fn check_summing(table: &[u32], lows: &mut [u64; 512]) -> Checked
     requires { ⌜ now lows ≡ replicate mostNodes 0 ⌝ }
     ensures { λ r. ⌜ r ≡ told roomCords (checked (now (table .entry)) 0) ⌝ }

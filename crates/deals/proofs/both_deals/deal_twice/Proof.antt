@@ -25,13 +25,13 @@ loop-holds c =
 reclaim-after-requires : tie.Need-reclaim-after-requires Inv-loop μ-loop
 reclaim-after-requires c κs =
     let pre = c .before .before .before .before .before .before .before .before .before .before .before .before .before .before .before .before .before .before .before .before .pre in
-    reclaimable (pre .0) (pre .1 .1 .0 .0) (pre .1 .1 .1 .0) (c .before .before .before .before .loop .inv .0) (c .before .before .before .loop-test .taken)
+    reclaimable (pre .0) (pre .1 .1 .0 .0) (pre .1 .1 .1 .0) (c .before .before .before .before .loop .inv .0) (omega (arith, c .before .before .before .loop-test .taken))
 
 make-deal-requires : tie.Need-make-deal-requires Inv-loop μ-loop
 make-deal-requires c κs =
     let pre = c .before .before .before .before .before .before .before .before .before .before .before .before .before .before .before .before .before .before .before .before .before .before .before .before .before .before .before .pre in
     let inv = c .before .before .before .before .before .before .before .before .before .before .before .loop .inv .0 in
-    let lists = dealable (pre .0) (pre .1 .1 .0 .0) (pre .1 .1 .1 .0) inv (c .before .before .before .before .before .before .before .before .before .before .loop-test .taken) (c .before .before .before .before .before .before .reclaim-after .ensures) in
+    let lists = dealable (pre .0) (pre .1 .1 .0 .0) (pre .1 .1 .1 .0) inv (omega (arith, c .before .before .before .before .before .before .before .before .before .before .loop-test .taken)) (c .before .before .before .before .before .before .reclaim-after .ensures) in
     (lists, (pre .1 .0, ((grants-kept (pre .1 .1 .0 .0) (inv .grants-size), inv .usable-size), c .before .before .before .before .before .before .before .before .before .before .before .loop .inv .1)))
 
 add-made : tie.Need-add-made Inv-loop μ-loop
@@ -44,7 +44,7 @@ loop-again : tie.Need-loop-again Inv-loop μ-loop
 loop-again c =
     let pre = c .before .before .before .before .before .before .before .before .before .before .before .before .before .before .before .before .before .before .before .before .before .before .before .before .before .before .before .before .before .before .before .before .pre in
     let deal = c .before .before .before .before .make-deal in
-    (deals-next (pre .0) (pre .1 .1 .0 .0) (pre .1 .1 .1 .0) (c .before .before .before .before .before .before .before .before .before .before .before .before .before .before .before .before .loop .inv .0) (c .before .before .before .before .before .before .before .before .before .before .before .before .before .before .before .loop-test .taken) (c .before .before .before .before .before .before .before .before .before .before .before .reclaim-after .ensures) (c .before .before .before .before .before .before .before .before .before .before .before .reclaim-after .kept .1 .1 .1 .1 .1 .0) (deal .kept .1 .1 .1 .1 .1 .1 .1 .1 .1 .1 .1 .1 .1 .1 .1 .0) (deal .kept .1 .1 .1 .1 .1 .1 .1 .1 .1 .1 .1 .1 .1 .1 .1 .1 .0) (deal .ensures .0) (deal .ensures .1 .0), deal .ensures .1 .1)
+    (deals-next (pre .0) (pre .1 .1 .0 .0) (pre .1 .1 .1 .0) (c .before .before .before .before .before .before .before .before .before .before .before .before .before .before .before .before .loop .inv .0) (omega (arith, c .before .before .before .before .before .before .before .before .before .before .before .before .before .before .before .loop-test .taken)) (c .before .before .before .before .before .before .before .before .before .before .before .reclaim-after .ensures) (c .before .before .before .before .before .before .before .before .before .before .before .reclaim-after .kept .1 .1 .1 .1 .1 .0) (deal .kept .1 .1 .1 .1 .1 .1 .1 .1 .1 .1 .1 .1 .1 .1 .1 .0) (deal .kept .1 .1 .1 .1 .1 .1 .1 .1 .1 .1 .1 .1 .1 .1 .1 .1 .0) (deal .ensures .0) (deal .ensures .1 .0), deal .ensures .1 .1)
 
 same-length : tie.Need-same-length Inv-loop μ-loop
 same-length c = c .before .loop .inv .0 .wants-size

@@ -22,7 +22,7 @@ use Rattle.deals.specs.Wants.{need, needs, carriedBy, lowsOf, firstWants
 use Rattle.deals.specs.Metrics.{Deal, dealFrom, dealOf, parentsOf, nodesOf}
 use Rattle.deals.specs.SecondDeal.{leastOver, loaded, loadOf, usable, stranded, wantsAfter, firstGrants, firstUsable, firstUsed, secondWants, secondGrants, caps}
 use Rattle.deals.specs.Dealing.{grantsBy}
-use Rattle.deals.specs.Passes.{lowsUnder}
+use Rattle.deals.specs.Lists.{lowsUnder}
 use Rattle.deals.proofs.Equations.{Dealable, WholeWay}
 use Rattle.deals.proofs.Lists.{figures-at, figures-length}
 use Rattle.deals.proofs.Computed.{granted-way}

@@ -6,8 +6,9 @@ use Prim.Native.Nat.{ℕ, _+_, _≤_, _<_}
 use native.Mathlib.Nat.{not-suc-le-zero, le-of-suc-le-suc, eq-or-lt-of-le}
 use native.Mathlib.Omega.{arith}
 use native.Mathlib.Numerals.{add-one}
-use lib.ListN.{length, set, length-set}
+use lib.ListN.{length, set, replicate, length-set, length-replicate}
 use lib.Seq.{getD-set-same, getD-set-other, ext-getD}
+use Rattle.rooms.proofs.Credits.{zeros-at}
 use Rattle.deals.specs.Figures.{figures, at}
 use Rattle.deals.proofs.Lists.{figures-at, figures-length}
 
@@ -35,3 +36,9 @@ module _ {g : ℕ → ℕ} {size c : ℕ} {l : List ℕ} where
   filled-all n f filled s h e =
       ext-getD 0 l (figures n f) (filled .size-is ∙ s ∙ sym (figures-length n f))
       (λ i q. let m : i < n = omega (arith, filled .size-is) in filled .done i (omega arith) ∙ e i m ∙ sym (figures-at n i f m))
+
+-- A list filled to its end with 0.
+pub filled-zeros : {size c : ℕ} {l : List ℕ} → Filled (λ _. 0) size c l → size ≤ c → l ≡ replicate size 0
+filled-zeros {size} {c} {l} filled h =
+    ext-getD 0 l (replicate size 0) (filled .size-is ∙ sym (length-replicate size 0))
+    (λ i q. filled .done i (omega (arith, filled .size-is)) ∙ sym (zeros-at size i))

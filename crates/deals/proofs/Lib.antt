@@ -22,19 +22,5 @@ pub mod Bounds
 pub mod Plans
 pub mod Lent
 pub mod Promises
--- The passes of the code: over the nodes and cords of a rank, rank by rank, and over the servers of a table.
-pub mod NodeSums
-pub mod Gathering
-pub mod Serving
-pub mod NodeTurns
-pub mod CordTurns
-pub mod Links
-pub mod Active
-pub mod Ranks
-pub mod RankLoop
+-- Lists that code fills, for the proofs of Plan's code.
 pub mod Filled
-pub mod Walk
-pub mod Loading
-pub mod Reclaiming
-pub mod Planning
-pub mod PlanCall

@@ -12,7 +12,7 @@ use Rattle.deals.specs.Cords.{RoomCord, cordsOf, cordAt, rankOf}
 use Rattle.deals.specs.Wants.{lowsOf}
 use Rattle.deals.specs.Metrics.{Deal, dealFrom, parentsOf, limitsOf, nodesOf, levelsOf, dealOf}
 use Rattle.deals.specs.Dealing.{granted, grantsBy}
-use Rattle.deals.specs.Passes.{sharesOf, serversOf}
+use Rattle.deals.specs.Lists.{sharesOf, serversOf}
 use Rattle.deals.proofs.Lists.{figures-at, figures-length}
 use Rattle.deals.proofs.Cords.{cordsOf-length}
 

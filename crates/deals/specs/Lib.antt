@@ -15,5 +15,5 @@ pub mod Ways
 pub mod Promises
 -- What else is proved of every plan.
 pub mod Properties
--- Cited by contracts of private functions alone.
-pub mod Passes
+-- Cited by contracts that are private to Plan: no operation has them.
+pub mod Lists

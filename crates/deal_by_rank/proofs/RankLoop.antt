@@ -10,12 +10,13 @@ use lib.Dec.{eqb}
 use lib.ListN.{length, getD, take, replicate, length-replicate, getD-replicate}
 use lib.Seq.{length-take-le}
 use borrow.Author.Tests.{eqb-true, eqb-false}
-use Rattle.rooms.specs.Sums.{on, sum}
+use Rattle.figures.specs.Sums.{on, sum}
 use Rattle.rooms.specs.Table.{mostNodes, mostCords, mostWatts, highestRank}
 use Rattle.rooms.specs.Credits.{sumBeneath}
-use Rattle.rooms.proofs.Sums.{sum-cong, sum-zero}
+use Rattle.figures.proofs.Sums.{sum-cong, sum-zero}
+use Rattle.figures.proofs.Filled.{zeros-at}
 use Rattle.rooms.proofs.Trees.{kids, down}
-use Rattle.deals.specs.Figures.{at, cell}
+use Rattle.figures.specs.Figures.{at, cell}
 use Rattle.deals.specs.Metrics.{dealFrom, metrics}
 use Rattle.deals.specs.Dealing.{granted}
 use Rattle.deal_by_rank.specs.Ranks.{NodeLists, LowsWithin, Spare, DealLists, NodeFigures, RankLists, RanksDealt, ColumnFilled, BlankRows}
@@ -39,12 +40,6 @@ zeros-front k n h = length-take-le n (zeros k) (omega (arith, length-replicate {
 pub zeros-rows : (k n : ℕ) → (length (replicate k (replicate {A = ℕ} n 0)) ≡ k) × ((m : ℕ) → m < k → length (getD (replicate k (replicate {A = ℕ} n 0)) m []) ≡ n)
 unfolding zeros
 zeros-rows k n = (length-replicate k (zeros n), λ m l. ap length (getD-replicate k m (zeros n) [] l) ∙ length-replicate {A = ℕ} n 0)
-
-zeros-at : (k j : ℕ) → at (zeros k) j ≡ 0
-unfolding zeros
-zeros-at zero j = refl
-zeros-at (suc k) zero = refl
-zeros-at (suc k) (suc j) = zeros-at k j
 
 rows-at : (row : List ℕ) → ((j : ℕ) → at row j ≡ 0) → (k n j : ℕ) → cell (replicate k row) n j ≡ 0
 rows-at row z zero n j = refl

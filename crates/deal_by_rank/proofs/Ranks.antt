@@ -10,22 +10,21 @@ use lib.Dec.{eqb}
 use lib.ListN.{length}
 use lib.Seq.{ext-getD}
 use borrow.Author.Tests.{ne-eqb, eqb-true, eqb-false}
-use Rattle.rooms.specs.Sums.{on, sum}
+use Rattle.figures.specs.Sums.{on, sum}
 use Rattle.rooms.specs.Table.{mostWatts, mostCords, highestRank}
 use Rattle.rooms.specs.Limits.{beneath}
 use Rattle.rooms.specs.Credits.{sumBeneath}
-use Rattle.rooms.proofs.Sums.{on-no, sum-cong, sum-zero, sum-swap, sum-one, sum-suc, sum-up, up, up-suc}
+use Rattle.figures.proofs.Sums.{on-no, sum-cong, sum-zero, sum-swap, sum-one, sum-suc, sum-up, up, up-suc}
 use Rattle.rooms.proofs.Trees.{kids, own, under, under-is, kids-cong, down, rise}
 use Rattle.rooms.proofs.Credits.{sumBeneath-step}
-use Rattle.deals.specs.Figures.{figures, at, cell}
+use Rattle.figures.specs.Figures.{figures, at, cell}
 use Rattle.deals.specs.Metrics.{Deal, dealFrom, metrics, atLevel}
 use Rattle.deals.specs.Split.{part}
 use Rattle.deals.specs.Dealing.{granted, reached}
-use Rattle.deal_by_rank.specs.Ranks.{NodeLists, LowsWithin, Spare, RanksDealt}
+use Rattle.deal_by_rank.specs.Ranks.{NodeLists, LowsWithin, Spare, RanksDealt, lowsUnder}
 use Rattle.ranks.specs.Passes.{CordLists, HasCord, onNode, childrenBefore, overChildren, cordsBefore, weightOf, Gathered, NodesDealt, CordsDealt, FullRows}
-use Rattle.deals.specs.Lists.{lowsUnder}
 use Rattle.levels.specs.Levels.{Present, ActiveNodes, CordsActive}
-use Rattle.deals.proofs.Lists.{sum-most, figures-length}
+use Rattle.figures.proofs.Lists.{sum-most, figures-length}
 use Rattle.deals.proofs.Equations.{Dealable, asked, weights, request-asked, pcapmin-all, weights-are}
 use Rattle.deals.proofs.Computed.{pcapmin, request, amountOf, measured, dealt, granted-at}
 use Rattle.deals.proofs.Bounds.{asked-most, request-most}

@@ -3,15 +3,14 @@ use mathlib.Core.Path.{_≡_}
 use mathlib.Core.List.{List, []}
 use Prim.Native.Nat.{ℕ, suc, _+_, _-_, _≤_, _<_}
 use lib.ListN.{length, getD}
-use Rattle.rooms.specs.Sums.{on, sum}
+use Rattle.figures.specs.Sums.{sum}
 use Rattle.rooms.specs.Table.{mostNodes, mostWatts, highestRank}
 use Rattle.rooms.specs.Limits.{beneath}
-use Rattle.deals.specs.Figures.{figures, at, cell}
+use Rattle.figures.specs.Figures.{figures, at, cell}
 use Rattle.deals.specs.Metrics.{Deal, dealFrom, metrics}
 use Rattle.deals.specs.Dealing.{granted}
 use Rattle.levels.specs.Levels.{ChainOf, Absent, ActiveNodes, CordsActive}
 use Rattle.ranks.specs.Passes.{CordLists, FullRows, BlankColumn}
-use Rattle.deals.specs.Lists.{lowsUnder}
 
 -- The nodes of a room: for each its parent's number and its limit.
 pub record NodeLists (parents limits : List ℕ) : Type 0 where
@@ -19,6 +18,10 @@ pub record NodeLists (parents limits : List ℕ) : Type 0 where
   pub limits-size : length limits ≡ length parents
   pub rises : (m : ℕ) → m < length parents → at parents m ≤ m
   pub most : (m : ℕ) → m < length parents → at limits m ≤ mostWatts
+
+-- The lows of all cords beneath the node at place n, at any depth: rooms' `lowsBeneath`, over lists.
+abbrev pub lowsUnder : List ℕ → List ℕ → List ℕ → ℕ → ℕ
+lowsUnder parents nodes lows n = sum (length nodes) (λ c. on (beneath (at parents) (length parents) n (at nodes c)) (at lows c))
 
 -- No node has a limit that the lows beneath it exceed.
 abbrev pub LowsWithin : List ℕ → List ℕ → List ℕ → List ℕ → Type 0

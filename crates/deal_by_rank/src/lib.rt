@@ -3,16 +3,16 @@ ghost use mathlib.Core.Path.{_≡_};
 ghost use Prim.Native.Nat.{ℕ, _<_};
 ghost use lib.ListN.{length};
 ghost use Rattle.rooms.specs.Table.{highestRank};
-ghost use Rattle.deals.specs.Figures.{cell};
+ghost use Rattle.figures.specs.Figures.{cell};
 ghost use Rattle.deals.specs.Metrics.{dealFrom, metrics};
 ghost use Rattle.deals.specs.Dealing.{granted};
 ghost use Rattle.deal_by_rank.specs.Ranks.{DealLists, Spare, NodeFigures, RankLists, RanksDealt, ColumnFilled, BlankRows};
 ghost use Rattle.levels.specs.Levels.{LevelLists};
+use figures::index;
 use ranks::dealing::deal_cords;
 use ranks::dealing::deal_nodes;
 use ranks::metrics::gather;
 use ranks::metrics::sum_cords;
-use widths::index;
 
 // The length of the lists with a rank's figure of each node: a little more than the most nodes. 512 figures of 64 bits fill a page, so
 // that such lists would start at the same place of their pages. The processor, which compares that place alone, would let a load from

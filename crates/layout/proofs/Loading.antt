@@ -8,13 +8,13 @@ use Rattle.rooms.specs.Part.{good}
 use Rattle.rooms.specs.Table.{Room, scale, mostWatts, mostNodes, mostServers, mostCords, roomCords}
 use Rattle.rooms.specs.Limits.{checked, carried}
 use Rattle.rooms.proofs.Accepted.{accepted}
-use Rattle.deals.specs.Figures.{figures, at}
-use Rattle.deals.specs.Cords.{RoomCord, cordAt, serverAt, rankOf}
-use Rattle.deals.specs.Wants.{needs, carriedBy, lowsOf, firstWants}
-use Rattle.deals.specs.Metrics.{nodesOf, levelsOf}
+use Rattle.figures.specs.Figures.{figures, at}
+use Rattle.rooms.specs.Cords.{RoomCord, cordAt, serverAt, rankOf}
+use Rattle.deals.specs.Wants.{needs, firstWants}
+use Rattle.rooms.specs.Lists.{carriedBy, lowsOf, nodesOf, levelsOf}
 use Rattle.layout.specs.Lists.{CordsLent, CordsLaidOut}
-use Rattle.deals.proofs.Lists.{figures-at}
-use Rattle.deals.proofs.Filled.{Filled, filled-none, filled-one, filled-all}
+use Rattle.figures.proofs.Lists.{figures-at}
+use Rattle.figures.proofs.Filled.{Filled, filled-none, filled-one, filled-all}
 use Rattle.layout.proofs.Walk.{begun, Walk, CordHere, ServerHere, walk-start, walk-server, walk-end}
 
 -- What the cord at a place of the room's carries, by the servers' loads.

@@ -7,16 +7,17 @@ use native.Mathlib.Omega.{arith}
 use native.Mathlib.Numerals.{add-one}
 use lib.ListN.{length, getD, drop, List·getD-append, drop-of-length-le}
 use lib.Seq.{drop-cons, drop-drop, drop-at, getD-drop}
-use Rattle.rooms.specs.Part.{good, Good, total}
+use Rattle.rooms.specs.Part.{good, Good}
+use Rattle.figures.specs.Figures.{total}
 use Rattle.rooms.specs.Table.{Node, Cord, Server, Room, scale, mostNodes, mostCords, mostWatts, highestRank, cord, cords, server, servers, cordCount, roomCords}
 use Rattle.rooms.specs.Limits.{checked, nodeAt}
 use Rattle.rooms.proofs.Inversion.{many-is, CordIs, cord-is, server-is}
 use Rattle.rooms.proofs.Rows.{nodes-words, nodes-at, cords-words}
 use Rattle.rooms.proofs.Whole.{table-is, checked-is}
 use Rattle.rooms.proofs.Accepted.{accepted}
-use Rattle.deals.specs.Cords.{RoomCord, serverCords, cordsFrom, cordsOf, cordAt, serverAt}
+use Rattle.rooms.specs.Cords.{RoomCord, serverCords, cordsFrom, cordsOf, cordAt, serverAt}
 use Rattle.layout.specs.Lists.{NodesFit}
-use Rattle.deals.proofs.Cords.{noCord, noRoomCord, noServer, placed, serverCords-length}
+use Rattle.rooms.proofs.Cords.{noCord, noRoomCord, noServer, placed, serverCords-length}
 
 -- ---- The nodes
 

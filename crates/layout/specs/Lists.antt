@@ -1,16 +1,13 @@
 -- A room's lists: what the contracts of `layout` cite.
 use mathlib.Core.Path.{_≡_}
 use mathlib.Core.List.{List}
-use Prim.Native.Nat.{ℕ, _-_}
+use Prim.Native.Nat.{ℕ}
 use lib.ListN.{length}
 use Rattle.rooms.specs.Part.{good, Good}
 use Rattle.rooms.specs.Table.{Room, roomCords}
 use Rattle.rooms.specs.Limits.{checked}
-use Rattle.deals.specs.Figures.{figures}
-use Rattle.deals.specs.Cords.{cordAt}
-use Rattle.deals.specs.Metrics.{nodesOf, levelsOf}
-use Rattle.deals.specs.Wants.{needs, lowsOf, firstWants}
-use Rattle.deals.specs.Lists.{sharesOf, serversOf}
+use Rattle.rooms.specs.Lists.{nodesOf, levelsOf, lowsOf, sharesOf, serversOf}
+use Rattle.deals.specs.Wants.{needs, firstWants}
 
 -- What is claimed of the room that a good table gives.
 abbrev pub OfRoom : List ℕ → (Room → Type 0) → Type 0

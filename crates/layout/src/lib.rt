@@ -5,13 +5,13 @@ ghost use lib.ListN.{length};
 ghost use Rattle.rooms.specs.Part.{Good};
 ghost use Rattle.rooms.specs.Table.{scale, mostWatts};
 ghost use Rattle.rooms.specs.Limits.{checked, carried};
-ghost use Rattle.deals.specs.Metrics.{parentsOf, limitsOf};
+ghost use Rattle.rooms.specs.Lists.{parentsOf, limitsOf};
 ghost use Rattle.layout.specs.Lists.{OfRoom, NodesFit, CordsLent, CordsLaidOut};
-use widths::narrow;
-use widths::place;
-use widths::short;
-use widths::wide;
-use widths::word_index;
+use figures::narrow;
+use figures::place;
+use figures::short;
+use figures::wide;
+use figures::word_index;
 
 // A server's need: its demand, raised to least and cut to greatest.
 fn need_of(demand: u32, least: u32, greatest: u32) -> u32

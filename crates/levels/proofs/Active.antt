@@ -14,7 +14,7 @@ use lib.Seq.{getD-set-same, getD-set-other}
 use borrow.Author.Count.{below-more}
 use borrow.Author.Tests.{eqb-true, eqb-false, ltb-true, ltb-false}
 use Rattle.rooms.specs.Table.{mostNodes, highestRank}
-use Rattle.deals.specs.Figures.{at}
+use Rattle.figures.specs.Figures.{at}
 use Rattle.levels.specs.Levels.{Marked, MarksAdded, NodeMarks, Linked, Listed, Absent, FullLists, LevelsListed, ActiveNodes, CordsActive, LevelLists}
 
 -- ---- Marks

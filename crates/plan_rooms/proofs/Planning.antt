@@ -13,20 +13,20 @@ use Rattle.rooms.specs.Table.{Room, scale, roomCords, mostWatts, mostNodes, mos
 use Rattle.rooms.specs.Limits.{checked, carried}
 use Rattle.rooms.proofs.Accepted.{Accepted, accepted}
 use Rattle.rooms.proofs.Trees.{under, under-is}
-use Rattle.deals.specs.Figures.{figures, at, sumOf}
-use Rattle.deals.specs.Cords.{cordAt}
-use Rattle.deals.specs.Wants.{needs, carriedBy, lowsOf, firstWants}
-use Rattle.deals.specs.Metrics.{dealFrom, dealOf, parentsOf, limitsOf, nodesOf, levelsOf}
+use Rattle.figures.specs.Figures.{figures, at, sumOf}
+use Rattle.rooms.specs.Cords.{cordAt}
+use Rattle.deals.specs.Wants.{needs, firstWants}
+use Rattle.rooms.specs.Lists.{carriedBy, lowsOf, parentsOf, limitsOf, nodesOf, levelsOf, sharesOf, serversOf}
+use Rattle.deals.specs.Metrics.{dealFrom, dealOf}
 use Rattle.deals.specs.Dealing.{granted, grantsBy}
 use Rattle.deals.specs.SecondDeal.{leastOver, usable, stranded, wantsAfter, firstGrants, firstUsable, firstUsed, secondWants, secondGrants}
 use Rattle.deals.specs.SecondDeal as second
 use Rattle.plan_rooms.specs.Planning.{DealtTwice, Planning, HasLowsBeneath}
-use Rattle.deal_by_rank.specs.Ranks.{NodeLists, LowsWithin, Spare, DealLists}
+use Rattle.deal_by_rank.specs.Ranks.{NodeLists, LowsWithin, Spare, DealLists, lowsUnder}
 use Rattle.ranks.specs.Passes.{CordLists}
-use Rattle.deals.specs.Lists.{lowsUnder, sharesOf, serversOf}
 use Rattle.reclaim.specs.Reclaimed.{ServerLists, usableFrom, usedFrom, strandedFrom, wantsFrom}
 use Rattle.layout.specs.Lists.{OfRoom, NodesFit, ServersFit, CordsFit, CordsLaidOut}
-use Rattle.deals.proofs.Lists.{figures-length}
+use Rattle.figures.proofs.Lists.{figures-length}
 use Rattle.deals.proofs.RoomDeals.{parentsOf-length, limitsOf-length, nodesOf-length, levelsOf-length, sharesOf-at, serversOf-at}
 use Rattle.deals.proofs.BothDeals.{cord-facts, lowsOf-length, carriedBy-length, lows-under, dealable, firstWants-lows, secondWants-lows}
 use Rattle.deals.proofs.Bounds.{bounded}

@@ -1,28 +1,17 @@
 -- Both deals in turn: what the loop over them keeps.
-use mathlib.Core.Path.{_≡_, refl, sym, ap, ap₂, _∙_}
-use mathlib.Core.Bool.{Bool, true, false, cond, _&&_}
+use mathlib.Core.Path.{_≡_, refl, sym, ap, _∙_}
+use mathlib.Core.Bool.{Bool, true, false}
 use mathlib.Core.List.{List}
-use Prim.Native.Nat.{ℕ, _+_, _-_, _*_, _/_, _≤_, _<_, min}
-use native.Mathlib.Nat.{le-trans, le-of-eq}
-use native.Mathlib.Numerals.{add-one}
+use Prim.Native.Nat.{ℕ, _+_, _≤_, _<_}
 use native.Mathlib.Omega.{arith}
-use lib.Dec.{eqb, ltb}
-use lib.ListN.{length, set, length-set}
-use lib.Seq.{getD-set-same, getD-set-other, ext-getD}
-use borrow.Author.Tests.{eqb-true, eqb-false, lt-ltb, le-ltb}
-use Rattle.rooms.specs.Sums.{sum}
-use Rattle.rooms.specs.Table.{scale}
-use Rattle.rooms.specs.Limits.{carried}
-use Rattle.rooms.proofs.Sums.{sum-suc, sum-none}
-use Rattle.deals.specs.Figures.{figures, at, sumOf}
+use lib.Dec.{eqb}
+use lib.ListN.{length}
+use borrow.Author.Tests.{eqb-true, eqb-false}
 use Rattle.deals.specs.Metrics.{dealFrom}
 use Rattle.deals.specs.Dealing.{granted}
 use Rattle.deal_by_rank.specs.Ranks.{DealLists}
-use Rattle.reclaim.specs.Reclaimed.{ServerLists, usableBefore, usableFrom, usedFrom, strandedFrom, wantsFrom, wantsNext, ReclaimedAfter}
+use Rattle.reclaim.specs.Reclaimed.{ServerLists, usableFrom, wantsNext, ReclaimedAfter}
 use Rattle.plan_rooms.specs.Planning.{DealtTwice}
-use Rattle.deals.proofs.Lists.{figures-at, figures-length, total-sum}
-use Rattle.deals.proofs.Loads.{leastOver-next, leastOver-zero, leastOver-start}
-use Rattle.deals.proofs.Filled.{Filled, filled-none, filled-one, filled-all}
 use Rattle.reclaim.proofs.Reclaiming.{usable-lists}
 
 -- After so many deals, where the first is by the wants `wanted`: before the second these still stand.

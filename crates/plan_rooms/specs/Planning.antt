@@ -1,10 +1,10 @@
 -- Both deals of a room: what the contracts of `plan_rooms` cite.
 use mathlib.Core.Path.{_≡_}
 use mathlib.Core.List.{List}
-use Prim.Native.Nat.{ℕ, _-_, _<_}
+use Prim.Native.Nat.{ℕ, _<_}
 use lib.ListN.{length}
 use Rattle.rooms.specs.Limits.{lowsBeneath}
-use Rattle.deals.specs.Figures.{at}
+use Rattle.figures.specs.Figures.{at}
 use Rattle.deals.specs.Metrics.{dealFrom}
 use Rattle.deals.specs.Wants.{needs}
 use Rattle.deals.specs.Dealing.{granted}

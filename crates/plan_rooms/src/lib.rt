@@ -5,7 +5,7 @@ ghost use lib.ListN.{length};
 ghost use Rattle.rooms.specs.Part.{Good};
 ghost use Rattle.rooms.specs.Limits.{checked};
 ghost use Rattle.rooms.specs.Table.{mostNodes, highestRank};
-ghost use Rattle.deals.specs.Figures.{cell};
+ghost use Rattle.figures.specs.Figures.{cell};
 ghost use Rattle.deals.specs.Metrics.{dealFrom};
 ghost use Rattle.deals.specs.Dealing.{granted};
 ghost use Rattle.deal_by_rank.specs.Ranks.{DealLists, BlankRows, Spare};
@@ -15,15 +15,15 @@ ghost use Rattle.reclaim.specs.Reclaimed.{ServerLists, usableFrom, wantsNext};
 ghost use Rattle.plan_rooms.specs.Planning.{DealtTwice, HasLowsBeneath, Planning};
 ghost use Rattle.layout.specs.Lists.{CordsLent, NodesFit, ServersFit, CordsFit};
 use deal_by_rank::deal;
+use figures::word_index;
+use layout::load_cords;
+use layout::load_nodes;
 use levels::link_levels;
 use levels::list_levels;
 use levels::mark_nodes;
 use ranks::metrics::spare_limits;
 use reclaim::reclaim_after;
 use reclaim::usable_of;
-use layout::load_cords;
-use layout::load_nodes;
-use widths::word_index;
 
 // A deal: its grants, and what each server can use of them.
 fn make_deal(

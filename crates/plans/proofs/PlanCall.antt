@@ -19,7 +19,7 @@ use Rattle.rooms.proofs.Found.{layout, nodeLows-at, lowsTold-length}
 use Rattle.rooms.proofs.Accepted as rooms
 use Rattle.rooms.proofs.Steps.{known}
 use Rattle.rooms.proofs.Outcomes.{refused-so}
-use Rattle.deals.specs.Figures.{at}
+use Rattle.figures.specs.Figures.{at}
 use Rattle.deals.specs.SecondDeal.{freed, secondGrants, caps}
 use Rattle.deals.specs.Plan.{Outcome, accepted, refused, firstTooLarge, plan, planRoom, answerOf, grantsAfter, capsAfter}
 use Rattle.layout.specs.Lists.{ServersFit, CordsFit}

@@ -4,9 +4,9 @@ ghost use lib.ListN.{length};
 ghost use Rattle.deals.specs.Plan.{firstTooLarge, plan, answerOf, grantsAfter, capsAfter};
 use deals::PlanRefusal;
 use deals::Planned;
+use figures::word_index;
 use plan_rooms::plan_room;
 use rooms::Checked;
-use widths::word_index;
 
 const MOST_WATTS: u32 = 16_777_215;
 

@@ -10,10 +10,10 @@ use lib.ListN.{length, set, length-set}
 use lib.Seq.{getD-set-same, getD-set-other}
 use borrow.Author.Count.{below-more}
 use borrow.Author.Tests.{eq-eqb, ne-eqb}
-use Rattle.rooms.specs.Sums.{on}
+use Rattle.figures.specs.Sums.{on}
 use Rattle.rooms.specs.Table.{mostWatts, mostCords}
-use Rattle.rooms.proofs.Sums.{on-yes, on-no, sum-suc, sum-none}
-use Rattle.deals.specs.Figures.{at}
+use Rattle.figures.proofs.Sums.{on-yes, on-no, sum-suc, sum-none}
+use Rattle.figures.specs.Figures.{at}
 use Rattle.deals.specs.Split.{part}
 use Rattle.levels.specs.Levels.{NextOf}
 use Rattle.ranks.specs.Passes.{CordLists, HasCord, cordsBefore, CordsDealt}

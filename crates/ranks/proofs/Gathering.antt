@@ -11,17 +11,17 @@ use lib.Dec.{eqb}
 use lib.ListN.{length, getD, set, length-set}
 use lib.Seq.{set-getD, getD-set-same, getD-set-other}
 use borrow.Author.Tests.{ne-eqb, eqb-true, eqb-false}
-use Rattle.rooms.specs.Sums.{on, sum}
+use Rattle.figures.specs.Sums.{on, sum}
 use Rattle.rooms.specs.Table.{mostNodes, mostCords, mostWatts, highestRank}
 use Rattle.rooms.specs.Credits.{credited}
-use Rattle.rooms.proofs.Sums.{on-no, sum-suc, up-cong}
+use Rattle.figures.proofs.Sums.{on-no, sum-suc, up-cong}
 use Rattle.rooms.proofs.Trees.{kids, kids-cong, down}
 use Rattle.rooms.proofs.Credits.{sumBeneath-step, credited-at, credited-length, figure-in-sum, sum-credited}
 use Rattle.rooms.proofs.Gather.{Holds, holds-start, holds-turn, holds-end, holds-whole}
-use Rattle.deals.specs.Figures.{at, cell}
+use Rattle.figures.specs.Figures.{at, cell}
 use Rattle.ranks.specs.Passes.{FullRows, Gathered}
 use Rattle.levels.specs.Levels.{Absent, ActiveNodes}
-use Rattle.deals.proofs.Lists.{passed-down}
+use Rattle.figures.proofs.Lists.{passed-down}
 use Rattle.levels.proofs.Active.{Parted, parted-none, parted-all, parted-at, parted-after, between}
 use Rattle.ranks.proofs.NodeSums.{Rises, beneathAll, credited-nothing, kids-none, Summing, summing-start, summing-most, whole-at, summing-at, summing-idle, summing-end}
 

@@ -3,26 +3,26 @@
 use mathlib.Core.Path.{_≡_, refl, sym, ap, ap₂, _∙_}
 use mathlib.Core.Bool.{Bool, true, false}
 use mathlib.Core.List.{List}
-use mathlib.Core.Logic.{_⊎_, inl, inr}
 use Prim.Native.Nat.{ℕ, zero, suc, _+_, _-_, _*_, _^_, _≤_, _<_}
-use native.Mathlib.Nat.{eq-or-lt-of-le, add-zero}
+use native.Mathlib.Nat.{add-zero}
 use native.Mathlib.Numerals.{add-one}
 use native.Mathlib.Omega.{arith}
 use lib.Dec.{eqb}
-use lib.ListN.{length, set, replicate, length-set, length-replicate}
-use lib.Seq.{set-getD, getD-set-same, getD-set-other, ext-getD}
+use lib.ListN.{length, set, replicate, length-set}
+use lib.Seq.{set-getD, getD-set-same, getD-set-other}
 use borrow.Author.Count.{below-more}
 use borrow.Author.Tests.{eq-eqb, ne-eqb, eqb-true}
-use Rattle.rooms.specs.Sums.{on, sum}
+use Rattle.figures.specs.Sums.{on, sum}
 use Rattle.rooms.specs.Table.{mostCords, mostWatts}
 use Rattle.rooms.specs.Credits.{sumBeneath, credited}
-use Rattle.rooms.proofs.Sums.{on-yes, on-no, sum-suc, sum-none, sum-cong, sum-zero, sum-le}
+use Rattle.figures.proofs.Sums.{on-yes, on-no, sum-suc, sum-none, sum-cong, sum-zero, sum-le}
 use Rattle.rooms.proofs.Trees.{kids, own}
-use Rattle.rooms.proofs.Credits.{credited-at, credited-length, zeros-at, sumBeneath-step, sumBeneath-most}
+use Rattle.figures.proofs.Filled.{zeros-at}
+use Rattle.rooms.proofs.Credits.{credited-at, credited-length, sumBeneath-step, sumBeneath-most}
 use Rattle.rooms.proofs.Gather.{Holds, holds-start, holds-turn, holds-most, holds-end, holds-whole}
-use Rattle.deals.specs.Figures.{at}
+use Rattle.figures.specs.Figures.{at}
 use Rattle.levels.specs.Levels.{NextOf}
-use Rattle.deals.proofs.Lists.{sum-most}
+use Rattle.figures.proofs.Lists.{sum-most}
 use Rattle.levels.proofs.Links.{skipped}
 
 -- ---- Figures of cords, summed on the cords' nodes

@@ -10,14 +10,14 @@ use lib.ListN.{length, set, length-set}
 use lib.Seq.{getD-set-same, getD-set-other}
 use borrow.Author.Count.{below-more}
 use borrow.Author.Tests.{eq-eqb, ne-eqb}
-use Rattle.rooms.specs.Sums.{on}
+use Rattle.figures.specs.Sums.{on}
 use Rattle.rooms.specs.Table.{mostNodes, mostWatts, mostCords, highestRank}
-use Rattle.rooms.proofs.Sums.{on-yes, on-no, sum-suc, sum-cong, sum-zero}
-use Rattle.deals.specs.Figures.{at, cell}
+use Rattle.figures.proofs.Sums.{on-yes, on-no, sum-suc, sum-cong, sum-zero}
+use Rattle.figures.specs.Figures.{at, cell}
 use Rattle.deals.specs.Split.{part}
 use Rattle.ranks.specs.Passes.{weightOf, childrenBefore, overChildren, NodesDealt}
 use Rattle.levels.specs.Levels.{Absent, Present, ActiveNodes}
-use Rattle.deals.proofs.Lists.{passed-up}
+use Rattle.figures.proofs.Lists.{passed-up}
 use Rattle.levels.proofs.Active.{Parted, parted-none, parted-all, parted-at, parted-after, between}
 use Rattle.ranks.proofs.NodeSums.{on-zero}
 use Rattle.deals.proofs.Splits.{part-le}

@@ -9,10 +9,10 @@ use lib.Dec.{eqb, lit<}
 use lib.ListN.{length, set, length-set}
 use lib.Seq.{getD-set-same, getD-set-other}
 use borrow.Author.Tests.{eq-eqb, ne-eqb, eqb-true, eqb-false}
-use Rattle.rooms.specs.Sums.{on, sum}
+use Rattle.figures.specs.Sums.{on, sum}
 use Rattle.rooms.specs.Table.{mostWatts, mostCords}
-use Rattle.rooms.proofs.Sums.{on-yes, on-no, sum-suc, sum-up}
-use Rattle.deals.specs.Figures.{at}
+use Rattle.figures.proofs.Sums.{on-yes, on-no, sum-suc, sum-up}
+use Rattle.figures.specs.Figures.{at}
 use Rattle.deals.specs.Split.{part}
 use Rattle.deals.proofs.Splits.{div-mono, part-whole}
 

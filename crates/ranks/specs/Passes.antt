@@ -4,10 +4,10 @@ use mathlib.Core.List.{List}
 use Prim.Native.Nat.{ℕ, suc, _+_, _-_, _*_, _/_, _≤_, _<_, min}
 use lib.Dec.{eqb}
 use lib.ListN.{length}
-use Rattle.rooms.specs.Sums.{on, sum}
+use Rattle.figures.specs.Sums.{on, sum}
 use Rattle.rooms.specs.Table.{mostNodes, mostCords, mostWatts, highestRank}
 use Rattle.rooms.specs.Credits.{sumBeneath}
-use Rattle.deals.specs.Figures.{figures, at, cell}
+use Rattle.figures.specs.Figures.{figures, at, cell}
 use Rattle.deals.specs.Split.{part}
 use Rattle.levels.specs.Levels.{Absent, Present, Full}
 

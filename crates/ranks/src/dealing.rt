@@ -3,14 +3,14 @@ ghost use mathlib.Core.Path.{_≡_};
 ghost use Prim.Native.Nat.{ℕ, _+_, _*_, _/_, _^_, _≤_, _<_};
 ghost use lib.ListN.{length, set};
 ghost use Rattle.rooms.specs.Table.{mostNodes, mostWatts, mostCords, highestRank};
-ghost use Rattle.deals.specs.Figures.{at, cell};
+ghost use Rattle.figures.specs.Figures.{at, cell};
 ghost use Rattle.deals.specs.Split.{part};
 ghost use Rattle.ranks.specs.Passes.{CordLists, weightOf, overChildren, BlankColumn, HasCord, cordsBefore, NodesDealt, CordsDealt};
 ghost use Rattle.levels.specs.Levels.{ChainOf, ActiveNodes};
-use widths::index;
-use widths::narrow;
-use widths::over;
-use widths::wide;
+use figures::index;
+use figures::narrow;
+use figures::over;
+use figures::wide;
 
 // The part of the next child of the node at place p, by its weight. The weights served and the watts dealt there grow by it.
 fn serve(

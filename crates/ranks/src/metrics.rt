@@ -2,16 +2,16 @@
 ghost use mathlib.Core.Path.{_≡_};
 ghost use Prim.Native.Nat.{ℕ, _+_, _-_, _*_, _^_, _≤_, _<_};
 ghost use lib.ListN.{length, replicate};
-ghost use Rattle.rooms.specs.Sums.{sum};
+ghost use Rattle.figures.specs.Sums.{sum};
 ghost use Rattle.rooms.specs.Table.{mostNodes, mostWatts, mostCords, highestRank};
 ghost use Rattle.rooms.specs.Credits.{sumBeneath, credited};
-ghost use Rattle.deals.specs.Figures.{at, cell};
+ghost use Rattle.figures.specs.Figures.{at, cell};
 ghost use Rattle.ranks.specs.Passes.{CordLists, onNode, cordsBefore, FullRows, Gathered};
 ghost use Rattle.levels.specs.Levels.{ChainOf, Absent, ActiveNodes};
-use widths::index;
-use widths::least;
-use widths::narrow;
-use widths::wide;
+use figures::index;
+use figures::least;
+use figures::narrow;
+use figures::wide;
 
 // Sets every entry to 0.
 fn clear(list: &mut [u64])

@@ -10,19 +10,15 @@ use lib.Dec.{eqb, ltb}
 use lib.ListN.{length, set, length-set}
 use lib.Seq.{getD-set-same, getD-set-other, ext-getD}
 use borrow.Author.Tests.{eqb-true, eqb-false, lt-ltb, le-ltb}
-use Rattle.rooms.specs.Sums.{sum}
+use Rattle.figures.specs.Sums.{sum}
 use Rattle.rooms.specs.Table.{scale}
 use Rattle.rooms.specs.Limits.{carried}
-use Rattle.rooms.proofs.Sums.{sum-suc, sum-none}
-use Rattle.deals.specs.Figures.{figures, at, sumOf}
-use Rattle.deals.specs.Metrics.{dealFrom}
-use Rattle.deals.specs.Dealing.{granted}
-use Rattle.deal_by_rank.specs.Ranks.{DealLists}
-use Rattle.reclaim.specs.Reclaimed.{ServerLists, usableBefore, usableFrom, usedFrom, strandedFrom, wantsFrom, wantsNext, ReclaimedAfter}
-use Rattle.plan_rooms.specs.Planning.{DealtTwice}
-use Rattle.deals.proofs.Lists.{figures-at, figures-length, total-sum}
+use Rattle.figures.proofs.Sums.{sum-suc, sum-none}
+use Rattle.figures.specs.Figures.{figures, at, sumOf}
+use Rattle.reclaim.specs.Reclaimed.{ServerLists, usableBefore, usableFrom, usedFrom, strandedFrom, wantsFrom}
+use Rattle.figures.proofs.Lists.{figures-at, figures-length, total-sum}
 use Rattle.deals.proofs.Loads.{leastOver-next, leastOver-zero, leastOver-start}
-use Rattle.deals.proofs.Filled.{Filled, filled-none, filled-one, filled-all}
+use Rattle.figures.proofs.Filled.{Filled, filled-none, filled-one, filled-all}
 
 -- ---- The usable watts
 

@@ -8,7 +8,7 @@ use lib.Dec.{eqb, ltb}
 use lib.ListN.{length}
 use Rattle.rooms.specs.Table.{mostCords, mostWatts, scale}
 use Rattle.rooms.specs.Limits.{carried}
-use Rattle.deals.specs.Figures.{figures, at, sumOf}
+use Rattle.figures.specs.Figures.{figures, at, sumOf}
 use Rattle.deals.specs.Wants.{needs}
 use Rattle.deals.specs.SecondDeal.{leastOver, freed}
 

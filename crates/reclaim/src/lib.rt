@@ -5,21 +5,15 @@ ghost use Prim.Native.Nat.{_^_, _<_};
 ghost use lib.Dec.{ltb};
 ghost use lib.ListN.{length};
 ghost use Rattle.reclaim.specs.Reclaimed.{ServerLists, usableFrom, usedFrom, freedFrom, wantsFrom, ReclaimedAfter};
+use figures::index;
+use figures::least;
+use figures::narrow;
+use figures::over;
+use figures::wide;
 use layout::carried_by;
-use widths::index;
-use widths::least;
-use widths::narrow;
-use widths::over;
-use widths::wide;
 
 // Each server's usable watts: the least of its need and, over its cords with share above 0, of floor(1000 × grant / share).
-pub fn usable_of(
-    shares: &[u32],
-    servers: &[u16],
-    needs: &[u32],
-    grants: &[u32],
-    usable: &mut [u32],
-)
+pub fn usable_of(shares: &[u32], servers: &[u16], needs: &[u32], grants: &[u32], usable: &mut [u32])
     requires { ⌜ ServerLists (now shares) (now servers) (now needs) (length (now grants)) × (length (now usable) ≡ length (now needs)) ⌝ }
     ensures { λ _. ⌜ now (usable .exit) ≡ usableFrom (now (shares .entry)) (now (servers .entry)) (now (needs .entry)) (now (grants .entry)) ⌝ }
 {

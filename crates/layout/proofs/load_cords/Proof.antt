@@ -4,7 +4,7 @@ use Prim.Native.Nat.{_-_, _≤_}
 use native.Mathlib.Omega.{arith}
 use lib.ListN.{length}
 use borrow.Author.Needs.{needs}
-use Rattle.deals.specs.Figures.{at}
+use Rattle.figures.specs.Figures.{at}
 use Rattle.layout.proofs.Walk.{begun}
 use Rattle.layout.proofs.Loading.{Loading, LoadingServer, loading-start, loading-server, loading-end, server-begin, cord-fits, server-cord, server-end}
 use Rattle.layout.proofs.load_cords.Statement.{statement}

@@ -5,9 +5,9 @@ use native.Mathlib.Omega.{arith}
 use lib.ListN.{length}
 use borrow.Author.Needs.{needs}
 use Rattle.rooms.specs.Limits.{limit, nodeAt, parentOf}
-use Rattle.deals.specs.Figures.{at}
-use Rattle.deals.specs.Metrics.{parentsOf, limitsOf}
-use Rattle.deals.proofs.Filled.{Filled, filled-none, filled-one, filled-all}
+use Rattle.figures.specs.Figures.{at}
+use Rattle.rooms.specs.Lists.{parentsOf, limitsOf}
+use Rattle.figures.proofs.Filled.{Filled, filled-none, filled-one, filled-all}
 use Rattle.layout.proofs.Walk.{begun, node-here, node-read, nodes-same}
 use Rattle.layout.proofs.load_nodes.Statement.{statement}
 use Rattle.layout.proofs.load_nodes.Tie as tie

@@ -6,7 +6,7 @@ use lib.ListN.{length}
 use borrow.Author.Count.{below-more}
 use borrow.Author.Needs.{needs}
 use Rattle.rooms.specs.Table.{mostWatts}
-use Rattle.deals.specs.Figures.{at}
+use Rattle.figures.specs.Figures.{at}
 use Rattle.deals.proofs.Plans.{firstTooLarge-at, firstTooLarge-none}
 use Rattle.plans.proofs.first_too_large.Statement.{statement}
 use Rattle.plans.proofs.first_too_large.Tie as tie

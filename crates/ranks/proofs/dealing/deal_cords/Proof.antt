@@ -5,7 +5,7 @@ use Prim.Native.Nat.{_-_, _<_}
 use native.Mathlib.Omega.{arith}
 use lib.ListN.{length}
 use borrow.Author.Needs.{needs}
-use Rattle.deals.specs.Figures.{at}
+use Rattle.figures.specs.Figures.{at}
 use Rattle.levels.proofs.Links.{chain-next}
 use Rattle.ranks.proofs.CordTurns.{CordTurn, cords-start, cords-skip, cords-end, node-within, cord-may-serve, watts-most, cord-next}
 use Rattle.ranks.proofs.dealing.deal_cords.Statement.{statement}

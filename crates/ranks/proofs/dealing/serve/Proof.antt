@@ -1,10 +1,10 @@
 -- `serve` meets its contract: the watts dealt on the node grow from one quotient of the split to the next, and all the weight takes all.
 use mathlib.Core.Path.{sym, ap, ap₂, _∙_}
-use Prim.Native.Nat.{ℕ, _+_, _*_, _-_, _/_}
+use Prim.Native.Nat.{ℕ, _+_, _*_, _/_}
 use native.Mathlib.Omega.{arith}
 use native.Mathlib.Nat.{mul-le-mul-left, lt-of-le-of-lt}
 use borrow.Author.Needs.{needs}
-use Rattle.deals.specs.Figures.{at}
+use Rattle.figures.specs.Figures.{at}
 use Rattle.ranks.proofs.Serving.{dealt-most, serve-all, serve-some}
 use Rattle.ranks.proofs.dealing.serve.Statement.{statement}
 use Rattle.ranks.proofs.dealing.serve.Tie as tie

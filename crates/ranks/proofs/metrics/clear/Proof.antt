@@ -3,7 +3,7 @@ use mathlib.Core.Path.{refl}
 use Prim.Native.Nat.{_-_}
 use borrow.Author.Needs.{needs}
 use lib.ListN.{length}
-use Rattle.deals.proofs.Filled.{Filled, filled-none, filled-one, filled-zeros}
+use Rattle.figures.proofs.Filled.{Filled, filled-none, filled-one, filled-zeros}
 use Rattle.ranks.proofs.metrics.clear.Statement.{statement}
 use Rattle.ranks.proofs.metrics.clear.Tie as tie
 

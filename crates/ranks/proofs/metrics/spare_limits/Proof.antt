@@ -4,7 +4,7 @@ use Prim.Native.Nat.{ℕ, _-_}
 use native.Mathlib.Omega.{arith}
 use borrow.Author.Needs.{needs}
 use lib.ListN.{length}
-use Rattle.deals.specs.Figures.{at}
+use Rattle.figures.specs.Figures.{at}
 use Rattle.ranks.proofs.NodeSums.{SpareTurn, spare-start, spare-turn}
 use Rattle.ranks.proofs.metrics.spare_limits.Statement.{statement}
 use Rattle.ranks.proofs.metrics.spare_limits.Tie as tie

@@ -6,7 +6,7 @@ use native.Mathlib.Omega.{arith}
 use borrow.Author.Needs.{needs}
 use lib.ListN.{length}
 use Rattle.rooms.proofs.Trees.{own}
-use Rattle.deals.specs.Figures.{at}
+use Rattle.figures.specs.Figures.{at}
 use Rattle.levels.proofs.Links.{chain-next}
 use Rattle.ranks.proofs.NodeSums.{Hangs, Credited, ofLevel, ofLevel-most, ofLevel-yes, credited-start, credited-more, credited-skip, credited-fits, credited-end}
 use Rattle.ranks.proofs.metrics.sum_cords.Statement.{statement}

@@ -2,15 +2,14 @@
 use mathlib.Core.Path.{_≡_, refl, sym, _∙_}
 use mathlib.Core.List.{List}
 use mathlib.Core.Logic.{_⊎_, inl, inr}
-use Prim.Native.Nat.{ℕ, _+_, _≤_, _<_}
+use Prim.Native.Nat.{ℕ, zero, suc, _+_, _≤_, _<_}
 use native.Mathlib.Nat.{not-suc-le-zero, le-of-suc-le-suc, eq-or-lt-of-le}
 use native.Mathlib.Omega.{arith}
 use native.Mathlib.Numerals.{add-one}
-use lib.ListN.{length, set, replicate, length-set, length-replicate}
+use lib.ListN.{length, getD, set, replicate, length-set, length-replicate}
 use lib.Seq.{getD-set-same, getD-set-other, ext-getD}
-use Rattle.rooms.proofs.Credits.{zeros-at}
-use Rattle.deals.specs.Figures.{figures, at}
-use Rattle.deals.proofs.Lists.{figures-at, figures-length}
+use Rattle.figures.specs.Figures.{figures, at}
+use Rattle.figures.proofs.Lists.{figures-at, figures-length}
 
 -- A list of some size that has the figures of g at the places below c.
 pub record Filled (g : ℕ → ℕ) (size c : ℕ) (l : List ℕ) : Type 0 where
@@ -36,6 +35,12 @@ module _ {g : ℕ → ℕ} {size c : ℕ} {l : List ℕ} where
   filled-all n f filled s h e =
       ext-getD 0 l (figures n f) (filled .size-is ∙ s ∙ sym (figures-length n f))
       (λ i q. let m : i < n = omega (arith, filled .size-is) in filled .done i (omega arith) ∙ e i m ∙ sym (figures-at n i f m))
+
+-- A list of zeros has 0 at every place, also past its end.
+pub zeros-at : (n i : ℕ) → _≡_ {A = ℕ} (getD (replicate n 0) i 0) 0
+zeros-at zero i = refl
+zeros-at (suc n) zero = refl
+zeros-at (suc n) (suc i) = zeros-at n i
 
 -- A list filled to its end with 0.
 pub filled-zeros : {size c : ℕ} {l : List ℕ} → Filled (λ _. 0) size c l → size ≤ c → l ≡ replicate size 0

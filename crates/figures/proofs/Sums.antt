@@ -6,7 +6,7 @@ use native.Mathlib.Nat.{le-refl, le-trans, le-suc, zero-mul, add-mul, not-suc-le
 use native.Mathlib.Omega.{arith}
 use mathlib.Core.Logic.{_⊎_, inl, inr}
 use lib.Dec.{eqb, leb}
-use Rattle.rooms.specs.Sums.{on, sum}
+use Rattle.figures.specs.Sums.{on, sum}
 use borrow.Author.Tests.{eq-eqb, ne-eqb, leb-true, leb-false, lt-leb}
 
 -- ---- A figure where a test holds

@@ -7,10 +7,9 @@ use native.Mathlib.Nat.{le-refl, le-trans, le-of-eq, le-suc, zero-add, add-zero,
 use native.Mathlib.Omega.{arith}
 use lib.ListN.{length, getD, take, drop, drop-of-length-le}
 use lib.Seq.{drop-cons, length-take-le, getD-take}
-use Rattle.rooms.specs.Part.{total}
-use Rattle.rooms.specs.Sums.{sum}
-use Rattle.rooms.proofs.Sums.{sum-cong, sum-up, sum-none, up}
-use Rattle.deals.specs.Figures.{figuresFrom, figures, at, sumOf}
+use Rattle.figures.specs.Figures.{total, figuresFrom, figures, at, sumOf}
+use Rattle.figures.specs.Sums.{sum}
+use Rattle.figures.proofs.Sums.{sum-cong, sum-up, sum-none, up}
 
 -- ---- Figures at places
 

@@ -1,9 +1,8 @@
 -- Lists of figures, and rows of them.
 -- (Here and in the other modules an `unfolding` line lets a definition compute through those that it names.)
 use mathlib.Core.List.{List, [], _∷_}
-use Prim.Native.Nat.{ℕ, zero, suc}
+use Prim.Native.Nat.{ℕ, zero, suc, _+_}
 use lib.ListN.{getD}
-use Rattle.rooms.specs.Part.{total}
 
 -- The k figures of g from place j on, as a list.
 unfoldable pub figuresFrom : ℕ → ℕ → (ℕ → ℕ) → List ℕ
@@ -21,6 +20,11 @@ at figures i = getD figures i 0
 -- The figure at place j of row m.
 abbrev pub cell : List (List ℕ) → ℕ → ℕ → ℕ
 cell rows m j = at (getD rows m []) j
+
+-- A figure, added up over a list.
+unfoldable pub total : {A : Type 0} → (A → ℕ) → List A → ℕ
+total figure [] = 0
+total figure (a ∷ rest) = figure a + total figure rest
 
 -- The sum of a list.
 abbrev pub sumOf : List ℕ → ℕ

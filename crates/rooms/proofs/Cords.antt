@@ -8,12 +8,12 @@ use native.Mathlib.Decide.{decLe}
 use native.Mathlib.Omega.{arith}
 use lib.ListN.{length, getD, length-append, List·getD-append}
 use lib.Seq.{getD-append-add}
-use Rattle.rooms.specs.Part.{total}
-use Rattle.rooms.specs.Sums.{on, sum}
+use Rattle.figures.specs.Figures.{total}
+use Rattle.figures.specs.Sums.{on, sum}
 use Rattle.rooms.specs.Table.{Cord, Server, Room, scale, cordCount, roomCords}
 use Rattle.rooms.specs.Limits.{carried, serverLows, lows}
-use Rattle.deals.proofs.Lists.{total-sum, total-append}
-use Rattle.deals.specs.Cords.{RoomCord, serverCords, cordsFrom, cordsOf, cordAt, serverAt}
+use Rattle.figures.proofs.Lists.{total-sum, total-append}
+use Rattle.rooms.specs.Cords.{RoomCord, serverCords, cordsFrom, cordsOf, cordAt, serverAt}
 
 abbrev pub noCord : Cord
 noCord = record { node = 0; share = 0 }

@@ -25,7 +25,8 @@ use Rattle.deal_by_rank.specs.Ranks.{NodeLists, LowsWithin, Spare, Ranks
 use Rattle.ranks.specs.Passes.{CordLists, HasCord, onNode, childrenBefore, overChildren, cordsBefore, weightOf, Gathered, NodesDealt, CordsDealt, FullRows}
 use Rattle.levels.specs.Levels.{Present, ActiveNodes, CordsActive}
 use Rattle.figures.proofs.Lists.{sum-most, figures-length}
-use Rattle.deals.proofs.Equations.{Dealable, asked, weights, request-asked, pcapmin-all, weights-are}
+use Rattle.deals.proofs.Requests.{Dealable, asked, request-asked, pcapmin-all}
+use Rattle.deals.proofs.Equations.{weights, weights-are}
 use Rattle.deals.proofs.Computed.{pcapmin, request, amountOf, measured, dealt, granted-at}
 use Rattle.deals.proofs.Bounds.{asked-most, request-most}
 use Rattle.ranks.proofs.NodeSums.{on-zero, kids-none}

@@ -23,7 +23,7 @@ use Rattle.rooms.specs.Lists.{carriedBy, lowsOf, parentsOf, nodesOf}
 use Rattle.deals.specs.Metrics.{Deal, dealFrom, dealOf}
 use Rattle.deals.specs.SecondDeal.{leastOver, loaded, loadOf, usable, stranded, wantsAfter, firstGrants, firstUsable, firstUsed, secondWants, secondGrants, caps}
 use Rattle.deals.specs.Dealing.{grantsBy}
-use Rattle.deals.proofs.Equations.{Dealable, WholeWay}
+use Rattle.deals.proofs.Requests.{Dealable, WholeWay}
 use Rattle.figures.proofs.Lists.{figures-at, figures-length}
 use Rattle.deals.proofs.Computed.{granted-way}
 use Rattle.rooms.proofs.Cords.{cordsOf-all, lows-sum}

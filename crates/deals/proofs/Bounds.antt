@@ -7,7 +7,7 @@ use native.Mathlib.Numerals.{add-one}
 use native.Mathlib.Omega.{arith}
 use mathlib.Core.Bool.{Bool, true, false}
 use lib.Dec.{eqb}
-use lib.ListN.{length, getD, take, drop}
+use lib.ListN.{length, getD, drop}
 use Rattle.figures.specs.Sums.{on, sum}
 use Rattle.rooms.specs.Table.{Room, mostWatts, mostCords, scale, roomCords}
 use Rattle.rooms.specs.Limits.{beneath, limit, nodeAt}
@@ -21,10 +21,12 @@ use Rattle.rooms.specs.Lists.{lowsOf}
 use Rattle.deals.specs.Metrics.{Deal, dealOf, atLevel, metrics, pcapminsFrom, childSums, excess}
 use Rattle.deals.specs.Dealing.{weightSum, amount}
 use Rattle.deals.specs.SecondDeal.{stranded, firstGrants, firstUsed, freed, secondWants}
-use Rattle.deals.specs.Properties.{mostSum, DealBounded, Bounded}
-use Rattle.deals.proofs.Equations.{Dealable, asked, weights, pcapmin-request, requests-fit, requests-left, asked-wants, amount-within, weights-asked}
-use Rattle.deals.proofs.Computed.{childSums-at, requestsFrom-length, pcapmins-levels, requests-levels, pcapmin, request, amountOf, measured, dealt}
-use Rattle.figures.proofs.Lists.{total-drop, total-sum, sum-most, sum-one-le, sumOf-take, sumOf-most}
+use Rattle.deals.specs.Properties.{requestTotal, pcapminBelow, mostSum, DealBounded, Bounded}
+use Rattle.deals.proofs.Requests.{Dealable, asked, pcapmin-request, requests-fit, requests-left, asked-wants}
+use Rattle.deals.proofs.Equations.{weights, amount-within, weights-asked}
+use Rattle.deals.proofs.Computed.{childSums-at, requestsFrom-length, requests-levels, pcapmin, request, amountOf, measured, dealt}
+use Rattle.deals.proofs.Totals.{requestTotal-is, pcapminBelow-is}
+use Rattle.figures.proofs.Lists.{total-sum, sum-most, sum-one-le, sumOf-most}
 use Rattle.deals.proofs.Loads.{carried-most}
 use Rattle.deals.proofs.BothDeals.{server-facts, cord-facts, carriedBy-at, stranded-at, stranded-count, need-le, first-most, firstWants-lows, secondWants-lows, secondWants-wants, room-dealable}
 use Rattle.deals.proofs.RoomDeals.{roomDeal, dealOf-is}
@@ -81,17 +83,16 @@ module _ (d : Deal) (ok : Dealable d) (few : d .cords ≤ mostCords) (limits : (
       le-trans (sum-one-le (d .levels) j (request d n) h) (le-trans (requests-fit d ok (pcapmin d) (request d) (measured d ok) n l) (limits n l))
 
   left-most : (n j : ℕ) → n < d .nodes → j < d .levels
-      → sumOf (take j (getD (metrics d .pcapmins) n [])) + sumOf (drop (j + 1) (getD (metrics d .requests) n [])) ≤ d .limit n
-  unfolding pcapmin request
+      → pcapminBelow d n j + requestTotal d n (j + 1) ≤ d .limit n
   left-most n j l h =
       let k : ℕ = d .levels - (j + 1) in
-      let pl : length (getD (metrics d .pcapmins) n []) ≡ d .levels = pcapmins-levels d n l in
-      let rl : length (getD (metrics d .requests) n []) ≡ d .levels = requests-levels d n l in
-      let a : sumOf (take j (getD (metrics d .pcapmins) n [])) ≡ sum j (pcapmin d n) = sumOf-take (getD (metrics d .pcapmins) n []) j (omega arith) in
-      let b : sumOf (drop (j + 1) (getD (metrics d .requests) n [])) ≡ up k (j + 1) (request d n)
-      = total-drop (λ a. a) 0 (getD (metrics d .requests) n []) k (j + 1) (omega arith) in
-      let e : up k (j + 1) (request d n) ≡ up k (suc j) (request d n) = ap (λ (z : ℕ). up k z (request d n)) (add-one j) in
-      omega (arith, requests-left d ok (pcapmin d) (request d) (measured d ok) n l k j (omega arith))
+      omega (
+        arith,
+        pcapminBelow-is d n l j (omega arith),
+        requestTotal-is d n l k (j + 1) (omega arith),
+        ap (λ (z : ℕ). up k z (request d n)) (add-one j),
+        requests-left d ok (pcapmin d) (request d) (measured d ok) n l k j (omega arith),
+      )
 
   product-most : (n j : ℕ) → n < d .nodes → j < d .levels → amount d (metrics d) (n + 1) n j * weightSum d (metrics d) n j < 2 ^ 58
   product-most n j l h =

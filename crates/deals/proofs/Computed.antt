@@ -15,10 +15,11 @@ use Rattle.figures.specs.Figures.{at, cell, sumOf}
 use Rattle.deals.specs.Metrics.{Deal, atLevel, overRows, childSums, pcapminsFrom, requestsAbove, requestsFrom, metrics, overCords}
 use Rattle.deals.specs.Split.{part}
 use Rattle.deals.specs.Dealing.{byNumber, nodeWeight, weightSum, beforeNode, beforeCord, amount, reached, granted}
-use Rattle.deals.specs.Properties.{GivesAll}
+use Rattle.deals.specs.Properties.{GivesAll, fromLevel}
 use Rattle.figures.proofs.Lists.{figures-at, figures-length, total-drop}
 use Rattle.deals.proofs.Rows.{IsRow}
-use Rattle.deals.proofs.Equations.{Dealable, WholeWay, Measured, Dealt, fromLevel, asked, weights, grant, amount-within, gives-all, reached-excess, ours, most-above}
+use Rattle.deals.proofs.Requests.{Dealable, WholeWay, Measured, asked}
+use Rattle.deals.proofs.Equations.{Dealt, weights, grant, amount-within, gives-all, reached-excess, ours, most-above}
 
 -- ---- The rows of the nodes, from the last to the first
 

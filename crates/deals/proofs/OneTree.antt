@@ -14,7 +14,8 @@ use Rattle.rooms.proofs.Trees.{meets, below, under, beneath-meets, under-is}
 use Rattle.figures.specs.Figures.{at}
 use Rattle.deals.specs.Metrics.{Deal}
 use Rattle.deals.specs.Dealing.{granted}
-use Rattle.deals.proofs.Equations.{Dealable, WholeWay, fromLevel}
+use Rattle.deals.specs.Properties.{fromLevel}
+use Rattle.deals.proofs.Requests.{Dealable, WholeWay}
 use Rattle.deals.proofs.Computed.{granted-most}
 
 module _ (nn : ℕ) (par : ℕ → ℕ) (rises : (m : ℕ) → m < nn → par m ≤ m) where

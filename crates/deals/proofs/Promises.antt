@@ -22,9 +22,10 @@ use Rattle.deals.specs.Dealing.{grantsBy}
 use Rattle.deals.specs.SecondDeal.{firstGrants, firstUsable, secondWants, secondGrants, caps}
 use Rattle.deals.specs.Ways.{cordBeneath, sumBeneath, fromRank}
 use Rattle.deals.specs.Promises.{AcceptedPlan, Answered, AnswerOfBothDeals, Kept, FirstKept, SecondKept, Greatest, FirstGreatest, SecondGreatest, SettledFromRank, RefusalNine}
-use Rattle.deals.specs.Properties.{CapsInRange, UsedGranted, SecondWantsInRange, SplitWhole, SplitWithin, FirstGivesAll, SecondGivesAll, FiguresFit}
-use Rattle.deals.proofs.Equations.{WholeWay, fromLevel}
+use Rattle.deals.specs.Properties.{CapsInRange, UsedGranted, SecondWantsInRange, SplitWhole, SplitWithin, FirstGivesAll, SecondGivesAll, fromLevel, Totals, FiguresFit}
+use Rattle.deals.proofs.Requests.{WholeWay}
 use Rattle.deals.proofs.Computed.{deal-gives-all}
+use Rattle.deals.proofs.Totals.{deal-totals}
 use Rattle.deals.proofs.OneTree.{tree-granted-most}
 use Rattle.deals.proofs.Splits.{split-sum, split-le}
 use Rattle.deals.proofs.RoomDeals.{levelsOf-at, roomDeal, grantsBy-is}
@@ -194,6 +195,11 @@ first-gives-all p = deal-gives-all _ (first-dealable (p .room) (accepted-room p)
 
 pub second-gives-all : SecondGivesAll
 second-gives-all p = deal-gives-all _ (second-dealable (p .room) (accepted-room p) (p .demands))
+
+pub totals : Totals
+totals table r end e demands =
+    let ok = accepted table r end e in
+    (deal-totals _ (first-dealable r ok demands), deal-totals _ (second-dealable r ok demands))
 
 pub figures-fit : FiguresFit
 figures-fit table r end e demands = bounded r (accepted table r end e) demands

@@ -1,6 +1,6 @@
--- What else is proved of every plan: that caps, wants and parts lie in their ranges, and that the figures fit their words.
--- Demand 3 does not ask for these. Statements only; proofs/Promises.antt proves each: `CapsInRange` as `caps-in-range`,
--- and so on.
+-- What else is proved of every plan: that caps, wants and parts lie in their ranges, what a node's Requests of a rank and above
+-- sum to, and that the figures fit their words. Demand 3 does not ask for these. Statements only; proofs/Promises.antt proves
+-- each: `CapsInRange` as `caps-in-range`, and so on.
 use mathlib.Core.Path.{_≡_}
 use mathlib.Core.List.{List, []}
 use Prim.Native.Nat.{ℕ, suc, _+_, _*_, _-_, _≤_, _<_, _^_, min}
@@ -80,8 +80,8 @@ abbrev pub fromLevel : Deal → ℕ → (ℕ → ℕ) → ℕ → ℕ
 fromLevel d j figure c = on (leb j (d .level c)) (figure c)
 
 -- A deal in which, at every node, the Requests of any rank and above sum to the lesser of limit − (Pcapmin of lower ranks) and
--- the sum over the node's children: a child node's is its Requests of that rank and above, and a cord's its want, where its
--- rank is that rank or above.
+-- the children's sum, where a child node counts for its own Requests of that rank and above, and a cord of that rank or above
+-- for its want. (No way of dealing can give the cords beneath the node more: `FirstGreatest` and `SecondGreatest` follow.)
 abbrev pub TotalsOf : Deal → Type 0
 TotalsOf d =
     (n j : ℕ) → n < d .nodes → j ≤ d .levels

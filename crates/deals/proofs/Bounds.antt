@@ -13,7 +13,7 @@ use Rattle.rooms.specs.Table.{Room, mostWatts, mostCords, scale, roomCords}
 use Rattle.rooms.specs.Limits.{beneath, limit, nodeAt}
 use Rattle.rooms.proofs.Accepted.{Accepted}
 use Rattle.figures.proofs.Sums.{up}
-use Rattle.rooms.proofs.Trees.{kids, own, below, under, under-is}
+use Rattle.rooms.proofs.Trees.{kids, own, under}
 use Rattle.figures.specs.Figures.{at, cell, sumOf}
 use Rattle.rooms.specs.Cords.{cordAt}
 use Rattle.deals.specs.Wants.{needs, firstWants}
@@ -22,7 +22,7 @@ use Rattle.deals.specs.Metrics.{Deal, dealOf, atLevel, metrics, pcapmins
 use Rattle.deals.specs.Dealing.{weightSum, amount}
 use Rattle.deals.specs.SecondDeal.{stranded, firstGrants, firstUsed, freed, secondWants}
 use Rattle.deals.specs.Properties.{requestTotal, pcapminBelow, mostSum, DealBounded, Bounded}
-use Rattle.deals.proofs.Requests.{Dealable, asked, pcapmin-request, requests-fit, requests-left, asked-wants}
+use Rattle.deals.proofs.Requests.{Dealable, sumBelow, asked, pcapmin-request, requests-fit, requests-left, asked-wants}
 use Rattle.deals.proofs.Equations.{weights, amount-within, weights-asked}
 use Rattle.deals.proofs.Computed.{childSums-at, requestsFrom-length, requests-levels, pcapmin, request, amountOf, measured, dealt}
 use Rattle.deals.proofs.Totals.{requestTotal-is, pcapminBelow-is}
@@ -39,13 +39,12 @@ on-most false a most h = omega arith
 
 module _ (d : Deal) (ok : Dealable d) (few : d .cords ≤ mostCords) (limits : (n : ℕ) → n < d .nodes → d .limit n ≤ mostWatts)
     (wants : (c : ℕ) → c < d .cords → d .want c ≤ mostWatts) where
-  wants-most : (n j : ℕ) → below (d .nodes) (d .parent) (d .cords) (d .node) n (atLevel d j (d .want)) ≤ mostSum
+  wants-most : (n j : ℕ) → sumBelow d n (atLevel d j (d .want)) ≤ mostSum
   unfolding under
   wants-most n j =
-      le-trans (le-of-eq (sym (under-is (d .nodes) (d .parent) (ok .rises) (d .cords) (d .node) (ok .here) n (atLevel d j (d .want)))))
-      (le-trans
+      le-trans
       (sum-most (d .cords) mostWatts _ (λ c l. on-most (beneath (d .parent) (d .nodes) n (d .node c)) _ mostWatts (on-most (eqb (d .level c) j) (d .want c) mostWatts (wants c l))))
-      (mul-le-mul-right mostWatts few))
+      (mul-le-mul-right mostWatts few)
 
   pub asked-most : (n j : ℕ) → n < d .nodes → j < d .levels → asked d (request d) n j ≤ mostSum
   asked-most n j l h = le-trans (asked-wants d ok (pcapmin d) (request d) (measured d ok) n j l h) (wants-most n j)

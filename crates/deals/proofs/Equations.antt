@@ -13,7 +13,7 @@ use Rattle.rooms.proofs.Trees.{kids, own, kids-add, kids-cong, rise}
 use Rattle.deals.specs.Metrics.{Deal, atLevel}
 use Rattle.deals.specs.Split.{part}
 use Rattle.deals.specs.Properties.{fromLevel}
-use Rattle.deals.proofs.Requests.{Dealable, WholeWay, sumBelow, asked, Measured, sumBelow-unique, sumBelow-from, sumBelow-all, own-add, pcapmin-request, requests-fit, request-asked, way-total}
+use Rattle.deals.proofs.Requests.{Dealable, WholeWay, TreeWay, sumBelow, asked, Measured, sumBelow-unique, sumBelow-from, sumBelow-all, own-add, pcapmin-request, requests-fit, request-asked, way-total}
 use Rattle.deals.proofs.Splits.{part-le, part-none, part-whole, telescope, telescope-all}
 
 module _ (d : Deal) where
@@ -179,9 +179,9 @@ module _ (d : Deal) (ok : Dealable d) where
           ∙ sumBelow-from d ok k j n grant q
 
       -- No other way gives the cords beneath a root, of a level and above, more.
-      pub most-above : (f : ℕ → ℕ) → WholeWay d f → (n : ℕ) → n < nodes → parent n ≡ 0 → (j : ℕ) → j ≤ levels
+      pub most-above : (f : ℕ → ℕ) (n : ℕ) → TreeWay d n f → n < nodes → parent n ≡ 0 → (j : ℕ) → j ≤ levels
           → sumBelow d n (fromLevel d j f) ≤ sumBelow d n (fromLevel d j grant)
-      most-above f wf n l e j h =
+      most-above f n w l e j h =
           let k : ℕ = levels - j in
           let q : j + k ≡ levels = omega arith in
-          le-trans (way-total d ok p r me f wf k j q n l) (le-of-eq (granted-total n l e k j q))
+          le-trans (way-total d ok p r me f k j q n l w) (le-of-eq (granted-total n l e k j q))

@@ -11,7 +11,6 @@ pub mod Equations
 pub mod Computed
 pub mod Totals
 pub mod Inside
-pub mod OneTree
 -- The deals of a room whose table is accepted.
 pub mod Loads
 pub mod RoomDeals

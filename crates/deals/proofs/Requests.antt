@@ -2,15 +2,16 @@
 -- level and above sum to the lesser of what the limit leaves over the Pcapmin of the lower levels, and of the children's. From
 -- it: no way of dealing gives the cords beneath a node, of a level and above, more than that; and lesser wants never raise it.
 use mathlib.Core.Path.{_≡_, refl, sym, ap, ap₂, _∙_, subst}
-use mathlib.Core.Bool.{Bool, true, false}
-use Prim.Native.Nat.{ℕ, zero, suc, _+_, _*_, _-_, _≤_, _<_, min}
-use native.Mathlib.Nat.{le-trans, le-of-eq, zero-add, add-le-add, mul-le-mul-left, add-comm}
+use mathlib.Core.Bool.{Bool, true, false, _||_}
+use Prim.Native.Nat.{ℕ, zero, suc, _+_, _-_, _≤_, _<_, min}
+use native.Mathlib.Nat.{le-trans, le-of-eq, zero-add, add-le-add, add-comm, not-suc-le-zero}
 use native.Mathlib.Omega.{arith}
 use lib.Dec.{eqb, leb, leb·zero}
-use borrow.Author.Tests.{leb-true}
+use borrow.Author.Tests.{eqb-true, eq-eqb, leb-true}
 use Rattle.figures.specs.Sums.{on, sum}
-use Rattle.figures.proofs.Sums.{on-add, on-le, on-yes, sum-suc, sum-cong, sum-le, sum-add, sum-none, sum-up, up, up-add, up-sum, up-one, up-mul}
-use Rattle.rooms.proofs.Trees.{kids, own, below, below-step, kids-cong, kids-le, down, meets}
+use Rattle.figures.proofs.Sums.{on-add, on-le, on-yes, sum-suc, sum-cong, sum-le, sum-add, sum-none, sum-up, up, up-add, up-sum, up-one}
+use Rattle.rooms.specs.Limits.{beneath}
+use Rattle.rooms.proofs.Trees.{kids, own, below, below-step, under, under-is, kids-cong, kids-le, down}
 use Rattle.deals.specs.Metrics.{Deal, atLevel}
 use Rattle.deals.specs.Properties.{fromLevel}
 use Rattle.deals.proofs.Rows.{IsRow, row-total, row-fits, row-low, row-high}
@@ -21,9 +22,36 @@ up-on zero j true g = refl
 up-on zero j false g = refl
 up-on (suc k) j t g = ap (λ (x : ℕ). on t (g j) + x) (up-on k (suc j) t g) ∙ sym (on-add t (g j) (up k (suc j) g))
 
+-- ---- What is beneath a node
+
+or-right : (a b : Bool) → b ≡ true → a || b ≡ true
+or-right true b e = refl
+or-right false b e = e
+
+beneath-self : (parent : ℕ → ℕ) (k n : ℕ) → n < k → beneath parent k n (suc n) ≡ true
+unfolding beneath
+beneath-self parent zero n l = absurd (not-suc-le-zero l)
+beneath-self parent (suc k) n l = ap (λ (t : Bool). t || beneath parent k n (parent n)) (eq-eqb n n refl)
+
+-- What is beneath a child is beneath its parent.
+beneath-child : (nodes : ℕ) (parent : ℕ → ℕ) → ((m : ℕ) → m < nodes → parent m ≤ m) → (m n : ℕ) → parent m ≡ suc n
+    → (k v : ℕ) → v ≤ k → v ≤ nodes → beneath parent k m v ≡ true → beneath parent k n v ≡ true
+unfolding beneath
+beneath-child nodes parent rises m n e zero v h g b = b
+beneath-child nodes parent rises m n e (suc k) zero h g b = b
+beneath-child nodes parent rises m n e (suc k) (suc x) h g b =
+    or-right (eqb x n) (beneath parent k n (parent x)) (go (eqb x m) refl b (beneath-child nodes parent rises m n e k (parent x) (omega (arith, rises x g)) (omega (arith, rises x g))))
+  where
+    go : (t : Bool) → eqb x m ≡ t → t || beneath parent k m (parent x) ≡ true
+        → (beneath parent k m (parent x) ≡ true → beneath parent k n (parent x) ≡ true) → beneath parent k n (parent x) ≡ true
+    go true q b ih =
+        let u : parent x ≡ suc n = ap parent (eqb-true x m q) ∙ e in
+        ap (beneath parent k n) u ∙ beneath-self parent k n (omega (arith, rises x g))
+    go false q b ih = ih b
+
 -- The sum over the cords beneath the node at place n.
 abbrev pub sumBelow : Deal → ℕ → (ℕ → ℕ) → ℕ
-sumBelow d n figure = below (d .nodes) (d .parent) (d .cords) (d .node) n figure
+sumBelow d n figure = under (d .nodes) (d .parent) (d .cords) (d .node) n figure
 
 -- What a deal asks of what it goes by: parents before their children, cords on nodes, levels in the row, lows within wants,
 -- and no node whose limit the lows beneath it exceed.
@@ -35,11 +63,21 @@ pub record Dealable (d : Deal) : Type 0 where
   pub wants : (c : ℕ) → c < d .cords → d .low c ≤ d .want c
   pub lows : (n : ℕ) → n < d .nodes → sumBelow d n (d .low) ≤ d .limit n
 
--- A way of dealing every tree at once: each figure from low to want, and no node over its limit.
+-- A way of dealing the whole room: each figure from low to want, and no node over its limit.
 pub record WholeWay (d : Deal) (f : ℕ → ℕ) : Type 0 where
   pub least : (c : ℕ) → c < d .cords → d .low c ≤ f c
   pub most : (c : ℕ) → c < d .cords → f c ≤ d .want c
   pub within : (n : ℕ) → n < d .nodes → sumBelow d n f ≤ d .limit n
+
+-- A way of dealing what is beneath the node at place n: of its cords and its nodes alone.
+pub record TreeWay (d : Deal) (n : ℕ) (f : ℕ → ℕ) : Type 0 where
+  pub least : (c : ℕ) → c < d .cords → beneath (d .parent) (d .nodes) n (d .node c) ≡ true → d .low c ≤ f c
+  pub most : (c : ℕ) → c < d .cords → beneath (d .parent) (d .nodes) n (d .node c) ≡ true → f c ≤ d .want c
+  pub within : (m : ℕ) → m < d .nodes → beneath (d .parent) (d .nodes) n (suc m) ≡ true → sumBelow d m f ≤ d .limit m
+
+pub sumBelow-cong : (d : Deal) (n : ℕ) (f g : ℕ → ℕ) → ((c : ℕ) → c < d .cords → f c ≡ g c) → sumBelow d n f ≡ sumBelow d n g
+unfolding under
+sumBelow-cong d n f g e = sum-cong (d .cords) _ _ (λ c l. ap (λ (z : ℕ). on (beneath (d .parent) (d .nodes) n (d .node c)) z) (e c l))
 
 module _ (d : Deal) where
   open Deal d using (nodes, parent, limit, cords, node, level, low, want, levels)
@@ -63,7 +101,12 @@ module _ (d : Deal) (ok : Dealable d) where
   later m n l e = subst (λ (z : ℕ). z ≤ m) e (ok .rises m l)
 
   sumBelow-step : (n : ℕ) (w : ℕ → ℕ) → sumBelow d n w ≡ own cords node n w + kids nodes parent n (λ m. sumBelow d m w)
-  sumBelow-step n w = below-step nodes parent (ok .rises) cords node (ok .here) n w
+  sumBelow-step n w =
+      whole n ∙ below-step nodes parent (ok .rises) cords node (ok .here) n w
+      ∙ ap (λ (z : ℕ). own cords node n w + z) (kids-cong nodes parent n _ _ (λ m l e. sym (whole m)))
+    where
+      whole : (m : ℕ) → sumBelow d m w ≡ below nodes parent cords node m w
+      whole m = under-is nodes parent (ok .rises) cords node (ok .here) m w
 
   -- Whatever adds up like the cords beneath a node is their sum.
   pub sumBelow-unique : (w g : ℕ → ℕ) → ((n : ℕ) → n < nodes → g n ≡ own cords node n w + kids nodes parent n g) → (n : ℕ) → n < nodes → g n ≡ sumBelow d n w
@@ -72,31 +115,33 @@ module _ (d : Deal) (ok : Dealable d) where
       e n l ∙ ap (λ (z : ℕ). own cords node n w + z) (kids-cong nodes parent n g (λ m. sumBelow d m w) (λ m lm q. ih m lm (later m n lm q)))
       ∙ sym (sumBelow-step n w))
 
-  sumBelow-le : (n : ℕ) (f g : ℕ → ℕ) → ((c : ℕ) → c < cords → f c ≤ g c) → sumBelow d n f ≤ sumBelow d n g
-  unfolding below
-  sumBelow-le n f g h = sum-le cords _ _ (λ c l. mul-le-mul-left (meets parent nodes n (node c)) (h c l))
+  sumBelow-le : (n : ℕ) (f g : ℕ → ℕ) → ((c : ℕ) → c < cords → beneath parent nodes n (node c) ≡ true → f c ≤ g c) → sumBelow d n f ≤ sumBelow d n g
+  unfolding under
+  sumBelow-le n f g h = sum-le cords _ _ (λ c l. on-le (beneath parent nodes n (node c)) (f c) (g c) (h c l))
+
+  -- What the cords that pass a test have, from a level on.
+  cords-from : (k j : ℕ) (test : ℕ → Bool) (f : ℕ → ℕ) → j + k ≡ levels
+      → up k j (λ i. sum cords (λ c. on (test c) (atLevel d i f c))) ≡ sum cords (λ c. on (test c) (fromLevel d j f c))
+  cords-from k j test f e =
+      up-sum k j cords (λ c i. on (test c) (atLevel d i f c))
+      ∙ sum-cong cords _ _ (λ c l.
+      up-on k j (test c) (λ i. atLevel d i f c)
+      ∙ ap (λ (z : ℕ). on (test c) z) (up-one k j (level c) (f c) (le-trans (ok .ranks c l) (le-of-eq (sym e)))))
 
   pub sumBelow-from : (k j n : ℕ) (f : ℕ → ℕ) → j + k ≡ levels → up k j (λ i. sumBelow d n (atLevel d i f)) ≡ sumBelow d n (fromLevel d j f)
-  unfolding below
-  sumBelow-from k j n f e =
-      up-sum k j cords (λ c i. meets parent nodes n (node c) * atLevel d i f c)
-      ∙ sum-cong cords _ _ (λ c l.
-      up-mul k j (λ i. atLevel d i f c) (meets parent nodes n (node c))
-      ∙ ap (λ (z : ℕ). meets parent nodes n (node c) * z) (up-one k j (level c) (f c) (le-trans (ok .ranks c l) (le-of-eq (sym e)))))
+  unfolding under
+  sumBelow-from k j n f e = cords-from k j (λ c. beneath parent nodes n (node c)) f e
 
   pub sumBelow-all : (n : ℕ) (f : ℕ → ℕ) → sum levels (λ i. sumBelow d n (atLevel d i f)) ≡ sumBelow d n f
-  unfolding below sum
+  unfolding under sum
   sumBelow-all n f =
       sym (sum-up levels 0 levels (λ i. sumBelow d n (atLevel d i f)) (zero-add levels)) ∙ zero-add (up levels 0 (λ i. sumBelow d n (atLevel d i f)))
       ∙ sumBelow-from levels 0 n f (zero-add levels)
-      ∙ sum-cong cords _ _ (λ c l. ap (λ (z : ℕ). meets parent nodes n (node c) * z) (on-yes (leb 0 (level c)) (f c) (leb·zero (level c))))
+      ∙ sumBelow-cong d n _ _ (λ c l. on-yes (leb 0 (level c)) (f c) (leb·zero (level c)))
 
-  atLevel-le : (j : ℕ) (f g : ℕ → ℕ) → ((c : ℕ) → c < cords → f c ≤ g c) → (c : ℕ) → c < cords → atLevel d j f c ≤ atLevel d j g c
-  atLevel-le j f g h c l = on-le (eqb (level c) j) (f c) (g c) (λ e. h c l)
-
-  own-le : (n : ℕ) (f g : ℕ → ℕ) → ((c : ℕ) → c < cords → f c ≤ g c) → own cords node n f ≤ own cords node n g
+  own-le : (n : ℕ) (f g : ℕ → ℕ) → ((c : ℕ) → c < cords → node c ≡ suc n → f c ≤ g c) → own cords node n f ≤ own cords node n g
   unfolding own
-  own-le n f g h = sum-le cords _ _ (λ c l. on-le (eqb (node c) (suc n)) (f c) (g c) (λ e. h c l))
+  own-le n f g h = sum-le cords _ _ (λ c l. on-le (eqb (node c) (suc n)) (f c) (g c) (λ e. h c l (eqb-true (node c) (suc n) e)))
 
   pub own-add : (n j : ℕ) (f g h : ℕ → ℕ) → ((c : ℕ) → c < cords → h c ≡ f c + g c)
       → own cords node n (atLevel d j h) ≡ own cords node n (atLevel d j f) + own cords node n (atLevel d j g)
@@ -115,11 +160,19 @@ module _ (d : Deal) (ok : Dealable d) where
 
   own-from : (k j n : ℕ) (f : ℕ → ℕ) → j + k ≡ levels → up k j (λ i. own cords node n (atLevel d i f)) ≡ own cords node n (fromLevel d j f)
   unfolding own
-  own-from k j n f e =
-      up-sum k j cords (λ c i. on (eqb (node c) (suc n)) (atLevel d i f c))
-      ∙ sum-cong cords _ _ (λ c l.
-      up-on k j (eqb (node c) (suc n)) (λ i. atLevel d i f c)
-      ∙ ap (λ (z : ℕ). on (eqb (node c) (suc n)) z) (up-one k j (level c) (f c) (le-trans (ok .ranks c l) (le-of-eq (sym e)))))
+  own-from k j n f e = cords-from k j (λ c. eqb (node c) (suc n)) f e
+
+  -- ---- A way of dealing what is beneath a node is one of what is beneath each of its children
+
+  tree-child : (m n : ℕ) → m < nodes → parent m ≡ suc n → (f : ℕ → ℕ) → TreeWay d n f → TreeWay d m f
+  tree-child m n l e f w = record {
+    least = λ c lc b. w .least c lc (climb nodes (node c) (ok .here c lc) (ok .here c lc) b);
+    most = λ c lc b. w .most c lc (climb nodes (node c) (ok .here c lc) (ok .here c lc) b);
+    within = λ h lh b. w .within h lh (climb nodes (suc h) lh lh b);
+  }
+    where
+      climb : (k v : ℕ) → v ≤ k → v ≤ nodes → beneath parent k m v ≡ true → beneath parent k n v ≡ true
+      climb = beneath-child nodes parent (ok .rises) m n e
 
   module _ (p r : ℕ → ℕ → ℕ) (me : Measured d p r) where
     -- Pcapmin is the sum of the lows beneath.
@@ -139,7 +192,7 @@ module _ (d : Deal) (ok : Dealable d) where
     unfolding asked
     pcapmin-asked-by n l ih j h =
         le-trans (le-of-eq (me .lowest n j l h))
-        (add-le-add (kids-le nodes parent n (λ m. p m j) (λ m. r m j) (λ m lm q. ih m lm (later m n lm q) j h)) (own-le n _ _ (atLevel-le j low want (ok .wants))))
+        (add-le-add (kids-le nodes parent n (λ m. p m j) (λ m. r m j) (λ m lm q. ih m lm (later m n lm q) j h)) (own-le n _ _ (λ c lc q. on-le (eqb (level c) j) (low c) (want c) (λ t. ok .wants c lc))))
 
     pub pcapmin-request : (n : ℕ) → n < nodes → (j : ℕ) → j < levels → p n j ≤ r n j
     pcapmin-request = down nodes (λ n. (j : ℕ) → j < levels → p n j ≤ r n j) (λ n l ih j h.
@@ -186,21 +239,22 @@ module _ (d : Deal) (ok : Dealable d) where
         (up-add k j (λ i. kids nodes parent n (λ m. r m i)) (λ i. own cords node n (atLevel d i want)) ∙ ap₂ _+_ (kids-from k j n r) (own-from k j n want e))
 
     -- What a way of dealing gives a level and above leaves the lower levels their lows.
-    way-left : (f : ℕ → ℕ) → WholeWay d f → (n : ℕ) → n < nodes → (k j : ℕ) → j + k ≡ levels → sum j (p n) + sumBelow d n (fromLevel d j f) ≤ limit n
-    way-left f wf n l k j e =
+    way-left : (f : ℕ → ℕ) (n : ℕ) → n < nodes → TreeWay d n f → (k j : ℕ) → j + k ≡ levels → sum j (p n) + sumBelow d n (fromLevel d j f) ≤ limit n
+    way-left f n l w k j e =
         let g : ℕ → ℕ = λ i. sumBelow d n (atLevel d i f) in
         let a : sum j (p n) ≤ sum j g
-        = sum-le j (p n) g (λ i h. le-trans (le-of-eq (pcapmin-is i n (omega arith) l)) (sumBelow-le n _ _ (atLevel-le i low f (wf .least)))) in
-        omega (arith, sum-up k j levels g e, sumBelow-from k j n f e, sumBelow-all n f, wf .within n l)
+        = sum-le j (p n) g (λ i h.
+        le-trans (le-of-eq (pcapmin-is i n (omega arith) l)) (sumBelow-le n _ _ (λ c lc b. on-le (eqb (level c) i) (low c) (f c) (λ t. w .least c lc b)))) in
+        omega (arith, sum-up k j levels g e, sumBelow-from k j n f e, sumBelow-all n f, w .within n l (beneath-self parent nodes n l))
 
     -- No way of dealing gives the cords beneath a node, of a level and above, more than its Requests from there on.
-    pub way-total : (f : ℕ → ℕ) → WholeWay d f → (k j : ℕ) → j + k ≡ levels → (n : ℕ) → n < nodes → sumBelow d n (fromLevel d j f) ≤ up k j (r n)
-    way-total f wf k j e = down nodes (λ n. sumBelow d n (fromLevel d j f) ≤ up k j (r n)) (λ n l ih.
+    pub way-total : (f : ℕ → ℕ) (k j : ℕ) → j + k ≡ levels → (n : ℕ) → n < nodes → TreeWay d n f → sumBelow d n (fromLevel d j f) ≤ up k j (r n)
+    way-total f k j e = down nodes (λ n. TreeWay d n f → sumBelow d n (fromLevel d j f) ≤ up k j (r n)) (λ n l ih w.
         let a : kids nodes parent n (λ m. sumBelow d m (fromLevel d j f)) ≤ kids nodes parent n (λ m. up k j (r m))
-        = kids-le nodes parent n _ _ (λ m lm q. ih m lm (later m n lm q)) in
+        = kids-le nodes parent n _ _ (λ m lm q. ih m lm (later m n lm q) (tree-child m n lm q f w)) in
         let o : own cords node n (fromLevel d j f) ≤ own cords node n (fromLevel d j want)
-        = own-le n _ _ (λ c lc. on-le (leb j (level c)) (f c) (want c) (λ t. wf .most c lc)) in
-        omega (arith, request-total n l k j e, way-left f wf n l k j e, sumBelow-step n (fromLevel d j f)))
+        = own-le n _ _ (λ c lc q. on-le (leb j (level c)) (f c) (want c) (λ t. w .most c lc (ap (beneath parent nodes n) q ∙ beneath-self parent nodes n l))) in
+        omega (arith, request-total n l k j e, way-left f n l w k j e, sumBelow-step n (fromLevel d j f)))
 
 -- The deal by other wants.
 abbrev pub byWants : Deal → (ℕ → ℕ) → Deal
@@ -216,7 +270,7 @@ module _ (d : Deal) (w : ℕ → ℕ) (ok : Dealable d) (ko : Dealable (byWants 
       let a : kids (d .nodes) (d .parent) n (λ m. up k j (u m)) ≤ kids (d .nodes) (d .parent) n (λ m. up k j (r m))
       = kids-le (d .nodes) (d .parent) n _ _ (λ m lm o. ih m lm (later d ok m n lm o)) in
       let o : own (d .cords) (d .node) n (fromLevel d j w) ≤ own (d .cords) (d .node) n (fromLevel d j (d .want))
-      = own-le d ok n _ _ (λ c lc. on-le (leb j (d .level c)) (w c) (d .want c) (λ t. h c lc (leb-true j (d .level c) t))) in
+      = own-le d ok n _ _ (λ c lc i. on-le (leb j (d .level c)) (w c) (d .want c) (λ t. h c lc (leb-true j (d .level c) t))) in
       let s : sum j (q n) ≡ sum j (p n)
       = sum-cong j (q n) (p n) (λ i g. pcapmin-is (byWants d w) ko q u em i n (omega arith) l ∙ sym (pcapmin-is d ok p r me i n (omega arith) l)) in
       omega (arith, request-total d ok p r me n l k j e, request-total (byWants d w) ko q u em n l k j e))

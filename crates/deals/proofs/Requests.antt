@@ -133,7 +133,7 @@ module _ (d : Deal) (ok : Dealable d) where
   sumBelow-from k j n f e = cords-from k j (λ c. beneath parent nodes n (node c)) f e
 
   pub sumBelow-all : (n : ℕ) (f : ℕ → ℕ) → sum levels (λ i. sumBelow d n (atLevel d i f)) ≡ sumBelow d n f
-  unfolding under sum
+  unfolding sum
   sumBelow-all n f =
       sym (sum-up levels 0 levels (λ i. sumBelow d n (atLevel d i f)) (zero-add levels)) ∙ zero-add (up levels 0 (λ i. sumBelow d n (atLevel d i f)))
       ∙ sumBelow-from levels 0 n f (zero-add levels)
@@ -164,8 +164,8 @@ module _ (d : Deal) (ok : Dealable d) where
 
   -- ---- A way of dealing what is beneath a node is one of what is beneath each of its children
 
-  tree-child : (m n : ℕ) → m < nodes → parent m ≡ suc n → (f : ℕ → ℕ) → TreeWay d n f → TreeWay d m f
-  tree-child m n l e f w = record {
+  tree-child : (m n : ℕ) → parent m ≡ suc n → (f : ℕ → ℕ) → TreeWay d n f → TreeWay d m f
+  tree-child m n e f w = record {
     least = λ c lc b. w .least c lc (climb nodes (node c) (ok .here c lc) (ok .here c lc) b);
     most = λ c lc b. w .most c lc (climb nodes (node c) (ok .here c lc) (ok .here c lc) b);
     within = λ h lh b. w .within h lh (climb nodes (suc h) lh lh b);
@@ -251,7 +251,7 @@ module _ (d : Deal) (ok : Dealable d) where
     pub way-total : (f : ℕ → ℕ) (k j : ℕ) → j + k ≡ levels → (n : ℕ) → n < nodes → TreeWay d n f → sumBelow d n (fromLevel d j f) ≤ up k j (r n)
     way-total f k j e = down nodes (λ n. TreeWay d n f → sumBelow d n (fromLevel d j f) ≤ up k j (r n)) (λ n l ih w.
         let a : kids nodes parent n (λ m. sumBelow d m (fromLevel d j f)) ≤ kids nodes parent n (λ m. up k j (r m))
-        = kids-le nodes parent n _ _ (λ m lm q. ih m lm (later m n lm q) (tree-child m n lm q f w)) in
+        = kids-le nodes parent n _ _ (λ m lm q. ih m lm (later m n lm q) (tree-child m n q f w)) in
         let o : own cords node n (fromLevel d j f) ≤ own cords node n (fromLevel d j want)
         = own-le n _ _ (λ c lc q. on-le (leb j (level c)) (f c) (want c) (λ t. w .most c lc (ap (beneath parent nodes n) q ∙ beneath-self parent nodes n l))) in
         omega (arith, request-total n l k j e, way-left f n l w k j e, sumBelow-step n (fromLevel d j f)))

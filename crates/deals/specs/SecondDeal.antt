@@ -4,11 +4,11 @@ use mathlib.Core.List.{List}
 use Prim.Native.Nat.{ℕ, zero, suc, _-_, _*_, _/_, min}
 use lib.Dec.{eqb, ltb}
 use lib.ListN.{length}
-use Rattle.rooms.specs.Part.{total}
+use Rattle.figures.specs.Figures.{total, figuresFrom, figures, at, sumOf}
 use Rattle.rooms.specs.Table.{Room, scale, roomCords}
-use Rattle.deals.specs.Figures.{figuresFrom, figures, at, sumOf}
-use Rattle.deals.specs.Cords.{cordsFrom, cordAt}
-use Rattle.deals.specs.Wants.{needs, carriedBy, firstWants}
+use Rattle.rooms.specs.Cords.{cordsFrom, cordAt}
+use Rattle.deals.specs.Wants.{needs, firstWants}
+use Rattle.rooms.specs.Lists.{carriedBy}
 use Rattle.deals.specs.Dealing.{grantsBy}
 
 -- The least of a start and of the figures, at the places below k, of which a test holds.

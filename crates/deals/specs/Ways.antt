@@ -5,12 +5,12 @@ use mathlib.Core.List.{List}
 use Prim.Native.Nat.{ℕ, suc, _≤_, _<_}
 use lib.Dec.{leb}
 use lib.ListN.{length}
-use Rattle.rooms.specs.Sums.{on, sum}
+use Rattle.figures.specs.Sums.{on, sum}
 use Rattle.rooms.specs.Table.{Room, roomCords}
 use Rattle.rooms.specs.Limits.{limit, nodeAt, parentOf, hangsBeneath}
-use Rattle.deals.specs.Figures.{at}
-use Rattle.deals.specs.Cords.{cordAt, rankOf}
-use Rattle.deals.specs.Wants.{lowsOf}
+use Rattle.figures.specs.Figures.{at}
+use Rattle.rooms.specs.Cords.{cordAt, rankOf}
+use Rattle.rooms.specs.Lists.{lowsOf}
 
 -- A root is a node with parent 0. Its tree is the root with every node beneath it.
 pub record Root (r : Room) (n : ℕ) : Type 0 where

@@ -91,7 +91,7 @@ fn print_table(
         (tableText (now (table .entry)) (now (demands .entry))) ⌝ }
     ensures { λ r. ⌜ Counts r (now (buffer .exit)) ⌝ }
 {
-    let planned = deals::plan(table, demands, grants, caps);
+    let planned = plans::plan(table, demands, grants, caps);
     match planned {
         Planned::Accepted(freed) => print::plan(freed, table, caps, grants, buffer),
         Planned::Refused(refusal) => print::refusal(refusal.number(), refusal.place(), buffer),

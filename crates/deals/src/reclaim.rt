@@ -34,7 +34,7 @@ pub(crate) fn usable_of(
 }
 
 // A cord's want in the next deal: its used watts if it has stranded watts, else its want as before. It is chosen without a
-// branch: the processor would often foretell that wrongly.
+// branch: the processor would often predict that wrongly.
 fn next_want(stranded: u64, used: u32, want: u32) -> u32
     requires { ⌜ stranded < 2 ^ 32 ⌝ }
     ensures { λ r. ⌜ r ≡ cond (ltb 0 stranded) used want ⌝ }

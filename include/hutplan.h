@@ -110,8 +110,13 @@ uint32_t hutplan_read(const uint8_t *sheet, size_t sheet_len,
  * Write: turns the words of a table into the bytes of its sheet.
  *
  * Refusals: 4 to 9 of the table; then 12 if sheet_len is less than the count of bytes.
- * Writing a table that was read gives the sheet that it was read from, byte for byte, and reading a
- * sheet that was written gives the table that it was written from.
+ *
+ * There and back, as it is proved of the two calls in bytes (crates/capi/specs/Promises.antt):
+ *   - where hutplan_read was accepted with n words, hutplan_write of the first 4 * n bytes of that
+ *     table, into a buffer no shorter than the sheet, is accepted and gives the sheet's bytes;
+ *   - where hutplan_write was accepted with n bytes, hutplan_read of the first n bytes of that
+ *     sheet, into a buffer no shorter than the table, is accepted and gives the bytes of the
+ *     table's words (all of its bytes but one to three over).
  */
 uint32_t hutplan_write(const uint8_t *table, size_t table_len,
                        uint8_t *sheet, size_t sheet_len,

@@ -6,9 +6,9 @@
  * library but memcpy and memset, so threads may call them at the same time on buffers of their own.
  *
  * A sheet is bytes. A table is a list of words (unsigned, 32 bits). So are demands, grants and
- * caps, which are watts. Every list of words passes as bytes: four bytes a word, low byte first, at
- * any alignment. Its length is given in bytes; one to three bytes over at its end are neither read
- * nor written.
+ * caps, which are watts. Every list of words passes as bytes, at any alignment: four for each word,
+ * the lowest first. Its length is given in bytes. Where that is no multiple of four, the last one to
+ * three bytes are not looked at and not changed.
  *
  * The answer is sixteen bytes, two numbers of eight bytes each, low byte first:
  *   bytes 0 to 7    0 if the input was accepted, else the number of the refusal (see below);

@@ -7,7 +7,7 @@ use Rattle.rooms.specs.Limits.{carried}
 use Rattle.deals.specs.Figures.{figuresFrom, figures, at}
 use Rattle.deals.specs.Cords.{cordsFrom, cordAt, serverAt}
 
--- A server's need is its demand, raised to least and cut to greatest.
+-- The need of a server: its demand, brought into the range from least to greatest.
 abbrev pub need : Server → ℕ → ℕ
 need s demand = min (max demand (s .least)) (s .greatest)
 

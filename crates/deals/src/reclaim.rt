@@ -12,7 +12,7 @@ use crate::widths::narrow;
 use crate::widths::over;
 use crate::widths::wide;
 
-// Each server's usable watts: the least of its need and, over its cords with share above 0, of floor(1000 × grant / share).
+// Each server's usable watts: its need, or the least of floor(1000 × grant / share) of its cords with a share, if that is less.
 pub(crate) fn usable_of(
     shares: &[u32],
     servers: &[u16],

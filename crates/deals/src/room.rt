@@ -13,7 +13,7 @@ use crate::widths::short;
 use crate::widths::wide;
 use crate::widths::word_index;
 
-// A server's need: its demand, raised to least and cut to greatest.
+// The need of a server: its demand, brought into the range from least to greatest.
 fn need_of(demand: u32, least: u32, greatest: u32) -> u32
     ensures { λ r. ⌜ r ≡ min (max demand least) greatest ⌝ }
 {

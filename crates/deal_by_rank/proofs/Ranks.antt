@@ -19,7 +19,7 @@ use Rattle.rooms.proofs.Trees.{kids, own, under, under-is, kids-cong, down, ris
 use Rattle.rooms.proofs.Credits.{sumBeneath-step}
 use Rattle.figures.specs.Figures.{figures, at, cell}
 use Rattle.deals.specs.Metrics.{Deal, dealFrom, metrics, atLevel}
-use Rattle.deals.specs.Split.{part}
+use Rattle.splits.specs.Split.{part}
 use Rattle.deals.specs.Dealing.{granted, reached}
 use Rattle.deal_by_rank.specs.Ranks.{NodeLists, LowsWithin, Spare, RanksDealt, lowsUnder}
 use Rattle.ranks.specs.Passes.{CordLists, HasCord, onNode, childrenBefore, overChildren, cordsBefore, weightOf, Gathered, NodesDealt, CordsDealt, FullRows}

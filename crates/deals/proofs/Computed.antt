@@ -13,7 +13,7 @@ use Rattle.figures.proofs.Sums.{on-no, sum-cong, sum-zero, sum-up, up}
 use Rattle.rooms.proofs.Trees.{kids, own, below, below-cong}
 use Rattle.figures.specs.Figures.{at, cell, sumOf}
 use Rattle.deals.specs.Metrics.{Deal, atLevel, overRows, childSums, pcapminsFrom, requestsAbove, requestsFrom, metrics, overCords}
-use Rattle.deals.specs.Split.{part}
+use Rattle.splits.specs.Split.{part}
 use Rattle.deals.specs.Dealing.{byNumber, nodeWeight, weightSum, beforeNode, beforeCord, amount, reached, granted}
 use Rattle.deals.specs.Properties.{GivesAll}
 use Rattle.figures.proofs.Lists.{figures-at, figures-length, total-drop}

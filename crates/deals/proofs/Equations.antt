@@ -11,9 +11,9 @@ use Rattle.figures.specs.Sums.{on, sum}
 use Rattle.figures.proofs.Sums.{on-add, on-le, on-cong, on-yes, sum-cong, sum-le, sum-add, sum-up, up, up-le, up-cong, up-add, up-sum, up-one, up-mul}
 use Rattle.rooms.proofs.Trees.{kids, own, below, below-step, kids-add, kids-cong, kids-le, down, rise, meets}
 use Rattle.deals.specs.Metrics.{Deal, atLevel}
-use Rattle.deals.specs.Split.{part}
+use Rattle.splits.specs.Split.{part}
 use Rattle.deals.proofs.Rows.{IsRow, row-fits, row-left, row-low, row-high, row-best}
-use Rattle.deals.proofs.Splits.{part-le, part-none, part-whole, telescope, telescope-all}
+use Rattle.splits.proofs.Splits.{part-le, part-none, part-whole, telescope, telescope-all}
 
 up-on : (k j : ℕ) (t : Bool) (g : ℕ → ℕ) → up k j (λ i. on t (g i)) ≡ on t (up k j g)
 unfolding up

@@ -12,7 +12,7 @@ use Rattle.figures.proofs.Sums.{on-no, on-cong, sum-cong, sum-zero, sum-none, s
 use Rattle.rooms.proofs.Trees.{kids, own, kids-cong, down, rise}
 use Rattle.figures.specs.Figures.{at}
 use Rattle.deals.specs.Metrics.{Deal, atLevel}
-use Rattle.deals.specs.Split.{part}
+use Rattle.splits.specs.Split.{part}
 use Rattle.deals.specs.Dealing.{granted}
 use Rattle.deals.proofs.Rows.{IsRow, rows-same}
 use Rattle.deals.proofs.Equations.{Dealable, Measured, Dealt, asked, weights}

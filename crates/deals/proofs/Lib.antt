@@ -2,9 +2,8 @@
 
 -- The rooms worked by hand: the definitions alone.
 pub mod WorkedRooms
--- One node's row of Requests, and the split.
+-- One node's row of Requests.
 pub mod Rows
-pub mod Splits
 -- One deal: what follows from its equations, and that the computed figures meet them.
 pub mod Equations
 pub mod Computed

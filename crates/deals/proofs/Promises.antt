@@ -22,11 +22,10 @@ use Rattle.deals.specs.Dealing.{grantsBy}
 use Rattle.deals.specs.SecondDeal.{firstGrants, firstUsable, secondWants, secondGrants, caps}
 use Rattle.deals.specs.Ways.{cordBeneath, sumBeneath, fromRank}
 use Rattle.deals.specs.Promises.{AcceptedPlan, Answered, AnswerOfBothDeals, Kept, FirstKept, SecondKept, Greatest, FirstGreatest, SecondGreatest, SettledFromRank, RefusalNine}
-use Rattle.deals.specs.Properties.{CapsInRange, UsedGranted, SecondWantsInRange, SplitWhole, SplitWithin, FirstGivesAll, SecondGivesAll, FiguresFit}
+use Rattle.deals.specs.Properties.{CapsInRange, UsedGranted, SecondWantsInRange, FirstGivesAll, SecondGivesAll, FiguresFit}
 use Rattle.deals.proofs.Equations.{WholeWay, fromLevel}
 use Rattle.deals.proofs.Computed.{deal-gives-all}
 use Rattle.deals.proofs.OneTree.{tree-granted-most}
-use Rattle.deals.proofs.Splits.{split-sum, split-le}
 use Rattle.deals.proofs.RoomDeals.{levelsOf-at, roomDeal, grantsBy-is}
 use Rattle.deals.proofs.BothDeals.{parents-below, server-facts, cord-facts, room-dealable, grants-way, first-dealable, second-dealable, firstWants-lows, secondWants-lows, firstUsed-granted, capsUsed-granted, secondWants-wants, caps-least, caps-need}
 use Rattle.deals.proofs.LowerRanks.{firstGrants-same, firstUsable-same, secondGrants-same, caps-same}
@@ -182,12 +181,6 @@ used-granted p c l =
 pub second-wants-in-range : SecondWantsInRange
 second-wants-in-range p c l =
     (secondWants-lows (p .room) (accepted-room p) (p .demands) c l, secondWants-wants (p .room) (accepted-room p) (p .demands) c l)
-
-pub split-whole : SplitWhole
-split-whole = split-sum
-
-pub split-within : SplitWithin
-split-within = split-le
 
 pub first-gives-all : FirstGivesAll
 first-gives-all p = deal-gives-all _ (first-dealable (p .room) (accepted-room p) (p .demands))

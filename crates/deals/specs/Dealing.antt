@@ -6,7 +6,7 @@ use Rattle.figures.specs.Sums.{on, sum}
 use Rattle.rooms.specs.Table.{Room}
 use Rattle.figures.specs.Figures.{figuresFrom, figures}
 use Rattle.deals.specs.Metrics.{Deal, Metrics, dealOf, metrics, excess, cordExcess, overNodes, overCords, atLevel}
-use Rattle.deals.specs.Split.{part}
+use Rattle.splits.specs.Split.{part}
 
 -- By the number of a node: `none` for number 0, else the figure at its place.
 abbrev pub byNumber : ℕ → ℕ → (ℕ → ℕ) → ℕ

@@ -22,6 +22,7 @@ use Rattle.deals.specs.Metrics.{Deal, dealOf, atLevel, metrics, pcapmins
 use Rattle.deals.specs.Dealing.{weightSum, amount}
 use Rattle.deals.specs.SecondDeal.{stranded, firstGrants, firstUsed, freed, secondWants}
 use Rattle.deals.specs.Properties.{mostSum, DealBounded, Bounded}
+use Rattle.deals.proofs.Children.{weightSum-is}
 use Rattle.deals.proofs.Equations.{Dealable, asked, weights, pcapmin-request, requests-fit, requests-left, asked-wants, amount-within, weights-asked}
 use Rattle.deals.proofs.Computed.{childSums-at, requestsFrom-length, pcapmins-levels, requests-levels, pcapmin, request, amountOf, measured, dealt}
 use Rattle.figures.proofs.Lists.{total-drop, total-sum, sum-most, sum-one-le, sumOf-take, sumOf-most}
@@ -58,9 +59,10 @@ module _ (d : Deal) (ok : Dealable d) (few : d .cords ≤ mostCords) (limits : (
       (asked-most n j l h)
 
   weights-most : (n j : ℕ) → n < d .nodes → j < d .levels → weightSum d (metrics d) n j ≤ mostSum
-  unfolding weightSum weights kids own pcapmin request
+  unfolding weights kids own pcapmin request
   weights-most n j l h =
-      le-trans (weights-asked d ok (pcapmin d) (request d) (measured d ok) (amountOf d) _ (dealt d ok) n j l h) (asked-most n j l h)
+      le-trans (le-of-eq (weightSum-is d (metrics d) n j))
+      (le-trans (weights-asked d ok (pcapmin d) (request d) (measured d ok) (amountOf d) _ (dealt d ok) n j l h) (asked-most n j l h))
 
   amount-most : (n j : ℕ) → n < d .nodes → j < d .levels → amount d (metrics d) (n + 1) n j ≤ excess (metrics d) n j
   unfolding amountOf pcapmin request

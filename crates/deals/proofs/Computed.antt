@@ -13,11 +13,11 @@ use Rattle.figures.proofs.Sums.{on-no, sum-cong, sum-zero, sum-up, up}
 use Rattle.rooms.proofs.Trees.{kids, own, below, below-cong}
 use Rattle.figures.specs.Figures.{at, cell, sumOf}
 use Rattle.deals.specs.Metrics.{Deal, atLevel, overRows, childSums, pcapminsFrom, requestsAbove, requestsFrom, metrics, overCords}
-use Rattle.splits.specs.Split.{part}
-use Rattle.deals.specs.Dealing.{byNumber, nodeWeight, weightSum, beforeNode, beforeCord, amount, reached, granted}
+use Rattle.deals.specs.Dealing.{node, byNumber, given, amount, reached, granted}
 use Rattle.deals.specs.Properties.{GivesAll}
 use Rattle.figures.proofs.Lists.{figures-at, figures-length, total-drop}
 use Rattle.deals.proofs.Rows.{IsRow}
+use Rattle.deals.proofs.Children.{given-node, given-cord}
 use Rattle.deals.proofs.Equations.{Dealable, WholeWay, Measured, Dealt, fromLevel, asked, weights, grant, amount-within, gives-all, reached-excess, ours, most-above}
 
 -- ---- The rows of the nodes, from the last to the first
@@ -160,7 +160,7 @@ module _ (d : Deal) (ok : Dealable d) where
 
   -- What the node at place m has of its parent's amount z.
   nodePart : ℕ → ℕ → ℕ → ℕ → ℕ
-  nodePart m n j z = part z (weightSum d (metrics d) n j) (beforeNode d (metrics d) n m j) (nodeWeight d (metrics d) m j)
+  nodePart m n j z = given d (metrics d) n j z (node m)
 
   -- Steps beyond the node's place change nothing.
   amount-steps : (j k l m : ℕ) → m < d .nodes → m < k → m < l → amount d (metrics d) k m j ≡ amount d (metrics d) l m j
@@ -179,13 +179,14 @@ module _ (d : Deal) (ok : Dealable d) where
           ∙ sym (byNumber-suc (d .parent m) _ _ n e)
 
   pub dealt : Dealt d (pcapmin d) (request d) (amountOf d) (reached d (metrics d))
-  unfolding amountOf amount reached nodePart weightSum weights beforeNode beforeCord kids own pcapmin request
+  unfolding amountOf amount reached nodePart weights kids own pcapmin request
   dealt = record {
     root = λ m j l e. byNumber-zero (d .parent m) _ _ e;
     inner = λ m n j l e.
         let u : n < m = subst (λ (z : ℕ). z ≤ m) e (ok .rises m l) in
-        byNumber-suc (d .parent m) _ _ n e ∙ ap (nodePart m n j) (amount-steps j m (suc n) n (omega arith) u (le-refl (suc n)));
-    leaf = λ c n l e. byNumber-suc (d .node c) _ _ n e;
+        byNumber-suc (d .parent m) _ _ n e ∙ ap (nodePart m n j) (amount-steps j m (suc n) n (omega arith) u (le-refl (suc n)))
+        ∙ given-node d (metrics d) n j (amountOf d n j) m l e;
+    leaf = λ c n l e. byNumber-suc (d .node c) _ _ n e ∙ given-cord d (metrics d) n (d .level c) (amountOf d n (d .level c)) c l e refl;
   }
 
   pub granted-at : (c : ℕ) → c < d .cords → at (granted d) c ≡ d .low c + reached d (metrics d) c

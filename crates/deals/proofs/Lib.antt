@@ -2,8 +2,9 @@
 
 -- The rooms worked by hand: the definitions alone.
 pub mod WorkedRooms
--- One node's row of Requests.
+-- One node's row of Requests, and its children.
 pub mod Rows
+pub mod Children
 -- One deal: what follows from its equations, and that the computed figures meet them.
 pub mod Equations
 pub mod Computed

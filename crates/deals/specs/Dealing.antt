@@ -1,56 +1,86 @@
--- Dealing: what reaches each node and each cord, and the grants.
-use mathlib.Core.List.{List}
+-- Dealing: the children of a node, what each gets of the node's amount, and the grants.
+use mathlib.Core.Bool.{Bool, false, cond}
+use mathlib.Core.List.{List, [], _∷_, _++_, map}
 use Prim.Native.Nat.{ℕ, zero, suc, _+_}
 use lib.Dec.{eqb}
-use Rattle.figures.specs.Sums.{on, sum}
+use Rattle.figures.specs.Figures.{total, figuresFrom, figures, sumOf}
+use Rattle.splits.specs.Split.{split}
 use Rattle.rooms.specs.Table.{Room}
-use Rattle.figures.specs.Figures.{figuresFrom, figures}
-use Rattle.deals.specs.Metrics.{Deal, Metrics, dealOf, metrics, excess, cordExcess, overNodes, overCords, atLevel}
-use Rattle.splits.specs.Split.{part}
+use Rattle.deals.specs.Metrics.{Deal, Metrics, dealOf, metrics, excess, cordExcess, atLevel}
+
+-- ---- The children of a node
+
+-- A child of a node: a child node, or one of its own cords, by place.
+pub data Child : Type 0 where
+  node : ℕ → Child
+  cord : ℕ → Child
+
+-- Whether two are the same child.
+abbrev pub same : Child → Child → Bool
+same (node m) (node h) = eqb m h
+same (cord c) (cord h) = eqb c h
+same (node m) (cord h) = false
+same (cord c) (node h) = false
+
+-- Of the k places from j on, those of which a test holds, in order.
+unfoldable pub placesFrom : ℕ → ℕ → (ℕ → Bool) → List ℕ
+placesFrom zero j test = []
+placesFrom (suc k) j test =
+    let rest = placesFrom k (suc j) test in
+    cond (test j) (j ∷ rest) rest
+
+-- The children of the node at place n: its child nodes in number order, then its own cords in table order.
+unfoldable pub children : Deal → ℕ → List Child
+unfolding placesFrom
+children d n =
+    map node (placesFrom (d .nodes) 0 (λ m. eqb (d .parent m) (suc n)))
+    ++ map cord (placesFrom (d .cords) 0 (λ c. eqb (d .node c) (suc n)))
+
+-- A child's weight at level j is its excess there; a cord has none but at its own level.
+abbrev pub weight : Deal → Metrics → ℕ → Child → ℕ
+weight d f j (node m) = excess f m j
+weight d f j (cord c) = atLevel d j (cordExcess d) c
+
+-- The weights of the children of the node at place n, and their sum.
+unfoldable pub weightsOf : Deal → Metrics → ℕ → ℕ → List ℕ
+unfolding children
+weightsOf d f n j = map (weight d f j) (children d n)
+
+unfoldable pub weightSum : Deal → Metrics → ℕ → ℕ → ℕ
+unfolding weightsOf total
+weightSum d f n j = sumOf (weightsOf d f n j)
+
+-- ---- What reaches a child
+
+-- The figure that stands beside a child, of figures that stand beside a list of children.
+unfoldable pub beside : Child → List Child → List ℕ → ℕ
+beside child [] figures = 0
+beside child (other ∷ others) [] = 0
+beside child (other ∷ others) (figure ∷ figures) = cond (same child other) figure (beside child others figures)
+
+-- What a child gets of the amount of its node, which is at place n: its part of the split among all the children.
+unfoldable pub given : Deal → Metrics → ℕ → ℕ → ℕ → Child → ℕ
+unfolding beside children split weightsOf
+given d f n j amount child = beside child (children d n) (split amount (weightsOf d f n j))
 
 -- By the number of a node: `none` for number 0, else the figure at its place.
 abbrev pub byNumber : ℕ → ℕ → (ℕ → ℕ) → ℕ
 byNumber zero none figure = none
 byNumber (suc n) none figure = figure n
 
--- A child's weight in the split at its node is its excess: that of a child node, and that of a cord.
-abbrev pub nodeWeight : Deal → Metrics → ℕ → ℕ → ℕ
-nodeWeight d f m j = excess f m j
-
-abbrev pub cordWeight : Deal → ℕ → ℕ
-cordWeight d c = cordExcess d c
-
--- The weights of the children of the node at place n, summed.
-unfoldable pub weightSum : Deal → Metrics → ℕ → ℕ → ℕ
-unfolding sum
-weightSum d f n j = overNodes d n (λ m. nodeWeight d f m j) + overCords d n j (cordWeight d)
-
--- The weights of the children before the node at place m: of the child nodes of lower number.
-unfoldable pub beforeNode : Deal → Metrics → ℕ → ℕ → ℕ → ℕ
-unfolding sum
-beforeNode d f n m j = sum m (λ h. on (eqb (d .parent h) (suc n)) (nodeWeight d f h j))
-
--- The weights of the children before the cord at place c: of all child nodes, and of the cords before it in the table.
-unfoldable pub beforeCord : Deal → Metrics → ℕ → ℕ → ℕ → ℕ
-unfolding sum
-beforeCord d f n c j =
-    overNodes d n (λ m. nodeWeight d f m j) + sum c (λ h. on (eqb (d .node h) (suc n)) (atLevel d j (cordWeight d) h))
-
--- The amount at level j of the node at place m: a root's is its excess, any other's its part of its parent's amount.
+-- The amount at level j of the node at place m: a root's is its excess, any other's what its parent gives it.
 -- (`steps` bounds the way to the root; a parent's number is below its child's, so that m + 1 is enough.)
 unfoldable pub amount : Deal → Metrics → ℕ → ℕ → ℕ → ℕ
-unfolding part weightSum beforeNode
+unfolding given
 amount d f zero m j = 0
-amount d f (suc steps) m j =
-    byNumber (d .parent m) (excess f m j) (λ n.
-    part (amount d f steps n j) (weightSum d f n j) (beforeNode d f n m j) (nodeWeight d f m j))
+amount d f (suc steps) m j = byNumber (d .parent m) (excess f m j) (λ n. given d f n j (amount d f steps n j) (node m))
 
--- The amount that reaches the cord at place c, of its node's amount at its rank.
+-- The amount that reaches the cord at place c: what its node gives it at its rank.
 unfoldable pub reached : Deal → Metrics → ℕ → ℕ
-unfolding part weightSum beforeCord amount
+unfolding given amount
 reached d f c =
-    byNumber (d .node c) 0 (λ n.
-    part (amount d f (suc n) n (d .level c)) (weightSum d f n (d .level c)) (beforeCord d f n c (d .level c)) (cordWeight d c))
+    let j = d .level c in
+    byNumber (d .node c) 0 (λ n. given d f n j (amount d f (suc n) n j) (cord c))
 
 -- The grants of a deal: each cord's low plus the amount that reached it.
 unfoldable pub granted : Deal → List ℕ

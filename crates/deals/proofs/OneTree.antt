@@ -15,7 +15,7 @@ use Rattle.figures.specs.Figures.{at}
 use Rattle.deals.specs.Metrics.{Deal}
 use Rattle.deals.specs.Dealing.{granted}
 use Rattle.deals.proofs.Equations.{Dealable, WholeWay, fromLevel}
-use Rattle.deals.proofs.Computed.{granted-most}
+use Rattle.deals.proofs.Computed.{Startable, granted-most}
 
 module _ (nn : ℕ) (par : ℕ → ℕ) (rises : (m : ℕ) → m < nn → par m ≤ m) where
   meets-steps : (k l n v : ℕ) → v ≤ nn → v ≤ k → v ≤ l → meets par k n v ≡ meets par l n v
@@ -59,7 +59,7 @@ abbrev counted : ℕ → ℕ → ℕ → ℕ
 counted zero a b = b
 counted (suc i) a b = a
 
-module _ (d : Deal) (ok : Dealable d) where
+module _ (d : Deal) (ok : Dealable d) (st : Startable d) where
   open Deal d using (nodes, parent, limit, cords, node, level, low, want, levels)
 
   -- A way of dealing the tree of the node at place n: of its cords and its nodes alone.
@@ -134,5 +134,5 @@ module _ (d : Deal) (ok : Dealable d) where
         → under nodes parent cords node n (fromLevel d j f) ≤ under nodes parent cords node n (fromLevel d j (at (granted d)))
     tree-granted-most l j h =
         le-trans (le-of-eq (under-is nodes parent (ok .rises) cords node (ok .here) n (fromLevel d j f) ∙ sym (wide-is j)))
-        (le-trans (granted-most d ok wide wide-way n l root j h)
+        (le-trans (granted-most d ok st wide wide-way n l root j h)
         (le-of-eq (sym (under-is nodes parent (ok .rises) cords node (ok .here) n (fromLevel d j (at (granted d)))))))

@@ -27,7 +27,7 @@ use Rattle.deals.proofs.Equations.{WholeWay, fromLevel}
 use Rattle.deals.proofs.Computed.{deal-gives-all}
 use Rattle.deals.proofs.OneTree.{tree-granted-most}
 use Rattle.deals.proofs.RoomDeals.{levelsOf-at, roomDeal, grantsBy-is}
-use Rattle.deals.proofs.BothDeals.{parents-below, server-facts, cord-facts, room-dealable, grants-way, first-dealable, second-dealable, firstWants-lows, secondWants-lows, firstUsed-granted, capsUsed-granted, secondWants-wants, caps-least, caps-need}
+use Rattle.deals.proofs.BothDeals.{parents-below, server-facts, cord-facts, room-dealable, room-startable, grants-way, first-dealable, first-startable, second-dealable, second-startable, firstWants-lows, secondWants-lows, firstUsed-granted, capsUsed-granted, secondWants-wants, caps-least, caps-need}
 use Rattle.deals.proofs.LowerRanks.{firstGrants-same, firstUsable-same, secondGrants-same, caps-same}
 use Rattle.deals.proofs.Bounds.{bounded}
 use Rattle.deals.proofs.Plans.{plan-nine, plan-good-table, plan-answer, secondGrants-length, caps-length}
@@ -77,7 +77,7 @@ module _ (r : Room) (ok : Accepted r) (wants : List ℕ) (lows : (c : ℕ) → c
   greatest root top rank watts way =
       le-trans (le-of-eq (fromRank-level root rank watts))
       (le-trans
-      (tree-granted-most (roomDeal r wants) (room-dealable r ok wants lows) root (top .top) (at watts)
+      (tree-granted-most (roomDeal r wants) (room-dealable r ok wants lows) (room-startable r ok wants lows) root (top .top) (at watts)
       (record { least = way .least; most = way .most; within = way .within })
       (top .node) (min (rank - 1) highestRank) (omega arith))
       (le-of-eq
@@ -183,10 +183,10 @@ second-wants-in-range p c l =
     (secondWants-lows (p .room) (accepted-room p) (p .demands) c l, secondWants-wants (p .room) (accepted-room p) (p .demands) c l)
 
 pub first-gives-all : FirstGivesAll
-first-gives-all p = deal-gives-all _ (first-dealable (p .room) (accepted-room p) (p .demands))
+first-gives-all p = deal-gives-all _ (first-dealable (p .room) (accepted-room p) (p .demands)) (first-startable (p .room) (accepted-room p) (p .demands))
 
 pub second-gives-all : SecondGivesAll
-second-gives-all p = deal-gives-all _ (second-dealable (p .room) (accepted-room p) (p .demands))
+second-gives-all p = deal-gives-all _ (second-dealable (p .room) (accepted-room p) (p .demands)) (second-startable (p .room) (accepted-room p) (p .demands))
 
 pub figures-fit : FiguresFit
 figures-fit table r end e demands = bounded r (accepted table r end e) demands

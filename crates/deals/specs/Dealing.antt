@@ -1,12 +1,12 @@
 -- Dealing: the children of a node, what each gets of the node's amount, and the grants.
 use mathlib.Core.Bool.{Bool, false, cond}
 use mathlib.Core.List.{List, [], _∷_, _++_, map}
-use Prim.Native.Nat.{ℕ, zero, suc, _+_}
+use Prim.Native.Nat.{ℕ, zero, suc, _+_, _-_}
 use lib.Dec.{eqb}
-use Rattle.figures.specs.Figures.{total, figuresFrom, figures, sumOf}
+use Rattle.figures.specs.Figures.{total, figuresFrom, figures, cell, sumOf}
 use Rattle.splits.specs.Split.{split}
 use Rattle.rooms.specs.Table.{Room}
-use Rattle.deals.specs.Metrics.{Deal, Metrics, dealOf, metrics, excess, cordExcess, atLevel}
+use Rattle.deals.specs.Metrics.{Deal, Metrics, dealOf, metrics, atLevel}
 
 -- ---- The children of a node
 
@@ -36,10 +36,18 @@ children d n =
     map node (placesFrom (d .nodes) 0 (λ m. eqb (d .parent m) (suc n)))
     ++ map cord (placesFrom (d .cords) 0 (λ c. eqb (d .node c) (suc n)))
 
--- A child's weight at level j is its excess there; a cord has none but at its own level.
+-- What a node is to have at a level over the starts beneath it: Request − starts. A cord, at its own level: want − start.
+-- (Where each start is the low, these are the excesses.)
+abbrev pub nodeOver : Metrics → ℕ → ℕ → ℕ
+nodeOver f m j = cell (f .requests) m j - cell (f .starts) m j
+
+abbrev pub cordOver : Deal → ℕ → ℕ
+cordOver d c = d .want c - d .start c
+
+-- A child's weight at level j is what it is to have there over the starts; a cord has none but at its own level.
 abbrev pub weight : Deal → Metrics → ℕ → Child → ℕ
-weight d f j (node m) = excess f m j
-weight d f j (cord c) = atLevel d j (cordExcess d) c
+weight d f j (node m) = nodeOver f m j
+weight d f j (cord c) = atLevel d j (cordOver d) c
 
 -- The weights of the children of the node at place n, and their sum.
 unfoldable pub weightsOf : Deal → Metrics → ℕ → ℕ → List ℕ
@@ -68,12 +76,12 @@ abbrev pub byNumber : ℕ → ℕ → (ℕ → ℕ) → ℕ
 byNumber zero none figure = none
 byNumber (suc n) none figure = figure n
 
--- The amount at level j of the node at place m: a root's is its excess, any other's what its parent gives it.
+-- The amount at level j of the node at place m: a root's is all of its weight, any other's what its parent gives it.
 -- (`steps` bounds the way to the root; a parent's number is below its child's, so that m + 1 is enough.)
 unfoldable pub amount : Deal → Metrics → ℕ → ℕ → ℕ → ℕ
 unfolding given
 amount d f zero m j = 0
-amount d f (suc steps) m j = byNumber (d .parent m) (excess f m j) (λ n. given d f n j (amount d f steps n j) (node m))
+amount d f (suc steps) m j = byNumber (d .parent m) (nodeOver f m j) (λ n. given d f n j (amount d f steps n j) (node m))
 
 -- The amount that reaches the cord at place c: what its node gives it at its rank.
 unfoldable pub reached : Deal → Metrics → ℕ → ℕ
@@ -82,12 +90,12 @@ reached d f c =
     let j = d .level c in
     byNumber (d .node c) 0 (λ n. given d f n j (amount d f (suc n) n j) (cord c))
 
--- The grants of a deal: each cord's low plus the amount that reached it.
+-- The grants of a deal: each cord's start plus the amount that reached it.
 unfoldable pub granted : Deal → List ℕ
 unfolding figuresFrom metrics reached
 granted d =
     let f = metrics d in
-    figures (d .cords) (λ c. d .low c + reached d f c)
+    figures (d .cords) (λ c. d .start c + reached d f c)
 
 -- The grants of a room, dealt by given wants.
 unfoldable pub grantsBy : Room → List ℕ → List ℕ

@@ -1,4 +1,5 @@
 // One deal: rank by rank from the highest, the Requests are gathered into their rows and dealt.
+// Private to Plan: no operation stands here.
 ghost use mathlib.Core.Path.{_≡_};
 ghost use Prim.Native.Nat.{ℕ, _<_};
 ghost use lib.ListN.{length};

@@ -10,7 +10,7 @@ use Rattle.deals.specs.Metrics.{Deal, Metrics, dealOf, metrics, atLevel}
 
 -- ---- The children of a node
 
--- A child of a node: a child node, or one of its own cords, by place.
+-- A child of a node: a child node, or a cord that hangs on the node itself, by its place.
 pub data Child : Type 0 where
   node : ℕ → Child
   cord : ℕ → Child
@@ -29,7 +29,8 @@ placesFrom (suc k) j test =
     let rest = placesFrom k (suc j) test in
     cond (test j) (j ∷ rest) rest
 
--- The children of the node at place n: its child nodes in number order, then its own cords in table order.
+-- The children of the node at place n, as a list: first its child nodes, from the lowest number on, then the cords that hang on
+-- the node itself, as they come in the table.
 unfoldable pub children : Deal → ℕ → List Child
 unfolding placesFrom
 children d n =
@@ -66,7 +67,8 @@ beside child [] figures = 0
 beside child (other ∷ others) [] = 0
 beside child (other ∷ others) (figure ∷ figures) = cond (same child other) figure (beside child others figures)
 
--- What a child gets of the amount of its node, which is at place n: its part of the split among all the children.
+-- What a child gets at level j of the amount of its node, which is at place n: the part beside it in the split among all
+-- children by their weights.
 unfoldable pub given : Deal → Metrics → ℕ → ℕ → ℕ → Child → ℕ
 unfolding beside children split weightsOf
 given d f n j amount child = beside child (children d n) (split amount (weightsOf d f n j))

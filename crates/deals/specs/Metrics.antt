@@ -80,7 +80,7 @@ sumsFrom d figure (suc k) n =
     childSums d n rows figure ∷ rows
 
 -- The Requests of a node at k levels from level j on, where the Pcapmin of the lower ranks sum to `lower`. From the
--- highest rank down, each is the lesser of limit − (Requests of higher ranks) − (Pcapmin of lower ranks) and the children's.
+-- highest rank down, each is the children's, cut to what the limit has over the Requests of higher and the Pcapmin of lower ranks.
 unfoldable pub requestsAbove : ℕ → ℕ → ℕ → ℕ → (ℕ → ℕ) → (ℕ → ℕ) → List ℕ
 unfolding total
 requestsAbove zero j limit lower pcapmin children = []

@@ -7,7 +7,7 @@ use Rattle.figures.specs.Figures.{figuresFrom, figures, at}
 use Rattle.rooms.specs.Cords.{serverAt}
 use Rattle.rooms.specs.Lists.{carriedBy}
 
--- A server's need is its demand, raised to least and cut to greatest.
+-- The need of a server: its demand, brought into the range from least to greatest.
 abbrev pub need : Server → ℕ → ℕ
 need s demand = min (max demand (s .least)) (s .greatest)
 

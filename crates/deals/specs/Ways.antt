@@ -33,9 +33,9 @@ sumBeneath r n figure = sum (roomCords r) (λ c. on (cordBeneath r n c) (figure 
 abbrev pub fromRank : Room → ℕ → List ℕ → ℕ → ℕ
 fromRank r rank watts c = on (leb rank (rankOf r c)) (at watts c)
 
--- A way of dealing the tree of a root, by given wants: whole watts for the cords, by their places in the table, where each of
--- the tree's cords has at least its low and at most its want, and at every node of the tree the watts of all cords beneath it
--- sum to no more than its limit. Nothing is asked of the watts of other cords.
+-- A way of dealing the tree of a root, by given wants: whole watts for the cords, by their places in the table. Those of the
+-- tree's cords lie from low to want, and those beneath each node of the tree sum to no more than its limit. Nothing is asked of
+-- the watts of other cords.
 pub record Way (r : Room) (root : ℕ) (wants watts : List ℕ) : Type 0 where
   pub least : (c : ℕ) → c < roomCords r → cordBeneath r root c ≡ true → at (lowsOf r) c ≤ at watts c
   pub most : (c : ℕ) → c < roomCords r → cordBeneath r root c ≡ true → at watts c ≤ at wants c

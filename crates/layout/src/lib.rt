@@ -1,4 +1,5 @@
 // A room's lists, laid out from its table: a figure a node, a figure a cord in table order, and a figure a server.
+// Private to Plan: no operation stands here.
 ghost use mathlib.Core.Path.{_≡_};
 ghost use Prim.Native.Nat.{_≤_, min, max};
 ghost use lib.ListN.{length};
@@ -13,7 +14,7 @@ use figures::short;
 use figures::wide;
 use figures::word_index;
 
-// A server's need: its demand, raised to least and cut to greatest.
+// The need of a server: its demand, brought into the range from least to greatest.
 fn need_of(demand: u32, least: u32, greatest: u32) -> u32
     ensures { λ r. ⌜ r ≡ min (max demand least) greatest ⌝ }
 {

@@ -1,4 +1,5 @@
 // Both deals of a good table with its servers' demands.
+// Private to Plan: no operation stands here.
 ghost use mathlib.Core.Path.{_≡_};
 ghost use Prim.Native.Nat.{ℕ, _≤_};
 ghost use lib.ListN.{length};

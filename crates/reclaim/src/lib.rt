@@ -1,4 +1,5 @@
 // What servers can use of their cords' grants, and the wants of the second deal.
+// Private to Plan: no operation stands here.
 ghost use mathlib.Core.Path.{_≡_};
 ghost use mathlib.Core.Bool.{cond};
 ghost use Prim.Native.Nat.{_^_, _<_};
@@ -12,7 +13,7 @@ use figures::over;
 use figures::wide;
 use layout::carried_by;
 
-// Each server's usable watts: the least of its need and, over its cords with share above 0, of floor(1000 × grant / share).
+// Each server's usable watts: its need, or the least of floor(1000 × grant / share) of its cords with a share, if that is less.
 pub fn usable_of(shares: &[u32], servers: &[u16], needs: &[u32], grants: &[u32], usable: &mut [u32])
     requires { ⌜ ServerLists (now shares) (now servers) (now needs) (length (now grants)) × (length (now usable) ≡ length (now needs)) ⌝ }
     ensures { λ _. ⌜ now (usable .exit) ≡ usableFrom (now (shares .entry)) (now (servers .entry)) (now (needs .entry)) (now (grants .entry)) ⌝ }
@@ -28,7 +29,7 @@ pub fn usable_of(shares: &[u32], servers: &[u16], needs: &[u32], grants: &[u32],
 }
 
 // A cord's want in the next deal: its used watts if it has stranded watts, else its want as before. It is chosen without a
-// branch: the processor would often foretell that wrongly.
+// branch: the processor would often predict that wrongly.
 fn next_want(stranded: u64, used: u32, want: u32) -> u32
     requires { ⌜ stranded < 2 ^ 32 ⌝ }
     ensures { λ r. ⌜ r ≡ cond (ltb 0 stranded) used want ⌝ }

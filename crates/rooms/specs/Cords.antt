@@ -33,7 +33,7 @@ cordAt r c = getD (cordsOf r) c (record { server = 0; node = 0; share = 0 })
 abbrev pub serverAt : Room → ℕ → Server
 serverAt r v = getD (r .servers) v (record { rank = 0; least = 0; greatest = 0; cords = [] })
 
--- The server of a cord; a cord's rank is its server's.
+-- The server of a cord, and the rank that it has from there.
 abbrev pub serverOf : Room → ℕ → Server
 serverOf r c = serverAt r (cordAt r c .server)
 

@@ -13,7 +13,7 @@ use Rattle.figures.proofs.Sums.{on-yes, sum-up, sum-none, up}
 use Rattle.figures.proofs.Lists.{total-append}
 use Rattle.splits.specs.Split.{part, partsAfter, split}
 use Rattle.deals.specs.Metrics.{Deal, Metrics, atLevel, overNodes, overCords}
-use Rattle.deals.specs.Dealing.{Child, node, cord, same, placesFrom, children, nodeOver, cordOver, weight, weightsOf, weightSum, beside, given}
+use Rattle.deals.specs.Dealing.{Child, node, cord, same, placesFrom, children, nodeOver, cordOver, weight, weightsOf, weightSum, beside, partOf}
 
 -- The places from the first on, as the places below.
 up-first : (k : ℕ) (g : ℕ → ℕ) → up k 0 g ≡ sum k g
@@ -101,20 +101,20 @@ module _ (d : Deal) (f : Metrics) (n j : ℕ) where
       ∙ ap₂ _+_ nodes-total (total-places (weight d f j) cord (λ c. eqb (d .node c) (suc n)) (d .cords) 0 ∙ up-first (d .cords) _)
 
   -- A child node gets its part after the child nodes before it.
-  pub given-node : (x m : ℕ) → m < d .nodes → d .parent m ≡ suc n
-      → given d f n j x (node m) ≡ part x allWeights (sum m (λ h. on (eqb (d .parent h) (suc n)) (nodeOver f h j))) (nodeOver f m j)
-  unfolding given split weightSum weightsOf children parted cordsAt
-  given-node x m l e =
+  pub partOf-node : (x m : ℕ) → m < d .nodes → d .parent m ≡ suc n
+      → partOf d f n j x (node m) ≡ part x allWeights (sum m (λ h. on (eqb (d .parent h) (suc n)) (nodeOver f h j))) (nodeOver f m j)
+  unfolding partOf split weightSum weightsOf children parted cordsAt
+  partOf-node x m l e =
       beside-places (weight d f j) node x (weightSum d f n j) cordsAt (λ i h. refl) (λ h. eqb (d .parent h) (suc n))
       (d .nodes) 0 m m 0 (zero-add m) l (eq-eqb (d .parent m) (suc n) e)
       ∙ ap₂ (λ (w z : ℕ). part x w z (nodeOver f m j)) weightSum-is (zero-add _ ∙ up-first m _)
 
   -- A cord of the level gets its part after all child nodes and the cords before it.
-  pub given-cord : (x c : ℕ) → c < d .cords → d .node c ≡ suc n → d .level c ≡ j
-      → given d f n j x (cord c)
+  pub partOf-cord : (x c : ℕ) → c < d .cords → d .node c ≡ suc n → d .level c ≡ j
+      → partOf d f n j x (cord c)
       ≡ part x allWeights (overNodes d n (λ m. nodeOver f m j) + sum c (λ h. on (eqb (d .node h) (suc n)) (atLevel d j (cordOver d) h))) (cordOver d c)
-  unfolding given split weightSum weightsOf children parted nodesAt cordsAt
-  given-cord x c l e same-level =
+  unfolding partOf split weightSum weightsOf children parted nodesAt cordsAt
+  partOf-cord x c l e same-level =
       beside-others (weight d f j) node x (weightSum d f n j) cordsAt (cord c) (λ i. refl) (placesFrom (d .nodes) 0 (λ m. eqb (d .parent m) (suc n))) 0
       ∙ ap₂ (λ (z : ℕ) (l : List Child). beside (cord c) l (partsAfter x (weightSum d f n j) z (map (weight d f j) l))) (zero-add _ ∙ nodes-total) (sym (append-nil cordsAt))
       ∙ beside-places (weight d f j) cord x (weightSum d f n j) [] (λ i h. refl) (λ h. eqb (d .node h) (suc n))

@@ -13,11 +13,11 @@ use Rattle.figures.proofs.Sums.{on-no, sum-cong, sum-zero, sum-up, up}
 use Rattle.rooms.proofs.Trees.{kids, own, below, below-cong}
 use Rattle.figures.specs.Figures.{at, cell, sumOf}
 use Rattle.deals.specs.Metrics.{Deal, atLevel, overRows, childSums, sumsFrom, requestsAbove, requestsFrom, metrics, overCords}
-use Rattle.deals.specs.Dealing.{node, byNumber, given, amount, reached, granted}
+use Rattle.deals.specs.Dealing.{node, byNumber, partOf, amount, reached, granted}
 use Rattle.deals.specs.Properties.{GivesAll}
 use Rattle.figures.proofs.Lists.{figures-at, figures-length, total-drop}
 use Rattle.deals.proofs.Rows.{IsRow}
-use Rattle.deals.proofs.Children.{given-node, given-cord}
+use Rattle.deals.proofs.Children.{partOf-node, partOf-cord}
 use Rattle.deals.proofs.Equations.{Dealable, WholeWay, Measured, Starting, Dealt, fromLevel, asked, weights, grant, pcapmin-request, amount-within, gives-all, reached-excess, ours, most-above}
 
 -- ---- The rows of the nodes, from the last to the first
@@ -168,7 +168,7 @@ module _ (d : Deal) (ok : Dealable d) where
 
   -- What the node at place m has of its parent's amount z.
   nodePart : ℕ → ℕ → ℕ → ℕ → ℕ
-  nodePart m n j z = given d (metrics d) n j z (node m)
+  nodePart m n j z = partOf d (metrics d) n j z (node m)
 
   -- Steps beyond the node's place change nothing.
   amount-steps : (j k l m : ℕ) → m < d .nodes → m < k → m < l → amount d (metrics d) k m j ≡ amount d (metrics d) l m j
@@ -194,8 +194,8 @@ module _ (d : Deal) (ok : Dealable d) where
     inner = λ m n j l e.
         let u : n < m = subst (λ (z : ℕ). z ≤ m) e (ok .rises m l) in
         byNumber-suc (d .parent m) _ _ n e ∙ ap (nodePart m n j) (amount-steps j m (suc n) n (omega arith) u (le-refl (suc n)))
-        ∙ given-node d (metrics d) n j (amountOf d n j) m l e;
-    leaf = λ c n l e. byNumber-suc (d .node c) _ _ n e ∙ given-cord d (metrics d) n (d .level c) (amountOf d n (d .level c)) c l e refl;
+        ∙ partOf-node d (metrics d) n j (amountOf d n j) m l e;
+    leaf = λ c n l e. byNumber-suc (d .node c) _ _ n e ∙ partOf-cord d (metrics d) n (d .level c) (amountOf d n (d .level c)) c l e refl;
   }
 
   pub granted-at : (c : ℕ) → c < d .cords → at (granted d) c ≡ d .start c + reached d (metrics d) c

@@ -69,9 +69,9 @@ beside child (other ∷ others) (figure ∷ figures) = cond (same child other) f
 
 -- What a child gets at level j of the amount of its node, which is at place n: the part beside it in the split among all
 -- children by their weights.
-unfoldable pub given : Deal → Metrics → ℕ → ℕ → ℕ → Child → ℕ
+unfoldable pub partOf : Deal → Metrics → ℕ → ℕ → ℕ → Child → ℕ
 unfolding beside children split weightsOf
-given d f n j amount child = beside child (children d n) (split amount (weightsOf d f n j))
+partOf d f n j amount child = beside child (children d n) (split amount (weightsOf d f n j))
 
 -- By the number of a node: `none` for number 0, else the figure at its place.
 abbrev pub byNumber : ℕ → ℕ → (ℕ → ℕ) → ℕ
@@ -81,16 +81,16 @@ byNumber (suc n) none figure = figure n
 -- The amount at level j of the node at place m: a root's is all of its weight, any other's what its parent gives it.
 -- (`steps` bounds the way to the root; a parent's number is below its child's, so that m + 1 is enough.)
 unfoldable pub amount : Deal → Metrics → ℕ → ℕ → ℕ → ℕ
-unfolding given
+unfolding partOf
 amount d f zero m j = 0
-amount d f (suc steps) m j = byNumber (d .parent m) (nodeOver f m j) (λ n. given d f n j (amount d f steps n j) (node m))
+amount d f (suc steps) m j = byNumber (d .parent m) (nodeOver f m j) (λ n. partOf d f n j (amount d f steps n j) (node m))
 
 -- The amount that reaches the cord at place c: what its node gives it at its rank.
 unfoldable pub reached : Deal → Metrics → ℕ → ℕ
-unfolding given amount
+unfolding partOf amount
 reached d f c =
     let j = d .level c in
-    byNumber (d .node c) 0 (λ n. given d f n j (amount d f (suc n) n j) (cord c))
+    byNumber (d .node c) 0 (λ n. partOf d f n j (amount d f (suc n) n j) (cord c))
 
 -- The grants of a deal: each cord's start plus the amount that reached it.
 unfoldable pub granted : Deal → List ℕ

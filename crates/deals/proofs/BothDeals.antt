@@ -25,7 +25,7 @@ use Rattle.deals.specs.SecondDeal.{leastOver, loaded, loadOf, usable, st
 use Rattle.deals.specs.Dealing.{grantsBy}
 use Rattle.deals.proofs.Requests.{Dealable, WholeWay}
 use Rattle.figures.proofs.Lists.{figures-at, figures-length}
-use Rattle.deals.proofs.Computed.{granted-way}
+use Rattle.deals.proofs.Computed.{Startable, lows-startable, granted-way}
 use Rattle.rooms.proofs.Cords.{cordsOf-all, lows-sum}
 use Rattle.deals.proofs.RoomDeals.{levelsOf-at, roomDeal, dealOf-is, grantsBy-is}
 use Rattle.deals.proofs.Loads.{carried-mono, carried-le, load-within, load-reached, both, leastOver-ge, leastOver-start, leastOver-le}
@@ -188,14 +188,21 @@ module _ (r : Room) (ok : Accepted r) where
     lows = lows-fit;
   }
 
+  -- Each cord starts from its low.
+  pub room-startable : (wants : List ℕ) → ((c : ℕ) → c < roomCords r → at (lowsOf r) c ≤ at wants c) → Startable (roomDeal r wants)
+  room-startable wants h = lows-startable (roomDeal r wants) (room-dealable wants h) refl
+
   pub dealable : (wants : List ℕ) → ((c : ℕ) → c < roomCords r → at (lowsOf r) c ≤ at wants c) → Dealable (dealOf r wants)
   dealable wants h = subst Dealable (sym (dealOf-is r wants)) (room-dealable wants h)
+
+  startable : (wants : List ℕ) → ((c : ℕ) → c < roomCords r → at (lowsOf r) c ≤ at wants c) → Startable (dealOf r wants)
+  startable wants h = subst Startable (sym (dealOf-is r wants)) (room-startable wants h)
 
   -- The grants are a way of dealing the room.
   pub grants-way : (wants : List ℕ) → ((c : ℕ) → c < roomCords r → at (lowsOf r) c ≤ at wants c)
       → WholeWay (roomDeal r wants) (at (grantsBy r wants))
   grants-way wants h =
-      subst (λ (g : List ℕ). WholeWay (roomDeal r wants) (at g)) (sym (grantsBy-is r wants)) (granted-way (roomDeal r wants) (room-dealable wants h))
+      subst (λ (g : List ℕ). WholeWay (roomDeal r wants) (at g)) (sym (grantsBy-is r wants)) (granted-way (roomDeal r wants) (room-dealable wants h) (room-startable wants h))
 
   -- ---- The two deals
 
@@ -206,6 +213,9 @@ module _ (r : Room) (ok : Accepted r) where
 
     pub first-dealable : Dealable (dealOf r (firstWants r demands))
     first-dealable = dealable (firstWants r demands) firstWants-lows
+
+    pub first-startable : Startable (dealOf r (firstWants r demands))
+    first-startable = startable (firstWants r demands) firstWants-lows
 
     first-way : WholeWay (roomDeal r (firstWants r demands)) (at (firstGrants r demands))
     unfolding firstGrants
@@ -243,6 +253,9 @@ module _ (r : Room) (ok : Accepted r) where
 
     pub second-dealable : Dealable (dealOf r (secondWants r demands))
     second-dealable = dealable (secondWants r demands) secondWants-lows
+
+    pub second-startable : Startable (dealOf r (secondWants r demands))
+    second-startable = startable (secondWants r demands) secondWants-lows
 
     second-way : WholeWay (roomDeal r (secondWants r demands)) (at (secondGrants r demands))
     unfolding secondGrants

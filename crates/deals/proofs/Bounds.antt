@@ -18,17 +18,18 @@ use Rattle.figures.specs.Figures.{at, cell, sumOf}
 use Rattle.rooms.specs.Cords.{cordAt}
 use Rattle.deals.specs.Wants.{needs, firstWants}
 use Rattle.rooms.specs.Lists.{lowsOf}
-use Rattle.deals.specs.Metrics.{Deal, dealOf, atLevel, metrics, pcapminsFrom, childSums, excess}
+use Rattle.deals.specs.Metrics.{Deal, dealOf, atLevel, metrics, sumsFrom, childSums, excess}
 use Rattle.deals.specs.Dealing.{weightSum, amount}
 use Rattle.deals.specs.SecondDeal.{stranded, firstGrants, firstUsed, freed, secondWants}
 use Rattle.deals.specs.Properties.{requestTotal, pcapminBelow, mostSum, DealBounded, Bounded}
+use Rattle.deals.proofs.Children.{weightSum-is}
 use Rattle.deals.proofs.Requests.{Dealable, sumBelow, asked, pcapmin-request, requests-fit, requests-left, asked-wants}
 use Rattle.deals.proofs.Equations.{weights, amount-within, weights-asked}
-use Rattle.deals.proofs.Computed.{childSums-at, requestsFrom-length, requests-levels, pcapmin, request, amountOf, measured, dealt}
+use Rattle.deals.proofs.Computed.{childSums-at, requestsFrom-length, requests-levels, pcapmin, request, startsOf, amountOf, measured, dealt, Startable}
 use Rattle.deals.proofs.Totals.{requestTotal-is, pcapminBelow-is}
 use Rattle.figures.proofs.Lists.{total-sum, sum-most, sum-one-le, sumOf-most}
 use Rattle.deals.proofs.Loads.{carried-most}
-use Rattle.deals.proofs.BothDeals.{server-facts, cord-facts, carriedBy-at, stranded-at, stranded-count, need-le, first-most, firstWants-lows, secondWants-lows, secondWants-wants, room-dealable}
+use Rattle.deals.proofs.BothDeals.{server-facts, cord-facts, carriedBy-at, stranded-at, stranded-count, need-le, first-most, firstWants-lows, secondWants-lows, secondWants-wants, room-dealable, room-startable}
 use Rattle.deals.proofs.RoomDeals.{roomDeal, dealOf-is}
 
 on-most : (t : Bool) (a most : ℕ) → a ≤ most → on t a ≤ most
@@ -55,19 +56,8 @@ module _ (d : Deal) (ok : Dealable d) (few : d .cords ≤ mostCords) (limits : (
       le-trans
       (le-of-eq
       (ap (λ (z : ℕ). at (childSums d n (drop z (metrics d .requests)) (d .want)) j) (add-one n)
-      ∙ childSums-at d (ok .rises) n j (metrics d .requests) (d .want) l (requestsFrom-length d (pcapminsFrom d (d .nodes) 0) (d .nodes) 0) h))
+      ∙ childSums-at d (ok .rises) n j (metrics d .requests) (d .want) l (requestsFrom-length d (sumsFrom d (d .low) (d .nodes) 0) (d .nodes) 0) h))
       (asked-most n j l h)
-
-  weights-most : (n j : ℕ) → n < d .nodes → j < d .levels → weightSum d (metrics d) n j ≤ mostSum
-  unfolding weightSum weights kids own pcapmin request
-  weights-most n j l h =
-      le-trans (weights-asked d ok (pcapmin d) (request d) (measured d ok) (amountOf d) _ (dealt d ok) n j l h) (asked-most n j l h)
-
-  amount-most : (n j : ℕ) → n < d .nodes → j < d .levels → amount d (metrics d) (n + 1) n j ≤ excess (metrics d) n j
-  unfolding amountOf pcapmin request
-  amount-most n j l h =
-      le-trans (le-of-eq (ap (λ (z : ℕ). amount d (metrics d) z n j) (add-one n)))
-      (amount-within d ok (pcapmin d) (request d) (measured d ok) (amountOf d) _ (dealt d ok) n l j h)
 
   requests-most : (n : ℕ) → n < d .nodes → sumOf (getD (metrics d .requests) n []) ≤ d .limit n
   unfolding request
@@ -93,25 +83,38 @@ module _ (d : Deal) (ok : Dealable d) (few : d .cords ≤ mostCords) (limits : (
         requests-left d ok (pcapmin d) (request d) (measured d ok) n l k j (omega arith),
       )
 
-  product-most : (n j : ℕ) → n < d .nodes → j < d .levels → amount d (metrics d) (n + 1) n j * weightSum d (metrics d) n j < 2 ^ 58
-  product-most n j l h =
-      let a : amount d (metrics d) (n + 1) n j ≤ mostWatts = omega (arith, amount-most n j l h, request-most n j l h) in
-      omega (arith, mul-le-mul a (weights-most n j l h))
+  module _ (st : Startable d) where
+    weights-most : (n j : ℕ) → n < d .nodes → j < d .levels → weightSum d (metrics d) n j ≤ mostSum
+    unfolding weights kids own startsOf request
+    weights-most n j l h =
+        le-trans (le-of-eq (weightSum-is d (metrics d) n j))
+        (le-trans (weights-asked d ok (pcapmin d) (request d) (measured d ok) (startsOf d) (amountOf d) _ st (dealt d ok) n j l h) (asked-most n j l h))
 
-  pub deal-bounded : DealBounded d
-  unfolding pcapmin request
-  deal-bounded = record {
-    limits = limits;
-    wants = wants;
-    lows = ok .wants;
-    left = left-most;
-    pcapmins = λ n j l h. pcapmin-request d ok (pcapmin d) (request d) (measured d ok) n l j h;
-    requests = requests-most;
-    children = children-most;
-    weights = weights-most;
-    amounts = amount-most;
-    products = product-most;
-  }
+    amount-most : (n j : ℕ) → n < d .nodes → j < d .levels → amount d (metrics d) (n + 1) n j ≤ excess (metrics d) n j
+    unfolding amountOf pcapmin request
+    amount-most n j l h =
+        le-trans (le-of-eq (ap (λ (z : ℕ). amount d (metrics d) z n j) (add-one n)))
+        (amount-within d ok (pcapmin d) (request d) (measured d ok) (startsOf d) (amountOf d) _ st (dealt d ok) n l j h)
+
+    product-most : (n j : ℕ) → n < d .nodes → j < d .levels → amount d (metrics d) (n + 1) n j * weightSum d (metrics d) n j < 2 ^ 58
+    product-most n j l h =
+        let a : amount d (metrics d) (n + 1) n j ≤ mostWatts = omega (arith, amount-most n j l h, request-most n j l h) in
+        omega (arith, mul-le-mul a (weights-most n j l h))
+
+    pub deal-bounded : DealBounded d
+    unfolding pcapmin request
+    deal-bounded = record {
+      limits = limits;
+      wants = wants;
+      lows = ok .wants;
+      left = left-most;
+      pcapmins = λ n j l h. pcapmin-request d ok (pcapmin d) (request d) (measured d ok) n l j h;
+      requests = requests-most;
+      children = children-most;
+      weights = weights-most;
+      amounts = amount-most;
+      products = product-most;
+    }
 
 -- ---- A plan
 
@@ -145,7 +148,7 @@ module _ (r : Room) (ok : Accepted r) (demands : List ℕ) where
   room-bounded : (wants : List ℕ) → ((c : ℕ) → c < roomCords r → at (lowsOf r) c ≤ at wants c) → ((c : ℕ) → c < roomCords r → at wants c ≤ mostWatts)
       → DealBounded (dealOf r wants)
   room-bounded wants h most =
-      subst DealBounded (sym (dealOf-is r wants)) (deal-bounded (roomDeal r wants) (room-dealable r ok wants h) (ok .fewCords) limit-most most)
+      subst DealBounded (sym (dealOf-is r wants)) (deal-bounded (roomDeal r wants) (room-dealable r ok wants h) (ok .fewCords) limit-most most (room-startable r ok wants h))
 
   pub bounded : Bounded r demands
   bounded = record {

@@ -22,13 +22,12 @@ use Rattle.deals.specs.Dealing.{grantsBy}
 use Rattle.deals.specs.SecondDeal.{firstGrants, firstUsable, secondWants, secondGrants, caps}
 use Rattle.deals.specs.Ways.{cordBeneath, sumBeneath, fromRank}
 use Rattle.deals.specs.Promises.{AcceptedPlan, Answered, AnswerOfBothDeals, Kept, FirstKept, SecondKept, Greatest, FirstGreatest, SecondGreatest, SettledFromRank, RefusalNine}
-use Rattle.deals.specs.Properties.{CapsInRange, UsedGranted, SecondWantsInRange, SplitWhole, SplitWithin, FirstGivesAll, SecondGivesAll, fromLevel, Totals, FiguresFit}
+use Rattle.deals.specs.Properties.{CapsInRange, UsedGranted, SecondWantsInRange, FirstGivesAll, SecondGivesAll, fromLevel, Totals, FiguresFit}
 use Rattle.deals.proofs.Requests.{WholeWay}
 use Rattle.deals.proofs.Computed.{granted-most, deal-gives-all}
 use Rattle.deals.proofs.Totals.{deal-totals}
-use Rattle.deals.proofs.Splits.{split-sum, split-le}
 use Rattle.deals.proofs.RoomDeals.{levelsOf-at, roomDeal, grantsBy-is}
-use Rattle.deals.proofs.BothDeals.{server-facts, cord-facts, room-dealable, grants-way, first-dealable, second-dealable, firstWants-lows, secondWants-lows, firstUsed-granted, capsUsed-granted, secondWants-wants, caps-least, caps-need}
+use Rattle.deals.proofs.BothDeals.{server-facts, cord-facts, room-dealable, room-startable, grants-way, first-dealable, first-startable, second-dealable, second-startable, firstWants-lows, secondWants-lows, firstUsed-granted, capsUsed-granted, secondWants-wants, caps-least, caps-need}
 use Rattle.deals.proofs.LowerRanks.{firstGrants-same, firstUsable-same, secondGrants-same, caps-same}
 use Rattle.deals.proofs.Bounds.{bounded}
 use Rattle.deals.proofs.Plans.{plan-nine, plan-good-table, plan-answer, secondGrants-length, caps-length}
@@ -68,7 +67,7 @@ module _ (r : Room) (ok : Accepted r) (wants : List ℕ) (lows : (c : ℕ) → c
   greatest root top rank watts way =
       le-trans (le-of-eq (fromRank-level root rank watts))
       (le-trans
-      (granted-most (roomDeal r wants) (room-dealable r ok wants lows) (at watts) root
+      (granted-most (roomDeal r wants) (room-dealable r ok wants lows) (room-startable r ok wants lows) (at watts) root
       (record { least = way .least; most = way .most; within = way .within })
       (top .node) (top .top) (min (rank - 1) highestRank) (omega arith))
       (le-of-eq
@@ -173,17 +172,11 @@ pub second-wants-in-range : SecondWantsInRange
 second-wants-in-range p c l =
     (secondWants-lows (p .room) (accepted-room p) (p .demands) c l, secondWants-wants (p .room) (accepted-room p) (p .demands) c l)
 
-pub split-whole : SplitWhole
-split-whole = split-sum
-
-pub split-within : SplitWithin
-split-within = split-le
-
 pub first-gives-all : FirstGivesAll
-first-gives-all p = deal-gives-all _ (first-dealable (p .room) (accepted-room p) (p .demands))
+first-gives-all p = deal-gives-all _ (first-dealable (p .room) (accepted-room p) (p .demands)) (first-startable (p .room) (accepted-room p) (p .demands))
 
 pub second-gives-all : SecondGivesAll
-second-gives-all p = deal-gives-all _ (second-dealable (p .room) (accepted-room p) (p .demands))
+second-gives-all p = deal-gives-all _ (second-dealable (p .room) (accepted-room p) (p .demands)) (second-startable (p .room) (accepted-room p) (p .demands))
 
 pub totals : Totals
 totals table r end e demands =

@@ -115,7 +115,7 @@ module _ (d : Deal) (ok : Dealable d) where
       e n l ∙ ap (λ (z : ℕ). own cords node n w + z) (kids-cong nodes parent n g (λ m. sumBelow d m w) (λ m lm q. ih m lm (later m n lm q)))
       ∙ sym (sumBelow-step n w))
 
-  sumBelow-le : (n : ℕ) (f g : ℕ → ℕ) → ((c : ℕ) → c < cords → beneath parent nodes n (node c) ≡ true → f c ≤ g c) → sumBelow d n f ≤ sumBelow d n g
+  pub sumBelow-le : (n : ℕ) (f g : ℕ → ℕ) → ((c : ℕ) → c < cords → beneath parent nodes n (node c) ≡ true → f c ≤ g c) → sumBelow d n f ≤ sumBelow d n g
   unfolding under
   sumBelow-le n f g h = sum-le cords _ _ (λ c l. on-le (beneath parent nodes n (node c)) (f c) (g c) (h c l))
 
@@ -176,7 +176,7 @@ module _ (d : Deal) (ok : Dealable d) where
 
   module _ (p r : ℕ → ℕ → ℕ) (me : Measured d p r) where
     -- Pcapmin is the sum of the lows beneath.
-    pcapmin-is : (j n : ℕ) → j < levels → n < nodes → p n j ≡ sumBelow d n (atLevel d j low)
+    pub pcapmin-is : (j n : ℕ) → j < levels → n < nodes → p n j ≡ sumBelow d n (atLevel d j low)
     pcapmin-is j n h l = sumBelow-unique (atLevel d j low) (λ n. p n j) (λ n l. me .lowest n j l h ∙ add-comm _ _) n l
 
     -- Over all levels it is the lows beneath.
@@ -256,14 +256,14 @@ module _ (d : Deal) (ok : Dealable d) where
         = own-le n _ _ (λ c lc q. on-le (leb j (level c)) (f c) (want c) (λ t. w .most c lc (ap (beneath parent nodes n) q ∙ beneath-self parent nodes n l))) in
         omega (arith, request-total n l k j e, way-left f n l w k j e, sumBelow-step n (fromLevel d j f)))
 
--- The deal by other wants.
-abbrev pub byWants : Deal → (ℕ → ℕ) → Deal
-byWants d w =
-    record { nodes = d .nodes; parent = d .parent; limit = d .limit; cords = d .cords; node = d .node; level = d .level; low = d .low; want = w; levels = d .levels }
+-- The deal by other wants and starts.
+abbrev pub byWants : Deal → (ℕ → ℕ) → (ℕ → ℕ) → Deal
+byWants d w s =
+    record { nodes = d .nodes; parent = d .parent; limit = d .limit; cords = d .cords; node = d .node; level = d .level; low = d .low; want = w; start = s; levels = d .levels }
 
 -- Wants that are nowhere greater, of a level and above, give Requests from there on whose sum is nowhere greater.
-module _ (d : Deal) (w : ℕ → ℕ) (ok : Dealable d) (ko : Dealable (byWants d w))
-    (p r q u : ℕ → ℕ → ℕ) (me : Measured d p r) (em : Measured (byWants d w) q u) where
+module _ (d : Deal) (w s : ℕ → ℕ) (ok : Dealable d) (ko : Dealable (byWants d w s))
+    (p r q u : ℕ → ℕ → ℕ) (me : Measured d p r) (em : Measured (byWants d w s) q u) where
   pub request-total-mono : (k j : ℕ) → j + k ≡ d .levels → ((c : ℕ) → c < d .cords → j ≤ d .level c → w c ≤ d .want c)
       → (n : ℕ) → n < d .nodes → up k j (u n) ≤ up k j (r n)
   request-total-mono k j e h = down (d .nodes) (λ n. up k j (u n) ≤ up k j (r n)) (λ n l ih.
@@ -271,6 +271,6 @@ module _ (d : Deal) (w : ℕ → ℕ) (ok : Dealable d) (ko : Dealable (byWants 
       = kids-le (d .nodes) (d .parent) n _ _ (λ m lm o. ih m lm (later d ok m n lm o)) in
       let o : own (d .cords) (d .node) n (fromLevel d j w) ≤ own (d .cords) (d .node) n (fromLevel d j (d .want))
       = own-le d ok n _ _ (λ c lc i. on-le (leb j (d .level c)) (w c) (d .want c) (λ t. h c lc (leb-true j (d .level c) t))) in
-      let s : sum j (q n) ≡ sum j (p n)
-      = sum-cong j (q n) (p n) (λ i g. pcapmin-is (byWants d w) ko q u em i n (omega arith) l ∙ sym (pcapmin-is d ok p r me i n (omega arith) l)) in
-      omega (arith, request-total d ok p r me n l k j e, request-total (byWants d w) ko q u em n l k j e))
+      let same : sum j (q n) ≡ sum j (p n)
+      = sum-cong j (q n) (p n) (λ i g. pcapmin-is (byWants d w s) ko q u em i n (omega arith) l ∙ sym (pcapmin-is d ok p r me i n (omega arith) l)) in
+      omega (arith, request-total d ok p r me n l k j e, request-total (byWants d w s) ko q u em n l k j e))

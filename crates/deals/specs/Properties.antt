@@ -1,4 +1,4 @@
--- What else is proved of every plan: that caps, wants and parts lie in their ranges, what a node's Requests of a rank and above
+-- What else is proved of every plan: that caps, wants and amounts lie in their ranges, what a node's Requests of a rank and above
 -- sum to, and that the figures fit their words. Demand 3 does not ask for these. Statements only; proofs/Promises.antt proves
 -- each: `CapsInRange` as `caps-in-range`, and so on.
 use mathlib.Core.Path.{_≡_}
@@ -15,12 +15,11 @@ use Rattle.rooms.specs.Cords.{serverAt}
 use Rattle.deals.specs.Wants.{needs, firstWants}
 use Rattle.rooms.specs.Lists.{carriedBy, lowsOf}
 use Rattle.deals.specs.Metrics.{Deal, dealOf, metrics, excess, cordExcess, overNodes, overCords, childSums}
-use Rattle.deals.specs.Split.{split}
 use Rattle.deals.specs.Dealing.{weightSum, amount, reached}
 use Rattle.deals.specs.SecondDeal.{firstGrants, firstUsed, freed, secondWants}
 use Rattle.deals.specs.Promises.{AcceptedPlan}
 
--- ---- Caps, used watts, the second deal's wants, the split, and what a node gives
+-- ---- Caps, used watts, the second deal's wants, and what a node gives
 
 -- A cap is never below its server's least nor above its need.
 abbrev pub CapsInRange : Type 0
@@ -41,15 +40,6 @@ SecondWantsInRange =
     (p : AcceptedPlan) (c : ℕ) → c < roomCords (p .room)
     → (at (lowsOf (p .room)) c ≤ at (secondWants (p .room) (p .demands)) c)
     × (at (secondWants (p .room) (p .demands)) c ≤ at (firstWants (p .room) (p .demands)) c)
-
--- The split gives away all of its amount where some weight is above 0.
-abbrev pub SplitWhole : Type 0
-SplitWhole = (amount : ℕ) (weights : List ℕ) → 0 < sumOf weights → sumOf (split amount weights) ≡ amount
-
--- It gives no child more than its weight where the amount is at most their sum.
-abbrev pub SplitWithin : Type 0
-SplitWithin =
-    (amount : ℕ) (weights : List ℕ) → amount ≤ sumOf weights → (k : ℕ) → at (split amount weights) k ≤ at weights k
 
 -- A deal in which every node gives its children all of its amount at each rank, and none of them more than its excess.
 pub record GivesAll (d : Deal) : Type 0 where

@@ -1,0 +1,3 @@
+-- The laws of `sender`.
+pub mod Periods
+pub mod Outcomes

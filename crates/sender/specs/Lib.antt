@@ -1,0 +1,3 @@
+-- What a reader must believe of `sender`.
+pub mod Period
+pub mod Outcome

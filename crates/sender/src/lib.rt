@@ -3,11 +3,16 @@ ghost use mathlib.Core.Path.{_≡_};
 ghost use mathlib.Core.Bool.{not};
 ghost use Prim.Native.Nat.{_≤_, _<_, min};
 ghost use lib.ListN.{length};
+ghost use lib.Seq.{sets};
 ghost use Rattle.sender.specs.Period.{following, serversFrom, positionAfter};
 ghost use Rattle.sender.specs.Outcome.{mostServers, stands, sending, answerOf, listAfter, refusalNumber, refusalPlace, sentNumber, sentFigure};
+ghost use Rattle.sender.specs.Call.{sentBytes, SendCall};
 
 // A room has at most so many servers.
 const MOST_SERVERS: u64 = 512;
+
+// The answer of the C call is three numbers of eight bytes each.
+const ANSWER_BYTES: usize = 24;
 
 // Why a period is turned back: m is 0; the position or the count is out of range; or the list is too short for the servers that would
 // be named, so many.
@@ -81,6 +86,51 @@ pub fn send(count: u64, position: u64, m: u64, list: &mut [u32]) -> Sent
     let named = many as usize;
     name_servers(count, position, &mut list[..named]);
     sent
+}
+
+// Send, called from C: the list in bytes, and the answer in a buffer of its own. Returns 1; or 0 where that buffer is too short.
+pub fn send_bytes(count: u64, position: u64, m: u64, list: &mut [u8], answer: &mut [u8]) -> u32
+    ensures { λ r. ⌜ SendCall count position m (now (list .entry)) (now (answer .entry)) r (now (list .exit)) (now (answer .exit)) ⌝ }
+{
+    let mut servers = [0u32; 512];
+    send_by(count, position, m, &mut servers, list, answer)
+}
+
+// Send by way of a list of words, of which those named are stored.
+fn send_by(
+    count: u64,
+    position: u64,
+    m: u64,
+    servers: &mut [u32],
+    list: &mut [u8],
+    answer: &mut [u8],
+) -> u32
+    requires { ⌜ mostServers ≤ length (now servers) ⌝ }
+    ensures { λ r. ⌜ SendCall count position m (now (list .entry)) (now (answer .entry)) r (now (list .exit)) (now (answer .exit)) ⌝ }
+{
+    if answer.len() < ANSWER_BYTES {
+        return 0;
+    }
+    let sent = answer_for(count, position, m, list.len() / 4);
+    tell(sent, answer);
+    let Sent::Accepted(many, _) = sent else {
+        return 1;
+    };
+    let named = many as usize;
+    name_servers(count, position, &mut servers[..named]);
+    words::store(&servers[..named], list);
+    1
+}
+
+// The answer, at the front of its buffer, which has space for it.
+fn tell(sent: Sent, answer: &mut [u8])
+    requires { ⌜ 24 ≤ length (now answer) ⌝ }
+    ensures { λ _. ⌜ now (answer .exit) ≡ sets (now (answer .entry)) 0 (sentBytes sent) ⌝ }
+{
+    words::store_answer(sent.number(), sent.figure(), answer);
+    if let Sent::Accepted(_, next) = sent {
+        words::store_number(next, answer, 16);
+    }
 }
 
 // The answer on a list of so many words.

@@ -1,7 +1,5 @@
 -- `follow` meets its contract: the test is that of the definition.
-use mathlib.Core.Path.{sym, _∙_}
 use native.Mathlib.Omega.{arith}
-use native.Mathlib.Numerals.{add-one}
 use Rattle.sender.proofs.Periods.{following-next, following-last}
 use borrow.Author.Needs.{needs}
 use Rattle.sender.proofs.follow.Statement.{statement}
@@ -21,7 +19,7 @@ returns c =
 returns-2 : tie.Need-returns-2
 returns-2 c =
     let args = c .before .args in
-    (sym (following-last (args .count) (args .server) (omega arith)), omega arith)
+    (omega (arith, following-last (args .count) (args .server) (omega arith)), omega arith)
 
 pub follow-spec : {M : Type 1} → statement M
 follow-spec = tie.close (tie.spec add-if1 add-result returns returns-2)

@@ -81,7 +81,7 @@ enum hutplan_refusal {
 
     /* The numbers of hutplan_send, before its list. */
     HUTPLAN_NO_MESSAGES = 27,          /* m is 0; place: 0 */
-    HUTPLAN_POSITION_OUTSIDE = 28      /* the position not below the count, or the count not from 1
+    HUTPLAN_POSITION_OUT_OF_RANGE = 28      /* the position not below the count, or the count not from 1
                                           to 512; place: 1 */
 };
 

@@ -4,7 +4,7 @@ use mathlib.Core.List.{[], _∷_}
 use Rattle.sender.specs.Period.{serversFrom, positionAfter, period}
 use Rattle.sender.specs.Outcome.{refused, sending}
 use Rattle.sender.specs.Promises.{run, ceilDiv}
-use Rattle.sender.specs.declared.SendRefusal.the-variants.{NoMessages, PositionOutside, ListTooShort}
+use Rattle.sender.specs.declared.SendRefusal.the-variants.{NoMessages, PositionOutOfRange, ListTooShort}
 
 -- Four of five servers from the one numbered 3 on: the first follows the last.
 pub four-of-five : period 5 3 4 ≡ record { named = 3 ∷ 4 ∷ 0 ∷ 1 ∷ []; next = 2 }
@@ -22,13 +22,13 @@ unfolding run serversFrom positionAfter
 three-periods = refl
 
 -- 27 comes before 28, and 28 before 12.
-pub silent-first : sending 0 0 0 0 ≡ refused NoMessages
+pub no-messages-first : sending 0 0 0 0 ≡ refused NoMessages
 unfolding sending
-silent-first = refl
+no-messages-first = refl
 
-pub outside-second : sending 513 0 1 0 ≡ refused PositionOutside
+pub out-of-range-second : sending 513 0 1 0 ≡ refused PositionOutOfRange
 unfolding sending
-outside-second = refl
+out-of-range-second = refl
 
 pub short-last : sending 5 3 4 3 ≡ refused (ListTooShort 4)
 unfolding sending

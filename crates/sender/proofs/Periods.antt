@@ -104,7 +104,7 @@ module _ (count : ℕ) where
   length-serversFrom position zero = refl
   length-serversFrom position (suc many) = ap suc (length-serversFrom (following count position) many)
 
-  -- The server named after i others stands where i of them lead.
+  -- The server named after i others is the one that they lead to.
   pub getD-serversFrom : (position many i : ℕ) → i < many → getD (serversFrom count position many) i 0 ≡ positionAfter count position i
   unfolding serversFrom positionAfter
   getD-serversFrom position zero i h = absurd (omega arith)

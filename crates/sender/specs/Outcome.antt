@@ -7,7 +7,7 @@ use lib.ListN.{length}
 use lib.Seq.{sets}
 use Rattle.sender.specs.Period.{Period, period, namedCount}
 use Rattle.sender.specs.declared.SendRefusal.{SendRefusal}
-use Rattle.sender.specs.declared.SendRefusal.the-variants.{NoMessages, PositionOutside, ListTooShort}
+use Rattle.sender.specs.declared.SendRefusal.the-variants.{NoMessages, PositionOutOfRange, ListTooShort}
 use Rattle.sender.specs.declared.Sent.{Sent}
 use Rattle.sender.specs.declared.Sent.the-variants.{Accepted, Refused}
 
@@ -21,15 +21,15 @@ pub data Outcome : Type 0 where
   refused : SendRefusal → Outcome
 
 -- Whether the position is below the count, and the count from 1 to 512.
-abbrev pub stands : (count position : ℕ) → Bool
-stands count position = ltb position count && (leb 1 count && leb count mostServers)
+abbrev pub inRange : (count position : ℕ) → Bool
+inRange count position = ltb position count && (leb 1 count && leb count mostServers)
 
 -- Send, to a list of so many words. Refused in order: m is 0 (27); the position not below the count, or the count not from 1 to 512
 -- (28); the list too short (12).
 unfoldable pub sending : (count position m space : ℕ) → Outcome
 sending count position m space =
     cond (eqb m 0) (refused NoMessages)
-    (cond (not (stands count position)) (refused PositionOutside)
+    (cond (not (inRange count position)) (refused PositionOutOfRange)
     (cond (ltb space (namedCount count m)) (refused (ListTooShort (namedCount count m)))
     (accepted (period count position m))))
 
@@ -50,13 +50,13 @@ listAfter (refused refusal) list = list
 -- A refusal's number.
 abbrev pub refusalNumber : SendRefusal → ℕ
 refusalNumber NoMessages = 27
-refusalNumber PositionOutside = 28
+refusalNumber PositionOutOfRange = 28
 refusalNumber (ListTooShort needed) = 12
 
 -- A refusal's place. That of a short list is how many servers would be named.
 abbrev pub refusalPlace : SendRefusal → ℕ
 refusalPlace NoMessages = 0
-refusalPlace PositionOutside = 1
+refusalPlace PositionOutOfRange = 1
 refusalPlace (ListTooShort needed) = needed
 
 -- An answer's number, 0 if accepted, and its figure: how many servers were named, or the refusal's place.

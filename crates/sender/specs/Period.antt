@@ -25,7 +25,7 @@ pub record Period : Type 0 where
   pub named : List ℕ
   pub next : ℕ
 
--- How many servers a period names: m, but none twice.
+-- How many servers a period names: m, or all, if those are fewer.
 abbrev pub namedCount : ℕ → ℕ → ℕ
 namedCount count m = min m count
 

@@ -5,7 +5,7 @@ ghost use Prim.Native.Nat.{_≤_, _<_, min};
 ghost use lib.ListN.{length};
 ghost use lib.Seq.{sets};
 ghost use Rattle.sender.specs.Period.{following, serversFrom, positionAfter};
-ghost use Rattle.sender.specs.Outcome.{mostServers, stands, sending, answerOf, listAfter, refusalNumber, refusalPlace, sentNumber, sentFigure};
+ghost use Rattle.sender.specs.Outcome.{mostServers, inRange, sending, answerOf, listAfter, refusalNumber, refusalPlace, sentNumber, sentFigure};
 ghost use Rattle.sender.specs.Call.{sentBytes, SendCall};
 
 // A room has at most so many servers.
@@ -14,11 +14,11 @@ const MOST_SERVERS: u64 = 512;
 // The answer of the C call is three numbers of eight bytes each.
 const ANSWER_BYTES: usize = 24;
 
-// Why a period is turned back: m is 0; the position or the count is out of range; or the list is too short for the servers that would
-// be named, so many.
+// Why a period is turned back: m is 0; the position or the count is out of range; or the list is too short for as many servers as would
+// be named.
 pub enum SendRefusal {
     NoMessages,
-    PositionOutside,
+    PositionOutOfRange,
     ListTooShort(u64),
 }
 
@@ -35,7 +35,7 @@ impl SendRefusal {
     {
         match self {
             SendRefusal::NoMessages => 27,
-            SendRefusal::PositionOutside => 28,
+            SendRefusal::PositionOutOfRange => 28,
             SendRefusal::ListTooShort(_) => 12,
         }
     }
@@ -46,7 +46,7 @@ impl SendRefusal {
     {
         match self {
             SendRefusal::NoMessages => 0,
-            SendRefusal::PositionOutside => 1,
+            SendRefusal::PositionOutOfRange => 1,
             SendRefusal::ListTooShort(needed) => needed,
         }
     }
@@ -74,7 +74,8 @@ impl Sent {
     }
 }
 
-// Send: the next m servers of `count`, from the position on, at the front of the list; none twice. Refused, it leaves the list unchanged.
+// Send: the next m of `count` servers, from the position on, at the front of the list, none of them twice. Refused, it leaves the list
+// unchanged.
 pub fn send(count: u64, position: u64, m: u64, list: &mut [u32]) -> Sent
     ensures { λ r. ⌜ r ≡ answerOf (sending count position m (length (now (list .entry)))) ⌝ }
     ensures { λ _. ⌜ now (list .exit) ≡ listAfter (sending count position m (length (now (list .entry)))) (now (list .entry)) ⌝ }
@@ -137,12 +138,12 @@ fn tell(sent: Sent, answer: &mut [u8])
 fn answer_for(count: u64, position: u64, m: u64, space: usize) -> Sent
     ensures { λ r. ⌜ r ≡ answerOf (sending count position m space) ⌝ }
 {
-    let outside = stands_outside(count, position);
+    let outside = out_of_range(count, position);
     if m == 0 {
         return Sent::Refused(SendRefusal::NoMessages);
     }
     if outside {
-        return Sent::Refused(SendRefusal::PositionOutside);
+        return Sent::Refused(SendRefusal::PositionOutOfRange);
     }
     let named = least(m, count);
     if (space as u64) < named {
@@ -151,9 +152,9 @@ fn answer_for(count: u64, position: u64, m: u64, space: usize) -> Sent
     Sent::Accepted(named, position_after(count, position, named))
 }
 
-// Whether the position is no server's, or the count no room's.
-fn stands_outside(count: u64, position: u64) -> bool
-    ensures { λ r. ⌜ r ≡ not (stands count position) ⌝ }
+// Whether the position is not below the count, or the count not from 1 to 512. A count of 0 is above no position.
+fn out_of_range(count: u64, position: u64) -> bool
+    ensures { λ r. ⌜ r ≡ not (inRange count position) ⌝ }
 {
     count <= position || MOST_SERVERS < count
 }

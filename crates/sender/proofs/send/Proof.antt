@@ -39,7 +39,7 @@ slice-aggregate-name-servers : tie.Need-slice-aggregate-name-servers
 slice-aggregate-name-servers c = sym (length-take-le _ _ (told (c .before .before) .fits))
 
 name-servers-requires : tie.Need-name-servers-requires
-name-servers-requires c κs = (told (c .before .before) .inside .below, told (c .before .before) .inside .fits)
+name-servers-requires c κs = (told (c .before .before) .inside .below, told (c .before .before) .inside .most)
 
 same-length : tie.Need-same-length
 same-length c = search needs

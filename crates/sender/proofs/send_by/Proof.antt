@@ -52,7 +52,7 @@ told : (c : tie.After-sent) → accepting c
 told c = accepted-told _ _ _ _ (call c .answer-for .ensures) (c .sent .given .1)
 
 fits : (c : tie.After-sent) → c .sent .given .0 .0 ≤ length (start c .args .servers .now)
-fits c = omega (arith, told c .counted, told c .inside .fits, start c .pre)
+fits c = omega (arith, told c .counted, told c .inside .most, start c .pre)
 
 slice-relend-prefix-name-servers : tie.Need-slice-relend-prefix-name-servers
 slice-relend-prefix-name-servers c = fits (c .before)
@@ -61,7 +61,7 @@ slice-aggregate-name-servers : tie.Need-slice-aggregate-name-servers
 slice-aggregate-name-servers c = sym (length-take-le _ _ (fits (c .before .before)))
 
 name-servers-requires : tie.Need-name-servers-requires
-name-servers-requires c κs = (told (c .before .before) .inside .below, told (c .before .before) .inside .fits)
+name-servers-requires c κs = (told (c .before .before) .inside .below, told (c .before .before) .inside .most)
 
 slice-reshare-prefix-store : tie.Need-slice-reshare-prefix-store
 slice-reshare-prefix-store c =

@@ -12,8 +12,28 @@ use Rattle.figures.specs.Figures.{total, sumOf}
 use Rattle.figures.proofs.Sums.{on-yes, sum-up, sum-none, up}
 use Rattle.figures.proofs.Lists.{total-append}
 use Rattle.splits.specs.Split.{part, partsAfter, split}
-use Rattle.deals.specs.Metrics.{Deal, Metrics, atLevel, overNodes, overCords}
-use Rattle.deals.specs.Dealing.{Child, node, cord, same, placesFrom, children, nodeOver, cordOver, weight, weightsOf, weightSum, beside, partOf}
+use Rattle.deals.specs.Metrics.{Deal, Metrics, dealFrom, metrics, atLevel, overNodes, overCords}
+use Rattle.deals.specs.Dealing.{Child, node, cord, same, placesFrom, children, nodeOver, cordOver, weight, weightsOf, weightSum, beside, partOf, amount}
+
+-- ---- Worked by hand
+
+-- A root with a child node, and a cord on each of the two, of which the table has the child node's first.
+abbrev dealO : Deal
+dealO = dealFrom (0 ∷ 1 ∷ []) (1 ∷ 1 ∷ []) (2 ∷ 1 ∷ []) (0 ∷ 0 ∷ []) (0 ∷ 0 ∷ []) (1 ∷ 1 ∷ [])
+
+-- Room S with a root of 1,625 W, which has 60 W to split over 50 and 210 at the lowest rank.
+abbrev dealS : Deal
+dealS =
+    dealFrom (0 ∷ 1 ∷ 1 ∷ []) (1300 ∷ 750 ∷ 750 ∷ []) (2 ∷ 2 ∷ 3 ∷ 3 ∷ []) (1 ∷ 0 ∷ 0 ∷ 0 ∷ []) (270 ∷ 270 ∷ 270 ∷ 270 ∷ [])
+    (430 ∷ 430 ∷ 430 ∷ 430 ∷ [])
+
+-- The child node before the cord, the weights of room S's root, and what its child nodes get.
+by-hand : (children dealO 0 ≡ node 1 ∷ cord 1 ∷ [])
+    × (weightsOf dealS (metrics dealS) 0 0 ≡ 50 ∷ 210 ∷ [])
+    × (amount dealS (metrics dealS) 2 1 0 ≡ 11)
+    × (amount dealS (metrics dealS) 3 2 0 ≡ 49)
+unfolding children weightsOf amount metrics dealFrom
+by-hand = (refl, refl, refl, refl)
 
 -- The places from the first on, as the places below.
 up-first : (k : ℕ) (g : ℕ → ℕ) → up k 0 g ≡ sum k g

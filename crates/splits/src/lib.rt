@@ -1,4 +1,5 @@
 // The split of an amount among children by their weights, child by child. Every split goes by these two functions.
+// Private to Plan: no operation stands here.
 ghost use mathlib.Core.Path.{_≡_};
 ghost use Prim.Native.Nat.{_*_, _/_, _^_, _≤_, _<_};
 ghost use Rattle.splits.specs.Serving.{MayServe, HasServed};

@@ -1,4 +1,5 @@
-//! Caps over a slow bus, as request A.13 says it: the servers stand in a ring, which is turned.
+//! Caps over a slow bus, from the text of request A.13: the servers stand in a ring, which is turned.
+//! It was written after the product's Send and by the same hand, but in another style.
 
 use crate::{fits, Refusal};
 use std::collections::VecDeque;

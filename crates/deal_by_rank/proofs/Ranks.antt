@@ -15,7 +15,7 @@ use Rattle.rooms.specs.Table.{mostWatts, mostCords, highestRank}
 use Rattle.rooms.specs.Limits.{beneath}
 use Rattle.rooms.specs.Credits.{sumBeneath}
 use Rattle.figures.proofs.Sums.{on-no, sum-cong, sum-zero, sum-swap, sum-one, sum-suc, sum-up, up, up-suc}
-use Rattle.rooms.proofs.Trees.{kids, own, under, under-is, kids-cong, down, rise}
+use Rattle.rooms.proofs.Trees.{kids, own, under, kids-cong, down, rise}
 use Rattle.rooms.proofs.Credits.{sumBeneath-step}
 use Rattle.figures.specs.Figures.{figures, at, cell}
 use Rattle.deals.specs.Metrics.{Deal, dealFrom, metrics, atLevel}
@@ -25,7 +25,8 @@ use Rattle.deal_by_rank.specs.Ranks.{NodeLists, LowsWithin, Spare, Ranks
 use Rattle.ranks.specs.Passes.{CordLists, HasCord, onNode, childrenBefore, overChildren, cordsBefore, weightOf, Gathered, NodesDealt, CordsDealt, FullRows}
 use Rattle.levels.specs.Levels.{Present, ActiveNodes, CordsActive}
 use Rattle.figures.proofs.Lists.{sum-most, figures-length}
-use Rattle.deals.proofs.Equations.{Dealable, Dealt, asked, weights, request-asked, pcapmin-all, weights-are}
+use Rattle.deals.proofs.Requests.{Dealable, asked, request-asked, pcapmin-all}
+use Rattle.deals.proofs.Equations.{Dealt, weights, weights-are}
 use Rattle.deals.proofs.Computed.{pcapmin, request, amountOf, measured, granted-at, lows-dealt, lows-starting}
 use Rattle.deals.proofs.Bounds.{asked-most, request-most}
 use Rattle.ranks.proofs.NodeSums.{on-zero, kids-none}
@@ -94,7 +95,7 @@ module _ (parents limits nodes levels lows wants : List ℕ) (ns : NodeLists par
     hangs = λ c l. omega (arith, cs .hangs c l);
     ranks = cs .ranked;
     wants = cs .ordered;
-    lows = λ n l. le-trans (le-of-eq (sym (under-is (length parents) (at parents) (ns .rises) (length nodes) (at nodes) (cs .within) n (at lows)))) (lw n l);
+    lows = lw;
   }
 
   abbrev pcap : ℕ → ℕ → ℕ
@@ -145,8 +146,7 @@ module _ (parents limits nodes levels lows wants : List ℕ) (ns : NodeLists par
     sum-is = omega arith;
     left-is = λ n l.
         let e : lowsUnder parents nodes lows n ≡ sum highestRank (pcap n)
-        = under-is (length parents) (at parents) (ns .rises) (length nodes) (at nodes) (cs .within) n (at lows)
-        ∙ sym (pcapmin-all theDeal dealable (pcapmin theDeal) (request theDeal) (measured theDeal dealable) n l) in
+        = sym (pcapmin-all theDeal dealable (pcapmin theDeal) (request theDeal) (measured theDeal dealable) n l) in
         omega (arith, spare .over n l);
     grants-are = λ c l h. absurd (omega (arith, cs .ranked c l));
   }

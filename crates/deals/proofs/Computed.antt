@@ -10,15 +10,16 @@ use lib.Seq.{drop-cons, drop-drop}
 use borrow.Author.Tests.{ne-eqb}
 use Rattle.figures.specs.Sums.{on, sum}
 use Rattle.figures.proofs.Sums.{on-no, sum-cong, sum-zero, sum-up, up}
-use Rattle.rooms.proofs.Trees.{kids, own, below, below-cong}
+use Rattle.rooms.proofs.Trees.{kids, own}
 use Rattle.figures.specs.Figures.{at, cell, sumOf}
 use Rattle.deals.specs.Metrics.{Deal, atLevel, overRows, childSums, sumsFrom, requestsAbove, requestsFrom, metrics, overCords}
 use Rattle.deals.specs.Dealing.{node, byNumber, partOf, amount, reached, granted}
-use Rattle.deals.specs.Properties.{GivesAll}
+use Rattle.deals.specs.Properties.{GivesAll, fromLevel}
 use Rattle.figures.proofs.Lists.{figures-at, figures-length, total-drop}
 use Rattle.deals.proofs.Rows.{IsRow}
 use Rattle.deals.proofs.Children.{partOf-node, partOf-cord}
-use Rattle.deals.proofs.Equations.{Dealable, WholeWay, Measured, Starting, Dealt, fromLevel, asked, weights, grant, pcapmin-request, amount-within, gives-all, reached-excess, ours, most-above}
+use Rattle.deals.proofs.Requests.{Dealable, WholeWay, TreeWay, Measured, asked, sumBelow, sumBelow-cong, pcapmin-request}
+use Rattle.deals.proofs.Equations.{Starting, Dealt, weights, grant, amount-within, gives-all, reached-excess, ours, most-above}
 
 -- ---- The rows of the nodes, from the last to the first
 
@@ -216,17 +217,16 @@ module _ (d : Deal) (ok : Dealable d) (st : Startable d) where
       record {
         least = λ c l. le-trans (o .least c l) (le-of-eq (sym (granted-at d ok c l)));
         most = λ c l. le-trans (le-of-eq (granted-at d ok c l)) (o .most c l);
-        within = λ n l. le-trans (le-of-eq (below-cong (d .nodes) (d .parent) (d .cords) (d .node) n (at (granted d)) _ (granted-at d ok))) (o .within n l);
+        within = λ n l. le-trans (le-of-eq (sumBelow-cong d n (at (granted d)) _ (granted-at d ok))) (o .within n l);
       }
 
   -- No other way gives the cords beneath a root, of a level and above, more.
-  pub granted-most : (f : ℕ → ℕ) → WholeWay d f → (n : ℕ) → n < d .nodes → d .parent n ≡ 0 → (j : ℕ) → j ≤ d .levels
-      → below (d .nodes) (d .parent) (d .cords) (d .node) n (fromLevel d j f)
-      ≤ below (d .nodes) (d .parent) (d .cords) (d .node) n (fromLevel d j (at (granted d)))
+  pub granted-most : (f : ℕ → ℕ) (n : ℕ) → TreeWay d n f → n < d .nodes → d .parent n ≡ 0 → (j : ℕ) → j ≤ d .levels
+      → sumBelow d n (fromLevel d j f) ≤ sumBelow d n (fromLevel d j (at (granted d)))
   unfolding grant
-  granted-most f wf n l e j h =
-      le-trans (most-above d ok (pcapmin d) (request d) (measured d ok) (startsOf d) (amountOf d) (reached d (metrics d)) st (dealt d ok) f wf n l e j h)
-      (le-of-eq (below-cong (d .nodes) (d .parent) (d .cords) (d .node) n _ _ (λ c lc. ap (λ (z : ℕ). on (leb j (d .level c)) z) (sym (granted-at d ok c lc)))))
+  granted-most f n w l e j h =
+      le-trans (most-above d ok (pcapmin d) (request d) (measured d ok) (startsOf d) (amountOf d) (reached d (metrics d)) st (dealt d ok) f n w l e j h)
+      (le-of-eq (sumBelow-cong d n _ _ (λ c lc. ap (λ (z : ℕ). on (leb j (d .level c)) z) (sym (granted-at d ok c lc)))))
 
   -- Every node gives its children all of its amount, and none of them more than its excess.
   pub deal-gives-all : GivesAll d

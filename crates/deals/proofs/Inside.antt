@@ -2,20 +2,20 @@
 -- that agree from a rank on: each deal is inside the other.)
 use mathlib.Core.Path.{_≡_, refl, sym, ap, ap₂, _∙_, subst}
 use mathlib.Core.Bool.{Bool, true, false}
-use Prim.Native.Nat.{ℕ, zero, suc, _+_, _-_, _≤_, _<_}
+use Prim.Native.Nat.{ℕ, zero, suc, _+_, _-_, _≤_, _<_, min}
 use native.Mathlib.Nat.{le-refl, le-trans, le-of-eq, zero-add, suc-ne-zero}
 use native.Mathlib.Omega.{arith}
-use lib.Dec.{eqb}
-use borrow.Author.Tests.{eqb-true, eqb-false, eq-eqb, ne-eqb}
+use lib.Dec.{eqb, leb}
+use borrow.Author.Tests.{eqb-true, eqb-false, eq-eqb, ne-eqb, leb-true}
 use Rattle.figures.specs.Sums.{on, sum}
-use Rattle.figures.proofs.Sums.{on-no, on-cong, sum-cong, sum-zero, sum-none, sum-up, up}
+use Rattle.figures.proofs.Sums.{on-no, on-cong, sum-cong, sum-zero, sum-none, sum-up, up, up-suc}
 use Rattle.rooms.proofs.Trees.{kids, own, kids-cong, down, rise}
 use Rattle.figures.specs.Figures.{at}
 use Rattle.deals.specs.Metrics.{Deal, atLevel}
 use Rattle.splits.specs.Split.{part}
 use Rattle.deals.specs.Dealing.{granted}
-use Rattle.deals.proofs.Rows.{IsRow, rows-same}
-use Rattle.deals.proofs.Equations.{Dealable, Measured, Dealt, asked, weights}
+use Rattle.deals.proofs.Requests.{Dealable, Measured, later, request-total}
+use Rattle.deals.proofs.Equations.{Dealt, weights}
 use Rattle.deals.proofs.Computed.{measured, dealt, granted-at}
 
 -- A node's number, raised by a where it is not 0.
@@ -91,24 +91,29 @@ module _ (s t : Deal) (a b z : ℕ) (ins : Inside s t a b z) where
       (λ i h q. on-no (eqb (t .node i) (suc (n + a))) (f i) (ne-eqb (t .node i) (suc (n + a)) (λ e. omega (arith, ins .bare i n h l e))))
       ∙ sum-cong (s .cords) _ _ (λ c h. ap (λ (u : Bool). on u (f (c + b))) (same-test a (t .node (c + b)) (s .node c) n (ins .node c h)))
 
+  -- What a cord has at the levels that pass a test is the same where its figure is, at such a level.
+  levels-in : (q : ℕ → Bool) (f g : ℕ → ℕ) → ((c : ℕ) → c < s .cords → q (s .level c) ≡ true → f (c + b) ≡ g c)
+      → (c : ℕ) → c < s .cords → on (q (t .level (c + b))) (f (c + b)) ≡ on (q (s .level c)) (g c)
+  levels-in q f g e c h =
+      ap (λ (x : ℕ). on (q x) (f (c + b))) (ins .level c h) ∙ on-cong (q (s .level c)) (f (c + b)) (g c) (e c h)
+
+  own-levels : (n : ℕ) → n < s .nodes → (q : ℕ → Bool) (f g : ℕ → ℕ) → ((c : ℕ) → c < s .cords → q (s .level c) ≡ true → f (c + b) ≡ g c)
+      → own (t .cords) (t .node) (n + a) (λ c. on (q (t .level c)) (f c)) ≡ own (s .cords) (s .node) n (λ c. on (q (s .level c)) (g c))
+  unfolding own
+  own-levels n l q f g e =
+      own-in n l (λ c. on (q (t .level c)) (f c))
+      ∙ sum-cong (s .cords) _ _ (λ c h. ap (λ (x : ℕ). on (eqb (s .node c) (suc n)) x) (levels-in q f g e c h))
+
   atLevel-in : (j : ℕ) (f g : ℕ → ℕ) → ((c : ℕ) → c < s .cords → s .level c ≡ j → f (c + b) ≡ g c)
       → (c : ℕ) → c < s .cords → atLevel t j f (c + b) ≡ atLevel s j g c
-  atLevel-in j f g e c h =
-      ap (λ (x : ℕ). on (eqb x j) (f (c + b))) (ins .level c h)
-      ∙ on-cong (eqb (s .level c) j) (f (c + b)) (g c) (λ q. e c h (eqb-true (s .level c) j q))
+  atLevel-in j f g e = levels-in (λ x. eqb x j) f g (λ c h q. e c h (eqb-true (s .level c) j q))
 
   -- What the cords on a node have at a level is the same where their figures are, at that level.
   own-at : (n j : ℕ) → n < s .nodes → (f g : ℕ → ℕ) → ((c : ℕ) → c < s .cords → s .level c ≡ j → f (c + b) ≡ g c)
       → own (t .cords) (t .node) (n + a) (atLevel t j f) ≡ own (s .cords) (s .node) n (atLevel s j g)
-  unfolding own
-  own-at n j l f g e =
-      own-in n l (atLevel t j f)
-      ∙ sum-cong (s .cords) _ _ (λ c h. ap (λ (x : ℕ). on (eqb (s .node c) (suc n)) x) (atLevel-in j f g e c h))
+  own-at n j l f g e = own-levels n l (λ x. eqb x j) f g (λ c h q. e c h (eqb-true (s .level c) j q))
 
-  module _ (ok : Dealable s) (p r q u : ℕ → ℕ → ℕ) (me : Measured s p r) (em : Measured t q u) where
-    higher : (m n : ℕ) → m < s .nodes → s .parent m ≡ suc n → n < m
-    higher m n l e = subst (λ (x : ℕ). x ≤ m) e (ok .rises m l)
-
+  module _ (ok : Dealable s) (ko : Dealable t) (p r q u : ℕ → ℕ → ℕ) (me : Measured s p r) (em : Measured t q u) where
     inside : (n : ℕ) → n < s .nodes → n + a < t .nodes
     inside n l = omega (arith, ins .nodesFit)
 
@@ -116,25 +121,25 @@ module _ (s t : Deal) (a b z : ℕ) (ins : Inside s t a b z) where
     pcapmin-in j h = down (s .nodes) (λ n. q (n + a) j ≡ p n j) (λ n l ih.
         em .lowest (n + a) j (inside n l) (subst (λ (x : ℕ). j < x) (sym (ins .levels)) h)
         ∙ ap₂ _+_
-        (kids-in n l (λ m. q m j) ∙ kids-cong (s .nodes) (s .parent) n _ _ (λ m lm e. ih m lm (higher m n lm e)))
+        (kids-in n l (λ m. q m j) ∙ kids-cong (s .nodes) (s .parent) n _ _ (λ m lm e. ih m lm (later s ok m n lm e)))
         (own-at n j l (t .low) (s .low) (λ c lc e. ins .low c lc))
         ∙ sym (me .lowest n j l h))
 
-    asked-in : (n j : ℕ) → n < s .nodes → z ≤ j → ((m : ℕ) → m < s .nodes → n < m → u (m + a) j ≡ r m j) → asked t u (n + a) j ≡ asked s r n j
-    unfolding asked
-    asked-in n j l h ih =
-        ap₂ _+_
-        (kids-in n l (λ m. u m j) ∙ kids-cong (s .nodes) (s .parent) n _ _ (λ m lm e. ih m lm (higher m n lm e)))
-        (own-at n j l (t .want) (s .want) (λ c lc e. ins .want c lc (le-trans h (le-of-eq (sym e)))))
+    -- By the law of totals, from level z on the Requests sum to the same, and so are the same.
+    total-in : (k j : ℕ) → j + k ≡ s .levels → z ≤ j → (n : ℕ) → n < s .nodes → up k j (u (n + a)) ≡ up k j (r n)
+    total-in k j e h = down (s .nodes) (λ n. up k j (u (n + a)) ≡ up k j (r n)) (λ n l ih.
+        request-total t ko q u em (n + a) (inside n l) k j (e ∙ sym (ins .levels))
+        ∙ ap₂ min
+        (ap₂ _-_ (ins .limit n l) (sum-cong j (q (n + a)) (p n) (λ i g. pcapmin-in i (omega arith) n l)))
+        (ap₂ _+_
+        (kids-in n l (λ m. up k j (u m)) ∙ kids-cong (s .nodes) (s .parent) n _ _ (λ m lm o. ih m lm (later s ok m n lm o)))
+        (own-levels n l (leb j) (t .want) (s .want) (λ c lc o. ins .want c lc (le-trans h (leb-true j (s .level c) o)))))
+        ∙ sym (request-total s ok p r me n l k j e))
 
     request-in : (n : ℕ) → n < s .nodes → (j : ℕ) → j < s .levels → z ≤ j → u (n + a) j ≡ r n j
-    request-in = down (s .nodes) (λ n. (j : ℕ) → j < s .levels → z ≤ j → u (n + a) j ≡ r n j) (λ n l ih.
-        rows-same (s .levels) (s .limit n) z (q (n + a)) (p n) (asked t u (n + a)) (asked s r n) (u (n + a)) (r n)
-        (subst (λ (x : ℕ). IsRow x (s .limit n) (q (n + a)) (asked t u (n + a)) (u (n + a))) (ins .levels)
-        (subst (λ (x : ℕ). IsRow (t .levels) x (q (n + a)) (asked t u (n + a)) (u (n + a))) (ins .limit n l) (em .request (n + a) (inside n l))))
-        (me .request n l)
-        (λ j h. pcapmin-in j h n l)
-        (λ j h k. asked-in n j l k (λ m lm o. ih m lm o j h k)))
+    request-in n l j h g =
+        let k : ℕ = s .levels - suc j in
+        omega (arith, total-in (suc k) j (omega arith) g n l, total-in k (suc j) (omega arith) (omega arith) n l, up-suc k j (u (n + a)), up-suc k j (r n))
 
     -- sb and tb are the starts beneath the nodes.
     module _ (sb tb x v : ℕ → ℕ → ℕ) (y w : ℕ → ℕ) (de : Dealt s sb r x y) (ed : Dealt t tb u v w) where
@@ -142,7 +147,7 @@ module _ (s t : Deal) (a b z : ℕ) (ins : Inside s t a b z) where
       starts-in j h k = down (s .nodes) (λ n. tb (n + a) j ≡ sb n j) (λ n l ih.
           ed .starts (n + a) j (inside n l) (subst (λ (x : ℕ). j < x) (sym (ins .levels)) h)
           ∙ ap₂ _+_
-          (kids-in n l (λ m. tb m j) ∙ kids-cong (s .nodes) (s .parent) n _ _ (λ m lm e. ih m lm (higher m n lm e)))
+          (kids-in n l (λ m. tb m j) ∙ kids-cong (s .nodes) (s .parent) n _ _ (λ m lm e. ih m lm (later s ok m n lm e)))
           (own-at n j l (t .start) (s .start) (λ c lc e. ins .start c lc (le-trans k (le-of-eq (sym e)))))
           ∙ sym (de .starts n j l h))
 
@@ -188,7 +193,7 @@ module _ (s t : Deal) (a b z : ℕ) (ins : Inside s t a b z) where
           go m l ih zero e =
               ed .root (m + a) j (inside m l) (ins .parent m l ∙ ap (lift a) e) ∙ over-in m j l h k ∙ sym (de .root m j l e)
           go m l ih (suc n) e =
-              let o : n < m = higher m n l e in
+              let o : n < m = later s ok m n l e in
               let ln : n < s .nodes = omega arith in
               ed .inner (m + a) (n + a) j (inside m l) (ins .parent m l ∙ ap (lift a) e)
               ∙ ap₂ (λ (c d : ℕ). part c d (sum (m + a) (λ i. on (eqb (t .parent i) (suc (n + a))) (u i j - tb i j))) (u (m + a) j - tb (m + a) j)) (ih n o) (weights-in n j ln h k)
@@ -226,5 +231,5 @@ module _ (s t : Deal) (a b z : ℕ) (ins : Inside s t a b z) (ok : Dealable s) (
   granted-in c l k =
       granted-at t ko (c + b) (omega (arith, ins .cordsFit))
       ∙ ap₂ _+_ (ins .start c l k)
-      (reached-in s t a b z ins ok _ _ _ _ (measured s ok) (measured t ko) _ _ _ _ _ _ (dealt s ok) (dealt t ko) c l k)
+      (reached-in s t a b z ins ok ko _ _ _ _ (measured s ok) (measured t ko) _ _ _ _ _ _ (dealt s ok) (dealt t ko) c l k)
       ∙ sym (granted-at s ok c l)

@@ -6,10 +6,11 @@ pub mod WorkedRooms
 pub mod Rows
 pub mod Children
 -- One deal: what follows from its equations, and that the computed figures meet them.
+pub mod Requests
 pub mod Equations
 pub mod Computed
+pub mod Totals
 pub mod Inside
-pub mod OneTree
 -- The deals of a room whose table is accepted.
 pub mod Loads
 pub mod RoomDeals

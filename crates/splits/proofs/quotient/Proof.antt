@@ -1,5 +1,5 @@
 -- `quotient` meets its contract: the product is within that with the whole weight, which fits.
-use mathlib.Core.Path.{ap, _∙_}
+use mathlib.Core.Path.{ap}
 use Prim.Native.Nat.{ℕ, _*_, _/_}
 use native.Mathlib.Nat.{mul-le-mul-left, lt-of-le-of-lt, le-trans, le-of-eq}
 use borrow.Author.Needs.{needs}

@@ -181,6 +181,7 @@ pub fn deal(
     requires { ⌜ LevelLists (now parents) (now nodes) (now levels) (now first) (now next) (now actives) (now counts) × Spare (now parents) (now limits) (now nodes) (now lows) (now spare) ⌝ }
     requires { ⌜ BlankRows (length (now parents)) (now actives) (now counts) (now requests) ⌝ }
     ensures { λ _. ⌜ now (grants .exit) ≡ granted (dealFrom (now (parents .entry)) (now (limits .entry)) (now (nodes .entry)) (now (levels .entry)) (now (lows .entry)) (now (wants .entry))) ⌝ }
+    ensures { λ _. ⌜ ((n j : ℕ) → n < length (now (parents .entry)) → j < highestRank → cell (now (requests .exit)) n j ≡ cell (metrics (dealFrom (now (parents .entry)) (now (limits .entry)) (now (nodes .entry)) (now (levels .entry)) (now (lows .entry)) (now (wants .entry))) .requests) n j) ⌝ }
     ensures { λ _. ⌜ BlankRows (length (now (parents .entry))) (now (actives .entry)) (now (counts .entry)) (now (requests .exit)) ⌝ }
 {
     let mut left = [0u32; 512];

@@ -9,7 +9,7 @@ use lib.Dec.{eqb, ltb}
 use lib.ListN.{length}
 use lib.Seq.{sets}
 use borrow.Author.Tests.{eq-eqb, ne-eqb, lt-ltb, le-ltb}
-use Rattle.rooms.specs.Part.{Step, good, bad}
+use Rattle.rooms.specs.Part.{Step, good, bad, Good}
 use Rattle.rooms.specs.Table.{Room, mostWatts, roomCords}
 use Rattle.rooms.specs.Limits.{checked}
 use Rattle.rooms.specs.Promises.{Overloaded}
@@ -20,7 +20,7 @@ use Rattle.figures.specs.Figures.{at}
 use Rattle.deals.specs.Dealing.{granted, grantsBy}
 use Rattle.deals.specs.SecondDeal.{usable, freed, secondWants, secondGrants, caps}
 use Rattle.deals.specs.Plan.{Outcome, accepted, refused, firstTooLarge, planRoom, planStep, plan, answerOf, grantsAfter, capsAfter, planNumber}
-use Rattle.deals.specs.Promises.{AcceptedPlan, IsNine}
+use Rattle.deals.specs.Promises.{IsNine}
 use Rattle.deals.specs.declared.PlanRefusal.{PlanRefusal}
 use Rattle.deals.specs.declared.PlanRefusal.the-variants.{Table, DemandCount, DemandTooLarge, GrantsTooShort, CapsTooShort}
 use Rattle.deals.specs.declared.Planned.the-variants.{Accepted, Refused}
@@ -129,25 +129,13 @@ plan-answer r demands g c f gs cs e =
     go false false false true e = absurd (let z : _≡_ {A = ℕ} 0 1 = cc in omega arith)
     go false false false false e = (cc, cc, cc)
 
--- Its table is accepted: it is an accepted plan with that table's room.
-pub plan-accepts : (table demands : List ℕ) (g c f : ℕ) (gs cs : List ℕ) → plan table demands g c ≡ accepted f gs cs → AcceptedPlan
+-- Its table is good.
+pub plan-good : (table demands : List ℕ) (g c f : ℕ) (gs cs : List ℕ) → plan table demands g c ≡ accepted f gs cs → Good (checked table 0)
 unfolding plan planStep
-plan-accepts table demands g c f gs cs e = go (checked table 0) refl e
+plan-good table demands g c f gs cs e = go (checked table 0) refl e
   where
-    go : (s : Step Room) → checked table 0 ≡ s → planStep s demands g c ≡ accepted f gs cs → AcceptedPlan
-    go (good r end) q d = record {
-      table = table;
-      demands = demands;
-      grantsLength = g;
-      capsLength = c;
-      room = r;
-      end = end;
-      freed = f;
-      grants = gs;
-      caps = cs;
-      isRoom = q;
-      isAnswer = e;
-    }
+    go : (s : Step Room) → checked table 0 ≡ s → planStep s demands g c ≡ accepted f gs cs → Good (checked table 0)
+    go (good r end) q d = record { value = r; next = end; is = q }
     go (bad refusal) q d = absurd (let z : _≡_ {A = ℕ} 0 1 = cc in omega arith)
 
 -- ---- Refusal 9

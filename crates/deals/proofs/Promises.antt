@@ -21,7 +21,7 @@ use Rattle.rooms.specs.Lists.{carriedBy, lowsOf}
 use Rattle.deals.specs.Dealing.{grantsBy}
 use Rattle.deals.specs.SecondDeal.{firstGrants, firstUsable, secondWants, secondGrants, caps}
 use Rattle.deals.specs.Ways.{cordBeneath, sumBeneath, fromRank}
-use Rattle.deals.specs.Promises.{AcceptedPlan, Answered, AnswerOfBothDeals, Kept, FirstKept, SecondKept, Greatest, FirstGreatest, SecondGreatest, SettledFromRank, RefusalNine}
+use Rattle.deals.specs.Promises.{AcceptedPlan, AcceptedHasRoom, Answered, AnswerOfBothDeals, Kept, FirstKept, SecondKept, Greatest, FirstGreatest, SecondGreatest, SettledFromRank, RefusalNine}
 use Rattle.deals.specs.Properties.{CapsInRange, UsedGranted, SecondWantsInRange, FirstGivesAll, SecondGivesAll, fromLevel, Totals, FiguresFit}
 use Rattle.deals.proofs.Requests.{WholeWay}
 use Rattle.deals.proofs.Computed.{granted-most, deal-gives-all}
@@ -30,7 +30,7 @@ use Rattle.deals.proofs.RoomDeals.{levelsOf-at, roomDeal, grantsBy-is}
 use Rattle.deals.proofs.BothDeals.{server-facts, cord-facts, room-dealable, room-startable, grants-way, first-dealable, first-startable, second-dealable, second-startable, firstWants-lows, secondWants-lows, firstUsed-granted, capsUsed-granted, secondWants-wants, caps-least, caps-need}
 use Rattle.deals.proofs.LowerRanks.{firstGrants-same, firstUsable-same, secondGrants-same, caps-same}
 use Rattle.deals.proofs.Bounds.{bounded}
-use Rattle.deals.proofs.Plans.{plan-nine, plan-good-table, plan-answer, secondGrants-length, caps-length}
+use Rattle.deals.proofs.Plans.{plan-nine, plan-good, plan-good-table, plan-answer, secondGrants-length, caps-length}
 
 -- The levels from that of a rank on are the ranks from it on.
 rank-level : (rank own : ℕ) → 1 ≤ own → own ≤ highestRank → leb rank own ≡ leb (min (rank - 1) highestRank) (own - 1)
@@ -97,6 +97,9 @@ module _ (p : AcceptedPlan) where
   of-grants : (P : Room → List ℕ → List ℕ → Type 0) → ((r : Room) → Accepted r → (demands : List ℕ) → P r demands (secondGrants r demands))
       → P (p .room) (p .demands) (p .grants)
   of-grants P h = subst (P (p .room) (p .demands)) (sym (answered .grants)) (h (p .room) accepted-room (p .demands))
+
+pub accepted-has-room : AcceptedHasRoom
+accepted-has-room = plan-good
 
 pub answer-of-both-deals : AnswerOfBothDeals
 answer-of-both-deals = answered

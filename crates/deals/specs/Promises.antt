@@ -5,7 +5,7 @@ use mathlib.Core.List.{List}
 use mathlib.Core.Logic.{_↔_}
 use Prim.Native.Nat.{ℕ, _≤_, _<_}
 use lib.ListN.{length}
-use Rattle.rooms.specs.Part.{good}
+use Rattle.rooms.specs.Part.{good, Good}
 use Rattle.rooms.specs.Table.{Room, roomCords}
 use Rattle.rooms.specs.Limits.{limit, nodeAt, checked}
 use Rattle.rooms.specs.Promises.{Overloaded}
@@ -31,6 +31,12 @@ pub record AcceptedPlan : Type 0 where
   pub caps : List ℕ
   pub isRoom : checked table 0 ≡ good room end
   pub isAnswer : plan table demands grantsLength capsLength ≡ accepted freed grants caps
+
+-- So it is with every answer that is accepted: its table is good, and gives a room.
+abbrev pub AcceptedHasRoom : Type 0
+AcceptedHasRoom =
+    (table demands : List ℕ) (grantsLength capsLength freed : ℕ) (grants caps : List ℕ)
+    → plan table demands grantsLength capsLength ≡ accepted freed grants caps → Good (checked table 0)
 
 -- The answer is that of the two deals: a grant for each cord, and a cap for each server.
 pub record Answered (p : AcceptedPlan) : Type 0 where

@@ -8,11 +8,10 @@ use native.Mathlib.Nat.{pow-suc, div-add-mod', mod-lt, div-lt-iff-lt-mul, add-mu
 use lib.ListN.{length, take, drop}
 use lib.Seq.{take-at}
 use lib.Dec.{ltb, eqb}
-use borrow.Author.Tests.{lt-ltb, le-ltb, le-leb, lt-leb, ne-eqb, ltb-true, ltb-false, eqb-false}
-use Rattle.numbers.specs.Number.{Front, good, bad, above, later, number, groups, form, encoded}
+use borrow.Author.Tests.{lt-ltb, le-ltb, ne-eqb, ltb-true, ltb-false, eqb-false}
+use Rattle.numbers.specs.Number.{Front, good, bad, above, later, number, groups, form}
 use Rattle.words.specs.Lists.{AllBelow}
 use Rattle.numbers.specs.declared.Fault.the-variants.{NotShortest}
-use Rattle.numbers.specs.declared.Encoded.the-variants.{Next, TooLarge, TooShort}
 
 -- ---- the form
 
@@ -87,21 +86,6 @@ groups-below (suc k) value h = go (ltb value 128) refl (groups-below k (value / 
     go true e ih (suc i) = omega arith
     go false e ih zero = omega (arith, mod-lt value lit)
     go false e ih (suc i) = ih i
-
--- ---- the answer of `encode`, case by case
-
-module _ (value space at : ℕ) where
-  pub encoded-too-large : 2 ^ 28 ≤ value → TooLarge ≡ encoded value space at
-  unfolding encoded
-  encoded-too-large l = rw (le-ltb value (2 ^ 28) l)
-
-  pub encoded-too-short : value < 2 ^ 28 → space < at + length (form value) → TooShort ≡ encoded value space at
-  unfolding encoded
-  encoded-too-short h l = rw (lt-ltb value (2 ^ 28) h, lt-leb (at + length (form value)) space l)
-
-  pub encoded-next : value < 2 ^ 28 → at + length (form value) ≤ space → Next (at + length (form value)) ≡ encoded value space at
-  unfolding encoded
-  encoded-next h l = rw (lt-ltb value (2 ^ 28) h, le-leb (at + length (form value)) space l)
 
 -- ---- what was written is read back
 

@@ -3,15 +3,11 @@
 use mathlib.Core.Bool.{Bool, cond}
 use mathlib.Core.List.{List, [], _∷_}
 use Prim.Native.Nat.{ℕ, zero, suc, _+_, _-_, _*_, _/_, _%_, _^_}
-use lib.ListN.{length}
-use lib.Seq.{sets}
-use lib.Dec.{ltb, leb, eqb}
+use lib.Dec.{ltb, eqb}
 use Rattle.numbers.specs.declared.Fault.{Fault}
 use Rattle.numbers.specs.declared.Fault.the-variants.{TooLong, NotShortest, CutShort}
 use Rattle.numbers.specs.declared.Decoded.{Decoded}
 use Rattle.numbers.specs.declared.Decoded.the-variants.{Number, Refused}
-use Rattle.numbers.specs.declared.Encoded.{Encoded}
-use Rattle.numbers.specs.declared.Encoded.the-variants.{Next, TooLarge, TooShort}
 
 -- The refusal's number.
 abbrev pub faultNumber : Fault → ℕ
@@ -66,16 +62,3 @@ form value = groups 4 value
 -- A value has a form if four groups of seven bits carry it.
 abbrev pub hasForm : ℕ → Bool
 hasForm value = ltb value (2 ^ 28)
-
--- What becomes of a number that is to stand at a place of a sheet with space for so many bytes.
-unfoldable pub encoded : ℕ → ℕ → ℕ → Encoded
-encoded value space at =
-    cond (hasForm value)
-    (cond (leb (at + length (form value)) space) (Next (at + length (form value))) TooShort)
-    TooLarge
-
--- The sheet after that answer: a number that was not written left it unchanged.
-abbrev pub afterEncode : Encoded → ℕ → List ℕ → ℕ → List ℕ
-afterEncode (Next next) value sheet at = sets sheet at (form value)
-afterEncode TooLarge value sheet at = sheet
-afterEncode TooShort value sheet at = sheet

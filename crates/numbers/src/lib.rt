@@ -4,7 +4,7 @@ ghost use mathlib.Core.Path.{_≡_};
 ghost use Prim.Native.Nat.{_+_, _^_, _<_, _≤_};
 ghost use lib.ListN.{length, drop, set};
 ghost use lib.Seq.{sets};
-ghost use Rattle.numbers.specs.Number.{number, decoded, form, encoded, afterEncode};
+ghost use Rattle.numbers.specs.Number.{number, decoded, form};
 ghost use Rattle.numbers.specs.Followed.{Followed};
 ghost use Rattle.numbers.specs.Sheet.{sheetOf, judged, bytesOf, firstTooLarge, written, afterEncodeSheet};
 ghost use Rattle.words.specs.Lists.{AllBelow};
@@ -20,13 +20,6 @@ pub enum Fault {
 pub enum Decoded {
     Number(u32, usize),
     Refused(Fault, usize),
-}
-
-// What became of a number to be written: the place after it, or why nothing was written.
-pub enum Encoded {
-    Next(usize),
-    TooLarge,
-    TooShort,
 }
 
 // How many numbers a sheet has, or the first fault in it and the place where that number starts.
@@ -156,24 +149,6 @@ fn put_followed(value: u32, sheet: &mut [u8], at: usize) -> usize
     sheet[at] = (128 * another + value % 128) as u8;
     sheet[at + 1] = (value / 128) as u8;
     at + 1 + another as usize
-}
-
-// Writes a number in its form from a place of the sheet on. Refused, it leaves the sheet unchanged.
-pub fn encode(value: u32, sheet: &mut [u8], at: usize) -> Encoded
-    ensures { λ r. ⌜ r ≡ encoded value (length (now (sheet .entry))) at ⌝ }
-    ensures { λ r. ⌜ now (sheet .exit) ≡ afterEncode r value (now (sheet .entry)) at ⌝ }
-{
-    if FORM_LIMIT <= value {
-        return Encoded::TooLarge;
-    }
-    let space = sheet.len();
-    if space < at {
-        return Encoded::TooShort;
-    }
-    if space - at < size(value) {
-        return Encoded::TooShort;
-    }
-    Encoded::Next(put(value, sheet, at))
 }
 
 // Stores a word at an index of a list, if the list has it.

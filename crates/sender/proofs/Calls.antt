@@ -6,7 +6,7 @@ use native.Mathlib.Omega.{arith}
 use borrow.Author.Tests.{le-leb, lt-leb}
 use lib.ListN.{length, take, drop}
 use lib.Seq.{sets, length-sets, length-take-le, length-front, take-all, take-append-seam}
-use Rattle.words.specs.Bytes.{littleEndian, bytesOf, answerBytes, answered, numberStored}
+use Rattle.words.specs.Bytes.{bytesOf, answerBytes, answered, numberStored}
 use Rattle.words.proofs.Lists.{sets-append}
 use Rattle.words.proofs.Bytes.{length-answerBytes, answered-long, numberStored-whole}
 use Rattle.sender.specs.Period.{serversFrom, namedCount}

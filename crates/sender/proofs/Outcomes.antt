@@ -1,6 +1,6 @@
 -- The outcomes of Send in the code's terms: one law for each answer, and what each says of the input.
 use mathlib.Core.Path.{_≡_, refl, sym, ap, _∙_}
-use mathlib.Core.Bool.{Bool, true, false, cond, not, _&&_, false≢true}
+use mathlib.Core.Bool.{Bool, true, false, not, _&&_, false≢true}
 use mathlib.Core.List.{List, _++_}
 use Prim.Native.Nat.{ℕ, _≤_, _<_}
 use native.Mathlib.Nat.{suc-ne-zero}
@@ -10,7 +10,7 @@ use lib.Dec.{eqb, leb, ltb}
 use lib.ListN.{length, take, drop}
 use lib.Seq.{length-take-le, take-all}
 use Rattle.words.proofs.Lists.{sets-front}
-use Rattle.sender.specs.Period.{serversFrom, positionAfter, Period, period, namedCount}
+use Rattle.sender.specs.Period.{serversFrom, positionAfter, period, namedCount}
 use Rattle.sender.specs.Outcome.{mostServers, Outcome, accepted, refused, inRange, sending, answerOf, listAfter}
 use Rattle.sender.specs.Promises.{InRange}
 use Rattle.sender.specs.declared.Sent.{Sent}

@@ -9,7 +9,7 @@ use native.Mathlib.Omega.{arith}
 use borrow.Author.Tests.{ltb-true, ltb-false}
 use lib.Dec.{ltb}
 use lib.ListN.{length, getD}
-use Rattle.sender.specs.Period.{following, serversFrom, positionAfter, namedCount, Period, period}
+use Rattle.sender.specs.Period.{following, serversFrom, positionAfter, namedCount, period}
 use Rattle.sender.specs.Outcome.{Outcome, accepted, refused, inRange, sending, answerOf, sentNumber, sentFigure}
 use Rattle.sender.specs.Promises.{InRange, Tells, AnsweredExactly, Kept, PeriodKept, run, ceilDiv, EachWithin}
 use Rattle.sender.specs.declared.SendRefusal.{SendRefusal}

@@ -57,7 +57,7 @@ same-length : tie.Need-same-length
 same-length c = search needs
 
 returns : tie.Need-returns
-returns c = (search needs, search needs)
+returns c = (search needs, (search needs, search needs))
 
 pub deal-spec : {M : Type 1} → statement M
 deal-spec =

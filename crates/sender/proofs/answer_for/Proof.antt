@@ -3,7 +3,6 @@ use mathlib.Core.Path.{_≡_, sym, ap, _∙_}
 use native.Mathlib.Omega.{arith}
 use mathlib.Core.Bool.{false, not}
 use Rattle.sender.specs.Outcome.{inRange, answerOf}
-use Rattle.sender.specs.Period.{namedCount}
 use Rattle.sender.proofs.Outcomes.{sending-no-messages, sending-out-of-range, answer-short, answer-whole, inside-is}
 use borrow.Author.Needs.{needs}
 use Rattle.sender.proofs.answer_for.Statement.{statement}

@@ -1,11 +1,11 @@
 -- `name_servers` meets its contract: the front of the list has the servers up to the one at hand, which is where they lead.
 use borrow.Author.Needs.{needs}
 use native.Mathlib.Omega.{arith}
-use mathlib.Core.Path.{_≡_, refl, ap, _∙_}
+use mathlib.Core.Path.{_≡_, refl}
 use Prim.Native.Nat.{_-_, _≤_, _<_}
 use lib.ListN.{length, take, length-set}
 use lib.Seq.{sets}
-use Rattle.sender.specs.Period.{following, serversFrom, positionAfter}
+use Rattle.sender.specs.Period.{serversFrom, positionAfter}
 use Rattle.sender.proofs.Periods.{positionAfter-suc, name-turn, name-end}
 use Rattle.sender.proofs.name_servers.Statement.{statement}
 use Rattle.sender.proofs.name_servers.Tie as tie

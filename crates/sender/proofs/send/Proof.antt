@@ -1,6 +1,5 @@
 -- `send` meets its contract: the answer decides, and servers are named only where it accepts.
 use mathlib.Core.Path.{refl, sym, _∙_}
-use native.Mathlib.Omega.{arith}
 use lib.ListN.{length}
 use lib.Seq.{length-take-le}
 use Rattle.sender.proofs.Outcomes.{Told, refused-done, accepted-told, named-done}

@@ -1,10 +1,9 @@
 -- `send_by` meets its contract: the answer is told, and where it accepts, just the servers named are stored.
-use mathlib.Core.Path.{_≡_, sym}
+use mathlib.Core.Path.{sym}
 use Prim.Native.Nat.{_/_, _≤_}
 use native.Mathlib.Omega.{arith}
 use lib.ListN.{length}
 use lib.Seq.{length-take-le}
-use Rattle.sender.specs.Outcome.{mostServers}
 use Rattle.sender.proofs.Outcomes.{Told, accepted-told}
 use Rattle.sender.proofs.Calls.{named-fits, call-short, call-refused, call-accepted}
 use borrow.Author.Needs.{needs}

@@ -1,6 +1,5 @@
 -- `tell` meets its contract: number and figure come first, and the new position after them where there is one.
 use Rattle.sender.proofs.Calls.{refused-bytes, accepted-bytes}
-use native.Mathlib.Omega.{arith}
 use borrow.Author.Needs.{needs}
 use Rattle.sender.proofs.tell.Statement.{statement}
 use Rattle.sender.proofs.tell.Tie as tie

@@ -1,0 +1,5 @@
+-- The laws of `schedules`, for its own proofs and for the crates above it.
+pub mod SizeLaws
+pub mod NumberLaws
+pub mod LineLaws
+pub mod LineLoop

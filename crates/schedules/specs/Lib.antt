@@ -1,0 +1,5 @@
+-- What a reader must believe of `schedules`.
+pub mod Sizes
+pub mod Text
+pub mod Schedule
+pub mod Told

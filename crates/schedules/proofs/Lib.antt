@@ -3,3 +3,4 @@ pub mod SizeLaws
 pub mod NumberLaws
 pub mod LineLaws
 pub mod LineLoop
+pub mod TableLaws

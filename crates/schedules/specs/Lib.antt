@@ -2,4 +2,5 @@
 pub mod Sizes
 pub mod Text
 pub mod Schedule
+pub mod Call
 pub mod Told

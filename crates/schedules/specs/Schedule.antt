@@ -100,6 +100,10 @@ linesOf text = linesFrom (suc mostNodes) text 0 0
 
 -- ---- The table
 
+-- The most words of a table without servers: version, count of nodes, two for each of 512, count of servers.
+abbrev pub mostWords : ℕ
+mostWords = 1027
+
 -- The words of the nodes: parent and rating of each.
 unfoldable pub nodeWords : List Entry → List ℕ
 nodeWords [] = []

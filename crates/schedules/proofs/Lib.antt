@@ -4,3 +4,6 @@ pub mod NumberLaws
 pub mod LineLaws
 pub mod LineLoop
 pub mod TableLaws
+pub mod RoomTable
+pub mod FirstBytes
+pub mod Promises

@@ -4,3 +4,4 @@ pub mod Text
 pub mod Schedule
 pub mod Call
 pub mod Told
+pub mod Promises

@@ -7,7 +7,7 @@ use native.Mathlib.Nat.{suc-ne-zero, mul-le-mul}
 use native.Mathlib.Omega.{arith}
 use native.Mathlib.Numerals.{add-one}
 use lib.Dec.{leb, ltb}
-use borrow.Author.Tests.{leb-true, ltb-true, le-leb, lt-leb, eq-eqb, ne-eqb}
+use borrow.Author.Tests.{leb-true, leb-false, ltb-true, lt-ltb, le-ltb, eq-eqb, ne-eqb}
 use Rattle.rooms.specs.Table.{mostNodes}
 use Rattle.schedules.specs.Sizes.{isSize}
 use Rattle.schedules.specs.Text.{Step, good, bad, follow, byteAt, space, newline, byte, number, field, line}
@@ -91,6 +91,22 @@ module _ (text : List ℕ) (at : ℕ) where
       line-whole v = rw (a, b, v)
 
 -- ---- A line, judged
+
+pub and-false : (t : Bool) → t && false ≡ false
+and-false true = refl
+and-false false = refl
+
+pub and-true : (t : Bool) → t && true ≡ t
+and-true true = refl
+and-true false = refl
+
+-- A parent is below a node's own number exactly when it is at most the place, one less.
+pub below-own : (parent place : ℕ) → ltb parent (suc place) ≡ leb parent place
+below-own parent place = go (leb parent place) refl
+  where
+    go : (t : Bool) → leb parent place ≡ t → ltb parent (suc place) ≡ t
+    go true e = lt-ltb parent (suc place) (omega (arith, leb-true parent place e))
+    go false e = le-ltb parent (suc place) (omega (arith, leb-false parent place e))
 
 -- Volts and parent of the line at a place are in range, and it is no 513th.
 pub record InRange (place : ℕ) (e : Entry) : Type 0 where

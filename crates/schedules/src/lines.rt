@@ -42,10 +42,11 @@ fn in_range(entry: Entry, place: usize) -> bool
     if MOST_VOLTS < volts {
         return false;
     }
-    if place < parent {
+    if MOST_NODES <= place {
         return false;
     }
-    place < MOST_NODES
+    let own = place + 1;
+    parent < own
 }
 
 // The line that starts at `at`, judged as the one at a place.

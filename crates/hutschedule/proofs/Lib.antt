@@ -1,0 +1,2 @@
+-- The laws of `hutschedule`.
+pub mod Prints

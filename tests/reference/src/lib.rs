@@ -10,6 +10,7 @@ pub mod number;
 pub mod plan;
 mod program;
 pub mod room;
+pub mod schedule;
 pub mod table;
 
 pub use program::print;

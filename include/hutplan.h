@@ -6,9 +6,9 @@
  * library but memcpy and memset, so threads may call them at the same time on buffers of their own.
  *
  * A sheet is bytes. A table is a list of words (unsigned, 32 bits). So are demands, grants and
- * caps, which are watts. Every list of words passes as bytes: four bytes a word, low byte first, at
- * any alignment. Its length is given in bytes; one to three bytes over at its end are neither read
- * nor written.
+ * caps, which are watts. Every list of words passes as bytes, at any alignment: four for each word,
+ * the lowest first. Its length is given in bytes. Where that is no multiple of four, the last one to
+ * three bytes are not looked at and not changed.
  *
  * The answer is sixteen bytes, two numbers of eight bytes each, low byte first:
  *   bytes 0 to 7    0 if the input was accepted, else the number of the refusal (see below);
@@ -120,8 +120,13 @@ uint32_t hutplan_read(const uint8_t *sheet, size_t sheet_len,
  * Write: turns the words of a table into the bytes of its sheet.
  *
  * Refusals: 4 to 9 of the table; then 12 if sheet_len is less than the count of bytes.
- * Writing a table that was read gives the sheet that it was read from, byte for byte, and reading a
- * sheet that was written gives the table that it was written from.
+ *
+ * There and back, as it is proved of the two calls in bytes (crates/capi/specs/Promises.antt):
+ *   - where hutplan_read was accepted with n words, hutplan_write of the first 4 * n bytes of that
+ *     table, into a buffer no shorter than the sheet, is accepted and gives the sheet's bytes;
+ *   - where hutplan_write was accepted with n bytes, hutplan_read of the first n bytes of that
+ *     sheet, into a buffer no shorter than the table, is accepted and gives the bytes of the
+ *     table's words (all of its bytes but one to three over).
  */
 uint32_t hutplan_write(const uint8_t *table, size_t table_len,
                        uint8_t *sheet, size_t sheet_len,

@@ -5,7 +5,7 @@ use crate::plain;
 type In = *const u8;
 type Out = *mut u8;
 
-#[rustfmt::skip] // A line a buffer pair would be thrice as long.
+#[rustfmt::skip] // A line a buffer pair would be three times as long.
 extern "C" {
     fn hutplan_read(sheet: In, sheet_len: usize, table: Out, table_len: usize, answer: Out, answer_len: usize) -> u32;
     fn hutplan_write(table: In, table_len: usize, sheet: Out, sheet_len: usize, answer: Out, answer_len: usize) -> u32;

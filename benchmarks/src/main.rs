@@ -12,7 +12,7 @@ use std::time::Instant;
 use calls::{Call, Inputs, Outputs, CALLS};
 use rooms::{room, Chance, Kind, Shape};
 
-/// Rooms of each kind. One sample runs them all, so that no branch predictor learns a room by heart.
+/// Rooms of each kind. One sample runs them all, so that no branch predictor learns a room.
 const ROOMS: usize = 8;
 
 /// Samples of each call on each side, in turn. The least is told: what else runs on the machine only adds.

@@ -4,10 +4,10 @@
 //!
 //! There is one DEMAND for each server, in the table's order: watts in decimal.
 //!
-//! Prints what document 01 says: `freed F`, then for each server `server N cap W` and for each of
-//! its cords `cord K node M grant G`; or `refused R at P`, of which hutplan.h lists the numbers and
-//! places. Exit status: 0 if all was accepted, 1 if the sheet or the demands were refused, 2 if no
-//! FILE is given or it cannot be read.
+//! Prints the plan as hutplan does: a line `freed F`, and for each server a line `server N cap W`
+//! with a line `cord K node M grant G` for each cord; or `refused R at P`, of which hutplan.h lists
+//! the numbers and places. Exit status: 0 if all was accepted, 1 if the sheet or the demands were
+//! refused, 2 if no FILE is given or it cannot be read.
 
 /// Read and Plan of `include/hutplan.h`, in safe Rust.
 mod hutplan {

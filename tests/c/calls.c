@@ -135,7 +135,7 @@ static int next_number(const char **text, int base, unsigned long *value)
     return 1;
 }
 
-/* Bytes in hexadecimal, words in decimal: parted by spaces. */
+/* Bytes in hexadecimal, words in decimal: separated by spaces. */
 static size_t parse_bytes(const char *text, uint8_t *bytes)
 {
     size_t count = 0;

@@ -1,6 +1,6 @@
 -- The C calls: what each returns and leaves in every byte of every buffer, for every length.
 --
--- A list of words is four bytes a word, low byte first; one to three bytes over at its end are neither read nor written.
+-- A list of n bytes is one of n / 4 words, each of four bytes with the lowest first; the bytes over are left alone.
 use mathlib.Core.Path.{_≡_}
 use mathlib.Core.Bool.{cond}
 use mathlib.Core.List.{List}

@@ -175,7 +175,7 @@ fn plan_by(
     }
     let grants_space = least(grants.len() / 4, granted.len());
     let caps_space = least(caps.len() / 4, capped.len());
-    let planned = deals::plan(
+    let planned = plans::plan(
         table,
         demands,
         &mut granted[..grants_space],

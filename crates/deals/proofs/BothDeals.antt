@@ -9,24 +9,24 @@ use native.Mathlib.Omega.{arith}
 use lib.Dec.{eqb, ltb}
 use lib.ListN.{length}
 use borrow.Author.Tests.{eqb-true, eq-eqb, ltb-true, lt-ltb}
-use Rattle.rooms.specs.Sums.{on, sum}
+use Rattle.figures.specs.Sums.{on, sum}
 use Rattle.rooms.specs.Table.{Room, scale, roomCords}
 use Rattle.rooms.specs.Limits.{carried, limit, beneath, nodeAt, parentOf, hangsBeneath, lowsBeneath}
 use Rattle.rooms.proofs.All.{all-at}
 use Rattle.rooms.proofs.Accepted.{CordAccepted, ServerAccepted, Accepted}
-use Rattle.rooms.proofs.Sums.{sum-cong}
+use Rattle.figures.proofs.Sums.{sum-cong}
 use Rattle.rooms.proofs.Trees.{below, under, under-is}
-use Rattle.deals.specs.Figures.{figures, at}
-use Rattle.deals.specs.Cords.{RoomCord, cordAt, serverAt, serverOf}
-use Rattle.deals.specs.Wants.{need, needs, carriedBy, lowsOf, firstWants}
-use Rattle.deals.specs.Metrics.{Deal, dealFrom, dealOf, parentsOf, nodesOf}
+use Rattle.figures.specs.Figures.{figures, at}
+use Rattle.rooms.specs.Cords.{RoomCord, cordAt, serverAt, serverOf}
+use Rattle.deals.specs.Wants.{need, needs, firstWants}
+use Rattle.rooms.specs.Lists.{carriedBy, lowsOf, parentsOf, nodesOf}
+use Rattle.deals.specs.Metrics.{Deal, dealFrom, dealOf}
 use Rattle.deals.specs.SecondDeal.{leastOver, loaded, loadOf, usable, stranded, wantsAfter, firstGrants, firstUsable, firstUsed, secondWants, secondGrants, caps}
 use Rattle.deals.specs.Dealing.{grantsBy}
-use Rattle.deals.specs.Passes.{lowsUnder}
 use Rattle.deals.proofs.Equations.{Dealable, WholeWay}
-use Rattle.deals.proofs.Lists.{figures-at, figures-length}
+use Rattle.figures.proofs.Lists.{figures-at, figures-length}
 use Rattle.deals.proofs.Computed.{granted-way}
-use Rattle.deals.proofs.Cords.{cordsOf-all, lows-sum}
+use Rattle.rooms.proofs.Cords.{cordsOf-all, lows-sum}
 use Rattle.deals.proofs.RoomDeals.{levelsOf-at, roomDeal, dealOf-is, grantsBy-is}
 use Rattle.deals.proofs.Loads.{carried-mono, carried-le, load-within, load-reached, both, leastOver-ge, leastOver-start, leastOver-le}
 
@@ -168,7 +168,7 @@ module _ (r : Room) (ok : Accepted r) where
   lows-are n =
       sum-cong (roomCords r) _ _ (λ c l. ap (λ (z : ℕ). on (hangsBeneath r n (cordAt r c .node)) z) (lowsOf-at c l)) ∙ sym (lows-sum r (hangsBeneath r n))
 
-  pub lows-under : (n : ℕ) → lowsUnder (parentsOf r) (nodesOf r) (lowsOf r) n ≡ lowsBeneath r n
+  pub lows-under : (n : ℕ) → sum (length (nodesOf r)) (λ c. on (beneath (at (parentsOf r)) (length (parentsOf r)) n (at (nodesOf r) c)) (at (lowsOf r) c)) ≡ lowsBeneath r n
   unfolding dealOf dealFrom
   lows-under n =
       ap (λ (d : Deal). sum (d .cords) (λ c. on (beneath (d .parent) (d .nodes) n (d .node c)) (d .low c))) (dealOf-is r []) ∙ lows-are n

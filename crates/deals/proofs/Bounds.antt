@@ -8,22 +8,23 @@ use native.Mathlib.Omega.{arith}
 use mathlib.Core.Bool.{Bool, true, false}
 use lib.Dec.{eqb}
 use lib.ListN.{length, getD, take, drop}
-use Rattle.rooms.specs.Sums.{on, sum}
+use Rattle.figures.specs.Sums.{on, sum}
 use Rattle.rooms.specs.Table.{Room, mostWatts, mostCords, scale, roomCords}
 use Rattle.rooms.specs.Limits.{beneath, limit, nodeAt}
 use Rattle.rooms.proofs.Accepted.{Accepted}
-use Rattle.rooms.proofs.Sums.{up}
+use Rattle.figures.proofs.Sums.{up}
 use Rattle.rooms.proofs.Trees.{kids, own, below, under, under-is}
-use Rattle.deals.specs.Figures.{at, cell, sumOf}
-use Rattle.deals.specs.Cords.{cordAt}
-use Rattle.deals.specs.Wants.{needs, lowsOf, firstWants}
+use Rattle.figures.specs.Figures.{at, cell, sumOf}
+use Rattle.rooms.specs.Cords.{cordAt}
+use Rattle.deals.specs.Wants.{needs, firstWants}
+use Rattle.rooms.specs.Lists.{lowsOf}
 use Rattle.deals.specs.Metrics.{Deal, dealOf, atLevel, metrics, pcapminsFrom, childSums, excess}
 use Rattle.deals.specs.Dealing.{weightSum, amount}
 use Rattle.deals.specs.SecondDeal.{stranded, firstGrants, firstUsed, freed, secondWants}
 use Rattle.deals.specs.Properties.{mostSum, DealBounded, Bounded}
 use Rattle.deals.proofs.Equations.{Dealable, asked, weights, pcapmin-request, requests-fit, requests-left, asked-wants, amount-within, weights-asked}
 use Rattle.deals.proofs.Computed.{childSums-at, requestsFrom-length, pcapmins-levels, requests-levels, pcapmin, request, amountOf, measured, dealt}
-use Rattle.deals.proofs.Lists.{total-drop, total-sum, sum-most, sum-one-le, sumOf-take, sumOf-most}
+use Rattle.figures.proofs.Lists.{total-drop, total-sum, sum-most, sum-one-le, sumOf-take, sumOf-most}
 use Rattle.deals.proofs.Loads.{carried-most}
 use Rattle.deals.proofs.BothDeals.{server-facts, cord-facts, carriedBy-at, stranded-at, stranded-count, need-le, first-most, firstWants-lows, secondWants-lows, secondWants-wants, room-dealable}
 use Rattle.deals.proofs.RoomDeals.{roomDeal, dealOf-is}

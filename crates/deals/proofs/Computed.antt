@@ -8,15 +8,15 @@ use lib.Dec.{eqb, leb}
 use lib.ListN.{length, getD, drop, drop-of-length-le}
 use lib.Seq.{drop-cons, drop-drop}
 use borrow.Author.Tests.{ne-eqb}
-use Rattle.rooms.specs.Sums.{on, sum}
-use Rattle.rooms.proofs.Sums.{on-no, sum-cong, sum-zero, sum-up, up}
+use Rattle.figures.specs.Sums.{on, sum}
+use Rattle.figures.proofs.Sums.{on-no, sum-cong, sum-zero, sum-up, up}
 use Rattle.rooms.proofs.Trees.{kids, own, below, below-cong}
-use Rattle.deals.specs.Figures.{at, cell, sumOf}
+use Rattle.figures.specs.Figures.{at, cell, sumOf}
 use Rattle.deals.specs.Metrics.{Deal, atLevel, overRows, childSums, pcapminsFrom, requestsAbove, requestsFrom, metrics, overCords}
 use Rattle.deals.specs.Split.{part}
 use Rattle.deals.specs.Dealing.{byNumber, nodeWeight, weightSum, beforeNode, beforeCord, amount, reached, granted}
 use Rattle.deals.specs.Properties.{GivesAll}
-use Rattle.deals.proofs.Lists.{figures-at, figures-length, total-drop}
+use Rattle.figures.proofs.Lists.{figures-at, figures-length, total-drop}
 use Rattle.deals.proofs.Rows.{IsRow}
 use Rattle.deals.proofs.Equations.{Dealable, WholeWay, Measured, Dealt, fromLevel, asked, weights, grant, amount-within, gives-all, reached-excess, ours, most-above}
 

@@ -7,8 +7,8 @@ use native.Mathlib.Nat.{le-trans, le-of-eq, zero-add, add-le-add, mul-le-mul-lef
 use native.Mathlib.Omega.{arith}
 use lib.Dec.{eqb, leb, leb·zero}
 use borrow.Author.Tests.{eqb-true}
-use Rattle.rooms.specs.Sums.{on, sum}
-use Rattle.rooms.proofs.Sums.{on-add, on-le, on-cong, on-yes, sum-cong, sum-le, sum-add, sum-up, up, up-le, up-cong, up-add, up-sum, up-one, up-mul}
+use Rattle.figures.specs.Sums.{on, sum}
+use Rattle.figures.proofs.Sums.{on-add, on-le, on-cong, on-yes, sum-cong, sum-le, sum-add, sum-up, up, up-le, up-cong, up-add, up-sum, up-one, up-mul}
 use Rattle.rooms.proofs.Trees.{kids, own, below, below-step, kids-add, kids-cong, kids-le, down, rise, meets}
 use Rattle.deals.specs.Metrics.{Deal, atLevel}
 use Rattle.deals.specs.Split.{part}

@@ -7,10 +7,10 @@ use native.Mathlib.Nat.{le-refl, le-trans, le-of-eq, zero-add, suc-ne-zero}
 use native.Mathlib.Omega.{arith}
 use lib.Dec.{eqb}
 use borrow.Author.Tests.{eqb-true, eqb-false, eq-eqb, ne-eqb}
-use Rattle.rooms.specs.Sums.{on, sum}
-use Rattle.rooms.proofs.Sums.{on-no, on-cong, sum-cong, sum-zero, sum-none, sum-up, up}
+use Rattle.figures.specs.Sums.{on, sum}
+use Rattle.figures.proofs.Sums.{on-no, on-cong, sum-cong, sum-zero, sum-none, sum-up, up}
 use Rattle.rooms.proofs.Trees.{kids, own, kids-cong, down, rise}
-use Rattle.deals.specs.Figures.{at}
+use Rattle.figures.specs.Figures.{at}
 use Rattle.deals.specs.Metrics.{Deal, atLevel}
 use Rattle.deals.specs.Split.{part}
 use Rattle.deals.specs.Dealing.{granted}

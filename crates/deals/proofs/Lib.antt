@@ -2,8 +2,7 @@
 
 -- The rooms worked by hand: the definitions alone.
 pub mod WorkedRooms
--- Lists of figures, one node's row of Requests, and the split.
-pub mod Lists
+-- One node's row of Requests, and the split.
 pub mod Rows
 pub mod Splits
 -- One deal: what follows from its equations, and that the computed figures meet them.
@@ -12,7 +11,6 @@ pub mod Computed
 pub mod Inside
 pub mod OneTree
 -- The deals of a room whose table is accepted.
-pub mod Cords
 pub mod Loads
 pub mod RoomDeals
 pub mod BothDeals
@@ -22,19 +20,3 @@ pub mod Bounds
 pub mod Plans
 pub mod Lent
 pub mod Promises
--- The passes of the code: over the nodes and cords of a rank, rank by rank, and over the servers of a table.
-pub mod NodeSums
-pub mod Gathering
-pub mod Serving
-pub mod NodeTurns
-pub mod CordTurns
-pub mod Links
-pub mod Active
-pub mod Ranks
-pub mod RankLoop
-pub mod Filled
-pub mod Walk
-pub mod Loading
-pub mod Reclaiming
-pub mod Planning
-pub mod PlanCall

@@ -10,9 +10,10 @@ use borrow.Author.Tests.{eqb-true}
 use Rattle.rooms.specs.Table.{Room, scale, roomCords}
 use Rattle.rooms.specs.Limits.{carried}
 use Rattle.rooms.proofs.Accepted.{Accepted}
-use Rattle.deals.specs.Figures.{at}
-use Rattle.deals.specs.Cords.{cordAt, serverAt}
-use Rattle.deals.specs.Wants.{need, needs, carriedBy, lowsOf, firstWants}
+use Rattle.figures.specs.Figures.{at}
+use Rattle.rooms.specs.Cords.{cordAt, serverAt}
+use Rattle.deals.specs.Wants.{need, needs, firstWants}
+use Rattle.rooms.specs.Lists.{carriedBy, lowsOf}
 use Rattle.deals.specs.Dealing.{grantsBy}
 use Rattle.deals.specs.SecondDeal.{loaded, loadOf, usable, stranded, firstGrants, firstUsable, firstUsed, secondWants, secondGrants, caps}
 use Rattle.deals.specs.Promises.{SameServers, SameCords}

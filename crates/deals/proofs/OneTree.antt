@@ -7,11 +7,11 @@ use native.Mathlib.Nat.{le-refl, le-trans, le-of-eq, not-suc-le-zero, zero-mul}
 use native.Mathlib.Omega.{arith}
 use lib.Dec.{eqb, leb}
 use borrow.Author.Tests.{eqb-true}
-use Rattle.rooms.specs.Sums.{on}
+use Rattle.figures.specs.Sums.{on}
 use Rattle.rooms.specs.Limits.{beneath}
-use Rattle.rooms.proofs.Sums.{sum-cong}
+use Rattle.figures.proofs.Sums.{sum-cong}
 use Rattle.rooms.proofs.Trees.{meets, below, under, beneath-meets, under-is}
-use Rattle.deals.specs.Figures.{at}
+use Rattle.figures.specs.Figures.{at}
 use Rattle.deals.specs.Metrics.{Deal}
 use Rattle.deals.specs.Dealing.{granted}
 use Rattle.deals.proofs.Equations.{Dealable, WholeWay, fromLevel}

@@ -16,7 +16,7 @@ use Rattle.rooms.specs.Promises.{Overloaded}
 use Rattle.rooms.specs.declared.Refusal.{Refusal}
 use Rattle.rooms.specs.declared.Refusal.the-variants.{LowsAboveLimit}
 use Rattle.rooms.proofs.Overloaded.{checked-nine, nine-lows}
-use Rattle.deals.specs.Figures.{at}
+use Rattle.figures.specs.Figures.{at}
 use Rattle.deals.specs.Dealing.{granted, grantsBy}
 use Rattle.deals.specs.SecondDeal.{usable, freed, secondWants, secondGrants, caps}
 use Rattle.deals.specs.Plan.{Outcome, accepted, refused, firstTooLarge, planRoom, planStep, plan, answerOf, grantsAfter, capsAfter, planNumber}
@@ -24,7 +24,7 @@ use Rattle.deals.specs.Promises.{AcceptedPlan, IsNine}
 use Rattle.deals.specs.declared.PlanRefusal.{PlanRefusal}
 use Rattle.deals.specs.declared.PlanRefusal.the-variants.{Table, DemandCount, DemandTooLarge, GrantsTooShort, CapsTooShort}
 use Rattle.deals.specs.declared.Planned.the-variants.{Accepted, Refused}
-use Rattle.deals.proofs.Lists.{figures-length}
+use Rattle.figures.proofs.Lists.{figures-length}
 use Rattle.deals.proofs.RoomDeals.{grantsBy-is}
 
 -- ---- The first demand that is too large

@@ -9,15 +9,15 @@ use lib.Dec.{leb}
 use lib.ListN.{length}
 use borrow.Author.Tests.{leb-true, leb-false, le-leb, lt-leb}
 use Rattle.rooms.specs.Part.{good}
-use Rattle.rooms.specs.Sums.{on}
+use Rattle.figures.specs.Sums.{on}
 use Rattle.rooms.specs.Table.{Room, highestRank, roomCords}
 use Rattle.rooms.specs.Limits.{parentOf, checked}
 use Rattle.rooms.proofs.Accepted.{Accepted, accepted}
-use Rattle.rooms.proofs.Sums.{sum-cong}
+use Rattle.figures.proofs.Sums.{sum-cong}
 use Rattle.rooms.proofs.Trees.{below, under, under-is}
-use Rattle.deals.specs.Figures.{at}
-use Rattle.deals.specs.Cords.{cordAt, rankOf}
-use Rattle.deals.specs.Wants.{carriedBy, lowsOf}
+use Rattle.figures.specs.Figures.{at}
+use Rattle.rooms.specs.Cords.{cordAt, rankOf}
+use Rattle.rooms.specs.Lists.{carriedBy, lowsOf}
 use Rattle.deals.specs.Dealing.{grantsBy}
 use Rattle.deals.specs.SecondDeal.{firstGrants, firstUsable, secondWants, secondGrants, caps}
 use Rattle.deals.specs.Ways.{cordBeneath, sumBeneath, fromRank}

@@ -7,14 +7,13 @@ use native.Mathlib.Omega.{arith}
 use lib.ListN.{length, List·getD-eq-default}
 use Rattle.rooms.specs.Table.{Node, Room, highestRank, roomCords}
 use Rattle.rooms.specs.Limits.{limit, nodeAt, parentOf}
-use Rattle.deals.specs.Figures.{figures, at}
-use Rattle.deals.specs.Cords.{RoomCord, cordsOf, cordAt, rankOf}
-use Rattle.deals.specs.Wants.{lowsOf}
-use Rattle.deals.specs.Metrics.{Deal, dealFrom, parentsOf, limitsOf, nodesOf, levelsOf, dealOf}
+use Rattle.figures.specs.Figures.{figures, at}
+use Rattle.rooms.specs.Cords.{RoomCord, cordsOf, cordAt, rankOf}
+use Rattle.rooms.specs.Lists.{lowsOf, parentsOf, limitsOf, nodesOf, levelsOf, sharesOf, serversOf}
+use Rattle.deals.specs.Metrics.{Deal, dealFrom, dealOf}
 use Rattle.deals.specs.Dealing.{granted, grantsBy}
-use Rattle.deals.specs.Passes.{sharesOf, serversOf}
-use Rattle.deals.proofs.Lists.{figures-at, figures-length}
-use Rattle.deals.proofs.Cords.{cordsOf-length}
+use Rattle.figures.proofs.Lists.{figures-at, figures-length}
+use Rattle.rooms.proofs.Cords.{cordsOf-length}
 
 -- Figures that are 0 from place k on stand at every place of their list, past its end too.
 figures-everywhere : (k : ℕ) (g : ℕ → ℕ) → ((i : ℕ) → k ≤ i → g i ≡ 0) → (i : ℕ) → at (figures k g) i ≡ g i

@@ -6,8 +6,8 @@ use Prim.Native.Nat.{ℕ, zero, suc, _+_, _-_, _≤_, _<_, min}
 use native.Mathlib.Nat.{le-refl, le-trans}
 use native.Mathlib.Decide.{decLe}
 use native.Mathlib.Omega.{arith}
-use Rattle.rooms.specs.Sums.{sum}
-use Rattle.rooms.proofs.Sums.{up, sum-suc, sum-le, sum-cong, sum-up}
+use Rattle.figures.specs.Sums.{sum}
+use Rattle.figures.proofs.Sums.{up, sum-suc, sum-le, sum-cong, sum-up}
 
 -- The row r of a node: from the highest of mm levels down, the lesser of what the limit leaves and of what the children ask,
 -- where p is the row of Pcapmin and s the children's sums.

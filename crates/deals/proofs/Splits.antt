@@ -6,10 +6,9 @@ use mathlib.Core.List.{List, [], _∷_}
 use Prim.Native.Nat.{ℕ, zero, suc, _+_, _*_, _-_, _/_, _≤_, _<_}
 use native.Mathlib.Nat.{le-trans, mul-zero, zero-div, div-zero, mul-div-cancel, add-mul-div-left, eq-zero-or-pos, mul-le-mul-right, le-div-iff-mul-le, div-mul-le-self, add-zero, add-assoc, zero-add}
 use native.Mathlib.Omega.{arith}
-use Rattle.rooms.specs.Part.{total}
-use Rattle.rooms.specs.Sums.{on, sum}
-use Rattle.rooms.proofs.Sums.{sum-cong}
-use Rattle.deals.specs.Figures.{at, sumOf}
+use Rattle.figures.specs.Figures.{total, at, sumOf}
+use Rattle.figures.specs.Sums.{on, sum}
+use Rattle.figures.proofs.Sums.{sum-cong}
 use Rattle.deals.specs.Split.{part, partsAfter, split}
 
 pub div-mono : (a b e : ℕ) → a ≤ b → a / e ≤ b / e

@@ -3,7 +3,8 @@
 use mathlib.Core.Path.{_≡_, refl}
 use mathlib.Core.List.{List, [], _∷_}
 use Prim.Native.Nat.{ℕ}
-use Rattle.rooms.specs.Part.{follow, word, ensure, end, many, total}
+use Rattle.rooms.specs.Part.{follow, word, ensure, end, many}
+use Rattle.figures.specs.Figures.{total}
 use Rattle.rooms.specs.Table.{node, cord, range, load, server, table}
 use Rattle.rooms.specs.Limits.{beneath, serverLows, lows, firstNode, overloaded}
 use Rattle.deals.specs.Split.{split}

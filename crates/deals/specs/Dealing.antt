@@ -2,9 +2,9 @@
 use mathlib.Core.List.{List}
 use Prim.Native.Nat.{ℕ, zero, suc, _+_}
 use lib.Dec.{eqb}
-use Rattle.rooms.specs.Sums.{on, sum}
+use Rattle.figures.specs.Sums.{on, sum}
 use Rattle.rooms.specs.Table.{Room}
-use Rattle.deals.specs.Figures.{figuresFrom, figures}
+use Rattle.figures.specs.Figures.{figuresFrom, figures}
 use Rattle.deals.specs.Metrics.{Deal, Metrics, dealOf, metrics, excess, cordExcess, overNodes, overCords, atLevel}
 use Rattle.deals.specs.Split.{part}
 

@@ -1,7 +1,6 @@
 -- What a reader must believe of `deals`.
-pub mod Figures
--- The room's cords, and the wants of the first deal.
-pub mod Cords
+
+-- Needs, and the wants of the first deal.
 pub mod Wants
 -- One deal: metrics, split and dealing.
 pub mod Metrics
@@ -15,5 +14,3 @@ pub mod Ways
 pub mod Promises
 -- What else is proved of every plan.
 pub mod Properties
--- Cited by contracts of private functions alone.
-pub mod Passes

@@ -3,13 +3,10 @@ use mathlib.Core.List.{List, [], _∷_}
 use Prim.Native.Nat.{ℕ, zero, suc, _+_, _-_, min}
 use lib.Dec.{eqb}
 use lib.ListN.{length, getD}
-use Rattle.rooms.specs.Part.{total}
-use Rattle.rooms.specs.Sums.{on, sum}
-use Rattle.rooms.specs.Table.{Room, highestRank, roomCords}
-use Rattle.rooms.specs.Limits.{limit, nodeAt, parentOf}
-use Rattle.deals.specs.Figures.{figuresFrom, figures, at, cell, sumOf}
-use Rattle.deals.specs.Cords.{cordsFrom, cordAt, rankOf}
-use Rattle.deals.specs.Wants.{lowsOf}
+use Rattle.figures.specs.Figures.{total, figuresFrom, figures, at, cell, sumOf}
+use Rattle.figures.specs.Sums.{on, sum}
+use Rattle.rooms.specs.Table.{Room, highestRank}
+use Rattle.rooms.specs.Lists.{parentsOf, limitsOf, nodesOf, levelsOf, lowsOf}
 
 -- What a deal goes by: nodes and cords by their places, counted from 0. A parent, and a cord's node, is a node's number:
 -- its place plus one, or 0 for none. A level is a rank counted from 0, as the places of a row are; there are `levels` of them.
@@ -37,24 +34,6 @@ dealFrom parents limits nodes levels lows wants = record {
   want = at wants;
   levels = highestRank;
 }
-
--- The parent and the limit of each node of a room.
-unfoldable pub parentsOf : Room → List ℕ
-unfolding figuresFrom
-parentsOf r = figures (length (r .nodes)) (parentOf r)
-
-unfoldable pub limitsOf : Room → List ℕ
-unfolding figuresFrom
-limitsOf r = figures (length (r .nodes)) (λ m. limit (nodeAt r m))
-
--- The node and the level of each cord.
-unfoldable pub nodesOf : Room → List ℕ
-unfolding figuresFrom cordsFrom
-nodesOf r = figures (roomCords r) (λ c. cordAt r c .node)
-
-unfoldable pub levelsOf : Room → List ℕ
-unfolding figuresFrom cordsFrom
-levelsOf r = figures (roomCords r) (λ c. rankOf r c - 1)
 
 -- The deal of a room by given wants, one a cord.
 unfoldable pub dealOf : Room → List ℕ → Deal
@@ -96,7 +75,7 @@ pcapminsFrom d (suc k) n =
     childSums d n rows (d .low) ∷ rows
 
 -- The Requests of a node at k levels from level j on, where the Pcapmin of the lower ranks sum to `lower`. From the
--- highest rank down, each is the lesser of limit − (Requests of higher ranks) − (Pcapmin of lower ranks) and the children's.
+-- highest rank down, each is the children's, cut to what the limit has over the Requests of higher and the Pcapmin of lower ranks.
 unfoldable pub requestsAbove : ℕ → ℕ → ℕ → ℕ → (ℕ → ℕ) → (ℕ → ℕ) → List ℕ
 unfolding total
 requestsAbove zero j limit lower pcapmin children = []

@@ -9,9 +9,10 @@ use Rattle.rooms.specs.Part.{good}
 use Rattle.rooms.specs.Table.{Room, roomCords}
 use Rattle.rooms.specs.Limits.{limit, nodeAt, checked}
 use Rattle.rooms.specs.Promises.{Overloaded}
-use Rattle.deals.specs.Figures.{at}
-use Rattle.deals.specs.Cords.{serverAt, rankOf}
-use Rattle.deals.specs.Wants.{lowsOf, firstWants}
+use Rattle.figures.specs.Figures.{at}
+use Rattle.rooms.specs.Cords.{serverAt, rankOf}
+use Rattle.deals.specs.Wants.{firstWants}
+use Rattle.rooms.specs.Lists.{lowsOf}
 use Rattle.deals.specs.SecondDeal.{firstGrants, firstUsable, freed, secondWants, secondGrants, caps}
 use Rattle.deals.specs.Plan.{accepted, plan, answerOf, planNumber, planFigure}
 use Rattle.deals.specs.Ways.{Root, Way, sumBeneath, fromRank}

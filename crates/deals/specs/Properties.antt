@@ -8,9 +8,10 @@ use lib.ListN.{length, getD, take, drop}
 use Rattle.rooms.specs.Part.{good}
 use Rattle.rooms.specs.Table.{Room, mostWatts, mostCords, roomCords}
 use Rattle.rooms.specs.Limits.{checked}
-use Rattle.deals.specs.Figures.{at, cell, sumOf}
-use Rattle.deals.specs.Cords.{serverAt}
-use Rattle.deals.specs.Wants.{needs, carriedBy, lowsOf, firstWants}
+use Rattle.figures.specs.Figures.{at, cell, sumOf}
+use Rattle.rooms.specs.Cords.{serverAt}
+use Rattle.deals.specs.Wants.{needs, firstWants}
+use Rattle.rooms.specs.Lists.{carriedBy, lowsOf}
 use Rattle.deals.specs.Metrics.{Deal, dealOf, metrics, excess, cordExcess, overNodes, overCords, childSums}
 use Rattle.deals.specs.Split.{split}
 use Rattle.deals.specs.Dealing.{weightSum, amount, reached}

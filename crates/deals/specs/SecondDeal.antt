@@ -4,11 +4,11 @@ use mathlib.Core.List.{List}
 use Prim.Native.Nat.{ℕ, zero, suc, _-_, _*_, _/_, min}
 use lib.Dec.{eqb, ltb}
 use lib.ListN.{length}
-use Rattle.rooms.specs.Part.{total}
+use Rattle.figures.specs.Figures.{total, figuresFrom, figures, at, sumOf}
 use Rattle.rooms.specs.Table.{Room, scale, roomCords}
-use Rattle.deals.specs.Figures.{figuresFrom, figures, at, sumOf}
-use Rattle.deals.specs.Cords.{cordsFrom, cordAt}
-use Rattle.deals.specs.Wants.{needs, carriedBy, firstWants}
+use Rattle.rooms.specs.Cords.{cordsFrom, cordAt}
+use Rattle.deals.specs.Wants.{needs, firstWants}
+use Rattle.rooms.specs.Lists.{carriedBy}
 use Rattle.deals.specs.Dealing.{grantsBy}
 
 -- The least of a start and of the figures, at the places below k, of which a test holds.
@@ -28,7 +28,7 @@ loaded r v c = eqb (cordAt r c .server) v && ltb 0 (cordAt r c .share)
 abbrev pub loadOf : Room → List ℕ → ℕ → ℕ
 loadOf r grants c = scale * at grants c / cordAt r c .share
 
--- The usable watts of each server: the least of its need and, over its cords with share above 0, of those loads.
+-- The usable watts of each server: its need, or the least of those loads of its cords with a share, if that is less.
 unfoldable pub usable : Room → List ℕ → List ℕ → List ℕ
 unfolding figuresFrom leastOver cordsFrom
 usable r need grants = figures (length (r .servers)) (λ v. leastOver (roomCords r) (loaded r v) (loadOf r grants) (at need v))
@@ -38,7 +38,7 @@ unfoldable pub stranded : Room → List ℕ → List ℕ → List ℕ
 unfolding figuresFrom
 stranded r grants used = figures (roomCords r) (λ c. at grants c - at used c)
 
--- The next deal's wants: a cord with stranded watts has its used watts, every other its want as before.
+-- The next deal's wants: used watts where some are stranded, and the want as it was where none are.
 unfoldable pub wantsAfter : Room → List ℕ → List ℕ → List ℕ → List ℕ
 unfolding figuresFrom stranded
 wantsAfter r wants grants used =

@@ -1,8 +1,7 @@
 -- The split of an amount by weights.
 use mathlib.Core.List.{List, [], _∷_}
 use Prim.Native.Nat.{ℕ, _+_, _-_, _*_, _/_}
-use Rattle.rooms.specs.Part.{total}
-use Rattle.deals.specs.Figures.{sumOf}
+use Rattle.figures.specs.Figures.{total, sumOf}
 
 -- What a child gets of an amount X, where the weights sum to E, those before it to C(k − 1), and its own makes that C(k):
 -- floor(X × C(k) / E) − floor(X × C(k − 1) / E). A quotient by 0 is 0: nothing if E = 0.

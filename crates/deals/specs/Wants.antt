@@ -1,13 +1,13 @@
--- Needs of servers, and what their cords carry of a load: lows and wants.
+-- Needs of servers, and the wants of the first deal.
 use mathlib.Core.List.{List}
 use Prim.Native.Nat.{ℕ, min, max}
 use lib.ListN.{length}
-use Rattle.rooms.specs.Table.{Server, Room, scale, roomCords}
-use Rattle.rooms.specs.Limits.{carried}
-use Rattle.deals.specs.Figures.{figuresFrom, figures, at}
-use Rattle.deals.specs.Cords.{cordsFrom, cordAt, serverAt}
+use Rattle.rooms.specs.Table.{Server, Room}
+use Rattle.figures.specs.Figures.{figuresFrom, figures, at}
+use Rattle.rooms.specs.Cords.{serverAt}
+use Rattle.rooms.specs.Lists.{carriedBy}
 
--- A server's need is its demand, raised to least and cut to greatest.
+-- The need of a server: its demand, brought into the range from least to greatest.
 abbrev pub need : Server → ℕ → ℕ
 need s demand = min (max demand (s .least)) (s .greatest)
 
@@ -15,16 +15,6 @@ need s demand = min (max demand (s .least)) (s .greatest)
 unfoldable pub needs : Room → List ℕ → List ℕ
 unfolding figuresFrom
 needs r demands = figures (length (r .servers)) (λ v. need (serverAt r v) (at demands v))
-
--- What each cord carries where each server has the load given: ceil(share × load / 1000).
-unfoldable pub carriedBy : Room → List ℕ → List ℕ
-unfolding figuresFrom cordsFrom
-carriedBy r loads = figures (roomCords r) (λ c. carried scale (cordAt r c .share) (at loads (cordAt r c .server)))
-
--- The low of each cord: what it carries of its server's least.
-unfoldable pub lowsOf : Room → List ℕ
-unfolding carriedBy
-lowsOf r = carriedBy r (figures (length (r .servers)) (λ v. serverAt r v .least))
 
 -- The want of each cord in the first deal: what it carries of its server's need.
 unfoldable pub firstWants : Room → List ℕ → List ℕ

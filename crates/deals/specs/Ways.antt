@@ -5,12 +5,12 @@ use mathlib.Core.List.{List}
 use Prim.Native.Nat.{ℕ, suc, _≤_, _<_}
 use lib.Dec.{leb}
 use lib.ListN.{length}
-use Rattle.rooms.specs.Sums.{on, sum}
+use Rattle.figures.specs.Sums.{on, sum}
 use Rattle.rooms.specs.Table.{Room, roomCords}
 use Rattle.rooms.specs.Limits.{limit, nodeAt, parentOf, hangsBeneath}
-use Rattle.deals.specs.Figures.{at}
-use Rattle.deals.specs.Cords.{cordAt, rankOf}
-use Rattle.deals.specs.Wants.{lowsOf}
+use Rattle.figures.specs.Figures.{at}
+use Rattle.rooms.specs.Cords.{cordAt, rankOf}
+use Rattle.rooms.specs.Lists.{lowsOf}
 
 -- A root is a node with parent 0. Its tree is the root with every node beneath it.
 pub record Root (r : Room) (n : ℕ) : Type 0 where
@@ -33,9 +33,9 @@ sumBeneath r n figure = sum (roomCords r) (λ c. on (cordBeneath r n c) (figure 
 abbrev pub fromRank : Room → ℕ → List ℕ → ℕ → ℕ
 fromRank r rank watts c = on (leb rank (rankOf r c)) (at watts c)
 
--- A way of dealing the tree of a root, by given wants: whole watts for the cords, by their places in the table, where each of
--- the tree's cords has at least its low and at most its want, and at every node of the tree the watts of all cords beneath it
--- sum to no more than its limit. Nothing is asked of the watts of other cords.
+-- A way of dealing the tree of a root, by given wants: whole watts for the cords, by their places in the table. Those of the
+-- tree's cords lie from low to want, and those beneath each node of the tree sum to no more than its limit. Nothing is asked of
+-- the watts of other cords.
 pub record Way (r : Room) (root : ℕ) (wants watts : List ℕ) : Type 0 where
   pub least : (c : ℕ) → c < roomCords r → cordBeneath r root c ≡ true → at (lowsOf r) c ≤ at watts c
   pub most : (c : ℕ) → c < roomCords r → cordBeneath r root c ≡ true → at watts c ≤ at wants c

@@ -1,20 +1,7 @@
-// The two deals of a plan: metrics, dealing and the second deal, over a checked room.
+// What Plan answers. The definitions of both deals and of the whole plan, and its promises, stand in specs/, their proofs in proofs/;
+// the operation itself is `plans::plan`.
 ghost use mathlib.Core.Path.{_≡_};
-ghost use lib.ListN.{length};
-ghost use Rattle.deals.specs.Plan.{plan, answerOf, grantsAfter, capsAfter, planRefusalNumber, planRefusalPlace, planNumber, planFigure};
-use both_deals::first_too_large;
-use both_deals::plan_room;
-use rooms::Checked;
-use widths::word_index;
-
-mod both_deals;
-mod deal;
-mod dealing;
-mod levels;
-mod metrics;
-mod reclaim;
-mod room;
-mod widths;
+ghost use Rattle.deals.specs.Plan.{planRefusalNumber, planRefusalPlace, planNumber, planFigure};
 
 // Why a plan is turned back, and where: the table's refusal, the count of servers or cords, or a demand's index.
 pub enum PlanRefusal {
@@ -79,42 +66,4 @@ impl Planned {
             Planned::Refused(refusal) => refusal.place() as u64,
         }
     }
-}
-
-// Plan: a table and its servers' demands; a grant for each cord and a cap for each server, at the front of their lists.
-// Refused, it leaves both lists unchanged.
-pub fn plan(table: &[u32], demands: &[u32], grants: &mut [u32], caps: &mut [u32]) -> Planned
-    ensures { λ r. ⌜ r ≡ answerOf (plan (now (table .entry)) (now (demands .entry)) (length (now (grants .entry))) (length (now (caps .entry)))) ⌝ }
-    ensures { λ _. ⌜ now (grants .exit) ≡ grantsAfter (plan (now (table .entry)) (now (demands .entry)) (length (now (grants .entry))) (length (now (caps .entry)))) (now (grants .entry)) ⌝ }
-    ensures { λ _. ⌜ now (caps .exit) ≡ capsAfter (plan (now (table .entry)) (now (demands .entry)) (length (now (grants .entry))) (length (now (caps .entry)))) (now (caps .entry)) ⌝ }
-{
-    let mut beneath = [0u64; 512];
-    let checked = rooms::check_lows(table, &mut beneath);
-    let count = match checked {
-        Checked::Good(cords, _) => cords,
-        Checked::Refused(refusal) => return Planned::Refused(PlanRefusal::Table(refusal)),
-    };
-    let cords = word_index(count);
-    let servers = word_index(table[2 + 2 * word_index(table[1])]);
-    if demands.len() != servers {
-        return Planned::Refused(PlanRefusal::DemandCount(servers));
-    }
-    let large = first_too_large(demands);
-    if large < demands.len() {
-        return Planned::Refused(PlanRefusal::DemandTooLarge(large));
-    }
-    if grants.len() < cords {
-        return Planned::Refused(PlanRefusal::GrantsTooShort(cords));
-    }
-    if caps.len() < servers {
-        return Planned::Refused(PlanRefusal::CapsTooShort(servers));
-    }
-    let freed = plan_room(
-        table,
-        demands,
-        &beneath,
-        &mut grants[..cords],
-        &mut caps[..servers],
-    );
-    Planned::Accepted(freed)
 }

@@ -18,7 +18,7 @@ use Rattle.deals.specs.Metrics.{dealOf}
 use Rattle.deals.specs.Plan.{plan, planRoom, Outcome}
 use Rattle.deals.specs.Plan as plan
 use Rattle.deals.specs.Promises.{AcceptedPlan}
-use Rattle.deals.proofs.Lists.{figures-length}
+use Rattle.figures.proofs.Lists.{figures-length}
 use Rattle.deals.proofs.Plans.{plan-good-table}
 use Rattle.deals.proofs.Promises.{answer-of-both-deals, second-kept, caps-in-range, figures-fit}
 use Rattle.print.specs.Line.{Put}

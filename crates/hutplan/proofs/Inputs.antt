@@ -1,16 +1,15 @@
--- What is read: pieces, one after the other, make up one text; and what is printed of it.
+-- What is read: pieces, one after the other, make up one text.
 use mathlib.Core.Path.{_≡_, sym, ap, _∙_}
 use mathlib.Core.List.{List, [], _++_}
 use Prim.Native.Nat.{ℕ, _≤_}
 use native.Mathlib.Omega.{arith}
-use lib.ListN.{length, take}
-use lib.Seq.{take-all, length-take-le}
+use lib.ListN.{length}
+use lib.Seq.{length-take-le}
 use Rattle.io.specs.Counts.{Counts}
 use Rattle.demands.specs.Text.{mostLines}
 use Rattle.demands.specs.Reading.{Held, held, with, emptyLine, fed, finished, countIn}
 use Rattle.demands.proofs.Promises.{fed-append, text-whole}
-use Rattle.hutplan.specs.Input.{mostBytes, ReadFile, FedPiece, ReadText}
-use Rattle.hutplan.specs.Printed.{sheetText, printed, Ran}
+use Rattle.hutplan.specs.Input.{FedPiece, ReadText}
 
 -- No piece, and one more.
 pub fed-none : {h g : Held} → h ≡ g → FedPiece g h
@@ -37,20 +36,3 @@ read-text before after {h} {count} long p l e =
       record { text = text; is = rw (list, counted) (text-whole before text long) },
       (within, sym (length-take-le count after within)),
     )
-
--- ---- the file
-
--- Bytes that fit the sheet are those of a file.
-pub read-file : (sheet : List ℕ) (bytes : ℕ) → length sheet ≡ mostBytes → bytes ≤ length sheet → ReadFile sheet bytes
-read-file sheet bytes size h =
-    let fits = length-take-le bytes sheet h in
-    record { file = take bytes sheet; is = sym (take-all mostBytes (take bytes sheet) (omega arith)) }
-
--- ---- the run
-
--- What is printed of a sheet and demands that were read is what is printed of the file and the text.
-pub ran : (sheet demands : List ℕ) {bytes count : ℕ} {print : List ℕ} → ReadFile sheet bytes → ReadText demands count
-    → print ≡ sheetText (take bytes sheet) (take count demands) → Ran sheet demands print
-unfolding printed
-ran sheet demands {bytes} {count} f t e =
-    record { bytes = bytes; count = count; fromFile = f; fromInput = t; is = rw (f .is, t .is) at e }

@@ -2,4 +2,5 @@
 pub mod Inputs
 pub mod Prints
 pub mod Fits
+pub mod Promises
 pub mod WorkedRooms

@@ -5,7 +5,8 @@ use Prim.Native.Nat.{ℕ}
 use lib.ListN.{length}
 use Rattle.numbers.specs.Number.{number, later}
 use Rattle.numbers.specs.Sheet.{sheetFrom}
-use Rattle.rooms.specs.Part.{Step, good, bad, follow, word, ensure, end, many, total}
+use Rattle.rooms.specs.Part.{Step, good, bad, follow, word, ensure, end, many}
+use Rattle.figures.specs.Figures.{total}
 use Rattle.rooms.specs.Table.{Room, node, cord, range, load, server, table}
 use Rattle.rooms.specs.Limits.{beneath, serverLows, lows, firstNode, overloaded, checked}
 use Rattle.rooms.specs.Outcome.{reading, answerOf, answerNumber, answerFigure}

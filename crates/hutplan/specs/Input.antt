@@ -1,8 +1,9 @@
 -- What is read of the file and of standard input.
 --
 -- The kit's contract of a read bounds the count of bytes and has no model of the file or the stream: it says neither which
--- bytes were read nor whether more follow. So a contract here can only say that some file and some text agree with what
--- stands in the buffers; that these are `room.bin` and standard input, read as far as they go, is seen in `main.rt`.
+-- bytes were read nor whether more follow. So nothing can be said here of the bytes of the file, and of standard input only
+-- that the demands in the list are those of some text; that the file is `room.bin`, and that both are read as far as they
+-- go, is seen in `main.rt`.
 use mathlib.Core.Path.{_≡_}
 use mathlib.Core.List.{List}
 use Prim.Native.Nat.{ℕ}
@@ -13,11 +14,6 @@ use Rattle.demands.specs.Reading.{Held, fed}
 -- The most bytes of the file that are read.
 abbrev pub mostBytes : ℕ
 mostBytes = 32768
-
--- A file was read: its first 32,768 bytes are the first bytes of the sheet, so many.
-pub record ReadFile (sheet : List ℕ) (bytes : ℕ) : Type 0 where
-  pub file : List ℕ
-  pub is : take bytes sheet ≡ take mostBytes file
 
 -- A reading after one more piece of the text, which may be empty.
 pub record FedPiece (before after : Held) : Type 0 where

@@ -13,7 +13,7 @@ use Rattle.deals.specs.Plan as plan
 use Rattle.demands.specs.Text.{mostLines, demandsOf}
 use Rattle.print.specs.Line.{refusedLine}
 use Rattle.print.specs.Print.{printOf}
-use Rattle.hutplan.specs.Input.{mostBytes, ReadFile, ReadText}
+use Rattle.hutplan.specs.Input.{mostBytes}
 
 -- The most words of a table: 2 + 2 × 512 + 1 + 4 × 512 + 2 × 1,024.
 abbrev pub mostWords : ℕ
@@ -46,20 +46,17 @@ readText (read.refused refusal) demands = refusedLine (refusalNumber refusal) (r
 unfoldable pub sheetText : List ℕ → List ℕ → List ℕ
 sheetText sheet demands = readText (reading sheet mostWords) demands
 
+-- The print of what was read into two buffers: so many bytes at the front of the sheet, and so many demands at the front of
+-- their list.
+abbrev pub inputText : List ℕ → ℕ → List ℕ → ℕ → List ℕ
+inputText sheet bytes demands count = sheetText (take bytes sheet) (take count demands)
+
 -- What `hutplan` prints, of the first 32,768 bytes of its file and the demands of its standard input.
 unfoldable pub printed : List ℕ → List ℕ → List ℕ
 printed file input = sheetText (take mostBytes file) (demandsOf input)
 
--- What a run works in: space for 32,768 bytes of the file, for the demands of 513 lines, for the words of any table and for
+-- What `hutplan` works in: space for 32,768 bytes of the file, for the demands of 513 lines, for the words of any table and for
 -- any print.
 abbrev pub Lent : List ℕ → List ℕ → List ℕ → List ℕ → Type 0
 Lent sheet demands table buffer =
     (length sheet ≡ mostBytes) × (length demands ≡ mostLines) × (length table ≡ mostWords) × (mostText ≤ length buffer)
-
--- A run: the file and the text that were read into the sheet and the list of demands, and what is printed of them.
-pub record Ran (sheet demands print : List ℕ) : Type 0 where
-  pub bytes : ℕ
-  pub count : ℕ
-  pub fromFile : ReadFile sheet bytes
-  pub fromInput : ReadText demands count
-  pub is : print ≡ printed (fromFile .file) (fromInput .text)

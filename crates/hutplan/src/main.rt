@@ -12,8 +12,8 @@ ghost use Rattle.rooms.specs.Table.{mostServers, mostCords};
 ghost use Rattle.demands.specs.Text.{mostLines};
 ghost use Rattle.demands.specs.Reading.{held};
 ghost use Rattle.print.specs.Line.{Put};
-ghost use Rattle.hutplan.specs.Input.{mostBytes, ReadFile, FedPiece, ReadText};
-ghost use Rattle.hutplan.specs.Printed.{mostWords, mostText, tableText, sheetText, Lent, Ran};
+ghost use Rattle.hutplan.specs.Input.{mostBytes, FedPiece, ReadText};
+ghost use Rattle.hutplan.specs.Printed.{mostWords, mostText, tableText, sheetText, inputText, Lent};
 
 // What one read of standard input leaves: the reading, and whether there may be more to read.
 struct Turn {
@@ -24,7 +24,6 @@ struct Turn {
 // The file's bytes, at most 32,768, at the front of the buffer; how many. A missing file is empty.
 fn read_sheet(sheet: &mut [u8]) -> usize
     requires { ⌜ length (now sheet) ≡ mostBytes ⌝ }
-    ensures { λ r. ⌜ ReadFile (now (sheet .exit)) r ⌝ }
     ensures { λ r. ⌜ Counts r (now (sheet .exit)) ⌝ }
 {
     let file = os::open_read(b"room.bin");
@@ -91,7 +90,7 @@ fn print_table(
         (tableText (now (table .entry)) (now (demands .entry))) ⌝ }
     ensures { λ r. ⌜ Counts r (now (buffer .exit)) ⌝ }
 {
-    let planned = deals::plan(table, demands, grants, caps);
+    let planned = plans::plan(table, demands, grants, caps);
     match planned {
         Planned::Accepted(freed) => print::plan(freed, table, caps, grants, buffer),
         Planned::Refused(refusal) => print::refusal(refusal.number(), refusal.place(), buffer),
@@ -116,14 +115,20 @@ fn print_sheet(sheet: &[u8], demands: &[u32], table: &mut [u32], buffer: &mut [u
     print_table(&table[..count], demands, &mut grants, &mut caps, buffer)
 }
 
-// Reads the file and standard input, and puts what is printed at the front of the buffer; how many bytes.
-fn run(sheet: &mut [u8], demands: &mut [u32], table: &mut [u32], buffer: &mut [u8]) -> usize
+// The print of what was read: so many bytes at the front of the sheet, and so many demands at the front of their list.
+fn print_input(
+    sheet: &[u8],
+    bytes: usize,
+    demands: &[u32],
+    count: usize,
+    table: &mut [u32],
+    buffer: &mut [u8],
+) -> usize
     requires { ⌜ Lent (now sheet) (now demands) (now table) (now buffer) ⌝ }
-    ensures { λ r. ⌜ Ran (now (sheet .exit)) (now (demands .exit)) (take r (now (buffer .exit))) ⌝ }
+    requires { ⌜ Counts bytes (now sheet) × Counts count (now demands) ⌝ }
+    ensures { λ r. ⌜ take r (now (buffer .exit)) ≡ inputText (now (sheet .entry)) bytes (now (demands .entry)) count ⌝ }
     ensures { λ r. ⌜ Counts r (now (buffer .exit)) ⌝ }
 {
-    let bytes = read_sheet(sheet);
-    let count = read_demands(demands);
     print_sheet(&sheet[..bytes], &demands[..count], table, buffer)
 }
 
@@ -132,6 +137,8 @@ fn main() {
     let mut demands = [0u32; 513];
     let mut table = [0u32; 5123];
     let mut buffer = io::large_buffer();
-    let length = run(&mut sheet, &mut demands, &mut table, &mut buffer);
+    let bytes = read_sheet(&mut sheet);
+    let count = read_demands(&mut demands);
+    let length = print_input(&sheet, bytes, &demands, count, &mut table, &mut buffer);
     io::write_all(STDOUT_FILENO, &buffer[..length]);
 }

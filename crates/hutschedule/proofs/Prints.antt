@@ -22,11 +22,11 @@ use Rattle.schedules.specs.Schedule.{Outcome, accepted, turnedBack, mostWords, 
 use Rattle.schedules.specs.Told.{written}
 use Rattle.schedules.specs.Promises.{ScheduledRoom}
 use Rattle.schedules.proofs.TableLaws.{written-fits}
-use Rattle.schedules.proofs.Promises.{schedule-gives-room, first-bytes-decide}
+use Rattle.schedules.proofs.Promises.{schedule-gives-room}
 use Rattle.schedules.specs.declared.Refusal.{Refusal}
 use Rattle.schedules.specs.declared.Scheduled.{Scheduled}
 use Rattle.schedules.specs.declared.Scheduled.the-variants.{Accepted, Refused}
-use Rattle.hutschedule.specs.Printed.{mostInput, mostOutput, Print, printOf, printed, Ran}
+use Rattle.hutschedule.specs.Printed.{mostOutput, printed}
 
 -- A sheet has at most four bytes a word.
 length-bytesOf : (words : List ℕ) → length (bytesOf words) ≤ 4 * length words
@@ -86,13 +86,3 @@ sheet-written text list buffer {buffer′} {count} {length′} {told} s long t b
       rw (s .is, front),
       (within, sym (length-take-le length′ buffer′ within)),
     )
-
--- ---- The run
-
--- What is written of the bytes that were read is what is written of the whole input.
-pub ran : (text : List ℕ) {count : ℕ} {print : Print} → count ≤ length text → print ≡ printed (take count text) → Ran text print
-unfolding printed
-ran text {count} {print} h e = record { count = count; within = h; is = all }
-  where
-    all : (input : List ℕ) → take count text ≡ take mostInput input → print ≡ printOf (scheduling input mostWords)
-    all input same = e ∙ ap (λ (l : List ℕ). printOf (scheduling l mostWords)) same ∙ ap printOf (first-bytes-decide mostInput input mostWords (omega arith))

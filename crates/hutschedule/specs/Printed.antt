@@ -35,10 +35,7 @@ printed text = printOf (scheduling text mostWords)
 abbrev pub at : Output → List ℕ → Print
 at output buffer = record { refused = output .refused; bytes = take (output .length) buffer }
 
--- A run: so many bytes were read, and what is written is what the definition gives for every input of which these are the first
--- 7,710 bytes, or all. The kit's contract of a read has no model of the stream: that the input is standard input, read until its
--- end or until the text is full, is seen in `main.rt`.
-pub record Ran (text : List ℕ) (print : Print) : Type 0 where
-  pub count : ℕ
-  pub within : count ≤ length text
-  pub is : (input : List ℕ) → take count text ≡ take mostInput input → print ≡ printed input
+-- What `hutschedule` works in: space for 7,710 bytes of standard input, for the words of any table without servers and for all that
+-- is written.
+abbrev pub Lent : List ℕ → List ℕ → List ℕ → Type 0
+Lent text table buffer = (length text ≡ mostInput) × (length table ≡ mostWords) × (mostOutput ≤ length buffer)

@@ -5,10 +5,10 @@ use libc::STDOUT_FILENO;
 use schedules::Scheduled;
 ghost use mathlib.Core.Path.{_≡_};
 ghost use Prim.Native.Nat.{_≤_};
-ghost use lib.ListN.{length};
+ghost use lib.ListN.{length, take};
 ghost use Rattle.io.specs.Counts.{Counts};
 ghost use Rattle.schedules.specs.Schedule.{mostWords};
-ghost use Rattle.hutschedule.specs.Printed.{mostInput, mostOutput, printed, at, Ran};
+ghost use Rattle.hutschedule.specs.Printed.{mostOutput, printed, at, Lent};
 
 // What is written: so many bytes from the front of the buffer, to standard error if refused, else to standard output.
 struct Output {
@@ -41,13 +41,12 @@ fn print_text(text: &[u8], table: &mut [u32], buffer: &mut [u8]) -> Output
     }
 }
 
-// Reads standard input, and puts what is written at the front of the buffer.
-fn run(text: &mut [u8], table: &mut [u32], buffer: &mut [u8]) -> Output
-    requires { ⌜ (length (now text) ≡ mostInput) × (length (now table) ≡ mostWords) × (mostOutput ≤ length (now buffer)) ⌝ }
-    ensures { λ r. ⌜ Ran (now (text .exit)) (at r (now (buffer .exit))) ⌝ }
+// What is written of the text that was read: so many bytes at its front.
+fn print_input(text: &[u8], count: usize, table: &mut [u32], buffer: &mut [u8]) -> Output
+    requires { ⌜ Lent (now text) (now table) (now buffer) × Counts count (now text) ⌝ }
+    ensures { λ r. ⌜ at r (now (buffer .exit)) ≡ printed (take count (now (text .entry))) ⌝ }
     ensures { λ r. ⌜ Counts (r .length) (now (buffer .exit)) ⌝ }
 {
-    let count = io::read_full(STDIN_FILENO, text);
     print_text(&text[..count], table, buffer)
 }
 
@@ -55,7 +54,8 @@ fn main() {
     let mut text = [0u8; 7710];
     let mut table = [0u32; 1027];
     let mut buffer = [0u8; 4108];
-    let output = run(&mut text, &mut table, &mut buffer);
+    let count = io::read_full(STDIN_FILENO, &mut text);
+    let output = print_input(&text, count, &mut table, &mut buffer);
     let length = output.length;
     if output.refused {
         io::write_all(STDERR_FILENO, &buffer[..length]);

@@ -1,5 +1,5 @@
--- Numbers on the sheet (document 01): one to four bytes. Each byte carries seven bits, lowest group first; its top bit is
--- set on every byte but the last. Only the shortest form is good.
+-- Numbers on the sheet: one to four bytes, of which each but the last is 128 or more. The low seven bits of the bytes make the
+-- value, those of the first byte being the lowest. A number that a shorter form would carry is not good.
 use mathlib.Core.Bool.{Bool, cond}
 use mathlib.Core.List.{List, [], _∷_}
 use Prim.Native.Nat.{ℕ, zero, suc, _+_, _-_, _*_, _/_, _%_, _^_}

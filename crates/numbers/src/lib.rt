@@ -88,7 +88,7 @@ fn decode_bytes(sheet: &[u8], at: usize) -> Decoded
 }
 
 // The number that starts at a place of the sheet. If it has one or two bytes, and the sheet has two from there on, it is read
-// without a branch on its size: the processor would often foretell that wrongly.
+// without a branch on its size: the processor would often predict that wrongly.
 pub fn decode(sheet: &[u8], at: usize) -> Decoded
     ensures { λ r. ⌜ r ≡ decoded at (number (drop at (now (sheet .entry)))) ⌝ }
 {

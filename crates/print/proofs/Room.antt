@@ -6,7 +6,8 @@ use native.Mathlib.Omega.{arith}
 use lib.ListN.{length, getD}
 use lib.Seq.{sets, getD-take, take-length}
 use Rattle.words.proofs.Lists.{take-sets}
-use Rattle.rooms.specs.Part.{good, many, total}
+use Rattle.rooms.specs.Part.{good, many}
+use Rattle.figures.specs.Figures.{total}
 use Rattle.rooms.specs.Table.{Cord, Server, Room, cord, cords, server, servers, cordCount, roomCords}
 use Rattle.rooms.proofs.Inversion.{cord-is, server-is, many-is}
 use Rattle.print.specs.Line.{freedLine, serverLine, cordLine}

@@ -9,7 +9,7 @@ use borrow.Author.Tests.{lt-ltb}
 use lib.Dec.{ltb}
 use lib.ListN.{length, length-append}
 use Rattle.words.specs.Lists.{AllBelow}
-use Rattle.rooms.specs.Part.{total}
+use Rattle.figures.specs.Figures.{total}
 use Rattle.rooms.specs.Table.{Server, Room, mostServers, mostNodes, cordCount}
 use Rattle.rooms.proofs.All.{All, all-head, all-tail, all-at}
 use Rattle.rooms.proofs.Accepted.{ServerAccepted, Accepted}

@@ -1,4 +1,4 @@
--- The whole print of a plan: `freed F`, then for each server `server N cap W` and for each of its cords `cord K node M grant G`.
+-- The whole print of a plan: a line for the freed watts, and for each server a line with its cap, followed by one for each cord.
 use mathlib.Core.List.{List, [], _∷_, _++_}
 use Prim.Native.Nat.{ℕ, zero, suc, _+_}
 use lib.ListN.{getD}

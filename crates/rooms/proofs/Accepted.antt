@@ -4,7 +4,8 @@ use mathlib.Core.List.{List, []}
 use Prim.Native.Nat.{ℕ, zero, suc, _+_, _-_, _≤_, _<_}
 use native.Mathlib.Omega.{arith}
 use lib.ListN.{length, getD}
-use Rattle.rooms.specs.Part.{good, many, total}
+use Rattle.rooms.specs.Part.{good, many}
+use Rattle.figures.specs.Figures.{total}
 use Rattle.rooms.specs.Table.{Node, Cord, Server, Room, scale, mostWatts, mostNodes, mostServers, mostCords, mostServerCords, highestRank, node, nodes, cord, server, servers, cordCount, roomCords, shareSum}
 use Rattle.rooms.specs.Limits.{limit, nodeAt, lowsBeneath, overloaded, checked}
 use Rattle.rooms.proofs.Inversion.{cord-is, server-is, server-few, many-is}

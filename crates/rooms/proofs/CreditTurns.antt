@@ -5,11 +5,12 @@ use Prim.Native.Nat.{ℕ, zero, suc, _+_, _-_, _*_, _^_, _≤_, _<_}
 use native.Mathlib.Omega.{arith}
 use native.Mathlib.Nat.{suc-ne-zero, mul-suc, mul-le-mul}
 use lib.ListN.{length, getD}
-use Rattle.rooms.specs.Sums.{sum}
+use Rattle.figures.specs.Sums.{sum}
 use Rattle.rooms.specs.Part.{Step, good, bad, Part, follow, many, word, within}
 use Rattle.rooms.specs.Table.{Cord, Server, Range, scale, mostWatts, mostServerCords, highestRank, cord, cords, range, load, server, servers, shareOf, cordCount}
 use Rattle.rooms.specs.Limits.{low, carried}
-use Rattle.rooms.specs.Credits.{figures, credited, creditedCords, creditedServer, creditedServers, LowsCredited}
+use Rattle.rooms.specs.Credits.{credited, creditedCords, creditedServer, creditedServers, LowsCredited}
+use Rattle.figures.specs.Figures.{at}
 use Rattle.rooms.specs.Told.{told}
 use Rattle.rooms.specs.declared.Refusal.{Refusal}
 use Rattle.rooms.specs.declared.Checked.{Checked}
@@ -47,16 +48,16 @@ pub record Crediting {A : Type 0} (part : ℕ → Part A) (next : ℕ → A → 
     (size bound left given j : ℕ) (sums : List ℕ) : Type 0 where
   pub same : (rest : List A) (end : ℕ) → many left part next given w j ≡ good rest end → credits rest sums ≡ goal
   pub length-is : length sums ≡ size
-  pub sum-is : sum nodeCount (figures sums) + most * left ≤ bound
+  pub sum-is : sum nodeCount (at sums) + most * left ≤ bound
 
 pub crediting-start : {A : Type 0} {part : ℕ → Part A} {next : ℕ → A → ℕ} (credits : List A → List ℕ → List ℕ) (nodeCount most : ℕ) {w : List ℕ} {count i : ℕ} (given : ℕ) (sums : List ℕ)
-    → Crediting part next credits nodeCount most w (credits (rowOf (many count part next given w i)) sums) (length sums) (sum nodeCount (figures sums) + most * count) count given i sums
+    → Crediting part next credits nodeCount most w (credits (rowOf (many count part next given w i)) sums) (length sums) (sum nodeCount (at sums) + most * count) count given i sums
 crediting-start {A} credits nodeCount most given sums =
     record { same = λ rest end e. sym (ap (λ (s : Step (List A)). credits (rowOf s) sums) e); length-is = refl; sum-is = omega arith }
 
 module _ {A : Type 0} {part : ℕ → Part A} {next : ℕ → A → ℕ} {credits : List A → List ℕ → List ℕ} {nodeCount most : ℕ} {w : List ℕ} where
   crediting-end : ((l : List ℕ) → credits [] l ≡ l) → (count given₀ i : ℕ) (sums₀ : List ℕ) {size left given j : ℕ} {sums : List ℕ}
-      → Crediting part next credits nodeCount most w (credits (rowOf (many count part next given₀ w i)) sums₀) size (sum nodeCount (figures sums₀) + most * count) left given j sums
+      → Crediting part next credits nodeCount most w (credits (rowOf (many count part next given₀ w i)) sums₀) size (sum nodeCount (at sums₀) + most * count) left given j sums
       → left ≤ 0 → LowsCredited (many count part next given₀ w i) credits nodeCount (most * count) sums₀ sums
   unfolding many
   crediting-end none count given₀ i sums₀ {left = zero} {j = j} {sums = sums} c z = record {
@@ -68,7 +69,7 @@ module _ {A : Type 0} {part : ℕ → Part A} {next : ℕ → A → ℕ} {credit
   crediting-turn : (credit : A → List ℕ → List ℕ) → ((a : A) (rest : List A) (l : List ℕ) → credits (a ∷ rest) l ≡ credits rest (credit a l))
       → {goal : List ℕ} {size bound left given j : ℕ} {sums : List ℕ} → Crediting part next credits nodeCount most w goal size bound left given j sums → 0 < left
       → {value : A} {after given′ : ℕ} {sums′ : List ℕ} → part given w j ≡ good value after → next given value ≡ given′
-      → sums′ ≡ credit value sums → length sums′ ≡ length sums → sum nodeCount (figures sums′) ≤ sum nodeCount (figures sums) + most
+      → sums′ ≡ credit value sums → length sums′ ≡ length sums → sum nodeCount (at sums′) ≤ sum nodeCount (at sums) + most
       → Crediting part next credits nodeCount most w goal size bound (left - 1) given′ after sums′
   unfolding many follow
   crediting-turn credit some {left = zero} c z is en es el em = absurd (omega arith)
@@ -107,7 +108,7 @@ pub record NextCord (nodeCount least : ℕ) (w goal : List ℕ) (size bound left
 
 module _ {nodeCount : ℕ} (least : ℕ) {w : List ℕ} where
   pub cords-end : (count i : ℕ) (sums₀ : List ℕ) {size left j : ℕ} {sums : List ℕ}
-      → CordsCrediting nodeCount least w (creditedCords least (rowOf (cords nodeCount count w i)) sums₀) size (sum nodeCount (figures sums₀) + mostWatts * count) left j sums → left ≤ 0
+      → CordsCrediting nodeCount least w (creditedCords least (rowOf (cords nodeCount count w i)) sums₀) size (sum nodeCount (at sums₀) + mostWatts * count) left j sums → left ≤ 0
       → LowsCredited (cords nodeCount count w i) (creditedCords least) nodeCount (mostWatts * count) sums₀ sums
   unfolding creditedCords
   cords-end count i sums₀ = crediting-end (λ l. refl) count 0 i sums₀
@@ -131,7 +132,7 @@ module _ {nodeCount : ℕ} (least : ℕ) {w : List ℕ} where
             (omega (
               arith,
               m k,
-              ap (λ (l : List ℕ). sum nodeCount (figures l)) es,
+              ap (λ (l : List ℕ). sum nodeCount (at l)) es,
               sum-credited nodeCount node figure sums (omega (arith, c .first)) (omega (arith, c .last)) (omega (arith, t .length-is)),
             ));
       }
@@ -186,7 +187,7 @@ ServersCrediting nodeCount = Crediting (server nodeCount) (λ before s. before +
 
 module _ {nodeCount : ℕ} {w : List ℕ} where
   pub servers-end : (count i : ℕ) (sums₀ : List ℕ) {size left before j : ℕ} {sums : List ℕ}
-      → ServersCrediting nodeCount w (creditedServers (rowOf (servers nodeCount count 0 w i)) sums₀) size (sum nodeCount (figures sums₀) + mostServerCords * mostWatts * count) left before j sums
+      → ServersCrediting nodeCount w (creditedServers (rowOf (servers nodeCount count 0 w i)) sums₀) size (sum nodeCount (at sums₀) + mostServerCords * mostWatts * count) left before j sums
       → left ≤ 0 → LowsCredited (servers nodeCount count 0 w i) creditedServers nodeCount (mostServerCords * mostWatts * count) sums₀ sums
   unfolding creditedServers
   servers-end count i sums₀ = crediting-end (λ l. refl) count 0 i sums₀

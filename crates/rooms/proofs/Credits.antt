@@ -9,12 +9,13 @@ use lib.ListN.{length, getD, set, replicate, length-set, length-replicate}
 use lib.Seq.{getD-set-same, getD-set-other}
 use lib.Dec.{eqb, eqb·zero-suc, eqb·suc-suc}
 use borrow.Author.Tests.{eqb-true, eqb-false, eq-eqb, ne-eqb}
-use Rattle.rooms.specs.Sums.{on, sum}
-use Rattle.rooms.specs.Part.{total}
+use Rattle.figures.specs.Sums.{on, sum}
+use Rattle.figures.specs.Figures.{total, at}
 use Rattle.rooms.specs.Table.{Cord, Server}
 use Rattle.rooms.specs.Limits.{low, beneath, serverLows, lows}
-use Rattle.rooms.specs.Credits.{figures, sumBeneath, credited, creditedCords, creditedServers}
-use Rattle.rooms.proofs.Sums.{on-yes, on-no, sum-cong, sum-add, sum-le, sum-one, sum-zero}
+use Rattle.rooms.specs.Credits.{sumBeneath, credited, creditedCords, creditedServers}
+use Rattle.figures.proofs.Sums.{on-yes, on-no, sum-cong, sum-add, sum-le, sum-one, sum-zero}
+use Rattle.figures.proofs.Filled.{zeros-at}
 use Rattle.rooms.proofs.Trees.{kids, kids-cong, own, below, below-step, under, under-is}
 use Rattle.rooms.proofs.All.{All}
 use Rattle.rooms.proofs.Rows.{CordHangs, ServerHangs}
@@ -83,33 +84,27 @@ placed m figure l i h = credited-at (suc m) figure l i h ∙ ap (λ (t : Bool). 
 
 -- ---- The sum of all figures
 
-pub figure-in-sum : (count i : ℕ) (l : List ℕ) → i < count → getD l i 0 ≤ sum count (figures l)
+pub figure-in-sum : (count i : ℕ) (l : List ℕ) → i < count → getD l i 0 ≤ sum count (at l)
 figure-in-sum count i l h =
     omega (
       arith,
-      sum-one count i (figures l) h,
-      sum-le count (λ m. on (eqb i m) (figures l m)) (figures l) (λ m r. on-most (eqb i m) (figures l m)),
+      sum-one count i (at l) h,
+      sum-le count (λ m. on (eqb i m) (at l m)) (at l) (λ m r. on-most (eqb i m) (at l m)),
     )
-
--- A list of zeros has 0 at every place, also past its end.
-pub zeros-at : (n i : ℕ) → _≡_ {A = ℕ} (getD (replicate n 0) i 0) 0
-zeros-at zero i = refl
-zeros-at (suc n) zero = refl
-zeros-at (suc n) (suc i) = zeros-at n i
 
 pub all-zeros : (n : ℕ) (l : List ℕ) → l ≡ replicate n 0 → (n ≤ length l) × ((i : ℕ) → getD l i 0 ≡ 0)
 all-zeros n l e = rw e (le-of-eq (sym (length-replicate {A = ℕ} n 0)), zeros-at n)
 
-pub sum-zeros : (count : ℕ) (l : List ℕ) → ((i : ℕ) → getD l i 0 ≡ 0) → sum count (figures l) ≡ 0
-sum-zeros count l z = sum-cong count (figures l) (λ i. 0) (λ i g. z i) ∙ sum-zero count
+pub sum-zeros : (count : ℕ) (l : List ℕ) → ((i : ℕ) → getD l i 0 ≡ 0) → sum count (at l) ≡ 0
+sum-zeros count l z = sum-cong count (at l) (λ i. 0) (λ i g. z i) ∙ sum-zero count
 
 pub sum-credited : (count node figure : ℕ) (l : List ℕ) → 1 ≤ node → node ≤ count → count ≤ length l
-    → sum count (figures (credited node figure l)) ≡ sum count (figures l) + figure
+    → sum count (at (credited node figure l)) ≡ sum count (at l) + figure
 sum-credited count zero figure l one h k = absurd (omega arith)
 sum-credited count (suc m) figure l one h k =
     sum-cong count _ _ (λ i r. placed m figure l i (omega arith))
-    ∙ sum-add count (figures l) (λ i. on (eqb m i) figure)
-    ∙ ap (λ (x : ℕ). sum count (figures l) + x) (sum-one count m (λ i. figure) h)
+    ∙ sum-add count (at l) (λ i. on (eqb m i) figure)
+    ∙ ap (λ (x : ℕ). sum count (at l) + x) (sum-one count m (λ i. figure) h)
 
 -- ---- The sum beneath a node
 
@@ -137,7 +132,7 @@ sumBeneath-step count parent rises figure n l =
 
 -- What is credited to a node counts at every node that it hangs beneath.
 pub sumBeneath-credited : (count : ℕ) (parent : ℕ → ℕ) (node figure : ℕ) (l : List ℕ) (n : ℕ) → 1 ≤ node → node ≤ count → count ≤ length l
-    → sumBeneath parent count (figures (credited node figure l)) n ≡ sumBeneath parent count (figures l) n + on (beneath parent count n node) figure
+    → sumBeneath parent count (at (credited node figure l)) n ≡ sumBeneath parent count (at l) n + on (beneath parent count n node) figure
 unfolding sumBeneath
 sumBeneath-credited count parent zero figure l n one h k = absurd (omega arith)
 sumBeneath-credited count parent (suc m) figure l n one h k =
@@ -209,8 +204,8 @@ module _ (count i : ℕ) (h : count ≤ i) where
 
 module _ (count : ℕ) (parent : ℕ → ℕ) (n : ℕ) where
   sumBeneath-cords : (least : ℕ) (cs : List Cord) (l : List ℕ) → count ≤ length l → All (CordHangs count) cs
-      → sumBeneath parent count (figures (creditedCords least cs l)) n
-      ≡ sumBeneath parent count (figures l) n + total (λ c. on (beneath parent count n (c .node)) (low least c)) cs
+      → sumBeneath parent count (at (creditedCords least cs l)) n
+      ≡ sumBeneath parent count (at l) n + total (λ c. on (beneath parent count n (c .node)) (low least c)) cs
   unfolding creditedCords All total
   sumBeneath-cords least [] l h g = omega arith
   sumBeneath-cords least (c ∷ cs) l h g =
@@ -218,7 +213,7 @@ module _ (count : ℕ) (parent : ℕ → ℕ) (n : ℕ) where
       ∙ omega (arith, sumBeneath-credited count parent (c .node) (low least c) l n (g .0 .0) (g .0 .1) h)
 
   pub sumBeneath-servers : (ss : List Server) (l : List ℕ) → count ≤ length l → All (ServerHangs count) ss
-      → sumBeneath parent count (figures (creditedServers ss l)) n ≡ sumBeneath parent count (figures l) n + lows (beneath parent count n) ss
+      → sumBeneath parent count (at (creditedServers ss l)) n ≡ sumBeneath parent count (at l) n + lows (beneath parent count n) ss
   unfolding creditedServers All lows serverLows total
   sumBeneath-servers [] l h g = omega arith
   sumBeneath-servers (s ∷ ss) l h g =

@@ -5,7 +5,8 @@ use mathlib.Core.List.{List, [], _∷_}
 use Prim.Native.Nat.{ℕ, zero, suc, _+_, _*_}
 use native.Mathlib.Omega.{arith}
 use lib.ListN.{length, getD}
-use Rattle.rooms.specs.Part.{good, Part, many, total}
+use Rattle.rooms.specs.Part.{good, Part, many}
+use Rattle.figures.specs.Figures.{total}
 use Rattle.rooms.specs.Table.{Node, Cord, Server, Room, nodes, cords, server, servers, cordCount, roomCords, table}
 use Rattle.rooms.proofs.Inversion.{node-is, cord-is, server-is, many-is}
 use Rattle.rooms.proofs.Whole.{table-is}

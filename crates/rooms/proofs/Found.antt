@@ -13,7 +13,8 @@ use borrow.Author.Tests.{ltb-true, ltb-false}
 use Rattle.rooms.specs.Part.{Step, good, bad}
 use Rattle.rooms.specs.Table.{Node, Room, mostNodes, mostServers, mostServerCords, mostWatts, node, nodes, servers, table, roomCords}
 use Rattle.rooms.specs.Limits.{limit, beneath, nodeAt, parentOf, lows, lowsBeneath, lowsFrom, nodeLows, firstNode, overloaded, lowsTold}
-use Rattle.rooms.specs.Credits.{parentAt, limitAt, figures, sumBeneath, exceeds, creditedServers, creditedRoom, LowsCredited, SumsGathered}
+use Rattle.rooms.specs.Credits.{parentAt, limitAt, sumBeneath, exceeds, creditedServers, creditedRoom, LowsCredited, SumsGathered}
+use Rattle.figures.specs.Figures.{at}
 use Rattle.rooms.specs.Told.{told}
 use Rattle.rooms.specs.declared.Refusal.{Refusal}
 use Rattle.rooms.specs.declared.Checked.{Checked}
@@ -21,7 +22,8 @@ use Rattle.rooms.specs.declared.Checked.the-variants.{Refused}
 use Rattle.rooms.proofs.Inversion.{many-length, NodeIs}
 use Rattle.rooms.proofs.Whole.{table-is}
 use Rattle.rooms.proofs.Rows.{nodes-words, nodes-at, servers-hang}
-use Rattle.rooms.proofs.Credits.{zeros-at, sumBeneath-cong, sumBeneath-zero, sumBeneath-past, sumBeneath-servers, creditedServers-length, creditedServers-past}
+use Rattle.figures.proofs.Filled.{zeros-at}
+use Rattle.rooms.proofs.Credits.{sumBeneath-cong, sumBeneath-zero, sumBeneath-past, sumBeneath-servers, creditedServers-length, creditedServers-past}
 use Rattle.rooms.proofs.Search.{firstNode-cong}
 use Rattle.rooms.proofs.Gather.{Rises}
 
@@ -49,14 +51,14 @@ lowsTold-length (bad refusal) = length-replicate {A = ℕ} mostNodes 0
 
 -- ---- The search
 
--- Where the parts of a good table stand: n nodes from index 2 on, and the count of servers at index `at`.
-pub record Layout (w : List ℕ) (r : Room) (j n at : ℕ) : Type 0 where
+-- Where the parts of a good table stand: n nodes from index 2 on, and the count of servers at index `count-at`.
+pub record Layout (w : List ℕ) (r : Room) (j n count-at : ℕ) : Type 0 where
   pub counted : n ≡ getD w 1 0
   pub most : n ≤ mostNodes
-  pub nodes-are : nodes n 1 w 2 ≡ good (r .nodes) at
-  pub there : at < length w
-  pub servers-most : getD w at 0 ≤ mostServers
-  pub servers-are : servers n (getD w at 0) 0 w (at + 1) ≡ good (r .servers) j
+  pub nodes-are : nodes n 1 w 2 ≡ good (r .nodes) count-at
+  pub there : count-at < length w
+  pub servers-most : getD w count-at 0 ≤ mostServers
+  pub servers-are : servers n (getD w count-at 0) 0 w (count-at + 1) ≡ good (r .servers) j
 
 pub layout : (w : List ℕ) (r : Room) (j n : ℕ) → n ≡ getD w 1 0 → table w 0 ≡ good r j → Layout w r j n (2 + 2 * n)
 layout w r j n counted e =
@@ -73,9 +75,9 @@ layout w r j n counted e =
       servers-are = rw (← count, t .serverCount, add-one) (t .serversRead);
     })
 
-module _ (w : List ℕ) (r : Room) (j n at : ℕ) (is : Layout w r j n at) where
+module _ (w : List ℕ) (r : Room) (j n count-at : ℕ) (is : Layout w r j n count-at) where
   node-at : (m : ℕ) → m < n → NodeIs (1 + m) w (2 + 2 * m) (nodeAt r m) (suc (suc (2 + 2 * m)))
-  node-at m g = nodes-at n 1 w 2 (r .nodes) at _ m g (is .nodes-are)
+  node-at m g = nodes-at n 1 w 2 (r .nodes) count-at _ m g (is .nodes-are)
 
   same-parent : (m : ℕ) → m < n → parentAt w m ≡ parentOf r m
   same-parent m g = sym (ap (λ (x : Node). x .parent) (node-at m g .is))
@@ -89,14 +91,14 @@ module _ (w : List ℕ) (r : Room) (j n at : ℕ) (is : Layout w r j n at) where
   table-rises m g = omega (arith, node-at m g .parent, same-parent m g)
 
   node-count : length (r .nodes) ≡ n
-  node-count = many-length n node (λ own _. suc own) 1 w 2 (r .nodes) at (is .nodes-are)
+  node-count = many-length n node (λ own _. suc own) 1 w 2 (r .nodes) count-at (is .nodes-are)
 
   module _ (l : List ℕ) (zeros : (i : ℕ) → getD l i 0 ≡ 0) (size : n ≤ length l) where
-    credited-lows : (m : ℕ) → sumBeneath (parentAt w) n (figures (creditedServers (r .servers) l)) m ≡ lowsBeneath r m
+    credited-lows : (m : ℕ) → sumBeneath (parentAt w) n (at (creditedServers (r .servers) l)) m ≡ lowsBeneath r m
     credited-lows m =
-        sumBeneath-cong n (parentAt w) (parentOf r) (figures (creditedServers (r .servers) l)) same-parent table-rises m
-        ∙ sumBeneath-servers n (parentOf r) m (r .servers) l size (servers-hang n (getD w at 0) 0 w (at + 1) (r .servers) j (is .servers-are))
-        ∙ ap (λ (x : ℕ). x + lows (beneath (parentOf r) n m) (r .servers)) (sumBeneath-zero n (parentOf r) (figures l) m zeros)
+        sumBeneath-cong n (parentAt w) (parentOf r) (at (creditedServers (r .servers) l)) same-parent table-rises m
+        ∙ sumBeneath-servers n (parentOf r) m (r .servers) l size (servers-hang n (getD w count-at 0) 0 w (count-at + 1) (r .servers) j (is .servers-are))
+        ∙ ap (λ (x : ℕ). x + lows (beneath (parentOf r) n m) (r .servers)) (sumBeneath-zero n (parentOf r) (at l) m zeros)
         ∙ rw (← node-count) (omega arith)
 
     -- Gathered, the credited lows are those beneath each place.
@@ -111,9 +113,9 @@ module _ (w : List ℕ) (r : Room) (j n at : ℕ) (is : Layout w r j n at) where
         at-place i false e =
             let past : n ≤ i = ltb-false i n e in
             g .past i past
-            ∙ creditedServers-past n i past (r .servers) l (servers-hang n (getD w at 0) 0 w (at + 1) (r .servers) j (is .servers-are))
+            ∙ creditedServers-past n i past (r .servers) l (servers-hang n (getD w count-at 0) 0 w (count-at + 1) (r .servers) j (is .servers-are))
             ∙ zeros i
-            ∙ sym (sumBeneath-past n (parentAt w) (figures (creditedServers (r .servers) l)) table-rises i past)
+            ∙ sym (sumBeneath-past n (parentAt w) (at (creditedServers (r .servers) l)) table-rises i past)
             ∙ credited-lows i
 
     pub overloaded-found : firstNode n 0 (exceeds w n (creditedServers (r .servers) l)) ≡ overloaded r

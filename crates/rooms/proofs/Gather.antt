@@ -8,10 +8,11 @@ use native.Mathlib.Omega.{arith}
 use lib.ListN.{length, getD}
 use lib.Dec.{eqb, ltb}
 use borrow.Author.Tests.{ne-eqb}
-use Rattle.rooms.specs.Sums.{on, sum}
+use Rattle.figures.specs.Sums.{on, sum}
 use Rattle.rooms.specs.Limits.{firstNode}
-use Rattle.rooms.specs.Credits.{parentAt, limitAt, figures, sumBeneath, exceeds, credited, SumsGathered}
-use Rattle.rooms.proofs.Sums.{on-no, sum-cong, sum-zero, sum-none, up, sum-up}
+use Rattle.rooms.specs.Credits.{parentAt, limitAt, sumBeneath, exceeds, credited, SumsGathered}
+use Rattle.figures.specs.Figures.{at}
+use Rattle.figures.proofs.Sums.{on-no, sum-cong, sum-zero, sum-none, up, sum-up}
 use Rattle.rooms.proofs.Trees.{kids}
 use Rattle.rooms.proofs.Credits.{credited-at, credited-length, credited-past, sumBeneath-step, sumBeneath-most}
 
@@ -67,13 +68,13 @@ Rises w count = (m : ℕ) → m < count → parentAt w m ≤ m
 
 -- The sum that a node has when its turn comes.
 abbrev pub whole : List ℕ → ℕ → List ℕ → ℕ → ℕ
-whole w count start = sumBeneath (parentAt w) count (figures start)
+whole w count start = sumBeneath (parentAt w) count (at start)
 
 -- Before the turn of the node at place n - 1: the nodes from n on have passed their sums on, and the lowest of them above its limit is found.
 pub record Gathered (w : List ℕ) (count : ℕ) (start : List ℕ) (found n : ℕ) (sums : List ℕ) : Type 0 where
   pub done : ℕ
   pub all : n + done ≡ count
-  pub held : Holds count (parentAt w) (figures start) (whole w count start) done n (figures sums)
+  pub held : Holds count (parentAt w) (at start) (whole w count start) done n (at sums)
   pub size : length sums ≡ length start
   pub past : (i : ℕ) → count ≤ i → getD sums i 0 ≡ getD start i 0
   pub first : found ≡ firstNode done n (exceeds w count start)
@@ -84,7 +85,7 @@ gathered-start w count start =
     record {
       done = 0;
       all = omega arith;
-      held = holds-start count (parentAt w) (figures start) (whole w count start);
+      held = holds-start count (parentAt w) (at start) (whole w count start);
       size = refl;
       past = λ i l. refl;
       first = refl;
@@ -102,8 +103,8 @@ module _ {w : List ℕ} {count : ℕ} {start : List ℕ} where
     pub gathered-sums : {found n : ℕ} {sums : List ℕ} → Gathered w count start found n sums → n ≤ 0 → SumsGathered w count start sums
     gathered-sums {n = zero} {sums = sums} inv z = record {
       size = inv .size;
-      nodes = λ i l. holds-end count (parentAt w) (figures start) (whole w count start) (inv .done) (figures sums) (inv .all) (inv .held) i l
-          ∙ sym (sumBeneath-step count (parentAt w) rises (figures start) i l);
+      nodes = λ i l. holds-end count (parentAt w) (at start) (whole w count start) (inv .done) (at sums) (inv .all) (inv .held) i l
+          ∙ sym (sumBeneath-step count (parentAt w) rises (at start) i l);
       past = inv .past;
     }
     gathered-sums {n = suc m} inv z = absurd (omega arith)
@@ -113,17 +114,17 @@ module _ {w : List ℕ} {count : ℕ} {start : List ℕ} where
     gathered-whole found (suc m) sums inv p =
         let e : suc m - 1 ≡ m = omega arith in
         rw e
-        (holds-whole count (parentAt w) (figures start) (whole w count start) rises (inv .done) m (figures sums) (inv .all) (inv .held)
-        ∙ sym (sumBeneath-step count (parentAt w) rises (figures start) m (omega (arith, inv .all))))
+        (holds-whole count (parentAt w) (at start) (whole w count start) rises (inv .done) m (at sums) (inv .all) (inv .held)
+        ∙ sym (sumBeneath-step count (parentAt w) rises (at start) m (omega (arith, inv .all))))
 
     -- No figure ever passes the sum of all, so no credit overflows.
-    pub gathered-most : {found n : ℕ} {sums : List ℕ} → Gathered w count start found n sums → (i : ℕ) → i < count → getD sums i 0 ≤ sum count (figures start)
+    pub gathered-most : {found n : ℕ} {sums : List ℕ} → Gathered w count start found n sums → (i : ℕ) → i < count → getD sums i 0 ≤ sum count (at start)
     gathered-most {n = n} {sums = sums} inv i l =
         omega (
           arith,
-          holds-most count (parentAt w) (figures start) (whole w count start) (inv .done) n (figures sums) (inv .all) (inv .held) i l,
-          sumBeneath-step count (parentAt w) rises (figures start) i l,
-          sumBeneath-most count (parentAt w) (figures start) i,
+          holds-most count (parentAt w) (at start) (whole w count start) (inv .done) n (at sums) (inv .all) (inv .held) i l,
+          sumBeneath-step count (parentAt w) rises (at start) i l,
+          sumBeneath-most count (parentAt w) (at start) i,
         )
 
     turned : (found n : ℕ) (sums : List ℕ) → Gathered w count start found n sums → 0 < n → count ≤ length start
@@ -138,7 +139,7 @@ module _ {w : List ℕ} {count : ℕ} {start : List ℕ} where
         (record {
           done = suc (inv .done);
           all = omega (arith, inv .all);
-          held = holds-turn count (parentAt w) (figures start) (whole w count start) (inv .done) m (figures sums) (figures (credited (parentAt w m) figure sums)) (inv .held)
+          held = holds-turn count (parentAt w) (at start) (whole w count start) (inv .done) m (at sums) (at (credited (parentAt w m) figure sums)) (inv .held)
               (λ i l. credited-at (parentAt w m) figure sums i (omega (arith, inv .all, inv .size)));
           size = credited-length (parentAt w m) figure sums ∙ inv .size;
           past = λ i l. credited-past (parentAt w m) figure sums i (omega (arith, inv .all)) ∙ inv .past i l;

@@ -1,8 +1,8 @@
 -- The laws of `rooms`, from the ground up.
 
--- Sums over places, and sums over what hangs beneath a node.
-pub mod Sums
+-- Sums over what hangs beneath a node, and the room's cords.
 pub mod Trees
+pub mod Cords
 -- What a good part of a table is, and what a good table and its room are as a whole.
 pub mod Inversion
 pub mod All

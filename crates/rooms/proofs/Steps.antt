@@ -8,7 +8,8 @@ use native.Mathlib.Omega.{arith}
 use native.Mathlib.Numerals.{add-one}
 use lib.ListN.{length, getD}
 use borrow.Author.Tests.{le-leb, lt-leb, lt-ltb, le-ltb}
-use Rattle.rooms.specs.Part.{Step, good, bad, Part, follow, word, ensure, end, many, within, total}
+use Rattle.rooms.specs.Part.{Step, good, bad, Part, follow, word, ensure, end, many, within}
+use Rattle.figures.specs.Figures.{total}
 use Rattle.rooms.specs.Table.{cord, server, shareOf, cordCount, scale, mostCords}
 use Rattle.rooms.proofs.Inversion.{word-is, cord-is, server-few}
 use Rattle.rooms.specs.Told.{told, nothing, itself}

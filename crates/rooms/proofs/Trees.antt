@@ -8,9 +8,9 @@ use native.Mathlib.Nat.{le-trans, le-suc, zero-mul, one-mul, add-mul, not-suc-le
 use native.Mathlib.Omega.{arith}
 use lib.Dec.{eqb, eqb·zero-suc, eqb·suc-suc}
 use borrow.Author.Tests.{eqb-true, ne-eqb}
-use Rattle.rooms.specs.Sums.{on, sum}
+use Rattle.figures.specs.Sums.{on, sum}
 use Rattle.rooms.specs.Limits.{beneath}
-use Rattle.rooms.proofs.Sums.{on-add, on-le, on-cong, on-mul, on-no, sum-cong, sum-le, sum-add, sum-mul, sum-on, sum-zero, sum-swap, sum-one}
+use Rattle.figures.proofs.Sums.{on-add, on-le, on-cong, on-mul, on-no, sum-cong, sum-le, sum-add, sum-mul, sum-on, sum-zero, sum-swap, sum-one}
 
 -- How often the climb from the number v meets the node at place n: the test `beneath` as a count, which adds up.
 unfoldable pub meets : (ℕ → ℕ) → ℕ → ℕ → ℕ → ℕ

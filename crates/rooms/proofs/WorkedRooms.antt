@@ -5,7 +5,8 @@ use mathlib.Core.List.{List, [], _∷_}
 use Prim.Native.Nat.{ℕ}
 use Rattle.numbers.specs.Number.{number, later}
 use Rattle.numbers.specs.Sheet.{sheetFrom}
-use Rattle.rooms.specs.Part.{follow, word, ensure, end, many, total}
+use Rattle.rooms.specs.Part.{follow, word, ensure, end, many}
+use Rattle.figures.specs.Figures.{total}
 use Rattle.rooms.specs.Table.{node, cord, range, load, server, table}
 use Rattle.rooms.specs.Limits.{beneath, serverLows, lows, firstNode, overloaded, checked}
 use Rattle.rooms.specs.Outcome.{Outcome, answerOf, answerNumber, answerFigure, reading}

@@ -1,8 +1,9 @@
--- What a reader must believe of `rooms`.
-pub mod Sums
+-- What a reader must believe of `rooms`: the table, what a node may carry, and the room's figures as lists.
 pub mod Part
 pub mod Table
 pub mod Limits
+pub mod Cords
+pub mod Lists
 pub mod Told
 pub mod Outcome
 pub mod Promises

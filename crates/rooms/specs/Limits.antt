@@ -4,8 +4,9 @@ use mathlib.Core.List.{List, [], _∷_}
 use Prim.Native.Nat.{ℕ, zero, suc, _+_, _-_, _*_, _/_}
 use lib.ListN.{length, getD, replicate}
 use lib.Dec.{eqb, ltb}
-use Rattle.rooms.specs.Part.{Step, good, bad, Part, _>>=_, give, ensure, total}
-use Rattle.rooms.specs.Sums.{on}
+use Rattle.rooms.specs.Part.{Step, good, bad, Part, _>>=_, give, ensure}
+use Rattle.figures.specs.Figures.{total}
+use Rattle.figures.specs.Sums.{on}
 use Rattle.rooms.specs.Table.{Node, Cord, Server, Room, scale, mostNodes, table}
 use Rattle.rooms.specs.declared.Refusal.the-variants.{LowsAboveLimit}
 

@@ -3,7 +3,7 @@
 use mathlib.Core.Path.{_≡_}
 use mathlib.Core.Bool.{Bool, true, cond, _&&_}
 use mathlib.Core.List.{List, [], _∷_}
-use Prim.Native.Nat.{ℕ, zero, suc, _+_}
+use Prim.Native.Nat.{ℕ, zero, suc}
 use lib.ListN.{length, getD}
 use lib.Dec.{leb, ltb}
 use Rattle.rooms.specs.declared.Refusal.{Refusal}
@@ -66,8 +66,3 @@ many (suc count) part next given = do
   first ← part given
   rest ← many count part next (next given first)
   give (first ∷ rest)
-
--- A figure, added up over a list.
-unfoldable pub total : {A : Type 0} → (A → ℕ) → List A → ℕ
-total figure [] = 0
-total figure (a ∷ rest) = figure a + total figure rest

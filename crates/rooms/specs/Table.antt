@@ -3,7 +3,8 @@ use mathlib.Core.List.{List}
 use Prim.Native.Nat.{ℕ, suc, _+_, _-_, min}
 use lib.ListN.{length}
 use lib.Dec.{leb, eqb}
-use Rattle.rooms.specs.Part.{Part, _>>=_, give, here, within, word, ensure, end, many, total}
+use Rattle.rooms.specs.Part.{Part, _>>=_, give, here, within, word, ensure, end, many}
+use Rattle.figures.specs.Figures.{total}
 use Rattle.rooms.specs.declared.Refusal.the-variants.{GreatestBelowLeast, SharesNotWhole}
 
 -- ---- The room

@@ -4,11 +4,12 @@ ghost use mathlib.Core.Bool.{cond};
 ghost use Prim.Native.Nat.{ℕ, suc, _+_, _-_, _*_, _/_, _^_, _<_, _≤_};
 ghost use lib.ListN.{length, getD, replicate};
 ghost use lib.Dec.{ltb};
-ghost use Rattle.rooms.specs.Sums.{sum};
+ghost use Rattle.figures.specs.Sums.{sum};
 ghost use Rattle.rooms.specs.Part.{good, Good};
 ghost use Rattle.rooms.specs.Table.{Room, mostNodes, mostServers, mostServerCords, mostWatts, scale, table};
 ghost use Rattle.rooms.specs.Limits.{carried, percent, nodeLows, firstNode, overloaded};
-ghost use Rattle.rooms.specs.Credits.{parentAt, figures, exceeds, credited, creditedRoom, LowsCredited, SumsGathered};
+ghost use Rattle.rooms.specs.Credits.{parentAt, exceeds, credited, creditedRoom, LowsCredited, SumsGathered};
+ghost use Rattle.figures.specs.Figures.{at};
 
 fn wide(x: u32) -> u64
     ensures { λ r. ⌜ r ≡ x ⌝ }
@@ -64,7 +65,7 @@ fn noted(limit: u64, sum: u64, place: usize, found: usize) -> usize
 fn lowest_over(w: &[u32], node_count: usize, sums: &mut [u64]) -> usize
     requires { ⌜ («node_count» ≤ mostNodes) × («node_count» ≤ length (now sums)) × (2 + 2 * «node_count» ≤ length (now w)) ⌝ }
     requires { ⌜ ((m : ℕ) → m < «node_count» → parentAt (now w) m ≤ m) ⌝ }
-    requires { ⌜ sum «node_count» (figures (now sums)) < 2 ^ 63 ⌝ }
+    requires { ⌜ sum «node_count» (at (now sums)) < 2 ^ 63 ⌝ }
     ensures { λ r. ⌜ r ≡ firstNode «node_count» 0 (exceeds (now (w .entry)) «node_count» (now (sums .entry))) ⌝ }
     ensures { λ _. ⌜ SumsGathered (now (w .entry)) «node_count» (now (sums .entry)) (now (sums .exit)) ⌝ }
 {

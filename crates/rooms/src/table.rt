@@ -3,10 +3,11 @@
 ghost use mathlib.Core.Path.{_≡_};
 ghost use Prim.Native.Nat.{ℕ, _+_, _*_, _^_, _<_, _≤_, min};
 ghost use lib.ListN.{length, getD};
-ghost use Rattle.rooms.specs.Sums.{sum};
-ghost use Rattle.rooms.specs.Part.{word, within, total};
+ghost use Rattle.figures.specs.Sums.{sum};
+ghost use Rattle.rooms.specs.Part.{word, within};
+ghost use Rattle.figures.specs.Figures.{total, at};
 ghost use Rattle.rooms.specs.Table.{mostNodes, mostServers, mostServerCords, mostCords, mostWatts, node, nodes, cord, cords, shareOf, shareSum, leastOf, range, load, server, servers, cordCount, table, roomCords};
-ghost use Rattle.rooms.specs.Credits.{figures, creditedCords, creditedServer, creditedServers, creditedRoom, LowsCredited};
+ghost use Rattle.rooms.specs.Credits.{creditedCords, creditedServer, creditedServers, creditedRoom, LowsCredited};
 ghost use Rattle.rooms.specs.Told.{told, itself, nothing};
 use crate::Checked;
 use crate::Refusal;
@@ -105,7 +106,7 @@ fn check_cords(
     sums: &mut [u64],
 ) -> Checked
     requires { ⌜ (count ≤ mostServerCords) × (least ≤ mostWatts) ⌝ }
-    requires { ⌜ («node_count» ≤ length (now sums)) × (sum «node_count» (figures (now sums)) + mostWatts * count < 2 ^ 63) ⌝ }
+    requires { ⌜ («node_count» ≤ length (now sums)) × (sum «node_count» (at (now sums)) + mostWatts * count < 2 ^ 63) ⌝ }
     ensures { λ r. ⌜ r ≡ told shareSum (cords «node_count» count (now (w .entry)) i) ⌝ }
     ensures { λ _. ⌜ LowsCredited (cords «node_count» count (now (w .entry)) i) (creditedCords least) «node_count» (mostWatts * count) (now (sums .entry)) (now (sums .exit)) ⌝ }
 {
@@ -161,7 +162,7 @@ fn check_load(
     sums: &mut [u64],
 ) -> Checked
     requires { ⌜ (before ≤ mostCords) × (least ≤ mostWatts) ⌝ }
-    requires { ⌜ («node_count» ≤ length (now sums)) × (sum «node_count» (figures (now sums)) + mostServerCords * mostWatts < 2 ^ 63) ⌝ }
+    requires { ⌜ («node_count» ≤ length (now sums)) × (sum «node_count» (at (now sums)) + mostServerCords * mostWatts < 2 ^ 63) ⌝ }
     ensures { λ r. ⌜ r ≡ told length (load «node_count» before start (now (w .entry)) i) ⌝ }
     ensures { λ _. ⌜ LowsCredited (load «node_count» before start (now (w .entry)) i) (creditedCords least) «node_count» (mostServerCords * mostWatts) (now (sums .entry)) (now (sums .exit)) ⌝ }
 {
@@ -181,7 +182,7 @@ fn check_load(
 
 // The server at i, and the count of its cords; the room has `before` cords so far.
 fn check_server(w: &[u32], i: usize, node_count: u32, before: u32, sums: &mut [u64]) -> Checked
-    requires { ⌜ (before ≤ mostCords) × («node_count» ≤ length (now sums)) × (sum «node_count» (figures (now sums)) + mostServerCords * mostWatts < 2 ^ 63) ⌝ }
+    requires { ⌜ (before ≤ mostCords) × («node_count» ≤ length (now sums)) × (sum «node_count» (at (now sums)) + mostServerCords * mostWatts < 2 ^ 63) ⌝ }
     ensures { λ r. ⌜ r ≡ told cordCount (server «node_count» before (now (w .entry)) i) ⌝ }
     ensures { λ _. ⌜ LowsCredited (server «node_count» before (now (w .entry)) i) creditedServer «node_count» (mostServerCords * mostWatts) (now (sums .entry)) (now (sums .exit)) ⌝ }
 {
@@ -198,7 +199,7 @@ fn check_server(w: &[u32], i: usize, node_count: u32, before: u32, sums: &mut [u
 
 // So many servers from i on, and the count of all their cords.
 fn check_servers(w: &[u32], i: usize, node_count: u32, count: u32, sums: &mut [u64]) -> Checked
-    requires { ⌜ («node_count» ≤ length (now sums)) × (sum «node_count» (figures (now sums)) + mostServerCords * mostWatts * count < 2 ^ 63) ⌝ }
+    requires { ⌜ («node_count» ≤ length (now sums)) × (sum «node_count» (at (now sums)) + mostServerCords * mostWatts * count < 2 ^ 63) ⌝ }
     ensures { λ r. ⌜ r ≡ told (total cordCount) (servers «node_count» count 0 (now (w .entry)) i) ⌝ }
     ensures { λ _. ⌜ LowsCredited (servers «node_count» count 0 (now (w .entry)) i) creditedServers «node_count» (mostServerCords * mostWatts * count) (now (sums .entry)) (now (sums .exit)) ⌝ }
 {

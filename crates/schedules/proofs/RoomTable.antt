@@ -11,7 +11,8 @@ use lib.Seq.{getD-drop, drop-drop}
 use lib.Dec.{leb}
 use borrow.Author.Tests.{le-leb, lt-leb, le-ltb}
 use Rattle.numbers.specs.Sheet.{bytesOf}
-use Rattle.rooms.specs.Part.{good, follow, word, within, many, end, total}
+use Rattle.figures.specs.Figures.{total}
+use Rattle.rooms.specs.Part.{good, follow, word, within, many, end}
 use Rattle.rooms.specs.Table.{Node, Room, mostNodes, mostWatts, node, nodes, table}
 use Rattle.rooms.specs.Limits.{lows, nodeAt, checked}
 use Rattle.rooms.specs.Outcome.{writing}

@@ -1,4 +1,4 @@
-//! Memory between two forbidden pages. A call that reads or writes beyond its buffer on that
+//! Memory between two guard pages. A call that reads or writes beyond its buffer on that
 //! side is stopped by a signal; a write beyond the other side spoils the marks there.
 
 use std::ptr::{copy_nonoverlapping, null_mut, write_bytes};

@@ -1,5 +1,5 @@
 //! Random rooms for the tests by running: generators of good, extreme and damaged input, the C
-//! calls between forbidden pages, and a shrinker of cases that show a difference.
+//! calls between guard pages, and a shrinker of cases that show a difference.
 
 pub mod arguments;
 pub mod calls;

@@ -114,7 +114,7 @@ impl Shrinker<'_> {
         }
     }
 
-    /// Puts each buffer right before its forbidden page.
+    /// Puts each buffer right before its guard page.
     fn move_back(&mut self) {
         for which in 0..self.best.buffers.len() {
             let mut candidate = self.best.clone();

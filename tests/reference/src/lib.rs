@@ -1,7 +1,7 @@
 //! Document 01 worked a second time, by someone who has seen no other program for it: read, write,
 //! plan, the C calls and the print, for comparing answers.
 //!
-//! The room is grown as trees of owned nodes and every figure is a wide integer, so that nothing
+//! The room is built as trees of owned nodes and every figure is a wide integer, so that nothing
 //! here shares a shape, or a mistake, with a program that scans its table.
 
 pub mod call;
@@ -17,7 +17,7 @@ pub use program::print;
 
 use room::Room;
 
-/// Watts, thousandths and all that is reckoned from them.
+/// Watts, thousandths and all that is computed from them.
 pub type Watts = i128;
 
 /// A refusal: document 01's number and place.

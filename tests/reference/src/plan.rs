@@ -6,7 +6,7 @@ use crate::{Plan, Refusal, Watts};
 
 const MOST_DEMAND: u32 = 16_777_215;
 
-/// Everything reckoned on the way to a plan: one figure a cord or one a server, in table order.
+/// Everything computed on the way to a plan: one figure a cord or one a server, in table order.
 #[derive(Clone, Debug, PartialEq, Eq)]
 pub struct Deals {
     pub needs: Vec<Watts>,

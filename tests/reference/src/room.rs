@@ -14,7 +14,7 @@ pub struct Room {
     pub cords: Vec<Cord>,
 }
 
-/// Any node. Its children are its child nodes in number order, then its own cords in table order.
+/// Any node. Its children: the nodes below it, by number, and after them its own cords, as the table has them.
 #[derive(Clone, Debug)]
 pub struct Breaker {
     pub number: u32,

@@ -1,6 +1,4 @@
 -- `read_sheet` meets its contract: what is read fits the sheet.
-use native.Mathlib.Omega.{arith}
-use Rattle.hutplan.proofs.Inputs.{read-file}
 use borrow.Author.Needs.{needs}
 use Rattle.hutplan.proofs.read_sheet.Statement.{statement}
 use Rattle.hutplan.proofs.read_sheet.Tie as tie
@@ -12,7 +10,7 @@ open-read-requires : tie.Need-open-read-requires
 open-read-requires c κs = search needs
 
 returns : tie.Need-returns
-returns c = (read-file _ _ (search needs) (omega arith), search needs)
+returns c = search needs
 
 read-full-requires : tie.Need-read-full-requires
 read-full-requires c κs = search needs
@@ -24,9 +22,7 @@ same-length : tie.Need-same-length
 same-length c = search needs
 
 returns-2 : tie.Need-returns-2
-returns-2 c =
-    let counted = c .before .before .before .read-full .ensures in
-    (read-file _ _ (search needs) (counted .0), counted)
+returns-2 c = c .before .before .before .read-full .ensures
 
 pub read-sheet-spec : {M : Type 1} → statement M
 read-sheet-spec =

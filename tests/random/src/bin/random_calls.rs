@@ -21,7 +21,7 @@ random_calls: the archive's C calls against the reference, on random input
                                      for as long as asked, with a line every ten seconds
   random_calls replay FILE           one case again, from a file that a run has left
 
-Every byte of every buffer is compared after each call, and buffers lie beside forbidden
+Every byte of every buffer is compared after each call, and buffers lie beside guard
 pages. The first difference stops the run: it is made small, printed and left in the file
 difference.txt. Exit status: 0 if all was the same, 1 if not, 2 for a wrong command.";
 

@@ -31,7 +31,7 @@ fn lower_demands_change_nothing_above() {
     assert!(lower_changed > 2_000, "{lower_changed}");
 }
 
-/// The demands with those of every server below the rank drawn anew.
+/// The demands with those of every server below the rank drawn again.
 fn redrawn(room: &Room, demands: &[u32], rank: u32, draw: &mut Draw) -> Vec<u32> {
     let mut others = demands.to_vec();
     for (other, server) in others.iter_mut().zip(&room.servers) {

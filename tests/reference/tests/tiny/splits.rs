@@ -1,4 +1,4 @@
-//! Every split of a deal, held against its definition: the metrics are reckoned anew for each
+//! Every split of a deal, held against its definition: the metrics are computed again for each
 //! question, straight from document 01's sentences, and nothing is kept.
 
 use crate::family::{drawn, listed};

@@ -4,7 +4,8 @@ use native.Mathlib.Omega.{arith}
 use lib.ListN.{getD, replicate}
 use borrow.Author.Needs.{needs}
 use Rattle.rooms.specs.Table.{mostNodes}
-use Rattle.rooms.proofs.Credits.{zeros-at, sum-zeros}
+use Rattle.figures.proofs.Filled.{zeros-at}
+use Rattle.rooms.proofs.Credits.{sum-zeros}
 use Rattle.rooms.proofs.Found.{layout, table-rises, overloaded-from, lows-from}
 use Rattle.rooms.proofs.lows.overloaded.Statement.{statement}
 use Rattle.rooms.proofs.lows.overloaded.Tie as tie

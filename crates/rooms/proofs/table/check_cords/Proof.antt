@@ -3,9 +3,10 @@ use Prim.Native.Nat.{_+_, _*_, _≤_}
 use native.Mathlib.Omega.{arith}
 use mathlib.Core.Path.{refl}
 use lib.ListN.{length}
-use Rattle.rooms.specs.Sums.{sum}
+use Rattle.figures.specs.Sums.{sum}
 use Rattle.rooms.specs.Table.{cord, cords, shareOf, mostWatts}
-use Rattle.rooms.specs.Credits.{figures, creditedCords}
+use Rattle.rooms.specs.Credits.{creditedCords}
+use Rattle.figures.specs.Figures.{at}
 use Rattle.rooms.proofs.Steps.{Row, row-start, row-end, row-stop, row-turn, cord-most}
 use Rattle.rooms.proofs.CreditTurns.{stopped, rowOf, crediting-start, CordsCrediting, cords-end, next-cord}
 use borrow.Author.Needs.{needs}
@@ -16,7 +17,7 @@ abbrev Inv-loop : tie.InvT-loop
 Inv-loop w i node-count count least sums₀ left₀ shares₀ j₀ sums left shares j =
     (shares + 1000 * left ≤ 4000)
     × Row shareOf (λ _. cord node-count) (λ given _. given) w count 0 i shares left 0 j
-    × CordsCrediting node-count least w (creditedCords least (rowOf (cords node-count count w i)) sums₀) (length sums₀) (sum node-count (figures sums₀) + mostWatts * count) left j sums
+    × CordsCrediting node-count least w (creditedCords least (rowOf (cords node-count count w i)) sums₀) (length sums₀) (sum node-count (at sums₀) + mostWatts * count) left j sums
 
 abbrev μ-loop : tie.MeasureT-loop
 μ-loop w i node-count count least sums₀ left₀ shares₀ j₀ sums left shares j = left

@@ -2,10 +2,11 @@
 use mathlib.Core.Path.{ap}
 use Prim.Native.Nat.{ℕ, _+_, _*_, _≤_}
 use lib.ListN.{length}
-use Rattle.rooms.specs.Sums.{sum}
+use Rattle.figures.specs.Sums.{sum}
 use native.Mathlib.Omega.{arith}
 use Rattle.rooms.specs.Table.{server, servers, cordCount, mostServerCords, mostCords, mostWatts}
-use Rattle.rooms.specs.Credits.{figures, creditedServers}
+use Rattle.rooms.specs.Credits.{creditedServers}
+use Rattle.figures.specs.Figures.{at}
 use Rattle.rooms.proofs.Steps.{Row, row-start, row-end, row-stop, row-turn, server-most}
 use Rattle.rooms.proofs.CreditTurns.{stopped, rowOf, crediting-start, ServersCrediting, servers-end, servers-turn}
 use borrow.Author.Needs.{needs}
@@ -16,7 +17,7 @@ abbrev Inv-loop : tie.InvT-loop
 Inv-loop w i node-count count sums₀ left₀ before₀ j₀ sums left before j =
     (before ≤ mostCords)
     × Row cordCount (server node-count) (λ before s. before + cordCount s) w count 0 i before left before j
-    × ServersCrediting node-count w (creditedServers (rowOf (servers node-count count 0 w i)) sums₀) (length sums₀) (sum node-count (figures sums₀) + mostServerCords * mostWatts * count) left before j sums
+    × ServersCrediting node-count w (creditedServers (rowOf (servers node-count count 0 w i)) sums₀) (length sums₀) (sum node-count (at sums₀) + mostServerCords * mostWatts * count) left before j sums
 
 abbrev μ-loop : tie.MeasureT-loop
 μ-loop w i node-count count sums₀ left₀ before₀ j₀ sums left before j = left

@@ -1,0 +1,3 @@
+-- The laws of `layout`.
+pub mod Walk
+pub mod Loading

@@ -1,0 +1,3 @@
+-- The laws of `plan_rooms`.
+pub mod TwoDeals
+pub mod Planning

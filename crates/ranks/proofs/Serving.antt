@@ -1,0 +1,168 @@
+-- A node's children served in turn: the parts that they get of its amount, and the weights served and the watts dealt there.
+use mathlib.Core.Path.{_≡_, refl, sym, ap, ap₂, subst, _∙_}
+use mathlib.Core.Bool.{Bool, true, false}
+use mathlib.Core.List.{List}
+use Prim.Native.Nat.{ℕ, suc, _+_, _*_, _-_, _/_, _^_, _≤_, _<_}
+use native.Mathlib.Nat.{mul-zero, sub-zero, zero-div, mul-le-mul, mul-le-mul-left, lt-of-le-of-lt, le-trans, le-of-eq}
+use native.Mathlib.Omega.{arith}
+use lib.Dec.{eqb, lit<}
+use lib.ListN.{length, set, length-set}
+use lib.Seq.{getD-set-same, getD-set-other}
+use borrow.Author.Tests.{eq-eqb, ne-eqb, eqb-true, eqb-false}
+use Rattle.figures.specs.Sums.{on, sum}
+use Rattle.rooms.specs.Table.{mostWatts, mostCords}
+use Rattle.figures.proofs.Sums.{on-yes, on-no, sum-suc, sum-up}
+use Rattle.figures.specs.Figures.{at}
+use Rattle.deals.specs.Split.{part}
+use Rattle.deals.proofs.Splits.{div-mono, part-whole}
+
+-- ---- One child
+
+-- What `serve` asks and what it leaves, of an amount x, a whole weight e and a child of weight w.
+abbrev pub MayServe : ℕ → ℕ → ℕ → ℕ → List ℕ → List ℕ → Type 0
+MayServe x e w p before dealt =
+    ((p < length before) × (p < length dealt) × (at before p + w ≤ e) × (x ≤ e) × (x * e < 2 ^ 64) × (e < 2 ^ 63)) × (at dealt p ≡ x * at before p / e)
+
+abbrev pub HasServed : ℕ → ℕ → ℕ → ℕ → List ℕ → List ℕ → ℕ → List ℕ → List ℕ → Type 0
+HasServed x e w p before dealt watts before′ dealt′ =
+    (watts ≡ part x e (at before p) w) × ((before′ ≡ set before p (at before p + w)) × (dealt′ ≡ set dealt p (x * (at before p + w) / e)))
+
+-- Nothing is dealt where nothing was served.
+dealt-none : (x e b : ℕ) → b ≡ 0 → x * b / e ≡ 0
+dealt-none x e b z = ap (λ (y : ℕ). x * y / e) z ∙ ap (λ (y : ℕ). y / e) (mul-zero x) ∙ zero-div e
+
+-- No more is dealt than the amount.
+pub dealt-most : (x e u : ℕ) → u ≤ e → x ≤ e → x * u / e ≤ x
+dealt-most x e u h room = le-trans (div-mono (x * u) (x * e) e (mul-le-mul-left x h)) (le-of-eq (part-whole x e room))
+
+-- A child with all the weight gets all.
+pub serve-all : (x e w p : ℕ) (before dealt : List ℕ) → at before p + w ≤ e → x ≤ e → w ≡ e → HasServed x e w p before dealt x (set before p w) (set dealt p x)
+unfolding part
+serve-all x e w p before dealt room h z =
+    let all : x * (at before p + w) / e ≡ x = ap (λ (y : ℕ). x * y / e) (let s : at before p + w ≡ e = omega arith in s) ∙ part-whole x e h in (
+      sym (ap₂ _-_ all (dealt-none x e (at before p) (omega arith)) ∙ sub-zero x),
+      (ap (set before p) (omega arith), ap (set dealt p) (sym all)),
+    )
+
+-- A child of any weight: the watts dealt grow by its part.
+pub serve-some : (x e w p : ℕ) (before dealt : List ℕ) {watts given : ℕ} → at dealt p ≡ x * at before p / e → watts ≡ x * (at before p + w) / e → given ≡ watts - at dealt p
+    → HasServed x e w p before dealt given (set before p (at before p + w)) (set dealt p watts)
+unfolding part
+serve-some x e w p before dealt dealt-is watts-are given-is = (given-is ∙ ap₂ _-_ watts-are dealt-is, (refl, ap (set dealt p) watts-are))
+
+-- ---- The children served so far
+
+-- Of each node of some: the weights of its children that were served, and the watts dealt to them.
+pub record Served (count : ℕ) (some : ℕ → Type 0) (whole : ℕ → ℕ) (amounts : List ℕ) (weights : ℕ → ℕ) (before dealt : List ℕ) : Type 0 where
+  pub before-size : length before ≡ count
+  pub dealt-size : length dealt ≡ count
+  pub before-is : (n : ℕ) → some n → at before n ≡ weights n
+  pub dealt-is : (n : ℕ) → some n → at dealt n ≡ at amounts n * at before n / whole n
+
+module _ {count : ℕ} {some : ℕ → Type 0} {whole : ℕ → ℕ} {amounts : List ℕ} {weights : ℕ → ℕ} {before dealt : List ℕ} (is : Served count some whole amounts weights before dealt) where
+  -- Nothing is served.
+  pub served-same : (weights′ : ℕ → ℕ) {before′ dealt′ : List ℕ} → ((n : ℕ) → weights′ n ≡ weights n) → before′ ≡ before → dealt′ ≡ dealt
+      → Served count some whole amounts weights′ before′ dealt′
+  served-same weights′ e b d =
+      record {
+        before-size = ap length b ∙ is .before-size;
+        dealt-size = ap length d ∙ is .dealt-size;
+        before-is = λ n h. ap (λ (l : List ℕ). at l n) b ∙ is .before-is n h ∙ sym (e n);
+        dealt-is = λ n h. ap (λ (l : List ℕ). at l n) d ∙ is .dealt-is n h ∙ ap (λ (l : List ℕ). at amounts n * at l n / whole n) (sym b);
+      }
+
+  -- The amount of a node may be set while none of its children is served.
+  pub served-amount : (m a : ℕ) {amounts′ : List ℕ} → amounts′ ≡ set amounts m a → weights m ≡ 0 → Served count some whole amounts′ weights before dealt
+  served-amount m a {amounts′} e z =
+      record {
+        before-size = is .before-size;
+        dealt-size = is .dealt-size;
+        before-is = is .before-is;
+        dealt-is = λ n h. is .dealt-is n h ∙ dealt-same n h (eqb n m) refl;
+      }
+    where
+      dealt-same : (n : ℕ) → some n → (t : Bool) → eqb n m ≡ t → at amounts n * at before n / whole n ≡ at amounts′ n * at before n / whole n
+      dealt-same n h true q =
+          let b : at before n ≡ 0 = is .before-is n h ∙ ap weights (eqb-true n m q) ∙ z in
+          dealt-none (at amounts n) (whole n) (at before n) b ∙ sym (dealt-none (at amounts′ n) (whole n) (at before n) b)
+      dealt-same n h false q =
+          ap (λ (y : ℕ). y * at before n / whole n) (sym (ap (λ (l : List ℕ). at l n) e ∙ getD-set-other amounts m n a 0 (eqb-false n m q)))
+
+  -- A node joins them, while none of its children is served.
+  pub served-more : (some′ : ℕ → Type 0) (m : ℕ) → m < count → weights m ≡ 0 → ((n : ℕ) → (n ≡ m → ⊥) → some′ n → some n)
+      → Served count some′ whole amounts weights (set before m 0) (set dealt m 0)
+  served-more some′ m within z others =
+      record {
+        before-size = length-set before m 0 ∙ is .before-size;
+        dealt-size = length-set dealt m 0 ∙ is .dealt-size;
+        before-is = λ n h. here-or-not n h (eqb n m) refl .0;
+        dealt-is = λ n h. here-or-not n h (eqb n m) refl .1;
+      }
+    where
+      here : (at (set before m 0) m ≡ weights m) × (at (set dealt m 0) m ≡ at amounts m * at (set before m 0) m / whole m)
+      here =
+          let b : at (set before m 0) m ≡ 0 = getD-set-same before m 0 0 (omega (arith, is .before-size)) in
+          (b ∙ sym z, getD-set-same dealt m 0 0 (omega (arith, is .dealt-size)) ∙ sym (dealt-none (at amounts m) (whole m) (at (set before m 0) m) b))
+
+      here-or-not : (n : ℕ) → some′ n → (t : Bool) → eqb n m ≡ t → (at (set before m 0) n ≡ weights n) × (at (set dealt m 0) n ≡ at amounts n * at (set before m 0) n / whole n)
+      here-or-not n h true q = subst (λ (k : ℕ). (at (set before m 0) k ≡ weights k) × (at (set dealt m 0) k ≡ at amounts k * at (set before m 0) k / whole k)) (sym (eqb-true n m q)) here
+      here-or-not n h false q =
+          let old = others n (eqb-false n m q) h in
+          let b : at (set before m 0) n ≡ at before n = getD-set-other before m n 0 0 (eqb-false n m q) in
+          (b ∙ is .before-is n old, getD-set-other dealt m n 0 0 (eqb-false n m q) ∙ is .dealt-is n old ∙ ap (λ (y : ℕ). at amounts n * y / whole n) (sym b))
+
+  -- The next child of the node at place p.
+  module _ (p w : ℕ) (within : p < count) (is-some : some p) where
+    -- What `serve` asks.
+    pub may-serve : weights p + w ≤ whole p → at amounts p ≤ whole p → at amounts p ≤ mostWatts → whole p ≤ mostCords * mostWatts → MayServe (at amounts p) (whole p) w p before dealt
+    may-serve room inside most few = (
+      (
+        omega (arith, is .before-size),
+        omega (arith, is .dealt-size),
+        omega (arith, is .before-is p is-some),
+        inside,
+        lt-of-le-of-lt (mul-le-mul most few) (lit< tt),
+        lt-of-le-of-lt few (lit< tt),
+      ),
+      is .dealt-is p is-some,
+    )
+
+    pub served-part : part (at amounts p) (whole p) (at before p) w ≡ part (at amounts p) (whole p) (weights p) w
+    served-part = ap (λ (b : ℕ). part (at amounts p) (whole p) b w) (is .before-is p is-some)
+
+    -- What `serve` leaves.
+    pub served-next : (weights′ : ℕ → ℕ) {watts : ℕ} {before′ dealt′ : List ℕ}
+        → ((n : ℕ) → weights′ n ≡ weights n + on (eqb (suc p) (suc n)) w)
+        → HasServed (at amounts p) (whole p) w p before dealt watts before′ dealt′
+        → Served count some whole amounts weights′ before′ dealt′
+    served-next weights′ {watts} {before′} {dealt′} more has =
+        record {
+          before-size = ap length (has .1 .0) ∙ length-set before p (at before p + w) ∙ is .before-size;
+          dealt-size = ap length (has .1 .1) ∙ length-set dealt p (at amounts p * (at before p + w) / whole p) ∙ is .dealt-size;
+          before-is = λ n h. here-or-not n h (eqb n p) refl .0;
+          dealt-is = λ n h. here-or-not n h (eqb n p) refl .1;
+        }
+      where
+        here : (at before′ p ≡ weights′ p) × (at dealt′ p ≡ at amounts p * at before′ p / whole p)
+        here =
+            let b-is : at before′ p ≡ at before p + w = ap (λ (l : List ℕ). at l p) (has .1 .0) ∙ getD-set-same before p (at before p + w) 0 (omega (arith, is .before-size)) in (
+              omega (arith, is .before-is p is-some, more p, on-yes (eqb (suc p) (suc p)) w (eq-eqb (suc p) (suc p) refl)),
+              ap (λ (l : List ℕ). at l p) (has .1 .1)
+                  ∙ getD-set-same dealt p (at amounts p * (at before p + w) / whole p) 0 (omega (arith, is .dealt-size))
+                  ∙ ap (λ (y : ℕ). at amounts p * y / whole p) (sym b-is),
+            )
+
+        here-or-not : (n : ℕ) → some n → (t : Bool) → eqb n p ≡ t → (at before′ n ≡ weights′ n) × (at dealt′ n ≡ at amounts n * at before′ n / whole n)
+        here-or-not n h true q = subst (λ (k : ℕ). (at before′ k ≡ weights′ k) × (at dealt′ k ≡ at amounts k * at before′ k / whole k)) (sym (eqb-true n p q)) here
+        here-or-not n h false q =
+            let b-is : at before′ n ≡ at before n = ap (λ (l : List ℕ). at l n) (has .1 .0) ∙ getD-set-other before p n (at before p + w) 0 (eqb-false n p q) in (
+              omega (arith, is .before-is n h, more n, on-no (eqb (suc p) (suc n)) w (ne-eqb (suc p) (suc n) (λ e. eqb-false n p q (omega arith)))),
+              ap (λ (l : List ℕ). at l n) (has .1 .1)
+                  ∙ getD-set-other dealt p n (at amounts p * (at before p + w) / whole p) 0 (eqb-false n p q)
+                  ∙ is .dealt-is n h
+                  ∙ ap (λ (y : ℕ). at amounts n * y / whole n) (sym b-is),
+            )
+
+-- One more figure is within a sum over more places.
+pub sum-within : (k m : ℕ) (g : ℕ → ℕ) → k < m → sum k g + g k ≤ sum m g
+sum-within k m g h = omega (arith, sum-suc k g, sum-up (m - suc k) (suc k) m g (omega arith))

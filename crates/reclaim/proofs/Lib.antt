@@ -1,0 +1,2 @@
+-- The laws of `reclaim`.
+pub mod Reclaiming

@@ -1,0 +1,80 @@
+// What servers can use of their cords' grants, and the wants of the second deal.
+// Private to Plan: no operation stands here.
+ghost use mathlib.Core.Path.{_≡_};
+ghost use mathlib.Core.Bool.{cond};
+ghost use Prim.Native.Nat.{_^_, _<_};
+ghost use lib.Dec.{ltb};
+ghost use lib.ListN.{length};
+ghost use Rattle.reclaim.specs.Reclaimed.{ServerLists, usableFrom, usedFrom, freedFrom, wantsFrom, ReclaimedAfter};
+use figures::index;
+use figures::least;
+use figures::narrow;
+use figures::over;
+use figures::wide;
+use layout::carried_by;
+
+// Each server's usable watts: its need, or the least of floor(1000 × grant / share) of its cords with a share, if that is less.
+pub fn usable_of(shares: &[u32], servers: &[u16], needs: &[u32], grants: &[u32], usable: &mut [u32])
+    requires { ⌜ ServerLists (now shares) (now servers) (now needs) (length (now grants)) × (length (now usable) ≡ length (now needs)) ⌝ }
+    ensures { λ _. ⌜ now (usable .exit) ≡ usableFrom (now (shares .entry)) (now (servers .entry)) (now (needs .entry)) (now (grants .entry)) ⌝ }
+{
+    words::copy(needs, usable);
+    for c in 0..shares.len() {
+        let share = wide(shares[c]);
+        if share != 0 {
+            let v = index(servers[c]);
+            usable[v] = narrow(least(wide(usable[v]), 1000 * wide(grants[c]) / share));
+        }
+    }
+}
+
+// A cord's want in the next deal: its used watts if it has stranded watts, else its want as before. It is chosen without a
+// branch: the processor would often predict that wrongly.
+fn next_want(stranded: u64, used: u32, want: u32) -> u32
+    requires { ⌜ stranded < 2 ^ 32 ⌝ }
+    ensures { λ r. ⌜ r ≡ cond (ltb 0 stranded) used want ⌝ }
+{
+    // 1 if watts are stranded, else 0: only then the sum carries into bit 32. A comparison might be compiled to a branch.
+    let some = (stranded + 4294967295) / 4294967296;
+    narrow(some * wide(used) + (1 - some) * wide(want))
+}
+
+// After the first deal: the cords that have stranded watts want their used watts from now on; gives the watts freed.
+fn reclaim(
+    shares: &[u32],
+    servers: &[u16],
+    usable: &[u32],
+    grants: &[u32],
+    wants: &mut [u32],
+) -> u64
+    requires { ⌜ ServerLists (now shares) (now servers) (now usable) (length (now grants)) × (length (now wants) ≡ length (now shares)) ⌝ }
+    ensures { λ freed. ⌜ freed ≡ freedFrom (now (shares .entry)) (now (servers .entry)) (now (usable .entry)) (now (grants .entry)) ⌝ }
+    ensures { λ _. ⌜ now (wants .exit) ≡ wantsFrom (usedFrom (now (shares .entry)) (now (servers .entry)) (now (usable .entry))) (now (grants .entry)) (now (wants .entry)) ⌝ }
+{
+    let mut freed: u64 = 0;
+    for c in 0..shares.len() {
+        let used = carried_by(shares[c], usable[index(servers[c])]);
+        let stranded = over(wide(grants[c]), wide(used));
+        freed += stranded;
+        wants[c] = next_want(stranded, used, wants[c]);
+    }
+    freed
+}
+
+// `reclaim`, after so many deals: before the first it changes nothing and gives 0.
+pub fn reclaim_after(
+    deals: usize,
+    shares: &[u32],
+    servers: &[u16],
+    usable: &[u32],
+    grants: &[u32],
+    wants: &mut [u32],
+) -> u64
+    requires { ⌜ (0 < deals → ServerLists (now shares) (now servers) (now usable) (length (now grants)) × (length (now wants) ≡ length (now shares))) ⌝ }
+    ensures { λ freed. ⌜ ReclaimedAfter deals (now (shares .entry)) (now (servers .entry)) (now (usable .entry)) (now (grants .entry)) (now (wants .entry)) freed (now (wants .exit)) ⌝ }
+{
+    if deals == 0 {
+        return 0;
+    }
+    reclaim(shares, servers, usable, grants, wants)
+}

@@ -10,10 +10,13 @@ use lib.Dec.{leb, eqb}
 use borrow.Author.Tests.{eqb-true, eq-eqb, eqb-false}
 use Rattle.schedules.specs.Sizes.{sizes, isIn, isSize}
 use Rattle.schedules.specs.Schedule.{rating, Ending, whole, refused, linesOf, tableOf, Outcome, accepted, turnedBack, fitting, scheduledLines, scheduling}
-use Rattle.schedules.specs.Promises.{SizesRise, InTable, SizesAreTheTable, ScheduledRoom, ScheduleGivesRoom, FirstBytesDecide}
+use Rattle.schedules.specs.Promises.{SizesRise, InTable, SizesAreTheTable, WrittenText, AcceptedIsWritten, WrittenIsRead, ScheduledRoom, ScheduleGivesRoom, FirstBytesDecide}
 use Rattle.schedules.proofs.SizeLaws as sizes
 use Rattle.schedules.proofs.TableLaws.{few-entries}
-use Rattle.schedules.proofs.RoomTable.{Pass, entries-pass, roomOf, table-checked, table-written, node-of}
+use Rattle.schedules.specs.Written.{Pass}
+use Rattle.schedules.proofs.RoomTable.{entries-pass, roomOf, table-checked, table-written, node-of}
+use Rattle.schedules.proofs.ReadsText.{lines-read}
+use Rattle.schedules.proofs.WritesText.{lines-written}
 use Rattle.schedules.proofs.FirstBytes.{scheduling-cut}
 use Rattle.schedules.specs.declared.Entry.{Entry}
 use Rattle.schedules.specs.declared.Refusal.the-variants.{OutOfRange, TableTooShort}
@@ -60,27 +63,38 @@ sizes-are-the-table amperes = (
 
 -- What is accepted is the table of all lines, of which there is at least one.
 record AllLines (text table : List ℕ) : Type 0 where
+  ends : linesOf text .ending ≡ whole
   is : tableOf (linesOf text .entries) ≡ table
   some : 1 ≤ length (linesOf text .entries)
 
 accepted-is : (text table : List ℕ) (words : ℕ) → scheduling text words ≡ accepted table → AllLines text table
 unfolding scheduling
-accepted-is text table words e = ended (linesOf text .ending) e
+accepted-is text table words e = ended (linesOf text .ending) refl e
   where
-    fits : (t : Bool) → (length (linesOf text .entries) ≡ 0 → ⊥)
+    fits : (t : Bool) → linesOf text .ending ≡ whole → (length (linesOf text .entries) ≡ 0 → ⊥)
         → cond t (accepted (tableOf (linesOf text .entries))) (turnedBack (TableTooShort (length (tableOf (linesOf text .entries))))) ≡ accepted table
         → AllLines text table
-    fits true z e = record { is = cc; some = omega arith }
-    fits false z e = absurd (suc-ne-zero 0 (cc))
+    fits true w z e = record { ends = w; is = cc; some = omega arith }
+    fits false w z e = absurd (suc-ne-zero 0 (cc))
 
-    some : (t : Bool) → eqb (length (linesOf text .entries)) 0 ≡ t
+    some : (t : Bool) → linesOf text .ending ≡ whole → eqb (length (linesOf text .entries)) 0 ≡ t
         → cond t (turnedBack (OutOfRange 0)) (fitting (tableOf (linesOf text .entries)) words) ≡ accepted table → AllLines text table
-    some true q e = absurd (suc-ne-zero 0 (cc))
-    some false q e = fits (leb (length (tableOf (linesOf text .entries))) words) (eqb-false (length (linesOf text .entries)) 0 q) e
+    some true w q e = absurd (suc-ne-zero 0 (cc))
+    some false w q e = fits (leb (length (tableOf (linesOf text .entries))) words) w (eqb-false (length (linesOf text .entries)) 0 q) e
 
-    ended : (ending : Ending) → scheduledLines (linesOf text .entries) ending words ≡ accepted table → AllLines text table
-    ended whole e = some (eqb (length (linesOf text .entries)) 0) refl e
-    ended (refused q) e = absurd (suc-ne-zero 0 (cc))
+    ended : (ending : Ending) → linesOf text .ending ≡ ending → scheduledLines (linesOf text .entries) ending words ≡ accepted table → AllLines text table
+    ended whole w e = some (eqb (length (linesOf text .entries)) 0) w refl e
+    ended (refused q) w e = absurd (suc-ne-zero 0 (cc))
+
+pub accepted-is-written : AcceptedIsWritten
+accepted-is-written text table words e =
+    record {
+      lines = lines-read 513 text 0 0 (omega arith) (omega arith) (accepted-is text table words e .ends);
+      pass = entries-pass 513 text 0 0;
+    }
+
+pub written-is-read : WrittenIsRead
+written-is-read entries text w p = lines-written w 0 p 513 text 0 refl (omega arith) (omega arith)
 
 pub schedule-gives-room : ScheduleGivesRoom
 schedule-gives-room text table words e =

@@ -3,11 +3,8 @@ use mathlib.Core.Path.{_≡_, refl, sym, ap, _∙_}
 use mathlib.Core.Bool.{Bool, true, false, cond}
 use mathlib.Core.List.{List, [], _∷_, _++_, map}
 use Prim.Native.Nat.{ℕ, zero, suc, _+_, _-_, _*_, _≤_, _<_}
-use native.Mathlib.Nat.{add-zero}
 use native.Mathlib.Omega.{arith}
-use native.Mathlib.Numerals.{add-one}
-use lib.ListN.{length, getD, drop, length-drop, length-map, List·getD-map}
-use lib.Seq.{getD-drop, drop-drop}
+use lib.ListN.{length, getD, drop, length-map, List·getD-map}
 use lib.Dec.{leb}
 use borrow.Author.Tests.{le-leb, lt-leb, le-ltb}
 use Rattle.numbers.specs.Sheet.{bytesOf}
@@ -22,16 +19,13 @@ use Rattle.rooms.proofs.Promises.{refusal-nine}
 use Rattle.schedules.specs.Sizes.{isSize}
 use Rattle.schedules.specs.Text.{line}
 use Rattle.schedules.specs.Schedule.{rating, inRange, Judgement, passed, failed, judged, whole, onto, linesFrom, nodeWords, tableOf}
+use Rattle.schedules.specs.Written.{Pass, none, more}
+use Rattle.schedules.proofs.Fronts.{Stands, stands}
 use Rattle.schedules.proofs.LineLaws.{range-is, rating-most, passed-is}
 use Rattle.schedules.proofs.TableLaws.{length-tableOf}
 use Rattle.schedules.specs.declared.Entry.{Entry}
 
 -- ---- Entries that pass
-
--- Each entry passes at its place, the first being at a given one.
-pub data Pass : ℕ → List Entry → Type 0 where
-  none : {place : ℕ} → Pass place []
-  more : {place : ℕ} {e : Entry} {rest : List Entry} → isSize (e .amperes) ≡ true → inRange place e ≡ true → Pass (suc place) rest → Pass place (e ∷ rest)
 
 -- The entries of a text pass.
 pub entries-pass : (most : ℕ) (text : List ℕ) (place at : ℕ) → Pass place (linesFrom most text place at .entries)
@@ -50,22 +44,6 @@ entries-pass (suc most) text place at = go (leb (length text) at) (judged place 
 -- The node of an entry.
 abbrev pub nodeOf : Entry → Node
 nodeOf e = record { parent = e .parent; rating = rating e }
-
--- A word stands at an index, with others behind it.
-record Stands (w : List ℕ) (i v : ℕ) (rest : List ℕ) : Type 0 where
-  there : i < length w
-  is : getD w i 0 ≡ v
-  next : drop (suc i) w ≡ rest
-
-stands : (w : List ℕ) (i v : ℕ) (rest : List ℕ) → drop i w ≡ v ∷ rest → Stands w i v rest
-stands w i v rest d =
-    let first : getD w (i + 0) 0 ≡ v = sym (getD-drop i w 0 0) ∙ ap (λ (l : List ℕ). getD l 0 0) d in
-    let others : drop (i + 1) w ≡ rest = sym (drop-drop 1 i w) ∙ ap (drop 1) d in
-    record {
-      there = omega (arith, length-drop i w, ap length d);
-      is = rw add-zero at first;
-      next = rw add-one at others;
-    }
 
 word-read : (low high : ℕ) {w : List ℕ} {i v : ℕ} {rest : List ℕ} → Stands w i v rest → low ≤ v → v ≤ high
     → word (within low high) w i ≡ good v (suc i)

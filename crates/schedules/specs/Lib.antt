@@ -4,4 +4,5 @@ pub mod Text
 pub mod Schedule
 pub mod Call
 pub mod Told
+pub mod Written
 pub mod Promises

@@ -13,7 +13,8 @@ use Rattle.rooms.specs.Limits.{nodeAt, checked}
 use Rattle.rooms.specs.Outcome.{writing}
 use Rattle.rooms.specs.Outcome as rooms
 use Rattle.schedules.specs.Sizes.{sizes, isSize}
-use Rattle.schedules.specs.Schedule.{rating, linesOf, Outcome, accepted, scheduling}
+use Rattle.schedules.specs.Schedule.{rating, whole, linesOf, accepted, scheduling}
+use Rattle.schedules.specs.Written.{Written, Pass}
 use Rattle.schedules.specs.declared.Entry.{Entry}
 
 -- ---- The sizes
@@ -32,6 +33,21 @@ pub record InTable (amperes : ℕ) : Type 0 where
 -- Amperes are a size exactly when they stand in the table.
 abbrev pub SizesAreTheTable : Type 0
 SizesAreTheTable = (amperes : ℕ) → (isSize amperes ≡ true) ↔ InTable amperes
+
+-- ---- The text
+
+-- A text that is accepted is the lines of its entries, written in decimal, and nothing else; each of them passes at its place.
+pub record WrittenText (text : List ℕ) : Type 0 where
+  pub lines : Written (linesOf text .entries) text
+  pub pass : Pass 0 (linesOf text .entries)
+
+abbrev pub AcceptedIsWritten : Type 0
+AcceptedIsWritten = (text table : List ℕ) (words : ℕ) → scheduling text words ≡ accepted table → WrittenText text
+
+-- Every text that is written so is read: its lines are those entries, and end with the text.
+abbrev pub WrittenIsRead : Type 0
+WrittenIsRead = (entries : List Entry) (text : List ℕ) → Written entries text → Pass 0 entries
+    → linesOf text ≡ record { entries = entries; ending = whole }
 
 -- ---- The table of an accepted schedule
 

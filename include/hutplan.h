@@ -32,7 +32,8 @@
  * There is no other duty: any bytes, of any length, are good input.
  *
  * Stack, as measured on x86-64 (docs/PERFORMANCE.md has the figures): about 25 KB for hutplan_read
- * and for hutplan_write, and about 130 KB for hutplan_plan. It does not grow with the input.
+ * and for hutplan_write, about 130 KB for hutplan_plan, and about 8 KB for hutplan_schedule. It does
+ * not grow with the input.
  */
 #ifndef HUTPLAN_H
 #define HUTPLAN_H

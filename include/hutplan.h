@@ -16,7 +16,8 @@
  *                   accepted: the count written, of words (hutplan_read, hutplan_schedule) or bytes
  *                   (hutplan_write), or the freed watts (hutplan_plan).
  * Bytes past the sixteenth are not touched. If the answer buffer is shorter than sixteen bytes, a
- * call returns 0 and changes nothing. In every other case it returns 1.
+ * call returns 0 and changes nothing. In every other case it returns 1. The answer of hutplan_send
+ * has eight bytes more (see there).
  *
  * Accepted: what is written stands at the front of the output buffer; bytes past it are not
  * touched. Refused: nothing but the answer is changed.
@@ -75,15 +76,20 @@ enum hutplan_refusal {
 
     /* The output buffers. */
     HUTPLAN_OUTPUT_TOO_SHORT = 12,     /* place: the length needed, in words (hutplan_read,
-                                          hutplan_schedule), bytes (hutplan_write) or grants
-                                          (hutplan_plan) */
+                                          hutplan_schedule), bytes (hutplan_write), grants
+                                          (hutplan_plan) or servers named (hutplan_send) */
     HUTPLAN_CAPS_TOO_SHORT = 13,       /* the cap list; place: the count of servers */
 
     /* Lines of a schedule, line by line (hutplan_schedule), all before 12. Place: the line. */
     HUTPLAN_NOT_A_LINE = 24,           /* not of the form, or a number above 9,999 */
     HUTPLAN_NOT_A_SIZE = 25,           /* the amperes are none of the 37 sizes */
-    HUTPLAN_LINE_OUT_OF_RANGE = 26     /* the volts or the parent are out of range; a 513th line;
+    HUTPLAN_LINE_OUT_OF_RANGE = 26,    /* the volts or the parent are out of range; a 513th line;
                                           no lines at all (place 0) */
+
+    /* The numbers of hutplan_send, before its list. */
+    HUTPLAN_NO_MESSAGES = 27,          /* m is 0; place: 0 */
+    HUTPLAN_POSITION_OUT_OF_RANGE = 28      /* the position not below the count, or the count not from 1
+                                          to 512; place: 1 */
 };
 
 /*
@@ -95,7 +101,7 @@ enum hutplan_refusal {
  * bytes of a sheet, so a table's list and its sheet both have at most 20,492 bytes.
  *
  * A plan takes one demand a server, at most 512, and gives one grant a cord, at most 1,024, and one
- * cap a server.
+ * cap a server. A period of a slow bus names each of at most 512 servers once.
  */
 #define HUTPLAN_TABLE_WORDS 5123
 #define HUTPLAN_TABLE_BYTES 20492
@@ -103,7 +109,9 @@ enum hutplan_refusal {
 #define HUTPLAN_DEMANDS_BYTES 2048
 #define HUTPLAN_GRANTS_BYTES 4096
 #define HUTPLAN_CAPS_BYTES 2048
+#define HUTPLAN_SEND_LIST_BYTES 2048
 #define HUTPLAN_ANSWER_BYTES 16
+#define HUTPLAN_SEND_ANSWER_BYTES 24
 
 /* The table of a schedule has no servers: at most 1,027 words. */
 #define HUTPLAN_SCHEDULE_TABLE_BYTES 4108
@@ -164,6 +172,27 @@ uint32_t hutplan_plan(const uint8_t *table, size_t table_len,
 uint32_t hutplan_schedule(const uint8_t *text, size_t text_len,
                           uint8_t *table, size_t table_len,
                           uint8_t *answer, size_t answer_len);
+
+/*
+ * Send: the servers that a period's messages go to, over a bus that carries m messages a period.
+ *
+ * Servers are numbered from 0 to count - 1. From the position on, the next m of them are named in
+ * the list, going round from the last to the first; none is named twice, so that m of the count or
+ * more names each of them. The new position follows the last one named. Begin the next period there:
+ * with count and m unchanged, every server is named within ceil(count / m) periods.
+ *
+ * Refusals: 27 if m is 0; 28 if the position or the count is out of range; then 12 if list_len / 4
+ * is less than the servers to be named. Any three numbers are good input.
+ *
+ * The answer of this call is twenty-four bytes, three numbers of eight bytes each:
+ *   bytes 0 to 7     0 if the input was accepted, else the number of the refusal;
+ *   bytes 8 to 15    refused: the refusal's place; accepted: how many servers were named;
+ *   bytes 16 to 23   refused: not touched; accepted: the new position.
+ * If the answer buffer is shorter than twenty-four bytes, the call returns 0 and changes nothing.
+ */
+uint32_t hutplan_send(uint64_t count, uint64_t position, uint64_t m,
+                      uint8_t *list, size_t list_len,
+                      uint8_t *answer, size_t answer_len);
 
 /*
  * Example: reads a sheet and plans it with the demands given, a list of words. The result is 0, or

@@ -33,7 +33,7 @@ pub fn damaged(given: &Inputs, chance: &mut Chance) {
     }
 }
 
-fn both(name: &str, product: Call, baseline: Call, given: &Inputs, out: Outputs) -> Outputs {
+pub fn both(name: &str, product: Call, baseline: Call, given: &Inputs, out: Outputs) -> Outputs {
     let (mut ours, mut theirs) = (out.clone(), out);
     let returned = product(given, &mut ours);
     assert_eq!(returned, baseline(given, &mut theirs), "{name} returns");

@@ -1,9 +1,10 @@
-//! The three C calls beside plain Rust: equal answers first, then times, growth, stack and size.
+//! The C calls beside plain Rust: equal answers first, then times, growth, stack and size.
 
 mod calls;
 mod compare;
 mod plain;
 mod rooms;
+mod send;
 mod stack;
 
 use std::process::Command;
@@ -28,6 +29,7 @@ fn main() {
     full_rooms();
     growth();
     stack_depths();
+    send::periods();
     archive_size();
 }
 

@@ -25,6 +25,7 @@ use rooms::Answer;
 use rooms::DECIDING_WORDS;
 
 pub mod schedule;
+pub mod send;
 
 // An answer is two numbers of eight bytes each.
 const ANSWER_BYTES: usize = 16;

@@ -15,18 +15,19 @@ use Rattle.rooms.specs.Table.{mostWatts, mostCords, highestRank}
 use Rattle.rooms.specs.Limits.{beneath}
 use Rattle.rooms.specs.Credits.{sumBeneath}
 use Rattle.figures.proofs.Sums.{on-no, sum-cong, sum-zero, sum-swap, sum-one, sum-suc, sum-up, up, up-suc}
-use Rattle.rooms.proofs.Trees.{kids, own, under, under-is, kids-cong, down, rise}
+use Rattle.rooms.proofs.Trees.{kids, own, under, kids-cong, down, rise}
 use Rattle.rooms.proofs.Credits.{sumBeneath-step}
 use Rattle.figures.specs.Figures.{figures, at, cell}
 use Rattle.deals.specs.Metrics.{Deal, dealFrom, metrics, atLevel}
-use Rattle.deals.specs.Split.{part}
+use Rattle.splits.specs.Split.{part}
 use Rattle.deals.specs.Dealing.{granted, reached}
 use Rattle.deal_by_rank.specs.Ranks.{NodeLists, LowsWithin, Spare, RanksDealt, lowsUnder}
 use Rattle.ranks.specs.Passes.{CordLists, HasCord, onNode, childrenBefore, overChildren, cordsBefore, weightOf, Gathered, NodesDealt, CordsDealt, FullRows}
 use Rattle.levels.specs.Levels.{Present, ActiveNodes, CordsActive}
 use Rattle.figures.proofs.Lists.{sum-most, figures-length}
-use Rattle.deals.proofs.Equations.{Dealable, asked, weights, request-asked, pcapmin-all, weights-are}
-use Rattle.deals.proofs.Computed.{pcapmin, request, amountOf, measured, dealt, granted-at}
+use Rattle.deals.proofs.Requests.{Dealable, asked, request-asked, pcapmin-all}
+use Rattle.deals.proofs.Equations.{Dealt, weights, weights-are}
+use Rattle.deals.proofs.Computed.{pcapmin, request, amountOf, measured, granted-at, lows-dealt, lows-starting}
 use Rattle.deals.proofs.Bounds.{asked-most, request-most}
 use Rattle.ranks.proofs.NodeSums.{on-zero, kids-none}
 
@@ -94,7 +95,7 @@ module _ (parents limits nodes levels lows wants : List ℕ) (ns : NodeLists par
     hangs = λ c l. omega (arith, cs .hangs c l);
     ranks = cs .ranked;
     wants = cs .ordered;
-    lows = λ n l. le-trans (le-of-eq (sym (under-is (length parents) (at parents) (ns .rises) (length nodes) (at nodes) (cs .within) n (at lows)))) (lw n l);
+    lows = lw;
   }
 
   abbrev pcap : ℕ → ℕ → ℕ
@@ -102,6 +103,11 @@ module _ (parents limits nodes levels lows wants : List ℕ) (ns : NodeLists par
 
   abbrev req : ℕ → ℕ → ℕ
   req = request theDeal
+
+  -- Each cord starts from its low.
+  from-lows : Dealt theDeal pcap req (amountOf theDeal) (reached theDeal (metrics theDeal))
+  unfolding dealFrom
+  from-lows = lows-dealt theDeal dealable refl
 
   -- Before the ranks below `above`: what the ranks dealt and the lows of those to come leave of each limit, and the grants dealt.
   pub record State (above : ℕ) (left grants : List ℕ) : Type 0 where
@@ -140,8 +146,7 @@ module _ (parents limits nodes levels lows wants : List ℕ) (ns : NodeLists par
     sum-is = omega arith;
     left-is = λ n l.
         let e : lowsUnder parents nodes lows n ≡ sum highestRank (pcap n)
-        = under-is (length parents) (at parents) (ns .rises) (length nodes) (at nodes) (cs .within) n (at lows)
-        ∙ sym (pcapmin-all theDeal dealable (pcapmin theDeal) (request theDeal) (measured theDeal dealable) n l) in
+        = sym (pcapmin-all theDeal dealable (pcapmin theDeal) (request theDeal) (measured theDeal dealable) n l) in
         omega (arith, spare .over n l);
     grants-are = λ c l h. absurd (omega (arith, cs .ranked c l));
   }
@@ -239,7 +244,7 @@ module _ (parents limits nodes levels lows wants : List ℕ) (ns : NodeLists par
 
       asked-is : (n : ℕ) → n < length parents → weights theDeal pcap req n j + pcap n j ≡ asked theDeal req n j
       unfolding dealFrom
-      asked-is n l = weights-are theDeal dealable (pcapmin theDeal) (request theDeal) (measured theDeal dealable) (amountOf theDeal) (reached theDeal (metrics theDeal)) (dealt theDeal dealable) n j l level-fits
+      asked-is n l = weights-are theDeal dealable (pcapmin theDeal) (request theDeal) (measured theDeal dealable) (pcapmin theDeal) (amountOf theDeal) (reached theDeal (metrics theDeal)) (lows-starting theDeal dealable refl) from-lows n j l level-fits
 
       -- The lesser of two sums with Pcapmin is Pcapmin and the lesser of the two.
       pub requests-are : (n : ℕ) → n < length parents → cell rows′ n j ≡ req n j
@@ -285,14 +290,14 @@ module _ (parents limits nodes levels lows wants : List ℕ) (ns : NodeLists par
         amounts-are = rise (length parents) (λ m. Present active count m → at amounts m ≡ amountOf theDeal m j) (λ m l ih some. go m l ih some (at parents m) refl)
           where
             go : (m : ℕ) → m < length parents → ((i : ℕ) → i < m → Present active count i → at amounts i ≡ amountOf theDeal i j) → Present active count m → (v : ℕ) → at parents m ≡ v → at amounts m ≡ amountOf theDeal m j
-            go m l ih some zero e = nd .root m l some e ∙ weight-is m l ∙ sym (dealt theDeal dealable .root m j l e)
+            go m l ih some zero e = nd .root m l some e ∙ weight-is m l ∙ sym (from-lows .root m j l e)
             go m l ih some (suc n) e =
                 let u : n < m = subst (λ (z : ℕ). z ≤ m) e (ns .rises m l) in
                 nd .inner m n l some e
                 ∙ ap (λ (z : ℕ). part (at amounts n) (at wholes n) (childrenBefore parents (weightOf rows′ j pcapmins) n m) z) (weight-is m l)
                 ∙ ap (λ (z : ℕ). part (at amounts n) (at wholes n) z (req m j - pcap m j)) (children-is n m (omega arith))
                 ∙ ap₂ (λ (x w : ℕ). part x w (sum m (λ h. on (eqb (at parents h) (suc n)) (req h j - pcap h j))) (req m j - pcap m j)) (ih n u (λ none. some (nodes-active .closed m n l e none))) (whole-is n (omega arith))
-                ∙ sym (dealt theDeal dealable .inner m n j l e)
+                ∙ sym (from-lows .inner m n j l e)
 
         served-is : (n : ℕ) → n < length parents → Present active count n → at before n ≡ kids (length parents) (at parents) n (λ m. req m j - pcap m j)
         unfolding kids
@@ -328,7 +333,7 @@ module _ (parents limits nodes levels lows wants : List ℕ) (ns : NodeLists par
             (λ (i : ℕ). reached theDeal (metrics theDeal) c
             ≡ part (amountOf theDeal n i) (weights theDeal pcap req n i)
             (kids (length parents) (at parents) n (λ m. req m i - pcap m i) + cordsBefore nodes levels lows wants i n c) (at wants c - at lows c)) e
-            (dealt theDeal dealable .leaf c n l q)
+            (from-lows .leaf c n l q)
 
         module _ (grants′ : List ℕ) (cd : CordsDealt nodes levels lows wants j wholes amounts before grants grants′) where
           pub state-turn : State j left′ grants′

@@ -1,32 +1,35 @@
 -- The figures that code holds fit their words: every sum over cords is within the sum of all wants.
 use mathlib.Core.Path.{_≡_, sym, ap, _∙_, subst}
 use mathlib.Core.List.{List, []}
-use Prim.Native.Nat.{ℕ, suc, _+_, _*_, _-_, _≤_, _<_, _^_}
+use Prim.Native.Nat.{ℕ, _+_, _*_, _-_, _≤_, _<_, _^_}
 use native.Mathlib.Nat.{le-trans, le-of-eq, mul-le-mul, mul-le-mul-right}
 use native.Mathlib.Numerals.{add-one}
 use native.Mathlib.Omega.{arith}
 use mathlib.Core.Bool.{Bool, true, false}
 use lib.Dec.{eqb}
-use lib.ListN.{length, getD, take, drop}
+use lib.ListN.{length, getD, drop}
 use Rattle.figures.specs.Sums.{on, sum}
 use Rattle.rooms.specs.Table.{Room, mostWatts, mostCords, scale, roomCords}
 use Rattle.rooms.specs.Limits.{beneath, limit, nodeAt}
 use Rattle.rooms.proofs.Accepted.{Accepted}
 use Rattle.figures.proofs.Sums.{up}
-use Rattle.rooms.proofs.Trees.{kids, own, below, under, under-is}
+use Rattle.rooms.proofs.Trees.{kids, own, under}
 use Rattle.figures.specs.Figures.{at, cell, sumOf}
 use Rattle.rooms.specs.Cords.{cordAt}
 use Rattle.deals.specs.Wants.{needs, firstWants}
 use Rattle.rooms.specs.Lists.{lowsOf}
-use Rattle.deals.specs.Metrics.{Deal, dealOf, atLevel, metrics, pcapminsFrom, childSums, excess}
+use Rattle.deals.specs.Metrics.{Deal, dealOf, atLevel, metrics, sumsFrom, childSums, excess}
 use Rattle.deals.specs.Dealing.{weightSum, amount}
 use Rattle.deals.specs.SecondDeal.{stranded, firstGrants, firstUsed, freed, secondWants}
-use Rattle.deals.specs.Properties.{mostSum, DealBounded, Bounded}
-use Rattle.deals.proofs.Equations.{Dealable, asked, weights, pcapmin-request, requests-fit, requests-left, asked-wants, amount-within, weights-asked}
-use Rattle.deals.proofs.Computed.{childSums-at, requestsFrom-length, pcapmins-levels, requests-levels, pcapmin, request, amountOf, measured, dealt}
-use Rattle.figures.proofs.Lists.{total-drop, total-sum, sum-most, sum-one-le, sumOf-take, sumOf-most}
+use Rattle.deals.specs.Properties.{requestTotal, pcapminBelow, mostSum, DealBounded, Bounded}
+use Rattle.deals.proofs.Children.{weightSum-is}
+use Rattle.deals.proofs.Requests.{Dealable, sumBelow, asked, pcapmin-request, requests-fit, requests-left, asked-wants}
+use Rattle.deals.proofs.Equations.{weights, amount-within, weights-asked}
+use Rattle.deals.proofs.Computed.{childSums-at, requestsFrom-length, requests-levels, pcapmin, request, startsOf, amountOf, measured, dealt, Startable}
+use Rattle.deals.proofs.Totals.{requestTotal-is, pcapminBelow-is}
+use Rattle.figures.proofs.Lists.{total-sum, sum-most, sum-one-le, sumOf-most}
 use Rattle.deals.proofs.Loads.{carried-most}
-use Rattle.deals.proofs.BothDeals.{server-facts, cord-facts, carriedBy-at, stranded-at, stranded-count, need-le, first-most, firstWants-lows, secondWants-lows, secondWants-wants, room-dealable}
+use Rattle.deals.proofs.BothDeals.{server-facts, cord-facts, carriedBy-at, stranded-at, stranded-count, need-le, first-most, firstWants-lows, secondWants-lows, secondWants-wants, room-dealable, room-startable}
 use Rattle.deals.proofs.RoomDeals.{roomDeal, dealOf-is}
 
 on-most : (t : Bool) (a most : ℕ) → a ≤ most → on t a ≤ most
@@ -37,13 +40,12 @@ on-most false a most h = omega arith
 
 module _ (d : Deal) (ok : Dealable d) (few : d .cords ≤ mostCords) (limits : (n : ℕ) → n < d .nodes → d .limit n ≤ mostWatts)
     (wants : (c : ℕ) → c < d .cords → d .want c ≤ mostWatts) where
-  wants-most : (n j : ℕ) → below (d .nodes) (d .parent) (d .cords) (d .node) n (atLevel d j (d .want)) ≤ mostSum
+  wants-most : (n j : ℕ) → sumBelow d n (atLevel d j (d .want)) ≤ mostSum
   unfolding under
   wants-most n j =
-      le-trans (le-of-eq (sym (under-is (d .nodes) (d .parent) (ok .rises) (d .cords) (d .node) (ok .here) n (atLevel d j (d .want)))))
-      (le-trans
+      le-trans
       (sum-most (d .cords) mostWatts _ (λ c l. on-most (beneath (d .parent) (d .nodes) n (d .node c)) _ mostWatts (on-most (eqb (d .level c) j) (d .want c) mostWatts (wants c l))))
-      (mul-le-mul-right mostWatts few))
+      (mul-le-mul-right mostWatts few)
 
   pub asked-most : (n j : ℕ) → n < d .nodes → j < d .levels → asked d (request d) n j ≤ mostSum
   asked-most n j l h = le-trans (asked-wants d ok (pcapmin d) (request d) (measured d ok) n j l h) (wants-most n j)
@@ -54,19 +56,8 @@ module _ (d : Deal) (ok : Dealable d) (few : d .cords ≤ mostCords) (limits : (
       le-trans
       (le-of-eq
       (ap (λ (z : ℕ). at (childSums d n (drop z (metrics d .requests)) (d .want)) j) (add-one n)
-      ∙ childSums-at d (ok .rises) n j (metrics d .requests) (d .want) l (requestsFrom-length d (pcapminsFrom d (d .nodes) 0) (d .nodes) 0) h))
+      ∙ childSums-at d (ok .rises) n j (metrics d .requests) (d .want) l (requestsFrom-length d (sumsFrom d (d .low) (d .nodes) 0) (d .nodes) 0) h))
       (asked-most n j l h)
-
-  weights-most : (n j : ℕ) → n < d .nodes → j < d .levels → weightSum d (metrics d) n j ≤ mostSum
-  unfolding weightSum weights kids own pcapmin request
-  weights-most n j l h =
-      le-trans (weights-asked d ok (pcapmin d) (request d) (measured d ok) (amountOf d) _ (dealt d ok) n j l h) (asked-most n j l h)
-
-  amount-most : (n j : ℕ) → n < d .nodes → j < d .levels → amount d (metrics d) (n + 1) n j ≤ excess (metrics d) n j
-  unfolding amountOf pcapmin request
-  amount-most n j l h =
-      le-trans (le-of-eq (ap (λ (z : ℕ). amount d (metrics d) z n j) (add-one n)))
-      (amount-within d ok (pcapmin d) (request d) (measured d ok) (amountOf d) _ (dealt d ok) n l j h)
 
   requests-most : (n : ℕ) → n < d .nodes → sumOf (getD (metrics d .requests) n []) ≤ d .limit n
   unfolding request
@@ -81,37 +72,49 @@ module _ (d : Deal) (ok : Dealable d) (few : d .cords ≤ mostCords) (limits : (
       le-trans (sum-one-le (d .levels) j (request d n) h) (le-trans (requests-fit d ok (pcapmin d) (request d) (measured d ok) n l) (limits n l))
 
   left-most : (n j : ℕ) → n < d .nodes → j < d .levels
-      → sumOf (take j (getD (metrics d .pcapmins) n [])) + sumOf (drop (j + 1) (getD (metrics d .requests) n [])) ≤ d .limit n
-  unfolding pcapmin request
+      → pcapminBelow d n j + requestTotal d n (j + 1) ≤ d .limit n
   left-most n j l h =
       let k : ℕ = d .levels - (j + 1) in
-      let pl : length (getD (metrics d .pcapmins) n []) ≡ d .levels = pcapmins-levels d n l in
-      let rl : length (getD (metrics d .requests) n []) ≡ d .levels = requests-levels d n l in
-      let a : sumOf (take j (getD (metrics d .pcapmins) n [])) ≡ sum j (pcapmin d n) = sumOf-take (getD (metrics d .pcapmins) n []) j (omega arith) in
-      let b : sumOf (drop (j + 1) (getD (metrics d .requests) n [])) ≡ up k (j + 1) (request d n)
-      = total-drop (λ a. a) 0 (getD (metrics d .requests) n []) k (j + 1) (omega arith) in
-      let e : up k (j + 1) (request d n) ≡ up k (suc j) (request d n) = ap (λ (z : ℕ). up k z (request d n)) (add-one j) in
-      omega (arith, requests-left d ok (pcapmin d) (request d) (measured d ok) n l k j (omega arith))
+      omega (
+        arith,
+        pcapminBelow-is d n l j (omega arith),
+        requestTotal-is d n l k (j + 1) (omega arith),
+        ap (λ (z : ℕ). up k z (request d n)) (add-one j),
+        requests-left d ok (pcapmin d) (request d) (measured d ok) n l k j (omega arith),
+      )
 
-  product-most : (n j : ℕ) → n < d .nodes → j < d .levels → amount d (metrics d) (n + 1) n j * weightSum d (metrics d) n j < 2 ^ 58
-  product-most n j l h =
-      let a : amount d (metrics d) (n + 1) n j ≤ mostWatts = omega (arith, amount-most n j l h, request-most n j l h) in
-      omega (arith, mul-le-mul a (weights-most n j l h))
+  module _ (st : Startable d) where
+    weights-most : (n j : ℕ) → n < d .nodes → j < d .levels → weightSum d (metrics d) n j ≤ mostSum
+    unfolding weights kids own startsOf request
+    weights-most n j l h =
+        le-trans (le-of-eq (weightSum-is d (metrics d) n j))
+        (le-trans (weights-asked d ok (pcapmin d) (request d) (measured d ok) (startsOf d) (amountOf d) _ st (dealt d ok) n j l h) (asked-most n j l h))
 
-  pub deal-bounded : DealBounded d
-  unfolding pcapmin request
-  deal-bounded = record {
-    limits = limits;
-    wants = wants;
-    lows = ok .wants;
-    left = left-most;
-    pcapmins = λ n j l h. pcapmin-request d ok (pcapmin d) (request d) (measured d ok) n l j h;
-    requests = requests-most;
-    children = children-most;
-    weights = weights-most;
-    amounts = amount-most;
-    products = product-most;
-  }
+    amount-most : (n j : ℕ) → n < d .nodes → j < d .levels → amount d (metrics d) (n + 1) n j ≤ excess (metrics d) n j
+    unfolding amountOf pcapmin request
+    amount-most n j l h =
+        le-trans (le-of-eq (ap (λ (z : ℕ). amount d (metrics d) z n j) (add-one n)))
+        (amount-within d ok (pcapmin d) (request d) (measured d ok) (startsOf d) (amountOf d) _ st (dealt d ok) n l j h)
+
+    product-most : (n j : ℕ) → n < d .nodes → j < d .levels → amount d (metrics d) (n + 1) n j * weightSum d (metrics d) n j < 2 ^ 58
+    product-most n j l h =
+        let a : amount d (metrics d) (n + 1) n j ≤ mostWatts = omega (arith, amount-most n j l h, request-most n j l h) in
+        omega (arith, mul-le-mul a (weights-most n j l h))
+
+    pub deal-bounded : DealBounded d
+    unfolding pcapmin request
+    deal-bounded = record {
+      limits = limits;
+      wants = wants;
+      lows = ok .wants;
+      left = left-most;
+      pcapmins = λ n j l h. pcapmin-request d ok (pcapmin d) (request d) (measured d ok) n l j h;
+      requests = requests-most;
+      children = children-most;
+      weights = weights-most;
+      amounts = amount-most;
+      products = product-most;
+    }
 
 -- ---- A plan
 
@@ -145,7 +148,7 @@ module _ (r : Room) (ok : Accepted r) (demands : List ℕ) where
   room-bounded : (wants : List ℕ) → ((c : ℕ) → c < roomCords r → at (lowsOf r) c ≤ at wants c) → ((c : ℕ) → c < roomCords r → at wants c ≤ mostWatts)
       → DealBounded (dealOf r wants)
   room-bounded wants h most =
-      subst DealBounded (sym (dealOf-is r wants)) (deal-bounded (roomDeal r wants) (room-dealable r ok wants h) (ok .fewCords) limit-most most)
+      subst DealBounded (sym (dealOf-is r wants)) (deal-bounded (roomDeal r wants) (room-dealable r ok wants h) (ok .fewCords) limit-most most (room-startable r ok wants h))
 
   pub bounded : Bounded r demands
   bounded = record {

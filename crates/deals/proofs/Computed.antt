@@ -10,15 +10,16 @@ use lib.Seq.{drop-cons, drop-drop}
 use borrow.Author.Tests.{ne-eqb}
 use Rattle.figures.specs.Sums.{on, sum}
 use Rattle.figures.proofs.Sums.{on-no, sum-cong, sum-zero, sum-up, up}
-use Rattle.rooms.proofs.Trees.{kids, own, below, below-cong}
+use Rattle.rooms.proofs.Trees.{kids, own}
 use Rattle.figures.specs.Figures.{at, cell, sumOf}
-use Rattle.deals.specs.Metrics.{Deal, atLevel, overRows, childSums, pcapminsFrom, requestsAbove, requestsFrom, metrics, overCords}
-use Rattle.deals.specs.Split.{part}
-use Rattle.deals.specs.Dealing.{byNumber, nodeWeight, weightSum, beforeNode, beforeCord, amount, reached, granted}
-use Rattle.deals.specs.Properties.{GivesAll}
+use Rattle.deals.specs.Metrics.{Deal, atLevel, overRows, childSums, sumsFrom, requestsAbove, requestsFrom, metrics, overCords}
+use Rattle.deals.specs.Dealing.{node, byNumber, partOf, amount, reached, granted}
+use Rattle.deals.specs.Properties.{GivesAll, fromLevel}
 use Rattle.figures.proofs.Lists.{figures-at, figures-length, total-drop}
 use Rattle.deals.proofs.Rows.{IsRow}
-use Rattle.deals.proofs.Equations.{Dealable, WholeWay, Measured, Dealt, fromLevel, asked, weights, grant, amount-within, gives-all, reached-excess, ours, most-above}
+use Rattle.deals.proofs.Children.{partOf-node, partOf-cord}
+use Rattle.deals.proofs.Requests.{Dealable, WholeWay, TreeWay, Measured, asked, sumBelow, sumBelow-cong, pcapmin-request}
+use Rattle.deals.proofs.Equations.{Starting, Dealt, weights, grant, amount-within, gives-all, reached-excess, ours, most-above}
 
 -- ---- The rows of the nodes, from the last to the first
 
@@ -52,18 +53,25 @@ module _ (d : Deal) where
   childSums-at rises n j l w h e q =
       figures-at (d .levels) j _ q ∙ ap (λ (z : ℕ). z + overCords d n j w) (overRows-kids rises n j l h e)
 
-  pub pcapminsFrom-length : (k a : ℕ) → length (pcapminsFrom d k a) ≡ k
-  unfolding pcapminsFrom
-  pcapminsFrom-length zero a = refl
-  pcapminsFrom-length (suc k) a = ap suc (pcapminsFrom-length k (suc a))
+  sumsFrom-length : (w : ℕ → ℕ) (k a : ℕ) → length (sumsFrom d w k a) ≡ k
+  unfolding sumsFrom
+  sumsFrom-length w zero a = refl
+  sumsFrom-length w (suc k) a = ap suc (sumsFrom-length w k (suc a))
 
-  pcapminsFrom-at : (k a i n : ℕ) → a + i ≡ n → i < k
-      → getD (pcapminsFrom d k a) i [] ≡ childSums d n (drop (suc i) (pcapminsFrom d k a)) (d .low)
-  unfolding pcapminsFrom
-  pcapminsFrom-at zero a i n e h = absurd (not-suc-le-zero h)
-  pcapminsFrom-at (suc k) a zero n e h =
-      ap (λ (z : ℕ). childSums d z (pcapminsFrom d k (suc a)) (d .low)) (let q : a ≡ n = omega arith in q)
-  pcapminsFrom-at (suc k) a (suc i) n e h = pcapminsFrom-at k (suc a) i n (omega arith) (le-of-suc-le-suc h)
+  sumsFrom-at : (w : ℕ → ℕ) (k a i n : ℕ) → a + i ≡ n → i < k
+      → getD (sumsFrom d w k a) i [] ≡ childSums d n (drop (suc i) (sumsFrom d w k a)) w
+  unfolding sumsFrom
+  sumsFrom-at w zero a i n e h = absurd (not-suc-le-zero h)
+  sumsFrom-at w (suc k) a zero n e h =
+      ap (λ (z : ℕ). childSums d z (sumsFrom d w k (suc a)) w) (let q : a ≡ n = omega arith in q)
+  sumsFrom-at w (suc k) a (suc i) n e h = sumsFrom-at w k (suc a) i n (omega arith) (le-of-suc-le-suc h)
+
+  -- The rows of a figure of the cords, by the children's.
+  sums-at : ((m : ℕ) → m < d .nodes → d .parent m ≤ m) → (w : ℕ → ℕ) (n j : ℕ) → n < d .nodes → j < d .levels
+      → cell (sumsFrom d w (d .nodes) 0) n j ≡ kids (d .nodes) (d .parent) n (λ m. cell (sumsFrom d w (d .nodes) 0) m j) + own (d .cords) (d .node) n (atLevel d j w)
+  sums-at rises w n j l h =
+      ap (λ (z : List ℕ). at z j) (sumsFrom-at w (d .nodes) 0 n n (zero-add n) l)
+      ∙ childSums-at rises n j (sumsFrom d w (d .nodes) 0) w l (sumsFrom-length w (d .nodes) 0) h
 
   -- A node's row of Requests, by the rows after it.
   requestRow : List (List ℕ) → ℕ → List (List ℕ) → List ℕ
@@ -120,12 +128,15 @@ byNumber-zero v a f e = ap (λ (z : ℕ). byNumber z a f) e
 byNumber-suc : (v a : ℕ) (f : ℕ → ℕ) (n : ℕ) → v ≡ suc n → byNumber v a f ≡ f n
 byNumber-suc v a f n e = ap (λ (z : ℕ). byNumber z a f) e
 
--- Pcapmin, Request and amount of a deal, as functions of place and level.
+-- Pcapmin, Request, starts and amount of a deal, as functions of place and level.
 unfoldable pub pcapmin : Deal → ℕ → ℕ → ℕ
 pcapmin d = cell (metrics d .pcapmins)
 
 unfoldable pub request : Deal → ℕ → ℕ → ℕ
 request d = cell (metrics d .requests)
+
+unfoldable pub startsOf : Deal → ℕ → ℕ → ℕ
+startsOf d = cell (metrics d .starts)
 
 unfoldable pub amountOf : Deal → ℕ → ℕ → ℕ
 amountOf d m j = amount d (metrics d) (suc m) m j
@@ -133,34 +144,32 @@ amountOf d m j = amount d (metrics d) (suc m) m j
 -- Each row has a place for each level.
 pub pcapmins-levels : (d : Deal) (n : ℕ) → n < d .nodes → length (getD (metrics d .pcapmins) n []) ≡ d .levels
 unfolding metrics childSums
-pcapmins-levels d n l = ap length (pcapminsFrom-at d (d .nodes) 0 n n (zero-add n) l) ∙ figures-length (d .levels) _
+pcapmins-levels d n l = ap length (sumsFrom-at d (d .low) (d .nodes) 0 n n (zero-add n) l) ∙ figures-length (d .levels) _
 
 pub requests-levels : (d : Deal) (n : ℕ) → n < d .nodes → length (getD (metrics d .requests) n []) ≡ d .levels
 unfolding metrics requestRow
 requests-levels d n l =
-    ap length (requestsFrom-at d (pcapminsFrom d (d .nodes) 0) (d .nodes) 0 n n (zero-add n) l)
+    ap length (requestsFrom-at d (sumsFrom d (d .low) (d .nodes) 0) (d .nodes) 0 n n (zero-add n) l)
     ∙ requestsAbove-length (d .levels) (d .limit n) _ _ (d .levels) 0 0
 
 module _ (d : Deal) (ok : Dealable d) where
   pub measured : Measured d (pcapmin d) (request d)
   unfolding pcapmin request metrics requestRow asked row
   measured = record {
-    lowest = λ n j l h.
-        ap (λ (z : List ℕ). at z j) (pcapminsFrom-at d (d .nodes) 0 n n (zero-add n) l)
-        ∙ childSums-at d (ok .rises) n j (pcapminsFrom d (d .nodes) 0) (d .low) l (pcapminsFrom-length d (d .nodes) 0) h;
+    lowest = sums-at d (ok .rises) (d .low);
     request = λ n l.
-        let rows : List (List ℕ) = requestsFrom d (pcapminsFrom d (d .nodes) 0) (d .nodes) 0 in
+        let rows : List (List ℕ) = requestsFrom d (sumsFrom d (d .low) (d .nodes) 0) (d .nodes) 0 in
         let sums : List ℕ = childSums d n (drop (suc n) rows) (d .want) in
         row-cong (d .levels) (d .limit n) (pcapmin d n) (at sums) (asked d (request d) n) (request d n)
-        (λ j h. childSums-at d (ok .rises) n j rows (d .want) l (requestsFrom-length d (pcapminsFrom d (d .nodes) 0) (d .nodes) 0) h)
+        (λ j h. childSums-at d (ok .rises) n j rows (d .want) l (requestsFrom-length d (sumsFrom d (d .low) (d .nodes) 0) (d .nodes) 0) h)
         (subst (λ (z : List ℕ). IsRow (d .levels) (d .limit n) (pcapmin d n) (at sums) (at z))
-        (sym (requestsFrom-at d (pcapminsFrom d (d .nodes) 0) (d .nodes) 0 n n (zero-add n) l))
+        (sym (requestsFrom-at d (sumsFrom d (d .low) (d .nodes) 0) (d .nodes) 0 n n (zero-add n) l))
         (row-is (d .levels) (d .limit n) (pcapmin d n) (at sums)));
   }
 
   -- What the node at place m has of its parent's amount z.
   nodePart : ℕ → ℕ → ℕ → ℕ → ℕ
-  nodePart m n j z = part z (weightSum d (metrics d) n j) (beforeNode d (metrics d) n m j) (nodeWeight d (metrics d) m j)
+  nodePart m n j z = partOf d (metrics d) n j z (node m)
 
   -- Steps beyond the node's place change nothing.
   amount-steps : (j k l m : ℕ) → m < d .nodes → m < k → m < l → amount d (metrics d) k m j ≡ amount d (metrics d) l m j
@@ -178,46 +187,72 @@ module _ (d : Deal) (ok : Dealable d) where
           byNumber-suc (d .parent m) _ _ n e ∙ ap (nodePart m n j) (ih n (omega arith) (omega arith) (omega arith))
           ∙ sym (byNumber-suc (d .parent m) _ _ n e)
 
-  pub dealt : Dealt d (pcapmin d) (request d) (amountOf d) (reached d (metrics d))
-  unfolding amountOf amount reached nodePart weightSum weights beforeNode beforeCord kids own pcapmin request
+  pub dealt : Dealt d (startsOf d) (request d) (amountOf d) (reached d (metrics d))
+  unfolding amountOf amount reached nodePart weights kids own startsOf request metrics
   dealt = record {
+    starts = sums-at d (ok .rises) (d .start);
     root = λ m j l e. byNumber-zero (d .parent m) _ _ e;
     inner = λ m n j l e.
         let u : n < m = subst (λ (z : ℕ). z ≤ m) e (ok .rises m l) in
-        byNumber-suc (d .parent m) _ _ n e ∙ ap (nodePart m n j) (amount-steps j m (suc n) n (omega arith) u (le-refl (suc n)));
-    leaf = λ c n l e. byNumber-suc (d .node c) _ _ n e;
+        byNumber-suc (d .parent m) _ _ n e ∙ ap (nodePart m n j) (amount-steps j m (suc n) n (omega arith) u (le-refl (suc n)))
+        ∙ partOf-node d (metrics d) n j (amountOf d n j) m l e;
+    leaf = λ c n l e. byNumber-suc (d .node c) _ _ n e ∙ partOf-cord d (metrics d) n (d .level c) (amountOf d n (d .level c)) c l e refl;
   }
 
-  pub granted-at : (c : ℕ) → c < d .cords → at (granted d) c ≡ d .low c + reached d (metrics d) c
+  pub granted-at : (c : ℕ) → c < d .cords → at (granted d) c ≡ d .start c + reached d (metrics d) c
   unfolding granted
   granted-at c l = figures-at (d .cords) c _ l
 
+-- What a deal asks of its starts.
+abbrev pub Startable : Deal → Type 0
+Startable d = Starting d (startsOf d) (request d)
+
+module _ (d : Deal) (ok : Dealable d) (st : Startable d) where
   -- The computed grants are a way of dealing.
   pub granted-way : WholeWay d (at (granted d))
   unfolding grant
   granted-way =
-      let o : WholeWay d (grant d ok (pcapmin d) (request d) measured (amountOf d) (reached d (metrics d)) dealt)
-      = ours d ok (pcapmin d) (request d) measured (amountOf d) (reached d (metrics d)) dealt in
+      let o : WholeWay d (grant d ok (pcapmin d) (request d) (measured d ok) (startsOf d) (amountOf d) (reached d (metrics d)) st (dealt d ok))
+      = ours d ok (pcapmin d) (request d) (measured d ok) (startsOf d) (amountOf d) (reached d (metrics d)) st (dealt d ok) in
       record {
-        least = λ c l. le-trans (o .least c l) (le-of-eq (sym (granted-at c l)));
-        most = λ c l. le-trans (le-of-eq (granted-at c l)) (o .most c l);
-        within = λ n l. le-trans (le-of-eq (below-cong (d .nodes) (d .parent) (d .cords) (d .node) n (at (granted d)) _ granted-at)) (o .within n l);
+        least = λ c l. le-trans (o .least c l) (le-of-eq (sym (granted-at d ok c l)));
+        most = λ c l. le-trans (le-of-eq (granted-at d ok c l)) (o .most c l);
+        within = λ n l. le-trans (le-of-eq (sumBelow-cong d n (at (granted d)) _ (granted-at d ok))) (o .within n l);
       }
 
   -- No other way gives the cords beneath a root, of a level and above, more.
-  pub granted-most : (f : ℕ → ℕ) → WholeWay d f → (n : ℕ) → n < d .nodes → d .parent n ≡ 0 → (j : ℕ) → j ≤ d .levels
-      → below (d .nodes) (d .parent) (d .cords) (d .node) n (fromLevel d j f)
-      ≤ below (d .nodes) (d .parent) (d .cords) (d .node) n (fromLevel d j (at (granted d)))
+  pub granted-most : (f : ℕ → ℕ) (n : ℕ) → TreeWay d n f → n < d .nodes → d .parent n ≡ 0 → (j : ℕ) → j ≤ d .levels
+      → sumBelow d n (fromLevel d j f) ≤ sumBelow d n (fromLevel d j (at (granted d)))
   unfolding grant
-  granted-most f wf n l e j h =
-      le-trans (most-above d ok (pcapmin d) (request d) measured (amountOf d) (reached d (metrics d)) dealt f wf n l e j h)
-      (le-of-eq (below-cong (d .nodes) (d .parent) (d .cords) (d .node) n _ _ (λ c lc. ap (λ (z : ℕ). on (leb j (d .level c)) z) (sym (granted-at c lc)))))
+  granted-most f n w l e j h =
+      le-trans (most-above d ok (pcapmin d) (request d) (measured d ok) (startsOf d) (amountOf d) (reached d (metrics d)) st (dealt d ok) f n w l e j h)
+      (le-of-eq (sumBelow-cong d n _ _ (λ c lc. ap (λ (z : ℕ). on (leb j (d .level c)) z) (sym (granted-at d ok c lc)))))
 
   -- Every node gives its children all of its amount, and none of them more than its excess.
   pub deal-gives-all : GivesAll d
   unfolding amountOf pcapmin request kids own
   deal-gives-all = record {
-    all = λ n j l h. add-comm _ _ ∙ gives-all d ok (pcapmin d) (request d) measured (amountOf d) (reached d (metrics d)) dealt n j l h;
-    toNode = λ m j l h. amount-within d ok (pcapmin d) (request d) measured (amountOf d) (reached d (metrics d)) dealt m l j h;
-    toCord = reached-excess d ok (pcapmin d) (request d) measured (amountOf d) (reached d (metrics d)) dealt;
+    all = λ n j l h. add-comm _ _ ∙ gives-all d ok (pcapmin d) (request d) (measured d ok) (startsOf d) (amountOf d) (reached d (metrics d)) st (dealt d ok) n j l h;
+    toNode = λ m j l h. amount-within d ok (pcapmin d) (request d) (measured d ok) (startsOf d) (amountOf d) (reached d (metrics d)) st (dealt d ok) m l j h;
+    toCord = reached-excess d ok (pcapmin d) (request d) (measured d ok) (startsOf d) (amountOf d) (reached d (metrics d)) st (dealt d ok);
   }
+
+-- ---- A deal in which each cord starts from its low
+
+module _ (d : Deal) (ok : Dealable d) (lows : d .start ≡ d .low) where
+  starts-are : startsOf d ≡ pcapmin d
+  unfolding startsOf pcapmin metrics
+  starts-are = ap (λ (w : ℕ → ℕ). cell (sumsFrom d w (d .nodes) 0)) lows
+
+  pub lows-dealt : Dealt d (pcapmin d) (request d) (amountOf d) (reached d (metrics d))
+  lows-dealt = subst (λ (s : ℕ → ℕ → ℕ). Dealt d s (request d) (amountOf d) (reached d (metrics d))) starts-are (dealt d ok)
+
+  pub lows-starting : Starting d (pcapmin d) (request d)
+  lows-starting = record {
+    least = λ c l. le-of-eq (ap (λ (w : ℕ → ℕ). w c) (sym lows));
+    most = λ c l. le-trans (le-of-eq (ap (λ (w : ℕ → ℕ). w c) lows)) (ok .wants c l);
+    within = λ n j l h. pcapmin-request d ok (pcapmin d) (request d) (measured d ok) n l j h;
+  }
+
+  pub lows-startable : Startable d
+  lows-startable = subst (λ (s : ℕ → ℕ → ℕ). Starting d s (request d)) (sym starts-are) lows-starting

@@ -2,20 +2,20 @@
 -- that agree from a rank on: each deal is inside the other.)
 use mathlib.Core.Path.{_≡_, refl, sym, ap, ap₂, _∙_, subst}
 use mathlib.Core.Bool.{Bool, true, false}
-use Prim.Native.Nat.{ℕ, zero, suc, _+_, _-_, _≤_, _<_}
+use Prim.Native.Nat.{ℕ, zero, suc, _+_, _-_, _≤_, _<_, min}
 use native.Mathlib.Nat.{le-refl, le-trans, le-of-eq, zero-add, suc-ne-zero}
 use native.Mathlib.Omega.{arith}
-use lib.Dec.{eqb}
-use borrow.Author.Tests.{eqb-true, eqb-false, eq-eqb, ne-eqb}
+use lib.Dec.{eqb, leb}
+use borrow.Author.Tests.{eqb-true, eqb-false, eq-eqb, ne-eqb, leb-true}
 use Rattle.figures.specs.Sums.{on, sum}
-use Rattle.figures.proofs.Sums.{on-no, on-cong, sum-cong, sum-zero, sum-none, sum-up, up}
+use Rattle.figures.proofs.Sums.{on-no, on-cong, sum-cong, sum-zero, sum-none, sum-up, up, up-suc}
 use Rattle.rooms.proofs.Trees.{kids, own, kids-cong, down, rise}
 use Rattle.figures.specs.Figures.{at}
 use Rattle.deals.specs.Metrics.{Deal, atLevel}
-use Rattle.deals.specs.Split.{part}
+use Rattle.splits.specs.Split.{part}
 use Rattle.deals.specs.Dealing.{granted}
-use Rattle.deals.proofs.Rows.{IsRow, rows-same}
-use Rattle.deals.proofs.Equations.{Dealable, Measured, Dealt, asked, weights}
+use Rattle.deals.proofs.Requests.{Dealable, Measured, later, request-total}
+use Rattle.deals.proofs.Equations.{Dealt, weights}
 use Rattle.deals.proofs.Computed.{measured, dealt, granted-at}
 
 -- A node's number, raised by a where it is not 0.
@@ -24,7 +24,7 @@ lift a zero = 0
 lift a (suc q) = suc (q + a)
 
 -- The nodes and cords of s stand together in t, a and b places on, and nothing else hangs on those nodes. Their figures are
--- the same, but for the wants of the cords below level z.
+-- the same, but for the wants and starts of the cords below level z.
 pub record Inside (s t : Deal) (a b z : ℕ) : Type 0 where
   pub nodesFit : a + s .nodes ≤ t .nodes
   pub cordsFit : b + s .cords ≤ t .cords
@@ -34,6 +34,7 @@ pub record Inside (s t : Deal) (a b z : ℕ) : Type 0 where
   pub level : (c : ℕ) → c < s .cords → t .level (c + b) ≡ s .level c
   pub low : (c : ℕ) → c < s .cords → t .low (c + b) ≡ s .low c
   pub want : (c : ℕ) → c < s .cords → z ≤ s .level c → t .want (c + b) ≡ s .want c
+  pub start : (c : ℕ) → c < s .cords → z ≤ s .level c → t .start (c + b) ≡ s .start c
   pub levels : t .levels ≡ s .levels
   pub alone : (m n : ℕ) → m < t .nodes → n < s .nodes → t .parent m ≡ suc (n + a) → (a ≤ m) × (m < a + s .nodes)
   pub bare : (c n : ℕ) → c < t .cords → n < s .nodes → t .node c ≡ suc (n + a) → (b ≤ c) × (c < b + s .cords)
@@ -90,24 +91,29 @@ module _ (s t : Deal) (a b z : ℕ) (ins : Inside s t a b z) where
       (λ i h q. on-no (eqb (t .node i) (suc (n + a))) (f i) (ne-eqb (t .node i) (suc (n + a)) (λ e. omega (arith, ins .bare i n h l e))))
       ∙ sum-cong (s .cords) _ _ (λ c h. ap (λ (u : Bool). on u (f (c + b))) (same-test a (t .node (c + b)) (s .node c) n (ins .node c h)))
 
+  -- What a cord has at the levels that pass a test is the same where its figure is, at such a level.
+  levels-in : (q : ℕ → Bool) (f g : ℕ → ℕ) → ((c : ℕ) → c < s .cords → q (s .level c) ≡ true → f (c + b) ≡ g c)
+      → (c : ℕ) → c < s .cords → on (q (t .level (c + b))) (f (c + b)) ≡ on (q (s .level c)) (g c)
+  levels-in q f g e c h =
+      ap (λ (x : ℕ). on (q x) (f (c + b))) (ins .level c h) ∙ on-cong (q (s .level c)) (f (c + b)) (g c) (e c h)
+
+  own-levels : (n : ℕ) → n < s .nodes → (q : ℕ → Bool) (f g : ℕ → ℕ) → ((c : ℕ) → c < s .cords → q (s .level c) ≡ true → f (c + b) ≡ g c)
+      → own (t .cords) (t .node) (n + a) (λ c. on (q (t .level c)) (f c)) ≡ own (s .cords) (s .node) n (λ c. on (q (s .level c)) (g c))
+  unfolding own
+  own-levels n l q f g e =
+      own-in n l (λ c. on (q (t .level c)) (f c))
+      ∙ sum-cong (s .cords) _ _ (λ c h. ap (λ (x : ℕ). on (eqb (s .node c) (suc n)) x) (levels-in q f g e c h))
+
   atLevel-in : (j : ℕ) (f g : ℕ → ℕ) → ((c : ℕ) → c < s .cords → s .level c ≡ j → f (c + b) ≡ g c)
       → (c : ℕ) → c < s .cords → atLevel t j f (c + b) ≡ atLevel s j g c
-  atLevel-in j f g e c h =
-      ap (λ (x : ℕ). on (eqb x j) (f (c + b))) (ins .level c h)
-      ∙ on-cong (eqb (s .level c) j) (f (c + b)) (g c) (λ q. e c h (eqb-true (s .level c) j q))
+  atLevel-in j f g e = levels-in (λ x. eqb x j) f g (λ c h q. e c h (eqb-true (s .level c) j q))
 
   -- What the cords on a node have at a level is the same where their figures are, at that level.
   own-at : (n j : ℕ) → n < s .nodes → (f g : ℕ → ℕ) → ((c : ℕ) → c < s .cords → s .level c ≡ j → f (c + b) ≡ g c)
       → own (t .cords) (t .node) (n + a) (atLevel t j f) ≡ own (s .cords) (s .node) n (atLevel s j g)
-  unfolding own
-  own-at n j l f g e =
-      own-in n l (atLevel t j f)
-      ∙ sum-cong (s .cords) _ _ (λ c h. ap (λ (x : ℕ). on (eqb (s .node c) (suc n)) x) (atLevel-in j f g e c h))
+  own-at n j l f g e = own-levels n l (λ x. eqb x j) f g (λ c h q. e c h (eqb-true (s .level c) j q))
 
-  module _ (ok : Dealable s) (p r q u : ℕ → ℕ → ℕ) (me : Measured s p r) (em : Measured t q u) where
-    higher : (m n : ℕ) → m < s .nodes → s .parent m ≡ suc n → n < m
-    higher m n l e = subst (λ (x : ℕ). x ≤ m) e (ok .rises m l)
-
+  module _ (ok : Dealable s) (ko : Dealable t) (p r q u : ℕ → ℕ → ℕ) (me : Measured s p r) (em : Measured t q u) where
     inside : (n : ℕ) → n < s .nodes → n + a < t .nodes
     inside n l = omega (arith, ins .nodesFit)
 
@@ -115,74 +121,83 @@ module _ (s t : Deal) (a b z : ℕ) (ins : Inside s t a b z) where
     pcapmin-in j h = down (s .nodes) (λ n. q (n + a) j ≡ p n j) (λ n l ih.
         em .lowest (n + a) j (inside n l) (subst (λ (x : ℕ). j < x) (sym (ins .levels)) h)
         ∙ ap₂ _+_
-        (kids-in n l (λ m. q m j) ∙ kids-cong (s .nodes) (s .parent) n _ _ (λ m lm e. ih m lm (higher m n lm e)))
+        (kids-in n l (λ m. q m j) ∙ kids-cong (s .nodes) (s .parent) n _ _ (λ m lm e. ih m lm (later s ok m n lm e)))
         (own-at n j l (t .low) (s .low) (λ c lc e. ins .low c lc))
         ∙ sym (me .lowest n j l h))
 
-    asked-in : (n j : ℕ) → n < s .nodes → z ≤ j → ((m : ℕ) → m < s .nodes → n < m → u (m + a) j ≡ r m j) → asked t u (n + a) j ≡ asked s r n j
-    unfolding asked
-    asked-in n j l h ih =
-        ap₂ _+_
-        (kids-in n l (λ m. u m j) ∙ kids-cong (s .nodes) (s .parent) n _ _ (λ m lm e. ih m lm (higher m n lm e)))
-        (own-at n j l (t .want) (s .want) (λ c lc e. ins .want c lc (le-trans h (le-of-eq (sym e)))))
+    -- By the law of totals, from level z on the Requests sum to the same, and so are the same.
+    total-in : (k j : ℕ) → j + k ≡ s .levels → z ≤ j → (n : ℕ) → n < s .nodes → up k j (u (n + a)) ≡ up k j (r n)
+    total-in k j e h = down (s .nodes) (λ n. up k j (u (n + a)) ≡ up k j (r n)) (λ n l ih.
+        request-total t ko q u em (n + a) (inside n l) k j (e ∙ sym (ins .levels))
+        ∙ ap₂ min
+        (ap₂ _-_ (ins .limit n l) (sum-cong j (q (n + a)) (p n) (λ i g. pcapmin-in i (omega arith) n l)))
+        (ap₂ _+_
+        (kids-in n l (λ m. up k j (u m)) ∙ kids-cong (s .nodes) (s .parent) n _ _ (λ m lm o. ih m lm (later s ok m n lm o)))
+        (own-levels n l (leb j) (t .want) (s .want) (λ c lc o. ins .want c lc (le-trans h (leb-true j (s .level c) o)))))
+        ∙ sym (request-total s ok p r me n l k j e))
 
     request-in : (n : ℕ) → n < s .nodes → (j : ℕ) → j < s .levels → z ≤ j → u (n + a) j ≡ r n j
-    request-in = down (s .nodes) (λ n. (j : ℕ) → j < s .levels → z ≤ j → u (n + a) j ≡ r n j) (λ n l ih.
-        rows-same (s .levels) (s .limit n) z (q (n + a)) (p n) (asked t u (n + a)) (asked s r n) (u (n + a)) (r n)
-        (subst (λ (x : ℕ). IsRow x (s .limit n) (q (n + a)) (asked t u (n + a)) (u (n + a))) (ins .levels)
-        (subst (λ (x : ℕ). IsRow (t .levels) x (q (n + a)) (asked t u (n + a)) (u (n + a))) (ins .limit n l) (em .request (n + a) (inside n l))))
-        (me .request n l)
-        (λ j h. pcapmin-in j h n l)
-        (λ j h k. asked-in n j l k (λ m lm o. ih m lm o j h k)))
+    request-in n l j h g =
+        let k : ℕ = s .levels - suc j in
+        omega (arith, total-in (suc k) j (omega arith) g n l, total-in k (suc j) (omega arith) (omega arith) n l, up-suc k j (u (n + a)), up-suc k j (r n))
 
-    excess-in : (n j : ℕ) → n < s .nodes → j < s .levels → z ≤ j → u (n + a) j - q (n + a) j ≡ r n j - p n j
-    excess-in n j l h k = ap₂ _-_ (request-in n l j h k) (pcapmin-in j h n l)
+    -- sb and tb are the starts beneath the nodes.
+    module _ (sb tb x v : ℕ → ℕ → ℕ) (y w : ℕ → ℕ) (de : Dealt s sb r x y) (ed : Dealt t tb u v w) where
+      starts-in : (j : ℕ) → j < s .levels → z ≤ j → (n : ℕ) → n < s .nodes → tb (n + a) j ≡ sb n j
+      starts-in j h k = down (s .nodes) (λ n. tb (n + a) j ≡ sb n j) (λ n l ih.
+          ed .starts (n + a) j (inside n l) (subst (λ (x : ℕ). j < x) (sym (ins .levels)) h)
+          ∙ ap₂ _+_
+          (kids-in n l (λ m. tb m j) ∙ kids-cong (s .nodes) (s .parent) n _ _ (λ m lm e. ih m lm (later s ok m n lm e)))
+          (own-at n j l (t .start) (s .start) (λ c lc e. ins .start c lc (le-trans k (le-of-eq (sym e)))))
+          ∙ sym (de .starts n j l h))
 
-    weights-in : (n j : ℕ) → n < s .nodes → j < s .levels → z ≤ j → weights t q u (n + a) j ≡ weights s p r n j
-    unfolding weights
-    weights-in n j l h k =
-        ap₂ _+_
-        (kids-in n l (λ m. u m j - q m j) ∙ kids-cong (s .nodes) (s .parent) n _ _ (λ m lm e. excess-in m j lm h k))
-        (own-at n j l (λ c. t .want c - t .low c) (λ c. s .want c - s .low c)
-        (λ c lc e. ap₂ _-_ (ins .want c lc (le-trans k (le-of-eq (sym e)))) (ins .low c lc)))
+      over-in : (n j : ℕ) → n < s .nodes → j < s .levels → z ≤ j → u (n + a) j - tb (n + a) j ≡ r n j - sb n j
+      over-in n j l h k = ap₂ _-_ (request-in n l j h k) (starts-in j h k n l)
 
-    -- The running sums.
-    nodes-run : (m n j : ℕ) → m < s .nodes → n < s .nodes → j < s .levels → z ≤ j
-        → sum (m + a) (λ i. on (eqb (t .parent i) (suc (n + a))) (u i j - q i j)) ≡ sum m (λ i. on (eqb (s .parent i) (suc n)) (r i j - p i j))
-    nodes-run m n j l ln h k =
-        window a m (m + a) (λ i. on (eqb (t .parent i) (suc (n + a))) (u i j - q i j)) (omega arith)
-        (λ i g o. on-no (eqb (t .parent i) (suc (n + a))) (u i j - q i j)
-        (ne-eqb (t .parent i) (suc (n + a)) (λ e. omega (arith, ins .alone i n (omega (arith, ins .nodesFit)) ln e))))
-        (λ i g o. absurd (omega arith))
-        ∙ sum-cong m _ _ (λ i g.
-        ap₂ (λ (e : Bool) (d : ℕ). on e d) (same-test a (t .parent (i + a)) (s .parent i) n (ins .parent i (omega arith))) (excess-in i j (omega arith) h k))
+      weights-in : (n j : ℕ) → n < s .nodes → j < s .levels → z ≤ j → weights t tb u (n + a) j ≡ weights s sb r n j
+      unfolding weights
+      weights-in n j l h k =
+          ap₂ _+_
+          (kids-in n l (λ m. u m j - tb m j) ∙ kids-cong (s .nodes) (s .parent) n _ _ (λ m lm e. over-in m j lm h k))
+          (own-at n j l (λ c. t .want c - t .start c) (λ c. s .want c - s .start c)
+          (λ c lc e. ap₂ _-_ (ins .want c lc (le-trans k (le-of-eq (sym e)))) (ins .start c lc (le-trans k (le-of-eq (sym e))))))
 
-    cords-run : (c n j : ℕ) → c < s .cords → n < s .nodes → z ≤ j
-        → sum (c + b) (λ i. on (eqb (t .node i) (suc (n + a))) (atLevel t j (λ o. t .want o - t .low o) i))
-        ≡ sum c (λ i. on (eqb (s .node i) (suc n)) (atLevel s j (λ o. s .want o - s .low o) i))
-    cords-run c n j l ln k =
-        window b c (c + b) (λ i. on (eqb (t .node i) (suc (n + a))) (atLevel t j (λ o. t .want o - t .low o) i)) (omega arith)
-        (λ i g o. on-no (eqb (t .node i) (suc (n + a))) (atLevel t j (λ o. t .want o - t .low o) i)
-        (ne-eqb (t .node i) (suc (n + a)) (λ e. omega (arith, ins .bare i n (omega (arith, ins .cordsFit)) ln e))))
-        (λ i g o. absurd (omega arith))
-        ∙ sum-cong c _ _ (λ i g.
-        ap₂ (λ (e : Bool) (d : ℕ). on e d) (same-test a (t .node (i + b)) (s .node i) n (ins .node i (omega arith)))
-        (atLevel-in j (λ o. t .want o - t .low o) (λ o. s .want o - s .low o)
-        (λ c lc e. ap₂ _-_ (ins .want c lc (le-trans k (le-of-eq (sym e)))) (ins .low c lc)) i (omega arith)))
+      -- The running sums.
+      nodes-run : (m n j : ℕ) → m < s .nodes → n < s .nodes → j < s .levels → z ≤ j
+          → sum (m + a) (λ i. on (eqb (t .parent i) (suc (n + a))) (u i j - tb i j)) ≡ sum m (λ i. on (eqb (s .parent i) (suc n)) (r i j - sb i j))
+      nodes-run m n j l ln h k =
+          window a m (m + a) (λ i. on (eqb (t .parent i) (suc (n + a))) (u i j - tb i j)) (omega arith)
+          (λ i g o. on-no (eqb (t .parent i) (suc (n + a))) (u i j - tb i j)
+          (ne-eqb (t .parent i) (suc (n + a)) (λ e. omega (arith, ins .alone i n (omega (arith, ins .nodesFit)) ln e))))
+          (λ i g o. absurd (omega arith))
+          ∙ sum-cong m _ _ (λ i g.
+          ap₂ (λ (e : Bool) (d : ℕ). on e d) (same-test a (t .parent (i + a)) (s .parent i) n (ins .parent i (omega arith))) (over-in i j (omega arith) h k))
 
-    module _ (x v : ℕ → ℕ → ℕ) (y w : ℕ → ℕ) (de : Dealt s p r x y) (ed : Dealt t q u v w) where
+      cords-run : (c n j : ℕ) → c < s .cords → n < s .nodes → z ≤ j
+          → sum (c + b) (λ i. on (eqb (t .node i) (suc (n + a))) (atLevel t j (λ o. t .want o - t .start o) i))
+          ≡ sum c (λ i. on (eqb (s .node i) (suc n)) (atLevel s j (λ o. s .want o - s .start o) i))
+      cords-run c n j l ln k =
+          window b c (c + b) (λ i. on (eqb (t .node i) (suc (n + a))) (atLevel t j (λ o. t .want o - t .start o) i)) (omega arith)
+          (λ i g o. on-no (eqb (t .node i) (suc (n + a))) (atLevel t j (λ o. t .want o - t .start o) i)
+          (ne-eqb (t .node i) (suc (n + a)) (λ e. omega (arith, ins .bare i n (omega (arith, ins .cordsFit)) ln e))))
+          (λ i g o. absurd (omega arith))
+          ∙ sum-cong c _ _ (λ i g.
+          ap₂ (λ (e : Bool) (d : ℕ). on e d) (same-test a (t .node (i + b)) (s .node i) n (ins .node i (omega arith)))
+          (atLevel-in j (λ o. t .want o - t .start o) (λ o. s .want o - s .start o)
+          (λ c lc e. ap₂ _-_ (ins .want c lc (le-trans k (le-of-eq (sym e)))) (ins .start c lc (le-trans k (le-of-eq (sym e))))) i (omega arith)))
+
       amount-in : (j : ℕ) → j < s .levels → z ≤ j → (m : ℕ) → m < s .nodes → v (m + a) j ≡ x m j
       amount-in j h k = rise (s .nodes) (λ m. v (m + a) j ≡ x m j) (λ m l ih. go m l ih (s .parent m) refl)
         where
           go : (m : ℕ) → m < s .nodes → ((n : ℕ) → n < m → v (n + a) j ≡ x n j) → (o : ℕ) → s .parent m ≡ o → v (m + a) j ≡ x m j
           go m l ih zero e =
-              ed .root (m + a) j (inside m l) (ins .parent m l ∙ ap (lift a) e) ∙ excess-in m j l h k ∙ sym (de .root m j l e)
+              ed .root (m + a) j (inside m l) (ins .parent m l ∙ ap (lift a) e) ∙ over-in m j l h k ∙ sym (de .root m j l e)
           go m l ih (suc n) e =
-              let o : n < m = higher m n l e in
+              let o : n < m = later s ok m n l e in
               let ln : n < s .nodes = omega arith in
               ed .inner (m + a) (n + a) j (inside m l) (ins .parent m l ∙ ap (lift a) e)
-              ∙ ap₂ (λ (c d : ℕ). part c d (sum (m + a) (λ i. on (eqb (t .parent i) (suc (n + a))) (u i j - q i j))) (u (m + a) j - q (m + a) j)) (ih n o) (weights-in n j ln h k)
-              ∙ ap₂ (λ (c d : ℕ). part (x n j) (weights s p r n j) c d) (nodes-run m n j l ln h k) (excess-in m j l h k)
+              ∙ ap₂ (λ (c d : ℕ). part c d (sum (m + a) (λ i. on (eqb (t .parent i) (suc (n + a))) (u i j - tb i j))) (u (m + a) j - tb (m + a) j)) (ih n o) (weights-in n j ln h k)
+              ∙ ap₂ (λ (c d : ℕ). part (x n j) (weights s sb r n j) c d) (nodes-run m n j l ln h k) (over-in m j l h k)
               ∙ sym (de .inner m n j l e)
 
       reached-in : (c : ℕ) → c < s .cords → z ≤ s .level c → w (c + b) ≡ y c
@@ -199,22 +214,22 @@ module _ (s t : Deal) (a b z : ℕ) (ins : Inside s t a b z) where
               ed .leaf (c + b) (n + a) (omega (arith, ins .cordsFit)) (ins .node c l ∙ ap (lift a) e)
               ∙ ap
               (λ (i : ℕ).
-              part (v (n + a) i) (weights t q u (n + a) i)
-              (kids (t .nodes) (t .parent) (n + a) (λ m. u m i - q m i) + sum (c + b) (λ h. on (eqb (t .node h) (suc (n + a))) (atLevel t i (λ i. t .want i - t .low i) h)))
-              (t .want (c + b) - t .low (c + b)))
+              part (v (n + a) i) (weights t tb u (n + a) i)
+              (kids (t .nodes) (t .parent) (n + a) (λ m. u m i - tb m i) + sum (c + b) (λ h. on (eqb (t .node h) (suc (n + a))) (atLevel t i (λ i. t .want i - t .start i) h)))
+              (t .want (c + b) - t .start (c + b)))
               (ins .level c l)
-              ∙ ap₂ (λ (f g : ℕ). part f g (kids (t .nodes) (t .parent) (n + a) (λ m. u m j - q m j)
-              + sum (c + b) (λ h. on (eqb (t .node h) (suc (n + a))) (atLevel t j (λ i. t .want i - t .low i) h))) (t .want (c + b) - t .low (c + b)))
+              ∙ ap₂ (λ (f g : ℕ). part f g (kids (t .nodes) (t .parent) (n + a) (λ m. u m j - tb m j)
+              + sum (c + b) (λ h. on (eqb (t .node h) (suc (n + a))) (atLevel t j (λ i. t .want i - t .start i) h))) (t .want (c + b) - t .start (c + b)))
               (amount-in j h k n ln) (weights-in n j ln h k)
-              ∙ ap₂ (λ (f g : ℕ). part (x n j) (weights s p r n j) f g)
-              (ap₂ _+_ (kids-in n ln (λ m. u m j - q m j) ∙ kids-cong (s .nodes) (s .parent) n _ _ (λ m lm e. excess-in m j lm h k)) (cords-run c n j l ln k))
-              (ap₂ _-_ (ins .want c l k) (ins .low c l))
+              ∙ ap₂ (λ (f g : ℕ). part (x n j) (weights s sb r n j) f g)
+              (ap₂ _+_ (kids-in n ln (λ m. u m j - tb m j) ∙ kids-cong (s .nodes) (s .parent) n _ _ (λ m lm e. over-in m j lm h k)) (cords-run c n j l ln k))
+              (ap₂ _-_ (ins .want c l k) (ins .start c l k))
               ∙ sym (de .leaf c n l e)
 
 module _ (s t : Deal) (a b z : ℕ) (ins : Inside s t a b z) (ok : Dealable s) (ko : Dealable t) where
   pub granted-in : (c : ℕ) → c < s .cords → z ≤ s .level c → at (granted t) (c + b) ≡ at (granted s) c
   granted-in c l k =
       granted-at t ko (c + b) (omega (arith, ins .cordsFit))
-      ∙ ap₂ _+_ (ins .low c l)
-      (reached-in s t a b z ins ok _ _ _ _ (measured s ok) (measured t ko) _ _ _ _ (dealt s ok) (dealt t ko) c l k)
+      ∙ ap₂ _+_ (ins .start c l k)
+      (reached-in s t a b z ins ok ko _ _ _ _ (measured s ok) (measured t ko) _ _ _ _ _ _ (dealt s ok) (dealt t ko) c l k)
       ∙ sym (granted-at s ok c l)

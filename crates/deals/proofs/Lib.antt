@@ -2,14 +2,15 @@
 
 -- The rooms worked by hand: the definitions alone.
 pub mod WorkedRooms
--- One node's row of Requests, and the split.
+-- One node's row of Requests, and its children.
 pub mod Rows
-pub mod Splits
+pub mod Children
 -- One deal: what follows from its equations, and that the computed figures meet them.
+pub mod Requests
 pub mod Equations
 pub mod Computed
+pub mod Totals
 pub mod Inside
-pub mod OneTree
 -- The deals of a room whose table is accepted.
 pub mod Loads
 pub mod RoomDeals

@@ -8,7 +8,7 @@ use native.Mathlib.Omega.{arith}
 use mathlib.Core.Logic.{_⊎_, inl, inr}
 use Rattle.rooms.specs.Limits.{carried}
 use Rattle.deals.specs.SecondDeal.{leastOver}
-use Rattle.deals.proofs.Splits.{div-mono}
+use Rattle.splits.proofs.Splits.{div-mono}
 
 -- ---- A share of a load
 

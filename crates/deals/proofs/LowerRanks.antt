@@ -38,6 +38,7 @@ module _ (r : Room) (ok : Accepted r) (rank : ℕ) where
     level = λ c l. rw add-zero;
     low = λ c l. rw add-zero;
     want = λ c l k. rw add-zero (h c l (omega (arith, levelsOf-at r c l, server-facts r ok (cordAt r c .server) (cord-facts r ok c l .0) .rankFrom)));
+    start = λ c l k. rw add-zero;
     levels = refl;
     alone = λ m n l o e. omega arith;
     bare = λ c n l o e. omega arith;

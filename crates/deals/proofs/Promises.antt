@@ -14,7 +14,7 @@ use Rattle.rooms.specs.Table.{Room, highestRank, roomCords}
 use Rattle.rooms.specs.Limits.{parentOf, checked}
 use Rattle.rooms.proofs.Accepted.{Accepted, accepted}
 use Rattle.figures.proofs.Sums.{sum-cong}
-use Rattle.rooms.proofs.Trees.{below, under, under-is}
+use Rattle.rooms.proofs.Trees.{under}
 use Rattle.figures.specs.Figures.{at}
 use Rattle.rooms.specs.Cords.{cordAt, rankOf}
 use Rattle.rooms.specs.Lists.{carriedBy, lowsOf}
@@ -22,13 +22,12 @@ use Rattle.deals.specs.Dealing.{grantsBy}
 use Rattle.deals.specs.SecondDeal.{firstGrants, firstUsable, secondWants, secondGrants, caps}
 use Rattle.deals.specs.Ways.{cordBeneath, sumBeneath, fromRank}
 use Rattle.deals.specs.Promises.{AcceptedPlan, Answered, AnswerOfBothDeals, Kept, FirstKept, SecondKept, Greatest, FirstGreatest, SecondGreatest, SettledFromRank, RefusalNine}
-use Rattle.deals.specs.Properties.{CapsInRange, UsedGranted, SecondWantsInRange, SplitWhole, SplitWithin, FirstGivesAll, SecondGivesAll, FiguresFit}
-use Rattle.deals.proofs.Equations.{WholeWay, fromLevel}
-use Rattle.deals.proofs.Computed.{deal-gives-all}
-use Rattle.deals.proofs.OneTree.{tree-granted-most}
-use Rattle.deals.proofs.Splits.{split-sum, split-le}
+use Rattle.deals.specs.Properties.{CapsInRange, UsedGranted, SecondWantsInRange, FirstGivesAll, SecondGivesAll, fromLevel, Totals, FiguresFit}
+use Rattle.deals.proofs.Requests.{WholeWay}
+use Rattle.deals.proofs.Computed.{granted-most, deal-gives-all}
+use Rattle.deals.proofs.Totals.{deal-totals}
 use Rattle.deals.proofs.RoomDeals.{levelsOf-at, roomDeal, grantsBy-is}
-use Rattle.deals.proofs.BothDeals.{parents-below, server-facts, cord-facts, room-dealable, grants-way, first-dealable, second-dealable, firstWants-lows, secondWants-lows, firstUsed-granted, capsUsed-granted, secondWants-wants, caps-least, caps-need}
+use Rattle.deals.proofs.BothDeals.{server-facts, cord-facts, room-dealable, room-startable, grants-way, first-dealable, first-startable, second-dealable, second-startable, firstWants-lows, secondWants-lows, firstUsed-granted, capsUsed-granted, secondWants-wants, caps-least, caps-need}
 use Rattle.deals.proofs.LowerRanks.{firstGrants-same, firstUsable-same, secondGrants-same, caps-same}
 use Rattle.deals.proofs.Bounds.{bounded}
 use Rattle.deals.proofs.Plans.{plan-nine, plan-good-table, plan-answer, secondGrants-length, caps-length}
@@ -46,22 +45,12 @@ rank-level rank own h q = go (leb (min (rank - 1) highestRank) (own - 1)) refl
         lt-leb rank own (omega arith)
 
 module _ (r : Room) (ok : Accepted r) (wants : List ℕ) (lows : (c : ℕ) → c < roomCords r → at (lowsOf r) c ≤ at wants c) where
-  -- The sum beneath a node by the test is the sum by the count.
-  sumBeneath-below : (n : ℕ) (figure : ℕ → ℕ)
-      → sumBeneath r n figure ≡ below (length (r .nodes)) (parentOf r) (roomCords r) (λ c. cordAt r c .node) n figure
-  unfolding sumBeneath under
-  sumBeneath-below n figure =
-      under-is (length (r .nodes)) (parentOf r) (parents-below r ok) (roomCords r) (λ c. cordAt r c .node) (λ c l. cord-facts r ok c l .2) n figure
-
   -- A deal by wants at or above the lows keeps them, the wants and the limits.
   kept : Kept r wants (grantsBy r wants)
+  unfolding sumBeneath under
   kept =
       let w : WholeWay (roomDeal r wants) (at (grantsBy r wants)) = grants-way r ok wants lows in
-      record {
-        least = w .least;
-        most = w .most;
-        within = λ n l. le-trans (le-of-eq (sumBeneath-below n (at (grantsBy r wants)))) (w .within n l);
-      }
+      record { least = w .least; most = w .most; within = w .within }
 
   -- The cords of a rank and above, by their levels.
   fromRank-level : (n rank : ℕ) (watts : List ℕ)
@@ -78,9 +67,9 @@ module _ (r : Room) (ok : Accepted r) (wants : List ℕ) (lows : (c : ℕ) → c
   greatest root top rank watts way =
       le-trans (le-of-eq (fromRank-level root rank watts))
       (le-trans
-      (tree-granted-most (roomDeal r wants) (room-dealable r ok wants lows) root (top .top) (at watts)
+      (granted-most (roomDeal r wants) (room-dealable r ok wants lows) (room-startable r ok wants lows) (at watts) root
       (record { least = way .least; most = way .most; within = way .within })
-      (top .node) (min (rank - 1) highestRank) (omega arith))
+      (top .node) (top .top) (min (rank - 1) highestRank) (omega arith))
       (le-of-eq
       (ap (λ (g : List ℕ). under (length (r .nodes)) (parentOf r) (roomCords r) (λ c. cordAt r c .node) root (fromLevel (roomDeal r wants) (min (rank - 1) highestRank) (at g)))
       (sym (grantsBy-is r wants))
@@ -183,17 +172,16 @@ pub second-wants-in-range : SecondWantsInRange
 second-wants-in-range p c l =
     (secondWants-lows (p .room) (accepted-room p) (p .demands) c l, secondWants-wants (p .room) (accepted-room p) (p .demands) c l)
 
-pub split-whole : SplitWhole
-split-whole = split-sum
-
-pub split-within : SplitWithin
-split-within = split-le
-
 pub first-gives-all : FirstGivesAll
-first-gives-all p = deal-gives-all _ (first-dealable (p .room) (accepted-room p) (p .demands))
+first-gives-all p = deal-gives-all _ (first-dealable (p .room) (accepted-room p) (p .demands)) (first-startable (p .room) (accepted-room p) (p .demands))
 
 pub second-gives-all : SecondGivesAll
-second-gives-all p = deal-gives-all _ (second-dealable (p .room) (accepted-room p) (p .demands))
+second-gives-all p = deal-gives-all _ (second-dealable (p .room) (accepted-room p) (p .demands)) (second-startable (p .room) (accepted-room p) (p .demands))
+
+pub totals : Totals
+totals table r end e demands =
+    let ok = accepted table r end e in
+    (deal-totals _ (first-dealable r ok demands), deal-totals _ (second-dealable r ok demands))
 
 pub figures-fit : FiguresFit
 figures-fit table r end e demands = bounded r (accepted table r end e) demands

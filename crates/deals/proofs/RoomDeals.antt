@@ -86,6 +86,7 @@ module _ (r : Room) where
       level = at (levelsOf r);
       low = at (lowsOf r);
       want = at wants;
+      start = at (lowsOf r);
       levels = highestRank;
     }
 
@@ -100,6 +101,7 @@ module _ (r : Room) where
       level = at (levelsOf r);
       low = at (lowsOf r);
       want = at wants;
+      start = at (lowsOf r);
       levels = highestRank;
     }
 

@@ -1,63 +1,103 @@
--- Dealing: what reaches each node and each cord, and the grants.
-use mathlib.Core.List.{List}
-use Prim.Native.Nat.{ℕ, zero, suc, _+_}
+-- Dealing: the children of a node, what each gets of the node's amount, and the grants.
+use mathlib.Core.Bool.{Bool, false, cond}
+use mathlib.Core.List.{List, [], _∷_, _++_, map}
+use Prim.Native.Nat.{ℕ, zero, suc, _+_, _-_}
 use lib.Dec.{eqb}
-use Rattle.figures.specs.Sums.{on, sum}
+use Rattle.figures.specs.Figures.{total, figuresFrom, figures, cell, sumOf}
+use Rattle.splits.specs.Split.{split}
 use Rattle.rooms.specs.Table.{Room}
-use Rattle.figures.specs.Figures.{figuresFrom, figures}
-use Rattle.deals.specs.Metrics.{Deal, Metrics, dealOf, metrics, excess, cordExcess, overNodes, overCords, atLevel}
-use Rattle.deals.specs.Split.{part}
+use Rattle.deals.specs.Metrics.{Deal, Metrics, dealOf, metrics, atLevel}
+
+-- ---- The children of a node
+
+-- A child of a node: a child node, or a cord that hangs on the node itself, by its place.
+pub data Child : Type 0 where
+  node : ℕ → Child
+  cord : ℕ → Child
+
+-- Whether two are the same child.
+abbrev pub same : Child → Child → Bool
+same (node m) (node h) = eqb m h
+same (cord c) (cord h) = eqb c h
+same (node m) (cord h) = false
+same (cord c) (node h) = false
+
+-- Of the k places from j on, those of which a test holds, in order.
+unfoldable pub placesFrom : ℕ → ℕ → (ℕ → Bool) → List ℕ
+placesFrom zero j test = []
+placesFrom (suc k) j test =
+    let rest = placesFrom k (suc j) test in
+    cond (test j) (j ∷ rest) rest
+
+-- The children of the node at place n, as a list: first its child nodes, from the lowest number on, then the cords that hang on
+-- the node itself, as they come in the table.
+unfoldable pub children : Deal → ℕ → List Child
+unfolding placesFrom
+children d n =
+    map node (placesFrom (d .nodes) 0 (λ m. eqb (d .parent m) (suc n)))
+    ++ map cord (placesFrom (d .cords) 0 (λ c. eqb (d .node c) (suc n)))
+
+-- What a node is to have at a level over the starts beneath it: Request − starts. A cord, at its own level: want − start.
+-- (Where each start is the low, these are the excesses.)
+abbrev pub nodeOver : Metrics → ℕ → ℕ → ℕ
+nodeOver f m j = cell (f .requests) m j - cell (f .starts) m j
+
+abbrev pub cordOver : Deal → ℕ → ℕ
+cordOver d c = d .want c - d .start c
+
+-- A child's weight at level j is what it is to have there over the starts; a cord has none but at its own level.
+abbrev pub weight : Deal → Metrics → ℕ → Child → ℕ
+weight d f j (node m) = nodeOver f m j
+weight d f j (cord c) = atLevel d j (cordOver d) c
+
+-- The weights of the children of the node at place n, and their sum.
+unfoldable pub weightsOf : Deal → Metrics → ℕ → ℕ → List ℕ
+unfolding children
+weightsOf d f n j = map (weight d f j) (children d n)
+
+unfoldable pub weightSum : Deal → Metrics → ℕ → ℕ → ℕ
+unfolding weightsOf total
+weightSum d f n j = sumOf (weightsOf d f n j)
+
+-- ---- What reaches a child
+
+-- The figure that stands beside a child, of figures that stand beside a list of children.
+unfoldable pub beside : Child → List Child → List ℕ → ℕ
+beside child [] figures = 0
+beside child (other ∷ others) [] = 0
+beside child (other ∷ others) (figure ∷ figures) = cond (same child other) figure (beside child others figures)
+
+-- What a child gets at level j of the amount of its node, which is at place n: the part beside it in the split among all
+-- children by their weights.
+unfoldable pub partOf : Deal → Metrics → ℕ → ℕ → ℕ → Child → ℕ
+unfolding beside children split weightsOf
+partOf d f n j amount child = beside child (children d n) (split amount (weightsOf d f n j))
 
 -- By the number of a node: `none` for number 0, else the figure at its place.
 abbrev pub byNumber : ℕ → ℕ → (ℕ → ℕ) → ℕ
 byNumber zero none figure = none
 byNumber (suc n) none figure = figure n
 
--- A child's weight in the split at its node is its excess: that of a child node, and that of a cord.
-abbrev pub nodeWeight : Deal → Metrics → ℕ → ℕ → ℕ
-nodeWeight d f m j = excess f m j
-
-abbrev pub cordWeight : Deal → ℕ → ℕ
-cordWeight d c = cordExcess d c
-
--- The weights of the children of the node at place n, summed.
-unfoldable pub weightSum : Deal → Metrics → ℕ → ℕ → ℕ
-unfolding sum
-weightSum d f n j = overNodes d n (λ m. nodeWeight d f m j) + overCords d n j (cordWeight d)
-
--- The weights of the children before the node at place m: of the child nodes of lower number.
-unfoldable pub beforeNode : Deal → Metrics → ℕ → ℕ → ℕ → ℕ
-unfolding sum
-beforeNode d f n m j = sum m (λ h. on (eqb (d .parent h) (suc n)) (nodeWeight d f h j))
-
--- The weights of the children before the cord at place c: of all child nodes, and of the cords before it in the table.
-unfoldable pub beforeCord : Deal → Metrics → ℕ → ℕ → ℕ → ℕ
-unfolding sum
-beforeCord d f n c j =
-    overNodes d n (λ m. nodeWeight d f m j) + sum c (λ h. on (eqb (d .node h) (suc n)) (atLevel d j (cordWeight d) h))
-
--- The amount at level j of the node at place m: a root's is its excess, any other's its part of its parent's amount.
+-- The amount at level j of the node at place m: a root's is all of its weight, any other's what its parent gives it.
 -- (`steps` bounds the way to the root; a parent's number is below its child's, so that m + 1 is enough.)
 unfoldable pub amount : Deal → Metrics → ℕ → ℕ → ℕ → ℕ
-unfolding part weightSum beforeNode
+unfolding partOf
 amount d f zero m j = 0
-amount d f (suc steps) m j =
-    byNumber (d .parent m) (excess f m j) (λ n.
-    part (amount d f steps n j) (weightSum d f n j) (beforeNode d f n m j) (nodeWeight d f m j))
+amount d f (suc steps) m j = byNumber (d .parent m) (nodeOver f m j) (λ n. partOf d f n j (amount d f steps n j) (node m))
 
--- The amount that reaches the cord at place c, of its node's amount at its rank.
+-- The amount that reaches the cord at place c: what its node gives it at its rank.
 unfoldable pub reached : Deal → Metrics → ℕ → ℕ
-unfolding part weightSum beforeCord amount
+unfolding partOf amount
 reached d f c =
-    byNumber (d .node c) 0 (λ n.
-    part (amount d f (suc n) n (d .level c)) (weightSum d f n (d .level c)) (beforeCord d f n c (d .level c)) (cordWeight d c))
+    let j = d .level c in
+    byNumber (d .node c) 0 (λ n. partOf d f n j (amount d f (suc n) n j) (cord c))
 
--- The grants of a deal: each cord's low plus the amount that reached it.
+-- The grants of a deal: each cord's start plus the amount that reached it.
 unfoldable pub granted : Deal → List ℕ
 unfolding figuresFrom metrics reached
 granted d =
     let f = metrics d in
-    figures (d .cords) (λ c. d .low c + reached d f c)
+    figures (d .cords) (λ c. d .start c + reached d f c)
 
 -- The grants of a room, dealt by given wants.
 unfoldable pub grantsBy : Room → List ℕ → List ℕ

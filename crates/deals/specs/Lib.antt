@@ -2,9 +2,8 @@
 
 -- Needs, and the wants of the first deal.
 pub mod Wants
--- One deal: metrics, split and dealing.
+-- One deal: metrics and dealing.
 pub mod Metrics
-pub mod Split
 pub mod Dealing
 -- Both deals, and the whole plan with its refusals.
 pub mod SecondDeal

@@ -10,6 +10,7 @@ use Rattle.rooms.specs.Lists.{parentsOf, limitsOf, nodesOf, levelsOf, lowsOf}
 
 -- What a deal goes by: nodes and cords by their places, counted from 0. A parent, and a cord's node, is a node's number:
 -- its place plus one, or 0 for none. A level is a rank counted from 0, as the places of a row are; there are `levels` of them.
+-- A cord's start is what it has before anything is dealt.
 pub record Deal : Type 0 where
   pub nodes : ℕ
   pub parent : ℕ → ℕ
@@ -19,9 +20,11 @@ pub record Deal : Type 0 where
   pub level : ℕ → ℕ
   pub low : ℕ → ℕ
   pub want : ℕ → ℕ
+  pub start : ℕ → ℕ
   pub levels : ℕ
 
--- The deal of lists of figures: parents and limits, one a node; nodes, levels, lows and wants, one a cord.
+-- The deal of lists of figures: parents and limits, one a node; nodes, levels, lows and wants, one a cord. Each cord starts
+-- from its low.
 unfoldable pub dealFrom : (parents limits nodes levels lows wants : List ℕ) → Deal
 dealFrom parents limits nodes levels lows wants = record {
   nodes = length parents;
@@ -32,6 +35,7 @@ dealFrom parents limits nodes levels lows wants = record {
   level = at levels;
   low = at lows;
   want = at wants;
+  start = at lows;
   levels = highestRank;
 }
 
@@ -66,13 +70,14 @@ childSums d n rows figure = figures (d .levels) (λ j. overRows d n j (suc n) ro
 
 -- ---- Pcapmin and Request
 
--- The Pcapmin rows of the k nodes from place n on: at each rank the sum over the node's children, a cord's being its low.
-unfoldable pub pcapminsFrom : Deal → ℕ → ℕ → List (List ℕ)
+-- The rows of the k nodes from place n on, of a figure of the cords: at each rank the sum over the node's children, a cord's
+-- being its figure. (So it is the sum over all cords beneath the node.)
+unfoldable pub sumsFrom : Deal → (ℕ → ℕ) → ℕ → ℕ → List (List ℕ)
 unfolding childSums
-pcapminsFrom d zero n = []
-pcapminsFrom d (suc k) n =
-    let rows = pcapminsFrom d k (suc n) in
-    childSums d n rows (d .low) ∷ rows
+sumsFrom d figure zero n = []
+sumsFrom d figure (suc k) n =
+    let rows = sumsFrom d figure k (suc n) in
+    childSums d n rows figure ∷ rows
 
 -- The Requests of a node at k levels from level j on, where the Pcapmin of the lower ranks sum to `lower`. From the
 -- highest rank down, each is the children's, cut to what the limit has over the Requests of higher and the Pcapmin of lower ranks.
@@ -93,16 +98,18 @@ requestsFrom d pcapmins (suc k) n =
     let pcapmin = getD pcapmins n [] in
     requestsAbove (d .levels) 0 (d .limit n) 0 (at pcapmin) (at children) ∷ rows
 
--- The metrics of a deal: for each node, its row of Pcapmin and its row of Requests.
+-- The metrics of a deal: for each node, its row of Pcapmin, a cord's being its low, and its row of Requests; and the starts
+-- of the cords beneath it.
 pub record Metrics : Type 0 where
   pub pcapmins : List (List ℕ)
   pub requests : List (List ℕ)
+  pub starts : List (List ℕ)
 
 unfoldable pub metrics : Deal → Metrics
-unfolding pcapminsFrom requestsFrom
+unfolding sumsFrom requestsFrom
 metrics d =
-    let pcapmins = pcapminsFrom d (d .nodes) 0 in
-    record { pcapmins = pcapmins; requests = requestsFrom d pcapmins (d .nodes) 0 }
+    let pcapmins = sumsFrom d (d .low) (d .nodes) 0 in
+    record { pcapmins = pcapmins; requests = requestsFrom d pcapmins (d .nodes) 0; starts = sumsFrom d (d .start) (d .nodes) 0 }
 
 -- The excess of a node at a level: Request − Pcapmin. That of a cord, at its own level: want − low.
 abbrev pub excess : Metrics → ℕ → ℕ → ℕ

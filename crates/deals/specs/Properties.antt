@@ -1,24 +1,25 @@
--- What else is proved of every plan: that caps, wants and parts lie in their ranges, and that the figures fit their words.
--- Demand 3 does not ask for these. Statements only; proofs/Promises.antt proves each: `CapsInRange` as `caps-in-range`,
--- and so on.
+-- What else is proved of every plan: that caps, wants and amounts lie in their ranges, what a node's Requests of a rank and above
+-- sum to, and that the figures fit their words. Demand 3 does not ask for these. Statements only; proofs/Promises.antt proves
+-- each: `CapsInRange` as `caps-in-range`, and so on.
 use mathlib.Core.Path.{_≡_}
 use mathlib.Core.List.{List, []}
-use Prim.Native.Nat.{ℕ, suc, _+_, _*_, _≤_, _<_, _^_}
+use Prim.Native.Nat.{ℕ, suc, _+_, _*_, _-_, _≤_, _<_, _^_, min}
+use lib.Dec.{eqb, leb}
 use lib.ListN.{length, getD, take, drop}
 use Rattle.rooms.specs.Part.{good}
 use Rattle.rooms.specs.Table.{Room, mostWatts, mostCords, roomCords}
 use Rattle.rooms.specs.Limits.{checked}
 use Rattle.figures.specs.Figures.{at, cell, sumOf}
+use Rattle.figures.specs.Sums.{on, sum}
 use Rattle.rooms.specs.Cords.{serverAt}
 use Rattle.deals.specs.Wants.{needs, firstWants}
 use Rattle.rooms.specs.Lists.{carriedBy, lowsOf}
 use Rattle.deals.specs.Metrics.{Deal, dealOf, metrics, excess, cordExcess, overNodes, overCords, childSums}
-use Rattle.deals.specs.Split.{split}
 use Rattle.deals.specs.Dealing.{weightSum, amount, reached}
 use Rattle.deals.specs.SecondDeal.{firstGrants, firstUsed, freed, secondWants}
 use Rattle.deals.specs.Promises.{AcceptedPlan}
 
--- ---- Caps, used watts, the second deal's wants, the split, and what a node gives
+-- ---- Caps, used watts, the second deal's wants, and what a node gives
 
 -- A cap is never below its server's least nor above its need.
 abbrev pub CapsInRange : Type 0
@@ -40,15 +41,6 @@ SecondWantsInRange =
     → (at (lowsOf (p .room)) c ≤ at (secondWants (p .room) (p .demands)) c)
     × (at (secondWants (p .room) (p .demands)) c ≤ at (firstWants (p .room) (p .demands)) c)
 
--- The split gives away all of its amount where some weight is above 0.
-abbrev pub SplitWhole : Type 0
-SplitWhole = (amount : ℕ) (weights : List ℕ) → 0 < sumOf weights → sumOf (split amount weights) ≡ amount
-
--- It gives no child more than its weight where the amount is at most their sum.
-abbrev pub SplitWithin : Type 0
-SplitWithin =
-    (amount : ℕ) (weights : List ℕ) → amount ≤ sumOf weights → (k : ℕ) → at (split amount weights) k ≤ at weights k
-
 -- A deal in which every node gives its children all of its amount at each rank, and none of them more than its excess.
 pub record GivesAll (d : Deal) : Type 0 where
   pub all : (n j : ℕ) → n < d .nodes → j < d .levels
@@ -63,6 +55,36 @@ FirstGivesAll = (p : AcceptedPlan) → GivesAll (dealOf (p .room) (firstWants (p
 abbrev pub SecondGivesAll : Type 0
 SecondGivesAll = (p : AcceptedPlan) → GivesAll (dealOf (p .room) (secondWants (p .room) (p .demands)))
 
+-- ---- The law of totals
+
+-- The Requests of the node at place n of level j and above, summed.
+abbrev pub requestTotal : Deal → ℕ → ℕ → ℕ
+requestTotal d n j = sumOf (drop j (getD (metrics d .requests) n []))
+
+-- Its Pcapmin of the levels below j, summed.
+abbrev pub pcapminBelow : Deal → ℕ → ℕ → ℕ
+pcapminBelow d n j = sumOf (take j (getD (metrics d .pcapmins) n []))
+
+-- A figure of the cords of level j and above: 0 at the others.
+abbrev pub fromLevel : Deal → ℕ → (ℕ → ℕ) → ℕ → ℕ
+fromLevel d j figure c = on (leb j (d .level c)) (figure c)
+
+-- A deal in which, at every node, the Requests of any rank and above sum to the lesser of limit − (Pcapmin of lower ranks) and
+-- the children's sum, where a child node counts for its own Requests of that rank and above, and a cord of that rank or above
+-- for its want. (No way of dealing can give the cords beneath the node more: `FirstGreatest` and `SecondGreatest` follow.)
+abbrev pub TotalsOf : Deal → Type 0
+TotalsOf d =
+    (n j : ℕ) → n < d .nodes → j ≤ d .levels
+    → requestTotal d n j
+    ≡ min (d .limit n - pcapminBelow d n j)
+    (overNodes d n (λ m. requestTotal d m j) + sum (d .cords) (λ c. on (eqb (d .node c) (suc n)) (fromLevel d j (d .want) c)))
+
+-- Where the table is accepted, both deals are such, whatever the demands.
+abbrev pub Totals : Type 0
+Totals =
+    (table : List ℕ) (r : Room) (end : ℕ) → checked table 0 ≡ good r end → (demands : List ℕ)
+    → TotalsOf (dealOf r (firstWants r demands)) × TotalsOf (dealOf r (secondWants r demands))
+
 -- ---- The figures that code holds fit their words
 
 -- The most that one figure a cord, summed over all cords, comes to.
@@ -76,7 +98,7 @@ pub record DealBounded (d : Deal) : Type 0 where
   pub wants : (c : ℕ) → c < d .cords → d .want c ≤ mostWatts
   pub lows : (c : ℕ) → c < d .cords → d .low c ≤ d .want c
   pub left : (n j : ℕ) → n < d .nodes → j < d .levels
-      → sumOf (take j (getD (metrics d .pcapmins) n [])) + sumOf (drop (j + 1) (getD (metrics d .requests) n [])) ≤ d .limit n
+      → pcapminBelow d n j + requestTotal d n (j + 1) ≤ d .limit n
   pub pcapmins : (n j : ℕ) → n < d .nodes → j < d .levels
       → cell (metrics d .pcapmins) n j ≤ cell (metrics d .requests) n j
   pub requests : (n : ℕ) → n < d .nodes → sumOf (getD (metrics d .requests) n []) ≤ d .limit n

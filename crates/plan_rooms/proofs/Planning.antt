@@ -3,7 +3,6 @@ use mathlib.Core.Path.{_≡_, refl, sym, ap, _∙_}
 use mathlib.Core.Bool.{cond, _&&_}
 use mathlib.Core.List.{List}
 use Prim.Native.Nat.{ℕ, _+_, _-_, _*_, _/_, _≤_, _<_}
-use native.Mathlib.Nat.{le-trans, le-of-eq}
 use native.Mathlib.Omega.{arith}
 use lib.Dec.{eqb, ltb}
 use lib.ListN.{length, getD, take, replicate}
@@ -12,7 +11,7 @@ use Rattle.rooms.specs.Part.{good, Good}
 use Rattle.rooms.specs.Table.{Room, scale, roomCords, mostWatts, mostNodes, mostServers, mostCords}
 use Rattle.rooms.specs.Limits.{checked, carried}
 use Rattle.rooms.proofs.Accepted.{Accepted, accepted}
-use Rattle.rooms.proofs.Trees.{under, under-is}
+use Rattle.rooms.proofs.Trees.{under}
 use Rattle.figures.specs.Figures.{figures, at, sumOf}
 use Rattle.rooms.specs.Cords.{cordAt}
 use Rattle.deals.specs.Wants.{needs, firstWants}
@@ -92,9 +91,7 @@ module _ (r : Room) {wants : List ℕ} (wanted : Wanted r wants) where
 
   room-lows : LowsWithin (parentsOf r) (limitsOf r) (nodesOf r) (lowsOf r)
   unfolding dealOf dealFrom under
-  room-lows n l =
-      let d = dealable r (wanted .ok) wants (wanted .least) in
-      le-trans (le-of-eq (under-is (length (parentsOf r)) (at (parentsOf r)) (d .rises) (length (nodesOf r)) (at (nodesOf r)) (d .here) n (at (lowsOf r)))) (d .lows n l)
+  room-lows = dealable r (wanted .ok) wants (wanted .least) .lows
 
 -- The wants of each deal are such.
 module _ (table demands : List ℕ) {wants : List ℕ} where

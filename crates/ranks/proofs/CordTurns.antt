@@ -14,13 +14,14 @@ use Rattle.figures.specs.Sums.{on}
 use Rattle.rooms.specs.Table.{mostWatts, mostCords}
 use Rattle.figures.proofs.Sums.{on-yes, on-no, sum-suc, sum-none}
 use Rattle.figures.specs.Figures.{at}
-use Rattle.deals.specs.Split.{part}
+use Rattle.splits.specs.Split.{part}
 use Rattle.levels.specs.Levels.{NextOf}
 use Rattle.ranks.specs.Passes.{CordLists, HasCord, cordsBefore, CordsDealt}
 use Rattle.levels.proofs.Links.{skipped}
-use Rattle.ranks.proofs.NodeSums.{on-zero}
-use Rattle.deals.proofs.Splits.{part-le}
-use Rattle.ranks.proofs.Serving.{sum-within, MayServe, HasServed, Served, served-same, served-part, served-next, may-serve}
+use Rattle.ranks.proofs.NodeSums.{on-zero, sum-within, product-fits}
+use Rattle.splits.proofs.Splits.{part-le}
+use Rattle.splits.specs.Serving.{MayServe, HasServed}
+use Rattle.splits.proofs.Serving.{Served, served-same, served-part, served-next, may-serve}
 
 -- What the pass takes of the cords and of their nodes.
 pub record CordsReady (nodes levels lows wants : List ℕ) (level : ℕ) (wholes amounts before₀ : List ℕ) : Type 0 where
@@ -136,12 +137,12 @@ module _ {nodes levels lows wants : List ℕ} {level : ℕ} {wholes amounts befo
         -- What `serve` asks at the node.
         pub cord-may-serve : MayServe (at amounts (node - 1)) (at wholes (node - 1)) w (node - 1) before dealt
         cord-may-serve =
-            may-serve (turn .served) (node - 1) w node-within here room-for (turn .ready .amount-inside (node - 1) here) (turn .ready .amount-most (node - 1) here)
-            (turn .ready .wholes-most (node - 1) here)
+            may-serve (turn .served) (node - 1) w node-within here room-for (turn .ready .amount-inside (node - 1) here)
+            (product-fits (at amounts (node - 1)) (at wholes (node - 1)) (turn .ready .amount-most (node - 1) here) (turn .ready .wholes-most (node - 1) here))
 
         module _ {watts : ℕ} {before′ dealt′ : List ℕ} (has : HasServed (at amounts (node - 1)) (at wholes (node - 1)) w (node - 1) before dealt watts before′ dealt′) where
           watts-is : watts ≡ part (at amounts (node - 1)) (at wholes (node - 1)) (weightsBefore nodes levels lows wants level before₀ c (node - 1)) w
-          watts-is = has .0 ∙ served-part (turn .served) (node - 1) w node-within here
+          watts-is = has .watts-are ∙ served-part (turn .served) (node - 1) w node-within here
 
           pub watts-most : watts ≤ mostWatts
           watts-most =

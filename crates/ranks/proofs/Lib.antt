@@ -1,6 +1,5 @@
 -- The laws of `ranks`: sums on nodes, and the turns of its loops.
 pub mod NodeSums
 pub mod Gathering
-pub mod Serving
 pub mod NodeTurns
 pub mod CordTurns

@@ -4,10 +4,10 @@ use mathlib.Core.Path.{_≡_, refl, sym, ap, ap₂, _∙_}
 use mathlib.Core.Bool.{Bool, true, false}
 use mathlib.Core.List.{List}
 use Prim.Native.Nat.{ℕ, zero, suc, _+_, _-_, _*_, _^_, _≤_, _<_}
-use native.Mathlib.Nat.{add-zero}
+use native.Mathlib.Nat.{add-zero, mul-le-mul, lt-of-le-of-lt}
 use native.Mathlib.Numerals.{add-one}
 use native.Mathlib.Omega.{arith}
-use lib.Dec.{eqb}
+use lib.Dec.{eqb, lit<}
 use lib.ListN.{length, set, replicate, length-set}
 use lib.Seq.{set-getD, getD-set-same, getD-set-other}
 use borrow.Author.Count.{below-more}
@@ -15,7 +15,7 @@ use borrow.Author.Tests.{eq-eqb, ne-eqb, eqb-true}
 use Rattle.figures.specs.Sums.{on, sum}
 use Rattle.rooms.specs.Table.{mostCords, mostWatts}
 use Rattle.rooms.specs.Credits.{sumBeneath, credited}
-use Rattle.figures.proofs.Sums.{on-yes, on-no, sum-suc, sum-none, sum-cong, sum-zero, sum-le}
+use Rattle.figures.proofs.Sums.{on-yes, on-no, sum-suc, sum-none, sum-cong, sum-zero, sum-le, sum-up}
 use Rattle.rooms.proofs.Trees.{kids, own}
 use Rattle.figures.proofs.Filled.{zeros-at}
 use Rattle.rooms.proofs.Credits.{credited-at, credited-length, sumBeneath-step, sumBeneath-most}
@@ -229,3 +229,11 @@ module _ {limits beneath : List ℕ} where
         (λ m l. omega (arith, getD-set-other spare n m over 0 (λ e. omega arith), t .done m l))
         (omega (arith, getD-set-same spare n over 0 (omega (arith, t .size))));
   }
+
+-- One more figure is within a sum over more places.
+pub sum-within : (k m : ℕ) (g : ℕ → ℕ) → k < m → sum k g + g k ≤ sum m g
+sum-within k m g h = omega (arith, sum-suc k g, sum-up (m - suc k) (suc k) m g (omega arith))
+
+-- An amount times the weights of all children fits its word.
+pub product-fits : (x e : ℕ) → x ≤ mostWatts → e ≤ mostCords * mostWatts → x * e < 2 ^ 64
+product-fits x e most few = lt-of-le-of-lt (mul-le-mul most few) (lit< tt)

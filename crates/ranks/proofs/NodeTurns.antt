@@ -14,14 +14,15 @@ use Rattle.figures.specs.Sums.{on}
 use Rattle.rooms.specs.Table.{mostNodes, mostWatts, mostCords, highestRank}
 use Rattle.figures.proofs.Sums.{on-yes, on-no, sum-suc, sum-cong, sum-zero}
 use Rattle.figures.specs.Figures.{at, cell}
-use Rattle.deals.specs.Split.{part}
+use Rattle.splits.specs.Split.{part}
 use Rattle.ranks.specs.Passes.{weightOf, childrenBefore, overChildren, NodesDealt}
 use Rattle.levels.specs.Levels.{Absent, Present, ActiveNodes}
 use Rattle.figures.proofs.Lists.{passed-up}
 use Rattle.levels.proofs.Active.{Parted, parted-none, parted-all, parted-at, parted-after, between}
-use Rattle.ranks.proofs.NodeSums.{on-zero}
-use Rattle.deals.proofs.Splits.{part-le}
-use Rattle.ranks.proofs.Serving.{sum-within, MayServe, HasServed, Served, served-same, served-more, served-amount, served-part, served-next, may-serve}
+use Rattle.ranks.proofs.NodeSums.{on-zero, sum-within, product-fits}
+use Rattle.splits.proofs.Splits.{part-le}
+use Rattle.splits.specs.Serving.{MayServe, HasServed}
+use Rattle.splits.proofs.Serving.{Served, served-same, served-more, served-amount, served-part, served-next, may-serve}
 
 -- What the pass takes of the nodes.
 pub record NodesReady (parents active : List ℕ) (count level : ℕ) (rows : List (List ℕ)) (pcapmins wholes : List ℕ) : Type 0 where
@@ -192,8 +193,9 @@ module _ {parents active : List ℕ} {count level : ℕ} {rows : List (List ℕ)
         pub node-may-serve : MayServe (at amounts (parent - 1)) (at wholes (parent - 1)) (request - at pcapmins m) (parent - 1) (set before m 0) (set dealt m 0)
         node-may-serve =
             may-serve begun (parent - 1) (request - at pcapmins m) parent-within parent-begun room parent-inside
+            (product-fits (at amounts (parent - 1)) (at wholes (parent - 1))
             (omega (arith, parent-most, turn .ready .bounds (parent - 1) parent-within .1))
-            (turn .ready .bounds (parent - 1) parent-within .3)
+            (turn .ready .bounds (parent - 1) parent-within .3))
 
         pub inner-next : (watts : ℕ) {amounts′ before′ dealt′ : List ℕ}
             → HasServed (at amounts (parent - 1)) (at wholes (parent - 1)) (request - at pcapmins m) (parent - 1) (set before m 0) (set dealt m 0) watts before′ dealt′
@@ -203,7 +205,7 @@ module _ {parents active : List ℕ} {count level : ℕ} {rows : List (List ℕ)
             let p : ℕ = parent - 1 in
             let w : ℕ = request - at pcapmins m in
             let x : at amounts′ m ≡ part (at amounts p) (at wholes p) (weightsBefore parents level rows pcapmins m p) w
-            = stored watts e ∙ has .0 ∙ served-part begun p w parent-within parent-begun in
+            = stored watts e ∙ has .watts-are ∙ served-part begun p w parent-within parent-begun in
             let y : at amounts′ m ≡ part (at amounts′ p) (at wholes p) (weightsBefore parents level rows pcapmins m p) (weightOf rows level pcapmins m)
             = x
             ∙ ap₂ (λ (z u : ℕ). part z (at wholes p) (weightsBefore parents level rows pcapmins m p) u) (sym (kept watts e p earlier)) weight-is in

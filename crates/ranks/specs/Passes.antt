@@ -8,7 +8,7 @@ use Rattle.figures.specs.Sums.{on, sum}
 use Rattle.rooms.specs.Table.{mostNodes, mostCords, mostWatts, highestRank}
 use Rattle.rooms.specs.Credits.{sumBeneath}
 use Rattle.figures.specs.Figures.{figures, at, cell}
-use Rattle.deals.specs.Split.{part}
+use Rattle.splits.specs.Split.{part}
 use Rattle.levels.specs.Levels.{Absent, Present, Full}
 
 -- The cords of a room of so many nodes: for each its node's number, its level (rank − 1), its low and its want.

@@ -1,47 +1,15 @@
-// One rank's dealing: from the first node to the last, then to the cords in table order. One split serves both.
+// One rank's dealing: from the first node to the last, then to the cords in table order. One split serves both: that of `splits`.
 ghost use mathlib.Core.Path.{_≡_};
-ghost use Prim.Native.Nat.{ℕ, _+_, _*_, _/_, _^_, _≤_, _<_};
-ghost use lib.ListN.{length, set};
+ghost use Prim.Native.Nat.{ℕ, _+_, _*_, _/_, _≤_, _<_};
+ghost use lib.ListN.{length};
 ghost use Rattle.rooms.specs.Table.{mostNodes, mostWatts, mostCords, highestRank};
 ghost use Rattle.figures.specs.Figures.{at, cell};
-ghost use Rattle.deals.specs.Split.{part};
 ghost use Rattle.ranks.specs.Passes.{CordLists, weightOf, overChildren, BlankColumn, HasCord, cordsBefore, NodesDealt, CordsDealt};
 ghost use Rattle.levels.specs.Levels.{ChainOf, ActiveNodes};
 use figures::index;
 use figures::narrow;
-use figures::over;
 use figures::wide;
-
-// The part of the next child of the node at place p, by its weight. The weights served and the watts dealt there grow by it.
-fn serve(
-    amount: u32,
-    whole: u64,
-    weight: u64,
-    p: usize,
-    before: &mut [u64],
-    dealt: &mut [u32],
-) -> u32
-    requires { ⌜ (p < length (now before)) × (p < length (now dealt)) × (at (now before) p + weight ≤ whole) × (amount ≤ whole) × (amount * whole < 2 ^ 64) × (whole < 2 ^ 63) ⌝ }
-    requires { ⌜ at (now dealt) p ≡ amount * at (now before) p / whole ⌝ }
-    ensures { λ r. ⌜ r ≡ part amount whole (at (now (before .entry)) p) weight ⌝ }
-    ensures { λ _. ⌜ now (before .exit) ≡ set (now (before .entry)) p (at (now (before .entry)) p + weight) ⌝ }
-    ensures { λ _. ⌜ now (dealt .exit) ≡ set (now (dealt .entry)) p (amount * (at (now (before .entry)) p + weight) / whole) ⌝ }
-{
-    // A child with all the weight takes all, without a division. Where no child has weight, each has all of it, and the amount
-    // is 0: so nothing is divided by 0.
-    if weight == whole {
-        before[p] = weight;
-        dealt[p] = amount;
-        return amount;
-    }
-    let upto = before[p] + weight;
-    let watts = wide(amount) * upto / whole;
-    // The quotients rise, so nothing is cut off; `over` needs no proof of it.
-    let given = over(watts, wide(dealt[p]));
-    before[p] = upto;
-    dealt[p] = narrow(watts);
-    narrow(given)
-}
+use splits::serve;
 
 // What each active node has to give at a level: a root its excess, any other its part of its parent's. A node's figures start at
 // 0 in its own turn, before the turns of its child nodes. The figures of nodes that are not active are not touched.

@@ -10,7 +10,7 @@ use borrow.Author.Tests.{le-leb, lt-leb}
 use lib.ListN.{length, getD, set, take}
 use lib.Seq.{sets, take-suc, length-take-le}
 use Rattle.words.specs.Lists.{AllBelow}
-use Rattle.words.specs.Bytes.{littleEndian, word, wordAt, wordsOf, bytesOf, answerBytes, holdsAnswer, answered}
+use Rattle.words.specs.Bytes.{littleEndian, word, wordAt, wordsOf, bytesOf, answerBytes, holdsAnswer, answered, numberStored}
 use Rattle.words.proofs.Lists.{sets-append, take-sets, take-min, nil-below, cons-below, append-below}
 
 -- ---- length
@@ -113,6 +113,10 @@ take-loaded k n bytes list list' hk hn hl =
 
 -- ---- the answer
 
+pub length-answerBytes : (number figure : ℕ) → length (answerBytes number figure) ≡ 16
+unfolding answerBytes littleEndian
+length-answerBytes number figure = refl
+
 module _ (buffer : List ℕ) where
   pub holdsAnswer-short : length buffer < 16 → holdsAnswer buffer ≡ false
   unfolding holdsAnswer
@@ -139,3 +143,15 @@ module _ (number figure : ℕ) (buffer : List ℕ) where
   sets-answerBytes =
       let e : 0 + length (littleEndian 8 number) ≡ 8 = omega (arith, length-littleEndian 8 number) in
       rw (sets-append, e)
+
+-- ---- a number at a place
+
+module _ (number : ℕ) (bytes : List ℕ) (at : ℕ) where
+  -- Bytes that do not reach so far are left alone.
+  pub numberStored-short : length bytes < at + 8 → numberStored number bytes at ≡ bytes
+  unfolding numberStored
+  numberStored-short h = rw (lt-leb (at + 8) (length bytes) h)
+
+  pub numberStored-whole : at + 8 ≤ length bytes → numberStored number bytes at ≡ sets bytes at (littleEndian 8 number)
+  unfolding numberStored
+  numberStored-whole h = rw (le-leb (at + 8) (length bytes) h)

@@ -46,3 +46,7 @@ holdsAnswer buffer = leb 16 (length buffer)
 -- A buffer after an answer is stored: the answer at its front, or the buffer as it was where that is too short.
 unfoldable pub answered : ℕ → ℕ → List ℕ → List ℕ
 answered number figure buffer = cond (holdsAnswer buffer) (sets buffer 0 (answerBytes number figure)) buffer
+
+-- Some bytes after a number is stored in eight of them, from a place on; or as they were where they do not reach so far.
+unfoldable pub numberStored : ℕ → List ℕ → ℕ → List ℕ
+numberStored number bytes at = cond (leb (at + 8) (length bytes)) (sets bytes at (littleEndian 8 number)) bytes

@@ -1,11 +1,12 @@
 // Words in bytes: lists of 32-bit words as bytes, four bytes a word, low byte first, and the answer
-// of a C call, two numbers of eight bytes each. Nothing here knows what a word means.
+// of a C call, two numbers of eight bytes each, or more by their places. Nothing here knows what a
+// word means.
 
 ghost use mathlib.Core.Path.{_≡_};
 ghost use Prim.Native.Nat.{_+_, _/_, _≤_, _<_, min};
 ghost use lib.ListN.{length, take};
 ghost use lib.Seq.{sets};
-ghost use Rattle.words.specs.Bytes.{littleEndian, wordAt, wordsOf, bytesOf, holdsAnswer, answered};
+ghost use Rattle.words.specs.Bytes.{littleEndian, wordAt, wordsOf, bytesOf, holdsAnswer, answered, numberStored};
 
 // The words of the bytes, as many as the list holds, at its front; how many. One to three bytes
 // over are not read.
@@ -54,6 +55,19 @@ pub fn store_answer(number: u64, figure: u64, answer: &mut [u8]) -> bool
     put(number, 8, answer, 0);
     put(figure, 8, answer, 8);
     true
+}
+
+// A number in eight bytes, low byte first, from `at` on; the rest is untouched. Bytes that do not reach so far are left alone.
+pub fn store_number(number: u64, bytes: &mut [u8], at: usize)
+    ensures { λ _. ⌜ now (bytes .exit) ≡ numberStored number (now (bytes .entry)) at ⌝ }
+{
+    if bytes.len() < 8 {
+        return;
+    }
+    if bytes.len() - 8 < at {
+        return;
+    }
+    put(number, 8, bytes, at);
 }
 
 // The word whose four bytes stand from `at` on.

@@ -1,8 +1,9 @@
-//! The three C calls: lists as bytes, four a word, low byte first, and the answer buffer.
+//! The C calls: lists as bytes, four a word, low byte first, and the answer buffer.
 
 use crate::Refusal;
 
 const ANSWER: usize = 16;
+const LONG_ANSWER: usize = 24;
 const WORD: usize = 4;
 
 pub fn read(sheet: &[u8], table: &mut [u8], answer: &mut [u8]) -> u32 {
@@ -35,6 +36,24 @@ pub fn plan(
         put_words(&plan.caps, caps);
         Ok(plan.freed)
     })
+}
+
+/// Send, whose answer is longer: where it is accepted, the new position follows.
+pub fn send(count: u64, position: u64, m: u64, list: &mut [u8], answer: &mut [u8]) -> u32 {
+    let Some(answer) = answer.get_mut(..LONG_ANSWER) else {
+        return 0;
+    };
+    let numbers = match crate::send::send(count, position, m, list.len() / WORD) {
+        Ok(period) => {
+            put_words(&period.named, list);
+            vec![0, period.named.len() as u64, period.position]
+        }
+        Err(refusal) => vec![refusal.number, refusal.place],
+    };
+    for (number, eight) in numbers.iter().zip(answer.chunks_exact_mut(8)) {
+        eight.copy_from_slice(&number.to_le_bytes());
+    }
+    1
 }
 
 /// Runs the call if its answer fits, and answers.

@@ -1,5 +1,5 @@
-//! Document 01 worked a second time, by someone who has seen no other program for it: read, write,
-//! plan, the C calls and the print, for comparing answers.
+//! Document 01 and the requests of document 02 worked a second time, by someone who has seen no
+//! other program for them: read, write, plan, send, the C calls and the print, for comparing answers.
 //!
 //! The room is built as trees of owned nodes and every figure is a wide integer, so that nothing
 //! here shares a shape, or a mistake, with a program that scans its table.
@@ -11,6 +11,7 @@ pub mod plan;
 mod program;
 pub mod room;
 pub mod schedule;
+pub mod send;
 pub mod table;
 
 pub use program::print;

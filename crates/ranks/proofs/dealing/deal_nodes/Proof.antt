@@ -154,7 +154,7 @@ loop-again c =
     let request = c .before .before .before .before .wide .ensures .0 in
     ⊎-elim
     (λ w. deal-next t more is (root-next here within _ _ request parent (w .0 .taken) (w .2 ∙ ap (set (c .before .before .before .before .before .before .before .before .before .loop .amounts) (c .before .before .before .before .before .before .index .result)) (w .1 .ensures)) (w .3) (w .4)))
-    (λ w. deal-next t more is (inner-next here within _ _ request parent (deal-present t more is) (w .0 .left) _ (w .5 .ensures .0, (w .11 ∙ w .5 .ensures .1 .0, w .12 ∙ w .5 .ensures .1 .1)) (w .10)))
+    (λ w. deal-next t more is (inner-next here within _ _ request parent (deal-present t more is) (w .0 .left) _ (record { watts-are = w .5 .ensures .watts-are; before-is = w .11 ∙ w .5 .ensures .before-is; dealt-is = w .12 ∙ w .5 .ensures .dealt-is }) (w .10)))
     (c .if1 .came)
 
 same-length : tie.Need-same-length Inv-loop μ-loop

@@ -4,12 +4,12 @@ use mathlib.Core.Logic.{_⊎_, inl, inr}
 use mathlib.Core.Bool.{Bool, true, false}
 use mathlib.Core.List.{List, [], _∷_}
 use Prim.Native.Nat.{ℕ, zero, suc, _+_, _*_, _-_, _/_, _≤_, _<_}
-use native.Mathlib.Nat.{le-trans, mul-zero, zero-div, div-zero, mul-div-cancel, add-mul-div-left, eq-zero-or-pos, mul-le-mul-right, le-div-iff-mul-le, div-mul-le-self, add-zero, add-assoc, zero-add}
+use native.Mathlib.Nat.{le-trans, le-of-eq, mul-le-mul-left, mul-zero, zero-div, div-zero, mul-div-cancel, add-mul-div-left, eq-zero-or-pos, mul-le-mul-right, le-div-iff-mul-le, div-mul-le-self, add-zero, add-assoc, zero-add}
 use native.Mathlib.Omega.{arith}
 use Rattle.figures.specs.Figures.{total, at, sumOf}
 use Rattle.figures.specs.Sums.{on, sum}
 use Rattle.figures.proofs.Sums.{sum-cong}
-use Rattle.deals.specs.Split.{part, partsAfter, split}
+use Rattle.splits.specs.Split.{part, partsAfter, split}
 
 pub div-mono : (a b e : ℕ) → a ≤ b → a / e ≤ b / e
 div-mono a b e h = go (eq-zero-or-pos e)
@@ -74,6 +74,10 @@ part-whole x e h = go (eq-zero-or-pos e)
     go : (e ≡ 0) ⊎ (0 < e) → x * e / e ≡ x
     go (inl z) = let y : x ≡ 0 = omega arith in rw (z, div-zero, y)
     go (inr q) = mul-div-cancel x q
+
+-- A quotient of an amount by a sum of the weights is no more than the amount.
+pub quotient-most : (x u e : ℕ) → u ≤ e → 0 < e → x * u / e ≤ x
+quotient-most x u e h q = le-trans (div-mono (x * u) (x * e) e (mul-le-mul-left x h)) (le-of-eq (mul-div-cancel x q))
 
 -- ---- The split over any list of weights
 

@@ -3,52 +3,42 @@ use mathlib.Core.Path.{_≡_, refl, sym, ap, ap₂, subst, _∙_}
 use mathlib.Core.Bool.{Bool, true, false}
 use mathlib.Core.List.{List}
 use Prim.Native.Nat.{ℕ, suc, _+_, _*_, _-_, _/_, _^_, _≤_, _<_}
-use native.Mathlib.Nat.{mul-zero, sub-zero, zero-div, mul-le-mul, mul-le-mul-left, lt-of-le-of-lt, le-trans, le-of-eq}
+use native.Mathlib.Nat.{mul-zero, sub-zero, zero-div}
 use native.Mathlib.Omega.{arith}
-use lib.Dec.{eqb, lit<}
+use lib.Dec.{eqb}
 use lib.ListN.{length, set, length-set}
 use lib.Seq.{getD-set-same, getD-set-other}
 use borrow.Author.Tests.{eq-eqb, ne-eqb, eqb-true, eqb-false}
-use Rattle.figures.specs.Sums.{on, sum}
-use Rattle.rooms.specs.Table.{mostWatts, mostCords}
-use Rattle.figures.proofs.Sums.{on-yes, on-no, sum-suc, sum-up}
+use Rattle.figures.specs.Sums.{on}
+use Rattle.figures.proofs.Sums.{on-yes, on-no}
 use Rattle.figures.specs.Figures.{at}
-use Rattle.deals.specs.Split.{part}
-use Rattle.deals.proofs.Splits.{div-mono, part-whole}
+use Rattle.splits.specs.Split.{part}
+use Rattle.splits.specs.Serving.{MayServe, HasServed}
+use Rattle.splits.proofs.Splits.{part-whole}
 
 -- ---- One child
-
--- What `serve` asks and what it leaves, of an amount x, a whole weight e and a child of weight w.
-abbrev pub MayServe : ℕ → ℕ → ℕ → ℕ → List ℕ → List ℕ → Type 0
-MayServe x e w p before dealt =
-    ((p < length before) × (p < length dealt) × (at before p + w ≤ e) × (x ≤ e) × (x * e < 2 ^ 64) × (e < 2 ^ 63)) × (at dealt p ≡ x * at before p / e)
-
-abbrev pub HasServed : ℕ → ℕ → ℕ → ℕ → List ℕ → List ℕ → ℕ → List ℕ → List ℕ → Type 0
-HasServed x e w p before dealt watts before′ dealt′ =
-    (watts ≡ part x e (at before p) w) × ((before′ ≡ set before p (at before p + w)) × (dealt′ ≡ set dealt p (x * (at before p + w) / e)))
 
 -- Nothing is dealt where nothing was served.
 dealt-none : (x e b : ℕ) → b ≡ 0 → x * b / e ≡ 0
 dealt-none x e b z = ap (λ (y : ℕ). x * y / e) z ∙ ap (λ (y : ℕ). y / e) (mul-zero x) ∙ zero-div e
 
--- No more is dealt than the amount.
-pub dealt-most : (x e u : ℕ) → u ≤ e → x ≤ e → x * u / e ≤ x
-dealt-most x e u h room = le-trans (div-mono (x * u) (x * e) e (mul-le-mul-left x h)) (le-of-eq (part-whole x e room))
-
 -- A child with all the weight gets all.
 pub serve-all : (x e w p : ℕ) (before dealt : List ℕ) → at before p + w ≤ e → x ≤ e → w ≡ e → HasServed x e w p before dealt x (set before p w) (set dealt p x)
 unfolding part
 serve-all x e w p before dealt room h z =
-    let all : x * (at before p + w) / e ≡ x = ap (λ (y : ℕ). x * y / e) (let s : at before p + w ≡ e = omega arith in s) ∙ part-whole x e h in (
-      sym (ap₂ _-_ all (dealt-none x e (at before p) (omega arith)) ∙ sub-zero x),
-      (ap (set before p) (omega arith), ap (set dealt p) (sym all)),
-    )
+    let all : x * (at before p + w) / e ≡ x = ap (λ (y : ℕ). x * y / e) (let s : at before p + w ≡ e = omega arith in s) ∙ part-whole x e h in
+    record {
+      watts-are = sym (ap₂ _-_ all (dealt-none x e (at before p) (omega arith)) ∙ sub-zero x);
+      before-is = ap (set before p) (omega arith);
+      dealt-is = ap (set dealt p) (sym all);
+    }
 
 -- A child of any weight: the watts dealt grow by its part.
 pub serve-some : (x e w p : ℕ) (before dealt : List ℕ) {watts given : ℕ} → at dealt p ≡ x * at before p / e → watts ≡ x * (at before p + w) / e → given ≡ watts - at dealt p
     → HasServed x e w p before dealt given (set before p (at before p + w)) (set dealt p watts)
 unfolding part
-serve-some x e w p before dealt dealt-is watts-are given-is = (given-is ∙ ap₂ _-_ watts-are dealt-is, (refl, ap (set dealt p) watts-are))
+serve-some x e w p before dealt dealt-is watts-are given-is =
+    record { watts-are = given-is ∙ ap₂ _-_ watts-are dealt-is; before-is = refl; dealt-is = ap (set dealt p) watts-are }
 
 -- ---- The children served so far
 
@@ -114,18 +104,16 @@ module _ {count : ℕ} {some : ℕ → Type 0} {whole : ℕ → ℕ} {amounts : 
   -- The next child of the node at place p.
   module _ (p w : ℕ) (within : p < count) (is-some : some p) where
     -- What `serve` asks.
-    pub may-serve : weights p + w ≤ whole p → at amounts p ≤ whole p → at amounts p ≤ mostWatts → whole p ≤ mostCords * mostWatts → MayServe (at amounts p) (whole p) w p before dealt
-    may-serve room inside most few = (
-      (
-        omega (arith, is .before-size),
-        omega (arith, is .dealt-size),
-        omega (arith, is .before-is p is-some),
-        inside,
-        lt-of-le-of-lt (mul-le-mul most few) (lit< tt),
-        lt-of-le-of-lt few (lit< tt),
-      ),
-      is .dealt-is p is-some,
-    )
+    pub may-serve : weights p + w ≤ whole p → at amounts p ≤ whole p → at amounts p * whole p < 2 ^ 64 → MayServe (at amounts p) (whole p) w p before dealt
+    may-serve room enough fits =
+        record {
+          before-has = omega (arith, is .before-size);
+          dealt-has = omega (arith, is .dealt-size);
+          room = omega (arith, is .before-is p is-some);
+          enough = enough;
+          fits = fits;
+          dealt-is = is .dealt-is p is-some;
+        }
 
     pub served-part : part (at amounts p) (whole p) (at before p) w ≡ part (at amounts p) (whole p) (weights p) w
     served-part = ap (λ (b : ℕ). part (at amounts p) (whole p) b w) (is .before-is p is-some)
@@ -137,17 +125,17 @@ module _ {count : ℕ} {some : ℕ → Type 0} {whole : ℕ → ℕ} {amounts : 
         → Served count some whole amounts weights′ before′ dealt′
     served-next weights′ {watts} {before′} {dealt′} more has =
         record {
-          before-size = ap length (has .1 .0) ∙ length-set before p (at before p + w) ∙ is .before-size;
-          dealt-size = ap length (has .1 .1) ∙ length-set dealt p (at amounts p * (at before p + w) / whole p) ∙ is .dealt-size;
+          before-size = ap length (has .before-is) ∙ length-set before p (at before p + w) ∙ is .before-size;
+          dealt-size = ap length (has .dealt-is) ∙ length-set dealt p (at amounts p * (at before p + w) / whole p) ∙ is .dealt-size;
           before-is = λ n h. here-or-not n h (eqb n p) refl .0;
           dealt-is = λ n h. here-or-not n h (eqb n p) refl .1;
         }
       where
         here : (at before′ p ≡ weights′ p) × (at dealt′ p ≡ at amounts p * at before′ p / whole p)
         here =
-            let b-is : at before′ p ≡ at before p + w = ap (λ (l : List ℕ). at l p) (has .1 .0) ∙ getD-set-same before p (at before p + w) 0 (omega (arith, is .before-size)) in (
+            let b-is : at before′ p ≡ at before p + w = ap (λ (l : List ℕ). at l p) (has .before-is) ∙ getD-set-same before p (at before p + w) 0 (omega (arith, is .before-size)) in (
               omega (arith, is .before-is p is-some, more p, on-yes (eqb (suc p) (suc p)) w (eq-eqb (suc p) (suc p) refl)),
-              ap (λ (l : List ℕ). at l p) (has .1 .1)
+              ap (λ (l : List ℕ). at l p) (has .dealt-is)
                   ∙ getD-set-same dealt p (at amounts p * (at before p + w) / whole p) 0 (omega (arith, is .dealt-size))
                   ∙ ap (λ (y : ℕ). at amounts p * y / whole p) (sym b-is),
             )
@@ -155,14 +143,10 @@ module _ {count : ℕ} {some : ℕ → Type 0} {whole : ℕ → ℕ} {amounts : 
         here-or-not : (n : ℕ) → some n → (t : Bool) → eqb n p ≡ t → (at before′ n ≡ weights′ n) × (at dealt′ n ≡ at amounts n * at before′ n / whole n)
         here-or-not n h true q = subst (λ (k : ℕ). (at before′ k ≡ weights′ k) × (at dealt′ k ≡ at amounts k * at before′ k / whole k)) (sym (eqb-true n p q)) here
         here-or-not n h false q =
-            let b-is : at before′ n ≡ at before n = ap (λ (l : List ℕ). at l n) (has .1 .0) ∙ getD-set-other before p n (at before p + w) 0 (eqb-false n p q) in (
+            let b-is : at before′ n ≡ at before n = ap (λ (l : List ℕ). at l n) (has .before-is) ∙ getD-set-other before p n (at before p + w) 0 (eqb-false n p q) in (
               omega (arith, is .before-is n h, more n, on-no (eqb (suc p) (suc n)) w (ne-eqb (suc p) (suc n) (λ e. eqb-false n p q (omega arith)))),
-              ap (λ (l : List ℕ). at l n) (has .1 .1)
+              ap (λ (l : List ℕ). at l n) (has .dealt-is)
                   ∙ getD-set-other dealt p n (at amounts p * (at before p + w) / whole p) 0 (eqb-false n p q)
                   ∙ is .dealt-is n h
                   ∙ ap (λ (y : ℕ). at amounts n * y / whole n) (sym b-is),
             )
-
--- One more figure is within a sum over more places.
-pub sum-within : (k m : ℕ) (g : ℕ → ℕ) → k < m → sum k g + g k ≤ sum m g
-sum-within k m g h = omega (arith, sum-suc k g, sum-up (m - suc k) (suc k) m g (omega arith))

@@ -1,0 +1,123 @@
+-- The children of a node as a list: their weights summed, and what a child gets, by the sums of the weights before it.
+use mathlib.Core.Path.{_≡_, refl, sym, ap, ap₂, _∙_}
+use mathlib.Core.Bool.{Bool, true, false, cond}
+use mathlib.Core.List.{List, [], _∷_, _++_, map, append-nil}
+use Prim.Native.Nat.{ℕ, zero, suc, _+_, _<_}
+use native.Mathlib.Nat.{zero-add, add-zero, add-assoc, not-suc-le-zero, le-of-suc-le-suc}
+use native.Mathlib.Omega.{arith}
+use lib.Dec.{eqb}
+use borrow.Author.Tests.{eq-eqb, ne-eqb}
+use Rattle.figures.specs.Sums.{on, sum}
+use Rattle.figures.specs.Figures.{total, sumOf}
+use Rattle.figures.proofs.Sums.{on-yes, sum-up, sum-none, up}
+use Rattle.figures.proofs.Lists.{total-append}
+use Rattle.splits.specs.Split.{part, partsAfter, split}
+use Rattle.deals.specs.Metrics.{Deal, Metrics, atLevel, overNodes, overCords}
+use Rattle.deals.specs.Dealing.{Child, node, cord, same, placesFrom, children, nodeOver, cordOver, weight, weightsOf, weightSum, beside, partOf}
+
+-- The places from the first on, as the places below.
+up-first : (k : ℕ) (g : ℕ → ℕ) → up k 0 g ≡ sum k g
+up-first k g = omega (arith, sum-up k 0 k g (zero-add k), sum-none g)
+
+-- ---- Any children of one kind, by weights of any kind
+
+module _ (w : Child → ℕ) where
+  sumOf-map : (l : List Child) → sumOf (map w l) ≡ total w l
+  unfolding total
+  sumOf-map [] = refl
+  sumOf-map (a ∷ l) = ap (λ (z : ℕ). w a + z) (sumOf-map l)
+
+  module _ (kind : ℕ → Child) where
+    total-places : (test : ℕ → Bool) (k a : ℕ) → total w (map kind (placesFrom k a test)) ≡ up k a (λ i. on (test i) (w (kind i)))
+    unfolding placesFrom total up
+    total-places test zero a = refl
+    total-places test (suc k) a = go (test a) (total-places test k (suc a))
+      where
+        go : (t : Bool) → total w (map kind (placesFrom k (suc a) test)) ≡ up k (suc a) (λ i. on (test i) (w (kind i)))
+            → total w (map kind (cond t (a ∷ placesFrom k (suc a) test) (placesFrom k (suc a) test))) ≡ on t (w (kind a)) + up k (suc a) (λ i. on (test i) (w (kind i)))
+        go true ih = ap (λ (z : ℕ). w (kind a) + z) ih
+        go false ih = ih ∙ sym (zero-add _)
+
+    module _ (x e : ℕ) (rest : List Child) where
+      -- What stands beside a child, of the parts that follow a running sum.
+      parted : Child → ℕ → List ℕ → ℕ
+      parted child c places = beside child (map kind places ++ rest) (partsAfter x e c (map w (map kind places ++ rest)))
+
+      -- Children of the other kind are passed over.
+      beside-others : (child : Child) → ((i : ℕ) → same child (kind i) ≡ false) → (places : List ℕ) (c : ℕ)
+          → parted child c places ≡ beside child rest (partsAfter x e (c + total w (map kind places)) (map w rest))
+      unfolding parted beside partsAfter total
+      beside-others child other [] c = ap (λ (z : ℕ). beside child rest (partsAfter x e z (map w rest))) (sym (add-zero c))
+      beside-others child other (p ∷ places) c =
+          ap (λ (t : Bool). cond t (part x e c (w (kind p))) (parted child (c + w (kind p)) places)) (other p)
+          ∙ beside-others child other places (c + w (kind p))
+          ∙ ap (λ (z : ℕ). beside child rest (partsAfter x e z (map w rest))) (add-assoc c (w (kind p)) (total w (map kind places)))
+
+      module _ (same-kind : (i h : ℕ) → same (kind i) (kind h) ≡ eqb i h) (test : ℕ → Bool) where
+        -- Beside a child stands its part after the weights of those before it.
+        beside-places : (k a i n c : ℕ) → a + i ≡ n → i < k → test n ≡ true
+            → parted (kind n) c (placesFrom k a test) ≡ part x e (c + up i a (λ h. on (test h) (w (kind h)))) (w (kind n))
+        unfolding placesFrom parted beside partsAfter up
+        beside-places zero a i n c q l picked = absurd (not-suc-le-zero l)
+        beside-places (suc k) a zero n c q l picked =
+            let here : a ≡ n = omega arith in
+            ap (λ (t : Bool). parted (kind n) c (cond t (a ∷ placesFrom k (suc a) test) (placesFrom k (suc a) test))) (ap test here ∙ picked)
+            ∙ ap (λ (t : Bool). cond t (part x e c (w (kind a))) (parted (kind n) (c + w (kind a)) (placesFrom k (suc a) test))) (same-kind n a ∙ eq-eqb n a (sym here))
+            ∙ ap₂ (λ (z i : ℕ). part x e z (w (kind i))) (sym (add-zero c)) here
+        beside-places (suc k) a (suc i) n c q l picked =
+            go (test a) (λ z. beside-places k (suc a) i n z (omega arith) (le-of-suc-le-suc l) picked)
+          where
+            go : (t : Bool) → ((z : ℕ) → parted (kind n) z (placesFrom k (suc a) test) ≡ part x e (z + up i (suc a) (λ h. on (test h) (w (kind h)))) (w (kind n)))
+                → parted (kind n) c (cond t (a ∷ placesFrom k (suc a) test) (placesFrom k (suc a) test))
+                ≡ part x e (c + (on t (w (kind a)) + up i (suc a) (λ h. on (test h) (w (kind h))))) (w (kind n))
+            go true ih =
+                ap (λ (t : Bool). cond t (part x e c (w (kind a))) (parted (kind n) (c + w (kind a)) (placesFrom k (suc a) test))) (same-kind n a ∙ ne-eqb n a (λ z. omega arith))
+                ∙ ih (c + w (kind a))
+                ∙ ap (λ (z : ℕ). part x e z (w (kind n))) (add-assoc c (w (kind a)) _)
+            go false ih = ih c ∙ ap (λ (z : ℕ). part x e (c + z) (w (kind n))) (sym (zero-add _))
+
+-- ---- The children of a node
+
+module _ (d : Deal) (f : Metrics) (n j : ℕ) where
+  nodesAt : List Child
+  nodesAt = map node (placesFrom (d .nodes) 0 (λ m. eqb (d .parent m) (suc n)))
+
+  cordsAt : List Child
+  cordsAt = map cord (placesFrom (d .cords) 0 (λ c. eqb (d .node c) (suc n)))
+
+  nodes-total : total (weight d f j) nodesAt ≡ overNodes d n (λ m. nodeOver f m j)
+  unfolding nodesAt
+  nodes-total = total-places (weight d f j) node (λ m. eqb (d .parent m) (suc n)) (d .nodes) 0 ∙ up-first (d .nodes) _
+
+  -- All weights: those of the child nodes, and of the cords on the node.
+  abbrev pub allWeights : ℕ
+  allWeights = overNodes d n (λ m. nodeOver f m j) + overCords d n j (cordOver d)
+
+  pub weightSum-is : weightSum d f n j ≡ allWeights
+  unfolding weightSum weightsOf children nodesAt cordsAt
+  weightSum-is =
+      sumOf-map (weight d f j) (children d n)
+      ∙ total-append (weight d f j) nodesAt cordsAt
+      ∙ ap₂ _+_ nodes-total (total-places (weight d f j) cord (λ c. eqb (d .node c) (suc n)) (d .cords) 0 ∙ up-first (d .cords) _)
+
+  -- A child node gets its part after the child nodes before it.
+  pub partOf-node : (x m : ℕ) → m < d .nodes → d .parent m ≡ suc n
+      → partOf d f n j x (node m) ≡ part x allWeights (sum m (λ h. on (eqb (d .parent h) (suc n)) (nodeOver f h j))) (nodeOver f m j)
+  unfolding partOf split weightSum weightsOf children parted cordsAt
+  partOf-node x m l e =
+      beside-places (weight d f j) node x (weightSum d f n j) cordsAt (λ i h. refl) (λ h. eqb (d .parent h) (suc n))
+      (d .nodes) 0 m m 0 (zero-add m) l (eq-eqb (d .parent m) (suc n) e)
+      ∙ ap₂ (λ (w z : ℕ). part x w z (nodeOver f m j)) weightSum-is (zero-add _ ∙ up-first m _)
+
+  -- A cord of the level gets its part after all child nodes and the cords before it.
+  pub partOf-cord : (x c : ℕ) → c < d .cords → d .node c ≡ suc n → d .level c ≡ j
+      → partOf d f n j x (cord c)
+      ≡ part x allWeights (overNodes d n (λ m. nodeOver f m j) + sum c (λ h. on (eqb (d .node h) (suc n)) (atLevel d j (cordOver d) h))) (cordOver d c)
+  unfolding partOf split weightSum weightsOf children parted nodesAt cordsAt
+  partOf-cord x c l e same-level =
+      beside-others (weight d f j) node x (weightSum d f n j) cordsAt (cord c) (λ i. refl) (placesFrom (d .nodes) 0 (λ m. eqb (d .parent m) (suc n))) 0
+      ∙ ap₂ (λ (z : ℕ) (l : List Child). beside (cord c) l (partsAfter x (weightSum d f n j) z (map (weight d f j) l))) (zero-add _ ∙ nodes-total) (sym (append-nil cordsAt))
+      ∙ beside-places (weight d f j) cord x (weightSum d f n j) [] (λ i h. refl) (λ h. eqb (d .node h) (suc n))
+      (d .cords) 0 c c (overNodes d n (λ m. nodeOver f m j)) (zero-add c) l (eq-eqb (d .node c) (suc n) e)
+      ∙ ap₂ (λ (w z : ℕ). part x w (overNodes d n (λ m. nodeOver f m j) + z) (atLevel d j (cordOver d) c)) weightSum-is (up-first c _)
+      ∙ ap (part x allWeights _) (on-yes (eqb (d .level c) j) (cordOver d c) (eq-eqb (d .level c) j same-level))

@@ -1,0 +1,203 @@
+// Caps over a slow bus: which servers the messages of a period go to, and where the next period begins.
+ghost use mathlib.Core.Path.{_≡_};
+ghost use mathlib.Core.Bool.{not};
+ghost use Prim.Native.Nat.{_≤_, _<_, min};
+ghost use lib.ListN.{length};
+ghost use lib.Seq.{sets};
+ghost use Rattle.sender.specs.Period.{following, serversFrom, positionAfter};
+ghost use Rattle.sender.specs.Outcome.{mostServers, inRange, sending, answerOf, listAfter, refusalNumber, refusalPlace, sentNumber, sentFigure};
+ghost use Rattle.sender.specs.Call.{sentBytes, SendCall};
+
+// A room has at most so many servers.
+const MOST_SERVERS: u64 = 512;
+
+// The answer of the C call is three numbers of eight bytes each.
+const ANSWER_BYTES: usize = 24;
+
+// Why a period is turned back: m is 0; the position or the count is out of range; or the list is too short for as many servers as would
+// be named.
+pub enum SendRefusal {
+    NoMessages,
+    PositionOutOfRange,
+    ListTooShort(u64),
+}
+
+// What a period comes to: how many servers were named and the new position, or why it is turned back.
+pub enum Sent {
+    Accepted(u64, u64),
+    Refused(SendRefusal),
+}
+
+impl SendRefusal {
+    // The refusal's number.
+    pub fn number(self) -> u64
+        ensures { λ r. ⌜ r ≡ refusalNumber self ⌝ }
+    {
+        match self {
+            SendRefusal::NoMessages => 27,
+            SendRefusal::PositionOutOfRange => 28,
+            SendRefusal::ListTooShort(_) => 12,
+        }
+    }
+
+    // The refusal's place.
+    pub fn place(self) -> u64
+        ensures { λ r. ⌜ r ≡ refusalPlace self ⌝ }
+    {
+        match self {
+            SendRefusal::NoMessages => 0,
+            SendRefusal::PositionOutOfRange => 1,
+            SendRefusal::ListTooShort(needed) => needed,
+        }
+    }
+}
+
+impl Sent {
+    // The refusal's number, or 0.
+    pub fn number(self) -> u64
+        ensures { λ r. ⌜ r ≡ sentNumber self ⌝ }
+    {
+        match self {
+            Sent::Accepted(_, _) => 0,
+            Sent::Refused(refusal) => refusal.number(),
+        }
+    }
+
+    // How many servers were named, or the refusal's place.
+    pub fn figure(self) -> u64
+        ensures { λ r. ⌜ r ≡ sentFigure self ⌝ }
+    {
+        match self {
+            Sent::Accepted(named, _) => named,
+            Sent::Refused(refusal) => refusal.place(),
+        }
+    }
+}
+
+// Send: the next m of `count` servers, from the position on, at the front of the list, none of them twice. Refused, it leaves the list
+// unchanged.
+pub fn send(count: u64, position: u64, m: u64, list: &mut [u32]) -> Sent
+    ensures { λ r. ⌜ r ≡ answerOf (sending count position m (length (now (list .entry)))) ⌝ }
+    ensures { λ _. ⌜ now (list .exit) ≡ listAfter (sending count position m (length (now (list .entry)))) (now (list .entry)) ⌝ }
+{
+    let sent = answer_for(count, position, m, list.len());
+    let Sent::Accepted(many, _) = sent else {
+        return sent;
+    };
+    let named = many as usize;
+    name_servers(count, position, &mut list[..named]);
+    sent
+}
+
+// Send, called from C: the list in bytes, and the answer in a buffer of its own. Returns 1; or 0 where that buffer is too short.
+pub fn send_bytes(count: u64, position: u64, m: u64, list: &mut [u8], answer: &mut [u8]) -> u32
+    ensures { λ r. ⌜ SendCall count position m (now (list .entry)) (now (answer .entry)) r (now (list .exit)) (now (answer .exit)) ⌝ }
+{
+    let mut servers = [0u32; 512];
+    send_by(count, position, m, &mut servers, list, answer)
+}
+
+// Send by way of a list of words, of which those named are stored.
+fn send_by(
+    count: u64,
+    position: u64,
+    m: u64,
+    servers: &mut [u32],
+    list: &mut [u8],
+    answer: &mut [u8],
+) -> u32
+    requires { ⌜ mostServers ≤ length (now servers) ⌝ }
+    ensures { λ r. ⌜ SendCall count position m (now (list .entry)) (now (answer .entry)) r (now (list .exit)) (now (answer .exit)) ⌝ }
+{
+    if answer.len() < ANSWER_BYTES {
+        return 0;
+    }
+    let sent = answer_for(count, position, m, list.len() / 4);
+    tell(sent, answer);
+    let Sent::Accepted(many, _) = sent else {
+        return 1;
+    };
+    let named = many as usize;
+    name_servers(count, position, &mut servers[..named]);
+    words::store(&servers[..named], list);
+    1
+}
+
+// The answer, at the front of its buffer, which has space for it.
+fn tell(sent: Sent, answer: &mut [u8])
+    requires { ⌜ 24 ≤ length (now answer) ⌝ }
+    ensures { λ _. ⌜ now (answer .exit) ≡ sets (now (answer .entry)) 0 (sentBytes sent) ⌝ }
+{
+    words::store_answer(sent.number(), sent.figure(), answer);
+    if let Sent::Accepted(_, next) = sent {
+        words::store_number(next, answer, 16);
+    }
+}
+
+// The answer on a list of so many words.
+fn answer_for(count: u64, position: u64, m: u64, space: usize) -> Sent
+    ensures { λ r. ⌜ r ≡ answerOf (sending count position m space) ⌝ }
+{
+    let outside = out_of_range(count, position);
+    if m == 0 {
+        return Sent::Refused(SendRefusal::NoMessages);
+    }
+    if outside {
+        return Sent::Refused(SendRefusal::PositionOutOfRange);
+    }
+    let named = least(m, count);
+    if (space as u64) < named {
+        return Sent::Refused(SendRefusal::ListTooShort(named));
+    }
+    Sent::Accepted(named, position_after(count, position, named))
+}
+
+// Whether the position is not below the count, or the count not from 1 to 512. A count of 0 is above no position.
+fn out_of_range(count: u64, position: u64) -> bool
+    ensures { λ r. ⌜ r ≡ not (inRange count position) ⌝ }
+{
+    count <= position || MOST_SERVERS < count
+}
+
+// The position after so many servers, no more than there are.
+fn position_after(count: u64, position: u64, named: u64) -> u64
+    requires { ⌜ position < count ⌝ }
+    requires { ⌜ named ≤ count ⌝ }
+    ensures { λ r. ⌜ r ≡ positionAfter count position named ⌝ }
+{
+    // So many servers are left up to the last; then the first follows.
+    let left = count - position;
+    if named < left {
+        position + named
+    } else {
+        named - left
+    }
+}
+
+// Fills the list with servers, from the position on.
+fn name_servers(count: u64, position: u64, list: &mut [u32])
+    requires { ⌜ position < count ⌝ }
+    requires { ⌜ count ≤ mostServers ⌝ }
+    ensures { λ _. ⌜ now (list .exit) ≡ serversFrom count position (length (now (list .entry))) ⌝ }
+{
+    let mut server = position;
+    for i in 0..list.len() {
+        list[i] = server as u32;
+        server = follow(count, server);
+    }
+}
+
+// The server that follows one.
+fn follow(count: u64, server: u64) -> u64
+    requires { ⌜ server < count ⌝ }
+    ensures { λ r. ⌜ (r ≡ following count server) × (r < count) ⌝ }
+{
+    if server + 1 < count { server + 1 } else { 0 }
+}
+
+// The lesser of two counts.
+fn least(a: u64, b: u64) -> u64
+    ensures { λ r. ⌜ r ≡ min a b ⌝ }
+{
+    if a < b { a } else { b }
+}

@@ -1,5 +1,5 @@
 /*
- * hutplan: room sheets, room tables and power plans of equipment huts.
+ * hutplan: room sheets, room tables, power plans and breaker schedules of equipment huts.
  *
  * Link with libcapi.a, which `rt staticlib capi` puts into target/staticlib. It is built for Linux
  * on x86-64. The calls keep no state, take no memory from the heap and call nothing of the C
@@ -13,8 +13,8 @@
  * The answer is sixteen bytes, two numbers of eight bytes each, low byte first:
  *   bytes 0 to 7    0 if the input was accepted, else the number of the refusal (see below);
  *   bytes 8 to 15   refused: the refusal's place;
- *                   accepted: the count written, of words (hutplan_read) or bytes (hutplan_write),
- *                   or the freed watts (hutplan_plan).
+ *                   accepted: the count written, of words (hutplan_read, hutplan_schedule) or bytes
+ *                   (hutplan_write), or the freed watts (hutplan_plan).
  * Bytes past the sixteenth are not touched. If the answer buffer is shorter than sixteen bytes, a
  * call returns 0 and changes nothing. In every other case it returns 1. The answer of hutplan_send
  * has eight bytes more (see there).
@@ -33,8 +33,8 @@
  * There is no other duty: any bytes, of any length, are good input.
  *
  * Stack, as measured on x86-64 (docs/PERFORMANCE.md has the figures): about 25 KB for hutplan_read
- * and for hutplan_write, about 130 KB for hutplan_plan and about 2 KB for hutplan_send. It does not
- * grow with the input.
+ * and for hutplan_write, about 130 KB for hutplan_plan, about 8 KB for hutplan_schedule and about
+ * 2 KB for hutplan_send. It does not grow with the input.
  */
 #ifndef HUTPLAN_H
 #define HUTPLAN_H
@@ -75,10 +75,16 @@ enum hutplan_refusal {
     HUTPLAN_DEMAND_TOO_LARGE = 11,     /* a demand above 16,777,215; place: the first such index */
 
     /* The output buffers. */
-    HUTPLAN_OUTPUT_TOO_SHORT = 12,     /* place: the length needed, in words (hutplan_read),
-                                          bytes (hutplan_write), grants (hutplan_plan) or servers
-                                          named (hutplan_send) */
+    HUTPLAN_OUTPUT_TOO_SHORT = 12,     /* place: the length needed, in words (hutplan_read,
+                                          hutplan_schedule), bytes (hutplan_write), grants
+                                          (hutplan_plan) or servers named (hutplan_send) */
     HUTPLAN_CAPS_TOO_SHORT = 13,       /* the cap list; place: the count of servers */
+
+    /* Lines of a schedule, line by line (hutplan_schedule), all before 12. Place: the line. */
+    HUTPLAN_NOT_A_LINE = 24,           /* not of the form, or a number above 9,999 */
+    HUTPLAN_NOT_A_SIZE = 25,           /* the amperes are none of the 37 sizes */
+    HUTPLAN_LINE_OUT_OF_RANGE = 26,    /* the volts or the parent are out of range; a 513th line;
+                                          no lines at all (place 0) */
 
     /* The numbers of hutplan_send, before its list. */
     HUTPLAN_NO_MESSAGES = 27,          /* m is 0; place: 0 */
@@ -106,6 +112,9 @@ enum hutplan_refusal {
 #define HUTPLAN_SEND_LIST_BYTES 2048
 #define HUTPLAN_ANSWER_BYTES 16
 #define HUTPLAN_SEND_ANSWER_BYTES 24
+
+/* The table of a schedule has no servers: at most 1,027 words. */
+#define HUTPLAN_SCHEDULE_TABLE_BYTES 4108
 
 /*
  * Read: turns the bytes of a sheet into the words of its table.
@@ -146,6 +155,23 @@ uint32_t hutplan_plan(const uint8_t *table, size_t table_len,
                       uint8_t *grants, size_t grants_len,
                       uint8_t *caps, size_t caps_len,
                       uint8_t *answer, size_t answer_len);
+
+/*
+ * Schedule: turns a text, each line of which describes a breaker, into the words of a table.
+ *
+ * A line has three numbers in decimal, none with a zero in front (zero itself is "0"): the number of
+ * the breaker's parent, or 0; its amperes; its volts. One space parts two of them, and a newline
+ * ends the line, also the last. Breakers are numbered from 1 in the order of their lines, and a
+ * parent's number is below that of the line. The amperes are one of the 37 sizes of NEC 240.6(A),
+ * 2020 edition, and the volts run from 100 to 480. A breaker's rating is amperes times volts.
+ * The table has version 1 and no servers; hutplan_write and hutplan_plan accept it.
+ *
+ * Refusals: for each line in turn 24, 25 and 26; then 12 if table_len / 4 is less than the count of
+ * words. Only the first 7,695 bytes of a text decide, those of 513 lines at their longest.
+ */
+uint32_t hutplan_schedule(const uint8_t *text, size_t text_len,
+                          uint8_t *table, size_t table_len,
+                          uint8_t *answer, size_t answer_len);
 
 /*
  * Send: the servers that a period's messages go to, over a bus that carries m messages a period.

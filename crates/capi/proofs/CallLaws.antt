@@ -8,35 +8,18 @@ use lib.ListN.{length, take, drop, length-append}
 use lib.Seq.{sets, length-sets, length-take-le, take-all, take-nil, take-length, take-append-le}
 use Rattle.words.specs.Bytes.{wordsOf, bytesOf, answered}
 use Rattle.words.proofs.Lists.{take-sets}
-use Rattle.words.proofs.Bytes.{holdsAnswer-short, holdsAnswer-long, answered-short, take-loaded}
+use Rattle.words.proofs.Bytes.{take-loaded}
+use Rattle.words.proofs.Calls.{call-done}
 use Rattle.rooms.specs.Outcome.{Outcome, answerOf, answerNumber, answerFigure, after, reading, readingFirst, writing}
 use Rattle.rooms.specs.declared.Answer.{Answer}
 use Rattle.rooms.specs.declared.Answer.the-variants.{Accepted, Refused}
 use Rattle.rooms.proofs.Reach.{mostWords}
 use Rattle.rooms.proofs.Outcomes.{front-length, refused-told}
 use Rattle.rooms.proofs.Lent.{reading-first, reading-fits, Stands, writing-cut}
-use Rattle.capi.specs.Calls.{Call, OutcomeCall, ReadCall, WriteCall, bytesAfter}
+use Rattle.capi.specs.Calls.{OutcomeCall, ReadCall, WriteCall, bytesAfter}
 use Rattle.capi.specs.Counts.{writtenCount}
 
 -- ---- All calls
-
-module _ (number figure : ℕ) (filled output answer : List ℕ) where
-  -- Where the answer's buffer is too short, nothing is changed.
-  pub call-short : length answer < 16 → Call number figure filled output answer 0 output answer
-  call-short h =
-      let short = holdsAnswer-short answer h in
-      record { returned = rw short; output-after = rw short; answer-after = sym (answered-short number figure answer h) }
-
-  -- Where it is long enough, it has the answer, and the output is filled.
-  pub call-done : {output′ answer′ : List ℕ} → 16 ≤ length answer → output′ ≡ filled → answer′ ≡ answered number figure answer
-      → Call number figure filled output answer 1 output′ answer′
-  call-done h o a =
-      let long = holdsAnswer-long answer h in
-      record { returned = rw long; output-after = rw long o; answer-after = a }
-
--- An answer is stored by its number and its figure.
-pub answer-told : (answer : List ℕ) {answer′ : List ℕ} {number figure k v : ℕ} → k ≡ number → v ≡ figure → answer′ ≡ answered k v answer → answer′ ≡ answered number figure answer
-answer-told answer n f a = rw (n, f) at a
 
 -- An operation by way of lists of its own comes to the same outcome.
 pub outcome-done : (fill : Outcome → List ℕ → List ℕ) (output answer : List ℕ) {outcome own : Outcome} {told : Answer} {output′ answer′ : List ℕ} → own ≡ outcome

@@ -22,7 +22,8 @@ use Rattle.deals.proofs.Plans.{plan-demand-count}
 use Rattle.deals.proofs.Lent.{plan-inputs-cut, plan-lists-cut, plan-written}
 use Rattle.capi.specs.Calls.{PlannedCall, PlanCall, grantBytesAfter, capBytesAfter}
 use Rattle.capi.specs.Counts.{plannedCount, cordCount}
-use Rattle.capi.proofs.CallLaws.{call-short, call-done, answer-told, count-fits, written-stored}
+use Rattle.words.proofs.Calls.{call-short, call-done, answer-told}
+use Rattle.capi.proofs.CallLaws.{count-fits, written-stored}
 
 -- ---- What an outcome writes
 

@@ -8,18 +8,10 @@ use Prim.Native.Nat.{ℕ, _/_}
 use lib.ListN.{length}
 use lib.Seq.{sets}
 use Rattle.words.specs.Bytes.{wordsOf, bytesOf, holdsAnswer, answered}
+use Rattle.words.specs.Calls.{Call}
 use Rattle.rooms.specs.Outcome.{Outcome, accepted, refused, answerOf, answerNumber, answerFigure, after, reading, writing}
 use Rattle.deals.specs.Plan.{plan, planNumber, planFigure}
 use Rattle.deals.specs.Plan as plan
-
--- ---- All calls
-
--- What a call returns and leaves, by its operation's number and figure and by what the operation makes of an output buffer: 1, with
--- the answer stored and the output filled; or 0, with nothing changed, where the answer's buffer is too short.
-pub record Call (number figure : ℕ) (filled output answer : List ℕ) (r : ℕ) (output′ answer′ : List ℕ) : Type 0 where
-  pub returned : r ≡ cond (holdsAnswer answer) 1 0
-  pub output-after : output′ ≡ cond (holdsAnswer answer) filled output
-  pub answer-after : answer′ ≡ answered number figure answer
 
 -- ---- Read and Write
 

@@ -24,6 +24,7 @@ use deals::Planned;
 use rooms::Answer;
 use rooms::DECIDING_WORDS;
 
+pub mod schedule;
 pub mod send;
 
 // An answer is two numbers of eight bytes each.

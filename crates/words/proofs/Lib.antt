@@ -1,4 +1,5 @@
 -- The laws of `words`, for its own proofs and for the crates above it.
 pub mod Lists
 pub mod Bytes
+pub mod Calls
 pub mod Examples

@@ -57,7 +57,7 @@ pub fn send(count: u64, position: u64, m: u64, list: &mut [u8], answer: &mut [u8
 }
 
 /// Runs the call if its answer fits, and answers.
-fn answered(answer: &mut [u8], call: impl FnOnce() -> Result<u64, Refusal>) -> u32 {
+pub(crate) fn answered(answer: &mut [u8], call: impl FnOnce() -> Result<u64, Refusal>) -> u32 {
     let Some(answer) = answer.get_mut(..ANSWER) else {
         return 0;
     };
@@ -82,7 +82,7 @@ fn words(list: &[u8]) -> Vec<u32> {
 }
 
 /// The words at the front of a list with room for them.
-fn put_words(words: &[u32], list: &mut [u8]) {
+pub(crate) fn put_words(words: &[u32], list: &mut [u8]) {
     for (word, four) in words.iter().zip(list.chunks_exact_mut(WORD)) {
         four.copy_from_slice(&word.to_le_bytes());
     }

@@ -11,6 +11,7 @@ pub mod number;
 pub mod plan;
 mod program;
 pub mod room;
+pub mod schedule;
 pub mod send;
 pub mod table;
 

@@ -3,7 +3,8 @@ use mathlib.Core.Path.{sym}
 use native.Mathlib.Omega.{arith}
 use lib.Seq.{length-take-le}
 use Rattle.rooms.proofs.Lent.{first-stands}
-use Rattle.capi.proofs.CallLaws.{call-short, read-fits, read-done}
+use Rattle.words.proofs.Calls.{call-short}
+use Rattle.capi.proofs.CallLaws.{read-fits, read-done}
 use borrow.Author.Needs.{needs}
 use Rattle.capi.proofs.read_by.Statement.{statement}
 use Rattle.capi.proofs.read_by.Tie as tie

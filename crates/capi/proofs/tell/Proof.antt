@@ -1,5 +1,5 @@
 -- `tell` meets its contract: number and figure are those of the answer.
-use Rattle.capi.proofs.CallLaws.{answer-told}
+use Rattle.words.proofs.Calls.{answer-told}
 use borrow.Author.Needs.{needs}
 use Rattle.capi.proofs.tell.Statement.{statement}
 use Rattle.capi.proofs.tell.Tie as tie

@@ -1,6 +1,7 @@
 -- `write_by` meets its contract: the words that are loaded decide, and the rest is what `rooms::write` ensures.
 use native.Mathlib.Omega.{arith}
-use Rattle.capi.proofs.CallLaws.{call-short, loaded-length, write-done}
+use Rattle.words.proofs.Calls.{call-short}
+use Rattle.capi.proofs.CallLaws.{loaded-length, write-done}
 use borrow.Author.Needs.{needs}
 use Rattle.capi.proofs.write_by.Statement.{statement}
 use Rattle.capi.proofs.write_by.Tie as tie

@@ -1,0 +1,3 @@
+-- The laws of `hutschedule`.
+pub mod Prints
+pub mod Promises

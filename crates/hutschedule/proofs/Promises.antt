@@ -1,0 +1,11 @@
+-- What specs/Promises.antt states.
+use mathlib.Core.Path.{_≡_, ap, _∙_}
+use native.Mathlib.Omega.{arith}
+use Rattle.schedules.specs.Schedule.{mostWords}
+use Rattle.schedules.proofs.Promises.{first-bytes-decide}
+use Rattle.hutschedule.specs.Printed.{mostInput, printOf, printed}
+use Rattle.hutschedule.specs.Promises.{PrintsInput}
+
+pub prints-input : PrintsInput
+unfolding printed
+prints-input input text count same = ap printed same ∙ ap printOf (first-bytes-decide mostInput input mostWords (omega arith))

@@ -1,0 +1,3 @@
+-- What a reader must believe of `hutschedule`.
+pub mod Printed
+pub mod Promises

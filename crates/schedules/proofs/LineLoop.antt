@@ -1,0 +1,104 @@
+-- The loop of `read_lines`: the lines in front of `at` are stored; those from there on complete the answer and the list.
+use mathlib.Core.Path.{_≡_, refl, sym, ap, _∙_}
+use mathlib.Core.List.{List, [], _∷_}
+use Prim.Native.Nat.{ℕ, zero, suc, _+_, _-_, _*_, _≤_, _<_}
+use native.Mathlib.Omega.{arith}
+use native.Mathlib.Numerals.{add-one}
+use lib.ListN.{length, set, length-set}
+use lib.Seq.{sets}
+use borrow.Author.Tests.{le-leb, lt-leb}
+use Rattle.rooms.specs.Table.{mostNodes}
+use Rattle.schedules.specs.Text.{line}
+use Rattle.schedules.specs.Schedule.{rating, Judgement, passed, failed, judged, whole, refused, Lines, onto, linesFrom, linesOf, nodeWords}
+use Rattle.schedules.specs.Told.{toldNode, counted, toldLines}
+use Rattle.schedules.proofs.LineLaws.{passed-is, range-is, node-told, refusal-told}
+use Rattle.schedules.specs.declared.Entry.{Entry}
+use Rattle.schedules.specs.declared.Refusal.{Refusal}
+use Rattle.schedules.specs.declared.lines.Judged.{Judged}
+use Rattle.schedules.specs.declared.lines.Judged.the-variants.{Node, Refused}
+use Rattle.schedules.specs.declared.lines.Counted.{Counted}
+use Rattle.schedules.specs.declared.lines.Counted.the-variants as counts
+
+-- The lines of a text from a place on, one by one.
+pub linesFrom-end : (most : ℕ) (text : List ℕ) (place at : ℕ) → length text ≤ at → linesFrom most text place at ≡ record { entries = []; ending = whole }
+unfolding linesFrom
+linesFrom-end zero text place at h = refl
+linesFrom-end (suc most) text place at h = rw (le-leb (length text) at h)
+
+pub linesFrom-some : (most : ℕ) (text : List ℕ) (place at : ℕ) → at < length text
+    → linesFrom (suc most) text place at ≡ onto (judged place (line text at)) (λ next. linesFrom most text (suc place) next)
+unfolding linesFrom
+linesFrom-some most text place at h = rw (lt-leb (length text) at h)
+
+-- A node's two words, stored one after the other, and then those of the nodes after it.
+node-stored : (words words₁ words₂ : List ℕ) (index next parent watts : ℕ) (e : Entry) (rest : List Entry) → e .parent ≡ parent → rating e ≡ watts → next ≡ suc index
+    → words₁ ≡ set words index parent → words₂ ≡ set words₁ next watts
+    → sets words₂ (suc (suc index)) (nodeWords rest) ≡ sets words index (nodeWords (e ∷ rest))
+unfolding nodeWords
+node-stored words words₁ words₂ index next parent watts e rest p w n s₁ s₂ = rw (s₂, s₁, n, ← p, ← w)
+
+pub record Reading (text words₀ words : List ℕ) (at count : ℕ) : Type 0 where
+  pub few : count ≤ mostNodes
+  pub size : length words ≡ length words₀
+  pub answered : counted (count + length (linesFrom (suc mostNodes - count) text count at .entries)) (linesFrom (suc mostNodes - count) text count at .ending)
+      ≡ toldLines (linesOf text)
+  pub stored : sets words (2 + 2 * count) (nodeWords (linesFrom (suc mostNodes - count) text count at .entries))
+      ≡ sets words₀ 2 (nodeWords (linesOf text .entries))
+
+pub begin : (text words : List ℕ) → Reading text words words 0 0
+begin text words =
+    record {
+      few = omega arith;
+      size = refl;
+      answered = ap (λ (n : ℕ). counted n (linesOf text .ending)) (omega arith);
+      stored = refl;
+    }
+
+module _ (text words₀ words : List ℕ) (at count : ℕ) (inv : Reading text words₀ words at count) where
+  pub end : length text ≤ at
+      → (counts.Lines count ≡ toldLines (linesOf text)) × (words ≡ sets words₀ 2 (nodeWords (linesOf text .entries)))
+  unfolding nodeWords
+  end h =
+      let e = linesFrom-end (suc mostNodes - count) text count at h in
+      (ap counts.Lines (omega arith) ∙ (rw e at (inv .answered)), rw e at (inv .stored))
+
+  module _ (h : at < length text) where
+    -- The next line, followed by those after it.
+    rest : (j : Judgement) → judged count (line text at) ≡ j
+        → linesFrom (suc mostNodes - count) text count at ≡ onto j (λ next. linesFrom (mostNodes - count) text (suc count) next)
+    rest j e =
+        let l : suc mostNodes - count ≡ suc (mostNodes - count) = omega (arith, inv .few) in
+        rw (l, ← e) (linesFrom-some (mostNodes - count) text count at h)
+
+    pub stop : {r : Judged} {refusal : Refusal} → r ≡ toldNode (judged count (line text at)) → r ≡ Refused refusal
+        → (counts.Refused refusal ≡ toldLines (linesOf text)) × (words ≡ sets words₀ 2 (nodeWords (linesOf text .entries)))
+    unfolding nodeWords
+    stop {refusal = refusal} d q =
+        let e = rest (failed refusal) (refusal-told (judged count (line text at)) d q) in
+        (rw e at (inv .answered), rw e at (inv .stored))
+
+    module _ {r : Judged} {parent watts next : ℕ} (d : r ≡ toldNode (judged count (line text at))) (q : r ≡ Node parent watts next) where
+      -- A line that passes is none past the 512th.
+      pub few-lines : count < mostNodes
+      few-lines =
+          let told = node-told (judged count (line text at)) d q in
+          range-is count (told .entry) (passed-is count (line text at) (told .entry) next (told .is) .range) .few
+
+      pub again : (words₁ words₂ : List ℕ) → words₁ ≡ set words (2 + 2 * count) parent → words₂ ≡ set words₁ (3 + 2 * count) watts
+          → Reading text words₀ words₂ next (count + 1)
+      unfolding nodeWords
+      again words₁ words₂ w₁ w₂ =
+          let told = node-told (judged count (line text at)) d q in
+          let e = rest (passed (told .entry) next) (told .is) in
+          let after = linesFrom (mostNodes - count) text (suc count) next in
+          let left : suc mostNodes - suc count ≡ mostNodes - count = omega (arith, few-lines) in
+          let k : suc count + length (after .entries) ≡ count + suc (length (after .entries)) = omega arith in
+          let i : 2 + 2 * suc count ≡ suc (suc (2 + 2 * count)) = omega arith in
+          let j : 3 + 2 * count ≡ suc (2 + 2 * count) = omega arith in
+          rw add-one
+          (record {
+            few = few-lines;
+            size = ap length w₂ ∙ length-set words₁ (3 + 2 * count) watts ∙ ap length w₁ ∙ length-set words (2 + 2 * count) parent ∙ inv .size;
+            answered = rw (left, k) (rw e at (inv .answered));
+            stored = rw (left, i) (node-stored words words₁ words₂ (2 + 2 * count) (3 + 2 * count) parent watts (told .entry) (after .entries) (told .parent-is) (told .rating-is) j w₁ w₂ ∙ (rw e at (inv .stored)));
+          })

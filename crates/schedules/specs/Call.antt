@@ -1,0 +1,24 @@
+-- The C call: what it returns and leaves in every byte of every buffer, for every length.
+--
+-- A list of words is four bytes a word, low byte first; one to three bytes over at its end are neither read nor written.
+use mathlib.Core.List.{List}
+use Prim.Native.Nat.{ℕ, _/_}
+use lib.ListN.{length}
+use lib.Seq.{sets}
+use Rattle.words.specs.Bytes.{bytesOf}
+use Rattle.words.specs.Calls.{Call}
+use Rattle.schedules.specs.Schedule.{Outcome, accepted, turnedBack, scheduling, answerOf, answerNumber, answerFigure}
+
+-- The bytes of the list after an outcome: the table stands at its front; bytes past it, and all where refused, are unchanged.
+abbrev pub bytesAfter : Outcome → List ℕ → List ℕ
+bytesAfter (accepted table) bytes = sets bytes 0 (bytesOf table)
+bytesAfter (turnedBack refusal) bytes = bytes
+
+-- The call of a schedule that comes to an outcome.
+abbrev pub OutcomeCall : Outcome → (table answer : List ℕ) (r : ℕ) (table′ answer′ : List ℕ) → Type 0
+OutcomeCall outcome table answer r table′ answer′ =
+    Call (answerNumber (answerOf outcome)) (answerFigure (answerOf outcome)) (bytesAfter outcome table) table answer r table′ answer′
+
+-- A schedule, called from C: the table holds a word for every four of its bytes.
+abbrev pub ScheduleCall : (text table answer : List ℕ) (r : ℕ) (table′ answer′ : List ℕ) → Type 0
+ScheduleCall text table answer r table′ answer′ = OutcomeCall (scheduling text (length table / 4)) table answer r table′ answer′

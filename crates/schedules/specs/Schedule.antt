@@ -1,0 +1,142 @@
+-- The schedule of a text: its lines, judged one by one, and the room table that they give.
+use mathlib.Core.Bool.{Bool, cond, _&&_}
+use mathlib.Core.List.{List, [], _∷_, _++_}
+use Prim.Native.Nat.{ℕ, zero, suc, _*_}
+use lib.Dec.{eqb, leb, ltb}
+use lib.ListN.{length}
+use lib.Seq.{sets}
+use Rattle.rooms.specs.Table.{mostNodes}
+use Rattle.schedules.specs.Sizes.{isSize}
+use Rattle.schedules.specs.Text.{Step, good, bad, line}
+use Rattle.schedules.specs.declared.Entry.{Entry}
+use Rattle.schedules.specs.declared.Refusal.{Refusal}
+use Rattle.schedules.specs.declared.Refusal.the-variants.{NotALine, NotASize, OutOfRange, TableTooShort}
+use Rattle.schedules.specs.declared.Scheduled.{Scheduled}
+use Rattle.schedules.specs.declared.Scheduled.the-variants.{Accepted, Refused}
+
+-- ---- Numbers and places
+
+-- A refusal's number.
+abbrev pub refusalNumber : Refusal → ℕ
+refusalNumber (NotALine place) = 24
+refusalNumber (NotASize place) = 25
+refusalNumber (OutOfRange place) = 26
+refusalNumber (TableTooShort place) = 12
+
+-- A refusal's place: the line, counted from 0, or the length needed.
+abbrev pub refusalPlace : Refusal → ℕ
+refusalPlace (NotALine place) = place
+refusalPlace (NotASize place) = place
+refusalPlace (OutOfRange place) = place
+refusalPlace (TableTooShort place) = place
+
+-- An answer's number, 0 if accepted, and its figure: the word count, or the refusal's place.
+abbrev pub answerNumber : Scheduled → ℕ
+answerNumber (Accepted count) = 0
+answerNumber (Refused refusal) = refusalNumber refusal
+
+abbrev pub answerFigure : Scheduled → ℕ
+answerFigure (Accepted count) = count
+answerFigure (Refused refusal) = refusalPlace refusal
+
+-- ---- One line
+
+-- The rating in watts.
+abbrev pub rating : Entry → ℕ
+rating e = e .amperes * e .volts
+
+-- The range of volts.
+abbrev pub leastVolts : ℕ
+leastVolts = 100
+
+abbrev pub mostVolts : ℕ
+mostVolts = 480
+
+-- Whether volts and parent are in range, for the line at a place. The line's node has the number place + 1, and its parent is 0
+-- or a number below that. A line at place 512, a 513th, is out of range whatever it says.
+unfoldable pub inRange : ℕ → Entry → Bool
+inRange place e = (leb leastVolts (e .volts) && leb (e .volts) mostVolts) && (leb (e .parent) place && ltb place mostNodes)
+
+-- What the line at a place comes to: an entry and where the next line starts, or a refusal.
+pub data Judgement : Type 0 where
+  passed : Entry → ℕ → Judgement
+  failed : Refusal → Judgement
+
+-- Refused in order: not of the form (24), amperes not a size (25), volts or parent out of range (26).
+unfoldable pub judged : ℕ → Step Entry → Judgement
+judged place bad = failed (NotALine place)
+judged place (good e next) =
+    cond (isSize (e .amperes))
+    (cond (inRange place e) (passed e next) (failed (OutOfRange place)))
+    (failed (NotASize place))
+
+-- ---- All lines
+
+-- How the lines end: with the last byte of the text, or at a refusal.
+pub data Ending : Type 0 where
+  whole : Ending
+  refused : Refusal → Ending
+
+-- The lines of a text: the entries in front, in order, and how they end.
+pub record Lines : Type 0 where
+  pub entries : List Entry
+  pub ending : Ending
+
+-- A line, followed by the lines after it.
+abbrev pub onto : Judgement → (ℕ → Lines) → Lines
+onto (passed e next) rest = record { entries = e ∷ rest next .entries; ending = rest next .ending }
+onto (failed refusal) rest = record { entries = []; ending = refused refusal }
+
+-- At most so many lines, the first of which has a place among the lines and starts at a place of the text.
+unfoldable pub linesFrom : ℕ → List ℕ → ℕ → ℕ → Lines
+linesFrom zero text place at = record { entries = []; ending = whole }
+linesFrom (suc most) text place at =
+    cond (leb (length text) at) (record { entries = []; ending = whole })
+    (onto (judged place (line text at)) (λ next. linesFrom most text (suc place) next))
+
+-- All lines: a 513th is refused, so there is none after it to be judged.
+abbrev pub linesOf : List ℕ → Lines
+linesOf text = linesFrom (suc mostNodes) text 0 0
+
+-- ---- The table
+
+-- The most words of a table without servers: version, count of nodes, two for each of 512, count of servers.
+abbrev pub mostWords : ℕ
+mostWords = 1027
+
+-- The words of the nodes: parent and rating of each.
+unfoldable pub nodeWords : List Entry → List ℕ
+nodeWords [] = []
+nodeWords (e ∷ rest) = e .parent ∷ rating e ∷ nodeWords rest
+
+-- The version 1 table of the nodes, without servers.
+abbrev pub tableOf : List Entry → List ℕ
+tableOf entries = 1 ∷ length entries ∷ (nodeWords entries ++ (0 ∷ []))
+
+-- What a schedule comes to: accepted with the words of its table, or refused.
+pub data Outcome : Type 0 where
+  accepted : List ℕ → Outcome
+  turnedBack : Refusal → Outcome
+
+-- A table for a list of so many words. Refused: too short (12), at the length needed.
+abbrev pub fitting : List ℕ → ℕ → Outcome
+fitting table words = cond (leb (length table) words) (accepted table) (turnedBack (TableTooShort (length table)))
+
+-- The table of lines. Refused: the first refusal of a line; no lines (26), at 0; the list too short (12).
+abbrev pub scheduledLines : List Entry → Ending → ℕ → Outcome
+scheduledLines entries whole words = cond (eqb (length entries) 0) (turnedBack (OutOfRange 0)) (fitting (tableOf entries) words)
+scheduledLines entries (refused refusal) words = turnedBack refusal
+
+-- The schedule of a text, for a list of so many words.
+unfoldable pub scheduling : List ℕ → ℕ → Outcome
+scheduling text words = scheduledLines (linesOf text .entries) (linesOf text .ending) words
+
+-- The answer to an outcome.
+abbrev pub answerOf : Outcome → Scheduled
+answerOf (accepted table) = Accepted (length table)
+answerOf (turnedBack refusal) = Refused refusal
+
+-- The list after an outcome: the table stands at its front; words past it, and all where refused, are unchanged.
+abbrev pub after : Outcome → List ℕ → List ℕ
+after (accepted table) list = sets list 0 table
+after (turnedBack refusal) list = list

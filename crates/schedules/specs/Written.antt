@@ -1,0 +1,34 @@
+-- The text that lines make up, told without a reader: what `Text` reads is just what is written so (`Promises`).
+use mathlib.Core.Path.{_≡_}
+use mathlib.Core.Bool.{true}
+use mathlib.Core.List.{List, [], _∷_, _++_}
+use Prim.Native.Nat.{ℕ, suc, _+_, _*_, _≤_, _<_}
+use Rattle.schedules.specs.Sizes.{isSize}
+use Rattle.schedules.specs.Text.{digitZero, space, newline}
+use Rattle.schedules.specs.Schedule.{inRange}
+use Rattle.schedules.specs.declared.Entry.{Entry}
+
+-- Digits are those of a number, without leading zeros: one digit is, and one more behind those of a number that is not 0.
+pub data Decimal : ℕ → List ℕ → Type 0 where
+  digit : (d : ℕ) → d < 10 → Decimal d ((digitZero + d) ∷ [])
+  more : (n d : ℕ) (s : List ℕ) → Decimal n s → 1 ≤ n → d < 10 → Decimal (n * 10 + d) (s ++ ((digitZero + d) ∷ []))
+
+-- A text is the line of an entry: its three numbers in decimal, parted by one space and ended by a newline.
+pub record LineText (e : Entry) (text : List ℕ) : Type 0 where
+  pub parent : List ℕ
+  pub amperes : List ℕ
+  pub volts : List ℕ
+  pub parentIs : Decimal (e .parent) parent
+  pub amperesIs : Decimal (e .amperes) amperes
+  pub voltsIs : Decimal (e .volts) volts
+  pub is : text ≡ parent ++ (space ∷ (amperes ++ (space ∷ (volts ++ (newline ∷ [])))))
+
+-- A text is the lines of some entries, one behind the other, and nothing else.
+pub data Written : List Entry → List ℕ → Type 0 where
+  none : Written [] []
+  line : (e : Entry) (rest : List Entry) (s t : List ℕ) → LineText e s → Written rest t → Written (e ∷ rest) (s ++ t)
+
+-- Each entry has a size, and is in range at its place, the first being at a given one.
+pub data Pass : ℕ → List Entry → Type 0 where
+  none : {place : ℕ} → Pass place []
+  more : {place : ℕ} {e : Entry} {rest : List Entry} → isSize (e .amperes) ≡ true → inRange place e ≡ true → Pass (suc place) rest → Pass place (e ∷ rest)

@@ -1,0 +1,177 @@
+// Breaker schedules: a text of lines, each with the parent, the amperes and the volts of a breaker, turned into a room table.
+ghost use mathlib.Core.Path.{_≡_};
+ghost use Prim.Native.Nat.{_≤_};
+ghost use lib.ListN.{length};
+ghost use Rattle.words.specs.Bytes.{answered};
+ghost use Rattle.schedules.specs.Schedule.{refusalNumber, refusalPlace, answerNumber, answerFigure, mostWords, scheduling, answerOf, after};
+ghost use Rattle.schedules.specs.Call.{ScheduleCall};
+ghost use Rattle.schedules.specs.Told.{InFront, writtenCount};
+use crate::lines::Counted;
+
+mod lines;
+mod sizes;
+mod text;
+
+// What a line says.
+pub struct Entry {
+    pub parent: u32,
+    pub amperes: u32,
+    pub volts: u32,
+}
+
+// Why a schedule is turned back, and where: a line by its place, counted from 0, or the length that the table needs.
+pub enum Refusal {
+    NotALine(usize),
+    NotASize(usize),
+    OutOfRange(usize),
+    TableTooShort(usize),
+}
+
+// The answer on a schedule: accepted with the count of words, or refused.
+pub enum Scheduled {
+    Accepted(usize),
+    Refused(Refusal),
+}
+
+impl Refusal {
+    // The refusal's number.
+    pub fn number(self) -> u64
+        ensures { λ r. ⌜ r ≡ refusalNumber self ⌝ }
+    {
+        match self {
+            Refusal::NotALine(_) => 24,
+            Refusal::NotASize(_) => 25,
+            Refusal::OutOfRange(_) => 26,
+            Refusal::TableTooShort(_) => 12,
+        }
+    }
+
+    // The refusal's place.
+    pub fn place(self) -> usize
+        ensures { λ r. ⌜ r ≡ refusalPlace self ⌝ }
+    {
+        match self {
+            Refusal::NotALine(place) => place,
+            Refusal::NotASize(place) => place,
+            Refusal::OutOfRange(place) => place,
+            Refusal::TableTooShort(place) => place,
+        }
+    }
+}
+
+impl Scheduled {
+    // The refusal's number, or 0.
+    pub fn number(self) -> u64
+        ensures { λ r. ⌜ r ≡ answerNumber self ⌝ }
+    {
+        match self {
+            Scheduled::Accepted(_) => 0,
+            Scheduled::Refused(refusal) => refusal.number(),
+        }
+    }
+
+    // The count of words, or the refusal's place.
+    pub fn figure(self) -> usize
+        ensures { λ r. ⌜ r ≡ answerFigure self ⌝ }
+    {
+        match self {
+            Scheduled::Accepted(count) => count,
+            Scheduled::Refused(refusal) => refusal.place(),
+        }
+    }
+}
+
+// The words of the longest table without servers.
+const MOST_WORDS: usize = 1027;
+
+// An answer of a C call is two numbers of eight bytes each.
+const ANSWER_BYTES: usize = 16;
+
+// The table of a schedule, at the front of the list. Refused, it leaves the list unchanged.
+pub fn schedule(text: &[u8], table: &mut [u32]) -> Scheduled
+    ensures { λ r. ⌜ r ≡ answerOf (scheduling (now (text .entry)) (length (now (table .entry)))) ⌝ }
+    ensures { λ _. ⌜ now (table .exit) ≡ after (scheduling (now (text .entry)) (length (now (table .entry)))) (now (table .entry)) ⌝ }
+{
+    let mut words = [0u32; MOST_WORDS];
+    schedule_by(text, &mut words, table)
+}
+
+// The same, called from C: the table in bytes, and the answer in its buffer.
+pub fn schedule_bytes(text: &[u8], table: &mut [u8], answer: &mut [u8]) -> u32
+    ensures { λ r. ⌜ ScheduleCall (now (text .entry)) (now (table .entry)) (now (answer .entry)) r (now (table .exit)) (now (answer .exit)) ⌝ }
+{
+    let mut words = [0u32; MOST_WORDS];
+    schedule_bytes_by(text, &mut words, table, answer)
+}
+
+// A schedule by way of a list of its own, which takes the words until all is checked.
+fn schedule_by(text: &[u8], words: &mut [u32], table: &mut [u32]) -> Scheduled
+    requires { ⌜ mostWords ≤ length (now words) ⌝ }
+    ensures { λ r. ⌜ r ≡ answerOf (scheduling (now (text .entry)) (length (now (table .entry)))) ⌝ }
+    ensures { λ _. ⌜ now (table .exit) ≡ after (scheduling (now (text .entry)) (length (now (table .entry)))) (now (table .entry)) ⌝ }
+{
+    let told = schedule_words(text, words, table.len());
+    let count = written_count(told);
+    words::copy(&words[..count], table);
+    told
+}
+
+// The C call by way of a list of words, of which those of an accepted table are stored.
+fn schedule_bytes_by(text: &[u8], words: &mut [u32], table: &mut [u8], answer: &mut [u8]) -> u32
+    requires { ⌜ mostWords ≤ length (now words) ⌝ }
+    ensures { λ r. ⌜ ScheduleCall (now (text .entry)) (now (table .entry)) (now (answer .entry)) r (now (table .exit)) (now (answer .exit)) ⌝ }
+{
+    if answer.len() < ANSWER_BYTES {
+        return 0;
+    }
+    let told = schedule_words(text, words, table.len() / 4);
+    let count = written_count(told);
+    words::store(&words[..count], table);
+    tell(told, answer);
+    1
+}
+
+// The answer on a text whose table is to go to a list of `space` words. An accepted table stands at the front of `words`.
+fn schedule_words(text: &[u8], words: &mut [u32], space: usize) -> Scheduled
+    requires { ⌜ mostWords ≤ length (now words) ⌝ }
+    ensures { λ r. ⌜ r ≡ answerOf (scheduling (now (text .entry)) space) ⌝ }
+    ensures { λ _. ⌜ InFront (scheduling (now (text .entry)) space) (now (words .exit)) ⌝ }
+{
+    let counted = lines::read_lines(text, words);
+    let count = match counted {
+        Counted::Lines(count) => count,
+        Counted::Refused(refusal) => {
+            return Scheduled::Refused(refusal);
+        }
+    };
+    if count == 0 {
+        return Scheduled::Refused(Refusal::OutOfRange(0));
+    }
+    let servers = 2 + 2 * count;
+    if space <= servers {
+        return Scheduled::Refused(Refusal::TableTooShort(servers + 1));
+    }
+    words[0] = 1;
+    words[1] = count as u32;
+    words[servers] = 0;
+    Scheduled::Accepted(servers + 1)
+}
+
+// How many words an answer says are written: none where refused.
+fn written_count(told: Scheduled) -> usize
+    ensures { λ r. ⌜ r ≡ writtenCount told ⌝ }
+{
+    match told {
+        Scheduled::Accepted(count) => count,
+        Scheduled::Refused(_) => 0,
+    }
+}
+
+// The answer's number and figure, into its buffer.
+fn tell(told: Scheduled, answer: &mut [u8])
+    ensures { λ _. ⌜ now (answer .exit) ≡ answered (answerNumber told) (answerFigure told) (now (answer .entry)) ⌝ }
+{
+    let number = told.number();
+    let figure = told.figure() as u64;
+    words::store_answer(number, figure, answer);
+}

@@ -1,0 +1,97 @@
+// The lines of a schedule, judged one by one: refusals 24 to 26.
+ghost use mathlib.Core.Path.{_≡_};
+ghost use Prim.Native.Nat.{_*_};
+ghost use lib.ListN.{length, set};
+ghost use lib.Seq.{sets};
+ghost use Rattle.schedules.specs.Text.{line};
+ghost use Rattle.schedules.specs.Schedule.{rating, inRange, judged, linesOf, nodeWords};
+ghost use Rattle.schedules.specs.Told.{toldNode, toldLines};
+use crate::Entry;
+use crate::Refusal;
+use crate::sizes::is_size;
+use crate::text::Line;
+use crate::text::read_line;
+
+// The node of a line and the place after the line, or its refusal.
+pub enum Judged {
+    Node(u32, u32, usize),
+    Refused(Refusal),
+}
+
+// How many lines there are, or the first refusal.
+pub enum Counted {
+    Lines(usize),
+    Refused(Refusal),
+}
+
+const MOST_NODES: usize = 512;
+
+const LEAST_VOLTS: u32 = 100;
+
+const MOST_VOLTS: u32 = 480;
+
+// Whether volts and parent of the line at a place are in range, and the line is no 513th.
+fn in_range(entry: Entry, place: usize) -> bool
+    ensures { λ r. ⌜ r ≡ inRange place entry ⌝ }
+{
+    let parent = entry.parent as usize;
+    let volts = entry.volts;
+    if volts < LEAST_VOLTS {
+        return false;
+    }
+    if MOST_VOLTS < volts {
+        return false;
+    }
+    if MOST_NODES <= place {
+        return false;
+    }
+    let own = place + 1;
+    parent < own
+}
+
+// The line that starts at `at`, judged as the one at a place.
+fn judge_line(text: &[u8], at: usize, place: usize) -> Judged
+    ensures { λ r. ⌜ r ≡ toldNode (judged place (line (now (text .entry)) at)) ⌝ }
+{
+    let read = read_line(text, at);
+    let Line::Of(entry, next) = read else {
+        return Judged::Refused(Refusal::NotALine(place));
+    };
+    if !is_size(entry.amperes) {
+        return Judged::Refused(Refusal::NotASize(place));
+    }
+    if !in_range(entry, place) {
+        return Judged::Refused(Refusal::OutOfRange(place));
+    }
+    Judged::Node(entry.parent, entry.amperes * entry.volts, next)
+}
+
+// Stores a word at an index of a list, if the list has it.
+fn store(words: &mut [u32], index: usize, word: u32)
+    ensures { λ _. ⌜ now (words .exit) ≡ set (now (words .entry)) index word ⌝ }
+{
+    if index < words.len() {
+        words[index] = word;
+    }
+}
+
+// Judges all lines. The words of their nodes go to the list from index 2 on, as many as it has space for.
+pub fn read_lines(text: &[u8], words: &mut [u32]) -> Counted
+    ensures { λ r. ⌜ r ≡ toldLines (linesOf (now (text .entry))) ⌝ }
+    ensures { λ _. ⌜ now (words .exit) ≡ sets (now (words .entry)) 2 (nodeWords (linesOf (now (text .entry)) .entries)) ⌝ }
+{
+    let mut at = 0;
+    let mut count = 0;
+    while at < text.len() {
+        match judge_line(text, at, count) {
+            Judged::Node(parent, watts, next) => {
+                store(words, 2 + 2 * count, parent);
+                store(words, 3 + 2 * count, watts);
+                count += 1;
+                at = next;
+            }
+            Judged::Refused(refusal) => return Counted::Refused(refusal),
+        }
+    }
+    Counted::Lines(count)
+}

@@ -1,0 +1,3 @@
+-- Laws that the proofs of `control` share.
+pub mod Tests
+pub mod Cords

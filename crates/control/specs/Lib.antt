@@ -1,0 +1,3 @@
+-- The definitions that the contracts of `control` cite.
+pub mod Step
+pub mod Tally

@@ -1,3 +1,4 @@
 -- The definitions that the contracts of `control` cite.
 pub mod Step
 pub mod Tally
+pub mod Call

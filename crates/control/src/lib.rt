@@ -7,6 +7,8 @@ ghost use Rattle.control.specs.Step.{ordered, isEfficiency, inRange, dif
 ghost use Rattle.control.specs.declared.Stepped.the-variants.{Refused};
 ghost use Rattle.control.specs.Tally.{counted, tallied};
 
+pub mod call;
+
 // The greatest watts of a budget, of a measurement and of a cap.
 const MOST_WATTS: f64 = 16_777_215.0;
 

@@ -52,12 +52,12 @@ counted-tallied (Least error working) (Working budget measured) i h = omega arit
 
 -- ---- Readings judged
 
-judged-good : (c : Controller) (i : ℕ) (reading : Reading) (rest : List Reading) (next : Stepped)
+pub judged-good : (c : Controller) (i : ℕ) (reading : Reading) (rest : List Reading) (next : Stepped)
     → goodReading reading ≡ true → judged c (suc i) rest next ≡ judged c i (reading ∷ rest) next
 unfolding judged
 judged-good c i reading rest next good = cond-true _ _ good
 
-judged-bad : (c : Controller) (i : ℕ) (reading : Reading) (rest : List Reading) (next : Stepped)
+pub judged-bad : (c : Controller) (i : ℕ) (reading : Reading) (rest : List Reading) (next : Stepped)
     → goodReading reading ≡ false → Refused (refusal 17 i) c ≡ judged c i (reading ∷ rest) next
 unfolding judged
 judged-bad c i reading rest next bad = cond-false _ _ bad

@@ -2,3 +2,4 @@
 pub mod Step
 pub mod Tally
 pub mod Call
+pub mod Promises

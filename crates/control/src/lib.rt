@@ -95,16 +95,18 @@ impl AcWatts {
     fn dc_change(self, k: f64, working: u32) -> DcWatts
         ensures { λ r. ⌜ r ≡ dcChange self k working ⌝ }
     {
-        DcWatts((self.0 * k) * (working as f64))
+        let count = working as f64;
+        DcWatts((self.0 * k) * count)
     }
 }
 
 impl DcWatts {
-    // A cap with a change added.
-    fn plus(self, change: DcWatts) -> DcWatts
-        ensures { λ r. ⌜ r ≡ sum self change ⌝ }
+    // A cap with a change added, and the sum cut to a range.
+    fn moved(self, change: DcWatts, low: DcWatts, high: DcWatts) -> DcWatts
+        ensures { λ r. ⌜ r ≡ cut (sum self change) low high ⌝ }
     {
-        DcWatts(self.0 + change.0)
+        let sum = DcWatts(self.0 + change.0);
+        sum.cut(low, high)
     }
 
     // A cap cut to a range.
@@ -192,9 +194,9 @@ impl Controller {
         let cap = self.cap;
         let low = self.low;
         let high = self.high;
-        let wanted = cap.plus(error.dc_change(self.k, working));
+        let change = error.dc_change(self.k, working);
         Controller {
-            cap: wanted.cut(low, high),
+            cap: cap.moved(change, low, high),
             k: self.k,
             low,
             high,

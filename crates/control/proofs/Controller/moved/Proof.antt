@@ -9,20 +9,16 @@ use Rattle.control.proofs.Controller.moved.Tie as tie
 dc-change-requires : tie.Need-dc-change-requires
 dc-change-requires c κs = search needs
 
-plus-requires : tie.Need-plus-requires
-plus-requires c κs = search needs
-
-cut-requires : tie.Need-cut-requires
-cut-requires c κs = search needs
+moved-requires : tie.Need-moved-requires
+moved-requires c κs = search needs
 
 returns : tie.Need-returns
 returns c =
-    let plus = c .before in
-    let change = plus .before in
+    let change = c .before in
     let controller = change .before .before .before .before .args .self in
     ap (withCap controller)
-    (c .cut .ensures
-    ∙ ap (λ (cap : DcWatts). cut cap (controller .low) (controller .high)) (plus .plus .ensures ∙ ap (sum (controller .cap)) (change .dc-change .ensures)))
+    (c .moved .ensures
+    ∙ ap (λ (d : DcWatts). cut (sum (controller .cap) d) (controller .low) (controller .high)) (change .dc-change .ensures))
 
 pub moved-spec : {M : Type 1} → statement M
-moved-spec = tie.close (tie.spec dc-change-requires plus-requires cut-requires returns)
+moved-spec = tie.close (tie.spec dc-change-requires moved-requires returns)

@@ -24,6 +24,8 @@ use deals::Planned;
 use rooms::Answer;
 use rooms::DECIDING_WORDS;
 
+pub mod steps;
+
 // An answer is two numbers of eight bytes each.
 const ANSWER_BYTES: usize = 16;
 

@@ -1,10 +1,11 @@
-//! Document 01 worked a second time, by someone who has seen no other program for it: read, write,
-//! plan, the C calls and the print, for comparing answers.
+//! Documents 01 and 02 worked a second time, by someone who has seen no other program for them: read,
+//! write, plan, the step of the DC cap loop, the C calls and the print, for comparing answers.
 //!
 //! The room is grown as trees of owned nodes and every figure is a wide integer, so that nothing
 //! here shares a shape, or a mistake, with a program that scans its table.
 
 pub mod call;
+pub mod control;
 pub mod deal;
 pub mod number;
 pub mod plan;

@@ -123,11 +123,11 @@ static void rounded(void)
 {
     server();
     arrays.controller[0] = arrays.controller[2] = 0.0;
-    arrays.controller[1] = 0.7;
-    cord(0, 0.1, 0.0);
-    cord(1, 0.1, 0.0);
-    cord(2, 0.1, 0.0);
-    step(0.20999999999999996, 0, 0, "(0.1 * 0.7) * 3");
+    arrays.controller[1] = 0.05;
+    cord(0, 2.9, 0.0);
+    cord(1, 2.9, 0.0);
+    cord(2, 2.9, 0.0);
+    step(0.43499999999999994, 0, 0, "(2.9 * 0.05) * 3");
     server();
     arrays.controller[0] = arrays.controller[2] = -0.0;
     cord(0, -0.0, 0.0);

@@ -9,3 +9,4 @@ pub mod Sound
 pub mod Outcomes
 pub mod Accepted
 pub mod Promises
+pub mod Examples

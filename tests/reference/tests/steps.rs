@@ -52,19 +52,17 @@ fn a_cord_at_no_watts_works() {
 
 #[test]
 fn each_operation_is_rounded_once_and_in_order() {
-    // 0.1 × 0.7 = 0.06999999999999999 and three times that 0.20999999999999996 when rounded in order;
-    // three times 0.1 is 0.30000000000000004, and 0.7 of that 0.21000000000000002.
+    // (2.9 × 0.05) × 3 is 0.43499999999999994; 2.9 × (0.05 × 3) is 0.43500000000000005, and
+    // (2.9 × 3) × 0.05 is 0.435.
     let server = Controller {
         cap: 0.0,
-        k: 0.7,
+        k: 0.05,
         low: 0.0,
         high: 1.0,
     };
-    let cord = Some((0.1, 0.0));
-    assert_eq!(
-        cap(server, [cord, cord, cord, None]),
-        0.20999999999999996_f64.to_bits()
-    );
+    let cord = Some((2.9, 0.0));
+    let stepped = cap(server, [cord, cord, cord, None]);
+    assert_eq!(stepped, 0.43499999999999994_f64.to_bits());
 }
 
 #[test]

@@ -1,7 +1,8 @@
 //! The archive's step in a closed loop with a simple model of a server with two supplies: the plot of
-//! docs/CONTROL.md. Fails if the loop does not settle on its budgets.
+//! docs/CONTROL.md. Fails if the loop does not settle on its budgets. With the argument `reference`
+//! the reference's step runs in the loop, which makes the plot that is expected.
 
-use random::steps::step;
+use std::env;
 use std::process::exit;
 
 /// What the server's parts would draw without a cap, in DC watts.
@@ -21,7 +22,11 @@ const SCALE: f64 = 10.0;
 const SETTLED: [(usize, Option<usize>); 4] =
     [(3, None), (13, Some(1)), (23, Some(0)), (35, Some(0))];
 
+/// A step's arguments are the controller, the marks, the budgets, the measured watts and the answer.
+type Step = fn(&mut [f64; 4], &[u8; 4], &[f64; 4], &[f64; 4], &mut [u8]) -> u32;
+
 struct Server {
+    step: Step,
     controller: [f64; 4],
     draw: f64,
     working: [u8; 4],
@@ -48,7 +53,7 @@ impl Server {
     fn period(&mut self) {
         let measured = self.measured();
         let mut answer = [0xFF; 16];
-        let returned = step(
+        let returned = (self.step)(
             &mut self.controller,
             &self.working,
             &self.budgets,
@@ -86,7 +91,12 @@ fn line(period: usize, server: &Server) -> String {
 }
 
 fn main() {
+    let step: Step = match env::args().nth(1).as_deref() {
+        Some("reference") => reference::call::step,
+        _ => random::steps::step,
+    };
     let mut server = Server {
+        step,
         controller: [500.0, K, 120.0, 500.0],
         draw: LOAD,
         working: [1, 1, 0, 0],

@@ -145,7 +145,7 @@ zero-equal nan z = absurd z
 zero-equal (inf s) z = absurd z
 zero-equal (fin s m e) z =
     let none : m * up e * 1 ≡ 0 = rw (eqb→eq m 0 z) (simp zero-mul) in
-    rw (none, zero-mul) (either s)
+    rw (none, zero-mul (down e)) (either s)
   where
     either : (s : Bool) → eqb 0 0 && (Bool·beq s false || eqb 0 0) ≡ true
     either true = refl

@@ -6,7 +6,7 @@ use Prim.Native.Nat.{_*_}
 use native.Mathlib.Nat.{zero-mul, zero-add, add-zero}
 use lib.IntN.{pos}
 use lib.Dec.{T, eqb→eq}
-use lib.Ieee.{Float, nan, inf, fin, Format, binary64, up, add, fits, lt, le, eq}
+use lib.Ieee.{Float, nan, inf, fin, Format, binary64, up, down, add, fits, lt, le, eq}
 use lib.Ieee.Fits.{and-i}
 use lib.Ieee.Scale.{finite}
 use Rattle.control.specs.declared.DcWatts.{DcWatts}
@@ -42,14 +42,14 @@ zero-below s nan = refl
 zero-below s (inf t) = refl
 zero-below false (fin t n d) = refl
 zero-below true (fin false n d) = simp (zero-mul, zero-add)
-zero-below true (fin true n d) = rw zero-mul (sym (never-below (n * up d * 1)))
+zero-below true (fin true n d) = rw (zero-mul (down d)) (sym (never-below (n * up d * 1)))
 
 above-zero : (s : Bool) (z : Float) → lt z (float0) ≡ lt z (fin s 0 (pos 0))
 unfolding lt
 above-zero s nan = refl
 above-zero s (inf t) = refl
 above-zero false (fin t n d) = refl
-above-zero true (fin false n d) = rw zero-mul (never-below (n * up d * 1))
+above-zero true (fin false n d) = rw (zero-mul (down d)) (never-below (n * up d * 1))
 above-zero true (fin true n d) = simp (zero-mul, add-zero)
 
 -- +0 is not cut where a zero lies in the range.

@@ -208,9 +208,9 @@ says-le true a true b h =
 
 chain : (px nx py ny pz nz p q r : ℕ) → 0 < q → px * q + ny * p ≤ py * p + nx * q → py * r + nz * q ≤ pz * q + ny * r → px * r + nz * p ≤ pz * p + nx * r
 chain px nx py ny pz nz p q r Q h k =
-    let h' = simp (add-mul, mul-assoc, mul-comm, mul-left-comm) at (mul-le-mul-right r h) in
-    let k' = simp (add-mul, mul-assoc, mul-comm, mul-left-comm) at (mul-le-mul-right p k) in
-    let g : (px * r + nz * p) * q ≤ (pz * p + nx * r) * q = simp (add-mul, mul-assoc, mul-comm, mul-left-comm) (omega arith) in
+    let h' = simp (add-mul, mul-assoc) at (mul-le-mul-right r h) in
+    let k' = simp (add-mul, mul-assoc, mul-comm) at (mul-le-mul-right p k) in
+    let g : (px * r + nz * p) * q ≤ (pz * p + nx * r) * q = simp (add-mul, mul-assoc, mul-comm) (omega arith) in
     le-of-mul-le-mul-right g Q
 
 over-mul : (s : Bool) (a b : ℕ) → over s (a * b) ≡ over s a * b

@@ -7,7 +7,7 @@ cut-requires : tie.Need-cut-requires
 cut-requires c κs = search needs
 
 returns : tie.Need-returns
-returns c = c .cut .ensures
+returns c = search needs
 
 pub moved-spec : {M : Type 1} → statement M
 moved-spec = tie.close (tie.spec cut-requires returns)

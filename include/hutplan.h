@@ -1,5 +1,6 @@
 /*
- * hutplan: room sheets, room tables, power plans and breaker schedules of equipment huts.
+ * hutplan: room sheets, room tables, power plans and breaker schedules of equipment huts, and the
+ * loop that holds a server's DC cap to its cords' budgets.
  *
  * Link with libcapi.a, which `rt staticlib capi` puts into target/staticlib. It is built for Linux
  * on x86-64. The calls keep no state, take no memory from the heap and call nothing of the C
@@ -8,13 +9,14 @@
  * A sheet is bytes. A table is a list of words (unsigned, 32 bits). So are demands, grants and
  * caps, which are watts. Every list of words passes as bytes, at any alignment: four for each word,
  * the lowest first. Its length is given in bytes. Where that is no multiple of four, the last one to
- * three bytes are not looked at and not changed.
+ * three bytes are not looked at and not changed. Figures of the cap loop (hutplan_step) are doubles,
+ * in arrays of C's own.
  *
  * The answer is sixteen bytes, two numbers of eight bytes each, low byte first:
  *   bytes 0 to 7    0 if the input was accepted, else the number of the refusal (see below);
  *   bytes 8 to 15   refused: the refusal's place;
  *                   accepted: the count written, of words (hutplan_read, hutplan_schedule) or bytes
- *                   (hutplan_write), or the freed watts (hutplan_plan).
+ *                   (hutplan_write), the freed watts (hutplan_plan), or 0 (hutplan_step).
  * Bytes past the sixteenth are not touched. If the answer buffer is shorter than sixteen bytes, a
  * call returns 0 and changes nothing. In every other case it returns 1. The answer of hutplan_send
  * has eight bytes more (see there).
@@ -29,12 +31,15 @@
  *     other thread touches the buffers during the call;
  *   - a pointer is NULL only if its length is 0;
  *   - a length is at most PTRDIFF_MAX, as of any object in C;
+ *   - doubles are aligned as any object of that type is in C, and the floating-point environment is
+ *     the one that a program starts with: rounding to the nearest, subnormal numbers kept;
  *   - there is enough stack (see below).
- * There is no other duty: any bytes, of any length, are good input.
+ * There is no other duty: any bytes, of any length, and any doubles, NaNs and infinities too, are
+ * good input.
  *
  * Stack, as measured on x86-64 (docs/PERFORMANCE.md has the figures): about 25 KB for hutplan_read
- * and for hutplan_write, about 130 KB for hutplan_plan, about 8 KB for hutplan_schedule and about
- * 2 KB for hutplan_send. It does not grow with the input.
+ * and for hutplan_write, about 130 KB for hutplan_plan, about 8 KB for hutplan_schedule, about
+ * 2 KB for hutplan_send, and less than 1 KB for hutplan_step. It does not grow with the input.
  */
 #ifndef HUTPLAN_H
 #define HUTPLAN_H
@@ -79,6 +84,13 @@ enum hutplan_refusal {
                                           hutplan_schedule), bytes (hutplan_write), grants
                                           (hutplan_plan) or servers named (hutplan_send) */
     HUTPLAN_CAPS_TOO_SHORT = 13,       /* the cap list; place: the count of servers */
+
+    /* A step of the DC cap loop (hutplan_step). */
+    HUTPLAN_CONTROLLER_OUT_OF_RANGE = 16, /* not 0 < k <= 1, or not
+                                             0 <= low <= cap <= high <= 16,777,215, or one of these
+                                             not finite; place: 0 */
+    HUTPLAN_READING_OUT_OF_RANGE = 17,    /* a working cord's budget or measured watts not from 0 to
+                                             16,777,215, or not finite; place: the first such cord */
 
     /* Lines of a schedule, line by line (hutplan_schedule), all before 12. Place: the line. */
     HUTPLAN_NOT_A_LINE = 24,           /* not of the form, or a number above 9,999 */
@@ -172,6 +184,33 @@ uint32_t hutplan_plan(const uint8_t *table, size_t table_len,
 uint32_t hutplan_schedule(const uint8_t *text, size_t text_len,
                           uint8_t *table, size_t table_len,
                           uint8_t *answer, size_t answer_len);
+
+/*
+ * Step: one step of a server's DC cap loop, by what its four cords read.
+ *
+ * A controller is four doubles: its DC cap in watts, the efficiency k of its supplies, and the low
+ * and high ends of the cap's range in watts. So a list of `struct { double cap, k, low, high; }` is
+ * a list of controllers, each lent by the address of its cap.
+ *
+ * Cord i (from 0) is working where working[i] is not 0; it then has a budget and measured AC watts.
+ * Where working[i] is 0 the cord has failed or is not fitted, and its figures are not looked at. The
+ * mark alone decides: a working cord may measure 0 W.
+ *
+ * Accepted, the cap is controller[0]; k, low and high stay. The error is the least of
+ * budgets[i] - measured[i] over the working cords, the first of equals. The new cap is
+ * cap + (error * k) * count, count being that of the working cords, with each operation rounded
+ * once, in this order; and then low or high where it lies outside of these. With no working cord the
+ * cap stays, and with an error of zero its value does. (A cap of -0, which is the value 0, may then
+ * become +0.)
+ *
+ * Refusals: 16 of the controller; then 17 of the readings. A refused step changes nothing but the
+ * answer, and the answer's figure is the place; accepted, it is 0.
+ */
+uint32_t hutplan_step(double controller[4],
+                      const uint8_t working[4],
+                      const double budgets[4],
+                      const double measured[4],
+                      uint8_t *answer, size_t answer_len);
 
 /*
  * Send: the servers that a period's messages go to, over a bus that carries m messages a period.

@@ -27,6 +27,8 @@ use rooms::DECIDING_WORDS;
 pub mod schedule;
 pub mod send;
 
+pub mod steps;
+
 // An answer is two numbers of eight bytes each.
 const ANSWER_BYTES: usize = 16;
 

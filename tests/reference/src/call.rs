@@ -1,5 +1,7 @@
-//! The C calls: lists as bytes, four a word, low byte first, and the answer buffer.
+//! The C calls: word lists as bytes, four a word, low byte first, figures of the cap loop as doubles,
+//! and the answer buffer.
 
+use crate::control::Controller;
 use crate::Refusal;
 
 const ANSWER: usize = 16;
@@ -54,6 +56,23 @@ pub fn send(count: u64, position: u64, m: u64, list: &mut [u8], answer: &mut [u8
         eight.copy_from_slice(&number.to_le_bytes());
     }
     1
+}
+
+/// A step: the controller's cap, k, low and high; and each cord's mark, budget and measured watts.
+pub fn step(
+    controller: &mut [f64; 4],
+    working: &[u8; 4],
+    budgets: &[f64; 4],
+    measured: &[f64; 4],
+    answer: &mut [u8],
+) -> u32 {
+    answered(answer, || {
+        let [cap, k, low, high] = *controller;
+        let cord = |i: usize| (working[i] != 0).then_some((budgets[i], measured[i]));
+        let cords = [0, 1, 2, 3].map(cord);
+        controller[0] = Controller { cap, k, low, high }.step(cords)?;
+        Ok(0)
+    })
 }
 
 /// Runs the call if its answer fits, and answers.

@@ -1,0 +1,38 @@
+-- `Controller::is_good` meets its contract: each branch is one of the conjunction.
+use borrow.Author.Needs.{needs}
+use mathlib.Core.Path.{sym, _∙_}
+use lib.Ieee.{ofBits}
+use Rattle.control.specs.Step.{goodController}
+use Rattle.control.proofs.Tests.{and-true, and-false, was-true, was-false}
+use Rattle.control.proofs.Controller.is_good.Statement.{statement}
+use Rattle.control.proofs.Controller.is_good.Tie as tie
+
+is-efficiency-requires : tie.Need-is-efficiency-requires
+is-efficiency-requires c κs = search needs
+
+returns : tie.Need-returns
+unfolding goodController
+returns c = and-false _ (was-false (c .before .is-efficiency .ensures) (c .if1 .taken))
+
+ordered-requires : tie.Need-ordered-requires
+ordered-requires c κs = search needs
+
+ordered-requires-2 : tie.Need-ordered-requires-2
+ordered-requires-2 c κs = search needs
+
+returns-2 : tie.Need-returns-2
+unfolding goodController ofBits
+returns-2 c =
+    let left = c .before .before in
+    and-true (was-true (left .before .before .is-efficiency .ensures) (left .before .if1 .left))
+    (and-true (sym (left .ordered .ensures) ∙ c .before .if2 .taken) (c .ordered2 .ensures))
+
+returns-3 : tie.Need-returns-3
+unfolding goodController ofBits
+returns-3 c =
+    let left = c .before in
+    and-true (was-true (left .before .before .is-efficiency .ensures) (left .before .if1 .left))
+    (c .if2 .left ∙ and-false _ (sym (left .ordered .ensures) ∙ c .if2 .left))
+
+pub is-good-spec : {M : Type 1} → statement M
+is-good-spec = tie.close (tie.spec is-efficiency-requires returns ordered-requires ordered-requires-2 returns-2 returns-3)

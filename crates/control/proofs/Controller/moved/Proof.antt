@@ -1,0 +1,24 @@
+-- `Controller::moved` meets its contract: the change, the sum and the cut are the definition's.
+use borrow.Author.Needs.{needs}
+use mathlib.Core.Path.{ap, _∙_}
+use Rattle.control.specs.declared.DcWatts.{DcWatts}
+use Rattle.control.specs.Step.{sum, cut, withCap}
+use Rattle.control.proofs.Controller.moved.Statement.{statement}
+use Rattle.control.proofs.Controller.moved.Tie as tie
+
+dc-change-requires : tie.Need-dc-change-requires
+dc-change-requires c κs = search needs
+
+moved-requires : tie.Need-moved-requires
+moved-requires c κs = search needs
+
+returns : tie.Need-returns
+returns c =
+    let change = c .before in
+    let controller = change .before .before .before .before .args .self in
+    ap (withCap controller)
+    (c .moved .ensures
+    ∙ ap (λ (d : DcWatts). cut (sum (controller .cap) d) (controller .low) (controller .high)) (change .dc-change .ensures))
+
+pub moved-spec : {M : Type 1} → statement M
+moved-spec = tie.close (tie.spec dc-change-requires moved-requires returns)

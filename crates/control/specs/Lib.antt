@@ -1,0 +1,5 @@
+-- The definitions that the contracts of `control` cite.
+pub mod Step
+pub mod Tally
+pub mod Call
+pub mod Promises

@@ -1,0 +1,244 @@
+// The DC cap loop: a server's controller holds the cap on its DC power, and each step moves that cap by what the server's cords read.
+//
+// This is A.6 of document 02, after section IV.B of the report. Figures are 64-bit floats; each operation is rounded once.
+ghost use mathlib.Core.Path.{_≡_};
+ghost use Prim.Native.Nat.{_<_};
+ghost use Rattle.control.specs.Step.{ordered, isEfficiency, inRange, difference, lesser, dcChange, sum, cut, goodReading, goodController, moved, stepped, refusal, stepNumber, stepPlace, controllerAfter};
+ghost use Rattle.control.specs.declared.Stepped.the-variants.{Refused};
+ghost use Rattle.control.specs.Tally.{counted, tallied};
+
+pub mod call;
+
+// The greatest watts of a budget, of a measurement and of a cap.
+const MOST_WATTS: f64 = 16_777_215.0;
+
+// Refusals: a controller that is not good, and a working cord with a figure that is not.
+const BAD_CONTROLLER: u64 = 16;
+
+const BAD_READING: u64 = 17;
+
+// AC watts: what a cord draws, or may draw, from its feed.
+pub struct AcWatts(pub f64);
+
+// DC watts: what a server's supplies give to the rest of it.
+pub struct DcWatts(pub f64);
+
+// What a cord reads: working, with its budget and its measured watts; or failed, which one that is not fitted is too.
+pub enum Reading {
+    Working(AcWatts, AcWatts),
+    Failed,
+}
+
+// A server's controller: its DC cap, the efficiency of its supplies, and the low and high ends of the cap's range.
+pub struct Controller {
+    pub cap: DcWatts,
+    pub k: f64,
+    pub low: DcWatts,
+    pub high: DcWatts,
+}
+
+// Why a step is turned back: document 02's number, and the place.
+pub struct Refusal {
+    pub number: u64,
+    pub place: u64,
+}
+
+// What a step gives: the controller's successor; or the refusal, beside the controller as it was.
+pub enum Stepped {
+    Next(Controller),
+    Refused(Refusal, Controller),
+}
+
+// What the cords seen so far come to: no working one; or the least error of those that work, and how many they are.
+pub enum Tally {
+    Empty,
+    Least(AcWatts, u32),
+}
+
+// Whether low ≤ x ≤ high, which no NaN does.
+fn ordered(low: f64, x: f64, high: f64) -> bool
+    ensures { λ r. ⌜ r ≡ ordered low x high ⌝ }
+{
+    low <= x && x <= high
+}
+
+// Whether k lies above 0 and up to 1.
+fn is_efficiency(k: f64) -> bool
+    ensures { λ r. ⌜ r ≡ isEfficiency k ⌝ }
+{
+    0.0 < k && k <= 1.0
+}
+
+impl AcWatts {
+    // Whether a budget or a measurement is a number from 0 to the greatest watts.
+    fn in_range(self) -> bool
+        ensures { λ r. ⌜ r ≡ inRange self ⌝ }
+    {
+        ordered(0.0, self.0, MOST_WATTS)
+    }
+
+    // A budget less what is measured.
+    fn less(self, measured: AcWatts) -> AcWatts
+        ensures { λ r. ⌜ r ≡ difference self measured ⌝ }
+    {
+        AcWatts(self.0 - measured.0)
+    }
+
+    // The lesser of two errors, and the first of equals.
+    fn lesser(self, second: AcWatts) -> AcWatts
+        ensures { λ r. ⌜ r ≡ lesser self second ⌝ }
+    {
+        if second.0 < self.0 { second } else { self }
+    }
+
+    // The DC change for an AC error of so many working cords: the one place where AC watts become DC watts.
+    fn dc_change(self, k: f64, working: u32) -> DcWatts
+        ensures { λ r. ⌜ r ≡ dcChange self k working ⌝ }
+    {
+        let count = working as f64;
+        DcWatts((self.0 * k) * count)
+    }
+}
+
+impl DcWatts {
+    // A cap with a change added, and the sum cut to a range.
+    fn moved(self, change: DcWatts, low: DcWatts, high: DcWatts) -> DcWatts
+        ensures { λ r. ⌜ r ≡ cut (sum self change) low high ⌝ }
+    {
+        let sum = DcWatts(self.0 + change.0);
+        sum.cut(low, high)
+    }
+
+    // A cap cut to a range.
+    fn cut(self, low: DcWatts, high: DcWatts) -> DcWatts
+        ensures { λ r. ⌜ r ≡ cut self low high ⌝ }
+    {
+        if self.0 < low.0 {
+            low
+        } else if high.0 < self.0 {
+            high
+        } else {
+            self
+        }
+    }
+}
+
+impl Reading {
+    // Whether a cord's figures are good: a failed cord has none.
+    fn is_good(self) -> bool
+        ensures { λ r. ⌜ r ≡ goodReading self ⌝ }
+    {
+        match self {
+            Reading::Working(budget, measured) => budget.in_range() && measured.in_range(),
+            Reading::Failed => true,
+        }
+    }
+}
+
+impl Tally {
+    // The tally with one cord more.
+    fn with(self, reading: Reading) -> Tally
+        requires { ⌜ counted self < 4 ⌝ }
+        ensures { λ r. ⌜ r ≡ tallied self reading ⌝ }
+    {
+        match reading {
+            Reading::Working(budget, measured) => {
+                let error = budget.less(measured);
+                match self {
+                    Tally::Empty => Tally::Least(error, 1),
+                    Tally::Least(least, working) => Tally::Least(least.lesser(error), working + 1),
+                }
+            }
+            Reading::Failed => self,
+        }
+    }
+}
+
+impl Controller {
+    // One step: the successor, by the readings of the server's four cords.
+    pub fn step(self, readings: [Reading; 4]) -> Stepped
+        ensures { λ r. ⌜ r ≡ stepped self readings ⌝ }
+    {
+        if !self.is_good() {
+            return refused(BAD_CONTROLLER, 0, self);
+        }
+        let mut tally = Tally::Empty;
+        for cord in 0..4usize {
+            let reading = readings[cord];
+            if !reading.is_good() {
+                return refused(BAD_READING, cord as u64, self);
+            }
+            let next = tally.with(reading);
+            tally = next;
+        }
+        match tally {
+            Tally::Empty => Stepped::Next(self),
+            Tally::Least(error, working) => Stepped::Next(self.moved(error, working)),
+        }
+    }
+
+    // Whether k is an efficiency, and 0 ≤ low ≤ cap ≤ high ≤ the greatest watts.
+    fn is_good(self) -> bool
+        ensures { λ r. ⌜ r ≡ goodController self ⌝ }
+    {
+        if !is_efficiency(self.k) {
+            return false;
+        }
+        ordered(0.0, self.low.0, self.cap.0) && ordered(self.cap.0, self.high.0, MOST_WATTS)
+    }
+
+    // The controller with its cap moved by the least error of so many working cords.
+    fn moved(self, error: AcWatts, working: u32) -> Controller
+        ensures { λ r. ⌜ r ≡ moved self error working ⌝ }
+    {
+        let cap = self.cap;
+        let low = self.low;
+        let high = self.high;
+        let change = error.dc_change(self.k, working);
+        Controller {
+            cap: cap.moved(change, low, high),
+            k: self.k,
+            low,
+            high,
+        }
+    }
+}
+
+// A refusal, beside the controller as it is.
+fn refused(number: u64, place: u64, controller: Controller) -> Stepped
+    ensures { λ r. ⌜ r ≡ Refused (refusal number place) controller ⌝ }
+{
+    Stepped::Refused(Refusal { number, place }, controller)
+}
+
+impl Stepped {
+    // The refusal's number, or 0.
+    pub fn number(self) -> u64
+        ensures { λ r. ⌜ r ≡ stepNumber self ⌝ }
+    {
+        match self {
+            Stepped::Next(_) => 0,
+            Stepped::Refused(refusal, _) => refusal.number,
+        }
+    }
+
+    // The refusal's place, or 0.
+    pub fn place(self) -> u64
+        ensures { λ r. ⌜ r ≡ stepPlace self ⌝ }
+    {
+        match self {
+            Stepped::Next(_) => 0,
+            Stepped::Refused(refusal, _) => refusal.place,
+        }
+    }
+
+    // The controller after the step.
+    pub fn controller(self) -> Controller
+        ensures { λ r. ⌜ r ≡ controllerAfter self ⌝ }
+    {
+        match self {
+            Stepped::Next(successor) => successor,
+            Stepped::Refused(_, unchanged) => unchanged,
+        }
+    }
+}

@@ -1,5 +1,5 @@
 -- The loop of `read_lines`: the lines in front of `at` are stored; those from there on complete the answer and the list.
-use mathlib.Core.Path.{_≡_, refl, sym, ap, _∙_}
+use mathlib.Core.Path.{_≡_, refl, ap, _∙_}
 use mathlib.Core.List.{List, [], _∷_}
 use Prim.Native.Nat.{ℕ, zero, suc, _+_, _-_, _*_, _≤_, _<_}
 use native.Mathlib.Omega.{arith}
@@ -9,14 +9,13 @@ use lib.Seq.{sets}
 use borrow.Author.Tests.{le-leb, lt-leb}
 use Rattle.rooms.specs.Table.{mostNodes}
 use Rattle.schedules.specs.Text.{line}
-use Rattle.schedules.specs.Schedule.{rating, Judgement, passed, failed, judged, whole, refused, Lines, onto, linesFrom, linesOf, nodeWords}
+use Rattle.schedules.specs.Schedule.{rating, Judgement, passed, failed, judged, whole, onto, linesFrom, linesOf, nodeWords}
 use Rattle.schedules.specs.Told.{toldNode, counted, toldLines}
 use Rattle.schedules.proofs.LineLaws.{passed-is, range-is, node-told, refusal-told}
 use Rattle.schedules.specs.declared.Entry.{Entry}
 use Rattle.schedules.specs.declared.Refusal.{Refusal}
 use Rattle.schedules.specs.declared.lines.Judged.{Judged}
 use Rattle.schedules.specs.declared.lines.Judged.the-variants.{Node, Refused}
-use Rattle.schedules.specs.declared.lines.Counted.{Counted}
 use Rattle.schedules.specs.declared.lines.Counted.the-variants as counts
 
 -- The lines of a text from a place on, one by one.

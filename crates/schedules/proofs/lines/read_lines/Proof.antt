@@ -1,5 +1,4 @@
 -- `read_lines` meets its contract: the lines that are still to be read complete the answer and the list at every turn (`Reading`).
-use mathlib.Core.Path.{sym, _∙_}
 use Prim.Native.Nat.{_-_}
 use native.Mathlib.Omega.{arith}
 use borrow.Author.Needs.{needs}

@@ -1,7 +1,7 @@
 -- What the calls return and leave, from what the functions that they call ensure.
 use mathlib.Core.Path.{_≡_, refl, sym, ap, _∙_}
 use mathlib.Core.List.{List, _++_}
-use Prim.Native.Nat.{ℕ, suc, _/_, _≤_, _<_, min}
+use Prim.Native.Nat.{ℕ, suc, _/_, _≤_, min}
 use native.Mathlib.Nat.{le-refl}
 use native.Mathlib.Omega.{arith}
 use lib.ListN.{length, take, drop, length-append}

@@ -1,8 +1,8 @@
 -- What is written of each answer, and of what is read.
 use mathlib.Core.Path.{_≡_, refl, sym, ap, _∙_}
-use mathlib.Core.Bool.{Bool, true, false}
+use mathlib.Core.Bool.{true, false}
 use mathlib.Core.List.{List, [], _∷_}
-use Prim.Native.Nat.{ℕ, _+_, _*_, _≤_}
+use Prim.Native.Nat.{ℕ, _*_, _≤_}
 use native.Mathlib.Nat.{suc-ne-zero}
 use native.Mathlib.Omega.{arith}
 use lib.ListN.{length, take, length-append}
@@ -19,12 +19,9 @@ use Rattle.print.specs.Line.{refusedLine, Put}
 use Rattle.print.proofs.Putting.{put-whole}
 use Rattle.print.proofs.Size.{length-refusedLine}
 use Rattle.schedules.specs.Schedule.{Outcome, accepted, turnedBack, mostWords, refusalNumber, refusalPlace, scheduling, answerOf, after}
-use Rattle.schedules.specs.Told.{written}
-use Rattle.schedules.specs.Promises.{ScheduledRoom}
 use Rattle.schedules.proofs.TableLaws.{written-fits}
 use Rattle.schedules.proofs.Promises.{schedule-gives-room}
 use Rattle.schedules.specs.declared.Refusal.{Refusal}
-use Rattle.schedules.specs.declared.Scheduled.{Scheduled}
 use Rattle.schedules.specs.declared.Scheduled.the-variants.{Accepted, Refused}
 use Rattle.hutschedule.specs.Printed.{mostOutput, printed}
 

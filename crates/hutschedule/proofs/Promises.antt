@@ -1,5 +1,5 @@
 -- What specs/Promises.antt states.
-use mathlib.Core.Path.{_≡_, ap, _∙_}
+use mathlib.Core.Path.{ap, _∙_}
 use native.Mathlib.Omega.{arith}
 use Rattle.schedules.specs.Schedule.{mostWords}
 use Rattle.schedules.proofs.Promises.{first-bytes-decide}

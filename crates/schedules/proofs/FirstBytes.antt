@@ -10,9 +10,8 @@ use lib.ListN.{length, take, length-take}
 use lib.Seq.{getD-take}
 use borrow.Author.Tests.{le-leb, lt-leb, leb-true, leb-false}
 use Rattle.schedules.specs.Text.{byteAt, digitZero, isDigit, Step, good, bad, Part, follow, _>>=_, give, byte, digits, number, field, line, space, newline}
-use Rattle.schedules.specs.Schedule.{Judgement, passed, failed, judged, whole, Lines, onto, linesFrom, scheduling}
+use Rattle.schedules.specs.Schedule.{Judgement, passed, failed, judged, whole, onto, linesFrom, scheduling}
 use Rattle.schedules.proofs.LineLaws.{passed-is}
-use Rattle.schedules.specs.declared.Entry.{Entry}
 
 -- ---- Parts
 

@@ -1,5 +1,5 @@
 -- The loop of `read_lines`: the lines in front of `at` are stored; those from there on complete the answer and the list.
-use mathlib.Core.Path.{_≡_, refl, sym, ap, _∙_}
+use mathlib.Core.Path.{_≡_, refl, ap, _∙_}
 use mathlib.Core.List.{List, [], _∷_}
 use Prim.Native.Nat.{ℕ, zero, suc, _+_, _-_, _*_, _≤_, _<_}
 use native.Mathlib.Omega.{arith}
@@ -9,14 +9,13 @@ use lib.Seq.{sets}
 use borrow.Author.Tests.{le-leb, lt-leb}
 use Rattle.rooms.specs.Table.{mostNodes}
 use Rattle.schedules.specs.Text.{line}
-use Rattle.schedules.specs.Schedule.{rating, Judgement, passed, failed, judged, whole, refused, Lines, onto, linesFrom, linesOf, nodeWords}
+use Rattle.schedules.specs.Schedule.{rating, Judgement, passed, failed, judged, whole, onto, linesFrom, linesOf, nodeWords}
 use Rattle.schedules.specs.Told.{toldNode, counted, toldLines}
 use Rattle.schedules.proofs.LineLaws.{passed-is, range-is, node-told, refusal-told}
 use Rattle.schedules.specs.declared.Entry.{Entry}
 use Rattle.schedules.specs.declared.Refusal.{Refusal}
 use Rattle.schedules.specs.declared.lines.Judged.{Judged}
 use Rattle.schedules.specs.declared.lines.Judged.the-variants.{Node, Refused}
-use Rattle.schedules.specs.declared.lines.Counted.{Counted}
 use Rattle.schedules.specs.declared.lines.Counted.the-variants as counts
 
 -- The lines of a text from a place on, one by one.
@@ -31,11 +30,10 @@ unfolding linesFrom
 linesFrom-some most text place at h = rw (lt-leb (length text) at h)
 
 -- A node's two words, stored one after the other, and then those of the nodes after it.
-node-stored : (words words₁ words₂ : List ℕ) (index next parent watts : ℕ) (e : Entry) (rest : List Entry) → e .parent ≡ parent → rating e ≡ watts → next ≡ suc index
-    → words₁ ≡ set words index parent → words₂ ≡ set words₁ next watts
-    → sets words₂ (suc (suc index)) (nodeWords rest) ≡ sets words index (nodeWords (e ∷ rest))
+node-stored : (words : List ℕ) (index next parent watts : ℕ) (e : Entry) (rest : List Entry) → e .parent ≡ parent → rating e ≡ watts → next ≡ suc index
+    → sets (set (set words index parent) next watts) (suc (suc index)) (nodeWords rest) ≡ sets words index (nodeWords (e ∷ rest))
 unfolding nodeWords
-node-stored words words₁ words₂ index next parent watts e rest p w n s₁ s₂ = rw (s₂, s₁, n, ← p, ← w)
+node-stored words index next parent watts e rest p w n = rw (n, ← p, ← w)
 
 pub record Reading (text words₀ words : List ℕ) (at count : ℕ) : Type 0 where
   pub few : count ≤ mostNodes
@@ -84,21 +82,21 @@ module _ (text words₀ words : List ℕ) (at count : ℕ) (inv : Reading text w
           let told = node-told (judged count (line text at)) d q in
           range-is count (told .entry) (passed-is count (line text at) (told .entry) next (told .is) .range) .few
 
-      pub again : (words₁ words₂ : List ℕ) → words₁ ≡ set words (2 + 2 * count) parent → words₂ ≡ set words₁ (3 + 2 * count) watts
-          → Reading text words₀ words₂ next (count + 1)
+      pub again : Reading text words₀ (set (set words (2 + 2 * count) parent) (2 + 2 * count + 1) watts) next (count + 1)
       unfolding nodeWords
-      again words₁ words₂ w₁ w₂ =
+      again =
           let told = node-told (judged count (line text at)) d q in
           let e = rest (passed (told .entry) next) (told .is) in
           let after = linesFrom (mostNodes - count) text (suc count) next in
           let left : suc mostNodes - suc count ≡ mostNodes - count = omega (arith, few-lines) in
           let k : suc count + length (after .entries) ≡ count + suc (length (after .entries)) = omega arith in
           let i : 2 + 2 * suc count ≡ suc (suc (2 + 2 * count)) = omega arith in
-          let j : 3 + 2 * count ≡ suc (2 + 2 * count) = omega arith in
-          rw add-one
+          let j : 2 + 2 * count + 1 ≡ suc (2 + 2 * count) = omega arith in
+          let one = set words (2 + 2 * count) parent in
+          rw (add-one count)
           (record {
             few = few-lines;
-            size = ap length w₂ ∙ length-set words₁ (3 + 2 * count) watts ∙ ap length w₁ ∙ length-set words (2 + 2 * count) parent ∙ inv .size;
+            size = length-set one (2 + 2 * count + 1) watts ∙ length-set words (2 + 2 * count) parent ∙ inv .size;
             answered = rw (left, k) (rw e at (inv .answered));
-            stored = rw (left, i) (node-stored words words₁ words₂ (2 + 2 * count) (3 + 2 * count) parent watts (told .entry) (after .entries) (told .parent-is) (told .rating-is) j w₁ w₂ ∙ (rw e at (inv .stored)));
+            stored = rw (left, i) (node-stored words (2 + 2 * count) (2 + 2 * count + 1) parent watts (told .entry) (after .entries) (told .parent-is) (told .rating-is) j ∙ (rw e at (inv .stored)));
           })

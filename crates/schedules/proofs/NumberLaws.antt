@@ -1,17 +1,15 @@
 -- The loop of `read_number`: the digits read so far give `value`, and at most `left` more can follow.
-use mathlib.Core.Path.{_≡_, refl, sym, ap, _∙_}
-use mathlib.Core.Bool.{Bool, true, false, not, cond, _&&_}
+use mathlib.Core.Path.{_≡_, refl}
+use mathlib.Core.Bool.{Bool, true, false, _&&_}
 use mathlib.Core.List.{List}
 use Prim.Native.Nat.{ℕ, zero, suc, _+_, _-_, _*_, _^_, _≤_, _<_}
 use native.Mathlib.Nat.{pow-succ', mul-assoc, mul-le-mul-right, le-mul-of-pos-right, pow-le-pow-right, le-trans}
 use native.Mathlib.Omega.{arith}
 use native.Mathlib.Numerals.{add-one}
 use lib.Dec.{leb}
-use lib.ListN.{getD}
-use borrow.Author.Tests.{leb-true, eq-eqb, ne-eqb, not-true, not-false}
-use Rattle.schedules.specs.Text.{byteAt, digitZero, mostDigits, isDigit, good, bad, digits, number}
+use borrow.Author.Tests.{leb-true, eq-eqb, ne-eqb}
+use Rattle.schedules.specs.Text.{byteAt, mostDigits, isDigit, digits, number}
 use Rattle.schedules.specs.Told.{toldNumber}
-use Rattle.schedules.specs.declared.text.Number.{Number}
 use Rattle.schedules.specs.declared.text.Number.the-variants.{Value, Nothing}
 
 -- A digit is a byte from `0` to `9`.

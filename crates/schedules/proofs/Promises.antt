@@ -1,7 +1,7 @@
 -- The promises of `schedules`, proved.
-use mathlib.Core.Path.{_≡_, refl, sym, ap, _∙_}
+use mathlib.Core.Path.{_≡_, refl, sym}
 use mathlib.Core.Bool.{Bool, true, false, cond, _||_}
-use mathlib.Core.List.{List, [], _∷_, map}
+use mathlib.Core.List.{List, [], _∷_}
 use Prim.Native.Nat.{ℕ, zero, suc, _-_, _≤_, _<_}
 use native.Mathlib.Nat.{suc-ne-zero}
 use native.Mathlib.Omega.{arith}
@@ -9,8 +9,8 @@ use lib.ListN.{length, getD, length-map}
 use lib.Dec.{leb, eqb}
 use borrow.Author.Tests.{eqb-true, eq-eqb, eqb-false}
 use Rattle.schedules.specs.Sizes.{sizes, isIn, isSize}
-use Rattle.schedules.specs.Schedule.{rating, Ending, whole, refused, linesOf, tableOf, Outcome, accepted, turnedBack, fitting, scheduledLines, scheduling}
-use Rattle.schedules.specs.Promises.{SizesRise, InTable, SizesAreTheTable, WrittenText, AcceptedIsWritten, WrittenIsRead, ScheduledRoom, ScheduleGivesRoom, FirstBytesDecide}
+use Rattle.schedules.specs.Schedule.{Ending, whole, refused, linesOf, tableOf, accepted, turnedBack, fitting, scheduledLines, scheduling}
+use Rattle.schedules.specs.Promises.{SizesRise, SizesAreTheTable, AcceptedIsWritten, WrittenIsRead, ScheduleGivesRoom, FirstBytesDecide}
 use Rattle.schedules.proofs.SizeLaws as sizes
 use Rattle.schedules.proofs.TableLaws.{few-entries}
 use Rattle.schedules.specs.Written.{Pass}
@@ -18,7 +18,6 @@ use Rattle.schedules.proofs.RoomTable.{entries-pass, roomOf, table-chec
 use Rattle.schedules.proofs.ReadsText.{lines-read}
 use Rattle.schedules.proofs.WritesText.{lines-written}
 use Rattle.schedules.proofs.FirstBytes.{scheduling-cut}
-use Rattle.schedules.specs.declared.Entry.{Entry}
 use Rattle.schedules.specs.declared.Refusal.the-variants.{OutOfRange, TableTooShort}
 
 -- ---- The sizes

@@ -6,12 +6,12 @@ use Prim.Native.Nat.{ℕ, zero, suc, _+_, _-_, _*_, _≤_, _<_}
 use native.Mathlib.Nat.{suc-ne-zero}
 use native.Mathlib.Omega.{arith}
 use lib.Dec.{eqb, leb, ltb}
-use lib.ListN.{length, drop, getD, List·getD-eq-default, drop-of-length-le}
+use lib.ListN.{length, drop, List·getD-eq-default, drop-of-length-le}
 use lib.Seq.{drop-cons, append-snoc}
 use borrow.Author.Tests.{leb-true, leb-false, ltb-true, ltb-false, eqb-true, eqb-false}
 use Rattle.rooms.specs.Table.{mostNodes}
-use Rattle.schedules.specs.Text.{byteAt, digitZero, space, newline, mostDigits, isDigit, Step, good, bad, follow, byte, digits, number, field, line}
-use Rattle.schedules.specs.Schedule.{Judgement, passed, failed, judged, Ending, whole, refused, onto, linesFrom}
+use Rattle.schedules.specs.Text.{byteAt, digitZero, space, newline, isDigit, Step, good, bad, follow, byte, digits, number, field, line}
+use Rattle.schedules.specs.Schedule.{Judgement, passed, failed, judged, whole, onto, linesFrom}
 use Rattle.schedules.specs.Written.{Decimal, digit, more, LineText, Written}
 use Rattle.schedules.specs.Written as written
 use Rattle.schedules.proofs.NumberLaws.{digit-range}

@@ -1,12 +1,12 @@
 -- The table of a schedule: how it comes to stand in a list, and what each answer says of the outcome.
 use mathlib.Core.Path.{_≡_, refl, sym, ap, _∙_}
 use mathlib.Core.Bool.{Bool, true, false, cond}
-use mathlib.Core.List.{List, [], _∷_, _++_}
+use mathlib.Core.List.{List, [], _∷_}
 use Prim.Native.Nat.{ℕ, zero, suc, _+_, _*_, _/_, _≤_, _<_}
 use native.Mathlib.Nat.{suc-ne-zero}
 use native.Mathlib.Omega.{arith}
 use lib.ListN.{length, take, set, length-append, length-take}
-use lib.Seq.{sets, length-sets, set-comm, take-all, take-length}
+use lib.Seq.{sets, set-comm, take-all, take-length}
 use lib.Dec.{leb, eqb}
 use borrow.Author.Tests.{le-leb, lt-leb, leb-true, eq-eqb, ne-eqb}
 use Rattle.words.specs.Bytes.{bytesOf, answered}
@@ -14,8 +14,8 @@ use Rattle.words.proofs.Lists.{take-sets, sets-append}
 use Rattle.words.proofs.Calls.{call-done}
 use Rattle.rooms.specs.Table.{mostNodes}
 use Rattle.schedules.specs.Text.{line}
-use Rattle.schedules.specs.Schedule.{Judgement, passed, failed, judged, Ending, whole, refused, Lines, onto, linesFrom, linesOf, nodeWords, tableOf, Outcome, accepted, turnedBack, fitting, scheduledLines, scheduling, answerOf, answerNumber, answerFigure, after, mostWords}
-use Rattle.schedules.specs.Call.{bytesAfter, OutcomeCall, ScheduleCall}
+use Rattle.schedules.specs.Schedule.{Judgement, passed, failed, judged, Ending, whole, refused, onto, linesFrom, linesOf, nodeWords, tableOf, Outcome, accepted, turnedBack, fitting, scheduledLines, scheduling, answerOf, answerNumber, answerFigure, after, mostWords}
+use Rattle.schedules.specs.Call.{bytesAfter, OutcomeCall}
 use Rattle.schedules.specs.Told.{counted, toldLines, written, InFront, writtenCount}
 use Rattle.schedules.proofs.LineLaws.{passed-is, range-is}
 use Rattle.schedules.specs.declared.Entry.{Entry}

@@ -1,10 +1,10 @@
 // The lines of a schedule, judged one by one: refusals 24 to 26.
 ghost use mathlib.Core.Path.{_≡_};
-ghost use Prim.Native.Nat.{_*_};
-ghost use lib.ListN.{length, set};
+ghost use Prim.Native.Nat.{_≤_};
+ghost use lib.ListN.{length};
 ghost use lib.Seq.{sets};
 ghost use Rattle.schedules.specs.Text.{line};
-ghost use Rattle.schedules.specs.Schedule.{rating, inRange, judged, linesOf, nodeWords};
+ghost use Rattle.schedules.specs.Schedule.{inRange, judged, linesOf, nodeWords, mostWords};
 ghost use Rattle.schedules.specs.Told.{toldNode, toldLines};
 use crate::Entry;
 use crate::Refusal;
@@ -66,17 +66,9 @@ fn judge_line(text: &[u8], at: usize, place: usize) -> Judged
     Judged::Node(entry.parent, entry.amperes * entry.volts, next)
 }
 
-// Stores a word at an index of a list, if the list has it.
-fn store(words: &mut [u32], index: usize, word: u32)
-    ensures { λ _. ⌜ now (words .exit) ≡ set (now (words .entry)) index word ⌝ }
-{
-    if index < words.len() {
-        words[index] = word;
-    }
-}
-
-// Judges all lines. The words of their nodes go to the list from index 2 on, as many as it has space for.
+// Judges all lines. The words of their nodes go to the list from index 2 on.
 pub fn read_lines(text: &[u8], words: &mut [u32]) -> Counted
+    requires { ⌜ mostWords ≤ length (now words) ⌝ }
     ensures { λ r. ⌜ r ≡ toldLines (linesOf (now (text .entry))) ⌝ }
     ensures { λ _. ⌜ now (words .exit) ≡ sets (now (words .entry)) 2 (nodeWords (linesOf (now (text .entry)) .entries)) ⌝ }
 {
@@ -85,8 +77,9 @@ pub fn read_lines(text: &[u8], words: &mut [u32]) -> Counted
     while at < text.len() {
         match judge_line(text, at, count) {
             Judged::Node(parent, watts, next) => {
-                store(words, 2 + 2 * count, parent);
-                store(words, 3 + 2 * count, watts);
+                let index = 2 + 2 * count;
+                words[index] = parent;
+                words[index + 1] = watts;
                 count += 1;
                 at = next;
             }

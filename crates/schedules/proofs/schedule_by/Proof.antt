@@ -1,6 +1,5 @@
 -- `schedule_by` meets its contract: just what is accepted is copied.
 use mathlib.Core.Path.{sym}
-use native.Mathlib.Omega.{arith}
 use lib.Seq.{length-take-le}
 use borrow.Author.Needs.{needs}
 use Rattle.schedules.proofs.TableLaws.{count-fits, copied}

@@ -1,8 +1,9 @@
 -- `read_lines` meets its contract: the lines that are still to be read complete the answer and the list at every turn (`Reading`).
-use mathlib.Core.Path.{sym, _∙_}
-use Prim.Native.Nat.{_-_}
+use Prim.Native.Nat.{_+_, _-_, _*_, _<_}
 use native.Mathlib.Omega.{arith}
+use lib.ListN.{length, length-set}
 use borrow.Author.Needs.{needs}
+use Rattle.rooms.specs.Table.{mostNodes}
 use Rattle.schedules.proofs.LineLoop.{Reading, begin, end, stop, few-lines, again}
 use Rattle.schedules.proofs.lines.read_lines.Statement.{statement}
 use Rattle.schedules.proofs.lines.read_lines.Tie as tie
@@ -22,41 +23,49 @@ judge-line-requires c κs = search needs
 enum-known-parent : tie.Need-enum-known-parent Inv-loop μ-loop
 enum-known-parent c = search needs
 
-mul-store : tie.Need-mul-store Inv-loop μ-loop
-mul-store c = search needs
+-- A line that passes is none past the 512th, so that the list has its node's words.
+few : (c : tie.After-known-told Inv-loop μ-loop) → c .before .before .before .before .before .loop .count < mostNodes
+few c =
+    let judge = c .before .before .before in
+    few-lines _ _ _ _ _ (judge .before .before .loop .inv) (judge .before .loop-test .taken) (judge .judge-line .ensures) (c .before .parent .given .1)
 
-add-store : tie.Need-add-store Inv-loop μ-loop
-add-store c = search needs
+long : (c : tie.After-known-told Inv-loop μ-loop)
+    → 2 + 2 * c .before .before .before .before .before .loop .count + 1 < length (c .before .before .before .before .before .loop .words)
+long c =
+    let turn = c .before .before .before .before .before in
+    omega (arith, few c, turn .loop .inv .size, turn .before .before .before .pre)
 
-store-requires : tie.Need-store-requires Inv-loop μ-loop
-store-requires c κs = search needs
+mul-index : tie.Need-mul-index Inv-loop μ-loop
+mul-index c = omega (arith, few c)
 
-mul-store-2 : tie.Need-mul-store-2 Inv-loop μ-loop
-mul-store-2 c = search needs
+add-index : tie.Need-add-index Inv-loop μ-loop
+add-index c = omega (arith, few c)
 
-add-store-2 : tie.Need-add-store-2 Inv-loop μ-loop
-add-store-2 c = search needs
+mul-words : tie.Need-mul-words Inv-loop μ-loop
+mul-words c = omega (arith, few c)
 
-store-requires-2 : tie.Need-store-requires-2 Inv-loop μ-loop
-store-requires-2 c κs = search needs
+slice-write-words : tie.Need-slice-write-words Inv-loop μ-loop
+slice-write-words c = omega (arith, long c)
+
+add-words : tie.Need-add-words Inv-loop μ-loop
+add-words c = omega (arith, few c)
+
+mul-words-2 : tie.Need-mul-words-2 Inv-loop μ-loop
+mul-words-2 c = omega (arith, few c)
+
+slice-write-words-2 : tie.Need-slice-write-words-2 Inv-loop μ-loop
+slice-write-words-2 c = simp length-set (omega (arith, long c))
 
 add-count : tie.Need-add-count Inv-loop μ-loop
-add-count c = search needs
+add-count c = omega (arith, few c)
 
 loop-less : tie.Need-loop-less Inv-loop μ-loop
-loop-less c =
-    let node = c .before .before .before .before .before .before .before .before .before in
-    let judge = node .before .before in
-    let turn = judge .before .before .loop in
-    omega (arith, few-lines _ _ _ _ _ (turn .inv) (judge .before .loop-test .taken) (judge .judge-line .ensures) (node .parent .given .1))
+loop-less c = omega (arith, few c)
 
 loop-again : tie.Need-loop-again Inv-loop μ-loop
 loop-again c =
-    let node = c .before .before .before .before .before .before .before .before .before in
-    let judge = node .before .before in
-    let turn = judge .before .before .loop in
-    again _ _ _ _ _ (turn .inv) (judge .before .loop-test .taken) (judge .judge-line .ensures) (node .parent .given .1) _ _
-    (c .before .before .before .before .before .before .store .ensures) (c .before .before .store2 .ensures)
+    let judge = c .before .before .before in
+    again _ _ _ _ _ (judge .before .before .loop .inv) (judge .before .loop-test .taken) (judge .judge-line .ensures) (c .before .parent .given .1)
 
 enum-known-refusal : tie.Need-enum-known-refusal Inv-loop μ-loop
 enum-known-refusal c = search needs
@@ -84,12 +93,13 @@ read-lines-spec =
     loop-holds
     judge-line-requires
     enum-known-parent
-    mul-store
-    add-store
-    store-requires
-    mul-store-2
-    add-store-2
-    store-requires-2
+    mul-index
+    add-index
+    mul-words
+    slice-write-words
+    add-words
+    mul-words-2
+    slice-write-words-2
     add-count
     loop-less
     loop-again

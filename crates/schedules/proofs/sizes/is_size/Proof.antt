@@ -1,6 +1,5 @@
 -- `is_size` meets its contract: the sizes from a place on decide, at every turn (`Searching`).
 use Prim.Native.Nat.{_-_}
-use native.Mathlib.Omega.{arith}
 use borrow.Author.Needs.{needs}
 use Rattle.schedules.specs.Sizes.{sizes}
 use Rattle.schedules.proofs.SizeLaws.{Searching, begin, again, stop, end}

@@ -1,8 +1,7 @@
 -- `read_field` meets its contract: the number, and then the byte.
-use mathlib.Core.Path.{_≡_, sym, _∙_}
+use mathlib.Core.Path.{sym, _∙_}
 use native.Mathlib.Omega.{arith}
 use borrow.Author.Needs.{needs}
-use Rattle.schedules.specs.Text.{good, number}
 use Rattle.schedules.proofs.LineLaws.{number-good, number-bad, field-none, field-other, field-found}
 use Rattle.schedules.proofs.text.read_field.Statement.{statement}
 use Rattle.schedules.proofs.text.read_field.Tie as tie

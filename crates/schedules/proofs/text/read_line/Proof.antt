@@ -1,5 +1,4 @@
 -- `read_line` meets its contract: its three fields in order.
-use mathlib.Core.Path.{_≡_}
 use borrow.Author.Needs.{needs}
 use Rattle.schedules.proofs.LineLaws.{number-good, number-bad, line-first, line-second, line-third, line-whole}
 use Rattle.schedules.proofs.text.read_line.Statement.{statement}

@@ -1,6 +1,6 @@
 -- `serve` meets its contract: the watts dealt on the node grow from one quotient of the split to the next, and all the weight takes all.
 use mathlib.Core.Path.{sym, ap, ap₂, _∙_}
-use Prim.Native.Nat.{ℕ, _+_, _*_, _/_}
+use Prim.Native.Nat.{ℕ, _+_, _-_, _*_, _/_}
 use native.Mathlib.Omega.{arith}
 use native.Mathlib.Nat.{mul-le-mul-left, lt-of-le-of-lt}
 use borrow.Author.Needs.{needs}

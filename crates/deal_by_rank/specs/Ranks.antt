@@ -3,7 +3,7 @@ use mathlib.Core.Path.{_≡_}
 use mathlib.Core.List.{List, []}
 use Prim.Native.Nat.{ℕ, suc, _+_, _-_, _≤_, _<_}
 use lib.ListN.{length, getD}
-use Rattle.figures.specs.Sums.{sum}
+use Rattle.figures.specs.Sums.{on, sum}
 use Rattle.rooms.specs.Table.{mostNodes, mostWatts, highestRank}
 use Rattle.rooms.specs.Limits.{beneath}
 use Rattle.figures.specs.Figures.{figures, at, cell}

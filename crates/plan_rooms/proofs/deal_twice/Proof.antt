@@ -5,7 +5,8 @@ use native.Mathlib.Omega.{arith}
 use borrow.Author.Needs.{needs}
 use lib.ListN.{length}
 use Rattle.deal_by_rank.specs.Ranks.{BlankRows}
-use Rattle.reclaim.proofs.Reclaiming.{grants-kept, DealsMade, deals-start, reclaimable, dealable, deals-next}
+use Rattle.reclaim.proofs.Reclaiming.{grants-kept}
+use Rattle.plan_rooms.proofs.TwoDeals.{DealsMade, deals-start, reclaimable, dealable, deals-next}
 use Rattle.plan_rooms.proofs.deal_twice.Statement.{statement}
 use Rattle.plan_rooms.proofs.deal_twice.Tie as tie
 

@@ -5,7 +5,7 @@ use mathlib.Core.List.{List, [], _∷_}
 use Prim.Native.Nat.{ℕ}
 use Rattle.rooms.specs.Part.{follow, word, ensure, end, many}
 use Rattle.figures.specs.Figures.{total}
-use Rattle.rooms.specs.Table.{node, cord, range, load, server, table}
+use Rattle.rooms.specs.Table.{formOf, percent, node, cord, range, load, server, table}
 use Rattle.rooms.specs.Limits.{beneath, serverLows, lows, firstNode, overloaded}
 use Rattle.deals.specs.Split.{split}
 use Rattle.deals.specs.Plan.{accepted, refused, plan}
@@ -22,7 +22,7 @@ room-h : (plan tableH (400 ∷ 400 ∷ []) 3 2 ≡ accepted 13 (120 ∷ 97 ∷ 3
     × (plan tableH (400 ∷ 400 ∷ []) 2 0 ≡ refused (GrantsTooShort 3))
     × (plan tableH (400 ∷ 400 ∷ []) 3 1 ≡ refused (CapsTooShort 2))
 unfolding plan
-    follow word ensure end many total node cord range load server table
+    follow word ensure end many total formOf percent node cord range load server table
     beneath serverLows lows firstNode overloaded
 room-h = (refl, refl, refl, refl, refl)
 
@@ -47,6 +47,6 @@ near-misses : (split 60 (50 ∷ 210 ∷ []) ≡ 11 ∷ 49 ∷ [])
     × (plan tableO (1 ∷ 1 ∷ []) 2 2 ≡ accepted 0 (0 ∷ 1 ∷ []) (0 ∷ 1 ∷ []))
     × (plan tableS (430 ∷ 430 ∷ 430 ∷ 430 ∷ []) 4 4 ≡ accepted 0 (430 ∷ 270 ∷ 270 ∷ 270 ∷ []) (430 ∷ 270 ∷ 270 ∷ 270 ∷ []))
 unfolding plan split
-    follow word ensure end many total node cord range load server table
+    follow word ensure end many total formOf percent node cord range load server table
     beneath serverLows lows firstNode overloaded
 near-misses = (refl, refl, refl, refl)

@@ -13,7 +13,7 @@ use Rattle.words.proofs.Calls.{call-done}
 use Rattle.rooms.specs.Outcome.{Outcome, answerOf, answerNumber, answerFigure, after, reading, readingFirst, writing}
 use Rattle.rooms.specs.declared.Answer.{Answer}
 use Rattle.rooms.specs.declared.Answer.the-variants.{Accepted, Refused}
-use Rattle.rooms.proofs.Reach.{mostWords}
+use Rattle.rooms.specs.Table.{mostWords}
 use Rattle.rooms.proofs.Outcomes.{front-length, refused-told}
 use Rattle.rooms.proofs.Lent.{reading-first, reading-fits, Stands, writing-cut}
 use Rattle.capi.specs.Calls.{OutcomeCall, ReadCall, WriteCall, bytesAfter}

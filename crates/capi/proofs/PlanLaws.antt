@@ -1,27 +1,20 @@
 -- What the call of Plan returns and leaves, from what the functions that it calls ensure.
 use mathlib.Core.Path.{_≡_, refl, sym, ap, ap₂, _∙_}
-use mathlib.Core.Bool.{Bool, true, false}
 use mathlib.Core.List.{List, [], _++_}
-use Prim.Native.Nat.{ℕ, _+_, _-_, _*_, _/_, _≤_, _<_, min}
+use Prim.Native.Nat.{ℕ, suc, _/_, _≤_, _<_, min}
 use native.Mathlib.Omega.{arith}
-use lib.ListN.{length, getD, take, drop}
-use lib.Dec.{eqb}
-use borrow.Author.Tests.{eqb-true, eqb-false}
+use lib.ListN.{length, take, drop}
 use lib.Seq.{sets}
 use Rattle.words.specs.Bytes.{wordsOf, bytesOf, answered}
 use Rattle.words.proofs.Bytes.{take-loaded}
-use Rattle.rooms.specs.Part.{good}
-use Rattle.rooms.specs.Table.{Room, roomCords}
-use Rattle.rooms.specs.Limits.{checked}
-use Rattle.rooms.proofs.Reach.{length-is}
+use Rattle.rooms.specs.Table.{mostWords, mostServers}
 use Rattle.rooms.proofs.Outcomes.{front-length}
-use Rattle.deals.specs.Plan.{Outcome, accepted, refused, planRoom, planStep, plan, answerOf, grantsAfter, capsAfter, planNumber, planFigure}
+use Rattle.room_lists.specs.Lists.{CordsFit}
+use Rattle.deals.specs.Plan.{Outcome, accepted, refused, plan, answerOf, grantsAfter, capsAfter, planNumber, planFigure}
 use Rattle.deals.specs.declared.Planned.{Planned}
-use Rattle.deals.specs.declared.PlanRefusal.the-variants.{DemandCount}
-use Rattle.deals.proofs.Plans.{plan-demand-count}
 use Rattle.deals.proofs.Lent.{plan-inputs-cut, plan-lists-cut, plan-written}
 use Rattle.capi.specs.Calls.{PlannedCall, PlanCall, grantBytesAfter, capBytesAfter}
-use Rattle.capi.specs.Counts.{plannedCount, cordCount}
+use Rattle.capi.specs.Counts.{plannedCount}
 use Rattle.words.proofs.Calls.{call-short, call-done, answer-told}
 use Rattle.capi.proofs.CallLaws.{count-fits, written-stored}
 
@@ -55,41 +48,20 @@ cap-bytes (accepted freed grants caps) bytes = refl
 cap-bytes (refused refusal) bytes = refl
 
 -- They are as many as the counts say, and fit their lists.
-record Counted (table demands : List ℕ) (g c : ℕ) (o : Outcome) : Type 0 where
-  grants : length (grantsOf o) ≡ plannedCount (answerOf o) (cordCount table (length demands))
+record Counted (demands : List ℕ) (cords g c : ℕ) (o : Outcome) : Type 0 where
+  grants : length (grantsOf o) ≡ plannedCount (answerOf o) cords
   caps : length (capsOf o) ≡ plannedCount (answerOf o) (length demands)
   grantsFit : length (grantsOf o) ≤ g
   capsFit : length (capsOf o) ≤ c
 
--- An accepted plan has a demand for each server.
-demand-each : (table demands : List ℕ) (g c : ℕ) {r : Room} {end f : ℕ} {gs cs : List ℕ} → checked table 0 ≡ good r end → plan table demands g c ≡ accepted f gs cs
-    → length demands ≡ length (r .servers)
-unfolding plan planStep
-demand-each table demands g c {r = r} {f = f} {gs = gs} {cs = cs} is e = go (eqb (length demands) (length (r .servers))) refl (rw is at e)
+counted : (table demands : List ℕ) (cords g c : ℕ) → CordsFit table cords → Counted demands cords g c (plan table demands g c)
+counted table demands cords g c fit = go (plan table demands g c) refl
   where
-    go : (t : Bool) → eqb (length demands) (length (r .servers)) ≡ t → planRoom r demands g c ≡ accepted f gs cs → length demands ≡ length (r .servers)
-    go true t e = eqb-true (length demands) (length (r .servers)) t
-    go false t e =
-        let z : refused (DemandCount (length (r .servers))) ≡ accepted f gs cs = sym (plan-demand-count r demands g c (eqb-false (length demands) (length (r .servers)) t)) ∙ e in
-        absurd (let z : _≡_ {A = ℕ} 0 1 = cc in omega arith)
-
--- The half of twice a number, apart from what stands before it.
-halved : (before cords : ℕ) → (before + 2 * cords - before) / 2 ≡ cords
-halved before cords = omega arith
-
--- The length of an accepted table tells its cords.
-cords-told : (table : List ℕ) {r : Room} {end : ℕ} → checked table 0 ≡ good r end → cordCount table (length (r .servers)) ≡ roomCords r
-cords-told table {r = r} {end = end} is =
-    ap (λ (n : ℕ). (n - (3 + 2 * getD table 1 0 + 4 * length (r .servers))) / 2) (length-is table r end is) ∙ halved (3 + 2 * getD table 1 0 + 4 * length (r .servers)) (roomCords r)
-
-counted : (table demands : List ℕ) (g c : ℕ) → Counted table demands g c (plan table demands g c)
-counted table demands g c = go (plan table demands g c) refl
-  where
-    go : (o : Outcome) → plan table demands g c ≡ o → Counted table demands g c o
+    go : (o : Outcome) → plan table demands g c ≡ o → Counted demands cords g c o
     go (accepted f gs cs) e =
         let w = plan-written table demands g c e in
         record {
-          grants = w .fits .grantCount ∙ sym (ap (cordCount table) (demand-each table demands g c (w .isRoom) e) ∙ cords-told table (w .isRoom));
+          grants = w .fits .grantCount ∙ sym (fit _ _ (w .isRoom));
           caps = w .fits .capCount;
           grantsFit = w .fits .grantsFit;
           capsFit = w .fits .capsFit;
@@ -109,18 +81,18 @@ module _ (table demands granted capped : List ℕ) (grantsSpace capsSpace : ℕ)
   abbrev own : Outcome
   own = plan table demands (length (take grantsSpace granted)) (length (take capsSpace capped))
 
-  own-counted : Counted table demands (length (take grantsSpace granted)) (length (take capsSpace capped)) own
-  own-counted = counted table demands (length (take grantsSpace granted)) (length (take capsSpace capped))
-
   same-plan : (g c : ℕ) → 1024 ≤ length granted → 512 ≤ length capped → grantsSpace ≡ min g (length granted) → capsSpace ≡ min c (length capped)
       → own ≡ plan table demands g c
   same-plan g c hg hc rg rc =
       ap₂ (plan table demands) (sym (front-length g granted rg) ∙ rg) (sym (front-length c capped rc) ∙ rc)
       ∙ plan-lists-cut table demands g (length granted) c (length capped) hg hc
 
-  module _ {planned : Planned} {cords : ℕ} (is : planned ≡ answerOf own) (k : cords ≡ cordCount table (length demands)) where
+  module _ {planned : Planned} {cords : ℕ} (is : planned ≡ answerOf own) (k : CordsFit table cords) where
+    own-counted : Counted demands cords (length (take grantsSpace granted)) (length (take capsSpace capped)) own
+    own-counted = counted table demands cords (length (take grantsSpace granted)) (length (take capsSpace capped)) k
+
     grants-counted : {count : ℕ} → count ≡ plannedCount planned cords → count ≡ length (grantsOf own)
-    grants-counted n = n ∙ ap₂ plannedCount is k ∙ sym (own-counted .grants)
+    grants-counted n = n ∙ ap (λ (p : Planned). plannedCount p cords) is ∙ sym (own-counted .grants)
 
     caps-counted : {count : ℕ} → count ≡ plannedCount planned (length demands) → count ≡ length (capsOf own)
     caps-counted n = n ∙ ap (λ (p : Planned). plannedCount p (length demands)) is ∙ sym (own-counted .caps)
@@ -169,7 +141,7 @@ module _ (table demands granted capped : List ℕ) (grantsSpace capsSpace : ℕ)
 
 -- Plan of what `load` takes of a table and of demands.
 pub plan-loaded : (table words demands figures grants caps answer : List ℕ) {wordCount figureCount r : ℕ} {words′ figures′ grants′ caps′ answer′ : List ℕ}
-    → 5124 ≤ length words → 513 ≤ length figures
+    → suc mostWords ≤ length words → suc mostServers ≤ length figures
     → wordCount ≡ min (length table / 4) (length words) → words′ ≡ sets words 0 (wordsOf table)
     → figureCount ≡ min (length demands / 4) (length figures) → figures′ ≡ sets figures 0 (wordsOf demands)
     → PlanCall (take wordCount words′) (take figureCount figures′) grants caps answer r grants′ caps′ answer′

@@ -13,26 +13,26 @@
 //                           uint8_t *caps, size_t caps_len,
 //                           uint8_t *answer, size_t answer_len);
 ghost use mathlib.Core.Path.{_≡_};
-ghost use Prim.Native.Nat.{suc, _≤_, _<_, _^_, min};
+ghost use Prim.Native.Nat.{suc, _≤_, min};
 ghost use lib.ListN.{length};
 ghost use Rattle.words.specs.Bytes.{wordsOf, answered};
-ghost use Rattle.rooms.specs.Table.{mostServers, mostCords};
+ghost use Rattle.rooms.specs.Table.{mostServers, mostCords, mostWords};
 ghost use Rattle.rooms.specs.Outcome.{answerNumber, answerFigure};
 ghost use Rattle.capi.specs.Calls.{ReadCall, WriteCall, PlanCall};
-ghost use Rattle.capi.specs.Counts.{writtenCount, plannedCount, cordCount};
+ghost use Rattle.capi.specs.Counts.{writtenCount, plannedCount};
 use deals::Planned;
+use room_lists::cord_count;
 use rooms::Answer;
 use rooms::DECIDING_WORDS;
 
 pub mod schedule;
 pub mod send;
-
 pub mod steps;
 
 // An answer is two numbers of eight bytes each.
 const ANSWER_BYTES: usize = 16;
 
-// A room has at most 512 servers, so one demand more decides every demand list.
+// One demand more than a room may have servers: so many decide every demand list.
 const DECIDING_DEMANDS: usize = 513;
 
 // A plan writes at most 1,024 grants and 512 caps.
@@ -84,7 +84,7 @@ pub extern "C" fn hutplan_plan(
 
 // Read by way of a list of words, of which those of an accepted table are stored.
 fn read_by(sheet: &[u8], words: &mut [u32], table: &mut [u8], answer: &mut [u8]) -> u32
-    requires { ⌜ 5124 ≤ length (now words) ⌝ }
+    requires { ⌜ suc mostWords ≤ length (now words) ⌝ }
     ensures { λ r. ⌜ ReadCall (now (sheet .entry)) (now (table .entry)) (now (answer .entry)) r (now (table .exit)) (now (answer .exit)) ⌝ }
 {
     if answer.len() < ANSWER_BYTES {
@@ -99,7 +99,7 @@ fn read_by(sheet: &[u8], words: &mut [u32], table: &mut [u8], answer: &mut [u8])
 
 // Write by way of a list of words, which takes the first of the table.
 fn write_by(table: &[u8], words: &mut [u32], sheet: &mut [u8], answer: &mut [u8]) -> u32
-    requires { ⌜ 5124 ≤ length (now words) ⌝ }
+    requires { ⌜ suc mostWords ≤ length (now words) ⌝ }
     ensures { λ r. ⌜ WriteCall (now (table .entry)) (now (sheet .entry)) (now (answer .entry)) r (now (sheet .exit)) (now (answer .exit)) ⌝ }
 {
     if answer.len() < ANSWER_BYTES {
@@ -121,7 +121,7 @@ fn plan_loaded(
     caps: &mut [u8],
     answer: &mut [u8],
 ) -> u32
-    requires { ⌜ 5124 ≤ length (now words) ⌝ }
+    requires { ⌜ suc mostWords ≤ length (now words) ⌝ }
     requires { ⌜ suc mostServers ≤ length (now figures) ⌝ }
     ensures { λ r. ⌜ PlanCall (wordsOf (now (table .entry))) (wordsOf (now (demands .entry))) (now (grants .entry)) (now (caps .entry)) (now (answer .entry)) r (now (grants .exit)) (now (caps .exit)) (now (answer .exit)) ⌝ }
 {
@@ -184,7 +184,7 @@ fn plan_by(
         &mut granted[..grants_space],
         &mut capped[..caps_space],
     );
-    let grants_count = planned_count(planned, cord_count(table, demands));
+    let grants_count = planned_count(planned, cord_count(table));
     let caps_count = planned_count(planned, demands.len());
     words::store(&granted[..grants_count], grants);
     words::store(&capped[..caps_count], caps);
@@ -219,27 +219,6 @@ fn planned_count(planned: Planned, count: usize) -> usize
         Planned::Accepted(_) => count,
         Planned::Refused(_) => 0,
     }
-}
-
-// The cords of a table that is accepted with these demands: its length tells them, which is cheaper than a walk.
-fn cord_count(table: &[u32], demands: &[u32]) -> usize
-    ensures { λ r. ⌜ r ≡ cordCount (now (table .entry)) (length (now (demands .entry))) ⌝ }
-{
-    if table.len() < 2 {
-        return 0;
-    }
-    let others = 3 + 2 * wide(table[1]) + 4 * demands.len();
-    if table.len() < others {
-        return 0;
-    }
-    (table.len() - others) / 2
-}
-
-// A word as a count, with the bound that the sum in `cord_count` needs.
-fn wide(word: u32) -> usize
-    ensures { λ r. ⌜ (r ≡ word) × (r < 2 ^ 32) ⌝ }
-{
-    word as usize
 }
 
 // The lesser of two counts.

@@ -10,7 +10,7 @@ use lib.Dec.{eqb, ltb}
 use lib.ListN.{length}
 use borrow.Author.Tests.{eqb-true, eq-eqb, ltb-true, lt-ltb}
 use Rattle.figures.specs.Sums.{on, sum}
-use Rattle.rooms.specs.Table.{Room, scale, roomCords}
+use Rattle.rooms.specs.Table.{Room, roomCords}
 use Rattle.rooms.specs.Limits.{carried, limit, beneath, nodeAt, parentOf, hangsBeneath, lowsBeneath}
 use Rattle.rooms.proofs.All.{all-at}
 use Rattle.rooms.proofs.Accepted.{CordAccepted, ServerAccepted, Accepted}
@@ -26,13 +26,14 @@ use Rattle.deals.specs.Dealing.{grantsBy}
 use Rattle.deals.proofs.Requests.{Dealable, WholeWay}
 use Rattle.figures.proofs.Lists.{figures-at, figures-length}
 use Rattle.deals.proofs.Computed.{Startable, lows-startable, granted-way}
+use Rattle.rooms.proofs.Carried.{carried-le}
 use Rattle.rooms.proofs.Cords.{cordsOf-all, lows-sum}
 use Rattle.deals.proofs.RoomDeals.{levelsOf-at, roomDeal, dealOf-is, grantsBy-is}
-use Rattle.deals.proofs.Loads.{carried-mono, carried-le, load-within, load-reached, both, leastOver-ge, leastOver-start, leastOver-le}
+use Rattle.deals.proofs.Loads.{carried-mono, load-within, load-reached, both, leastOver-ge, leastOver-start, leastOver-le}
 
 -- What the rules leave of one of the room's cords.
 abbrev pub CordFacts : Room → RoomCord → Type 0
-CordFacts r c = (c .server < length (r .servers)) × (1 ≤ c .node) × (c .node ≤ length (r .nodes)) × (c .share ≤ scale)
+CordFacts r c = (c .server < length (r .servers)) × (1 ≤ c .node) × (c .node ≤ length (r .nodes)) × (c .share ≤ r .scale)
 
 -- ---- Each figure of the lists
 
@@ -45,7 +46,7 @@ unfolding needs
 needs-at r demands v l = figures-at (length (r .servers)) v _ l
 
 pub carriedBy-at : (r : Room) (loads : List ℕ) (c : ℕ) → c < roomCords r
-    → at (carriedBy r loads) c ≡ carried scale (cordAt r c .share) (at loads (cordAt r c .server))
+    → at (carriedBy r loads) c ≡ carried (r .scale) (cordAt r c .share) (at loads (cordAt r c .server))
 unfolding carriedBy
 carriedBy-at r loads c l = figures-at (roomCords r) c _ l
 
@@ -91,19 +92,19 @@ module _ (r : Room) (ok : Accepted r) where
   pub parents-below : (m : ℕ) → m < length (r .nodes) → parentOf r m ≤ m
   parents-below m l = ok .nodes m l .parentTo
 
-  pub server-facts : (v : ℕ) → v < length (r .servers) → ServerAccepted (length (r .nodes)) (serverAt r v)
-  server-facts v l = all-at (ServerAccepted (length (r .nodes))) (r .servers) (ok .servers) v _ l
+  pub server-facts : (v : ℕ) → v < length (r .servers) → ServerAccepted (r .scale) (length (r .nodes)) (serverAt r v)
+  server-facts v l = all-at (ServerAccepted (r .scale) (length (r .nodes))) (r .servers) (ok .servers) v _ l
 
   pub cord-facts : (c : ℕ) → c < roomCords r → CordFacts r (cordAt r c)
   cord-facts = cordsOf-all (CordFacts r) r (λ v k lv lk.
-      let s = all-at (CordAccepted (length (r .nodes))) (serverAt r v .cords) (server-facts v lv .cords) k (record { node = 0; share = 0 }) lk in
+      let s = all-at (CordAccepted (r .scale) (length (r .nodes))) (serverAt r v .cords) (server-facts v lv .cords) k (record { node = 0; share = 0 }) lk in
       (lv, s .nodeFrom, s .nodeTo, s .shareTo))
 
-  pub lowsOf-at : (c : ℕ) → c < roomCords r → at (lowsOf r) c ≡ carried scale (cordAt r c .share) (serverOf r c .least)
+  pub lowsOf-at : (c : ℕ) → c < roomCords r → at (lowsOf r) c ≡ carried (r .scale) (cordAt r c .share) (serverOf r c .least)
   unfolding lowsOf
   lowsOf-at c l =
       carriedBy-at r (leasts r) c l
-      ∙ ap (λ (z : ℕ). carried scale (cordAt r c .share) z) (figures-at (length (r .servers)) (cordAt r c .server) _ (cord-facts c l .0))
+      ∙ ap (λ (z : ℕ). carried (r .scale) (cordAt r c .share) z) (figures-at (length (r .servers)) (cordAt r c .server) _ (cord-facts c l .0))
 
   -- ---- Carried figures
 
@@ -111,7 +112,7 @@ module _ (r : Room) (ok : Accepted r) where
       → at (carriedBy r f) c ≤ at (carriedBy r g) c
   carriedBy-mono f g h c l =
       le-trans (le-of-eq (carriedBy-at r f c l))
-      (le-trans (carried-mono scale (cordAt r c .share) (h (cordAt r c .server) (cord-facts c l .0))) (le-of-eq (sym (carriedBy-at r g c l))))
+      (le-trans (carried-mono (r .scale) (cordAt r c .share) (h (cordAt r c .server) (cord-facts c l .0))) (le-of-eq (sym (carriedBy-at r g c l))))
 
   -- What is carried of no less than each server's least is no less than the lows.
   pub carriedBy-lows : (f : List ℕ) → ((v : ℕ) → v < length (r .servers) → serverAt r v .least ≤ at f v) → (c : ℕ) → c < roomCords r
@@ -141,7 +142,7 @@ module _ (r : Room) (ok : Accepted r) where
       let q : (eqb (cordAt r c .server) v ≡ true) × (ltb 0 (cordAt r c .share) ≡ true) = both _ _ t in
       let e : serverOf r c .least ≡ serverAt r v .least = ap (λ (z : ℕ). serverAt r z .least) (eqb-true (cordAt r c .server) v (q .0)) in
       le-trans (le-of-eq (sym e))
-      (load-reached scale (cordAt r c .share) (serverOf r c .least) (at grants c) (omega arith) (ltb-true 0 (cordAt r c .share) (q .1))
+      (load-reached (r .scale) (cordAt r c .share) (serverOf r c .least) (at grants c) (ok .scaled .0) (ltb-true 0 (cordAt r c .share) (q .1))
       (le-trans (le-of-eq (sym (lowsOf-at c lc))) (h c lc)))))
       (le-of-eq (sym (usable-at r need grants v l)))
 
@@ -150,12 +151,12 @@ module _ (r : Room) (ok : Accepted r) where
   used-granted need grants c l = le-trans (le-of-eq (carriedBy-at r (usable r need grants) c l)) (go (eq-zero-or-pos (cordAt r c .share)))
     where
       go : (cordAt r c .share ≡ 0) ⊎ (0 < cordAt r c .share)
-          → carried scale (cordAt r c .share) (at (usable r need grants) (cordAt r c .server)) ≤ at grants c
+          → carried (r .scale) (cordAt r c .share) (at (usable r need grants) (cordAt r c .server)) ≤ at grants c
       go (inl e) =
-          carried-le scale (cordAt r c .share) (at (usable r need grants) (cordAt r c .server)) (at grants c) (omega arith)
+          carried-le (r .scale) (cordAt r c .share) (at (usable r need grants) (cordAt r c .server)) (at grants c) (ok .scaled .0)
           (le-trans (le-of-eq (ap (λ (z : ℕ). z * at (usable r need grants) (cordAt r c .server)) e ∙ zero-mul _)) (omega arith))
       go (inr p) =
-          load-within scale (cordAt r c .share) (at (usable r need grants) (cordAt r c .server)) (at grants c) (omega arith) p
+          load-within (r .scale) (cordAt r c .share) (at (usable r need grants) (cordAt r c .server)) (at grants c) (ok .scaled .0) p
           (le-trans (le-of-eq (usable-at r need grants (cordAt r c .server) (cord-facts c l .0)))
           (leastOver-le (roomCords r) (loaded r (cordAt r c .server)) (loadOf r grants) (at need (cordAt r c .server)) c l
           (yes-both (eqb (cordAt r c .server) (cordAt r c .server)) (ltb 0 (cordAt r c .share))

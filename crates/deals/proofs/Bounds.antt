@@ -9,7 +9,7 @@ use mathlib.Core.Bool.{Bool, true, false}
 use lib.Dec.{eqb}
 use lib.ListN.{length, getD, drop}
 use Rattle.figures.specs.Sums.{on, sum}
-use Rattle.rooms.specs.Table.{Room, mostWatts, mostCords, scale, roomCords}
+use Rattle.rooms.specs.Table.{Room, mostWatts, mostCords, roomCords}
 use Rattle.rooms.specs.Limits.{beneath, limit, nodeAt}
 use Rattle.rooms.proofs.Accepted.{Accepted}
 use Rattle.figures.proofs.Sums.{up}
@@ -28,7 +28,7 @@ use Rattle.deals.proofs.Equations.{weights, amount-within, weights-aske
 use Rattle.deals.proofs.Computed.{childSums-at, requestsFrom-length, requests-levels, pcapmin, request, startsOf, amountOf, measured, dealt, Startable}
 use Rattle.deals.proofs.Totals.{requestTotal-is, pcapminBelow-is}
 use Rattle.figures.proofs.Lists.{total-sum, sum-most, sum-one-le, sumOf-most}
-use Rattle.deals.proofs.Loads.{carried-most}
+use Rattle.rooms.proofs.Carried.{carried-most, limit-le}
 use Rattle.deals.proofs.BothDeals.{server-facts, cord-facts, carriedBy-at, stranded-at, stranded-count, need-le, first-most, firstWants-lows, secondWants-lows, secondWants-wants, room-dealable, room-startable}
 use Rattle.deals.proofs.RoomDeals.{roomDeal, dealOf-is}
 
@@ -120,7 +120,7 @@ module _ (d : Deal) (ok : Dealable d) (few : d .cords ≤ mostCords) (limits : (
 
 module _ (r : Room) (ok : Accepted r) (demands : List ℕ) where
   limit-most : (n : ℕ) → n < length (r .nodes) → limit (nodeAt r n) ≤ mostWatts
-  limit-most n l = omega (arith, ok .nodes n l .ratingTo)
+  limit-most n l = le-trans (limit-le (nodeAt r n) (ok .nodes n l .percentTo)) (ok .nodes n l .ratingTo)
 
   needs-most : (v : ℕ) → v < length (r .servers) → at (needs r demands) v ≤ mostWatts
   needs-most v l = le-trans (need-le r ok demands v l) (server-facts r ok v l .greatestTo)
@@ -129,7 +129,7 @@ module _ (r : Room) (ok : Accepted r) (demands : List ℕ) where
   unfolding firstWants
   firstWants-most c l =
       le-trans (le-of-eq (carriedBy-at r (needs r demands) c l))
-      (le-trans (carried-most scale (cordAt r c .share) (at (needs r demands) (cordAt r c .server)) (omega arith) (cord-facts r ok c l .3))
+      (le-trans (carried-most (r .scale) (cordAt r c .share) (at (needs r demands) (cordAt r c .server)) (ok .scaled .0) (cord-facts r ok c l .3))
       (needs-most (cordAt r c .server) (cord-facts r ok c l .0)))
 
   freed-most : freed r demands ≤ mostSum

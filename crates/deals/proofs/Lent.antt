@@ -1,5 +1,5 @@
--- How long the lists must be that are lent to Plan: 5,124 words decide every table and 513 demands every demand list, and 1,024
--- grants and 512 caps take every answer. A caller whose own lists may be of any length may lend such lists in their place.
+-- How long the lists must be that are lent to Plan: one word more than a table may have decides every table, one demand more than a
+-- room may have servers every demand list, and as many grants and caps as it may have cords and servers take every answer. A caller whose own lists may be of any length may lend such lists in their place.
 use mathlib.Core.Path.{_≡_, refl, sym, ap, ap₂, _∙_}
 use mathlib.Core.Bool.{Bool, true, false, cond, not}
 use mathlib.Core.List.{List}
@@ -10,9 +10,9 @@ use lib.ListN.{length, take}
 use lib.Seq.{take-all, length-take-le}
 use borrow.Author.Tests.{eqb-true, eqb-false, leb-true, leb-false, ltb-true, ltb-false, lt-ltb, le-ltb}
 use Rattle.rooms.specs.Part.{Step, good, bad}
-use Rattle.rooms.specs.Table.{Room, mostServers, mostCords, roomCords}
+use Rattle.rooms.specs.Table.{Room, mostServers, mostCords, mostWords, roomCords}
 use Rattle.rooms.specs.Limits.{checked}
-use Rattle.rooms.proofs.Reach.{mostWords, prefix-decides}
+use Rattle.rooms.proofs.Reach.{prefix-decides}
 use Rattle.rooms.proofs.Accepted as rooms
 use Rattle.deals.specs.SecondDeal.{freed, secondGrants, caps}
 use Rattle.deals.specs.Plan.{Outcome, accepted, refused, firstTooLarge, planRoom, planStep, plan}

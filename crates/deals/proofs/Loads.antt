@@ -2,11 +2,12 @@
 use mathlib.Core.Path.{_≡_, refl, sym, ap, ap₂, _∙_}
 use mathlib.Core.Bool.{Bool, true, false, cond, _&&_, false≢true}
 use Prim.Native.Nat.{ℕ, zero, suc, _+_, _*_, _-_, _/_, _≤_, _<_, min}
-use native.Mathlib.Nat.{le-refl, le-trans, le-of-eq, le-suc, le-min, mul-le-mul-left, mul-le-mul-right, le-div-iff-mul-le, div-lt-iff-lt-mul, mul-comm, eq-or-lt-of-le, le-of-suc-le-suc}
+use native.Mathlib.Nat.{le-refl, le-trans, le-of-eq, le-suc, le-min, mul-le-mul-left, le-div-iff-mul-le, div-lt-iff-lt-mul, mul-comm, eq-or-lt-of-le, le-of-suc-le-suc}
 use native.Mathlib.Numerals.{add-one}
 use native.Mathlib.Omega.{arith}
 use mathlib.Core.Logic.{_⊎_, inl, inr}
 use Rattle.rooms.specs.Limits.{carried}
+use Rattle.rooms.proofs.Carried.{carried-le}
 use Rattle.deals.specs.SecondDeal.{leastOver}
 use Rattle.splits.proofs.Splits.{div-mono}
 
@@ -17,13 +18,7 @@ pub carried-mono : (whole share : ℕ) {load more : ℕ} → load ≤ more → c
 carried-mono whole share {load} {more} h =
     div-mono (share * load + (whole - 1)) (share * more + (whole - 1)) whole (omega (arith, mul-le-mul-left share h))
 
--- A cord carries no more than its grant exactly where the load is at most floor(whole × grant / share).
-pub carried-le : (whole share load grant : ℕ) → 0 < whole → share * load ≤ whole * grant → carried whole share load ≤ grant
-carried-le whole share load grant h q =
-    let a : share * load + (whole - 1) < suc grant * whole = omega (arith, mul-comm whole grant) in
-    let b : carried whole share load < suc grant = div-lt-iff-lt-mul h .1 a in
-    omega arith
-
+-- A cord carries no more than its grant only where the load is at most floor(whole × grant / share).
 pub carried-ge : (whole share load grant : ℕ) → 0 < whole → carried whole share load ≤ grant → share * load ≤ whole * grant
 carried-ge whole share load grant h q =
     let b : carried whole share load < suc grant = omega arith in
@@ -37,10 +32,6 @@ load-within whole share load grant h s q =
 pub load-reached : (whole share load grant : ℕ) → 0 < whole → 0 < share → carried whole share load ≤ grant → load ≤ whole * grant / share
 load-reached whole share load grant h s q =
     le-div-iff-mul-le s .1 (le-trans (le-of-eq (mul-comm load share)) (carried-ge whole share load grant h q))
-
--- A share of at most the whole carries no more than the load.
-pub carried-most : (whole share load : ℕ) → 0 < whole → share ≤ whole → carried whole share load ≤ load
-carried-most whole share load h q = carried-le whole share load load h (mul-le-mul-right load q)
 
 -- ---- The least of some figures
 

@@ -7,7 +7,7 @@ use native.Mathlib.Nat.{add-zero}
 use native.Mathlib.Omega.{arith}
 use lib.Dec.{ltb}
 use borrow.Author.Tests.{eqb-true}
-use Rattle.rooms.specs.Table.{Room, scale, roomCords}
+use Rattle.rooms.specs.Table.{Room, roomCords}
 use Rattle.rooms.specs.Limits.{carried}
 use Rattle.rooms.proofs.Accepted.{Accepted}
 use Rattle.figures.specs.Figures.{at}
@@ -57,14 +57,14 @@ module _ (r : Room) (ok : Accepted r) (rank : ℕ) where
   carriedBy-same : (f g : List ℕ) → SameServers r rank f g → SameCords r rank (carriedBy r f) (carriedBy r g)
   carriedBy-same f g h c l k =
       carriedBy-at r f c l
-      ∙ ap (λ (x : ℕ). carried scale (cordAt r c .share) x) (h (cordAt r c .server) (cord-facts r ok c l .0) k)
+      ∙ ap (λ (x : ℕ). carried (r .scale) (cordAt r c .share) x) (h (cordAt r c .server) (cord-facts r ok c l .0) k)
       ∙ sym (carriedBy-at r g c l)
 
   usable-same : (m n f g : List ℕ) → SameServers r rank m n → SameCords r rank f g → SameServers r rank (usable r m f) (usable r n g)
   usable-same m n f g a h v l k =
       usable-at r m f v l
       ∙ leastOver-cong (roomCords r) (loaded r v) (loaded r v) (loadOf r f) (loadOf r g) (at m v) (at n v) (a v l k) (λ c lc. refl) (λ c lc t.
-      ap (λ (x : ℕ). scale * x / cordAt r c .share)
+      ap (λ (x : ℕ). r .scale * x / cordAt r c .share)
       (h c lc (subst (λ (x : ℕ). rank ≤ serverAt r x .rank) (sym (eqb-true (cordAt r c .server) v (both _ _ t .0))) k)))
       ∙ sym (usable-at r n g v l)
 

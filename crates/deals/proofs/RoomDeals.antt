@@ -24,8 +24,8 @@ figures-everywhere k g none i = go (decLe k i)
     go (no h) = figures-at k i g (omega arith)
 
 module _ (r : Room) where
-  no-node : (m : ℕ) → length (r .nodes) ≤ m → nodeAt r m ≡ record { parent = 0; rating = 0 }
-  no-node m h = List·getD-eq-default (r .nodes) (record { parent = 0; rating = 0 }) {n = m} h
+  no-node : (m : ℕ) → length (r .nodes) ≤ m → nodeAt r m ≡ record { parent = 0; rating = 0; percent = 0 }
+  no-node m h = List·getD-eq-default (r .nodes) (record { parent = 0; rating = 0; percent = 0 }) {n = m} h
 
   no-cord : (c : ℕ) → roomCords r ≤ c → cordAt r c ≡ record { server = 0; node = 0; share = 0 }
   no-cord c h = List·getD-eq-default (cordsOf r) (record { server = 0; node = 0; share = 0 }) {n = c} (omega (arith, cordsOf-length r))

@@ -5,7 +5,7 @@ use Prim.Native.Nat.{ℕ, zero, suc, _-_, _*_, _/_, min}
 use lib.Dec.{eqb, ltb}
 use lib.ListN.{length}
 use Rattle.figures.specs.Figures.{total, figuresFrom, figures, at, sumOf}
-use Rattle.rooms.specs.Table.{Room, scale, roomCords}
+use Rattle.rooms.specs.Table.{Room, roomCords}
 use Rattle.rooms.specs.Cords.{cordsFrom, cordAt}
 use Rattle.deals.specs.Wants.{needs, firstWants}
 use Rattle.rooms.specs.Lists.{carriedBy}
@@ -24,9 +24,9 @@ leastOver (suc k) test figure start =
 abbrev pub loaded : Room → ℕ → ℕ → Bool
 loaded r v c = eqb (cordAt r c .server) v && ltb 0 (cordAt r c .share)
 
--- The load at which a cord carries its grant: floor(1000 × grant / share).
+-- The load at which a cord carries its grant: floor(scale × grant / share).
 abbrev pub loadOf : Room → List ℕ → ℕ → ℕ
-loadOf r grants c = scale * at grants c / cordAt r c .share
+loadOf r grants c = r .scale * at grants c / cordAt r c .share
 
 -- The usable watts of each server: its need, or the least of those loads of its cords with a share, if that is less.
 unfoldable pub usable : Room → List ℕ → List ℕ → List ℕ
@@ -52,7 +52,7 @@ unfoldable pub firstGrants : Room → List ℕ → List ℕ
 unfolding firstWants grantsBy
 firstGrants r demands = grantsBy r (firstWants r demands)
 
--- The usable watts of each server after the first deal, and the used watts of each cord: ceil(share × usable / 1000).
+-- The usable watts of each server after the first deal, and the used watts of each cord: ceil(share × usable / scale).
 unfoldable pub firstUsable : Room → List ℕ → List ℕ
 unfolding needs usable firstGrants
 firstUsable r demands = usable r (needs r demands) (firstGrants r demands)

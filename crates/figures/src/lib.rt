@@ -44,6 +44,14 @@ pub fn word_index(x: u32) -> usize
     x as usize
 }
 
+// An index, or a count, as a word.
+pub fn index_word(x: usize) -> u32
+    requires { ⌜ x < 2 ^ 32 ⌝ }
+    ensures { λ r. ⌜ r ≡ x ⌝ }
+{
+    x as u32
+}
+
 pub fn least(a: u64, b: u64) -> u64
     ensures { λ r. ⌜ r ≡ min a b ⌝ }
 {

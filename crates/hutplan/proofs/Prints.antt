@@ -11,7 +11,7 @@ use borrow.Author.Tests.{leb-true}
 use Rattle.numbers.specs.Sheet.{Ending, whole, sheetOf}
 use Rattle.numbers.specs.Sheet as numbers
 use Rattle.words.proofs.Lists.{take-sets}
-use Rattle.rooms.specs.Part.{Step, good, bad}
+use Rattle.rooms.specs.Part.{Step, good, bad, Good}
 use Rattle.rooms.specs.Table.{Room, mostServers, mostCords}
 use Rattle.rooms.specs.Limits.{checked}
 use Rattle.rooms.specs.Outcome.{reading, readWords, unlessRefused, refusalNumber, refusalPlace}
@@ -27,15 +27,10 @@ use Rattle.deals.specs.declared.Planned.the-variants.{Accepted, Refused}
 use Rattle.deals.specs.declared.PlanRefusal.the-variants.{Table}
 use Rattle.deals.proofs.Plans.{plan-good-table, plan-bad-table}
 use Rattle.deals.proofs.Promises.{answer-of-both-deals}
-use Rattle.print.specs.Line.{refusedLine, Put}
-use Rattle.print.specs.Walk.{planPrint}
+use Rattle.print.specs.Line.{refusedLine}
+use Rattle.print.specs.Print.{printOf}
 use Rattle.print.proofs.Room.{printOf-front}
-use Rattle.print.proofs.Promises.{prints-room}
 use Rattle.hutplan.specs.Printed.{mostWords, tableText, roomText, stepText, sheetText, readText}
-
--- A text that is put is put by any equal name.
-pub put-as : {a b : List ℕ} {i n : ℕ} {s t : List ℕ} → s ≡ t → Put a i b n s → Put a i b n t
-put-as e p = rw e at p
 
 module _ (table demands : List ℕ) (g c : ℕ) where
   -- A refused plan.
@@ -54,17 +49,22 @@ module _ (table demands : List ℕ) (g c : ℕ) where
       go (good r end) e = room r (planRoom r demands mostCords mostServers) e
       go (bad refusal) e = let same : q ≡ Table refusal = cc in rw same
 
+  -- A good table, and the print of its room, which is the table's text.
+  pub record RoomText (f : ℕ) (caps grants : List ℕ) : Type 0 where
+    pub good-table : Good (checked table 0)
+    pub text : printOf f (good-table .value .servers) caps grants ≡ tableText table demands
+
   -- An accepted plan, whose figures stand at the front of the lists.
   pub table-accepted : (grants caps grants' caps' : List ℕ) {f : ℕ} → length grants ≡ g → length caps ≡ c → g ≡ mostCords
       → c ≡ mostServers
       → Accepted f ≡ answerOf (plan table demands g c) → grants' ≡ grantsAfter (plan table demands g c) grants
       → caps' ≡ capsAfter (plan table demands g c) caps
-      → planPrint f table caps' grants' ≡ tableText table demands
+      → RoomText f caps' grants'
   unfolding tableText
   table-accepted grants caps grants' caps' {f} lg lc hg hc e eg ec = go (plan table demands g c) refl e eg ec
     where
       in-room : (f : ℕ) (gs cs : List ℕ) → plan table demands g c ≡ plan.accepted f gs cs → (s : Step Room) → checked table 0 ≡ s
-          → planPrint f table (sets caps 0 cs) (sets grants 0 gs) ≡ stepText s demands
+          → RoomText f (sets caps 0 cs) (sets grants 0 gs)
       in-room f gs cs is (bad refusal) q =
           let same = sym (plan-bad-table table demands g c refusal q) ∙ is in
           let z : _≡_ {A = ℕ} 0 1 = cc in
@@ -88,14 +88,17 @@ module _ (table demands : List ℕ) (g c : ℕ) where
           }) in
           let room : planRoom r demands mostCords mostServers ≡ plan.accepted f gs cs =
           rw (← hg, ← hc) (sym (plan-good-table table demands g c r end q) ∙ is) in
-          rw room
-          (prints-room table r end f (sets caps 0 cs) (sets grants 0 gs) q
-          ∙ printOf-front r f cs gs caps grants (whole .eachServer) (whole .eachCord)
-          (omega (arith, few .fewServers, whole .eachServer)) (omega (arith, few .fewCords, whole .eachCord)))
+          record {
+            good-table = record { value = r; next = end; is = q };
+            text =
+                printOf-front r f cs gs caps grants (whole .eachServer) (whole .eachCord)
+                (omega (arith, few .fewServers, whole .eachServer)) (omega (arith, few .fewCords, whole .eachCord))
+                ∙ sym (ap (λ (s : Step Room). stepText s demands) q ∙ ap (roomText r) room);
+          }
 
       go : (o : Outcome) → plan table demands g c ≡ o → Accepted f ≡ answerOf o → grants' ≡ grantsAfter o grants
           → caps' ≡ capsAfter o caps
-          → planPrint f table caps' grants' ≡ stepText (checked table 0) demands
+          → RoomText f caps' grants'
       go (plan.refused q) is e eg ec = let z : _≡_ {A = ℕ} 0 1 = cc in absurd (omega arith)
       go (plan.accepted f' gs cs) is e eg ec =
           let same : f ≡ f' = cc in

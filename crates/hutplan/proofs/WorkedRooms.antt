@@ -7,7 +7,7 @@ use Rattle.numbers.specs.Number.{number, later}
 use Rattle.numbers.specs.Sheet.{sheetFrom}
 use Rattle.rooms.specs.Part.{Step, good, bad, follow, word, ensure, end, many}
 use Rattle.figures.specs.Figures.{total}
-use Rattle.rooms.specs.Table.{Room, node, cord, range, load, server, table}
+use Rattle.rooms.specs.Table.{Room, formOf, percent, node, cord, range, load, server, table}
 use Rattle.rooms.specs.Limits.{beneath, serverLows, lows, firstNode, overloaded, checked}
 use Rattle.rooms.specs.Outcome.{reading, answerOf, answerNumber, answerFigure}
 use Rattle.rooms.specs.Outcome as read
@@ -100,7 +100,7 @@ pub record Starred : Type 0 where
 
 pub starred : Starred
 unfolding printed sheetText tableText reading number later sheetFrom
-    follow word ensure end many total node cord range load server table beneath serverLows lows firstNode overloaded
+    follow word ensure end many total formOf percent node cord range load server table beneath serverLows lows firstNode overloaded
     demandsOf lines before demandOf areDigits numberAfter plan firstGrants firstUsable
     printOf serversPrint serverPrint linesFrom freedLine serverLine cordLine refusedLine numeral
 starred =

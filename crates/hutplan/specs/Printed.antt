@@ -5,6 +5,7 @@ use Prim.Native.Nat.{ℕ, _≤_}
 use lib.ListN.{length, take}
 use Rattle.rooms.specs.Part.{Step, good, bad}
 use Rattle.rooms.specs.Table.{Room, mostServers, mostCords}
+use Rattle.rooms.specs.Table as rooms
 use Rattle.rooms.specs.Limits.{checked}
 use Rattle.rooms.specs.Outcome.{reading, refusalNumber, refusalPlace}
 use Rattle.rooms.specs.Outcome as read
@@ -15,9 +16,9 @@ use Rattle.print.specs.Line.{refusedLine}
 use Rattle.print.specs.Print.{printOf}
 use Rattle.hutplan.specs.Input.{mostBytes}
 
--- The most words of a table: 2 + 2 × 512 + 1 + 4 × 512 + 2 × 1,024.
+-- The most words of a table.
 abbrev pub mostWords : ℕ
-mostWords = 5123
+mostWords = rooms.mostWords
 
 -- The most bytes that are printed (proofs/Fits).
 abbrev pub mostText : ℕ

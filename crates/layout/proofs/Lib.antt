@@ -1,3 +1,2 @@
 -- The laws of `layout`.
-pub mod Walk
 pub mod Loading

@@ -5,10 +5,10 @@ use mathlib.Core.List.{List}
 use Prim.Native.Nat.{ℕ, _+_, _-_, _*_, _/_, _≤_, _<_}
 use native.Mathlib.Omega.{arith}
 use lib.Dec.{eqb, ltb}
-use lib.ListN.{length, getD, take, replicate}
+use lib.ListN.{length, take, replicate}
 use lib.Seq.{length-take-le, getD-take}
 use Rattle.rooms.specs.Part.{good, Good}
-use Rattle.rooms.specs.Table.{Room, scale, roomCords, mostWatts, mostNodes, mostServers, mostCords}
+use Rattle.rooms.specs.Table.{Room, roomCords, mostWatts, mostNodes, mostServers, mostCords}
 use Rattle.rooms.specs.Limits.{checked, carried}
 use Rattle.rooms.proofs.Accepted.{Accepted, accepted}
 use Rattle.rooms.proofs.Trees.{under}
@@ -24,13 +24,14 @@ use Rattle.plan_rooms.specs.Planning.{DealtTwice, Planning, HasLowsBenea
 use Rattle.deal_by_rank.specs.Ranks.{NodeLists, LowsWithin, Spare, DealLists, lowsUnder}
 use Rattle.ranks.specs.Passes.{CordLists}
 use Rattle.reclaim.specs.Reclaimed.{ServerLists, usableFrom, usedFrom, strandedFrom, wantsFrom}
-use Rattle.layout.specs.Lists.{OfRoom, NodesFit, ServersFit, CordsFit, CordsLaidOut}
+use Rattle.room_lists.specs.Lists.{OfRoom, NodesFit, ServersFit, CordsFit}
+use Rattle.layout.specs.Lists.{CordsLaidOut}
 use Rattle.figures.proofs.Lists.{figures-length}
 use Rattle.deals.proofs.RoomDeals.{parentsOf-length, limitsOf-length, nodesOf-length, levelsOf-length, sharesOf-at, serversOf-at}
 use Rattle.deals.proofs.BothDeals.{cord-facts, lowsOf-length, carriedBy-length, lows-under, dealable, firstWants-lows, secondWants-lows}
 use Rattle.deals.proofs.Bounds.{bounded}
 use Rattle.deal_by_rank.proofs.RankLoop.{zeros-front}
-use Rattle.layout.proofs.Walk.{begun}
+use Rattle.room_lists.proofs.Walk.{begun}
 
 -- A list as long as another one that fits.
 pub cords-fit : (table : List ℕ) {m n : ℕ} → m ≡ n → CordsFit table n → CordsFit table m
@@ -122,16 +123,16 @@ module _ (table demands : List ℕ) {wants : List ℕ} where
 -- ---- After a deal, the lists' figures are the room's
 
 module _ (r : Room) where
-  usable-is : (needed grants : List ℕ) → length needed ≡ length (r .servers) → usableFrom (sharesOf r) (serversOf r) needed grants ≡ usable r needed grants
+  usable-is : (needed grants : List ℕ) → length needed ≡ length (r .servers) → usableFrom (r .scale) (sharesOf r) (serversOf r) needed grants ≡ usable r needed grants
   unfolding usable
   usable-is needed grants e = λ i.
       figures (e i) (λ v.
       leastOver (figures-length (roomCords r) (λ c. cordAt r c .share) i) (λ c. eqb (serversOf-at r c i) v && ltb 0 (sharesOf-at r c i))
-      (λ c. scale * at grants c / sharesOf-at r c i) (at needed v))
+      (λ c. r .scale * at grants c / sharesOf-at r c i) (at needed v))
 
-  used-is : (loads : List ℕ) → usedFrom (sharesOf r) (serversOf r) loads ≡ carriedBy r loads
+  used-is : (loads : List ℕ) → usedFrom (r .scale) (sharesOf r) (serversOf r) loads ≡ carriedBy r loads
   unfolding carriedBy
-  used-is loads = λ i. figures (figures-length (roomCords r) (λ c. cordAt r c .share) i) (λ c. carried scale (sharesOf-at r c i) (at loads (serversOf-at r c i)))
+  used-is loads = λ i. figures (figures-length (roomCords r) (λ c. cordAt r c .share) i) (λ c. carried (r .scale) (sharesOf-at r c i) (at loads (serversOf-at r c i)))
 
   module _ (used grants : List ℕ) (e : length used ≡ roomCords r) where
     stranded-is : strandedFrom used grants ≡ stranded r grants used
@@ -144,9 +145,9 @@ module _ (r : Room) where
 
 -- ---- What the calls ask of the room's lists, and what they leave in them
 
-module _ (table demands : List ℕ) {parents limits nodes levels lows wants shares servers needed : List ℕ}
+module _ (table demands : List ℕ) {parents limits nodes levels lows wants shares servers needed : List ℕ} {scale : ℕ}
     (of-nodes : OfRoom table (λ r. (parents ≡ parentsOf r) × (limits ≡ limitsOf r)))
-    (of-cords : OfRoom table (λ r. CordsLaidOut r demands nodes levels lows wants shares servers needed)) where
+    (of-cords : OfRoom table (λ r. CordsLaidOut r demands nodes levels lows wants shares servers needed scale)) where
   module _ (r : Room) (end : ℕ) (is : checked table 0 ≡ good r end) where
     needs-size : length needed ≡ length (r .servers)
     unfolding needs
@@ -158,13 +159,14 @@ module _ (table demands : List ℕ) {parents limits nodes levels lows wants shar
         rw (of-nodes r end is .0, of-nodes r end is .1, l .nodes-are, l .levels-are, l .lows-are)
         (record { of-nodes = room-nodes r wanted; of-cords = room-cords r wanted; lows-within = room-lows r wanted; grants-size = g ∙ sym (nodesOf-length r) })
 
-    server-lists : {grantCount : ℕ} → grantCount ≡ roomCords r → ServerLists shares servers needed grantCount
+    server-lists : {grantCount : ℕ} → grantCount ≡ roomCords r → ServerLists scale shares servers needed grantCount
     server-lists g =
         let l = of-cords r end is in
         let ok = accepted table r end is in
         let n = figures-length (roomCords r) (λ c. cordAt r c .share) in
-        rw (l .shares-are, l .servers-are)
+        rw (l .scale-is, l .shares-are, l .servers-are)
         (record {
+          scaled = ok .scaled;
           few = omega (arith, n, ok .fewCords);
           servers-size = figures-length (roomCords r) _ ∙ sym n;
           grants-size = g ∙ sym n;
@@ -179,10 +181,10 @@ module _ (table demands : List ℕ) {parents limits nodes levels lows wants shar
         let l = of-cords r end is in
         e ∙ rw (of-nodes r end is .0, of-nodes r end is .1, l .nodes-are, l .levels-are, l .lows-are)
 
-    usable-are : (grants : List ℕ) {watts : List ℕ} → watts ≡ usableFrom shares servers needed grants → watts ≡ usable r (needs r demands) grants
+    usable-are : (grants : List ℕ) {watts : List ℕ} → watts ≡ usableFrom scale shares servers needed grants → watts ≡ usable r (needs r demands) grants
     usable-are grants e =
         let l = of-cords r end is in
-        e ∙ rw (l .shares-are, l .servers-are) (usable-is r needed grants needs-size) ∙ ap (λ (n : List ℕ). usable r n grants) (l .needs-are)
+        e ∙ rw (l .scale-is, l .shares-are, l .servers-are) (usable-is r needed grants needs-size) ∙ ap (λ (n : List ℕ). usable r n grants) (l .needs-are)
 
   module _ (g : Good (checked table 0)) where
     -- The limits against the lows beneath the nodes, and what they have over them.
@@ -215,7 +217,7 @@ module _ (table demands : List ℕ) {parents limits nodes levels lows wants shar
 
     -- A deal by wants that the room can be dealt by.
     pub deal-asks : {given : List ℕ} {grantCount usableCount : ℕ} → OfRoom table (λ r. Wanted r given) → CordsFit table grantCount → ServersFit table usableCount
-        → DealLists parents limits nodes levels lows given grantCount × (ServerLists shares servers needed grantCount × (usableCount ≡ length needed))
+        → DealLists parents limits nodes levels lows given grantCount × (ServerLists scale shares servers needed grantCount × (usableCount ≡ length needed))
     deal-asks wanted cords caps =
         let r = g .value in
         let fit = cords r (g .next) (g .is) in (
@@ -224,28 +226,28 @@ module _ (table demands : List ℕ) {parents limits nodes levels lows wants shar
         )
 
   -- After the first deal, with its grants and what the servers can use of them.
-  module _ {grants watts : List ℕ} (dealt : grants ≡ granted (dealFrom parents limits nodes levels lows wants)) (by : watts ≡ usableFrom shares servers needed grants) where
+  module _ {grants watts : List ℕ} (dealt : grants ≡ granted (dealFrom parents limits nodes levels lows wants)) (by : watts ≡ usableFrom scale shares servers needed grants) where
     module _ (r : Room) (end : ℕ) (is : checked table 0 ≡ good r end) where
       first-grants : grants ≡ firstGrants r demands
       unfolding firstGrants
       first-grants = grants-are r end is wants dealt ∙ ap (grantsBy r) (of-cords r end is .wants-are)
 
-      first-used : usedFrom shares servers watts ≡ firstUsed r demands
+      first-used : usedFrom scale shares servers watts ≡ firstUsed r demands
       unfolding firstUsed firstUsable
       first-used =
           let l = of-cords r end is in
-          rw (l .shares-are, l .servers-are) (used-is r watts)
+          rw (l .scale-is, l .shares-are, l .servers-are) (used-is r watts)
           ∙ ap (carriedBy r) (usable-are r end is grants by ∙ ap (usable r (needs r demands)) first-grants)
 
       used-size : length (firstUsed r demands) ≡ roomCords r
       unfolding firstUsed
       used-size = carriedBy-length r (firstUsable r demands)
 
-    freed-is : {freed : ℕ} → freed ≡ sumOf (strandedFrom (usedFrom shares servers watts) grants) → OfRoom table (λ r. freed ≡ second.freed r demands)
+    freed-is : {freed : ℕ} → freed ≡ sumOf (strandedFrom (usedFrom scale shares servers watts) grants) → OfRoom table (λ r. freed ≡ second.freed r demands)
     unfolding second.freed
     freed-is e r end is = e ∙ rw (first-used r end is, first-grants r end is) (ap sumOf (stranded-is r (firstUsed r demands) (firstGrants r demands) (used-size r end is)))
 
-    pub second-wants : {given : List ℕ} → given ≡ wantsFrom (usedFrom shares servers watts) grants wants → OfRoom table (λ r. given ≡ secondWants r demands)
+    pub second-wants : {given : List ℕ} → given ≡ wantsFrom (usedFrom scale shares servers watts) grants wants → OfRoom table (λ r. given ≡ secondWants r demands)
     unfolding secondWants
     second-wants e r end is =
         e
@@ -258,12 +260,12 @@ module _ (table demands : List ℕ) {parents limits nodes levels lows wants shar
     unfolding secondGrants
     second-grants r end is = grants-are r end is given dealt ∙ ap (grantsBy r) (wanted r end is)
 
-    caps-are : {caps : List ℕ} → caps ≡ usableFrom shares servers needed grants → OfRoom table (λ r. caps ≡ second.caps r demands)
+    caps-are : {caps : List ℕ} → caps ≡ usableFrom scale shares servers needed grants → OfRoom table (λ r. caps ≡ second.caps r demands)
     unfolding second.caps
     caps-are e r end is = usable-are r end is grants e ∙ ap (usable r (needs r demands)) (second-grants r end is)
 
   -- After both: the plan.
-  pub planned : {freed : ℕ} {grants caps : List ℕ} → DealtTwice parents limits nodes levels lows wants shares servers needed freed grants caps → Planning table demands freed grants caps
+  pub planned : {freed : ℕ} {grants caps : List ℕ} → DealtTwice scale parents limits nodes levels lows wants shares servers needed freed grants caps → Planning table demands freed grants caps
   planned made =
       let second = second-wants refl refl refl in
       record {
@@ -275,11 +277,8 @@ module _ (table demands : List ℕ) {parents limits nodes levels lows wants shar
 -- ---- The lists that are lent
 
 module _ (table : List ℕ) (g : Good (checked table 0)) where
-  pub table-begun : 1 < length table
-  table-begun = begun (g .is) .there
-
-  pub nodes-most : (n : ℕ) → n ≡ getD table 1 0 → n ≤ mostNodes
-  nodes-most n e = omega (arith, begun (g .is) .most, begun (g .is) .count)
+  pub nodes-most : (n : ℕ) → NodesFit table n → n ≤ mostNodes
+  nodes-most n e = omega (arith, begun (g .is) .most, e (g .value) (g .next) (g .is))
 
   pub cords-most : (k : ℕ) → CordsFit table k → k ≤ mostCords
   cords-most k h = omega (arith, h (g .value) (g .next) (g .is), accepted table (g .value) (g .next) (g .is) .fewCords)
@@ -288,7 +287,7 @@ module _ (table : List ℕ) (g : Good (checked table 0)) where
   servers-most k h = omega (arith, h (g .value) (g .next) (g .is), accepted table (g .value) (g .next) (g .is) .fewServers)
 
   -- Lists of zeros are lent to that length.
-  pub nodes-front : (n : ℕ) → n ≡ getD table 1 0 → n ≡ length {A = ℕ} (take n (replicate mostNodes 0))
+  pub nodes-front : (n : ℕ) → NodesFit table n → n ≡ length {A = ℕ} (take n (replicate mostNodes 0))
   nodes-front n e = sym (zeros-front mostNodes n (nodes-most n e))
 
   pub cords-front : (k : ℕ) → CordsFit table k → k ≡ length {A = ℕ} (take k (replicate mostCords 0))
@@ -297,8 +296,8 @@ module _ (table : List ℕ) (g : Good (checked table 0)) where
   pub servers-front : (k : ℕ) → ServersFit table k → k ≡ length {A = ℕ} (take k (replicate mostServers 0))
   servers-front k h = sym (zeros-front mostServers k (servers-most k h))
 
-  pub nodes-lent : (n : ℕ) → n ≡ getD table 1 0 → NodesFit table (length {A = ℕ} (take n (replicate mostNodes 0)))
-  nodes-lent n e r end is = sym (nodes-front n e) ∙ e ∙ begun is .count
+  pub nodes-lent : (n : ℕ) → NodesFit table n → NodesFit table (length {A = ℕ} (take n (replicate mostNodes 0)))
+  nodes-lent n e r end is = sym (nodes-front n e) ∙ e r end is
 
   pub cords-lent : (k : ℕ) → CordsFit table k → CordsFit table (length {A = ℕ} (take k (replicate mostCords 0)))
   cords-lent k h = cords-fit table (sym (cords-front k h)) h
@@ -307,12 +306,12 @@ module _ (table : List ℕ) (g : Good (checked table 0)) where
   servers-lent k h = servers-fit table (sym (servers-front k h)) h
 
   -- The list with the lows beneath each node is lent to that length too.
-  module _ (n : ℕ) (e : n ≡ getD table 1 0) (list : List ℕ) (long : mostNodes ≤ length list) where
+  module _ (n : ℕ) (e : NodesFit table n) (list : List ℕ) (long : mostNodes ≤ length list) where
     pub lows-front : n ≡ length (take n list)
     lows-front = sym (length-take-le n list (omega (arith, nodes-most n e)))
 
     pub lows-lent : NodesFit table (length (take n list))
-    lows-lent r end is = sym lows-front ∙ e ∙ begun is .count
+    lows-lent r end is = sym lows-front ∙ e r end is
 
     pub lows-still : HasLowsBeneath table list → HasLowsBeneath table (take n list)
-    lows-still has r end is i l = getD-take n list i 0 (omega (arith, begun is .count)) ∙ has r end is i l
+    lows-still has r end is i l = getD-take n list i 0 (omega (arith, e r end is)) ∙ has r end is i l

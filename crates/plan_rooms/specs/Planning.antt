@@ -10,7 +10,7 @@ use Rattle.deals.specs.Wants.{needs}
 use Rattle.deals.specs.Dealing.{granted}
 use Rattle.deals.specs.SecondDeal.{freed, secondGrants}
 use Rattle.deals.specs.SecondDeal as second
-use Rattle.layout.specs.Lists.{OfRoom}
+use Rattle.room_lists.specs.Lists.{OfRoom}
 use Rattle.reclaim.specs.Reclaimed.{usableFrom, freedFrom, wantsNext}
 
 -- A list has at each node's place the lows of all cords beneath the node.
@@ -19,13 +19,13 @@ HasLowsBeneath table list = OfRoom table (λ r. (n : ℕ) → n < length (r .nod
 
 -- What both deals leave, by the wants of the first: the watts freed by its grants, the grants of the second, and what each server can
 -- use of these.
-pub record DealtTwice (parents limits nodes levels lows wants shares servers needs : List ℕ) (freed : ℕ) (grants usable : List ℕ) : Type 0 where
+pub record DealtTwice (scale : ℕ) (parents limits nodes levels lows wants shares servers needs : List ℕ) (freed : ℕ) (grants usable : List ℕ) : Type 0 where
   pub freed-is :
       freed
-      ≡ freedFrom shares servers (usableFrom shares servers needs (granted (dealFrom parents limits nodes levels lows wants))) (granted (dealFrom parents limits nodes levels lows wants))
+      ≡ freedFrom scale shares servers (usableFrom scale shares servers needs (granted (dealFrom parents limits nodes levels lows wants))) (granted (dealFrom parents limits nodes levels lows wants))
   pub grants-are :
-      grants ≡ granted (dealFrom parents limits nodes levels lows (wantsNext shares servers needs (granted (dealFrom parents limits nodes levels lows wants)) wants))
-  pub usable-are : usable ≡ usableFrom shares servers needs grants
+      grants ≡ granted (dealFrom parents limits nodes levels lows (wantsNext scale shares servers needs (granted (dealFrom parents limits nodes levels lows wants)) wants))
+  pub usable-are : usable ≡ usableFrom scale shares servers needs grants
 
 -- The freed watts, the grants and the caps of a good table with given demands.
 pub record Planning (table demands : List ℕ) (watts : ℕ) (grants caps : List ℕ) : Type 0 where

@@ -14,17 +14,19 @@ ghost use Rattle.levels.specs.Levels.{LevelLists, FullLists};
 ghost use Rattle.ranks.specs.Passes.{FullRows};
 ghost use Rattle.reclaim.specs.Reclaimed.{ServerLists, usableFrom, wantsNext};
 ghost use Rattle.plan_rooms.specs.Planning.{DealtTwice, HasLowsBeneath, Planning};
-ghost use Rattle.layout.specs.Lists.{CordsLent, NodesFit, ServersFit, CordsFit};
+ghost use Rattle.room_lists.specs.Lists.{NodesFit, ServersFit, CordsFit};
+ghost use Rattle.layout.specs.Lists.{CordsLent};
 use deal_by_rank::deal;
-use figures::word_index;
 use layout::load_cords;
-use layout::load_nodes;
 use levels::link_levels;
 use levels::list_levels;
 use levels::mark_nodes;
 use ranks::metrics::spare_limits;
 use reclaim::reclaim_after;
 use reclaim::usable_of;
+use room_lists::lay_out_nodes;
+use room_lists::node_count;
+use room_lists::table_scale;
 
 // A deal: its grants, and what each server can use of them.
 fn make_deal(
@@ -45,13 +47,14 @@ fn make_deal(
     needs: &[u32],
     grants: &mut [u32],
     usable: &mut [u32],
+    scale: u32,
 )
     requires { ⌜ DealLists (now parents) (now limits) (now nodes) (now levels) (now lows) (now wants) (length (now grants)) ⌝ }
     requires { ⌜ LevelLists (now parents) (now nodes) (now levels) (now first) (now next) (now actives) (now counts) × Spare (now parents) (now limits) (now nodes) (now lows) (now spare) ⌝ }
-    requires { ⌜ ServerLists (now shares) (now servers) (now needs) (length (now grants)) × (length (now usable) ≡ length (now needs)) ⌝ }
+    requires { ⌜ ServerLists scale (now shares) (now servers) (now needs) (length (now grants)) × (length (now usable) ≡ length (now needs)) ⌝ }
     requires { ⌜ BlankRows (length (now parents)) (now actives) (now counts) (now requests) ⌝ }
     ensures { λ _. ⌜ now (grants .exit) ≡ granted (dealFrom (now (parents .entry)) (now (limits .entry)) (now (nodes .entry)) (now (levels .entry)) (now (lows .entry)) (now (wants .entry))) ⌝ }
-    ensures { λ _. ⌜ now (usable .exit) ≡ usableFrom (now (shares .entry)) (now (servers .entry)) (now (needs .entry)) (now (grants .exit)) ⌝ }
+    ensures { λ _. ⌜ now (usable .exit) ≡ usableFrom scale (now (shares .entry)) (now (servers .entry)) (now (needs .entry)) (now (grants .exit)) ⌝ }
     ensures { λ _. ⌜ BlankRows (length (now (parents .entry))) (now (actives .entry)) (now (counts .entry)) (now (requests .exit)) ⌝ }
 {
     deal(
@@ -69,7 +72,7 @@ fn make_deal(
         requests,
         grants,
     );
-    usable_of(shares, servers, needs, grants, usable);
+    usable_of(shares, servers, needs, grants, usable, scale);
 }
 
 // Both deals, in turn; gives the watts freed between them. Until the second, `usable` has what each server can use of the first grants;
@@ -92,17 +95,18 @@ fn deal_twice(
     needs: &[u32],
     grants: &mut [u32],
     usable: &mut [u32],
+    scale: u32,
 ) -> u64
     requires { ⌜ DealLists (now parents) (now limits) (now nodes) (now levels) (now lows) (now wants) (length (now grants)) ⌝ }
     requires { ⌜ LevelLists (now parents) (now nodes) (now levels) (now first) (now next) (now actives) (now counts) × Spare (now parents) (now limits) (now nodes) (now lows) (now spare) ⌝ }
-    requires { ⌜ ServerLists (now shares) (now servers) (now needs) (length (now grants)) × (length (now usable) ≡ length (now needs)) ⌝ }
-    requires { ⌜ DealLists (now parents) (now limits) (now nodes) (now levels) (now lows) (wantsNext (now shares) (now servers) (now needs) (granted (dealFrom (now parents) (now limits) (now nodes) (now levels) (now lows) (now wants))) (now wants)) (length (now grants)) ⌝ }
+    requires { ⌜ ServerLists scale (now shares) (now servers) (now needs) (length (now grants)) × (length (now usable) ≡ length (now needs)) ⌝ }
+    requires { ⌜ DealLists (now parents) (now limits) (now nodes) (now levels) (now lows) (wantsNext scale (now shares) (now servers) (now needs) (granted (dealFrom (now parents) (now limits) (now nodes) (now levels) (now lows) (now wants))) (now wants)) (length (now grants)) ⌝ }
     requires { ⌜ BlankRows (length (now parents)) (now actives) (now counts) (now requests) ⌝ }
-    ensures { λ freed. ⌜ DealtTwice (now (parents .entry)) (now (limits .entry)) (now (nodes .entry)) (now (levels .entry)) (now (lows .entry)) (now (wants .entry)) (now (shares .entry)) (now (servers .entry)) (now (needs .entry)) freed (now (grants .exit)) (now (usable .exit)) ⌝ }
+    ensures { λ freed. ⌜ DealtTwice scale (now (parents .entry)) (now (limits .entry)) (now (nodes .entry)) (now (levels .entry)) (now (lows .entry)) (now (wants .entry)) (now (shares .entry)) (now (servers .entry)) (now (needs .entry)) freed (now (grants .exit)) (now (usable .exit)) ⌝ }
 {
     let mut freed = 0;
     for made in 0..2 {
-        freed = reclaim_after(made, shares, servers, usable, grants, wants);
+        freed = reclaim_after(made, shares, servers, usable, grants, wants, scale);
         make_deal(
             parents,
             limits,
@@ -121,6 +125,7 @@ fn deal_twice(
             needs,
             grants,
             usable,
+            scale,
         );
     }
     freed
@@ -150,8 +155,9 @@ fn plan_lists(
     requests: &mut [[u32; 16]; 512],
     grants: &mut [u32],
     caps: &mut [u32],
+    scale: u32,
 ) -> u64
-    requires { ⌜ CordsLent (now table) (now demands) (now nodes) (now levels) (now lows) (now wants) (now shares) (now servers) (now needs) ⌝ }
+    requires { ⌜ CordsLent (now table) (now demands) (now nodes) (now levels) (now lows) (now wants) (now shares) (now servers) (now needs) scale ⌝ }
     requires { ⌜ NodesFit (now table) (length (now parents)) × NodesFit (now table) (length (now limits)) ⌝ }
     requires { ⌜ (length (now first) ≡ highestRank) × CordsFit (now table) (length (now next)) × NodesFit (now table) (length (now marks)) × NodesFit (now table) (length (now spare)) × NodesFit (now table) (length (now beneath)) × HasLowsBeneath (now table) (now beneath) ⌝ }
     requires { ⌜ FullLists (now actives) × (length (now counts) ≡ highestRank) ⌝ }
@@ -159,7 +165,7 @@ fn plan_lists(
     requires { ⌜ CordsFit (now table) (length (now grants)) × ServersFit (now table) (length (now caps)) ⌝ }
     ensures { λ r. ⌜ Planning (now (table .entry)) (now (demands .entry)) r (now (grants .exit)) (now (caps .exit)) ⌝ }
 {
-    load_nodes(table, parents, limits);
+    lay_out_nodes(table, parents, limits);
     load_cords(
         table,
         demands,
@@ -170,6 +176,7 @@ fn plan_lists(
         shares,
         servers,
         needs,
+        scale,
     );
     link_levels(levels, first, next);
     mark_nodes(parents, nodes, levels, marks);
@@ -193,6 +200,7 @@ fn plan_lists(
         needs,
         grants,
         caps,
+        scale,
     )
 }
 
@@ -225,7 +233,8 @@ pub fn plan_room(
     let mut counts = [0u16; 16];
     let mut spare = [0u32; 512];
     let mut requests = [[0u32; 16]; 512];
-    let n = word_index(table[1]);
+    let n = node_count(table);
+    let scale = table_scale(table);
     let k = grants.len();
     plan_lists(
         table,
@@ -249,5 +258,6 @@ pub fn plan_room(
         &mut requests,
         grants,
         caps,
+        scale,
     )
 }

@@ -1,42 +1,33 @@
 -- Plan's answers in the code's terms: one law for each return.
 use mathlib.Core.Path.{_≡_, sym, ap, _∙_}
 use mathlib.Core.List.{List, _++_}
-use Prim.Native.Nat.{ℕ, _+_, _*_, _≤_, _<_}
+use Prim.Native.Nat.{ℕ, _≤_, _<_}
 use native.Mathlib.Omega.{arith}
-use lib.ListN.{length, getD, drop}
+use lib.ListN.{length, drop}
 use lib.Seq.{sets, take-all}
 use Rattle.words.proofs.Lists.{sets-front}
-use Rattle.rooms.specs.Part.{good, Good}
-use Rattle.rooms.specs.Table.{Room, mostNodes, roomCords, server}
+use Rattle.rooms.specs.Part.{Good}
+use Rattle.rooms.specs.Table.{mostNodes, roomCords}
 use Rattle.rooms.specs.Limits.{checked, lowsTold}
 use Rattle.rooms.specs.Told.{told}
 use Rattle.rooms.specs.declared.Checked.{Checked}
 use Rattle.rooms.specs.declared.Checked.the-variants as checks
 use Rattle.rooms.specs.declared.Refusal.{Refusal}
-use Rattle.rooms.proofs.Inversion.{many-length}
-use Rattle.rooms.proofs.Whole.{checked-is}
-use Rattle.rooms.proofs.Found.{layout, nodeLows-at, lowsTold-length}
+use Rattle.rooms.proofs.Found.{nodeLows-at, lowsTold-length}
 use Rattle.rooms.proofs.Accepted as rooms
 use Rattle.rooms.proofs.Steps.{known}
 use Rattle.rooms.proofs.Outcomes.{refused-so}
 use Rattle.figures.specs.Figures.{at}
 use Rattle.deals.specs.SecondDeal.{freed, secondGrants, caps}
 use Rattle.deals.specs.Plan.{Outcome, accepted, refused, firstTooLarge, plan, planRoom, answerOf, grantsAfter, capsAfter}
-use Rattle.layout.specs.Lists.{ServersFit, CordsFit}
+use Rattle.room_lists.specs.Lists.{ServersFit, CordsFit}
 use Rattle.plan_rooms.specs.Planning.{HasLowsBeneath, Planning}
 use Rattle.deals.specs.declared.PlanRefusal.{PlanRefusal}
 use Rattle.deals.specs.declared.PlanRefusal.the-variants.{Table, DemandCount, DemandTooLarge, GrantsTooShort, CapsTooShort}
 use Rattle.deals.specs.declared.Planned.the-variants.{Accepted, Refused}
 use Rattle.deals.proofs.Plans as plans
 
--- ---- What the table's words and its check tell
-
--- The count of servers stands behind the nodes.
-pub server-word : (table : List ℕ) (n : ℕ) → n ≡ getD table 1 0 → (r : Room) (end : ℕ) → checked table 0 ≡ good r end
-    → (2 + 2 * n < length table) × (getD table (2 + 2 * n) 0 ≡ length (r .servers))
-server-word table n e r end is =
-    let l = layout table r end n e (checked-is table r end is .0) in
-    (l .there, sym (many-length _ (server n) _ _ _ _ _ _ (l .servers-are)))
+-- ---- What the table's check tells
 
 -- The check tells a good table and the count of its cords.
 pub table-good : (table : List ℕ) {answer : Checked} {v j : ℕ} → answer ≡ told roomCords (checked table 0) → answer ≡ checks.Good v j → Good (checked table 0)
@@ -45,9 +36,6 @@ table-good table d e = let k = known roomCords (checked table 0) d e in record {
 pub cords-told : (table : List ℕ) {answer : Checked} {v j : ℕ} → answer ≡ told roomCords (checked table 0) → answer ≡ checks.Good v j → CordsFit table v
 unfolding told
 cords-told table {answer = answer} {v = v} d e r end is = let t : answer ≡ checks.Good (roomCords r) end = d ∙ rw is in cc
-
-pub servers-told : (table : List ℕ) (n : ℕ) → n ≡ getD table 1 0 → {v : ℕ} → v ≡ getD table (2 + 2 * n) 0 → ServersFit table v
-servers-told table n e w r end is = w ∙ server-word table n e r end is .1
 
 -- The list that the check hands out has a place for each node, and there the lows beneath it.
 pub lows-long : (table list : List ℕ) → list ≡ lowsTold (checked table 0) → mostNodes ≡ length list

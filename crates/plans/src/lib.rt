@@ -6,6 +6,7 @@ use deals::PlanRefusal;
 use deals::Planned;
 use figures::word_index;
 use plan_rooms::plan_room;
+use room_lists::server_count;
 use rooms::Checked;
 
 const MOST_WATTS: u32 = 16_777_215;
@@ -38,7 +39,7 @@ pub fn plan(table: &[u32], demands: &[u32], grants: &mut [u32], caps: &mut [u32]
         Checked::Refused(refusal) => return Planned::Refused(PlanRefusal::Table(refusal)),
     };
     let cords = word_index(count);
-    let servers = word_index(table[2 + 2 * word_index(table[1])]);
+    let servers = server_count(table);
     if demands.len() != servers {
         return Planned::Refused(PlanRefusal::DemandCount(servers));
     }

@@ -5,3 +5,4 @@ pub mod Turns
 pub mod Room
 pub mod Size
 pub mod Promises
+pub mod Lent

@@ -1,23 +1,31 @@
--- The print of a good table, by the walk over its words, is the print of its room.
-use mathlib.Core.Path.{_≡_, refl, ap}
+-- The print of a room's rows is the print of the room.
+use mathlib.Core.Path.{_≡_, refl, sym, ap, _∙_}
 use mathlib.Core.List.{List, _++_}
 use Prim.Native.Nat.{ℕ, min}
+use native.Mathlib.Nat.{zero-add}
 use native.Mathlib.Omega.{arith}
-use lib.ListN.{getD}
-use Rattle.rooms.specs.Table.{mostServers}
-use Rattle.rooms.proofs.Whole.{checked-is}
-use Rattle.rooms.proofs.Found.{layout}
+use lib.ListN.{length}
+use Rattle.figures.proofs.Columns.{column-length}
+use Rattle.figures.proofs.Lists.{figures-length}
+use Rattle.rooms.specs.Table.{mostServers, roomCords}
+use Rattle.rooms.proofs.All.{all-at}
+use Rattle.rooms.proofs.Accepted.{ServerAccepted, accepted}
+use Rattle.room_lists.specs.Lists.{rankColumn}
 use Rattle.print.specs.Line.{freedLine}
-use Rattle.print.specs.Print.{at, printOf}
-use Rattle.print.specs.Walk.{serverCount, planPrint}
+use Rattle.print.specs.Print.{printOf}
+use Rattle.print.specs.Walk.{planPrint}
 use Rattle.print.specs.Promises.{PrintsRoom}
 use Rattle.print.proofs.Room.{serversAt-servers}
 
 pub prints-room : PrintsRoom
 unfolding planPrint printOf
-prints-room table room end freed caps grants e =
-    let laid = layout table room end (getD table 1 0) refl (checked-is table room end e .0) in
-    let all : min (at table (serverCount table)) mostServers ≡ at table (serverCount table) = omega (arith, laid .servers-most) in
+prints-room table room end freed servers blank cords caps grants e sr cr =
+    let ok = accepted table room end e in
+    let size : length servers ≡ length (room .servers)
+    = sym (column-length rankColumn servers) ∙ ap length (sr .ranks) ∙ figures-length (length (room .servers)) _ in
+    let all : min (length servers) mostServers ≡ length (room .servers) = omega (arith, ok .fewServers) in
     rw all
     (ap (λ (l : List ℕ). freedLine freed ++ l)
-    (serversAt-servers table caps grants _ _ 0 _ 0 0 (room .servers) end (laid .servers-are)))
+    (serversAt-servers room servers caps grants sr cr
+    (λ v h. all-at (ServerAccepted (room .scale) (length (room .nodes))) (room .servers) (ok .servers) v _ h .fewCords)
+    (length (room .servers)) 0 0 (room .servers) (zero-add (length (room .servers))) refl refl refl (zero-add (roomCords room))))

@@ -54,6 +54,10 @@ module _ {a b c : List ℕ} {i j k : ℕ} {s t : List ℕ} where
         past = omega (arith, p .past, q .past, length-append s t);
       }
 
+-- The same text by another name.
+pub put-as : {a b : List ℕ} {i n : ℕ} {s t : List ℕ} → s ≡ t → Put a i b n s → Put a i b n t
+put-as e p = rw (← e) p
+
 -- No text.
 pub put-none : (a : List ℕ) (i : ℕ) → i ≤ length a → Put a i a i []
 put-none a i h = record { bytes = refl; past = omega arith }

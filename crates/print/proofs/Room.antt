@@ -1,49 +1,24 @@
--- The walk over a good table's words prints the servers of its room; and figures past those of the room make no difference.
+-- The walk over the rows of a room's servers and cords prints the servers of the room; and figures past those of the room make no difference.
 use mathlib.Core.Path.{_≡_, refl, sym, ap, _∙_}
 use mathlib.Core.List.{List, [], _∷_, _++_}
-use Prim.Native.Nat.{ℕ, zero, suc, _+_, _*_, _≤_, _<_}
+use Prim.Native.Nat.{ℕ, zero, suc, _+_, _≤_, _<_}
 use native.Mathlib.Omega.{arith}
-use lib.ListN.{length, getD}
-use lib.Seq.{sets, getD-take, take-length}
+use native.Mathlib.Numerals.{add-one}
+use lib.ListN.{length, getD, drop, List·getD-append}
+use lib.Seq.{sets, getD-take, take-length, drop-cons, drop-drop, drop-at, getD-drop}
 use Rattle.words.proofs.Lists.{take-sets}
-use Rattle.rooms.specs.Part.{good, many}
-use Rattle.figures.specs.Figures.{total}
-use Rattle.rooms.specs.Table.{Cord, Server, Room, cord, cords, server, servers, cordCount, roomCords}
-use Rattle.rooms.proofs.Inversion.{cord-is, server-is, many-is}
+use Rattle.figures.specs.Figures.{total, cell}
+use Rattle.figures.proofs.Lists.{figures-at}
+use Rattle.figures.proofs.Columns.{column-at}
+use Rattle.rooms.specs.Table.{Server, Room, mostServerCords, cordCount, roomCords}
+use Rattle.rooms.specs.Cords.{RoomCord, serverCords, cordsFrom, cordsOf, cordAt, serverAt}
+use Rattle.rooms.specs.Lists.{nodesOf}
+use Rattle.rooms.proofs.Cords.{noRoomCord, noServer, serverCords-length}
+use Rattle.room_lists.specs.Lists.{countColumn, nodeColumn, ServerRows, CordRows}
+use Rattle.room_lists.proofs.Walk.{serverCords-at}
 use Rattle.print.specs.Line.{freedLine, serverLine, cordLine}
 use Rattle.print.specs.Print.{linesFrom, at, nodeAt, serverPrint, serversPrint, printOf}
 use Rattle.print.specs.Walk.{cordsAt, serversAt}
-
--- ---- the cords of a server
-
--- Good cords: the index after them, and the node of each.
-record CordsAre (count : ℕ) (w : List ℕ) (i : ℕ) (l : List Cord) (j : ℕ) : Type 0 where
-  next : j ≡ i + 2 * count
-  nodes : (k : ℕ) → k < count → nodeAt l k ≡ at w (i + 2 * k)
-
-cords-are : (nodeCount count : ℕ) (w : List ℕ) (i : ℕ) (l : List Cord) (j : ℕ) → cords nodeCount count w i ≡ good l j
-    → CordsAre count w i l j
-unfolding many
-cords-are nodeCount zero w i l j e =
-    let y : i ≡ j = cc in
-    record { next = omega arith; nodes = λ k h. absurd (omega arith) }
-cords-are nodeCount (suc count) w i l j e =
-    let m = many-is count (λ _. cord nodeCount) (λ given _. given) 0 w i l j e in
-    let first = cord-is nodeCount w i (m .got) (m .at) (m .first) in
-    joined (m .got) (m .rest) (m .at) (m .is) (ap (λ (c : Cord). c .node) (first .is)) (first .next)
-    (cords-are nodeCount count w (m .at) (m .rest) j (m .others))
-  where
-    joined : (c : Cord) (rest : List Cord) (h : ℕ) → l ≡ c ∷ rest → c .node ≡ getD w i 0 → h ≡ suc (suc i)
-        → CordsAre count w h rest j → CordsAre (suc count) w i l j
-    joined c rest h is node next r = record { next = omega (arith, r .next); nodes = λ k inside. rw is (by k inside) }
-      where
-        by : (k : ℕ) → k < suc count → nodeAt (c ∷ rest) k ≡ at w (i + 2 * k)
-        by zero inside =
-            let z : i + 2 * 0 ≡ i = omega arith in
-            rw z node
-        by (suc k) inside =
-            let z : i + 2 * suc k ≡ h + 2 * k = omega arith in
-            rw z (r .nodes k (omega arith))
 
 -- Lines that are the same at each place.
 linesFrom-same : (f g : ℕ → List ℕ) (count k : ℕ) → ((m : ℕ) → m < k + count → f m ≡ g m)
@@ -63,30 +38,70 @@ serverPrint-same number cap count node node' grant same =
 
 -- ---- the servers
 
-module _ (w caps grants : List ℕ) where
-  pub serversAt-servers : (nodeCount left before i v c : ℕ) (ss : List Server) (j : ℕ)
-      → servers nodeCount left before w i ≡ good ss j
-      → serversAt w caps grants left v c i ≡ serversPrint caps grants v c ss
-  unfolding many serversAt serversPrint
-  serversAt-servers nodeCount zero before i v c ss j e =
-      let x : [] ≡ ss = cc in
-      rw (← x)
-  serversAt-servers nodeCount (suc left) before i v c ss j e =
-      let m = many-is left (server nodeCount) (λ before s. before + cordCount s) before w i ss j e in
-      let load = server-is nodeCount before w i (m .got) (m .at) (m .first) .load in
-      let l = m .got .cords in
-      let cs = cords-are nodeCount (getD w (suc (suc (suc i))) 0) w (suc (suc (suc (suc i)))) l (m .at) (load .are) in
-      let three : i + 3 ≡ suc (suc (suc i)) = omega arith in
-      let four : i + 4 ≡ suc (suc (suc (suc i))) = omega arith in
-      let count : cordsAt w i ≡ length l = rw three (omega (arith, load .few, load .count)) in
-      let past : i + 4 + 2 * length l ≡ m .at = omega (arith, cs .next, load .count) in
+-- The nodes of a server's cords, by their places among the room's.
+module _ (r : Room) (servers : List (List ℕ)) {blank cords : List (List ℕ)} (caps grants : List ℕ) (sr : ServerRows r servers) (cr : CordRows r blank cords)
+    (few : (v : ℕ) → v < length (r .servers) → cordCount (serverAt r v) ≤ mostServerCords) where
+  count-at : (v : ℕ) → v < length (r .servers) → cordsAt servers v ≡ cordCount (serverAt r v)
+  count-at v h =
+      let is : cell servers v countColumn ≡ cordCount (serverAt r v)
+      = sym (column-at countColumn servers v) ∙ ap (λ (l : List ℕ). at l v) (sr .counts) ∙ figures-at (length (r .servers)) v _ h in
+      omega (arith, is, few v h)
+
+  node-at : (c : ℕ) → c < roomCords r → cell cords c nodeColumn ≡ cordAt r c .node
+  unfolding nodesOf
+  node-at c h = sym (column-at nodeColumn cords c) ∙ ap (λ (l : List ℕ). at l c) (cr .nodes) ∙ figures-at (roomCords r) c _ h
+
+  -- One server and its cords, at place c of the room's.
+  module _ (v c : ℕ) (s : Server) (rest : List Server) (split : drop v (r .servers) ≡ s ∷ rest) (cords-are : drop c (cordsOf r) ≡ cordsFrom v (s ∷ rest))
+      (first : v < length (r .servers)) (left : c + total cordCount (s ∷ rest) ≡ roomCords r) where
+    here : (serverAt r v ≡ s) × (drop (suc v) (r .servers) ≡ rest)
+    here =
+        let e : serverAt r v ∷ drop (suc v) (r .servers) ≡ s ∷ rest = sym (drop-cons (r .servers) v noServer first) ∙ split in
+        let a : serverAt r v ≡ s = cc in
+        let b : drop (suc v) (r .servers) ≡ rest = cc in
+        (a, b)
+
+    after : drop c (cordsOf r) ≡ serverCords v (s .cords) ++ cordsFrom (suc v) rest
+    unfolding cordsFrom
+    after = cords-are
+
+    total-is : c + (cordCount s + total cordCount rest) ≡ roomCords r
+    unfolding total
+    total-is = left
+
+    node-of : (k : ℕ) → k < cordCount s → cell cords (c + k) nodeColumn ≡ nodeAt (s .cords) k
+    node-of k h =
+        node-at (c + k) (omega (arith, total-is))
+        ∙ ap (λ (x : RoomCord). x .node)
+        (sym (getD-drop c (cordsOf r) k noRoomCord)
+        ∙ ap (λ (l : List RoomCord). getD l k noRoomCord) after
+        ∙ List·getD-append (serverCords v (s .cords)) (cordsFrom (suc v) rest) noRoomCord k (omega (arith, serverCords-length v (s .cords)))
+        ∙ serverCords-at v (s .cords) k h)
+
+    cords-next : drop (c + cordCount s) (cordsOf r) ≡ cordsFrom (suc v) rest
+    cords-next =
+        sym (drop-drop (cordCount s) c (cordsOf r))
+        ∙ ap (drop (cordCount s)) after
+        ∙ drop-at (serverCords v (s .cords)) (cordsFrom (suc v) rest) (cordCount s) (serverCords-length v (s .cords))
+
+  -- The servers from place v on, with their cords from place c on.
+  pub serversAt-servers : (left v c : ℕ) (ss : List Server) → v + left ≡ length (r .servers) → drop v (r .servers) ≡ ss → length ss ≡ left
+      → drop c (cordsOf r) ≡ cordsFrom v ss → c + total cordCount ss ≡ roomCords r
+      → serversAt servers cords caps grants left v c ≡ serversPrint caps grants v c ss
+  unfolding serversAt serversPrint
+  serversAt-servers zero v c [] n d l e t = refl
+  serversAt-servers zero v c (s ∷ rest) n d l e t = absurd (omega arith)
+  serversAt-servers (suc left) v c [] n d l e t = absurd (omega arith)
+  serversAt-servers (suc left) v c (s ∷ rest) n d l e t =
+      let first : v < length (r .servers) = omega arith in
+      let count : cordsAt servers v ≡ cordCount s = count-at v first ∙ ap cordCount (here v c s rest d e first t .0) in
+      let next : v + 1 ≡ suc v = add-one v in
       rw (
-        m .is,
         count,
-        serverPrint-same (v + 1) (at caps v) (length l) (λ k. at w (i + 4 + 2 * k)) (nodeAt l) (λ k. at grants (c + k))
-            (λ k h. rw four (sym (cs .nodes k (rw (load .count) at h)))),
-        past,
-        serversAt-servers nodeCount left (before + cordCount (m .got)) (m .at) (v + 1) (c + length l) (m .rest) j (m .others),
+        serverPrint-same (v + 1) (at caps v) (cordCount s) (λ k. cell cords (c + k) nodeColumn) (nodeAt (s .cords)) (λ k. at grants (c + k))
+            (node-of v c s rest d e first t),
+        serversAt-servers left (v + 1) (c + cordCount s) rest (omega arith) (rw next (here v c s rest d e first t .1)) (omega arith)
+            (rw next (cords-next v c s rest d e first t)) (omega (arith, total-is v c s rest d e first t)),
       )
 
 -- ---- figures past those of the room make no difference

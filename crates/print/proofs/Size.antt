@@ -77,8 +77,8 @@ length-linesFrom most line (suc count) k h =
 
 module _
     (caps grants : List ℕ) (below : AllBelow (2 ^ 32) caps) (below' : AllBelow (2 ^ 32) grants)
-    (nodeCount : ℕ) (few : nodeCount ≤ mostNodes) where
-  length-serverPrint : (v c : ℕ) (s : Server) → v < mostServers → ServerAccepted nodeCount s
+    (scale nodeCount : ℕ) (few : nodeCount ≤ mostNodes) where
+  length-serverPrint : (v c : ℕ) (s : Server) → v < mostServers → ServerAccepted scale nodeCount s
       → length (serverPrint (v + 1) (at caps v) (cordCount s) (nodeAt (s .cords)) (λ k. at grants (c + k))) ≤ 26 + 33 * cordCount s
   unfolding serverPrint
   length-serverPrint v c s h a =
@@ -93,7 +93,7 @@ module _
           length-cordLine (k + 1) (nodeAt (s .cords) k) (at grants (c + k))
           (omega (arith, a .fewCords)) (omega (arith, is .nodeTo)) (omega (arith, below' (c + k)))
 
-  length-serversPrint : (v c : ℕ) (ss : List Server) → v + length ss ≤ mostServers → All (ServerAccepted nodeCount) ss
+  length-serversPrint : (v c : ℕ) (ss : List Server) → v + length ss ≤ mostServers → All (ServerAccepted scale nodeCount) ss
       → length (serversPrint caps grants v c ss) ≤ 26 * length ss + 33 * total cordCount ss
   unfolding serversPrint total
   length-serversPrint v c [] h a = omega arith
@@ -110,6 +110,6 @@ unfolding printOf
 length-printOf r freed caps grants a h below below' =
     let first = length-freedLine freed (omega arith) in
     let rest =
-    length-serversPrint caps grants below below' (length (r .nodes)) (a .fewNodes) 0 0 (r .servers)
+    length-serversPrint caps grants below below' (r .scale) (length (r .nodes)) (a .fewNodes) 0 0 (r .servers)
     (omega (arith, a .fewServers)) (a .servers) in
     simp length-append (omega (arith, a .fewServers, a .fewCords))

@@ -1,13 +1,13 @@
 -- Turns of the loops that put one line, or one server's lines, after another.
 use mathlib.Core.Path.{_≡_, refl, _∙_}
 use mathlib.Core.List.{List, [], _++_}
-use Prim.Native.Nat.{ℕ, suc, _+_, _-_, _*_, _^_, _≤_, _<_, min}
+use Prim.Native.Nat.{ℕ, suc, _+_, _-_, _*_, _≤_, _<_, min}
 use native.Mathlib.Omega.{arith}
 use lib.ListN.{length}
 use Rattle.rooms.specs.Table.{mostServers}
 use Rattle.print.specs.Line.{serverLine, Put}
 use Rattle.print.specs.Print.{linesFrom, at, serverPrint}
-use Rattle.print.specs.Walk.{cordLineAt, cordsAt, serversAt, serverCount, walkPrint}
+use Rattle.print.specs.Walk.{cordLineAt, cordsAt, serversAt, walkPrint}
 use Rattle.print.proofs.Putting.{then, put-size, Putting, putting-first, putting-next, putting-last}
 
 -- ---- lines by place
@@ -38,56 +38,51 @@ module _ (line : ℕ → List ℕ) where
 
 -- ---- servers
 
--- The walk over the servers, at its place v: what is put, followed by the servers that are left, is the whole; the index
--- and the first grant are no further than so many servers can take them.
-pub record Walking (table caps grants a : List ℕ) (start count index₀ : ℕ) (b : List ℕ) (index first next v : ℕ) : Type 0 where
+-- The walk over the servers, at its place v: what is put, followed by the servers that are left, is the whole; the first grant is no
+-- further than so many servers can take it.
+pub record Walking (servers cords : List (List ℕ)) (caps grants a : List ℕ) (start count : ℕ) (b : List ℕ) (first next v : ℕ) : Type 0 where
   pub bound : v ≤ count
   pub most : count ≤ mostServers
-  pub index-bound : index ≤ 2 ^ 33 + 3 + 12 * v
   pub first-bound : first ≤ 4 * v
-  pub put : Putting a start b next (serversAt table caps grants (count - v) v first index) (serversAt table caps grants count 0 0 index₀)
+  pub put : Putting a start b next (serversAt servers cords caps grants (count - v) v first) (serversAt servers cords caps grants count 0 0)
   pub size : length b ≡ length a
 
-module _ (table caps grants a : List ℕ) (start count index₀ : ℕ) where
-  pub walking-first : start ≤ length a → count ≤ mostServers → index₀ ≤ 2 ^ 33 + 3
-      → Walking table caps grants a start count index₀ a index₀ 0 start 0
-  walking-first h k l =
+module _ (servers cords : List (List ℕ)) (caps grants a : List ℕ) (start count : ℕ) where
+  pub walking-first : start ≤ length a → count ≤ mostServers → Walking servers cords caps grants a start count a 0 start 0
+  walking-first h k =
       let all : count - 0 ≡ count = omega arith in
       record {
         bound = omega arith;
         most = k;
-        index-bound = omega arith;
         first-bound = omega arith;
-        put = rw all (putting-first a start (serversAt table caps grants count 0 0 index₀) h);
+        put = rw all (putting-first a start (serversAt servers cords caps grants count 0 0) h);
         size = refl;
       }
 
   -- One server more.
-  pub walking-next : (b : List ℕ) (index first next v : ℕ) {b' b'' : List ℕ} {line past cap cords : ℕ}
-      → Walking table caps grants a start count index₀ b index first next v → v < count
-      → cap ≡ at caps v → cords ≡ cordsAt table index
+  pub walking-next : (b : List ℕ) (first next v : ℕ) {b' b'' : List ℕ} {line past cap few : ℕ}
+      → Walking servers cords caps grants a start count b first next v → v < count
+      → cap ≡ at caps v → few ≡ cordsAt servers v
       → Put b next b' line (serverLine (v + 1) cap)
-      → Put b' line b'' past (linesFrom cords 0 (cordLineAt table grants (index + 4) first))
-      → Walking table caps grants a start count index₀ b'' (index + 4 + 2 * cords) (first + cords) past (v + 1)
+      → Put b' line b'' past (linesFrom few 0 (cordLineAt cords grants first))
+      → Walking servers cords caps grants a start count b'' (first + few) past (v + 1)
   unfolding serversAt serverPrint
-  walking-next b index first next v {b'} {b''} {line} {past} {cap} {cords} g h ec es p q =
+  walking-next b first next v {b'} {b''} {line} {past} {cap} {few} g h ec es p q =
       let left : count - v ≡ suc (count - (v + 1)) = omega arith in
       let both = then p q in
       record {
         bound = omega arith;
         most = g .most;
-        index-bound = omega (arith, g .index-bound);
         first-bound = omega (arith, g .first-bound);
         put = rw es (putting-next (rw left at (g .put)) (rw (ec, es) at both));
         size = put-size both ∙ g .size;
       }
 
--- No server is left, of those that the table says there are.
-pub walked : {table caps grants a : List ℕ} {start count place said : ℕ} {b : List ℕ} {index first next v : ℕ}
-    → Walking table caps grants a start count (place + 1) b index first next v → count ≤ v
-    → place ≡ serverCount table → said ≡ at table place → count ≡ min said mostServers
-    → Put a start b next (walkPrint table caps grants)
+-- No server is left.
+pub walked : {servers cords : List (List ℕ)} {caps grants a : List ℕ} {start count : ℕ} {b : List ℕ} {first next v : ℕ}
+    → Walking servers cords caps grants a start count b first next v → count ≤ v → count ≡ min (length servers) mostServers
+    → Put a start b next (walkPrint servers cords caps grants)
 unfolding serversAt
-walked {count = count} {v = v} g h ep es ec =
+walked {count = count} {v = v} g h ec =
     let none : count - v ≡ 0 = omega arith in
-    rw (← ep, ← es, ← ec) (putting-last (rw none at (g .put)))
+    rw (← ec) (putting-last (rw none at (g .put)))

@@ -5,10 +5,13 @@ use Prim.Native.Nat.{ℕ}
 use Rattle.rooms.specs.Part.{good}
 use Rattle.rooms.specs.Table.{Room}
 use Rattle.rooms.specs.Limits.{checked}
+use Rattle.room_lists.specs.Lists.{ServerRows, CordRows}
 use Rattle.print.specs.Print.{printOf}
 use Rattle.print.specs.Walk.{planPrint}
 
--- Of a good table, the walk over its words prints `freed F`, and then each server of its room and each of the server's cords.
+-- Of a good table, the walk over the rows of its room's servers and cords prints `freed F`, and then each server and each of the
+-- server's cords.
 abbrev pub PrintsRoom : Type 0
-PrintsRoom = (table : List ℕ) (room : Room) (end freed : ℕ) (caps grants : List ℕ) → checked table 0 ≡ good room end
-    → planPrint freed table caps grants ≡ printOf freed (room .servers) caps grants
+PrintsRoom = (table : List ℕ) (room : Room) (end freed : ℕ) (servers blank cords : List (List ℕ)) (caps grants : List ℕ) → checked table 0 ≡ good room end
+    → ServerRows room servers → CordRows room blank cords
+    → planPrint freed servers cords caps grants ≡ printOf freed (room .servers) caps grants

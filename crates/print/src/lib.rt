@@ -1,25 +1,83 @@
 // What `hutplan` prints, in bytes.
 ghost use mathlib.Core.Path.{_≡_};
-ghost use Prim.Native.Nat.{_+_, _*_, _^_, _≤_, _<_, min};
+ghost use Prim.Native.Nat.{_^_, _≤_, _<_, min};
 ghost use lib.ListN.{length};
 ghost use Rattle.io.specs.Counts.{Counts};
 ghost use Rattle.print.specs.Line.{decimal, freedLine, serverLine, cordLine, refusedLine, Put};
-ghost use Rattle.print.specs.Print.{linesFrom, at};
+ghost use Rattle.print.specs.Print.{linesFrom, at, printOf};
 ghost use Rattle.print.specs.Walk.{cordLineAt, walkPrint, planPrint};
+ghost use Rattle.figures.specs.Figures.{cell};
+ghost use Rattle.rooms.specs.Part.{Good};
+ghost use Rattle.rooms.specs.Limits.{checked};
+ghost use Rattle.room_lists.specs.Lists.{OfRoom, ServersFit, CordsFit, nodeColumn};
+use figures::word_index;
+use room_lists::COUNT;
+use room_lists::NODE;
 
-// The most servers of a room, and the most cords of a server.
+// The most servers and cords of a room, and the most cords of a server.
 const MOST_SERVERS: usize = 512;
+
+const MOST_CORDS: usize = 1024;
 
 const MOST_SERVER_CORDS: usize = 4;
 
-// The print of a plan, at the front of the buffer: as much as fits. The result is how many bytes that is.
+// The print of a good table's plan, at the front of the buffer: as much as fits. The result is how many bytes that is.
 pub fn plan(freed: u64, table: &[u32], caps: &[u32], grants: &[u32], buffer: &mut [u8]) -> usize
+    requires { ⌜ Good (checked (now table) 0) ⌝ }
+    ensures { λ r. ⌜ OfRoom (now (table .entry)) (λ room. Put (now (buffer .entry)) 0 (now (buffer .exit)) r
+        (printOf freed (room .servers) (now (caps .entry)) (now (grants .entry)))) ⌝ }
+    ensures { λ r. ⌜ Counts r (now (buffer .exit)) ⌝ }
+{
+    let mut servers = [[0u32; 4]; MOST_SERVERS];
+    let mut cords = [[0u32; 8]; MOST_CORDS];
+    let server_count = room_lists::server_count(table);
+    let cord_count = room_lists::cord_count(table);
+    plan_by(
+        freed,
+        table,
+        &mut servers[..server_count],
+        &mut cords[..cord_count],
+        caps,
+        grants,
+        buffer,
+    )
+}
+
+// The print of a plan by way of a row for each server and each cord.
+fn plan_by(
+    freed: u64,
+    table: &[u32],
+    servers: &mut [[u32; 4]],
+    cords: &mut [[u32; 8]],
+    caps: &[u32],
+    grants: &[u32],
+    buffer: &mut [u8],
+) -> usize
+    requires { ⌜ Good (checked (now table) 0) ⌝ }
+    requires { ⌜ ServersFit (now table) (length (now servers)) × CordsFit (now table) (length (now cords)) ⌝ }
+    ensures { λ r. ⌜ OfRoom (now (table .entry)) (λ room. Put (now (buffer .entry)) 0 (now (buffer .exit)) r
+        (printOf freed (room .servers) (now (caps .entry)) (now (grants .entry)))) ⌝ }
+    ensures { λ r. ⌜ Counts r (now (buffer .exit)) ⌝ }
+{
+    room_lists::lay_out_servers(table, servers, cords);
+    put_plan(freed, servers, cords, caps, grants, buffer)
+}
+
+// The print of a plan by the rows of its servers and cords.
+fn put_plan(
+    freed: u64,
+    servers: &[[u32; 4]],
+    cords: &[[u32; 8]],
+    caps: &[u32],
+    grants: &[u32],
+    buffer: &mut [u8],
+) -> usize
     ensures { λ r. ⌜ Put (now (buffer .entry)) 0 (now (buffer .exit)) r
-        (planPrint freed (now (table .entry)) (now (caps .entry)) (now (grants .entry))) ⌝ }
+        (planPrint freed (now (servers .entry)) (now (cords .entry)) (now (caps .entry)) (now (grants .entry))) ⌝ }
     ensures { λ r. ⌜ Counts r (now (buffer .exit)) ⌝ }
 {
     let next = put_freed(freed as usize, buffer, 0);
-    put_servers(table, caps, grants, buffer, next)
+    put_servers(servers, cords, caps, grants, buffer, next)
 }
 
 // The print of a refusal, at the front of the buffer: as much as fits. The result is how many bytes that is.
@@ -36,7 +94,8 @@ pub fn refusal(number: u64, place: usize, buffer: &mut [u8]) -> usize
 
 // The lines of all servers and their cords.
 fn put_servers(
-    table: &[u32],
+    servers: &[[u32; 4]],
+    cords: &[[u32; 8]],
     caps: &[u32],
     grants: &[u32],
     buffer: &mut [u8],
@@ -44,43 +103,39 @@ fn put_servers(
 ) -> usize
     requires { ⌜ start ≤ length (now buffer) ⌝ }
     ensures { λ r. ⌜ Put (now (buffer .entry)) start (now (buffer .exit)) r
-        (walkPrint (now (table .entry)) (now (caps .entry)) (now (grants .entry))) ⌝ }
+        (walkPrint (now (servers .entry)) (now (cords .entry)) (now (caps .entry)) (now (grants .entry))) ⌝ }
 {
-    let place = 2 + 2 * word(table, 1);
-    let count = least(word(table, place), MOST_SERVERS);
-    let mut index = place + 1;
+    let count = least(servers.len(), MOST_SERVERS);
     let mut first = 0usize;
     let mut next = start;
     for v in 0..count {
-        let cords = least(word(table, index + 3), MOST_SERVER_CORDS);
+        let few = least(word_index(servers[v][COUNT]), MOST_SERVER_CORDS);
         let line = put_server(v + 1, word(caps, v), buffer, next);
-        let past = put_cords(cords, table, index + 4, grants, first, buffer, line);
+        let past = put_cords(few, cords, grants, first, buffer, line);
         next = past;
-        index = index + 4 + 2 * cords;
-        first += cords;
+        first += few;
     }
     next
 }
 
-// The lines of a server's cords: their words start at `index`, their grants at `first`.
+// The lines of a server's cords, whose rows and grants start at `first`.
 fn put_cords(
     count: usize,
-    table: &[u32],
-    index: usize,
+    cords: &[[u32; 8]],
     grants: &[u32],
     first: usize,
     buffer: &mut [u8],
     start: usize,
 ) -> usize
-    requires { ⌜ (count ≤ 4) × (index < 2 ^ 34) × (first < 2 ^ 34) × (start ≤ length (now buffer)) ⌝ }
+    requires { ⌜ (count ≤ 4) × (first < 2 ^ 34) × (start ≤ length (now buffer)) ⌝ }
     ensures { λ r. ⌜ Put (now (buffer .entry)) start (now (buffer .exit)) r
-        (linesFrom count 0 (cordLineAt (now (table .entry)) (now (grants .entry)) index first)) ⌝ }
+        (linesFrom count 0 (cordLineAt (now (cords .entry)) (now (grants .entry)) first)) ⌝ }
 {
     let mut next = start;
     for k in 0..count {
         let past = put_cord(
             k + 1,
-            word(table, index + 2 * k),
+            node(cords, first + k),
             word(grants, first + k),
             buffer,
             next,
@@ -88,6 +143,17 @@ fn put_cords(
         next = past;
     }
     next
+}
+
+// The node of the cord at a place; 0 past the last.
+fn node(cords: &[[u32; 8]], place: usize) -> usize
+    ensures { λ r. ⌜ r ≡ cell (now (cords .entry)) place nodeColumn ⌝ }
+{
+    if place < cords.len() {
+        word_index(cords[place][NODE])
+    } else {
+        0
+    }
 }
 
 // `freed F`.

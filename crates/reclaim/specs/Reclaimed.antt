@@ -6,14 +6,15 @@ use mathlib.Core.List.{List}
 use Prim.Native.Nat.{ℕ, _-_, _*_, _/_, _≤_, _<_}
 use lib.Dec.{eqb, ltb}
 use lib.ListN.{length}
-use Rattle.rooms.specs.Table.{mostCords, mostWatts, scale}
+use Rattle.rooms.specs.Table.{IsScale, mostCords, mostWatts}
 use Rattle.rooms.specs.Limits.{carried}
 use Rattle.figures.specs.Figures.{figures, at, sumOf}
 use Rattle.deals.specs.Wants.{needs}
 use Rattle.deals.specs.SecondDeal.{leastOver, freed}
 
--- What these lists must be, with watts for each server: its need, or what it can use.
-pub record ServerLists (shares servers watts : List ℕ) (grantCount : ℕ) : Type 0 where
+-- What these lists must be, in a room of such a scale, with watts for each server: its need, or what it can use.
+pub record ServerLists (scale : ℕ) (shares servers watts : List ℕ) (grantCount : ℕ) : Type 0 where
+  pub scaled : IsScale scale
   pub few : length shares ≤ mostCords
   pub servers-size : length servers ≡ length shares
   pub grants-size : grantCount ≡ length shares
@@ -23,34 +24,34 @@ pub record ServerLists (shares servers watts : List ℕ) (grantCount : ℕ) : Ty
 
 -- The usable watts of the server at place v by its cords that stand before place c: the least of its need and, over those with
 -- share above 0, of the loads at which they carry their grants.
-abbrev pub usableBefore : List ℕ → List ℕ → List ℕ → List ℕ → ℕ → ℕ → ℕ
-usableBefore shares servers needs grants c v =
+abbrev pub usableBefore : ℕ → List ℕ → List ℕ → List ℕ → List ℕ → ℕ → ℕ → ℕ
+usableBefore scale shares servers needs grants c v =
     leastOver c (λ h. eqb (at servers h) v && ltb 0 (at shares h)) (λ h. scale * at grants h / at shares h) (at needs v)
 
 -- The usable watts of each server, and the used and the stranded watts of each cord.
-abbrev pub usableFrom : List ℕ → List ℕ → List ℕ → List ℕ → List ℕ
-usableFrom shares servers needs grants = figures (length needs) (usableBefore shares servers needs grants (length shares))
+abbrev pub usableFrom : ℕ → List ℕ → List ℕ → List ℕ → List ℕ → List ℕ
+usableFrom scale shares servers needs grants = figures (length needs) (usableBefore scale shares servers needs grants (length shares))
 
-abbrev pub usedFrom : List ℕ → List ℕ → List ℕ → List ℕ
-usedFrom shares servers usable = figures (length shares) (λ c. carried scale (at shares c) (at usable (at servers c)))
+abbrev pub usedFrom : ℕ → List ℕ → List ℕ → List ℕ → List ℕ
+usedFrom scale shares servers usable = figures (length shares) (λ c. carried scale (at shares c) (at usable (at servers c)))
 
 abbrev pub strandedFrom : List ℕ → List ℕ → List ℕ
 strandedFrom used grants = figures (length used) (λ c. at grants c - at used c)
 
 -- The watts freed.
-abbrev pub freedFrom : List ℕ → List ℕ → List ℕ → List ℕ → ℕ
-freedFrom shares servers usable grants = sumOf (strandedFrom (usedFrom shares servers usable) grants)
+abbrev pub freedFrom : ℕ → List ℕ → List ℕ → List ℕ → List ℕ → ℕ
+freedFrom scale shares servers usable grants = sumOf (strandedFrom (usedFrom scale shares servers usable) grants)
 
 -- The wants of the next deal.
 abbrev pub wantsFrom : List ℕ → List ℕ → List ℕ → List ℕ
 wantsFrom used grants wants = figures (length used) (λ c. cond (ltb 0 (at (strandedFrom used grants) c)) (at used c) (at wants c))
 
 -- The same, with the used watts worked out from the grants.
-abbrev pub wantsNext : List ℕ → List ℕ → List ℕ → List ℕ → List ℕ → List ℕ
-wantsNext shares servers needs grants wants = wantsFrom (usedFrom shares servers (usableFrom shares servers needs grants)) grants wants
+abbrev pub wantsNext : ℕ → List ℕ → List ℕ → List ℕ → List ℕ → List ℕ → List ℕ
+wantsNext scale shares servers needs grants wants = wantsFrom (usedFrom scale shares servers (usableFrom scale shares servers needs grants)) grants wants
 
 -- What is freed after so many deals, and the wants of the next: before the first, no want is changed.
-pub record ReclaimedAfter (deals : ℕ) (shares servers usable grants wants : List ℕ) (freed : ℕ) (wants′ : List ℕ) : Type 0 where
+pub record ReclaimedAfter (scale deals : ℕ) (shares servers usable grants wants : List ℕ) (freed : ℕ) (wants′ : List ℕ) : Type 0 where
   pub none : deals ≡ 0 → wants′ ≡ wants
-  pub freed-is : 0 < deals → freed ≡ freedFrom shares servers usable grants
-  pub wants-are : 0 < deals → wants′ ≡ wantsFrom (usedFrom shares servers usable) grants wants
+  pub freed-is : 0 < deals → freed ≡ freedFrom scale shares servers usable grants
+  pub wants-are : 0 < deals → wants′ ≡ wantsFrom (usedFrom scale shares servers usable) grants wants

@@ -11,19 +11,26 @@ use figures::least;
 use figures::narrow;
 use figures::over;
 use figures::wide;
-use layout::carried_by;
+use rooms::limits::carried_by;
 
-// Each server's usable watts: its need, or the least of floor(1000 × grant / share) of its cords with a share, if that is less.
-pub fn usable_of(shares: &[u32], servers: &[u16], needs: &[u32], grants: &[u32], usable: &mut [u32])
-    requires { ⌜ ServerLists (now shares) (now servers) (now needs) (length (now grants)) × (length (now usable) ≡ length (now needs)) ⌝ }
-    ensures { λ _. ⌜ now (usable .exit) ≡ usableFrom (now (shares .entry)) (now (servers .entry)) (now (needs .entry)) (now (grants .entry)) ⌝ }
+// Each server's usable watts: its need, or the least of floor(scale × grant / share) of its cords with a share, if that is less.
+pub fn usable_of(
+    shares: &[u32],
+    servers: &[u16],
+    needs: &[u32],
+    grants: &[u32],
+    usable: &mut [u32],
+    scale: u32,
+)
+    requires { ⌜ ServerLists scale (now shares) (now servers) (now needs) (length (now grants)) × (length (now usable) ≡ length (now needs)) ⌝ }
+    ensures { λ _. ⌜ now (usable .exit) ≡ usableFrom scale (now (shares .entry)) (now (servers .entry)) (now (needs .entry)) (now (grants .entry)) ⌝ }
 {
     words::copy(needs, usable);
     for c in 0..shares.len() {
         let share = wide(shares[c]);
         if share != 0 {
             let v = index(servers[c]);
-            usable[v] = narrow(least(wide(usable[v]), 1000 * wide(grants[c]) / share));
+            usable[v] = narrow(least(wide(usable[v]), scale as u64 * wide(grants[c]) / share));
         }
     }
 }
@@ -46,14 +53,15 @@ fn reclaim(
     usable: &[u32],
     grants: &[u32],
     wants: &mut [u32],
+    scale: u32,
 ) -> u64
-    requires { ⌜ ServerLists (now shares) (now servers) (now usable) (length (now grants)) × (length (now wants) ≡ length (now shares)) ⌝ }
-    ensures { λ freed. ⌜ freed ≡ freedFrom (now (shares .entry)) (now (servers .entry)) (now (usable .entry)) (now (grants .entry)) ⌝ }
-    ensures { λ _. ⌜ now (wants .exit) ≡ wantsFrom (usedFrom (now (shares .entry)) (now (servers .entry)) (now (usable .entry))) (now (grants .entry)) (now (wants .entry)) ⌝ }
+    requires { ⌜ ServerLists scale (now shares) (now servers) (now usable) (length (now grants)) × (length (now wants) ≡ length (now shares)) ⌝ }
+    ensures { λ freed. ⌜ freed ≡ freedFrom scale (now (shares .entry)) (now (servers .entry)) (now (usable .entry)) (now (grants .entry)) ⌝ }
+    ensures { λ _. ⌜ now (wants .exit) ≡ wantsFrom (usedFrom scale (now (shares .entry)) (now (servers .entry)) (now (usable .entry))) (now (grants .entry)) (now (wants .entry)) ⌝ }
 {
     let mut freed: u64 = 0;
     for c in 0..shares.len() {
-        let used = carried_by(shares[c], usable[index(servers[c])]);
+        let used = carried_by(shares[c], usable[index(servers[c])], scale);
         let stranded = over(wide(grants[c]), wide(used));
         freed += stranded;
         wants[c] = next_want(stranded, used, wants[c]);
@@ -69,12 +77,13 @@ pub fn reclaim_after(
     usable: &[u32],
     grants: &[u32],
     wants: &mut [u32],
+    scale: u32,
 ) -> u64
-    requires { ⌜ (0 < deals → ServerLists (now shares) (now servers) (now usable) (length (now grants)) × (length (now wants) ≡ length (now shares))) ⌝ }
-    ensures { λ freed. ⌜ ReclaimedAfter deals (now (shares .entry)) (now (servers .entry)) (now (usable .entry)) (now (grants .entry)) (now (wants .entry)) freed (now (wants .exit)) ⌝ }
+    requires { ⌜ (0 < deals → ServerLists scale (now shares) (now servers) (now usable) (length (now grants)) × (length (now wants) ≡ length (now shares))) ⌝ }
+    ensures { λ freed. ⌜ ReclaimedAfter scale deals (now (shares .entry)) (now (servers .entry)) (now (usable .entry)) (now (grants .entry)) (now (wants .entry)) freed (now (wants .exit)) ⌝ }
 {
     if deals == 0 {
         return 0;
     }
-    reclaim(shares, servers, usable, grants, wants)
+    reclaim(shares, servers, usable, grants, wants, scale)
 }

@@ -10,7 +10,7 @@ use lib.ListN.{length, getD, length-append, List·getD-append}
 use lib.Seq.{getD-append-add}
 use Rattle.figures.specs.Figures.{total}
 use Rattle.figures.specs.Sums.{on, sum}
-use Rattle.rooms.specs.Table.{Cord, Server, Room, scale, cordCount, roomCords}
+use Rattle.rooms.specs.Table.{Cord, Server, Room, cordCount, roomCords}
 use Rattle.rooms.specs.Limits.{carried, serverLows, lows}
 use Rattle.figures.proofs.Lists.{total-sum, total-append}
 use Rattle.rooms.specs.Cords.{RoomCord, serverCords, cordsFrom, cordsOf, cordAt, serverAt}
@@ -90,7 +90,7 @@ module _ (p : RoomCord → Type 0) where
 
 -- ---- Sums over the room's cords
 
-module _ (test : ℕ → Bool) (least : ℕ → ℕ) where
+module _ (scale : ℕ) (test : ℕ → Bool) (least : ℕ → ℕ) where
   -- The low of one of the room's cords, where a test holds of its node.
   lowIf : RoomCord → ℕ
   lowIf c = on (test (c .node)) (carried scale (c .share) (least (c .server)))
@@ -103,7 +103,7 @@ module _ (test : ℕ → Bool) (least : ℕ → ℕ) where
       ap₂ _+_ (ap (λ (z : ℕ). on (test (c .node)) (carried scale (c .share) z)) e) (serverCords-lows v s e rest)
 
   cordsFrom-lows : (v : ℕ) (l : List Server) → ((i : ℕ) → i < length l → least (v + i) ≡ getD l i noServer .least)
-      → total lowIf (cordsFrom v l) ≡ lows test l
+      → total lowIf (cordsFrom v l) ≡ lows scale test l
   unfolding cordsFrom lows serverLows total
   cordsFrom-lows v [] h = refl
   cordsFrom-lows v (s ∷ rest) h =
@@ -114,10 +114,10 @@ module _ (test : ℕ → Bool) (least : ℕ → ℕ) where
 
 -- The lows of the cords on nodes of which a test holds, summed over the room's cords.
 pub lows-sum : (r : Room) (test : ℕ → Bool)
-    → lows test (r .servers)
-    ≡ sum (roomCords r) (λ c. on (test (cordAt r c .node)) (carried scale (cordAt r c .share) (serverAt r (cordAt r c .server) .least)))
+    → lows (r .scale) test (r .servers)
+    ≡ sum (roomCords r) (λ c. on (test (cordAt r c .node)) (carried (r .scale) (cordAt r c .share) (serverAt r (cordAt r c .server) .least)))
 unfolding lowIf
 lows-sum r test =
-    sym (cordsFrom-lows test (λ v. serverAt r v .least) 0 (r .servers) (λ i l. ap (λ (z : ℕ). serverAt r z .least) (zero-add i)))
-    ∙ total-sum (lowIf test (λ v. serverAt r v .least)) noRoomCord (cordsOf r)
-    ∙ ap (λ (z : ℕ). sum z (λ c. lowIf test (λ v. serverAt r v .least) (cordAt r c))) (cordsOf-length r)
+    sym (cordsFrom-lows (r .scale) test (λ v. serverAt r v .least) 0 (r .servers) (λ i l. ap (λ (z : ℕ). serverAt r z .least) (zero-add i)))
+    ∙ total-sum (lowIf (r .scale) test (λ v. serverAt r v .least)) noRoomCord (cordsOf r)
+    ∙ ap (λ (z : ℕ). sum z (λ c. lowIf (r .scale) test (λ v. serverAt r v .least) (cordAt r c))) (cordsOf-length r)

@@ -3,11 +3,11 @@ use mathlib.Core.Path.{_≡_, refl, sym, ap, ap₂, _∙_, subst}
 use mathlib.Core.List.{List, [], _∷_}
 use Prim.Native.Nat.{ℕ, zero, suc, _+_, _-_, _*_, _^_, _≤_, _<_}
 use native.Mathlib.Omega.{arith}
-use native.Mathlib.Nat.{suc-ne-zero, mul-suc, mul-le-mul}
+use native.Mathlib.Nat.{suc-ne-zero, mul-suc}
 use lib.ListN.{length, getD}
 use Rattle.figures.specs.Sums.{sum}
 use Rattle.rooms.specs.Part.{Step, good, bad, Part, follow, many, word, within}
-use Rattle.rooms.specs.Table.{Cord, Server, Range, scale, mostWatts, mostServerCords, highestRank, cord, cords, range, load, server, servers, shareOf, cordCount}
+use Rattle.rooms.specs.Table.{Cord, Server, Range, IsScale, mostWatts, mostServerCords, highestRank, cord, cords, range, load, server, servers, shareOf, cordCount}
 use Rattle.rooms.specs.Limits.{low, carried}
 use Rattle.rooms.specs.Credits.{credited, creditedCords, creditedServer, creditedServers, LowsCredited}
 use Rattle.figures.specs.Figures.{at}
@@ -17,6 +17,7 @@ use Rattle.rooms.specs.declared.Checked.{Checked}
 use Rattle.rooms.specs.declared.Checked.the-variants.{Good, Refused}
 use Rattle.rooms.proofs.Inversion.{took, said, cord-is, load-is}
 use Rattle.rooms.proofs.Steps.{known}
+use Rattle.rooms.proofs.Carried.{carried-most}
 use Rattle.rooms.proofs.Credits.{credited-length, sum-credited, figure-in-sum}
 
 -- Where a part is refused, nothing is claimed of the sums.
@@ -87,63 +88,60 @@ module _ {A : Type 0} {part : ℕ → Part A} {next : ℕ → A → ℕ} {credit
 
 -- ---- The cords of a server
 
--- A share of a least, within their ranges.
-pub product-most : (share least : ℕ) → share ≤ scale → least ≤ mostWatts → share * least ≤ 16777215000
-product-most share least h k = omega (arith, mul-le-mul h k)
-
-abbrev pub CordsCrediting : ℕ → ℕ → List ℕ → List ℕ → ℕ → ℕ → ℕ → ℕ → List ℕ → Type 0
-CordsCrediting nodeCount least w goal size bound left j =
-    Crediting (λ _. cord nodeCount) (λ given _. given) (creditedCords least) nodeCount mostWatts w goal size bound left 0 j
+abbrev pub CordsCrediting : ℕ → ℕ → ℕ → List ℕ → List ℕ → ℕ → ℕ → ℕ → ℕ → List ℕ → Type 0
+CordsCrediting scale nodeCount least w goal size bound left j =
+    Crediting (λ _. cord scale nodeCount) (λ given _. given) (creditedCords scale least) nodeCount mostWatts w goal size bound left 0 j
 
 -- The cord that is found good, in the terms of the code.
-pub record NextCord (nodeCount least : ℕ) (w goal : List ℕ) (size bound left j : ℕ) (sums : List ℕ) (share after : ℕ) : Type 0 where
+pub record NextCord (scale nodeCount least : ℕ) (w goal : List ℕ) (size bound left j : ℕ) (sums : List ℕ) (share after : ℕ) : Type 0 where
   pub there : j < length w
   pub node-most : getD w j 0 ≤ nodeCount
   pub share-most : share ≤ scale
-  pub fits : least ≤ mostWatts → bound < 2 ^ 63
+  pub fits : IsScale scale → least ≤ mostWatts → bound < 2 ^ 63
       → (node figure : ℕ) → node ≡ getD w j 0 → figure ≡ carried scale share least → getD sums (node - 1) 0 + figure < 2 ^ 64
-  pub turn : least ≤ mostWatts → nodeCount ≤ size
+  pub turn : IsScale scale → least ≤ mostWatts → nodeCount ≤ size
       → (node figure : ℕ) (sums′ : List ℕ) → node ≡ getD w j 0 → figure ≡ carried scale share least → sums′ ≡ credited node figure sums
-      → CordsCrediting nodeCount least w goal size bound (left - 1) after sums′
+      → CordsCrediting scale nodeCount least w goal size bound (left - 1) after sums′
 
-module _ {nodeCount : ℕ} (least : ℕ) {w : List ℕ} where
+module _ {nodeCount : ℕ} (scale least : ℕ) {w : List ℕ} where
   pub cords-end : (count i : ℕ) (sums₀ : List ℕ) {size left j : ℕ} {sums : List ℕ}
-      → CordsCrediting nodeCount least w (creditedCords least (rowOf (cords nodeCount count w i)) sums₀) size (sum nodeCount (at sums₀) + mostWatts * count) left j sums → left ≤ 0
-      → LowsCredited (cords nodeCount count w i) (creditedCords least) nodeCount (mostWatts * count) sums₀ sums
+      → CordsCrediting scale nodeCount least w (creditedCords scale least (rowOf (cords scale nodeCount count w i)) sums₀) size (sum nodeCount (at sums₀) + mostWatts * count) left j sums → left ≤ 0
+      → LowsCredited (cords scale nodeCount count w i) (creditedCords scale least) nodeCount (mostWatts * count) sums₀ sums
   unfolding creditedCords
   cords-end count i sums₀ = crediting-end (λ l. refl) count 0 i sums₀
 
-  pub next-cord : {goal : List ℕ} {size bound left j : ℕ} {sums : List ℕ} → CordsCrediting nodeCount least w goal size bound left j sums → 0 < left
-      → {r : Checked} {share after : ℕ} → r ≡ told shareOf (cord nodeCount w j) → r ≡ Good share after → NextCord nodeCount least w goal size bound left j sums share after
+  pub next-cord : {goal : List ℕ} {size bound left j : ℕ} {sums : List ℕ} → CordsCrediting scale nodeCount least w goal size bound left j sums → 0 < left
+      → {r : Checked} {share after : ℕ} → r ≡ told shareOf (cord scale nodeCount w j) → r ≡ Good share after → NextCord scale nodeCount least w goal size bound left j sums share after
   unfolding creditedCords
   next-cord {j = j} {sums = sums} t z {share = share} {after = after} d e =
-      let a = known shareOf (cord nodeCount w j) d e in
-      let c = cord-is nodeCount w j (a .got) after (a .is) in
+      let a = known shareOf (cord scale nodeCount w j) d e in
+      let c = cord-is scale nodeCount w j (a .got) after (a .is) in
       let n : getD w j 0 ≡ a .got .node = sym (ap (λ (x : Cord). x .node) (c .is)) in
-      let m : least ≤ mostWatts → carried scale share least ≤ mostWatts = λ k. omega (arith, product-most share least (omega (arith, c .share, a .figure)) k) in
+      let m : IsScale scale → least ≤ mostWatts → carried scale share least ≤ mostWatts
+      = λ s k. omega (arith, carried-most scale share least (s .0) (omega (arith, c .share, a .figure))) in
       record {
         there = omega (arith, c .there);
         node-most = omega (arith, c .last);
         share-most = omega (arith, c .share, a .figure);
-        fits = λ k b node figure en ef. omega (arith, m k, figure-in-sum nodeCount (node - 1) sums (omega (arith, c .first, c .last)), t .sum-is);
-        turn = λ k h node figure sums′ en ef es. crediting-turn (λ c. credited (c .node) (low least c)) (λ a rest l. refl) t z (a .is) refl
+        fits = λ s k b node figure en ef. omega (arith, m s k, figure-in-sum nodeCount (node - 1) sums (omega (arith, c .first, c .last)), t .sum-is);
+        turn = λ s k h node figure sums′ en ef es. crediting-turn (λ c. credited (c .node) (low scale least c)) (λ a rest l. refl) t z (a .is) refl
             (es ∙ ap₂ (λ (x y : ℕ). credited x y sums) (en ∙ n) (ef ∙ ap (λ (x : ℕ). carried scale x least) (sym (a .figure))))
             (ap length es ∙ credited-length node figure sums)
             (omega (
               arith,
-              m k,
+              m s k,
               ap (λ (l : List ℕ). sum nodeCount (at l)) es,
               sum-credited nodeCount node figure sums (omega (arith, c .first)) (omega (arith, c .last)) (omega (arith, t .length-is)),
             ));
       }
 
 -- A server's load credits what its cords do.
-pub load-credits : (nodeCount before start : ℕ) (w : List ℕ) (i least : ℕ) {count at-cords : ℕ} {sums sums′ : List ℕ} → count ≡ getD w i 0 → at-cords ≡ suc i → count ≤ mostServerCords
-    → LowsCredited (cords nodeCount count w at-cords) (creditedCords least) nodeCount (mostWatts * count) sums sums′
-    → LowsCredited (load nodeCount before start w i) (creditedCords least) nodeCount (mostServerCords * mostWatts) sums sums′
-load-credits nodeCount before start w i least counted begun few credits =
-    let cords-are : (a : List Cord) (j : ℕ) → load nodeCount before start w i ≡ good a j → cords nodeCount _ w _ ≡ good a j
-    = λ a j e. ap₂ (λ (k h : ℕ). cords nodeCount k w h) counted begun ∙ load-is nodeCount before start w i a j e .are in
+pub load-credits : (scale nodeCount before start : ℕ) (w : List ℕ) (i least : ℕ) {count at-cords : ℕ} {sums sums′ : List ℕ} → count ≡ getD w i 0 → at-cords ≡ suc i → count ≤ mostServerCords
+    → LowsCredited (cords scale nodeCount count w at-cords) (creditedCords scale least) nodeCount (mostWatts * count) sums sums′
+    → LowsCredited (load scale nodeCount before start w i) (creditedCords scale least) nodeCount (mostServerCords * mostWatts) sums sums′
+load-credits scale nodeCount before start w i least counted begun few credits =
+    let cords-are : (a : List Cord) (j : ℕ) → load scale nodeCount before start w i ≡ good a j → cords scale nodeCount _ w _ ≡ good a j
+    = λ a j e. ap₂ (λ (k h : ℕ). cords scale nodeCount k w h) counted begun ∙ load-is scale nodeCount before start w i a j e .are in
     record {
       are = λ a j e. credits .are a j (cords-are a j e);
       grow = λ a j e. omega (arith, credits .grow a j (cords-are a j e));
@@ -152,10 +150,10 @@ load-credits nodeCount before start w i least counted begun few credits =
 -- ---- The servers of a room
 
 -- A good server's load, after its rank and its range.
-pub server-load : (nodeCount before : ℕ) (w : List ℕ) (i : ℕ) {rank at-range : ℕ} {ends : Range} {at-load : ℕ} → word (within 1 highestRank) w i ≡ good rank at-range → range w at-range ≡ good ends at-load
-    → (s : Server) (j : ℕ) → server nodeCount before w i ≡ good s j → (load nodeCount before i w at-load ≡ good (s .cords) j) × (s .least ≡ ends .least)
+pub server-load : (scale nodeCount before : ℕ) (w : List ℕ) (i : ℕ) {rank at-range : ℕ} {ends : Range} {at-load : ℕ} → word (within 1 highestRank) w i ≡ good rank at-range → range w at-range ≡ good ends at-load
+    → (s : Server) (j : ℕ) → server scale nodeCount before w i ≡ good s j → (load scale nodeCount before i w at-load ≡ good (s .cords) j) × (s .least ≡ ends .least)
 unfolding server
-server-load nodeCount before w i {at-range = at-range} {ends = ends} {at-load = at-load} ranked ranged s j e =
+server-load scale nodeCount before w i {at-range = at-range} {ends = ends} {at-load = at-load} ranked ranged s j e =
     let a = took _ _ _ _ (said _ _ _ _ _ e) in
     let b = took _ _ _ _ (a .rest) in
     let c = took _ _ _ _ (b .rest) in
@@ -165,38 +163,38 @@ server-load nodeCount before w i {at-range = at-range} {ends = ends} {at-load = 
     let h : at-load ≡ b .at = cc in
     let x : record { rank = a .got; least = b .got .least; greatest = b .got .greatest; cords = c .got } ≡ s = cc in
     let y : c .at ≡ j = cc in (
-      ap (load nodeCount before i w) h ∙ c .first ∙ ap₂ good (ap (λ (s : Server). s .cords) x) y,
+      ap (load scale nodeCount before i w) h ∙ c .first ∙ ap₂ good (ap (λ (s : Server). s .cords) x) y,
       sym (ap (λ (s : Server). s .least) x) ∙ ap (λ (g : Range). g .least) g,
     )
 
 -- A server credits what its load does, by its least.
-pub server-credits : (nodeCount before : ℕ) (w : List ℕ) (i : ℕ) {rank at-range : ℕ} {ends : Range} {at-load least : ℕ} {sums sums′ : List ℕ}
+pub server-credits : (scale nodeCount before : ℕ) (w : List ℕ) (i : ℕ) {rank at-range : ℕ} {ends : Range} {at-load least : ℕ} {sums sums′ : List ℕ}
     → word (within 1 highestRank) w i ≡ good rank at-range → range w at-range ≡ good ends at-load → ends .least ≡ least
-    → LowsCredited (load nodeCount before i w at-load) (creditedCords least) nodeCount (mostServerCords * mostWatts) sums sums′
-    → LowsCredited (server nodeCount before w i) creditedServer nodeCount (mostServerCords * mostWatts) sums sums′
-server-credits nodeCount before w i {sums = sums} ranked ranged lowest credits =
+    → LowsCredited (load scale nodeCount before i w at-load) (creditedCords scale least) nodeCount (mostServerCords * mostWatts) sums sums′
+    → LowsCredited (server scale nodeCount before w i) (creditedServer scale) nodeCount (mostServerCords * mostWatts) sums sums′
+server-credits scale nodeCount before w i {sums = sums} ranked ranged lowest credits =
     record {
       are = λ s j e.
-          let l = server-load nodeCount before w i ranked ranged s j e in
-          credits .are (s .cords) j (l .0) ∙ ap (λ (x : ℕ). creditedCords x (s .cords) sums) (sym (l .1 ∙ lowest));
-      grow = λ s j e. credits .grow (s .cords) j (server-load nodeCount before w i ranked ranged s j e .0);
+          let l = server-load scale nodeCount before w i ranked ranged s j e in
+          credits .are (s .cords) j (l .0) ∙ ap (λ (x : ℕ). creditedCords scale x (s .cords) sums) (sym (l .1 ∙ lowest));
+      grow = λ s j e. credits .grow (s .cords) j (server-load scale nodeCount before w i ranked ranged s j e .0);
     }
 
-abbrev pub ServersCrediting : ℕ → List ℕ → List ℕ → ℕ → ℕ → ℕ → ℕ → ℕ → List ℕ → Type 0
-ServersCrediting nodeCount = Crediting (server nodeCount) (λ before s. before + cordCount s) creditedServers nodeCount (mostServerCords * mostWatts)
+abbrev pub ServersCrediting : ℕ → ℕ → List ℕ → List ℕ → ℕ → ℕ → ℕ → ℕ → ℕ → List ℕ → Type 0
+ServersCrediting scale nodeCount = Crediting (server scale nodeCount) (λ before s. before + cordCount s) (creditedServers scale) nodeCount (mostServerCords * mostWatts)
 
-module _ {nodeCount : ℕ} {w : List ℕ} where
+module _ {nodeCount : ℕ} (scale : ℕ) {w : List ℕ} where
   pub servers-end : (count i : ℕ) (sums₀ : List ℕ) {size left before j : ℕ} {sums : List ℕ}
-      → ServersCrediting nodeCount w (creditedServers (rowOf (servers nodeCount count 0 w i)) sums₀) size (sum nodeCount (at sums₀) + mostServerCords * mostWatts * count) left before j sums
-      → left ≤ 0 → LowsCredited (servers nodeCount count 0 w i) creditedServers nodeCount (mostServerCords * mostWatts * count) sums₀ sums
+      → ServersCrediting scale nodeCount w (creditedServers scale (rowOf (servers scale nodeCount count 0 w i)) sums₀) size (sum nodeCount (at sums₀) + mostServerCords * mostWatts * count) left before j sums
+      → left ≤ 0 → LowsCredited (servers scale nodeCount count 0 w i) (creditedServers scale) nodeCount (mostServerCords * mostWatts * count) sums₀ sums
   unfolding creditedServers
   servers-end count i sums₀ = crediting-end (λ l. refl) count 0 i sums₀
 
-  pub servers-turn : {goal : List ℕ} {size bound left before j : ℕ} {sums : List ℕ} → ServersCrediting nodeCount w goal size bound left before j sums → 0 < left
-      → {r : Checked} {count after : ℕ} {sums′ : List ℕ} → r ≡ told cordCount (server nodeCount before w j) → r ≡ Good count after
-      → LowsCredited (server nodeCount before w j) creditedServer nodeCount (mostServerCords * mostWatts) sums sums′ → length sums′ ≡ length sums
-      → ServersCrediting nodeCount w goal size bound (left - 1) (before + count) after sums′
+  pub servers-turn : {goal : List ℕ} {size bound left before j : ℕ} {sums : List ℕ} → ServersCrediting scale nodeCount w goal size bound left before j sums → 0 < left
+      → {r : Checked} {count after : ℕ} {sums′ : List ℕ} → r ≡ told cordCount (server scale nodeCount before w j) → r ≡ Good count after
+      → LowsCredited (server scale nodeCount before w j) (creditedServer scale) nodeCount (mostServerCords * mostWatts) sums sums′ → length sums′ ≡ length sums
+      → ServersCrediting scale nodeCount w goal size bound (left - 1) (before + count) after sums′
   unfolding creditedServers
   servers-turn {before = before} {j = j} t z d e credits el =
-      let a = known cordCount (server nodeCount before w j) d e in
-      crediting-turn creditedServer (λ a rest l. refl) t z (a .is) (ap (λ (n : ℕ). before + n) (a .figure)) (credits .are (a .got) _ (a .is)) el (credits .grow (a .got) _ (a .is))
+      let a = known cordCount (server scale nodeCount before w j) d e in
+      crediting-turn (creditedServer scale) (λ a rest l. refl) t z (a .is) (ap (λ (n : ℕ). before + n) (a .figure)) (credits .are (a .got) _ (a .is)) el (credits .grow (a .got) _ (a .is))

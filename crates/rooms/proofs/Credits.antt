@@ -177,45 +177,45 @@ sumBeneath-past count parent figure rises n h =
 
 -- ---- The credits of cords and of servers
 
-pub creditedCords-length : (least : ℕ) (cs : List Cord) (l : List ℕ) → length (creditedCords least cs l) ≡ length l
+pub creditedCords-length : (scale least : ℕ) (cs : List Cord) (l : List ℕ) → length (creditedCords scale least cs l) ≡ length l
 unfolding creditedCords
-creditedCords-length least [] l = refl
-creditedCords-length least (c ∷ cs) l =
-    creditedCords-length least cs (credited (c .node) (low least c) l) ∙ credited-length (c .node) (low least c) l
+creditedCords-length scale least [] l = refl
+creditedCords-length scale least (c ∷ cs) l =
+    creditedCords-length scale least cs (credited (c .node) (low scale least c) l) ∙ credited-length (c .node) (low scale least c) l
 
-pub creditedServers-length : (ss : List Server) (l : List ℕ) → length (creditedServers ss l) ≡ length l
+pub creditedServers-length : (scale : ℕ) (ss : List Server) (l : List ℕ) → length (creditedServers scale ss l) ≡ length l
 unfolding creditedServers
-creditedServers-length [] l = refl
-creditedServers-length (s ∷ ss) l = creditedServers-length ss (creditedCords (s .least) (s .cords) l) ∙ creditedCords-length (s .least) (s .cords) l
+creditedServers-length scale [] l = refl
+creditedServers-length scale (s ∷ ss) l = creditedServers-length scale ss (creditedCords scale (s .least) (s .cords) l) ∙ creditedCords-length scale (s .least) (s .cords) l
 
 -- They leave a place past all nodes as it is.
-module _ (count i : ℕ) (h : count ≤ i) where
-  creditedCords-past : (least : ℕ) (cs : List Cord) (l : List ℕ) → All (CordHangs count) cs → getD (creditedCords least cs l) i 0 ≡ getD l i 0
+module _ (scale count i : ℕ) (h : count ≤ i) where
+  creditedCords-past : (least : ℕ) (cs : List Cord) (l : List ℕ) → All (CordHangs count) cs → getD (creditedCords scale least cs l) i 0 ≡ getD l i 0
   unfolding creditedCords All
   creditedCords-past least [] l g = refl
   creditedCords-past least (c ∷ cs) l g =
-      creditedCords-past least cs (credited (c .node) (low least c) l) (g .1) ∙ credited-past (c .node) (low least c) l i (omega (arith, g .0 .1))
+      creditedCords-past least cs (credited (c .node) (low scale least c) l) (g .1) ∙ credited-past (c .node) (low scale least c) l i (omega (arith, g .0 .1))
 
-  pub creditedServers-past : (ss : List Server) (l : List ℕ) → All (ServerHangs count) ss → getD (creditedServers ss l) i 0 ≡ getD l i 0
+  pub creditedServers-past : (ss : List Server) (l : List ℕ) → All (ServerHangs count) ss → getD (creditedServers scale ss l) i 0 ≡ getD l i 0
   unfolding creditedServers All
   creditedServers-past [] l g = refl
   creditedServers-past (s ∷ ss) l g =
-      creditedServers-past ss (creditedCords (s .least) (s .cords) l) (g .1) ∙ creditedCords-past (s .least) (s .cords) l (g .0)
+      creditedServers-past ss (creditedCords scale (s .least) (s .cords) l) (g .1) ∙ creditedCords-past (s .least) (s .cords) l (g .0)
 
-module _ (count : ℕ) (parent : ℕ → ℕ) (n : ℕ) where
+module _ (scale count : ℕ) (parent : ℕ → ℕ) (n : ℕ) where
   sumBeneath-cords : (least : ℕ) (cs : List Cord) (l : List ℕ) → count ≤ length l → All (CordHangs count) cs
-      → sumBeneath parent count (at (creditedCords least cs l)) n
-      ≡ sumBeneath parent count (at l) n + total (λ c. on (beneath parent count n (c .node)) (low least c)) cs
+      → sumBeneath parent count (at (creditedCords scale least cs l)) n
+      ≡ sumBeneath parent count (at l) n + total (λ c. on (beneath parent count n (c .node)) (low scale least c)) cs
   unfolding creditedCords All total
   sumBeneath-cords least [] l h g = omega arith
   sumBeneath-cords least (c ∷ cs) l h g =
-      sumBeneath-cords least cs (credited (c .node) (low least c) l) (omega (arith, credited-length (c .node) (low least c) l)) (g .1)
-      ∙ omega (arith, sumBeneath-credited count parent (c .node) (low least c) l n (g .0 .0) (g .0 .1) h)
+      sumBeneath-cords least cs (credited (c .node) (low scale least c) l) (omega (arith, credited-length (c .node) (low scale least c) l)) (g .1)
+      ∙ omega (arith, sumBeneath-credited count parent (c .node) (low scale least c) l n (g .0 .0) (g .0 .1) h)
 
   pub sumBeneath-servers : (ss : List Server) (l : List ℕ) → count ≤ length l → All (ServerHangs count) ss
-      → sumBeneath parent count (at (creditedServers ss l)) n ≡ sumBeneath parent count (at l) n + lows (beneath parent count n) ss
+      → sumBeneath parent count (at (creditedServers scale ss l)) n ≡ sumBeneath parent count (at l) n + lows scale (beneath parent count n) ss
   unfolding creditedServers All lows serverLows total
   sumBeneath-servers [] l h g = omega arith
   sumBeneath-servers (s ∷ ss) l h g =
-      sumBeneath-servers ss (creditedCords (s .least) (s .cords) l) (omega (arith, creditedCords-length (s .least) (s .cords) l)) (g .1)
+      sumBeneath-servers ss (creditedCords scale (s .least) (s .cords) l) (omega (arith, creditedCords-length scale (s .least) (s .cords) l)) (g .1)
       ∙ omega (arith, sumBeneath-cords (s .least) (s .cords) l h (g .0))

@@ -5,27 +5,25 @@ use mathlib.Core.List.{List}
 use Prim.Native.Nat.{ℕ, zero, suc, _+_, _*_, _≤_, _<_}
 use native.Mathlib.Nat.{zero-add, suc-ne-zero}
 use native.Mathlib.Omega.{arith}
-use native.Mathlib.Numerals.{add-one}
 use lib.ListN.{length, getD, replicate, length-replicate}
 use lib.Seq.{ext-getD}
 use lib.Dec.{ltb}
 use borrow.Author.Tests.{ltb-true, ltb-false}
 use Rattle.rooms.specs.Part.{Step, good, bad}
-use Rattle.rooms.specs.Table.{Node, Room, mostNodes, mostServers, mostServerCords, mostWatts, node, nodes, servers, table, roomCords}
+use Rattle.rooms.specs.Table.{Node, Room, mostNodes, mostServers, mostServerCords, mostWatts, formOf, nodes, servers, table, roomCords}
 use Rattle.rooms.specs.Limits.{limit, beneath, nodeAt, parentOf, lows, lowsBeneath, lowsFrom, nodeLows, firstNode, overloaded, lowsTold}
-use Rattle.rooms.specs.Credits.{parentAt, limitAt, sumBeneath, exceeds, creditedServers, creditedRoom, LowsCredited, SumsGathered}
+use Rattle.rooms.specs.Credits.{nodeIndex, parentAt, limitAt, sumBeneath, exceeds, creditedServers, creditedRoom, LowsCredited, SumsGathered}
 use Rattle.figures.specs.Figures.{at}
 use Rattle.rooms.specs.Told.{told}
 use Rattle.rooms.specs.declared.Refusal.{Refusal}
 use Rattle.rooms.specs.declared.Checked.{Checked}
 use Rattle.rooms.specs.declared.Checked.the-variants.{Refused}
-use Rattle.rooms.proofs.Inversion.{many-length, NodeIs}
-use Rattle.rooms.proofs.Whole.{table-is}
-use Rattle.rooms.proofs.Rows.{nodes-words, nodes-at, servers-hang}
+use Rattle.rooms.proofs.Places.{Layout, layout, same-parent, same-limit, table-rises, node-count}
+use Rattle.rooms.proofs.Whole.{percentsOf}
+use Rattle.rooms.proofs.Rows.{servers-hang}
 use Rattle.figures.proofs.Filled.{zeros-at}
 use Rattle.rooms.proofs.Credits.{sumBeneath-cong, sumBeneath-zero, sumBeneath-past, sumBeneath-servers, creditedServers-length, creditedServers-past}
 use Rattle.rooms.proofs.Search.{firstNode-cong}
-use Rattle.rooms.proofs.Gather.{Rises}
 
 -- ---- The lows beneath each place, as a list
 
@@ -51,114 +49,91 @@ lowsTold-length (bad refusal) = length-replicate {A = ℕ} mostNodes 0
 
 -- ---- The search
 
--- Where the parts of a good table stand: n nodes from index 2 on, and the count of servers at index `count-at`.
-pub record Layout (w : List ℕ) (r : Room) (j n count-at : ℕ) : Type 0 where
-  pub counted : n ≡ getD w 1 0
-  pub most : n ≤ mostNodes
-  pub nodes-are : nodes n 1 w 2 ≡ good (r .nodes) count-at
-  pub there : count-at < length w
-  pub servers-most : getD w count-at 0 ≤ mostServers
-  pub servers-are : servers n (getD w count-at 0) 0 w (count-at + 1) ≡ good (r .servers) j
-
-pub layout : (w : List ℕ) (r : Room) (j n : ℕ) → n ≡ getD w 1 0 → table w 0 ≡ good r j → Layout w r j n (2 + 2 * n)
-layout w r j n counted e =
-    let t = table-is w r j e in
-    let count : length (r .nodes) ≡ n = sym (t .nodeCount) ∙ sym counted in
-    let at-is : t .middle ≡ 2 + 2 * n = omega (arith, nodes-words (length (r .nodes)) 1 w 2 (r .nodes) (t .middle) (t .begun) (t .nodesRead) .0) in
-    rw (← at-is)
-    (record {
-      counted = counted;
-      most = omega (arith, t .fewNodes);
-      nodes-are = rw (← count) (t .nodesRead);
-      there = t .there;
-      servers-most = rw (t .serverCount) (t .fewServers);
-      servers-are = rw (← count, t .serverCount, add-one) (t .serversRead);
-    })
-
 module _ (w : List ℕ) (r : Room) (j n count-at : ℕ) (is : Layout w r j n count-at) where
-  node-at : (m : ℕ) → m < n → NodeIs (1 + m) w (2 + 2 * m) (nodeAt r m) (suc (suc (2 + 2 * m)))
-  node-at m g = nodes-at n 1 w 2 (r .nodes) count-at _ m g (is .nodes-are)
-
-  same-parent : (m : ℕ) → m < n → parentAt w m ≡ parentOf r m
-  same-parent m g = sym (ap (λ (x : Node). x .parent) (node-at m g .is))
-
-  same-limit : (m : ℕ) → m < n → limitAt w m ≡ limit (nodeAt r m)
-  same-limit m g =
-      let q : 3 + 2 * m ≡ suc (2 + 2 * m) = omega arith in
-      rw q (sym (ap (λ (x : Node). limit x) (node-at m g .is)))
-
-  pub table-rises : Rises w n
-  table-rises m g = omega (arith, node-at m g .parent, same-parent m g)
-
-  node-count : length (r .nodes) ≡ n
-  node-count = many-length n node (λ own _. suc own) 1 w 2 (r .nodes) count-at (is .nodes-are)
+  abbrev parent : ℕ → ℕ
+  parent = parentAt (percentsOf w) w
 
   module _ (l : List ℕ) (zeros : (i : ℕ) → getD l i 0 ≡ 0) (size : n ≤ length l) where
-    credited-lows : (m : ℕ) → sumBeneath (parentAt w) n (at (creditedServers (r .servers) l)) m ≡ lowsBeneath r m
+    credited-lows : (m : ℕ) → sumBeneath parent n (at (creditedServers (r .scale) (r .servers) l)) m ≡ lowsBeneath r m
     credited-lows m =
-        sumBeneath-cong n (parentAt w) (parentOf r) (at (creditedServers (r .servers) l)) same-parent table-rises m
-        ∙ sumBeneath-servers n (parentOf r) m (r .servers) l size (servers-hang n (getD w count-at 0) 0 w (count-at + 1) (r .servers) j (is .servers-are))
-        ∙ ap (λ (x : ℕ). x + lows (beneath (parentOf r) n m) (r .servers)) (sumBeneath-zero n (parentOf r) (at l) m zeros)
-        ∙ rw (← node-count) (omega arith)
+        sumBeneath-cong n parent (parentOf r) (at (creditedServers (r .scale) (r .servers) l)) (same-parent w r j n count-at is) (table-rises w r j n count-at is) m
+        ∙ sumBeneath-servers (r .scale) n (parentOf r) m (r .servers) l size (servers-hang (r .scale) n (getD w count-at 0) 0 w (count-at + 1) (r .servers) j (is .servers-are))
+        ∙ ap (λ (x : ℕ). x + lows (r .scale) (beneath (parentOf r) n m) (r .servers)) (sumBeneath-zero n (parentOf r) (at l) m zeros)
+        ∙ rw (← (node-count w r j n count-at is)) (omega arith)
 
     -- Gathered, the credited lows are those beneath each place.
-    gathered-lows : {sums : List ℕ} → length l ≡ mostNodes → SumsGathered w n (creditedServers (r .servers) l) sums → sums ≡ nodeLows r
+    gathered-lows : {sums : List ℕ} → length l ≡ mostNodes → SumsGathered parent n (creditedServers (r .scale) (r .servers) l) sums → sums ≡ nodeLows r
     gathered-lows {sums} full g =
-        ext-getD 0 sums (nodeLows r) (g .size ∙ creditedServers-length (r .servers) l ∙ full ∙ sym (lowsFrom-length mostNodes 0 r))
+        ext-getD 0 sums (nodeLows r) (g .size ∙ creditedServers-length (r .scale) (r .servers) l ∙ full ∙ sym (lowsFrom-length mostNodes 0 r))
         (λ i h. at-place i (ltb i n) refl
-        ∙ sym (nodeLows-at r i (omega (arith, g .size, creditedServers-length (r .servers) l))))
+        ∙ sym (nodeLows-at r i (omega (arith, g .size, creditedServers-length (r .scale) (r .servers) l))))
       where
         at-place : (i : ℕ) (t : Bool) → ltb i n ≡ t → getD sums i 0 ≡ lowsBeneath r i
         at-place i true e = g .nodes i (ltb-true i n e) ∙ credited-lows i
         at-place i false e =
             let past : n ≤ i = ltb-false i n e in
             g .past i past
-            ∙ creditedServers-past n i past (r .servers) l (servers-hang n (getD w count-at 0) 0 w (count-at + 1) (r .servers) j (is .servers-are))
+            ∙ creditedServers-past (r .scale) n i past (r .servers) l (servers-hang (r .scale) n (getD w count-at 0) 0 w (count-at + 1) (r .servers) j (is .servers-are))
             ∙ zeros i
-            ∙ sym (sumBeneath-past n (parentAt w) (at (creditedServers (r .servers) l)) table-rises i past)
+            ∙ sym (sumBeneath-past n parent (at (creditedServers (r .scale) (r .servers) l)) (table-rises w r j n count-at is) i past)
             ∙ credited-lows i
 
-    pub overloaded-found : firstNode n 0 (exceeds w n (creditedServers (r .servers) l)) ≡ overloaded r
+    pub overloaded-found : firstNode n 0 (exceeds parent (limitAt (percentsOf w) w) n (creditedServers (r .scale) (r .servers) l)) ≡ overloaded r
     unfolding overloaded
     overloaded-found =
         let over : ℕ → Bool = λ m. ltb (limit (nodeAt r m)) (lowsBeneath r m) in
-        let same : (m : ℕ) → m < 0 + n → exceeds w n (creditedServers (r .servers) l) m ≡ over m
-        = λ m g. ap₂ ltb (same-limit m (omega arith)) (credited-lows m) in
-        firstNode-cong n 0 (exceeds w n (creditedServers (r .servers) l)) over same ∙ ap (λ (k : ℕ). firstNode k 0 over) (sym node-count)
+        let same : (m : ℕ) → m < 0 + n → exceeds parent (limitAt (percentsOf w) w) n (creditedServers (r .scale) (r .servers) l) m ≡ over m
+        = λ m g. ap₂ ltb ((same-limit w r j n count-at is) m (omega arith)) (credited-lows m) in
+        firstNode-cong n 0 (exceeds parent (limitAt (percentsOf w) w) n (creditedServers (r .scale) (r .servers) l)) over same ∙ ap (λ (k : ℕ). firstNode k 0 over) (sym (node-count w r j n count-at is))
 
 -- A table credits what its servers do.
-pub table-credits : (w : List ℕ) {nodeCount at-node : ℕ} {read : List Node} {at-servers serverCount at-server : ℕ} {sums sums′ : List ℕ}
-    → nodeCount ≡ getD w 1 0 → at-node ≡ 2 → nodes nodeCount 1 w at-node ≡ good read at-servers → serverCount ≡ getD w at-servers 0 → at-server ≡ suc at-servers → serverCount ≤ mostServers
-    → LowsCredited (servers nodeCount serverCount 0 w at-server) creditedServers nodeCount (mostServerCords * mostWatts * serverCount) sums sums′
+pub table-credits : (w : List ℕ) {percents : Bool} {scale nodeCount at-node : ℕ} {read : List Node} {at-servers serverCount at-server : ℕ} {sums sums′ : List ℕ}
+    → percents ≡ percentsOf w → scale ≡ formOf (getD w 0 0) .scale
+    → nodeCount ≡ getD w 1 0 → at-node ≡ 2 → nodes percents nodeCount 1 w at-node ≡ good read at-servers
+    → serverCount ≡ getD w at-servers 0 → at-server ≡ suc at-servers → serverCount ≤ mostServers
+    → LowsCredited (servers scale nodeCount serverCount 0 w at-server) (creditedServers scale) nodeCount (mostServerCords * mostWatts * serverCount) sums sums′
     → LowsCredited (table w 0) creditedRoom (getD w 1 0) (mostServerCords * mostWatts * mostServers) sums sums′
-table-credits w {nodeCount} {at-node} {read} {at-servers} {serverCount} {at-server} counted begun nodes-read told after few credits =
-    let servers-are : (r : Room) (j : ℕ) → table w 0 ≡ good r j → servers nodeCount serverCount 0 w at-server ≡ good (r .servers) j
-    = λ r j e.
-    let is = layout w r j nodeCount counted e in
-    let d : good read at-servers ≡ good (r .nodes) (2 + 2 * nodeCount) = sym nodes-read ∙ ap (nodes nodeCount 1 w) begun ∙ is .nodes-are in
-    let at-is : at-servers ≡ 2 + 2 * nodeCount = cc in
-    ap₂ (λ (k i : ℕ). servers nodeCount k 0 w i) (told ∙ ap (λ (k : ℕ). getD w k 0) at-is) (omega arith) ∙ is .servers-are in
+table-credits w {percents} {scale} {nodeCount} {at-node} {read} {at-servers} {serverCount} {at-server} {sums = sums} formed scaled counted begun nodes-read told after few credits =
     record {
-      are = λ r j e. credits .are (r .servers) j (servers-are r j e);
+      are = λ r j e. credits .are (r .servers) j (servers-are r j e) ∙ ap (λ (x : ℕ). creditedServers x (r .servers) sums) (same-scale r j e);
       grow = λ r j e. rw (← counted) (omega (arith, credits .grow (r .servers) j (servers-are r j e)));
     }
+  where
+    is : (r : Room) (j : ℕ) → table w 0 ≡ good r j → Layout w r j nodeCount (nodeIndex (percentsOf w) nodeCount)
+    is r j e = layout w r j nodeCount counted e
+
+    same-scale : (r : Room) (j : ℕ) → table w 0 ≡ good r j → scale ≡ r .scale
+    same-scale r j e = scaled ∙ sym (is r j e .scale-is)
+
+    at-is : (r : Room) (j : ℕ) → table w 0 ≡ good r j → at-servers ≡ nodeIndex (percentsOf w) nodeCount
+    at-is r j e =
+        let d : good read at-servers ≡ good (r .nodes) (nodeIndex (percentsOf w) nodeCount)
+        = sym nodes-read ∙ ap₂ (λ (b : Bool) (i : ℕ). nodes b nodeCount 1 w i) formed begun ∙ is r j e .nodes-are in
+        cc
+
+    servers-are : (r : Room) (j : ℕ) → table w 0 ≡ good r j → servers scale nodeCount serverCount 0 w at-server ≡ good (r .servers) j
+    servers-are r j e =
+        ap (λ (x : ℕ). servers x nodeCount serverCount 0 w at-server) (same-scale r j e)
+        ∙ ap₂ (λ (k i : ℕ). servers (r .scale) nodeCount k 0 w i) (told ∙ ap (λ (k : ℕ). getD w k 0) (at-is r j e)) (omega (arith, at-is r j e))
+        ∙ is r j e .servers-are
 
 -- The same in the terms of the code: the search, over sums that have the lows on each node.
-pub overloaded-from : (w : List ℕ) (n : ℕ) (sums : List ℕ) (found : ℕ) → n ≡ getD w 1 0 → (r : Room) (j : ℕ) → table w 0 ≡ good r j
-    → sums ≡ creditedRoom r (replicate mostNodes 0) → found ≡ firstNode n 0 (exceeds w n sums) → found ≡ overloaded r
-overloaded-from w n sums found count r j e es ef =
+pub overloaded-from : (w : List ℕ) {percents : Bool} (n : ℕ) (sums : List ℕ) (found : ℕ) → percents ≡ percentsOf w → n ≡ getD w 1 0 → (r : Room) (j : ℕ) → table w 0 ≡ good r j
+    → sums ≡ creditedRoom r (replicate mostNodes 0) → found ≡ firstNode n 0 (exceeds (parentAt percents w) (limitAt percents w) n sums) → found ≡ overloaded r
+overloaded-from w n sums found formed count r j e es ef =
     let is = layout w r j n count e in
     ef
-    ∙ ap (λ (l : List ℕ). firstNode n 0 (exceeds w n l)) es
+    ∙ ap (λ (b : Bool). firstNode n 0 (exceeds (parentAt b w) (limitAt b w) n sums)) formed
+    ∙ ap (λ (l : List ℕ). firstNode n 0 (exceeds (parentAt (percentsOf w) w) (limitAt (percentsOf w) w) n l)) es
     ∙ overloaded-found w r j n _ is (replicate mostNodes 0) (zeros-at mostNodes) (omega (arith, is .most, length-replicate {A = ℕ} mostNodes 0))
 
-pub lows-from : (w : List ℕ) (n : ℕ) (sums : List ℕ) {sums′ : List ℕ} → n ≡ getD w 1 0 → (r : Room) (j : ℕ) → table w 0 ≡ good r j
-    → sums ≡ creditedRoom r (replicate mostNodes 0) → SumsGathered w n sums sums′ → sums′ ≡ nodeLows r
-lows-from w n sums {sums′} count r j e es g =
+pub lows-from : (w : List ℕ) {percents : Bool} (n : ℕ) (sums : List ℕ) {sums′ : List ℕ} → percents ≡ percentsOf w → n ≡ getD w 1 0 → (r : Room) (j : ℕ) → table w 0 ≡ good r j
+    → sums ≡ creditedRoom r (replicate mostNodes 0) → SumsGathered (parentAt percents w) n sums sums′ → sums′ ≡ nodeLows r
+lows-from w n sums {sums′} formed count r j e es g =
     let is = layout w r j n count e in
     let size : length {A = ℕ} (replicate mostNodes 0) ≡ mostNodes = length-replicate {A = ℕ} mostNodes 0 in
     gathered-lows w r j n _ is (replicate mostNodes 0) (zeros-at mostNodes) (omega (arith, is .most, size)) size
-    (subst (λ (l : List ℕ). SumsGathered w n l sums′) es g)
+    (subst (λ (l : List ℕ). SumsGathered (parentAt (percentsOf w) w) n l sums′) es (subst (λ (b : Bool). SumsGathered (parentAt b w) n sums sums′) formed g))
 
 -- Of a refused table nothing is claimed but the refusal.
 pub unclaimed : (s : Step Room) {r : Checked} {q : Refusal} {l : List ℕ} → r ≡ told roomCords s → r ≡ Refused q

@@ -10,7 +10,7 @@ use lib.Dec.{eqb, ltb}
 use borrow.Author.Tests.{ne-eqb}
 use Rattle.figures.specs.Sums.{on, sum}
 use Rattle.rooms.specs.Limits.{firstNode}
-use Rattle.rooms.specs.Credits.{parentAt, limitAt, sumBeneath, exceeds, credited, SumsGathered}
+use Rattle.rooms.specs.Credits.{sumBeneath, exceeds, credited, SumsGathered}
 use Rattle.figures.specs.Figures.{at}
 use Rattle.figures.proofs.Sums.{on-no, sum-cong, sum-zero, sum-none, up, sum-up}
 use Rattle.rooms.proofs.Trees.{kids}
@@ -63,93 +63,93 @@ module _ (count : ℕ) (parent own passed : ℕ → ℕ) where
 -- ---- The loop over the nodes of a table
 
 -- Every parent's number is below its child's.
-abbrev pub Rises : List ℕ → ℕ → Type 0
-Rises w count = (m : ℕ) → m < count → parentAt w m ≤ m
+abbrev pub Rises : (ℕ → ℕ) → ℕ → Type 0
+Rises parent count = (m : ℕ) → m < count → parent m ≤ m
 
 -- The sum that a node has when its turn comes.
-abbrev pub whole : List ℕ → ℕ → List ℕ → ℕ → ℕ
-whole w count start = sumBeneath (parentAt w) count (at start)
+abbrev pub whole : (ℕ → ℕ) → ℕ → List ℕ → ℕ → ℕ
+whole parent count start = sumBeneath parent count (at start)
 
 -- Before the turn of the node at place n - 1: the nodes from n on have passed their sums on, and the lowest of them above its limit is found.
-pub record Gathered (w : List ℕ) (count : ℕ) (start : List ℕ) (found n : ℕ) (sums : List ℕ) : Type 0 where
+pub record Gathered (parent limit : ℕ → ℕ) (count : ℕ) (start : List ℕ) (found n : ℕ) (sums : List ℕ) : Type 0 where
   pub done : ℕ
   pub all : n + done ≡ count
-  pub held : Holds count (parentAt w) (at start) (whole w count start) done n (at sums)
+  pub held : Holds count parent (at start) (whole parent count start) done n (at sums)
   pub size : length sums ≡ length start
   pub past : (i : ℕ) → count ≤ i → getD sums i 0 ≡ getD start i 0
-  pub first : found ≡ firstNode done n (exceeds w count start)
+  pub first : found ≡ firstNode done n (exceeds parent limit count start)
 
-pub gathered-start : (w : List ℕ) (count : ℕ) (start : List ℕ) → Gathered w count start 0 count start
+pub gathered-start : (parent limit : ℕ → ℕ) (count : ℕ) (start : List ℕ) → Gathered parent limit count start 0 count start
 unfolding firstNode
-gathered-start w count start =
+gathered-start parent limit count start =
     record {
       done = 0;
       all = omega arith;
-      held = holds-start count (parentAt w) (at start) (whole w count start);
+      held = holds-start count parent (at start) (whole parent count start);
       size = refl;
       past = λ i l. refl;
       first = refl;
     }
 
-module _ {w : List ℕ} {count : ℕ} {start : List ℕ} where
-  pub gathered-end : {found n : ℕ} {sums : List ℕ} → Gathered w count start found n sums → n ≤ 0 → found ≡ firstNode count 0 (exceeds w count start)
+module _ {parent limit : ℕ → ℕ} {count : ℕ} {start : List ℕ} where
+  pub gathered-end : {found n : ℕ} {sums : List ℕ} → Gathered parent limit count start found n sums → n ≤ 0 → found ≡ firstNode count 0 (exceeds parent limit count start)
   gathered-end {n = zero} inv z =
       let e : inv .done ≡ count = omega (arith, inv .all) in
-      inv .first ∙ ap (λ (k : ℕ). firstNode k 0 (exceeds w count start)) e
+      inv .first ∙ ap (λ (k : ℕ). firstNode k 0 (exceeds parent limit count start)) e
   gathered-end {n = suc m} inv z = absurd (omega arith)
 
-  module _ (rises : Rises w count) where
+  module _ (rises : Rises parent count) where
     -- At the end each node has its whole sum.
-    pub gathered-sums : {found n : ℕ} {sums : List ℕ} → Gathered w count start found n sums → n ≤ 0 → SumsGathered w count start sums
+    pub gathered-sums : {found n : ℕ} {sums : List ℕ} → Gathered parent limit count start found n sums → n ≤ 0 → SumsGathered parent count start sums
     gathered-sums {n = zero} {sums = sums} inv z = record {
       size = inv .size;
-      nodes = λ i l. holds-end count (parentAt w) (at start) (whole w count start) (inv .done) (at sums) (inv .all) (inv .held) i l
-          ∙ sym (sumBeneath-step count (parentAt w) rises (at start) i l);
+      nodes = λ i l. holds-end count parent (at start) (whole parent count start) (inv .done) (at sums) (inv .all) (inv .held) i l
+          ∙ sym (sumBeneath-step count parent rises (at start) i l);
       past = inv .past;
     }
     gathered-sums {n = suc m} inv z = absurd (omega arith)
 
-    gathered-whole : (found n : ℕ) (sums : List ℕ) → Gathered w count start found n sums → 0 < n → getD sums (n - 1) 0 ≡ whole w count start (n - 1)
+    gathered-whole : (found n : ℕ) (sums : List ℕ) → Gathered parent limit count start found n sums → 0 < n → getD sums (n - 1) 0 ≡ whole parent count start (n - 1)
     gathered-whole found zero sums inv p = absurd (omega arith)
     gathered-whole found (suc m) sums inv p =
         let e : suc m - 1 ≡ m = omega arith in
         rw e
-        (holds-whole count (parentAt w) (at start) (whole w count start) rises (inv .done) m (at sums) (inv .all) (inv .held)
-        ∙ sym (sumBeneath-step count (parentAt w) rises (at start) m (omega (arith, inv .all))))
+        (holds-whole count parent (at start) (whole parent count start) rises (inv .done) m (at sums) (inv .all) (inv .held)
+        ∙ sym (sumBeneath-step count parent rises (at start) m (omega (arith, inv .all))))
 
     -- No figure ever passes the sum of all, so no credit overflows.
-    pub gathered-most : {found n : ℕ} {sums : List ℕ} → Gathered w count start found n sums → (i : ℕ) → i < count → getD sums i 0 ≤ sum count (at start)
+    pub gathered-most : {found n : ℕ} {sums : List ℕ} → Gathered parent limit count start found n sums → (i : ℕ) → i < count → getD sums i 0 ≤ sum count (at start)
     gathered-most {n = n} {sums = sums} inv i l =
         omega (
           arith,
-          holds-most count (parentAt w) (at start) (whole w count start) (inv .done) n (at sums) (inv .all) (inv .held) i l,
-          sumBeneath-step count (parentAt w) rises (at start) i l,
-          sumBeneath-most count (parentAt w) (at start) i,
+          holds-most count parent (at start) (whole parent count start) (inv .done) n (at sums) (inv .all) (inv .held) i l,
+          sumBeneath-step count parent rises (at start) i l,
+          sumBeneath-most count parent (at start) i,
         )
 
-    turned : (found n : ℕ) (sums : List ℕ) → Gathered w count start found n sums → 0 < n → count ≤ length start
-        → Gathered w count start (cond (exceeds w count start (n - 1)) (suc (n - 1)) found) (n - 1) (credited (parentAt w (n - 1)) (whole w count start (n - 1)) sums)
+    turned : (found n : ℕ) (sums : List ℕ) → Gathered parent limit count start found n sums → 0 < n → count ≤ length start
+        → Gathered parent limit count start (cond (exceeds parent limit count start (n - 1)) (suc (n - 1)) found) (n - 1) (credited (parent (n - 1)) (whole parent count start (n - 1)) sums)
     unfolding firstNode
     turned found zero sums inv p h = absurd (omega arith)
     turned found (suc m) sums inv p h =
         let e : suc m - 1 ≡ m = omega arith in
         let r = rises m (omega (arith, inv .all)) in
-        let figure : ℕ = whole w count start m in
+        let figure : ℕ = whole parent count start m in
         rw e
         (record {
           done = suc (inv .done);
           all = omega (arith, inv .all);
-          held = holds-turn count (parentAt w) (at start) (whole w count start) (inv .done) m (at sums) (at (credited (parentAt w m) figure sums)) (inv .held)
-              (λ i l. credited-at (parentAt w m) figure sums i (omega (arith, inv .all, inv .size)));
-          size = credited-length (parentAt w m) figure sums ∙ inv .size;
-          past = λ i l. credited-past (parentAt w m) figure sums i (omega (arith, inv .all)) ∙ inv .past i l;
+          held = holds-turn count parent (at start) (whole parent count start) (inv .done) m (at sums) (at (credited (parent m) figure sums)) (inv .held)
+              (λ i l. credited-at (parent m) figure sums i (omega (arith, inv .all, inv .size)));
+          size = credited-length (parent m) figure sums ∙ inv .size;
+          past = λ i l. credited-past (parent m) figure sums i (omega (arith, inv .all)) ∙ inv .past i l;
           first = rw (← inv .first);
         })
 
     -- One turn, in the terms of the code.
-    pub gathered-turn : {found n : ℕ} {sums : List ℕ} {limit figure parent found′ : ℕ} {sums′ : List ℕ} → Gathered w count start found n sums → 0 < n
+    pub gathered-turn : {found n : ℕ} {sums : List ℕ} {most figure above found′ : ℕ} {sums′ : List ℕ} → Gathered parent limit count start found n sums → 0 < n
         → count ≤ length start
-        → limit ≡ limitAt w (n - 1) → figure ≡ getD sums (n - 1) 0 → parent ≡ parentAt w (n - 1)
-        → found′ ≡ cond (ltb limit figure) (suc (n - 1)) found → sums′ ≡ credited parent figure sums → Gathered w count start found′ (n - 1) sums′
+        → most ≡ limit (n - 1) → figure ≡ getD sums (n - 1) 0 → above ≡ parent (n - 1)
+        → found′ ≡ cond (ltb most figure) (suc (n - 1)) found → sums′ ≡ credited above figure sums → Gathered parent limit count start found′ (n - 1) sums′
     gathered-turn {found} {n} {sums} inv p h el ef ep en es =
         rw (es, en, el, ep, ef ∙ gathered-whole found n sums inv p) (turned found n sums inv p h)

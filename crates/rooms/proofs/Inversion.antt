@@ -11,7 +11,9 @@ use borrow.Author.Tests.{leb-true, leb-false, eqb-true, ltb-false}
 use Rattle.rooms.specs.Part.{Step, good, bad, Part, follow, word, ensure, end, many, within}
 use Rattle.rooms.specs.declared.Refusal.{Refusal}
 use Rattle.rooms.specs.declared.Refusal.the-variants.{WordMissing, WordOutOfRange, WordsLeftOver}
-use Rattle.rooms.specs.Table.{Node, Cord, Server, Range, scale, mostWatts, mostCords, mostServerCords, highestRank, node, cord, cords, range, load, server, cordCount, shareSum}
+use Rattle.rooms.specs.Table.{Node, Cord, Server, Range, mostWatts, mostCords, mostServerCords, highestRank, nodeWords, percent, node, cord, cords, range, load, server, cordCount, shareSum}
+use Rattle.rooms.specs.Credits.{nodeFrom}
+use Rattle.rooms.proofs.NodeWords.{percent-words}
 
 -- ---- One part after another
 
@@ -107,37 +109,64 @@ many-length (suc left) part next given w i l j e =
 
 -- ---- A node and a cord
 
--- The node of two words.
-abbrev pub nodeFrom : List ℕ → ℕ → Node
-nodeFrom w i = record { parent = getD w i 0; rating = getD w (suc i) 0 }
+-- A percent of 80, or the word there.
+record PercentIs (percents : Bool) (w : List ℕ) (i p j : ℕ) : Type 0 where
+  there : i ≤ length w → j ≤ length w
+  is : p ≡ cond percents (getD w i 0) 80
+  next : j ≡ i + cond percents 1 0
+  most : p ≤ 100
 
-pub record NodeIs (own : ℕ) (w : List ℕ) (i : ℕ) (n : Node) (j : ℕ) : Type 0 where
-  pub there : suc i < length w
-  pub is : n ≡ nodeFrom w i
-  pub next : j ≡ suc (suc i)
+percent-is : (percents : Bool) (w : List ℕ) (i p j : ℕ) → percent percents w i ≡ good p j → PercentIs percents w i p j
+unfolding percent
+percent-is false w i p j e =
+    let x : 80 ≡ p = cc in
+    let y : i ≡ j = cc in
+    rw (← x, ← y) (record { there = λ h. h; is = refl; next = omega arith; most = omega arith })
+percent-is true w i p j e =
+    let a = word-is _ _ _ _ _ _ _ (said _ _ _ _ _ e) in
+    let t = passed _ _ _ _ _ _ _ (a .rest) in
+    let x : getD w i 0 ≡ p = cc in
+    let y : suc i ≡ j = cc in
+    rw (← x, ← y) (record { there = λ h. a .there; is = refl; next = omega arith; most = a .most })
+
+pub record NodeIs (percents : Bool) (own : ℕ) (w : List ℕ) (i : ℕ) (n : Node) (j : ℕ) : Type 0 where
+  pub there : i + nodeWords percents ≤ length w
+  pub is : n ≡ nodeFrom percents w i
+  pub next : j ≡ i + nodeWords percents
   pub parent : n .parent ≤ own - 1
   pub rating : n .rating ≤ mostWatts
+  pub percent : n .percent ≤ 100
 
-pub node-is : (own : ℕ) (w : List ℕ) (i : ℕ) (n : Node) (j : ℕ) → node own w i ≡ good n j → NodeIs own w i n j
+pub node-is : (percents : Bool) (own : ℕ) (w : List ℕ) (i : ℕ) (n : Node) (j : ℕ) → node percents own w i ≡ good n j → NodeIs percents own w i n j
 unfolding node
-node-is own w i n j e =
+node-is percents own w i n j e =
     let a = word-is _ _ _ _ _ _ _ e in
     let b = word-is _ _ _ _ _ _ _ (a .rest) in
-    let x : nodeFrom w i ≡ n = cc in
-    let y : suc (suc i) ≡ j = cc in
-    record {
-      there = b .there;
-      is = sym x;
-      next = sym y;
-      parent = rw (← x) (a .most);
-      rating = rw (← x) (b .most);
-    }
+    let t = took _ _ _ _ (b .rest) in
+    let p = percent-is percents w (suc (suc i)) (t .got) (t .at) (t .first) in
+    let x : record { parent = getD w i 0; rating = getD w (suc i) 0; percent = t .got } ≡ n = cc in
+    let y : t .at ≡ j = cc in
+    placed (t .got) (t .at) p (b .there) (a .most) (b .most) x y
+  where
+    placed : (q k : ℕ) → PercentIs percents w (suc (suc i)) q k → suc i < length w → getD w i 0 ≤ own - 1 → getD w (suc i) 0 ≤ mostWatts
+        → record { parent = getD w i 0; rating = getD w (suc i) 0; percent = q } ≡ n → k ≡ j → NodeIs percents own w i n j
+    placed q k p there parent rating x y =
+        let next : k ≡ i + nodeWords percents = p .next ∙ percent-words percents i in
+        rw (← x, ← y)
+        (record {
+          there = omega (arith, p .there there);
+          is = rw (p .is);
+          next = next;
+          parent = parent;
+          rating = rating;
+          percent = p .most;
+        })
 
 -- The cord of two words.
 abbrev pub cordFrom : List ℕ → ℕ → Cord
 cordFrom w i = record { node = getD w i 0; share = getD w (suc i) 0 }
 
-pub record CordIs (nodes : ℕ) (w : List ℕ) (i : ℕ) (c : Cord) (j : ℕ) : Type 0 where
+pub record CordIs (scale nodes : ℕ) (w : List ℕ) (i : ℕ) (c : Cord) (j : ℕ) : Type 0 where
   pub there : suc i < length w
   pub is : c ≡ cordFrom w i
   pub next : j ≡ suc (suc i)
@@ -145,9 +174,9 @@ pub record CordIs (nodes : ℕ) (w : List ℕ) (i : ℕ) (c : Cord) (j : ℕ) : 
   pub last : c .node ≤ nodes
   pub share : c .share ≤ scale
 
-pub cord-is : (nodes : ℕ) (w : List ℕ) (i : ℕ) (c : Cord) (j : ℕ) → cord nodes w i ≡ good c j → CordIs nodes w i c j
+pub cord-is : (scale nodes : ℕ) (w : List ℕ) (i : ℕ) (c : Cord) (j : ℕ) → cord scale nodes w i ≡ good c j → CordIs scale nodes w i c j
 unfolding cord
-cord-is nodes w i c j e =
+cord-is scale nodes w i c j e =
     let a = word-is _ _ _ _ _ _ _ e in
     let b = word-is _ _ _ _ _ _ _ (a .rest) in
     let x : cordFrom w i ≡ c = cc in
@@ -190,18 +219,18 @@ range-is w i r j e =
       greatest = b .most;
     })
 
-pub record LoadIs (nodeCount before : ℕ) (w : List ℕ) (i : ℕ) (l : List Cord) (j : ℕ) : Type 0 where
+pub record LoadIs (scale nodeCount before : ℕ) (w : List ℕ) (i : ℕ) (l : List Cord) (j : ℕ) : Type 0 where
   pub there : i < length w
-  pub are : cords nodeCount (getD w i 0) w (suc i) ≡ good l j
+  pub are : cords scale nodeCount (getD w i 0) w (suc i) ≡ good l j
   pub count : length l ≡ getD w i 0
   pub some : 1 ≤ length l
   pub few : length l ≤ min mostServerCords (mostCords - before)
   pub whole : shareSum l ≡ scale
 
-pub load-is : (nodeCount before start : ℕ) (w : List ℕ) (i : ℕ) (l : List Cord) (j : ℕ) → load nodeCount before start w i ≡ good l j
-    → LoadIs nodeCount before w i l j
+pub load-is : (scale nodeCount before start : ℕ) (w : List ℕ) (i : ℕ) (l : List Cord) (j : ℕ) → load scale nodeCount before start w i ≡ good l j
+    → LoadIs scale nodeCount before w i l j
 unfolding load
-load-is nodeCount before start w i l j e =
+load-is scale nodeCount before start w i l j e =
     let a = word-is _ _ _ _ _ _ _ e in
     let r = took _ _ _ _ (a .rest) in
     let t = passed _ _ _ _ _ _ _ (r .rest) in
@@ -221,28 +250,28 @@ load-is nodeCount before start w i l j e =
 abbrev pub serverFrom : List ℕ → ℕ → List Cord → Server
 serverFrom w i l = record { rank = getD w i 0; least = getD w (suc i) 0; greatest = getD w (suc (suc i)) 0; cords = l }
 
-pub record ServerIs (nodeCount before : ℕ) (w : List ℕ) (i : ℕ) (s : Server) (j : ℕ) : Type 0 where
+pub record ServerIs (scale nodeCount before : ℕ) (w : List ℕ) (i : ℕ) (s : Server) (j : ℕ) : Type 0 where
   pub is : s ≡ serverFrom w i (s .cords)
   pub lowest : 1 ≤ s .rank
   pub highest : s .rank ≤ highestRank
   pub ordered : s .least ≤ s .greatest
   pub greatest : s .greatest ≤ mostWatts
-  pub load : LoadIs nodeCount before w (suc (suc (suc i))) (s .cords) j
+  pub load : LoadIs scale nodeCount before w (suc (suc (suc i))) (s .cords) j
 
-pub server-is : (nodeCount before : ℕ) (w : List ℕ) (i : ℕ) (s : Server) (j : ℕ) → server nodeCount before w i ≡ good s j → ServerIs nodeCount before w i s j
+pub server-is : (scale nodeCount before : ℕ) (w : List ℕ) (i : ℕ) (s : Server) (j : ℕ) → server scale nodeCount before w i ≡ good s j → ServerIs scale nodeCount before w i s j
 unfolding server
-server-is nodeCount before w i s j e =
+server-is scale nodeCount before w i s j e =
     let a = word-is _ _ _ _ _ _ _ (said _ _ _ _ _ e) in
     let b = took _ _ _ _ (a .rest) in
     let r = range-is w (suc i) (b .got) (b .at) (b .first) in
     let c = took _ _ _ _ (b .rest) in
-    let d = load-is nodeCount before i w (b .at) (c .got) (c .at) (c .first) in
+    let d = load-is scale nodeCount before i w (b .at) (c .got) (c .at) (c .first) in
     let x : record { rank = getD w i 0; least = b .got .least; greatest = b .got .greatest; cords = c .got } ≡ s = cc in
     let y : c .at ≡ j = cc in
     placed (b .got) (b .at) (c .got) (c .at) r (a .least) (a .most) d x y
   where
-    placed : (g : Range) (k : ℕ) (l : List Cord) (h : ℕ) → RangeIs w (suc i) g k → 1 ≤ getD w i 0 → getD w i 0 ≤ highestRank → LoadIs nodeCount before w k l h
-        → record { rank = getD w i 0; least = g .least; greatest = g .greatest; cords = l } ≡ s → h ≡ j → ServerIs nodeCount before w i s j
+    placed : (g : Range) (k : ℕ) (l : List Cord) (h : ℕ) → RangeIs w (suc i) g k → 1 ≤ getD w i 0 → getD w i 0 ≤ highestRank → LoadIs scale nodeCount before w k l h
+        → record { rank = getD w i 0; least = g .least; greatest = g .greatest; cords = l } ≡ s → h ≡ j → ServerIs scale nodeCount before w i s j
     placed g k l h r low high d x y =
         let m : g .least ≡ getD w (suc i) 0 = ap (λ (q : Range). q .least) (r .is) in
         let n : g .greatest ≡ getD w (suc (suc i)) 0 = ap (λ (q : Range). q .greatest) (r .is) in
@@ -257,6 +286,6 @@ server-is nodeCount before w i s j e =
         })
 
 -- With a good server the room still has no more than 1,024 cords.
-pub server-few : (nodes before : ℕ) (w : List ℕ) (i : ℕ) (s : Server) (j : ℕ) → before ≤ mostCords → server nodes before w i ≡ good s j
+pub server-few : (scale nodes before : ℕ) (w : List ℕ) (i : ℕ) (s : Server) (j : ℕ) → before ≤ mostCords → server scale nodes before w i ≡ good s j
     → before + cordCount s ≤ mostCords
-server-few nodes before w i s j h e = omega (arith, server-is nodes before w i s j e .load .few)
+server-few scale nodes before w i s j h e = omega (arith, server-is scale nodes before w i s j e .load .few)

@@ -12,13 +12,13 @@ use borrow.Author.Tests.{leb-true}
 use Rattle.numbers.specs.Sheet.{Ending, whole, sheetOf, bytesOf}
 use Rattle.numbers.specs.Sheet as sheet
 use Rattle.rooms.specs.Part.{Step, good, bad}
-use Rattle.rooms.specs.Table.{Room}
+use Rattle.rooms.specs.Table.{Room, mostWords}
 use Rattle.rooms.specs.Limits.{checked}
 use Rattle.rooms.specs.declared.Refusal.the-variants.{OutputTooShort}
 use Rattle.rooms.specs.declared.Answer.{Answer}
 use Rattle.rooms.specs.declared.Answer.the-variants.{Accepted}
 use Rattle.rooms.specs.Outcome.{accepted, refused, answerOf, unlessRefused, fitting, readWords, reading, readingFirst, writing}
-use Rattle.rooms.proofs.Reach.{mostWords, prefix-decides, length-small}
+use Rattle.rooms.proofs.Reach.{prefix-decides, length-small}
 use Rattle.rooms.proofs.Outcomes.{accepted-told, accepted-is, front-sets, front-size}
 
 -- A table that is cut comes to the same, if it is cut no shorter than decides its check.

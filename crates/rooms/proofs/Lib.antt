@@ -4,15 +4,18 @@
 pub mod Trees
 pub mod Cords
 -- What a good part of a table is, and what a good table and its room are as a whole.
+pub mod NodeWords
 pub mod Inversion
 pub mod All
 pub mod Rows
 pub mod Whole
+pub mod Places
 pub mod Extent
 pub mod Reach
 -- The check of the words.
 pub mod Steps
 -- The lows against the limits.
+pub mod Carried
 pub mod Credits
 pub mod CreditTurns
 pub mod Gather

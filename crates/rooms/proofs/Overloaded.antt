@@ -14,7 +14,7 @@ use Rattle.numbers.specs.Sheet.{Ending, whole, sheetOf, bytesOf}
 use Rattle.numbers.specs.Sheet as sheet
 use Rattle.numbers.specs.declared.Fault.the-variants.{TooLong, NotShortest, CutShort}
 use Rattle.rooms.specs.Part.{Step, good, bad, Good, Part, follow, word, ensure, end, many}
-use Rattle.rooms.specs.Table.{Room, node, cord, range, load, server, table}
+use Rattle.rooms.specs.Table.{Room, percent, node, cord, range, load, server, table}
 use Rattle.rooms.specs.Limits.{limit, nodeAt, lowsBeneath, firstNode, overloaded, checked}
 use Rattle.rooms.specs.Outcome.{accepted, refused, refusalNumber, refusalPlace, answerNumber, answerOf, unlessRefused, fitting, readWords, reading, writing}
 use Rattle.rooms.specs.Promises.{IsNode, Within, LowestExceeding, Overloaded, IsNine, RefusalNine}
@@ -148,13 +148,24 @@ many-early part next w each zero given i = good-early _ _
 many-early part next w each (suc count) given i =
     follow-early _ _ (each given i) (λ a j. follow-early _ _ (many-early part next w each count (next given a) j) (λ l k. good-early _ _))
 
-node-early : (own : ℕ) (w : List ℕ) (i : ℕ) → Early (node own w i)
-unfolding node
-node-early own w i = follow-early _ _ (word-early _ w i) (λ a j. follow-early _ _ (word-early _ w j) (λ b k. good-early _ _))
+percent-early : (percents : Bool) (w : List ℕ) (i : ℕ) → Early (percent percents w i)
+unfolding percent
+percent-early false w i = good-early _ _
+percent-early true w i =
+    follow-early _ _ (good-early _ _) (λ place j.
+    follow-early _ _ (word-early _ w j) (λ percent k.
+    follow-early _ _ (ensure-early _ _ w k (λ n e. suc-ne-zero 0 (cc))) (λ _ m. good-early _ _)))
 
-cord-early : (nodeCount : ℕ) (w : List ℕ) (i : ℕ) → Early (cord nodeCount w i)
+node-early : (percents : Bool) (own : ℕ) (w : List ℕ) (i : ℕ) → Early (node percents own w i)
+unfolding node
+node-early percents own w i =
+    follow-early _ _ (word-early _ w i) (λ a j.
+    follow-early _ _ (word-early _ w j) (λ b k.
+    follow-early _ _ (percent-early percents w k) (λ c l. good-early _ _)))
+
+cord-early : (scale nodeCount : ℕ) (w : List ℕ) (i : ℕ) → Early (cord scale nodeCount w i)
 unfolding cord
-cord-early nodeCount w i = follow-early _ _ (word-early _ w i) (λ a j. follow-early _ _ (word-early _ w j) (λ b k. good-early _ _))
+cord-early scale nodeCount w i = follow-early _ _ (word-early _ w i) (λ a j. follow-early _ _ (word-early _ w j) (λ b k. good-early _ _))
 
 range-early : (w : List ℕ) (i : ℕ) → Early (range w i)
 unfolding range
@@ -164,29 +175,29 @@ range-early w i =
     follow-early _ _ (word-early _ w k) (λ greatest l.
     follow-early _ _ (ensure-early _ _ w l (λ n e. suc-ne-zero 0 (cc))) (λ _ m. good-early _ _))))
 
-load-early : (nodeCount before start : ℕ) (w : List ℕ) (i : ℕ) → Early (load nodeCount before start w i)
+load-early : (scale nodeCount before start : ℕ) (w : List ℕ) (i : ℕ) → Early (load scale nodeCount before start w i)
 unfolding load
-load-early nodeCount before start w i =
+load-early scale nodeCount before start w i =
     follow-early _ _ (word-early _ w i) (λ count j.
-    follow-early _ _ (many-early _ _ w (λ _. cord-early nodeCount w) count 0 j) (λ cords k.
+    follow-early _ _ (many-early _ _ w (λ _. cord-early scale nodeCount w) count 0 j) (λ cords k.
     follow-early _ _ (ensure-early _ _ w k (λ n e. suc-ne-zero 0 (cc))) (λ _ l. good-early _ _)))
 
-server-early : (nodeCount before : ℕ) (w : List ℕ) (i : ℕ) → Early (server nodeCount before w i)
+server-early : (scale nodeCount before : ℕ) (w : List ℕ) (i : ℕ) → Early (server scale nodeCount before w i)
 unfolding server
-server-early nodeCount before w i =
+server-early scale nodeCount before w i =
     follow-early _ _ (good-early _ _) (λ start j.
     follow-early _ _ (word-early _ w j) (λ rank k.
     follow-early _ _ (range-early w k) (λ range l.
-    follow-early _ _ (load-early nodeCount before start w l) (λ cords m. good-early _ _))))
+    follow-early _ _ (load-early scale nodeCount before start w l) (λ cords m. good-early _ _))))
 
 table-early : (w : List ℕ) (i : ℕ) → Early (table w i)
 unfolding table
 table-early w i =
     follow-early _ _ (word-early _ w i) (λ version j.
     follow-early _ _ (word-early _ w j) (λ nodeCount k.
-    follow-early _ _ (many-early _ _ w (λ own. node-early own w) nodeCount 1 k) (λ nodes l.
+    follow-early _ _ (many-early _ _ w (λ own. node-early _ own w) nodeCount 1 k) (λ nodes l.
     follow-early _ _ (word-early _ w l) (λ serverCount m.
-    follow-early _ _ (many-early _ _ w (λ before. server-early nodeCount before w) serverCount 0 m) (λ servers o.
+    follow-early _ _ (many-early _ _ w (λ before. server-early _ nodeCount before w) serverCount 0 m) (λ servers o.
     follow-early _ _ (end-early w o) (λ _ p. good-early _ _))))))
 
 -- Where 9 ends what follows an early step, the step is good.

@@ -1,10 +1,10 @@
 -- How far a part of a table reaches: it never passes an index `last`, no word after that one changes its answer,
--- and each word that a good part took is at most 16,777,215. So the first 5,124 words of a table decide every answer.
+-- and each word that a good part took is at most 16,777,215. So one word more than a table may have decides every answer.
 use mathlib.Core.Path.{_≡_, refl, sym, ap, _∙_}
-use mathlib.Core.Bool.{Bool, true, false}
+use mathlib.Core.Bool.{Bool, true, false, cond}
 use mathlib.Core.List.{List, [], _∷_}
 use Prim.Native.Nat.{ℕ, zero, suc, _+_, _-_, _*_, _≤_, _<_, min}
-use native.Mathlib.Nat.{le-refl, suc-ne-zero}
+use native.Mathlib.Nat.{le-refl, suc-ne-zero, mul-suc, mul-le-mul}
 use native.Mathlib.Omega.{arith}
 use lib.ListN.{length, getD, take, List·getD-eq-default}
 use lib.Seq.{length-take-le, getD-take, take-all}
@@ -12,10 +12,11 @@ use lib.Dec.{leb, ltb}
 use borrow.Author.Tests.{leb-true, leb-false, ltb-true, ltb-false, lt-leb, lt-ltb}
 use Rattle.rooms.specs.Part.{Step, good, bad, Part, _>>=_, give, here, follow, word, ensure, end, many, within}
 use Rattle.rooms.specs.declared.Refusal.{Refusal}
-use Rattle.rooms.specs.Table.{Room, mostWatts, mostNodes, mostServers, mostCords, mostServerCords, highestRank, scale, version, node, nodes, cord, cords, range, load, server, servers, cordCount, roomCords, table}
+use Rattle.rooms.specs.Table.{Room, mostWatts, mostNodes, mostServers, mostCords, mostServerCords, highestRank, mostWords, mostNodeWords, mostScale, newestVersion, formOf, nodeWords, percent, node, nodes, cord, cords, range, load, server, servers, cordCount, roomCords, table}
 use Rattle.rooms.specs.Limits.{checked}
+use Rattle.rooms.proofs.NodeWords.{percent-words}
 use Rattle.rooms.proofs.Inversion.{took, word-is, ended, node-is, cord-is, range-is, server-few}
-use Rattle.rooms.proofs.Whole.{table-is, checked-is}
+use Rattle.rooms.proofs.Whole.{form-scale, form-words, percentsOf, table-is, checked-is}
 use Rattle.rooms.proofs.Extent.{server-next, table-next}
 
 -- ---- The calculus
@@ -141,19 +142,32 @@ module _ (last : ℕ) (w : List ℕ) {A : Type 0} (part : ℕ → Part A) (next 
 -- ---- The parts of a table
 
 module _ (last : ℕ) (w : List ℕ) where
-  node-reaches : (own i : ℕ) → own ≤ mostWatts → i + 2 ≤ last → Reaches last (node own) w i
+  percent-reaches : (percents : Bool) (i : ℕ) → i + cond percents 1 0 ≤ last → Reaches last (percent percents) w i
+  unfolding percent
+  percent-reaches false i l = give-reaches last w i 80 (omega arith)
+  percent-reaches true i l =
+      here-reaches last w i _
+      (word-reaches last w i 80 100 (omega arith) (omega arith) (λ percent _ _.
+      ensure-reaches last w (suc i) _ _ _
+      (give-reaches last w (suc i) _ (omega arith))))
+
+  node-reaches : (percents : Bool) (own i : ℕ) → own ≤ mostWatts → i + nodeWords percents ≤ last → Reaches last (node percents own) w i
   unfolding node
-  node-reaches own i h l =
+  node-reaches percents own i h l =
+      let words = percent-words percents i in
       word-reaches last w i 0 (own - 1) (omega arith) (omega arith) (λ parent _ _.
       word-reaches last w (suc i) 0 mostWatts (le-refl mostWatts) (omega arith) (λ rating _ _.
-      give-reaches last w (suc (suc i)) _ (omega arith)))
+      then-reaches last w (suc (suc i)) (percent-reaches percents (suc (suc i)) (omega arith)) (λ percent j e t.
+      give-reaches last w j _ (t .near))))
 
-  cord-reaches : (nodeCount i : ℕ) → nodeCount ≤ mostWatts → i + 2 ≤ last → Reaches last (cord nodeCount) w i
-  unfolding cord
-  cord-reaches nodeCount i h l =
-      word-reaches last w i 1 nodeCount h (omega arith) (λ node _ _.
-      word-reaches last w (suc i) 0 scale (omega arith) (omega arith) (λ share _ _.
-      give-reaches last w (suc (suc i)) _ (omega arith)))
+  nodes-reaches : (percents : Bool) (count own i : ℕ) → own + count ≤ mostWatts → i + nodeWords percents * count ≤ last
+      → Reaches last (nodes percents count own) w i
+  nodes-reaches percents count own i h l =
+      many-reaches last w (node percents) (λ own _. suc own) (λ left own i. (own + left ≤ mostWatts) × (i + nodeWords percents * left ≤ last))
+      (λ own i f. omega arith)
+      (λ left own i f. node-reaches percents own i (omega arith) (omega (arith, mul-suc (nodeWords percents) left)))
+      (λ left own i f n j e. (omega arith, omega (arith, mul-suc (nodeWords percents) left, node-is percents own w i n j e .next)))
+      count own i (h, l)
 
   range-reaches : (i : ℕ) → i + 2 ≤ last → Reaches last range w i
   unfolding range
@@ -164,24 +178,24 @@ module _ (last : ℕ) (w : List ℕ) where
       ensure-reaches last w (suc (suc i)) _ _ _
       (give-reaches last w (suc (suc i)) _ (omega arith)))))
 
-  nodes-reaches : (count own i : ℕ) → own + count ≤ mostWatts → i + 2 * count ≤ last → Reaches last (nodes count own) w i
-  nodes-reaches count own i h l =
-      many-reaches last w node (λ own _. suc own) (λ left own i. (own + left ≤ mostWatts) × (i + 2 * left ≤ last))
-      (λ own i f. omega arith)
-      (λ left own i f. node-reaches own i (omega arith) (omega arith))
-      (λ left own i f n j e. (omega arith, omega (arith, node-is own w i n j e .next)))
-      count own i (h, l)
+module _ (last : ℕ) (w : List ℕ) (scale : ℕ) (small : scale ≤ mostScale) where
+  cord-reaches : (nodeCount i : ℕ) → nodeCount ≤ mostWatts → i + 2 ≤ last → Reaches last (cord scale nodeCount) w i
+  unfolding cord
+  cord-reaches nodeCount i h l =
+      word-reaches last w i 1 nodeCount h (omega arith) (λ node _ _.
+      word-reaches last w (suc i) 0 scale (omega arith) (omega arith) (λ share _ _.
+      give-reaches last w (suc (suc i)) _ (omega arith)))
 
-  cords-reaches : (nodeCount count i : ℕ) → nodeCount ≤ mostWatts → i + 2 * count ≤ last → Reaches last (cords nodeCount count) w i
+  cords-reaches : (nodeCount count i : ℕ) → nodeCount ≤ mostWatts → i + 2 * count ≤ last → Reaches last (cords scale nodeCount count) w i
   cords-reaches nodeCount count i h l =
-      many-reaches last w (λ _. cord nodeCount) (λ given _. given) (λ left given i. i + 2 * left ≤ last)
+      many-reaches last w (λ _. cord scale nodeCount) (λ given _. given) (λ left given i. i + 2 * left ≤ last)
       (λ given i f. omega arith)
       (λ left given i f. cord-reaches nodeCount i h (omega arith))
-      (λ left given i f c j e. omega (arith, cord-is nodeCount w i c j e .next))
+      (λ left given i f c j e. omega (arith, cord-is scale nodeCount w i c j e .next))
       count 0 i l
 
   load-reaches : (nodeCount before start i : ℕ) → nodeCount ≤ mostWatts → i + 1 + 2 * min mostServerCords (mostCords - before) ≤ last
-      → Reaches last (load nodeCount before start) w i
+      → Reaches last (load scale nodeCount before start) w i
   unfolding load
   load-reaches nodeCount before start i h l =
       word-reaches last w i 1 (min mostServerCords (mostCords - before)) (omega arith) (omega arith) (λ count some few.
@@ -190,12 +204,12 @@ module _ (last : ℕ) (w : List ℕ) where
       (give-reaches last w j _ (t .near))))
 
   server-reaches : (nodeCount before i : ℕ) → nodeCount ≤ mostWatts → i + 4 + 2 * min mostServerCords (mostCords - before) ≤ last
-      → Reaches last (server nodeCount before) w i
+      → Reaches last (server scale nodeCount before) w i
   unfolding server
   server-reaches nodeCount before i h l =
       here-reaches last w i _
       (word-reaches last w i 1 highestRank (omega arith) (omega arith) (λ rank _ _.
-      then-reaches last w (suc i) (range-reaches (suc i) (omega arith)) (λ range j e t.
+      then-reaches last w (suc i) (range-reaches last w (suc i) (omega arith)) (λ range j e t.
       then-reaches last w j (load-reaches nodeCount before i j h (omega (arith, range-is w (suc i) range j e .next))) (λ cords k d u.
       give-reaches last w k _ (u .near)))))
 
@@ -204,30 +218,30 @@ record ServersFit (last left before i : ℕ) : Type 0 where
   few : before ≤ mostCords
   fit : i + 4 * left + 2 * mostCords ≤ last + 2 * before
 
-servers-reaches : (last : ℕ) (w : List ℕ) (nodeCount count i : ℕ) → nodeCount ≤ mostWatts → i + 4 * count + 2 * mostCords ≤ last
-    → Reaches last (servers nodeCount count 0) w i
-servers-reaches last w nodeCount count i h l =
-    many-reaches last w (server nodeCount) (λ before s. before + cordCount s) (ServersFit last)
+servers-reaches : (last : ℕ) (w : List ℕ) (scale : ℕ) → scale ≤ mostScale → (nodeCount count i : ℕ) → nodeCount ≤ mostWatts → i + 4 * count + 2 * mostCords ≤ last
+    → Reaches last (servers scale nodeCount count 0) w i
+servers-reaches last w scale small nodeCount count i h l =
+    many-reaches last w (server scale nodeCount) (λ before s. before + cordCount s) (ServersFit last)
     (λ before i f. omega arith)
-    (λ left before i f. server-reaches last w nodeCount before i h (omega arith))
-    (λ left before i f s j e. record { few = server-few nodeCount before w i s j (f .few) e; fit = omega (arith, server-next nodeCount before w i s j e) })
+    (λ left before i f. server-reaches last w scale small nodeCount before i h (omega arith))
+    (λ left before i f s j e. record { few = server-few scale nodeCount before w i s j (f .few) e; fit = omega (arith, server-next scale nodeCount before w i s j e) })
     count 0 i (record { few = omega arith; fit = omega arith })
 
 -- ---- The table
 
--- The most words of a table.
-abbrev pub mostWords : ℕ
-mostWords = 2 + 2 * mostNodes + 1 + 4 * mostServers + 2 * mostCords
-
 table-reaches : (w : List ℕ) → Reaches mostWords table w 0
 unfolding table
 table-reaches w =
-    word-reaches mostWords w 0 version version (omega arith) (omega arith) (λ _ _ _.
+    word-reaches mostWords w 0 1 newestVersion (omega arith) (omega arith) (λ version _ _.
+    let percents = formOf version .percents in
     word-reaches mostWords w 1 1 mostNodes (omega arith) (omega arith) (λ nodeCount _ n.
-    then-reaches mostWords w 2 (nodes-reaches mostWords w nodeCount 1 2 (omega arith) (omega arith)) (λ nodes j e t.
-    let near : j ≤ 2 + 2 * nodeCount = nodes-reaches (2 + 2 * nodeCount) w nodeCount 1 2 (omega arith) (omega arith) .taken nodes j e .near in
+    let few : nodeWords percents * nodeCount ≤ mostNodeWords * mostNodes = mul-le-mul (form-words version) n in
+    then-reaches mostWords w 2 (nodes-reaches mostWords w percents nodeCount 1 2 (omega arith) (omega arith)) (λ nodes j e t.
+    let near : j ≤ 2 + nodeWords percents * nodeCount
+    = nodes-reaches (2 + nodeWords percents * nodeCount) w percents nodeCount 1 2 (omega arith) (le-refl (2 + nodeWords percents * nodeCount)) .taken nodes j e .near in
     word-reaches mostWords w j 0 mostServers (omega arith) (omega arith) (λ serverCount _ s.
-    then-reaches mostWords w (suc j) (servers-reaches mostWords w nodeCount serverCount (suc j) (omega arith) (omega arith)) (λ servers k d u.
+    then-reaches mostWords w (suc j)
+    (servers-reaches mostWords w (formOf version .scale) (form-scale version .1) nodeCount serverCount (suc j) (omega arith) (omega arith)) (λ servers k d u.
     end-reaches mostWords w k _ (u .near)
     (give-reaches mostWords w k _ (u .near)))))))
 
@@ -238,7 +252,7 @@ checked-reaches w =
     ensure-reaches mostWords w j _ _ _
     (give-reaches mostWords w j r (t .near)))
 
--- The first 5,124 words decide every answer.
+-- One word more than a table may have decides every answer.
 pub prefix-decides : (w : List ℕ) (n : ℕ) → suc mostWords ≤ n → checked (take n w) 0 ≡ checked w 0
 prefix-decides w n h = go (leb n (length w)) refl
   where
@@ -252,7 +266,7 @@ module _ (w : List ℕ) (r : Room) (j : ℕ) (e : checked w 0 ≡ good r j) wher
   next-is-length = omega (arith, checked-reaches w .taken r j e .there (omega arith), table-is w r j (checked-is w r j e .0) .ended)
 
   -- So its length tells the count of its cords.
-  pub length-is : length w ≡ 3 + 2 * getD w 1 0 + 4 * length (r .servers) + 2 * roomCords r
+  pub length-is : length w ≡ 3 + nodeWords (percentsOf w) * length (r .nodes) + 4 * length (r .servers) + 2 * roomCords r
   length-is = sym next-is-length ∙ table-next w r j (checked-is w r j e .0)
 
   pub length-small : length w ≤ mostWords

@@ -1,12 +1,13 @@
 -- What a good row of parts is, from what each of its parts is: a fact of every element, and the words that the row takes.
 use mathlib.Core.Path.{_≡_}
+use mathlib.Core.Bool.{Bool}
 use mathlib.Core.List.{List, []}
 use Prim.Native.Nat.{ℕ, zero, suc, _+_, _*_, _≤_, _<_}
-use native.Mathlib.Nat.{mul-suc}
+use native.Mathlib.Nat.{mul-zero, mul-suc}
 use native.Mathlib.Omega.{arith}
 use lib.ListN.{length, getD}
 use Rattle.rooms.specs.Part.{good, Part, many}
-use Rattle.rooms.specs.Table.{Node, Cord, Server, node, nodes, cord, cords, server, servers, cordCount}
+use Rattle.rooms.specs.Table.{Node, Cord, Server, nodeWords, node, nodes, cord, cords, server, servers, cordCount}
 use Rattle.rooms.proofs.All.{All, all-none, all-cons}
 use Rattle.rooms.proofs.Inversion.{many-is, NodeIs, node-is, cord-is, server-is}
 
@@ -35,34 +36,34 @@ module _ {A : Type 0} (part : ℕ → Part A) (next : ℕ → A → ℕ) (w : Li
 
 -- ---- The rows of a table
 
-pub nodes-words : (count own : ℕ) (w : List ℕ) (i : ℕ) (l : List Node) (j : ℕ) → i ≤ length w → nodes count own w i ≡ good l j
-    → (j ≡ i + 2 * count) × (j ≤ length w)
-nodes-words count own w i l j =
-    many-words node (λ own _. suc own) w 2
-    (λ own i a j e. let n = node-is own w i a j e in (omega (arith, n .next), omega (arith, n .next, n .there))) count own i l j
+pub nodes-words : (percents : Bool) (count own : ℕ) (w : List ℕ) (i : ℕ) (l : List Node) (j : ℕ) → i ≤ length w → nodes percents count own w i ≡ good l j
+    → (j ≡ i + nodeWords percents * count) × (j ≤ length w)
+nodes-words percents count own w i l j =
+    many-words (node percents) (λ own _. suc own) w (nodeWords percents)
+    (λ own i a j e. let n = node-is percents own w i a j e in (n .next, omega (arith, n .next, n .there))) count own i l j
 
-pub cords-words : (nodeCount count : ℕ) (w : List ℕ) (i : ℕ) (l : List Cord) (j : ℕ) → i ≤ length w → cords nodeCount count w i ≡ good l j
+pub cords-words : (scale nodeCount count : ℕ) (w : List ℕ) (i : ℕ) (l : List Cord) (j : ℕ) → i ≤ length w → cords scale nodeCount count w i ≡ good l j
     → (j ≡ i + 2 * count) × (j ≤ length w)
-cords-words nodeCount count w i l j =
-    many-words (λ _. cord nodeCount) (λ given _. given) w 2
-    (λ given i a j e. let c = cord-is nodeCount w i a j e in (omega (arith, c .next), omega (arith, c .next, c .there))) count 0 i l j
+cords-words scale nodeCount count w i l j =
+    many-words (λ _. cord scale nodeCount) (λ given _. given) w 2
+    (λ given i a j e. let c = cord-is scale nodeCount w i a j e in (omega (arith, c .next), omega (arith, c .next, c .there))) count 0 i l j
 
--- The node at place m of a row stands in the words at 2 m and the index after.
-pub nodes-at : (count own : ℕ) (w : List ℕ) (i : ℕ) (l : List Node) (j : ℕ) (d : Node) (m : ℕ) → m < count → nodes count own w i ≡ good l j
-    → NodeIs (own + m) w (i + 2 * m) (getD l m d) (suc (suc (i + 2 * m)))
-nodes-at zero own w i l j d m h e = absurd (omega arith)
-nodes-at (suc count) own w i l j d zero h e =
-    let a = many-is count node (λ own _. suc own) own w i l j e in
-    let n = node-is own w i (a .got) (a .at) (a .first) in
+-- The node at place m of a row stands behind the words of m nodes.
+pub nodes-at : (percents : Bool) (count own : ℕ) (w : List ℕ) (i : ℕ) (l : List Node) (j : ℕ) (d : Node) (m : ℕ) → m < count → nodes percents count own w i ≡ good l j
+    → NodeIs percents (own + m) w (i + nodeWords percents * m) (getD l m d) (i + nodeWords percents * m + nodeWords percents)
+nodes-at percents zero own w i l j d m h e = absurd (omega arith)
+nodes-at percents (suc count) own w i l j d zero h e =
+    let a = many-is count (node percents) (λ own _. suc own) own w i l j e in
+    let n = node-is percents own w i (a .got) (a .at) (a .first) in
     let o : own + 0 ≡ own = omega arith in
-    let z : i + 2 * 0 ≡ i = omega arith in
+    let z : i + nodeWords percents * 0 ≡ i = omega (arith, mul-zero (nodeWords percents)) in
     rw (a .is, o, z, ← n .next) n
-nodes-at (suc count) own w i l j d (suc m) h e =
-    let a = many-is count node (λ own _. suc own) own w i l j e in
-    let n = node-is own w i (a .got) (a .at) (a .first) in
+nodes-at percents (suc count) own w i l j d (suc m) h e =
+    let a = many-is count (node percents) (λ own _. suc own) own w i l j e in
+    let n = node-is percents own w i (a .got) (a .at) (a .first) in
     let o : own + suc m ≡ suc own + m = omega arith in
-    let z : i + 2 * suc m ≡ a .at + 2 * m = omega (arith, n .next) in
-    rw (a .is, o, z) (nodes-at count (suc own) w (a .at) (a .rest) j d m (omega arith) (a .others))
+    let z : i + nodeWords percents * suc m ≡ a .at + nodeWords percents * m = omega (arith, n .next, mul-suc (nodeWords percents) m) in
+    rw (a .is, o, z) (nodes-at percents count (suc own) w (a .at) (a .rest) j d m (omega arith) (a .others))
 
 -- A cord, and every cord of a server, hangs on one of so many nodes.
 abbrev pub CordHangs : ℕ → Cord → Type 0
@@ -71,13 +72,13 @@ CordHangs nodeCount c = (1 ≤ c .node) × (c .node ≤ nodeCount)
 abbrev pub ServerHangs : ℕ → Server → Type 0
 ServerHangs nodeCount s = All (CordHangs nodeCount) (s .cords)
 
-pub cords-hang : (nodeCount count : ℕ) (w : List ℕ) (i : ℕ) (l : List Cord) (j : ℕ) → cords nodeCount count w i ≡ good l j → All (CordHangs nodeCount) l
-cords-hang nodeCount count w i l j =
-    many-all (λ _. cord nodeCount) (λ given _. given) w (CordHangs nodeCount)
-    (λ given i a j e. let c = cord-is nodeCount w i a j e in (c .first, c .last)) count 0 i l j
+pub cords-hang : (scale nodeCount count : ℕ) (w : List ℕ) (i : ℕ) (l : List Cord) (j : ℕ) → cords scale nodeCount count w i ≡ good l j → All (CordHangs nodeCount) l
+cords-hang scale nodeCount count w i l j =
+    many-all (λ _. cord scale nodeCount) (λ given _. given) w (CordHangs nodeCount)
+    (λ given i a j e. let c = cord-is scale nodeCount w i a j e in (c .first, c .last)) count 0 i l j
 
-pub servers-hang : (nodeCount count before : ℕ) (w : List ℕ) (i : ℕ) (l : List Server) (j : ℕ) → servers nodeCount count before w i ≡ good l j
+pub servers-hang : (scale nodeCount count before : ℕ) (w : List ℕ) (i : ℕ) (l : List Server) (j : ℕ) → servers scale nodeCount count before w i ≡ good l j
     → All (ServerHangs nodeCount) l
-servers-hang nodeCount count before w i l j =
-    many-all (server nodeCount) (λ before s. before + cordCount s) w (ServerHangs nodeCount)
-    (λ before i s j e. cords-hang nodeCount _ w _ (s .cords) j (server-is nodeCount before w i s j e .load .are)) count before i l j
+servers-hang scale nodeCount count before w i l j =
+    many-all (server scale nodeCount) (λ before s. before + cordCount s) w (ServerHangs nodeCount)
+    (λ before i s j e. cords-hang scale nodeCount _ w _ (s .cords) j (server-is scale nodeCount before w i s j e .load .are)) count before i l j

@@ -10,7 +10,7 @@ use lib.ListN.{length, getD}
 use borrow.Author.Tests.{le-leb, lt-leb, lt-ltb, le-ltb}
 use Rattle.rooms.specs.Part.{Step, good, bad, Part, follow, word, ensure, end, many, within}
 use Rattle.figures.specs.Figures.{total}
-use Rattle.rooms.specs.Table.{cord, server, shareOf, cordCount, scale, mostCords}
+use Rattle.rooms.specs.Table.{percent, cord, server, shareOf, cordCount, mostCords}
 use Rattle.rooms.proofs.Inversion.{word-is, cord-is, server-few}
 use Rattle.rooms.specs.Told.{told, nothing, itself}
 use Rattle.rooms.specs.declared.Refusal.{Refusal}
@@ -111,6 +111,16 @@ unfolding follow told
 last f g (good a j) whole same d = d ∙ ap (λ (v : ℕ). Good v j) (same a)
 last f g (bad q) whole same d = d
 
+-- A percent that ends the whole: its word, or none.
+pub percent-last : {B : Type 0} (percents : Bool) (w : List ℕ) (i : ℕ) (whole : ℕ → B) {r : Checked} → percents ≡ true → r ≡ told nothing (percent true w i)
+    → r ≡ told nothing (follow (percent percents w i) (λ p j. good (whole p) j))
+percent-last percents w i whole e d = rw e (last nothing nothing (percent true w i) whole (λ _. refl) d)
+
+pub percent-none : {B : Type 0} (percents : Bool) (w : List ℕ) (i : ℕ) (whole : ℕ → B) → percents ≡ false
+    → Good 0 i ≡ told nothing (follow (percent percents w i) (λ p j. good (whole p) j))
+unfolding follow told percent
+percent-none percents w i whole e = rw e
+
 -- How far a check has come: what is left to read decides the whole. A function's later returns start from here.
 pub record Reached {B : Type 0} (g : B → ℕ) (goal : Checked) : Type 0 where
   pub left : Step B
@@ -206,14 +216,14 @@ word-most w i low high {j = j} d e =
     let x : getD w i 0 ≡ a .got = cc in
     omega (arith, b .most, a .figure)
 
-pub cord-most : (nodeCount : ℕ) (w : List ℕ) (i : ℕ) {r : Checked} {v j : ℕ} → r ≡ told shareOf (cord nodeCount w i) → r ≡ Good v j → v ≤ scale
-cord-most nodeCount w i {j = j} d e =
-    let a = known shareOf (cord nodeCount w i) d e in
-    omega (arith, a .figure, cord-is nodeCount w i (a .got) j (a .is) .share)
+pub cord-most : (scale nodeCount : ℕ) (w : List ℕ) (i : ℕ) {r : Checked} {v j : ℕ} → r ≡ told shareOf (cord scale nodeCount w i) → r ≡ Good v j → v ≤ scale
+cord-most scale nodeCount w i {j = j} d e =
+    let a = known shareOf (cord scale nodeCount w i) d e in
+    omega (arith, a .figure, cord-is scale nodeCount w i (a .got) j (a .is) .share)
 
-pub server-most : (nodeCount before : ℕ) (w : List ℕ) (i : ℕ) {r : Checked} {v j : ℕ} → before ≤ mostCords
-    → r ≡ told cordCount (server nodeCount before w i) → r ≡ Good v j
+pub server-most : (scale nodeCount before : ℕ) (w : List ℕ) (i : ℕ) {r : Checked} {v j : ℕ} → before ≤ mostCords
+    → r ≡ told cordCount (server scale nodeCount before w i) → r ≡ Good v j
     → before + v ≤ mostCords
-server-most nodeCount before w i {j = j} h d e =
-    let a = known cordCount (server nodeCount before w i) d e in
-    omega (arith, a .figure, server-few nodeCount before w i (a .got) j h (a .is))
+server-most scale nodeCount before w i {j = j} h d e =
+    let a = known cordCount (server scale nodeCount before w i) d e in
+    omega (arith, a .figure, server-few scale nodeCount before w i (a .got) j h (a .is))

@@ -7,7 +7,7 @@ use Rattle.numbers.specs.Number.{number, later}
 use Rattle.numbers.specs.Sheet.{sheetFrom}
 use Rattle.rooms.specs.Part.{follow, word, ensure, end, many}
 use Rattle.figures.specs.Figures.{total}
-use Rattle.rooms.specs.Table.{node, cord, range, load, server, table}
+use Rattle.rooms.specs.Table.{formOf, percent, node, cord, range, load, server, table}
 use Rattle.rooms.specs.Limits.{beneath, serverLows, lows, firstNode, overloaded, checked}
 use Rattle.rooms.specs.Outcome.{Outcome, answerOf, answerNumber, answerFigure, reading}
 
@@ -23,6 +23,6 @@ numbered outcome = (answerNumber (answerOf outcome), answerFigure (answerOf outc
 
 pub turned-back : (numbered (reading sheetH 20) ≡ (12, 21)) × (numbered (reading [] 0) ≡ (4, 0))
 unfolding reading number later sheetFrom
-    checked table node cord range load server follow word ensure end many total
+    checked table formOf percent node cord range load server follow word ensure end many total
     overloaded firstNode beneath serverLows lows
 turned-back = (refl, refl)

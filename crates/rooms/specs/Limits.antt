@@ -7,24 +7,20 @@ use lib.Dec.{eqb, ltb}
 use Rattle.rooms.specs.Part.{Step, good, bad, Part, _>>=_, give, ensure}
 use Rattle.figures.specs.Figures.{total}
 use Rattle.figures.specs.Sums.{on}
-use Rattle.rooms.specs.Table.{Node, Cord, Server, Room, scale, mostNodes, table}
+use Rattle.rooms.specs.Table.{Node, Cord, Server, Room, mostNodes, table}
 use Rattle.rooms.specs.declared.Refusal.the-variants.{LowsAboveLimit}
 
--- The percent of its rating that a node may carry.
-abbrev pub percent : ℕ
-percent = 80
-
--- A node's limit: floor(rating × 80 / 100).
+-- A node's limit: floor(rating × percent / 100).
 abbrev pub limit : Node → ℕ
-limit n = n .rating * percent / 100
+limit n = n .rating * n .percent / 100
 
--- The watts of a load that a share of it carries, rounded up: ceil(share × load / whole).
+-- The watts of a load that a share of it carries, rounded up: ceil(share × load / scale).
 abbrev pub carried : ℕ → ℕ → ℕ → ℕ
-carried whole share load = (share * load + (whole - 1)) / whole
+carried scale share load = (share * load + (scale - 1)) / scale
 
--- A cord's low, by its server's least: ceil(share × least / 1000).
-abbrev pub low : ℕ → Cord → ℕ
-low least c = carried scale (c .share) least
+-- A cord's low, by the room's scale and its server's least: ceil(share × least / scale).
+abbrev pub low : ℕ → ℕ → Cord → ℕ
+low scale least c = carried scale (c .share) least
 
 -- Whether the way from node number v along the parents, of at most so many steps, meets the node at place n.
 -- A place counts from 0 and a number from 1; number 0 is no node, and ends the way.
@@ -35,7 +31,7 @@ beneath parent (suc steps) n (suc m) = eqb m n || beneath parent steps n (parent
 
 -- The node at a place, and its parent's number.
 abbrev pub nodeAt : Room → ℕ → Node
-nodeAt r m = getD (r .nodes) m (record { parent = 0; rating = 0 })
+nodeAt r m = getD (r .nodes) m (record { parent = 0; rating = 0; percent = 0 })
 
 abbrev pub parentOf : Room → ℕ → ℕ
 parentOf r m = nodeAt r m .parent
@@ -46,15 +42,15 @@ abbrev pub hangsBeneath : Room → ℕ → ℕ → Bool
 hangsBeneath r n v = beneath (parentOf r) (length (r .nodes)) n v
 
 -- The lows of the cords of some servers that hang on nodes of which a test holds.
-unfoldable pub serverLows : (ℕ → Bool) → Server → ℕ
-serverLows test s = total (λ c. on (test (c .node)) (low (s .least) c)) (s .cords)
+unfoldable pub serverLows : ℕ → (ℕ → Bool) → Server → ℕ
+serverLows scale test s = total (λ c. on (test (c .node)) (low scale (s .least) c)) (s .cords)
 
-unfoldable pub lows : (ℕ → Bool) → List Server → ℕ
-lows test = total (serverLows test)
+unfoldable pub lows : ℕ → (ℕ → Bool) → List Server → ℕ
+lows scale test = total (serverLows scale test)
 
 -- The lows of all cords beneath the node at place n.
 abbrev pub lowsBeneath : Room → ℕ → ℕ
-lowsBeneath r n = lows (hangsBeneath r n) (r .servers)
+lowsBeneath r n = lows (r .scale) (hangsBeneath r n) (r .servers)
 
 -- The lows beneath each of so many places from n on, as a list. A place past the room's nodes has no cord beneath it, and so 0.
 unfoldable pub lowsFrom : ℕ → ℕ → Room → List ℕ

@@ -3,7 +3,7 @@ use mathlib.Core.List.{List}
 use Prim.Native.Nat.{ℕ, _-_}
 use lib.ListN.{length}
 use Rattle.figures.specs.Figures.{figuresFrom, figures, at}
-use Rattle.rooms.specs.Table.{Room, scale, roomCords}
+use Rattle.rooms.specs.Table.{Room, roomCords}
 use Rattle.rooms.specs.Limits.{limit, nodeAt, parentOf, carried}
 use Rattle.rooms.specs.Cords.{cordsFrom, cordAt, serverAt, rankOf}
 
@@ -32,10 +32,10 @@ sharesOf r = figures (roomCords r) (λ c. cordAt r c .share)
 abbrev pub serversOf : Room → List ℕ
 serversOf r = figures (roomCords r) (λ c. cordAt r c .server)
 
--- What each cord carries where each server has the load given: ceil(share × load / 1000).
+-- What each cord carries where each server has the load given: ceil(share × load / scale).
 unfoldable pub carriedBy : Room → List ℕ → List ℕ
 unfolding figuresFrom cordsFrom
-carriedBy r loads = figures (roomCords r) (λ c. carried scale (cordAt r c .share) (at loads (cordAt r c .server)))
+carriedBy r loads = figures (roomCords r) (λ c. carried (r .scale) (cordAt r c .share) (at loads (cordAt r c .server)))
 
 -- The low of each cord: what it carries of its server's least.
 unfoldable pub lowsOf : Room → List ℕ

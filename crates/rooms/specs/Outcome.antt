@@ -87,7 +87,7 @@ unfoldable pub reading : List ℕ → ℕ → Outcome
 reading bytes entries = readWords (sheetOf bytes .words) (sheetOf bytes .ending) entries
 
 -- Read by way of a list that takes only so many words, the first of the sheet's: these are read as the whole table, once all
--- bytes are judged. Where it takes 5,124 or more, this is Read (`FirstWordsDecide`, Promises.antt).
+-- bytes are judged. Where it takes one more than a table may have, this is Read (`FirstWordsDecide`, Promises.antt).
 unfoldable pub readingFirst : ℕ → List ℕ → ℕ → Outcome
 readingFirst taken bytes entries = readWords (take taken (sheetOf bytes .words)) (sheetOf bytes .ending) entries
 

@@ -3,12 +3,12 @@
 use mathlib.Core.Path.{_≡_}
 use mathlib.Core.List.{List}
 use mathlib.Core.Logic.{_↔_}
-use Prim.Native.Nat.{ℕ, _-_, _≤_, _<_}
+use Prim.Native.Nat.{ℕ, suc, _-_, _≤_, _<_}
 use lib.ListN.{length}
 use Rattle.words.specs.Lists.{AllBelow}
 use Rattle.numbers.specs.Sheet.{whole, sheetOf}
 use Rattle.rooms.specs.Part.{good, Good}
-use Rattle.rooms.specs.Table.{Room, table}
+use Rattle.rooms.specs.Table.{Room, mostWords, table}
 use Rattle.rooms.specs.Limits.{limit, nodeAt, lowsBeneath, checked}
 use Rattle.rooms.specs.Outcome.{accepted, answerOf, answerNumber, answerFigure, reading, readingFirst, writing}
 use Rattle.rooms.specs.declared.Answer.{Answer}
@@ -69,6 +69,6 @@ SheetWritesBack = (sheet table : List ℕ) (words bytes : ℕ)
 abbrev pub ReadIsChecked : Type 0
 ReadIsChecked = (sheet table : List ℕ) (words : ℕ) → reading sheet words ≡ accepted table → Good (checked table 0)
 
--- Read by way of a list of 5,124 words or more is Read: no later word of a sheet changes an answer.
+-- Read by way of a list of one word more than a table may have, or longer, is Read: no later word of a sheet changes an answer.
 abbrev pub FirstWordsDecide : Type 0
-FirstWordsDecide = (taken : ℕ) (sheet : List ℕ) (words : ℕ) → 5124 ≤ taken → readingFirst taken sheet words ≡ reading sheet words
+FirstWordsDecide = (taken : ℕ) (sheet : List ℕ) (words : ℕ) → suc mostWords ≤ taken → readingFirst taken sheet words ≡ reading sheet words

@@ -1,19 +1,21 @@
 // The room table and its rules: the check of a table, Read and Write.
 ghost use mathlib.Core.Path.{_≡_};
-ghost use Prim.Native.Nat.{ℕ, _≤_, min};
+ghost use Prim.Native.Nat.{ℕ, suc, _≤_, min};
 ghost use lib.ListN.{length, replicate};
 ghost use lib.Seq.{sets};
 ghost use Rattle.numbers.specs.Number.{faultNumber};
 ghost use Rattle.numbers.specs.Sheet.{sheetOf};
 ghost use Rattle.rooms.specs.Part.{good};
 ghost use Rattle.rooms.specs.Limits.{checked, nodeLows, lowsTold};
-ghost use Rattle.rooms.specs.Table.{Room, mostNodes, roomCords};
+ghost use Rattle.rooms.specs.Table.{Room, mostNodes, mostWords, roomCords};
 ghost use Rattle.rooms.specs.Told.{told};
 ghost use Rattle.rooms.specs.Outcome.{refusalNumber, refusalPlace, answerNumber, answerFigure, answerOf, after, unlessRefused, fitting, reading, readingFirst, writing};
 use numbers::Fault;
 use numbers::Judged;
 use numbers::Written;
 
+pub mod form;
+pub mod limits;
 mod lows;
 mod table;
 
@@ -41,7 +43,7 @@ pub enum Answer {
     Refused(Refusal),
 }
 
-// A table has at most 5,123 words, so that many and one more decide every check.
+// One word more than a table may have: so many decide every check.
 pub const DECIDING_WORDS: usize = 5124;
 
 // The number of a fault.
@@ -200,7 +202,7 @@ pub fn read_words(sheet: &[u8], words: &mut [u32], space: usize) -> Answer
 
 // Read by way of a list of its own, which takes the words until all is checked.
 fn read_by(sheet: &[u8], words: &mut [u32], table: &mut [u32]) -> Answer
-    requires { ⌜ 5124 ≤ length (now words) ⌝ }
+    requires { ⌜ suc mostWords ≤ length (now words) ⌝ }
     ensures { λ r. ⌜ r ≡ answerOf (reading (now (sheet .entry)) (length (now (table .entry)))) ⌝ }
     ensures { λ _. ⌜ now (table .exit) ≡ after (reading (now (sheet .entry)) (length (now (table .entry)))) (now (table .entry)) ⌝ }
 {

@@ -1,42 +1,20 @@
 // The lows beneath the nodes against the nodes' limits: refusal 9.
 ghost use mathlib.Core.Path.{_≡_};
 ghost use mathlib.Core.Bool.{cond};
-ghost use Prim.Native.Nat.{ℕ, suc, _+_, _-_, _*_, _/_, _^_, _<_, _≤_};
+ghost use Prim.Native.Nat.{ℕ, suc, _+_, _-_, _*_, _^_, _<_, _≤_};
 ghost use lib.ListN.{length, getD, replicate};
 ghost use lib.Dec.{ltb};
 ghost use Rattle.figures.specs.Sums.{sum};
 ghost use Rattle.rooms.specs.Part.{good, Good};
-ghost use Rattle.rooms.specs.Table.{Room, mostNodes, mostServers, mostServerCords, mostWatts, scale, table};
-ghost use Rattle.rooms.specs.Limits.{carried, percent, nodeLows, firstNode, overloaded};
-ghost use Rattle.rooms.specs.Credits.{parentAt, exceeds, credited, creditedRoom, LowsCredited, SumsGathered};
+ghost use Rattle.rooms.specs.Table.{Room, mostNodes, mostServers, mostServerCords, mostWatts, table};
+ghost use Rattle.rooms.specs.Limits.{nodeLows, firstNode, overloaded};
+ghost use Rattle.rooms.specs.Credits.{NodesRead, parentAt, limitAt, exceeds, credited, creditedRoom, LowsCredited, SumsGathered};
 ghost use Rattle.figures.specs.Figures.{at};
-
-fn wide(x: u32) -> u64
-    ensures { λ r. ⌜ r ≡ x ⌝ }
-{
-    x as u64
-}
-
-pub(crate) fn index(x: u32) -> usize
-    ensures { λ r. ⌜ r ≡ x ⌝ }
-{
-    x as usize
-}
-
-// A node's limit, by its rating.
-fn limit_of(rating: u32) -> u64
-    ensures { λ r. ⌜ r ≡ rating * percent / 100 ⌝ }
-{
-    wide(rating) * 80 / 100
-}
-
-// A cord's low, by its share and its server's least.
-pub(crate) fn low_of(share: u32, least: u32) -> u64
-    requires { ⌜ (share ≤ scale) × (least ≤ mostWatts) ⌝ }
-    ensures { λ r. ⌜ r ≡ carried scale share least ⌝ }
-{
-    (wide(share) * wide(least) + 999) / 1000
-}
+use crate::form::has_percents;
+use crate::form::limit_at;
+use crate::form::node_index;
+use figures::wide;
+use figures::word_index;
 
 // A figure added to the one that stands on a node; 0 is no node.
 pub(crate) fn credit(sums: &mut [u64], node: usize, figure: u64)
@@ -62,22 +40,20 @@ fn noted(limit: u64, sum: u64, place: usize, found: usize) -> usize
 
 // From the last node to the first, each node's sum is compared with its limit and credited to its parent.
 // The lowest node whose sum, with all beneath it, exceeds its limit; 0 if there is none.
-fn lowest_over(w: &[u32], node_count: usize, sums: &mut [u64]) -> usize
-    requires { ⌜ («node_count» ≤ mostNodes) × («node_count» ≤ length (now sums)) × (2 + 2 * «node_count» ≤ length (now w)) ⌝ }
-    requires { ⌜ ((m : ℕ) → m < «node_count» → parentAt (now w) m ≤ m) ⌝ }
+fn lowest_over(w: &[u32], percents: bool, node_count: usize, sums: &mut [u64]) -> usize
+    requires { ⌜ NodesRead percents (now w) «node_count» × («node_count» ≤ length (now sums)) ⌝ }
     requires { ⌜ sum «node_count» (at (now sums)) < 2 ^ 63 ⌝ }
-    ensures { λ r. ⌜ r ≡ firstNode «node_count» 0 (exceeds (now (w .entry)) «node_count» (now (sums .entry))) ⌝ }
-    ensures { λ _. ⌜ SumsGathered (now (w .entry)) «node_count» (now (sums .entry)) (now (sums .exit)) ⌝ }
+    ensures { λ r. ⌜ r ≡ firstNode «node_count» 0 (exceeds (parentAt percents (now (w .entry))) (limitAt percents (now (w .entry))) «node_count» (now (sums .entry))) ⌝ }
+    ensures { λ _. ⌜ SumsGathered (parentAt percents (now (w .entry))) «node_count» (now (sums .entry)) (now (sums .exit)) ⌝ }
 {
     let mut found = 0;
     let mut n = node_count;
     while 0 < n {
         n -= 1;
         let sum = sums[n];
-        let limit = limit_of(w[3 + 2 * n]);
-        found = noted(limit, sum, n, found);
-        let parent = index(w[2 + 2 * n]);
-        credit(sums, parent, sum);
+        let i = node_index(percents, n);
+        found = noted(wide(limit_at(w, i, percents)), sum, n, found);
+        credit(sums, word_index(w[i]), sum);
     }
     found
 }
@@ -90,6 +66,7 @@ pub(crate) fn overloaded(w: &[u32], sums: &mut [u64]) -> usize
     ensures { λ r. ⌜ ((q : Room) (j : ℕ) → table (now (w .entry)) 0 ≡ good q j → r ≡ overloaded q) ⌝ }
     ensures { λ _. ⌜ ((q : Room) (j : ℕ) → table (now (w .entry)) 0 ≡ good q j → now (sums .exit) ≡ nodeLows q) ⌝ }
 {
-    let n = index(w[1]);
-    lowest_over(w, n, sums)
+    let percents = has_percents(w[0]);
+    let n = word_index(w[1]);
+    lowest_over(w, percents, n, sums)
 }

@@ -1,22 +1,26 @@
 // The words of a table, checked one by one in their order: refusals 4 to 8. On the way each cord's low is credited to its
 // node, so that refusal 9 needs no second walk.
 ghost use mathlib.Core.Path.{_≡_};
+ghost use mathlib.Core.Bool.{true};
 ghost use Prim.Native.Nat.{ℕ, _+_, _*_, _^_, _<_, _≤_, min};
 ghost use lib.ListN.{length, getD};
 ghost use Rattle.figures.specs.Sums.{sum};
 ghost use Rattle.rooms.specs.Part.{word, within};
 ghost use Rattle.figures.specs.Figures.{total, at};
-ghost use Rattle.rooms.specs.Table.{mostNodes, mostServers, mostServerCords, mostCords, mostWatts, node, nodes, cord, cords, shareOf, shareSum, leastOf, range, load, server, servers, cordCount, table, roomCords};
+ghost use Rattle.rooms.specs.Table.{mostNodes, mostServers, mostServerCords, mostCords, mostWatts, IsScale, percent, node, nodes, cord, cords, shareOf, shareSum, leastOf, range, load, server, servers, cordCount, table, roomCords};
 ghost use Rattle.rooms.specs.Credits.{creditedCords, creditedServer, creditedServers, creditedRoom, LowsCredited};
 ghost use Rattle.rooms.specs.Told.{told, itself, nothing};
 use crate::Checked;
 use crate::Refusal;
+use crate::form::has_percents;
+use crate::form::scale_of;
+use crate::limits::carried_by;
 use crate::lows::credit;
-use crate::lows::index;
-use crate::lows::low_of;
+use figures::wide;
+use figures::word_index;
 
 // The figures of the table, as specs/Table.antt names them.
-const VERSION: u32 = 1;
+const NEWEST_VERSION: u32 = 1;
 
 const MOST_NODES: u32 = 512;
 
@@ -29,8 +33,6 @@ const MOST_SERVER_CORDS: u32 = 4;
 const HIGHEST_RANK: u32 = 16;
 
 const MOST_WATTS: u32 = 16_777_215;
-
-const SCALE: u32 = 1000;
 
 // The word at i, from low to high.
 fn check_word(w: &[u32], i: usize, low: u32, high: u32) -> Checked
@@ -49,10 +51,27 @@ fn check_word(w: &[u32], i: usize, low: u32, high: u32) -> Checked
     Checked::Good(v, i + 1)
 }
 
-// The node at i, with its own number.
-fn check_node(w: &[u32], i: usize, own: u32) -> Checked
+// The word at i, a node's percent: 80 or 100.
+fn check_percent(w: &[u32], i: usize) -> Checked
+    ensures { λ r. ⌜ r ≡ told nothing (percent true (now (w .entry)) i) ⌝ }
+{
+    let percent = check_word(w, i, 80, 100);
+    let Checked::Good(v, next) = percent else {
+        return percent;
+    };
+    if v == 80 {
+        return Checked::Good(0, next);
+    }
+    if v == 100 {
+        return Checked::Good(0, next);
+    }
+    Checked::Refused(Refusal::WordOutOfRange(i))
+}
+
+// The node at i, with its own number; whether it has a word for its percent.
+fn check_node(w: &[u32], i: usize, percents: bool, own: u32) -> Checked
     requires { ⌜ 0 < own ⌝ }
-    ensures { λ r. ⌜ r ≡ told nothing (node own (now (w .entry)) i) ⌝ }
+    ensures { λ r. ⌜ r ≡ told nothing (node percents own (now (w .entry)) i) ⌝ }
 {
     let parent = check_word(w, i, 0, own - 1);
     let Checked::Good(_, at_rating) = parent else {
@@ -62,19 +81,22 @@ fn check_node(w: &[u32], i: usize, own: u32) -> Checked
     let Checked::Good(_, next) = rating else {
         return rating;
     };
+    if percents {
+        return check_percent(w, next);
+    }
     Checked::Good(0, next)
 }
 
 // So many nodes from i on, numbered from 1.
-fn check_nodes(w: &[u32], i: usize, count: u32) -> Checked
+fn check_nodes(w: &[u32], i: usize, percents: bool, count: u32) -> Checked
     requires { ⌜ count ≤ mostNodes ⌝ }
-    ensures { λ r. ⌜ r ≡ told nothing (nodes count 1 (now (w .entry)) i) ⌝ }
+    ensures { λ r. ⌜ r ≡ told nothing (nodes percents count 1 (now (w .entry)) i) ⌝ }
 {
     let mut left = count;
     let mut own: u32 = 1;
     let mut j = i;
     while 0 < left {
-        let node = check_node(w, j, own);
+        let node = check_node(w, j, percents, own);
         let Checked::Good(_, next) = node else {
             return node;
         };
@@ -86,39 +108,41 @@ fn check_nodes(w: &[u32], i: usize, count: u32) -> Checked
 }
 
 // The cord at i, and its share.
-fn check_cord(w: &[u32], i: usize, node_count: u32) -> Checked
-    ensures { λ r. ⌜ r ≡ told shareOf (cord «node_count» (now (w .entry)) i) ⌝ }
+fn check_cord(w: &[u32], i: usize, scale: u32, node_count: u32) -> Checked
+    ensures { λ r. ⌜ r ≡ told shareOf (cord scale «node_count» (now (w .entry)) i) ⌝ }
 {
     let node = check_word(w, i, 1, node_count);
     let Checked::Good(_, at_share) = node else {
         return node;
     };
-    check_word(w, at_share, 0, SCALE)
+    check_word(w, at_share, 0, scale)
 }
 
 // So many cords from i on, and the sum of their shares. Each good cord's low is credited to its node in `sums`.
 fn check_cords(
     w: &[u32],
     i: usize,
+    scale: u32,
     node_count: u32,
     count: u32,
     least: u32,
     sums: &mut [u64],
 ) -> Checked
-    requires { ⌜ (count ≤ mostServerCords) × (least ≤ mostWatts) ⌝ }
+    requires { ⌜ IsScale scale × (count ≤ mostServerCords) × (least ≤ mostWatts) ⌝ }
     requires { ⌜ («node_count» ≤ length (now sums)) × (sum «node_count» (at (now sums)) + mostWatts * count < 2 ^ 63) ⌝ }
-    ensures { λ r. ⌜ r ≡ told shareSum (cords «node_count» count (now (w .entry)) i) ⌝ }
-    ensures { λ _. ⌜ LowsCredited (cords «node_count» count (now (w .entry)) i) (creditedCords least) «node_count» (mostWatts * count) (now (sums .entry)) (now (sums .exit)) ⌝ }
+    ensures { λ r. ⌜ r ≡ told shareSum (cords scale «node_count» count (now (w .entry)) i) ⌝ }
+    ensures { λ _. ⌜ LowsCredited (cords scale «node_count» count (now (w .entry)) i) (creditedCords scale least) «node_count» (mostWatts * count) (now (sums .entry)) (now (sums .exit)) ⌝ }
 {
     let mut left = count;
     let mut sum: u32 = 0;
     let mut j = i;
     while 0 < left {
-        let cord = check_cord(w, j, node_count);
+        let cord = check_cord(w, j, scale, node_count);
         let Checked::Good(share, next) = cord else {
             return cord;
         };
-        credit(sums, index(w[j]), low_of(share, least));
+        let low = carried_by(share, least, scale);
+        credit(sums, word_index(w[j]), wide(low));
         sum += share;
         j = next;
         left -= 1;
@@ -155,36 +179,44 @@ fn lesser(a: u32, b: u32) -> u32
 fn check_load(
     w: &[u32],
     i: usize,
+    scale: u32,
     node_count: u32,
     before: u32,
     start: usize,
     least: u32,
     sums: &mut [u64],
 ) -> Checked
-    requires { ⌜ (before ≤ mostCords) × (least ≤ mostWatts) ⌝ }
+    requires { ⌜ IsScale scale × (before ≤ mostCords) × (least ≤ mostWatts) ⌝ }
     requires { ⌜ («node_count» ≤ length (now sums)) × (sum «node_count» (at (now sums)) + mostServerCords * mostWatts < 2 ^ 63) ⌝ }
-    ensures { λ r. ⌜ r ≡ told length (load «node_count» before start (now (w .entry)) i) ⌝ }
-    ensures { λ _. ⌜ LowsCredited (load «node_count» before start (now (w .entry)) i) (creditedCords least) «node_count» (mostServerCords * mostWatts) (now (sums .entry)) (now (sums .exit)) ⌝ }
+    ensures { λ r. ⌜ r ≡ told length (load scale «node_count» before start (now (w .entry)) i) ⌝ }
+    ensures { λ _. ⌜ LowsCredited (load scale «node_count» before start (now (w .entry)) i) (creditedCords scale least) «node_count» (mostServerCords * mostWatts) (now (sums .entry)) (now (sums .exit)) ⌝ }
 {
     let first = check_word(w, i, 1, lesser(MOST_SERVER_CORDS, MOST_CORDS - before));
     let Checked::Good(count, at_cords) = first else {
         return first;
     };
-    let cords = check_cords(w, at_cords, node_count, count, least, sums);
+    let cords = check_cords(w, at_cords, scale, node_count, count, least, sums);
     let Checked::Good(shares, next) = cords else {
         return cords;
     };
-    if shares != SCALE {
+    if shares != scale {
         return Checked::Refused(Refusal::SharesNotWhole(start));
     }
     Checked::Good(count, next)
 }
 
 // The server at i, and the count of its cords; the room has `before` cords so far.
-fn check_server(w: &[u32], i: usize, node_count: u32, before: u32, sums: &mut [u64]) -> Checked
-    requires { ⌜ (before ≤ mostCords) × («node_count» ≤ length (now sums)) × (sum «node_count» (at (now sums)) + mostServerCords * mostWatts < 2 ^ 63) ⌝ }
-    ensures { λ r. ⌜ r ≡ told cordCount (server «node_count» before (now (w .entry)) i) ⌝ }
-    ensures { λ _. ⌜ LowsCredited (server «node_count» before (now (w .entry)) i) creditedServer «node_count» (mostServerCords * mostWatts) (now (sums .entry)) (now (sums .exit)) ⌝ }
+fn check_server(
+    w: &[u32],
+    i: usize,
+    scale: u32,
+    node_count: u32,
+    before: u32,
+    sums: &mut [u64],
+) -> Checked
+    requires { ⌜ IsScale scale × (before ≤ mostCords) × («node_count» ≤ length (now sums)) × (sum «node_count» (at (now sums)) + mostServerCords * mostWatts < 2 ^ 63) ⌝ }
+    ensures { λ r. ⌜ r ≡ told cordCount (server scale «node_count» before (now (w .entry)) i) ⌝ }
+    ensures { λ _. ⌜ LowsCredited (server scale «node_count» before (now (w .entry)) i) (creditedServer scale) «node_count» (mostServerCords * mostWatts) (now (sums .entry)) (now (sums .exit)) ⌝ }
 {
     let rank = check_word(w, i, 1, HIGHEST_RANK);
     let Checked::Good(_, at_range) = rank else {
@@ -194,20 +226,27 @@ fn check_server(w: &[u32], i: usize, node_count: u32, before: u32, sums: &mut [u
     let Checked::Good(least, at_load) = range else {
         return range;
     };
-    check_load(w, at_load, node_count, before, i, least, sums)
+    check_load(w, at_load, scale, node_count, before, i, least, sums)
 }
 
 // So many servers from i on, and the count of all their cords.
-fn check_servers(w: &[u32], i: usize, node_count: u32, count: u32, sums: &mut [u64]) -> Checked
-    requires { ⌜ («node_count» ≤ length (now sums)) × (sum «node_count» (at (now sums)) + mostServerCords * mostWatts * count < 2 ^ 63) ⌝ }
-    ensures { λ r. ⌜ r ≡ told (total cordCount) (servers «node_count» count 0 (now (w .entry)) i) ⌝ }
-    ensures { λ _. ⌜ LowsCredited (servers «node_count» count 0 (now (w .entry)) i) creditedServers «node_count» (mostServerCords * mostWatts * count) (now (sums .entry)) (now (sums .exit)) ⌝ }
+fn check_servers(
+    w: &[u32],
+    i: usize,
+    scale: u32,
+    node_count: u32,
+    count: u32,
+    sums: &mut [u64],
+) -> Checked
+    requires { ⌜ IsScale scale × («node_count» ≤ length (now sums)) × (sum «node_count» (at (now sums)) + mostServerCords * mostWatts * count < 2 ^ 63) ⌝ }
+    ensures { λ r. ⌜ r ≡ told (total cordCount) (servers scale «node_count» count 0 (now (w .entry)) i) ⌝ }
+    ensures { λ _. ⌜ LowsCredited (servers scale «node_count» count 0 (now (w .entry)) i) (creditedServers scale) «node_count» (mostServerCords * mostWatts * count) (now (sums .entry)) (now (sums .exit)) ⌝ }
 {
     let mut left = count;
     let mut before: u32 = 0;
     let mut j = i;
     while 0 < left {
-        let server = check_server(w, j, node_count, before, sums);
+        let server = check_server(w, j, scale, node_count, before, sums);
         let Checked::Good(cords, next) = server else {
             return server;
         };
@@ -224,23 +263,24 @@ pub(crate) fn check_table(w: &[u32], sums: &mut [u64]) -> Checked
     ensures { λ r. ⌜ r ≡ told roomCords (table (now (w .entry)) 0) ⌝ }
     ensures { λ _. ⌜ LowsCredited (table (now (w .entry)) 0) creditedRoom (getD (now (w .entry)) 1 0) (mostServerCords * mostWatts * mostServers) (now (sums .entry)) (now (sums .exit)) ⌝ }
 {
-    let version = check_word(w, 0, VERSION, VERSION);
-    let Checked::Good(_, at_nodes) = version else {
-        return version;
-    };
-    let first = check_word(w, at_nodes, 1, MOST_NODES);
-    let Checked::Good(node_count, first_node) = first else {
+    let first = check_word(w, 0, 1, NEWEST_VERSION);
+    let Checked::Good(version, at_nodes) = first else {
         return first;
     };
-    let nodes = check_nodes(w, first_node, node_count);
+    let second = check_word(w, at_nodes, 1, MOST_NODES);
+    let Checked::Good(node_count, first_node) = second else {
+        return second;
+    };
+    let nodes = check_nodes(w, first_node, has_percents(version), node_count);
     let Checked::Good(_, at_servers) = nodes else {
         return nodes;
     };
-    let second = check_word(w, at_servers, 0, MOST_SERVERS);
-    let Checked::Good(server_count, first_server) = second else {
-        return second;
+    let third = check_word(w, at_servers, 0, MOST_SERVERS);
+    let Checked::Good(server_count, first_server) = third else {
+        return third;
     };
-    let servers = check_servers(w, first_server, node_count, server_count, sums);
+    let scale = scale_of(version);
+    let servers = check_servers(w, first_server, scale, node_count, server_count, sums);
     let Checked::Good(cords, next) = servers else {
         return servers;
     };

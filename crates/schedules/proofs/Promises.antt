@@ -108,8 +108,8 @@ schedule-gives-room text table words e =
       writes = table-written entries p (a .some) (few-entries text);
       servers = refl;
       nodes = length-map entries _;
-      parent = λ n h k. rw (node-of entries (n - 1));
-      rated = λ n h k. rw (node-of entries (n - 1));
+      parent = λ n h k. node-of entries (n - 1) .0;
+      rated = λ n h k. node-of entries (n - 1) .1;
     })
 
 -- ---- How much of a text decides

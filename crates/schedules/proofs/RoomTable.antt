@@ -4,13 +4,13 @@ use mathlib.Core.Bool.{Bool, true, false, cond}
 use mathlib.Core.List.{List, [], _∷_, _++_, map}
 use Prim.Native.Nat.{ℕ, zero, suc, _+_, _-_, _*_, _≤_}
 use native.Mathlib.Omega.{arith}
-use lib.ListN.{length, getD, drop, List·getD-map}
+use lib.ListN.{length, getD, drop}
 use lib.Dec.{leb}
 use borrow.Author.Tests.{le-leb, lt-leb, le-ltb}
 use Rattle.numbers.specs.Sheet.{bytesOf}
 use Rattle.figures.specs.Figures.{total}
 use Rattle.rooms.specs.Part.{good, follow, word, within, many, end}
-use Rattle.rooms.specs.Table.{Node, Room, mostNodes, mostWatts, node, nodes, table}
+use Rattle.rooms.specs.Table.{Node, Room, mostNodes, mostWatts, formOf, percent, node, nodes, table}
 use Rattle.rooms.specs.Limits.{lows, nodeAt, checked}
 use Rattle.rooms.specs.Outcome.{writing}
 use Rattle.rooms.specs.Outcome as rooms
@@ -43,7 +43,7 @@ entries-pass (suc most) text place at = go (leb (length text) at) (judged place 
 
 -- The node of an entry.
 abbrev pub nodeOf : Entry → Node
-nodeOf e = record { parent = e .parent; rating = rating e }
+nodeOf e = record { parent = e .parent; rating = rating e; percent = 80 }
 
 word-read : (low high : ℕ) {w : List ℕ} {i v : ℕ} {rest : List ℕ} → Stands w i v rest → low ≤ v → v ≤ high
     → word (within low high) w i ≡ good v (suc i)
@@ -53,8 +53,8 @@ word-read low high {w} {i} {v} s l h = rw (lt-leb (length w) i (s .there), s .is
 -- The node of an entry that passes at a place; its own number is one more.
 node-read : (place : ℕ) (e : Entry) (w : List ℕ) (i : ℕ) (rest : List ℕ) → isSize (e .amperes) ≡ true → inRange place e ≡ true
     → drop i w ≡ e .parent ∷ rating e ∷ rest
-    → (node (suc place) w i ≡ good (nodeOf e) (suc (suc i))) × (drop (suc (suc i)) w ≡ rest)
-unfolding node follow
+    → (node false (suc place) w i ≡ good (nodeOf e) (suc (suc i))) × (drop (suc (suc i)) w ≡ rest)
+unfolding node percent follow
 node-read place e w i rest s t d =
     let own : suc place - 1 ≡ place = omega arith in
     let first = stands w i (e .parent) (rating e ∷ rest) d in
@@ -65,7 +65,7 @@ node-read place e w i rest s t d =
 
 -- The nodes of entries that pass.
 nodes-read : {place : ℕ} {entries : List Entry} → Pass place entries → (w : List ℕ) (i : ℕ) (rest : List ℕ) → drop i w ≡ nodeWords entries ++ rest
-    → (nodes (length entries) (suc place) w i ≡ good (map nodeOf entries) (i + 2 * length entries)) × (drop (i + 2 * length entries) w ≡ rest)
+    → (nodes false (length entries) (suc place) w i ≡ good (map nodeOf entries) (i + 2 * length entries)) × (drop (i + 2 * length entries) w ≡ rest)
 unfolding nodeWords many follow
 nodes-read none w i rest d =
     let z : i + 2 * 0 ≡ i = omega arith in
@@ -79,11 +79,11 @@ nodes-read (more {place} {e} {rest = entries} s t p) w i rest d =
 -- ---- The table
 
 abbrev pub roomOf : List Entry → Room
-roomOf entries = record { nodes = map nodeOf entries; servers = [] }
+roomOf entries = record { scale = 1000; nodes = map nodeOf entries; servers = [] }
 
 module _ (entries : List Entry) (p : Pass 0 entries) (some : 1 ≤ length entries) (few : length entries ≤ mostNodes) where
   table-read : table (tableOf entries) 0 ≡ good (roomOf entries) (length (tableOf entries))
-  unfolding table follow many end
+  unfolding table formOf follow many end
   table-read =
       let w = tableOf entries in
       let first = stands w 0 1 (length entries ∷ (nodeWords entries ++ (0 ∷ []))) refl in
@@ -108,6 +108,10 @@ module _ (entries : List Entry) (p : Pass 0 entries) (some : 1 ≤ length entrie
   pub table-written : (bytes : ℕ) → length (bytesOf (tableOf entries)) ≤ bytes → writing (tableOf entries) bytes ≡ rooms.accepted (bytesOf (tableOf entries))
   table-written bytes h = writing-good (tableOf entries) bytes table-checked ∙ fitting-whole (bytesOf (tableOf entries)) bytes h
 
--- The node at a place is that of the entry there.
-pub node-of : (entries : List Entry) (place : ℕ) → nodeAt (roomOf entries) place ≡ nodeOf (getD entries place (record { parent = 0; amperes = 0; volts = 0 }))
-node-of entries place = List·getD-map nodeOf entries place (record { parent = 0; amperes = 0; volts = 0 })
+-- The parent and the rating of the node at a place are those of the entry there.
+pub node-of : (entries : List Entry) (place : ℕ)
+    → (nodeAt (roomOf entries) place .parent ≡ getD entries place (record { parent = 0; amperes = 0; volts = 0 }) .parent)
+    × (nodeAt (roomOf entries) place .rating ≡ rating (getD entries place (record { parent = 0; amperes = 0; volts = 0 })))
+node-of [] place = (refl, refl)
+node-of (e ∷ rest) zero = (refl, refl)
+node-of (e ∷ rest) (suc place) = node-of rest place

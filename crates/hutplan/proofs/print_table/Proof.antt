@@ -1,6 +1,7 @@
 -- `print_table` meets its contract: what is printed of each answer of Plan is what the definition gives.
 use mathlib.Core.Path.{refl, sym, _∙_}
-use Rattle.hutplan.proofs.Prints.{put-as, table-refused, table-accepted}
+use Rattle.hutplan.proofs.Prints.{table-refused, table-accepted}
+use Rattle.print.proofs.Putting.{put-as}
 use borrow.Author.Needs.{needs}
 use Rattle.hutplan.proofs.print_table.Statement.{statement}
 use Rattle.hutplan.proofs.print_table.Tie as tie
@@ -12,7 +13,14 @@ enum-known-planned : tie.Need-enum-known-planned
 enum-known-planned c = search needs
 
 plan-requires-2 : tie.Need-plan-requires-2
-plan-requires-2 c κs = search needs
+plan-requires-2 c κs =
+    let known = c .before .before .before .before in
+    let planned = known .before .before .before .before .before .before in
+    let start = planned .before .before .before .before .before .before .before .before in
+    let args = start .args in
+    let said = planned .plan .ensures in
+    table-accepted (args .table .now) (args .demands .now) _ _ (args .grants .now) (args .caps .now) _ _ refl refl
+    (start .pre .0) (start .pre .1) (sym (known .planned .given .1) ∙ said .0) (said .1 .0) (said .1 .1) .good-table
 
 enum-known-planned-2 : tie.Need-enum-known-planned-2
 enum-known-planned-2 c = search needs
@@ -46,7 +54,7 @@ returns c =
     let is =
     table-accepted (args .table .now) (args .demands .now) _ _ (args .grants .now) (args .caps .now) _ _ refl refl
     (start .pre .0) (start .pre .1) (sym (known .planned .given .1) ∙ said .0) (said .1 .0) (said .1 .1) in
-    (put-as is (put .plan2 .ensures .0), put .plan2 .ensures .1)
+    (put-as (is .text) (put .plan2 .ensures .0 (is .good-table .value) (is .good-table .next) (is .good-table .is)), put .plan2 .ensures .1)
 
 same-length-4 : tie.Need-same-length-4
 same-length-4 c = search needs

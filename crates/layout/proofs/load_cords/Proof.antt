@@ -5,41 +5,32 @@ use native.Mathlib.Omega.{arith}
 use lib.ListN.{length}
 use borrow.Author.Needs.{needs}
 use Rattle.figures.specs.Figures.{at}
-use Rattle.layout.proofs.Walk.{begun}
+use Rattle.room_lists.proofs.Walk.{begun}
 use Rattle.layout.proofs.Loading.{Loading, LoadingServer, loading-start, loading-server, loading-end, server-begin, cord-fits, server-cord, server-end}
 use Rattle.layout.proofs.load_cords.Statement.{statement}
 use Rattle.layout.proofs.load_cords.Tie as tie
 
 abbrev Inv-loop2 : tie.InvT-loop2
-Inv-loop2 table demands nodes₀ levels₀ lows₀ wants₀ shares₀ servers₀ needs start first v level least need count word₀ c₀ v-end c-end nodes levels lows wants shares servers word c =
-    (level ≡ at table start - 1) × LoadingServer table demands v start first count c word nodes levels lows wants shares servers needs
+Inv-loop2 table demands nodes₀ levels₀ lows₀ wants₀ shares₀ servers₀ needs scale start first v level least need count word₀ c₀ v-end c-end nodes levels lows wants shares servers word c =
+    (level ≡ at table start - 1) × LoadingServer table demands scale v start first count c word nodes levels lows wants shares servers needs
 
 abbrev μ-loop2 : tie.MeasureT-loop2
-μ-loop2 table demands nodes₀ levels₀ lows₀ wants₀ shares₀ servers₀ needs start first v level least need count word₀ c₀ v-end c-end nodes levels lows wants shares servers word c =
+μ-loop2 table demands nodes₀ levels₀ lows₀ wants₀ shares₀ servers₀ needs scale start first v level least need count word₀ c₀ v-end c-end nodes levels lows wants shares servers word c =
     c-end - c
 
 abbrev Inv-loop : tie.InvT-loop
-Inv-loop table demands nodes₀ levels₀ lows₀ wants₀ shares₀ servers₀ needs₀ start₀ first₀ v₀ v-end nodes levels lows wants shares servers needs start first v =
-    (v ≤ length demands) × Loading table demands v start first first nodes levels lows wants shares servers needs
+Inv-loop table demands nodes₀ levels₀ lows₀ wants₀ shares₀ servers₀ needs₀ scale start₀ first₀ v₀ v-end nodes levels lows wants shares servers needs start first v =
+    (v ≤ length demands) × Loading table demands scale v start first first nodes levels lows wants shares servers needs
 
 abbrev μ-loop : tie.MeasureT-loop
-μ-loop table demands nodes₀ levels₀ lows₀ wants₀ shares₀ servers₀ needs₀ start₀ first₀ v₀ v-end nodes levels lows wants shares servers needs start first v =
+μ-loop table demands nodes₀ levels₀ lows₀ wants₀ shares₀ servers₀ needs₀ scale start₀ first₀ v₀ v-end nodes levels lows wants shares servers needs start first v =
     v-end - v
 
-shared-slice-read-word-index : tie.Need-shared-slice-read-word-index Inv-loop2 μ-loop2 Inv-loop μ-loop
-shared-slice-read-word-index c = omega (arith, begun (c .before .before .before .before .before .before .before .before .before .before .pre .good-table .is) .there)
-
-word-index-requires : tie.Need-word-index-requires Inv-loop2 μ-loop2 Inv-loop μ-loop
-word-index-requires c κs = search needs
-
-mul-start : tie.Need-mul-start Inv-loop2 μ-loop2 Inv-loop μ-loop
-mul-start c = search needs
-
-add-start : tie.Need-add-start Inv-loop2 μ-loop2 Inv-loop μ-loop
-add-start c = search needs
+first-server-requires : tie.Need-first-server-requires Inv-loop2 μ-loop2 Inv-loop μ-loop
+first-server-requires c κs = search needs
 
 loop-holds : tie.Need-loop-holds Inv-loop2 μ-loop2 Inv-loop μ-loop
-loop-holds c = (search needs, loading-start (c .before .before .before .before .before .before .before .before .before .before .before .pre) _ (c .word-index .ensures .0))
+loop-holds c = (search needs, loading-start (c .before .before .before .before .before .before .before .before .before .before .pre) (c .first-server .ensures .0))
 
 mul-short : tie.Need-mul-short Inv-loop2 μ-loop2 Inv-loop μ-loop
 mul-short c = let here = loading-server (c .before .loop .inv .1) (search needs) in omega arith
@@ -86,20 +77,20 @@ add-word-index c = let here = loading-server (c .before .before .before .before 
 mul-word-index : tie.Need-mul-word-index Inv-loop2 μ-loop2 Inv-loop μ-loop
 mul-word-index c = let here = loading-server (c .before .before .before .before .before .before .before .loop .inv .1) (search needs) in omega arith
 
-shared-slice-read-word-index-2 : tie.Need-shared-slice-read-word-index-2 Inv-loop2 μ-loop2 Inv-loop μ-loop
-shared-slice-read-word-index-2 c = let here = loading-server (c .before .before .before .before .before .before .before .before .loop .inv .1) (search needs) in omega arith
+shared-slice-read-word-index : tie.Need-shared-slice-read-word-index Inv-loop2 μ-loop2 Inv-loop μ-loop
+shared-slice-read-word-index c = let here = loading-server (c .before .before .before .before .before .before .before .before .loop .inv .1) (search needs) in omega arith
 
-word-index-requires-2 : tie.Need-word-index-requires-2 Inv-loop2 μ-loop2 Inv-loop μ-loop
-word-index-requires-2 c κs = search needs
+word-index-requires : tie.Need-word-index-requires Inv-loop2 μ-loop2 Inv-loop μ-loop
+word-index-requires c κs = search needs
 
 add-word : tie.Need-add-word Inv-loop2 μ-loop2 Inv-loop μ-loop
 add-word c = let here = loading-server (c .before .before .before .before .before .before .before .before .before .loop .inv .1) (search needs) in omega arith
 
 add-c-end : tie.Need-add-c-end Inv-loop2 μ-loop2 Inv-loop μ-loop
-add-c-end c = let loading = c .before .before .before .before .before .before .before .before .before .loop .inv .1 in omega (arith, loading-server loading (search needs) .cords-within, begun (loading .read) .cords-most, c .word-index2 .ensures .0)
+add-c-end c = let loading = c .before .before .before .before .before .before .before .before .before .loop .inv .1 in omega (arith, loading-server loading (search needs) .cords-within, begun (loading .read) .cords-most, c .word-index .ensures .0)
 
 loop2-holds : tie.Need-loop2-holds Inv-loop2 μ-loop2 Inv-loop μ-loop
-loop2-holds c = (c .before .before .before .before .before .before .short .ensures, server-begin (c .before .before .before .before .before .before .before .before .before .loop .inv .1) (search needs) (c .word-index2 .ensures .0))
+loop2-holds c = (c .before .before .before .before .before .before .short .ensures, server-begin (c .before .before .before .before .before .before .before .before .before .loop .inv .1) (search needs) (c .word-index .ensures .0))
 
 add-share : tie.Need-add-share Inv-loop2 μ-loop2 Inv-loop μ-loop
 add-share c = let fits = cord-fits (c .before .loop2 .inv .1) (search needs) in omega arith
@@ -132,7 +123,7 @@ slice-write-levels : tie.Need-slice-write-levels Inv-loop2 μ-loop2 Inv-loop μ-
 slice-write-levels c = let fits = cord-fits (c .before .before .before .before .loop2 .inv .1) (search needs) in omega arith
 
 carried-by-requires : tie.Need-carried-by-requires Inv-loop2 μ-loop2 Inv-loop μ-loop
-carried-by-requires c κs = let fits = cord-fits (c .before .before .before .before .loop2 .inv .1) (search needs) in (fits .share-most, fits .least-most)
+carried-by-requires c κs = let fits = cord-fits (c .before .before .before .before .loop2 .inv .1) (search needs) in (fits .scaled, fits .share-most, fits .least-most)
 
 mul-lows : tie.Need-mul-lows Inv-loop2 μ-loop2 Inv-loop μ-loop
 mul-lows c = let fits = cord-fits (c .before .before .before .before .before .loop2 .inv .1) (search needs) in omega arith
@@ -141,7 +132,7 @@ slice-write-lows : tie.Need-slice-write-lows Inv-loop2 μ-loop2 Inv-loop μ-loop
 slice-write-lows c = let fits = cord-fits (c .before .before .before .before .before .loop2 .inv .1) (search needs) in omega arith
 
 carried-by-requires-2 : tie.Need-carried-by-requires-2 Inv-loop2 μ-loop2 Inv-loop μ-loop
-carried-by-requires-2 c κs = let fits = cord-fits (c .before .before .before .before .before .loop2 .inv .1) (search needs) in (fits .share-most, omega (arith, c .before .before .before .before .before .before .before .before .need-of .ensures, fits .greatest-most))
+carried-by-requires-2 c κs = let fits = cord-fits (c .before .before .before .before .before .loop2 .inv .1) (search needs) in (fits .scaled, fits .share-most, omega (arith, c .before .before .before .before .before .before .before .before .need-of .ensures, fits .greatest-most))
 
 mul-wants : tie.Need-mul-wants Inv-loop2 μ-loop2 Inv-loop μ-loop
 mul-wants c = let fits = cord-fits (c .before .before .before .before .before .before .loop2 .inv .1) (search needs) in omega arith
@@ -185,7 +176,7 @@ slice-write-needs : tie.Need-slice-write-needs Inv-loop2 μ-loop2 Inv-loop μ-lo
 slice-write-needs c = let loading = c .before .loop2 .inv .1 .loading in omega (arith, loading .needs-done .size-is, loading .served)
 
 add-first : tie.Need-add-first Inv-loop2 μ-loop2 Inv-loop μ-loop
-add-first c = let loading = c .before .before .before .before .before .before .before .before .before .before .before .loop .inv .1 in omega (arith, loading-server loading (search needs) .cords-within, begun (loading .read) .cords-most, c .before .before .word-index2 .ensures .0)
+add-first c = let loading = c .before .before .before .before .before .before .before .before .before .before .before .loop .inv .1 in omega (arith, loading-server loading (search needs) .cords-within, begun (loading .read) .cords-most, c .before .before .word-index .ensures .0)
 
 add-v : tie.Need-add-v Inv-loop2 μ-loop2 Inv-loop μ-loop
 add-v c = search needs
@@ -197,25 +188,25 @@ loop-again : tie.Need-loop-again Inv-loop2 μ-loop2 Inv-loop μ-loop
 loop-again c = (search needs, server-end (c .before .loop2 .inv .1) (search needs) (c .before .before .before .before .need-of .ensures))
 
 same-length : tie.Need-same-length Inv-loop2 μ-loop2 Inv-loop μ-loop
-same-length c = let loading = c .before .loop .inv .1 in loading .nodes-done .size-is ∙ sym (c .before .before .before .before .before .before .before .before .before .before .before .before .before .pre .nodes-fit (loading .room) (loading .end) (loading .read))
+same-length c = let loading = c .before .loop .inv .1 in loading .nodes-done .size-is ∙ sym (c .before .before .before .before .before .before .before .before .before .before .before .before .pre .nodes-fit (loading .room) (loading .end) (loading .read))
 
 same-length-2 : tie.Need-same-length-2 Inv-loop2 μ-loop2 Inv-loop μ-loop
-same-length-2 c = let loading = c .before .loop .inv .1 in loading .levels-done .size-is ∙ sym (c .before .before .before .before .before .before .before .before .before .before .before .before .before .pre .levels-fit (loading .room) (loading .end) (loading .read))
+same-length-2 c = let loading = c .before .loop .inv .1 in loading .levels-done .size-is ∙ sym (c .before .before .before .before .before .before .before .before .before .before .before .before .pre .levels-fit (loading .room) (loading .end) (loading .read))
 
 same-length-3 : tie.Need-same-length-3 Inv-loop2 μ-loop2 Inv-loop μ-loop
-same-length-3 c = let loading = c .before .loop .inv .1 in loading .lows-done .size-is ∙ sym (c .before .before .before .before .before .before .before .before .before .before .before .before .before .pre .lows-fit (loading .room) (loading .end) (loading .read))
+same-length-3 c = let loading = c .before .loop .inv .1 in loading .lows-done .size-is ∙ sym (c .before .before .before .before .before .before .before .before .before .before .before .before .pre .lows-fit (loading .room) (loading .end) (loading .read))
 
 same-length-4 : tie.Need-same-length-4 Inv-loop2 μ-loop2 Inv-loop μ-loop
-same-length-4 c = let loading = c .before .loop .inv .1 in loading .wants-done .size-is ∙ sym (c .before .before .before .before .before .before .before .before .before .before .before .before .before .pre .wants-fit (loading .room) (loading .end) (loading .read))
+same-length-4 c = let loading = c .before .loop .inv .1 in loading .wants-done .size-is ∙ sym (c .before .before .before .before .before .before .before .before .before .before .before .before .pre .wants-fit (loading .room) (loading .end) (loading .read))
 
 same-length-5 : tie.Need-same-length-5 Inv-loop2 μ-loop2 Inv-loop μ-loop
-same-length-5 c = let loading = c .before .loop .inv .1 in loading .shares-done .size-is ∙ sym (c .before .before .before .before .before .before .before .before .before .before .before .before .before .pre .shares-fit (loading .room) (loading .end) (loading .read))
+same-length-5 c = let loading = c .before .loop .inv .1 in loading .shares-done .size-is ∙ sym (c .before .before .before .before .before .before .before .before .before .before .before .before .pre .shares-fit (loading .room) (loading .end) (loading .read))
 
 same-length-6 : tie.Need-same-length-6 Inv-loop2 μ-loop2 Inv-loop μ-loop
-same-length-6 c = let loading = c .before .loop .inv .1 in loading .servers-done .size-is ∙ sym (c .before .before .before .before .before .before .before .before .before .before .before .before .before .pre .servers-fit (loading .room) (loading .end) (loading .read))
+same-length-6 c = let loading = c .before .loop .inv .1 in loading .servers-done .size-is ∙ sym (c .before .before .before .before .before .before .before .before .before .before .before .before .pre .servers-fit (loading .room) (loading .end) (loading .read))
 
 same-length-7 : tie.Need-same-length-7 Inv-loop2 μ-loop2 Inv-loop μ-loop
-same-length-7 c = let loading = c .before .loop .inv .1 in loading .needs-done .size-is ∙ sym (c .before .before .before .before .before .before .before .before .before .before .before .before .before .pre .needs-fit (loading .room) (loading .end) (loading .read))
+same-length-7 c = let loading = c .before .loop .inv .1 in loading .needs-done .size-is ∙ sym (c .before .before .before .before .before .before .before .before .before .before .before .before .pre .needs-fit (loading .room) (loading .end) (loading .read))
 
 returns : tie.Need-returns Inv-loop2 μ-loop2 Inv-loop μ-loop
 returns c = loading-end (c .before .loop .inv .1) (search needs) (omega arith)
@@ -228,10 +219,7 @@ load-cords-spec =
     μ-loop2
     Inv-loop
     μ-loop
-    shared-slice-read-word-index
-    word-index-requires
-    mul-start
-    add-start
+    first-server-requires
     loop-holds
     mul-short
     shared-slice-read-short
@@ -248,8 +236,8 @@ load-cords-spec =
     need-of-requires
     add-word-index
     mul-word-index
-    shared-slice-read-word-index-2
-    word-index-requires-2
+    shared-slice-read-word-index
+    word-index-requires
     add-word
     add-c-end
     loop2-holds

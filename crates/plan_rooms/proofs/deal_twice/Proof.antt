@@ -11,11 +11,11 @@ use Rattle.plan_rooms.proofs.deal_twice.Statement.{statement}
 use Rattle.plan_rooms.proofs.deal_twice.Tie as tie
 
 abbrev Inv-loop : tie.InvT-loop
-Inv-loop parents limits nodes levels lows wants₀ first next actives counts spare requests₀ shares servers needed grants₀ usable₀ made₀ made-end wants requests grants usable freed made =
-    DealsMade parents limits nodes levels lows wants₀ shares servers needed (length grants₀) made freed wants grants usable × BlankRows (length parents) actives counts requests
+Inv-loop parents limits nodes levels lows wants₀ first next actives counts spare requests₀ shares servers needed grants₀ usable₀ scale made₀ made-end wants requests grants usable freed made =
+    DealsMade scale parents limits nodes levels lows wants₀ shares servers needed (length grants₀) made freed wants grants usable × BlankRows (length parents) actives counts requests
 
 abbrev μ-loop : tie.MeasureT-loop
-μ-loop parents limits nodes levels lows wants₀ first next actives counts spare requests₀ shares servers needed grants₀ usable₀ made₀ made-end wants requests grants usable freed made =
+μ-loop parents limits nodes levels lows wants₀ first next actives counts spare requests₀ shares servers needed grants₀ usable₀ scale made₀ made-end wants requests grants usable freed made =
     2 - made
 
 loop-holds : tie.Need-loop-holds Inv-loop μ-loop

@@ -1,31 +1,31 @@
 -- `plan_room` meets its contract: it lends lists of zeros as long as the room's nodes, cords and servers are many, and as much of the
 -- list of the lows.
-use Rattle.plan_rooms.proofs.Planning.{table-begun, nodes-most, cords-most, servers-most, nodes-front, cords-front, servers-front, nodes-lent, cords-lent, servers-lent, lows-front, lows-lent, lows-still}
+use Rattle.plan_rooms.proofs.Planning.{nodes-most, cords-most, servers-most, nodes-front, cords-front, servers-front, nodes-lent, cords-lent, servers-lent, lows-front, lows-lent, lows-still}
 use Rattle.deal_by_rank.proofs.RankLoop.{zeros-rows, zeros-cells}
 use borrow.Author.Needs.{needs}
 use Rattle.plan_rooms.proofs.plan_room.Statement.{statement}
 use Rattle.plan_rooms.proofs.plan_room.Tie as tie
 
-shared-slice-read-word-index : tie.Need-shared-slice-read-word-index
-shared-slice-read-word-index c = table-begun _ (c .before .before .before .before .before .before .pre .0)
+node-count-requires : tie.Need-node-count-requires
+node-count-requires c κs = search needs
 
-word-index-requires : tie.Need-word-index-requires
-word-index-requires c κs = search needs
+table-scale-requires : tie.Need-table-scale-requires
+table-scale-requires c κs = search needs
 
 slice-aggregate-plan-lists : tie.Need-slice-aggregate-plan-lists
-slice-aggregate-plan-lists c = lows-front _ (c .before .before .before .before .before .before .before .before .pre .0) _ (c .before .word-index .ensures .0) (c .before .before .before .before .before .before .before .before .args .beneath .now) (c .before .before .before .before .before .before .before .before .pre .1 .3)
+slice-aggregate-plan-lists c = lows-front _ (c .before .before .before .before .before .before .before .before .pre .0) _ (c .before .before .node-count .ensures .0) (c .before .before .before .before .before .before .before .before .args .beneath .now) (c .before .before .before .before .before .before .before .before .pre .1 .3)
 
 array-borrow-prefix-parents : tie.Need-array-borrow-prefix-parents
-array-borrow-prefix-parents c = nodes-most _ (c .before .before .before .before .before .before .before .before .pre .0) _ (c .before .word-index .ensures .0)
+array-borrow-prefix-parents c = nodes-most _ (c .before .before .before .before .before .before .before .before .pre .0) _ (c .before .before .node-count .ensures .0)
 
 slice-aggregate-plan-lists-2 : tie.Need-slice-aggregate-plan-lists-2
-slice-aggregate-plan-lists-2 c = nodes-front _ (c .before .before .before .before .before .before .before .before .before .pre .0) _ (c .before .before .word-index .ensures .0)
+slice-aggregate-plan-lists-2 c = nodes-front _ (c .before .before .before .before .before .before .before .before .before .pre .0) _ (c .before .before .before .node-count .ensures .0)
 
 array-borrow-prefix-limits : tie.Need-array-borrow-prefix-limits
-array-borrow-prefix-limits c = nodes-most _ (c .before .before .before .before .before .before .before .before .before .pre .0) _ (c .before .before .word-index .ensures .0)
+array-borrow-prefix-limits c = nodes-most _ (c .before .before .before .before .before .before .before .before .before .pre .0) _ (c .before .before .before .node-count .ensures .0)
 
 slice-aggregate-plan-lists-3 : tie.Need-slice-aggregate-plan-lists-3
-slice-aggregate-plan-lists-3 c = nodes-front _ (c .before .before .before .before .before .before .before .before .before .before .pre .0) _ (c .before .before .before .word-index .ensures .0)
+slice-aggregate-plan-lists-3 c = nodes-front _ (c .before .before .before .before .before .before .before .before .before .before .pre .0) _ (c .before .before .before .before .node-count .ensures .0)
 
 array-borrow-prefix-nodes : tie.Need-array-borrow-prefix-nodes
 array-borrow-prefix-nodes c = cords-most _ (c .before .before .before .before .before .before .before .before .before .before .pre .0) _ (c .before .before .before .before .before .before .before .before .before .before .pre .1 .1)
@@ -79,19 +79,19 @@ slice-aggregate-plan-lists-12 : tie.Need-slice-aggregate-plan-lists-12
 slice-aggregate-plan-lists-12 c = cords-front _ (c .before .before .before .before .before .before .before .before .before .before .before .before .before .before .before .before .before .before .before .pre .0) _ (c .before .before .before .before .before .before .before .before .before .before .before .before .before .before .before .before .before .before .before .pre .1 .1)
 
 array-borrow-prefix-marks : tie.Need-array-borrow-prefix-marks
-array-borrow-prefix-marks c = nodes-most _ (c .before .before .before .before .before .before .before .before .before .before .before .before .before .before .before .before .before .before .before .pre .0) _ (c .before .before .before .before .before .before .before .before .before .before .before .before .word-index .ensures .0)
+array-borrow-prefix-marks c = nodes-most _ (c .before .before .before .before .before .before .before .before .before .before .before .before .before .before .before .before .before .before .before .pre .0) _ (c .before .before .before .before .before .before .before .before .before .before .before .before .before .node-count .ensures .0)
 
 slice-aggregate-plan-lists-13 : tie.Need-slice-aggregate-plan-lists-13
-slice-aggregate-plan-lists-13 c = nodes-front _ (c .before .before .before .before .before .before .before .before .before .before .before .before .before .before .before .before .before .before .before .before .pre .0) _ (c .before .before .before .before .before .before .before .before .before .before .before .before .before .word-index .ensures .0)
+slice-aggregate-plan-lists-13 c = nodes-front _ (c .before .before .before .before .before .before .before .before .before .before .before .before .before .before .before .before .before .before .before .before .pre .0) _ (c .before .before .before .before .before .before .before .before .before .before .before .before .before .before .node-count .ensures .0)
 
 slice-aggregate-plan-lists-14 : tie.Need-slice-aggregate-plan-lists-14
 slice-aggregate-plan-lists-14 c = search needs
 
 array-borrow-prefix-spare : tie.Need-array-borrow-prefix-spare
-array-borrow-prefix-spare c = nodes-most _ (c .before .before .before .before .before .before .before .before .before .before .before .before .before .before .before .before .before .before .before .before .before .before .pre .0) _ (c .before .before .before .before .before .before .before .before .before .before .before .before .before .before .before .word-index .ensures .0)
+array-borrow-prefix-spare c = nodes-most _ (c .before .before .before .before .before .before .before .before .before .before .before .before .before .before .before .before .before .before .before .before .before .before .pre .0) _ (c .before .before .before .before .before .before .before .before .before .before .before .before .before .before .before .before .node-count .ensures .0)
 
 slice-aggregate-plan-lists-15 : tie.Need-slice-aggregate-plan-lists-15
-slice-aggregate-plan-lists-15 c = nodes-front _ (c .before .before .before .before .before .before .before .before .before .before .before .before .before .before .before .before .before .before .before .before .before .before .before .pre .0) _ (c .before .before .before .before .before .before .before .before .before .before .before .before .before .before .before .before .word-index .ensures .0)
+slice-aggregate-plan-lists-15 c = nodes-front _ (c .before .before .before .before .before .before .before .before .before .before .before .before .before .before .before .before .before .before .before .before .before .before .before .pre .0) _ (c .before .before .before .before .before .before .before .before .before .before .before .before .before .before .before .before .before .node-count .ensures .0)
 
 plan-lists-requires : tie.Need-plan-lists-requires
 plan-lists-requires c κs =
@@ -99,7 +99,8 @@ plan-lists-requires c κs =
     let good = c .before .before .before .before .before .before .before .before .before .before .before .before .before .before .before .before .before .before .before .before .before .before .before .before .before .before .pre .0 in
     let fits = c .before .before .before .before .before .before .before .before .before .before .before .before .before .before .before .before .before .before .before .before .before .before .before .before .before .before .pre .1 in
     let beneath = c .before .before .before .before .before .before .before .before .before .before .before .before .before .before .before .before .before .before .before .before .before .before .before .before .before .before .args .beneath .now in
-    let count = c .before .before .before .before .before .before .before .before .before .before .before .before .before .before .before .before .before .before .before .word-index .ensures .0 in
+    let count = c .before .before .before .before .before .before .before .before .before .before .before .before .before .before .before .before .before .before .before .before .node-count .ensures .0 in
+    let scale = c .before .before .before .before .before .before .before .before .before .before .before .before .before .before .before .before .before .before .before .table-scale .ensures in
     let nodes = nodes-lent table good _ count in
     let cords = cords-lent table good _ (fits .1) in (
       record {
@@ -112,6 +113,7 @@ plan-lists-requires c κs =
         shares-fit = cords;
         servers-fit = cords;
         needs-fit = servers-lent table good _ (fits .0);
+        scale-fit = scale;
       },
       ((nodes, nodes), ((search needs, cords, nodes, nodes, lows-lent table good _ count beneath (fits .3), lows-still table good _ count beneath (fits .3) (fits .4)), ((zeros-rows 16 512, search needs), ((zeros-rows 512 16, zeros-cells), (fits .1, fits .2))))),
     )
@@ -129,8 +131,8 @@ pub plan-room-spec : {M : Type 1} → statement M
 plan-room-spec =
     tie.close
     (tie.spec
-    shared-slice-read-word-index
-    word-index-requires
+    node-count-requires
+    table-scale-requires
     slice-aggregate-plan-lists
     array-borrow-prefix-parents
     slice-aggregate-plan-lists-2

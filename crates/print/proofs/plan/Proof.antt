@@ -1,26 +1,48 @@
--- `plan` meets its contract: the servers are put where the line of the freed watts ends.
-use Rattle.print.specs.Walk.{planPrint}
-use Rattle.print.proofs.Putting.{then, counts}
+-- `plan` meets its contract: it lends as many rows as the room has servers and cords.
+use lib.ListN.{replicate}
+use Rattle.print.proofs.Lent.{servers-few, servers-front, servers-lent, cords-few, cords-front, cords-lent}
 use borrow.Author.Needs.{needs}
 use Rattle.print.proofs.plan.Statement.{statement}
 use Rattle.print.proofs.plan.Tie as tie
 
-put-freed-requires : tie.Need-put-freed-requires
-put-freed-requires c κs = search needs
+server-count-requires : tie.Need-server-count-requires
+server-count-requires c κs = search needs
 
-put-servers-requires : tie.Need-put-servers-requires
-put-servers-requires c κs = search needs
+cord-count-requires : tie.Need-cord-count-requires
+cord-count-requires c κs = search needs
+
+array-borrow-prefix-servers : tie.Need-array-borrow-prefix-servers
+array-borrow-prefix-servers c = servers-few _ (c .before .before .before .before .before .before .pre) (c .before .server-count .ensures .0)
+
+slice-aggregate-plan-by : tie.Need-slice-aggregate-plan-by
+slice-aggregate-plan-by c = servers-front _ (c .before .before .before .before .before .before .before .pre) (c .before .before .server-count .ensures .0) (replicate 4 0)
+
+array-borrow-prefix-cords : tie.Need-array-borrow-prefix-cords
+array-borrow-prefix-cords c = cords-few _ (c .before .before .before .before .before .before .before .pre) (c .before .cord-count .ensures)
+
+slice-aggregate-plan-by-2 : tie.Need-slice-aggregate-plan-by-2
+slice-aggregate-plan-by-2 c = cords-front _ (c .before .before .before .before .before .before .before .before .pre) (c .before .before .cord-count .ensures) (replicate 8 0)
+
+plan-by-requires : tie.Need-plan-by-requires
+plan-by-requires c κs =
+    (c .before .before .before .before .before .before .before .before .before .pre, (servers-lent _ (c .before .before .before .before .before .before .before .before .before .pre) (c .before .before .before .before .server-count .ensures .0) (replicate 4 0), cords-lent _ (c .before .before .before .before .before .before .before .before .before .pre) (c .before .before .before .cord-count .ensures) (replicate 8 0)))
 
 same-length : tie.Need-same-length
-same-length c = search needs
+same-length c = c .before .before .before .before .plan-by .kept .1 .1 .1 .1 .1 .1 .0
 
 returns : tie.Need-returns
-unfolding planPrint
-returns c =
-    let servers = c .before .before in
-    let freed = servers .before .before .before .before in
-    let put = then (freed .put-freed .ensures) (servers .put-servers .ensures) in
-    (put, counts put)
+returns c = c .before .before .before .before .plan-by .ensures
 
 pub plan-spec : {M : Type 1} → statement M
-plan-spec = tie.close (tie.spec put-freed-requires put-servers-requires same-length returns)
+plan-spec =
+    tie.close
+    (tie.spec
+    server-count-requires
+    cord-count-requires
+    array-borrow-prefix-servers
+    slice-aggregate-plan-by
+    array-borrow-prefix-cords
+    slice-aggregate-plan-by-2
+    plan-by-requires
+    same-length
+    returns)

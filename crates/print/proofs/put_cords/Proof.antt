@@ -12,37 +12,34 @@ use Rattle.print.proofs.put_cords.Statement.{statement}
 use Rattle.print.proofs.put_cords.Tie as tie
 
 abbrev Inv-loop : tie.InvT-loop
-Inv-loop count table index grants first buffer₀ start next₀ k₀ buffer next k =
-    let line = cordLineAt table grants index first in
+Inv-loop count cords grants first buffer₀ start next₀ k₀ buffer next k =
+    let line = cordLineAt cords grants first in
     (k ≤ count)
     × Putting buffer₀ start buffer next (linesFrom (count - k) k line) (linesFrom count 0 line)
     × (length buffer ≡ length buffer₀)
 
 abbrev μ-loop : tie.MeasureT-loop
-μ-loop count table index grants first buffer₀ start next₀ k₀ buffer next k = count - k
+μ-loop count cords grants first buffer₀ start next₀ k₀ buffer next k = count - k
 
 loop-holds : tie.Need-loop-holds Inv-loop μ-loop
 loop-holds c =
-    let all : c .before .before .before .args .count - 0 ≡ c .before .before .before .args .count = omega arith in
+    let all : c .before .before .args .count - 0 ≡ c .before .before .args .count = omega arith in
     (omega arith, rw all (putting-first _ _ _ (search needs)), refl)
 
 add-put-cord : tie.Need-add-put-cord Inv-loop μ-loop
 add-put-cord c = search needs
 
-mul-word : tie.Need-mul-word Inv-loop μ-loop
-mul-word c = search needs
+add-node : tie.Need-add-node Inv-loop μ-loop
+add-node c = search needs
+
+node-requires : tie.Need-node-requires Inv-loop μ-loop
+node-requires c κs = search needs
 
 add-word : tie.Need-add-word Inv-loop μ-loop
 add-word c = search needs
 
 word-requires : tie.Need-word-requires Inv-loop μ-loop
 word-requires c κs = search needs
-
-add-word-2 : tie.Need-add-word-2 Inv-loop μ-loop
-add-word-2 c = search needs
-
-word-requires-2 : tie.Need-word-requires-2 Inv-loop μ-loop
-word-requires-2 c κs = search needs
 
 put-cord-requires : tie.Need-put-cord-requires Inv-loop μ-loop
 put-cord-requires c κs = putting-within (c .before .before .before .before .loop .inv .1)
@@ -57,10 +54,10 @@ loop-again : tie.Need-loop-again Inv-loop μ-loop
 loop-again c =
     let put = c .before .before in
     let at = put .before .before .before .before .before in
-    let args = at .before .before .before .before .args in
-    let line = cordLineAt (args .table .now) (args .grants .now) (args .index) (args .first) in
-    let node = put .before .before .before .word .ensures .0 in
-    let grant = put .before .before .word2 .ensures .0 in
+    let args = at .before .before .before .args in
+    let line = cordLineAt (args .cords .now) (args .grants .now) (args .first) in
+    let node = put .before .before .before .node .ensures in
+    let grant = put .before .before .word .ensures .0 in
     let cord = rw (node, grant) at (put .put-cord .ensures) in
     (omega arith, lines-next line (args .count) (at .loop .k) (omega (arith, at)) (at .loop .inv .1) cord, search needs)
 
@@ -78,11 +75,10 @@ put-cords-spec =
     μ-loop
     loop-holds
     add-put-cord
-    mul-word
+    add-node
+    node-requires
     add-word
     word-requires
-    add-word-2
-    word-requires-2
     put-cord-requires
     add-k
     loop-less

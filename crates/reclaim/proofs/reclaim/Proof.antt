@@ -9,10 +9,10 @@ use Rattle.reclaim.proofs.reclaim.Statement.{statement}
 use Rattle.reclaim.proofs.reclaim.Tie as tie
 
 abbrev Inv-loop : tie.InvT-loop
-Inv-loop shares servers usable grants wants₀ freed₀ c₀ c-end wants freed c = (c ≤ length shares) × Reclaiming shares servers usable grants wants₀ c freed wants
+Inv-loop shares servers usable grants wants₀ scale freed₀ c₀ c-end wants freed c = (c ≤ length shares) × Reclaiming scale shares servers usable grants wants₀ c freed wants
 
 abbrev μ-loop : tie.MeasureT-loop
-μ-loop shares servers usable grants wants₀ freed₀ c₀ c-end wants freed c = c-end - c
+μ-loop shares servers usable grants wants₀ scale freed₀ c₀ c-end wants freed c = c-end - c
 
 loop-holds : tie.Need-loop-holds Inv-loop μ-loop
 loop-holds c = (search needs, reclaiming-start)
@@ -42,7 +42,7 @@ carried-by-requires : tie.Need-carried-by-requires Inv-loop μ-loop
 carried-by-requires c κs =
     let lists = c .before .before .before .before .before .before .before .before .before .before .before .pre .0 in
     let loop = c .before .before .before .before .before .loop in
-    (lists .parts (loop .c) (search needs), lists .most (c .before .index .result) (omega (arith, lists .within (loop .c) (search needs), c .before .index .ensures .0)))
+    (lists .scaled, lists .parts (loop .c) (search needs), lists .most (c .before .index .result) (omega (arith, lists .within (loop .c) (search needs), c .before .index .ensures .0)))
 
 mul-wide : tie.Need-mul-wide Inv-loop μ-loop
 mul-wide c = search needs

@@ -6,15 +6,15 @@ use native.Mathlib.Omega.{arith}
 use lib.ListN.{length}
 use borrow.Author.Needs.{needs}
 use Rattle.words.proofs.Lists.{sets-all}
-use Rattle.reclaim.proofs.Reclaiming.{UsableBy, usable-none, usable-kept, usable-lowered, usable-all}
+use Rattle.reclaim.proofs.Reclaiming.{grant-product, UsableBy, usable-none, usable-kept, usable-lowered, usable-all}
 use Rattle.reclaim.proofs.usable_of.Statement.{statement}
 use Rattle.reclaim.proofs.usable_of.Tie as tie
 
 abbrev Inv-loop : tie.InvT-loop
-Inv-loop shares servers needs grants usable₀ c₀ c-end usable c = (c ≤ length shares) × UsableBy shares servers needs grants c usable
+Inv-loop shares servers needs grants usable₀ scale c₀ c-end usable c = (c ≤ length shares) × UsableBy scale shares servers needs grants c usable
 
 abbrev μ-loop : tie.MeasureT-loop
-μ-loop shares servers needs grants usable₀ c₀ c-end usable c = c-end - c
+μ-loop shares servers needs grants usable₀ scale c₀ c-end usable c = c-end - c
 
 copy-requires : tie.Need-copy-requires Inv-loop μ-loop
 copy-requires c κs = search needs
@@ -59,7 +59,7 @@ wide-requires-3 : tie.Need-wide-requires-3 Inv-loop μ-loop
 wide-requires-3 c κs = search needs
 
 mul-least : tie.Need-mul-least Inv-loop μ-loop
-mul-least c = search needs
+mul-least c = omega (arith, grant-product (c .before .before .before .before .before .before .before .before .before .before .before .before .before .before .before .before .before .before .before .before .pre .0 .scaled) (c .wide3 .ensures .1))
 
 div-least : tie.Need-div-least Inv-loop μ-loop
 div-least c = search needs

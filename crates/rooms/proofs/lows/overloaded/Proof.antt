@@ -6,24 +6,32 @@ use borrow.Author.Needs.{needs}
 use Rattle.rooms.specs.Table.{mostNodes}
 use Rattle.figures.proofs.Filled.{zeros-at}
 use Rattle.rooms.proofs.Credits.{sum-zeros}
-use Rattle.rooms.proofs.Found.{layout, table-rises, overloaded-from, lows-from}
+use Rattle.rooms.proofs.Places.{layout, nodes-read}
+use Rattle.rooms.proofs.Found.{overloaded-from, lows-from}
 use Rattle.rooms.proofs.lows.overloaded.Statement.{statement}
 use Rattle.rooms.proofs.lows.overloaded.Tie as tie
 
-shared-slice-read-index : tie.Need-shared-slice-read-index
-shared-slice-read-index c = omega (arith, layout _ _ _ _ refl (c .before .before .before .pre .0 .0 .is) .there)
+shared-slice-read-has-percents : tie.Need-shared-slice-read-has-percents
+shared-slice-read-has-percents c = omega (arith, layout _ _ _ _ refl (c .before .before .before .pre .0 .0 .is) .there)
 
-index-requires : tie.Need-index-requires
-index-requires c κs = search needs
+has-percents-requires : tie.Need-has-percents-requires
+has-percents-requires c κs = search needs
+
+shared-slice-read-word-index : tie.Need-shared-slice-read-word-index
+shared-slice-read-word-index c = omega (arith, layout _ _ _ _ refl (c .before .before .before .before .before .pre .0 .0 .is) .there)
+
+word-index-requires : tie.Need-word-index-requires
+word-index-requires c κs = search needs
 
 lowest-over-requires : tie.Need-lowest-over-requires
 lowest-over-requires c κs =
-    let good = c .before .before .before .before .before .pre .0 .0 in
-    let count = c .before .index .ensures in
+    let start = c .before .before .before .before .before .before .before in
+    let good = start .pre .0 .0 in
+    let count = c .before .word-index .ensures .0 in
     let is = layout _ _ _ _ count (good .is) in
-    let zero = sum-zeros (getD (c .before .before .before .before .before .args .w .now) 1 0) (replicate mostNodes 0) (zeros-at mostNodes) in (
-      (is .most, omega (arith, is .most, c .before .before .before .before .before .pre .0 .1), omega (arith, is .there)),
-      (table-rises _ _ _ _ _ is, rw count (omega (arith, c .before .before .before .before .before .pre .1 .grow (good .value) _ (good .is)))),
+    let zero = sum-zeros (getD (start .args .w .now) 1 0) (replicate mostNodes 0) (zeros-at mostNodes) in (
+      (nodes-read _ _ _ _ _ is (c .before .before .before .has-percents .ensures) refl, omega (arith, is .most, start .pre .0 .1)),
+      rw count (omega (arith, start .pre .1 .grow (good .value) _ (good .is))),
     )
 
 same-length : tie.Need-same-length
@@ -31,19 +39,22 @@ same-length c = search needs
 
 returns : tie.Need-returns
 returns c =
-    let count = c .before .before .before .before .index .ensures in
-    let credited = c .before .before .before .before .before .before .before .before .pre .1 .are in
+    let formed = c .before .before .before .before .before .before .has-percents .ensures in
+    let count = c .before .before .before .before .word-index .ensures .0 in
+    let credited = c .before .before .before .before .before .before .before .before .before .before .pre .1 .are in
     let gathered = c .before .before .lowest-over .ensures in (
-      λ q j e. overloaded-from _ _ _ _ count q j e (credited q j e) (gathered .0),
-      λ q j e. lows-from _ _ _ count q j e (credited q j e) (gathered .1),
+      λ q j e. overloaded-from _ _ _ _ formed count q j e (credited q j e) (gathered .0),
+      λ q j e. lows-from _ _ _ formed count q j e (credited q j e) (gathered .1),
     )
 
 pub overloaded-spec : {M : Type 1} → statement M
 overloaded-spec =
     tie.close
     (tie.spec
-    shared-slice-read-index
-    index-requires
+    shared-slice-read-has-percents
+    has-percents-requires
+    shared-slice-read-word-index
+    word-index-requires
     lowest-over-requires
     same-length
     returns)

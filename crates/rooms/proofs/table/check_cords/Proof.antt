@@ -1,10 +1,10 @@
 -- `check_cords` tells a row of cords and the sum of their shares, and credits their lows.
 use Prim.Native.Nat.{_+_, _*_, _≤_}
 use native.Mathlib.Omega.{arith}
-use mathlib.Core.Path.{refl}
+use mathlib.Core.Path.{refl, _∙_}
 use lib.ListN.{length}
 use Rattle.figures.specs.Sums.{sum}
-use Rattle.rooms.specs.Table.{cord, cords, shareOf, mostWatts}
+use Rattle.rooms.specs.Table.{cord, cords, shareOf, mostWatts, mostScale, mostServerCords}
 use Rattle.rooms.specs.Credits.{creditedCords}
 use Rattle.figures.specs.Figures.{at}
 use Rattle.rooms.proofs.Steps.{Row, row-start, row-end, row-stop, row-turn, cord-most}
@@ -14,16 +14,16 @@ use Rattle.rooms.proofs.table.check_cords.Statement.{statement}
 use Rattle.rooms.proofs.table.check_cords.Tie as tie
 
 abbrev Inv-loop : tie.InvT-loop
-Inv-loop w i node-count count least sums₀ left₀ shares₀ j₀ sums left shares j =
-    (shares + 1000 * left ≤ 4000)
-    × Row shareOf (λ _. cord node-count) (λ given _. given) w count 0 i shares left 0 j
-    × CordsCrediting node-count least w (creditedCords least (rowOf (cords node-count count w i)) sums₀) (length sums₀) (sum node-count (at sums₀) + mostWatts * count) left j sums
+Inv-loop w i scale node-count count least sums₀ left₀ shares₀ j₀ sums left shares j =
+    (shares + mostScale * left ≤ mostScale * mostServerCords)
+    × Row shareOf (λ _. cord scale node-count) (λ given _. given) w count 0 i shares left 0 j
+    × CordsCrediting scale node-count least w (creditedCords scale least (rowOf (cords scale node-count count w i)) sums₀) (length sums₀) (sum node-count (at sums₀) + mostWatts * count) left j sums
 
 abbrev μ-loop : tie.MeasureT-loop
-μ-loop w i node-count count least sums₀ left₀ shares₀ j₀ sums left shares j = left
+μ-loop w i scale node-count count least sums₀ left₀ shares₀ j₀ sums left shares j = left
 
 loop-holds : tie.Need-loop-holds Inv-loop μ-loop
-loop-holds c = (search needs, row-start _ _ _ _ _ _ _, crediting-start _ _ _ 0 _)
+loop-holds c = (omega (arith, c .before .before .pre .0 .1), row-start _ _ _ _ _ _ _, crediting-start _ _ _ 0 _)
 
 check-cord-requires : tie.Need-check-cord-requires Inv-loop μ-loop
 check-cord-requires c κs = search needs
@@ -38,29 +38,35 @@ same-length : tie.Need-same-length Inv-loop μ-loop
 same-length c = c .before .before .before .before .loop .inv .2 .length-is
 
 returns : tie.Need-returns Inv-loop μ-loop
-returns c = stopped _ _ (row-stop _ _ _ _ _ _ _ (search needs) (c .before .before .before .before .loop .inv .1) (c .before .before .check-cord .ensures) (c .enum-told .given .1)) (c .enum-told .given .1)
+returns c = stopped _ _ (row-stop _ _ _ _ _ _ _ (c .before .before .before .loop-test .taken) (c .before .before .before .before .loop .inv .1) (c .before .before .check-cord .ensures) (c .enum-told .given .1)) (c .enum-told .given .1)
 
-mul-index : tie.Need-mul-index Inv-loop μ-loop
-mul-index c = omega (arith, next-cord _ (c .before .before .before .before .before .before .loop .inv .2) (search needs) (c .before .before .before .before .check-cord .ensures) (c .before .before .cord .given .1) .there)
+carried-by-requires : tie.Need-carried-by-requires Inv-loop μ-loop
+carried-by-requires c κs =
+    let pre = c .before .before .before .before .before .before .before .before .pre .0 in
+    (pre .0, next-cord _ _ (c .before .before .before .before .before .loop .inv .2) (c .before .before .before .before .loop-test .taken) (c .before .before .before .check-cord .ensures) (c .before .cord .given .1) .share-most, pre .2)
 
-shared-slice-read-index : tie.Need-shared-slice-read-index Inv-loop μ-loop
-shared-slice-read-index c = omega (arith, next-cord _ (c .before .before .before .before .before .before .before .loop .inv .2) (search needs) (c .before .before .before .before .before .check-cord .ensures) (c .before .before .before .cord .given .1) .there)
+mul-word-index : tie.Need-mul-word-index Inv-loop μ-loop
+mul-word-index c = omega (arith, next-cord _ _ (c .before .before .before .before .before .before .before .loop .inv .2) (c .before .before .before .before .before .before .loop-test .taken) (c .before .before .before .before .before .check-cord .ensures) (c .before .before .before .cord .given .1) .there)
 
-index-requires : tie.Need-index-requires Inv-loop μ-loop
-index-requires c κs = search needs
+shared-slice-read-word-index : tie.Need-shared-slice-read-word-index Inv-loop μ-loop
+shared-slice-read-word-index c = omega (arith, next-cord _ _ (c .before .before .before .before .before .before .before .before .loop .inv .2) (c .before .before .before .before .before .before .before .loop-test .taken) (c .before .before .before .before .before .before .check-cord .ensures) (c .before .before .before .before .cord .given .1) .there)
 
-low-of-requires : tie.Need-low-of-requires Inv-loop μ-loop
-low-of-requires c κs = (next-cord _ (c .before .before .before .before .before .before .before .before .loop .inv .2) (search needs) (c .before .before .before .before .before .before .check-cord .ensures) (c .before .before .before .before .cord .given .1) .share-most, c .before .before .before .before .before .before .before .before .before .before .before .pre .0 .1)
+word-index-requires : tie.Need-word-index-requires Inv-loop μ-loop
+word-index-requires c κs = search needs
+
+wide-requires : tie.Need-wide-requires Inv-loop μ-loop
+wide-requires c κs = search needs
 
 credit-requires : tie.Need-credit-requires Inv-loop μ-loop
 credit-requires c κs =
-    let n = next-cord _ (c .before .before .before .before .before .before .before .before .before .loop .inv .2) (search needs) (c .before .before .before .before .before .before .before .check-cord .ensures) (c .before .before .before .before .before .cord .given .1) in
-    let pre = c .before .before .before .before .before .before .before .before .before .before .before .before .pre in
-    let node = c .before .index .ensures in
-    (omega (arith, n .node-most, c .before .before .before .before .before .before .before .before .before .loop .inv .2 .length-is, pre .1 .0, node), n .fits (pre .0 .1) (pre .1 .1) _ _ node (c .low-of .ensures))
+    let n = next-cord _ _ (c .before .before .before .before .before .before .before .before .before .before .loop .inv .2) (c .before .before .before .before .before .before .before .before .before .loop-test .taken) (c .before .before .before .before .before .before .before .before .check-cord .ensures) (c .before .before .before .before .before .before .cord .given .1) in
+    let pre = c .before .before .before .before .before .before .before .before .before .before .before .before .before .pre in
+    let node = c .before .word-index .ensures .0 in
+    let low = c .wide .ensures .0 ∙ c .before .before .before .before .carried-by .ensures in
+    (omega (arith, n .node-most, c .before .before .before .before .before .before .before .before .before .before .loop .inv .2 .length-is, pre .1 .0, node), n .fits (pre .0 .0) (pre .0 .2) (pre .1 .1) _ _ node low)
 
 add-sum : tie.Need-add-sum Inv-loop μ-loop
-add-sum c = omega (arith, cord-most _ _ _ (c .before .before .before .before .before .before .before .before .before .before .check-cord .ensures) (c .before .before .before .before .before .before .before .before .cord .given .1))
+add-sum c = omega (arith, cord-most _ _ _ _ (c .before .before .before .before .before .before .before .before .before .before .before .check-cord .ensures) (c .before .before .before .before .before .before .before .before .before .cord .given .1), c .before .before .before .before .before .before .before .before .before .before .before .before .before .loop .inv .0, c .before .before .before .before .before .before .before .before .before .before .before .before .before .before .before .before .pre .0 .0 .1)
 
 sub-left : tie.Need-sub-left Inv-loop μ-loop
 sub-left c = search needs
@@ -70,20 +76,22 @@ loop-less c = search needs
 
 loop-again : tie.Need-loop-again Inv-loop μ-loop
 loop-again c =
-    let tells = c .before .before .before .before .before .before .before .before .before .before .check-cord .ensures in
-    let cord = c .before .before .before .before .before .before .before .before .cord .given .1 in
-    let n = next-cord _ (c .before .before .before .before .before .before .before .before .before .before .before .before .loop .inv .2) (search needs) tells cord in
-    let pre = c .before .before .before .before .before .before .before .before .before .before .before .before .before .before .before .pre in (
-      omega (arith, cord-most _ _ _ tells cord),
-      row-turn _ _ _ _ _ _ _ (search needs) (c .before .before .before .before .before .before .before .before .before .before .before .before .loop .inv .1) tells cord (λ _ _. refl),
-      n .turn (pre .0 .1) (pre .1 .0) _ _ _ (c .before .before .before .before .index .ensures) (c .before .before .before .low-of .ensures) (c .before .before .credit .ensures),
+    let tells = c .before .before .before .before .before .before .before .before .before .before .before .check-cord .ensures in
+    let cord = c .before .before .before .before .before .before .before .before .before .cord .given .1 in
+    let inv = c .before .before .before .before .before .before .before .before .before .before .before .before .before .loop .inv in
+    let some = c .before .before .before .before .before .before .before .before .before .before .before .before .loop-test .taken in
+    let pre = c .before .before .before .before .before .before .before .before .before .before .before .before .before .before .before .before .pre in
+    let low = c .before .before .before .wide .ensures .0 ∙ c .before .before .before .before .before .before .before .carried-by .ensures in (
+      omega (arith, cord-most _ _ _ _ tells cord, inv .0, some, pre .0 .0 .1),
+      row-turn _ _ _ _ _ _ _ some (inv .1) tells cord (λ _ _. refl),
+      next-cord _ _ (inv .2) some tells cord .turn (pre .0 .0) (pre .0 .2) (pre .1 .0) _ _ _ (c .before .before .before .before .word-index .ensures .0) low (c .before .before .credit .ensures),
     )
 
 same-length-2 : tie.Need-same-length-2 Inv-loop μ-loop
 same-length-2 c = c .before .loop .inv .2 .length-is
 
 returns-2 : tie.Need-returns-2 Inv-loop μ-loop
-returns-2 c = (row-end _ _ _ _ _ _ _ (search needs) (c .before .loop .inv .1), cords-end _ _ _ _ (c .before .loop .inv .2) (search needs))
+returns-2 c = (row-end _ _ _ _ _ _ _ (search needs) (c .before .loop .inv .1), cords-end _ _ _ _ _ (c .before .loop .inv .2) (search needs))
 
 pub check-cords-spec : {M : Type 1} → statement M
 check-cords-spec =
@@ -97,10 +105,11 @@ check-cords-spec =
     enum-told
     same-length
     returns
-    mul-index
-    shared-slice-read-index
-    index-requires
-    low-of-requires
+    carried-by-requires
+    mul-word-index
+    shared-slice-read-word-index
+    word-index-requires
+    wide-requires
     credit-requires
     add-sum
     sub-left

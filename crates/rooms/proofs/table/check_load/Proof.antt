@@ -33,7 +33,7 @@ check-cords-requires : tie.Need-check-cords-requires
 check-cords-requires c κs =
     let pre = c .before .before .before .before .before .before .before .before .pre in
     let few = word-most _ _ _ _ (c .before .before .before .before .check-word .ensures) (c .before .before .first .given .1) in
-    ((omega (arith, few, c .before .before .before .before .before .lesser .ensures), pre .0 .1), (pre .1 .0, omega (arith, few, c .before .before .before .before .before .lesser .ensures, pre .1 .1)))
+    ((pre .0 .0, omega (arith, few, c .before .before .before .before .before .lesser .ensures), pre .0 .2), (pre .1 .0, omega (arith, few, c .before .before .before .before .before .lesser .ensures, pre .1 .1)))
 
 enum-known-cords : tie.Need-enum-known-cords
 enum-known-cords c = search needs
@@ -70,7 +70,7 @@ returns-4 c =
       pass-word _ _ _ (rw (c .before .before .before .before .before .before .before .before .before .before .before .before .lesser .ensures) at (c .before .before .before .before .before .before .before .before .before .before .before .check-word .ensures)) (c .before .before .before .before .before .before .before .before .before .first .given .1)
           (pass _ _ _ _ (c .before .before .before .before .before .before .check-cords .ensures .0) (c .before .before .cords .given .1) (λ l is sum.
           ensured _ _ _ _ _ _ (eq-eqb _ _ (sum ∙ c .if1 .left)) (gives _ _ _ (sym (many-length _ _ _ _ _ _ _ _ is))))),
-      load-credits _ _ _ _ _ _ (word .0) (word .1) (omega (arith, word-most _ _ _ _ (c .before .before .before .before .before .before .before .before .before .before .before .check-word .ensures) (c .before .before .before .before .before .before .before .before .before .first .given .1), c .before .before .before .before .before .before .before .before .before .before .before .before .lesser .ensures)) (c .before .before .before .before .before .before .check-cords .ensures .1),
+      load-credits _ _ _ _ _ _ _ (word .0) (word .1) (omega (arith, word-most _ _ _ _ (c .before .before .before .before .before .before .before .before .before .before .before .check-word .ensures) (c .before .before .before .before .before .before .before .before .before .first .given .1), c .before .before .before .before .before .before .before .before .before .before .before .before .lesser .ensures)) (c .before .before .before .before .before .before .check-cords .ensures .1),
     )
 
 pub check-load-spec : {M : Type 1} → statement M

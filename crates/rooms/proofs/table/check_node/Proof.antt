@@ -1,7 +1,6 @@
--- `check_node` tells a node: its two words in order.
+-- `check_node` tells a node: its words in order.
 use Rattle.rooms.specs.Table.{node}
-use Rattle.rooms.proofs.Steps.{stop, pass-word, gives}
-use mathlib.Core.Path.{refl}
+use Rattle.rooms.proofs.Steps.{stop, pass-word, percent-last, percent-none}
 use borrow.Author.Needs.{needs}
 use Rattle.rooms.proofs.table.check_node.Statement.{statement}
 use Rattle.rooms.proofs.table.check_node.Tie as tie
@@ -36,11 +35,22 @@ unfolding node
 returns-2 c = pass-word _ _ _ (c .before .before .before .before .before .before .check-word .ensures) (c .before .before .before .before .parent .given .1)
     (stop _ _ _ _ (c .before .before .check-word2 .ensures) (c .enum-told2 .given .1))
 
+check-percent-requires : tie.Need-check-percent-requires
+check-percent-requires c κs = search needs
+
 returns-3 : tie.Need-returns-3
 unfolding node
-returns-3 c = pass-word _ _ _ (c .before .before .before .before .before .before .before .check-word .ensures) (c .before .before .before .before .before .parent .given .1)
-    (pass-word _ _ _ (c .before .before .before .check-word2 .ensures) (c .before .rating .given .1)
-    (gives _ _ _ refl))
+returns-3 c =
+    pass-word _ _ _ (c .before .before .before .before .before .before .before .before .before .check-word .ensures) (c .before .before .before .before .before .before .before .parent .given .1)
+    (pass-word _ _ _ (c .before .before .before .before .before .check-word2 .ensures) (c .before .before .before .rating .given .1)
+    (percent-last _ _ _ _ (c .before .if1 .taken) (c .check-percent .ensures)))
+
+returns-4 : tie.Need-returns-4
+unfolding node
+returns-4 c =
+    pass-word _ _ _ (c .before .before .before .before .before .before .before .before .check-word .ensures) (c .before .before .before .before .before .before .parent .given .1)
+    (pass-word _ _ _ (c .before .before .before .before .check-word2 .ensures) (c .before .before .rating .given .1)
+    (percent-none _ _ _ _ (c .if1 .left)))
 
 pub check-node-spec : {M : Type 1} → statement M
 check-node-spec =
@@ -55,4 +65,6 @@ check-node-spec =
     enum-known-rating
     enum-told-2
     returns-2
-    returns-3)
+    check-percent-requires
+    returns-3
+    returns-4)

@@ -2,7 +2,7 @@
 use Prim.Native.Nat.{suc, _+_, _≤_}
 use native.Mathlib.Numerals.{add-one}
 use mathlib.Core.Path.{sym, _∙_}
-use Rattle.rooms.specs.Table.{node}
+use Rattle.rooms.specs.Table.{mostNodes, node}
 use Rattle.rooms.specs.Told.{nothing}
 use Rattle.rooms.proofs.Steps.{Row, row-start, row-end, row-stop, row-next, nothing-told}
 use borrow.Author.Needs.{needs}
@@ -10,10 +10,10 @@ use Rattle.rooms.proofs.table.check_nodes.Statement.{statement}
 use Rattle.rooms.proofs.table.check_nodes.Tie as tie
 
 abbrev Inv-loop : tie.InvT-loop
-Inv-loop w i count left₀ own₀ j₀ left own j = (own + left ≤ 513) × (1 ≤ own) × Row nothing node (λ own _. suc own) w count 1 i 0 left own j
+Inv-loop w i percents count left₀ own₀ j₀ left own j = (own + left ≤ suc mostNodes) × (1 ≤ own) × Row nothing (node percents) (λ own _. suc own) w count 1 i 0 left own j
 
 abbrev μ-loop : tie.MeasureT-loop
-μ-loop w i count left₀ own₀ j₀ left own j = left
+μ-loop w i percents count left₀ own₀ j₀ left own j = left
 
 loop-holds : tie.Need-loop-holds Inv-loop μ-loop
 loop-holds c = (search needs, search needs, row-start _ _ _ _ _ _ _)

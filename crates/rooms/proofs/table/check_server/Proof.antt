@@ -40,7 +40,7 @@ check-load-requires c κs =
     let pre = c .before .before .before .before .before .before .before .before .before .before .before .pre in
     let range = known _ _ (c .before .before .before .before .check-range .ensures) (c .before .before .range .given .1) in
     let ends = range-is _ _ (range .got) _ (range .is) in
-    ((pre .0, omega (arith, range .figure, ends .ordered, ends .greatest)), (pre .1, pre .2))
+    ((pre .0, pre .1, omega (arith, range .figure, ends .ordered, ends .greatest)), (pre .2, pre .3))
 
 same-length : tie.Need-same-length
 same-length c = search needs
@@ -51,7 +51,7 @@ returns-3 c =
     let rank = known _ _ (c .before .before .before .before .before .before .before .before .before .before .before .check-word .ensures) (c .before .before .before .before .before .before .before .before .before .rank .given .1) in
     let range = known _ _ (c .before .before .before .before .before .before .before .check-range .ensures) (c .before .before .before .before .before .range .given .1) in (
       pass-value _ _ _ _ (pass-word _ _ _ (c .before .before .before .before .before .before .before .before .before .before .before .check-word .ensures) (c .before .before .before .before .before .before .before .before .before .rank .given .1) (pass-known _ _ _ _ range (last _ _ _ _ (λ _. refl) (c .before .before .check-load .ensures .0)))),
-      server-credits _ _ _ _ (rank .is) (range .is) (range .figure) (c .before .before .check-load .ensures .1),
+      server-credits _ _ _ _ _ (rank .is) (range .is) (range .figure) (c .before .before .check-load .ensures .1),
     )
 
 pub check-server-spec : {M : Type 1} → statement M

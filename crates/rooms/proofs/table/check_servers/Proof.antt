@@ -14,13 +14,13 @@ use Rattle.rooms.proofs.table.check_servers.Statement.{statement}
 use Rattle.rooms.proofs.table.check_servers.Tie as tie
 
 abbrev Inv-loop : tie.InvT-loop
-Inv-loop w i node-count count sums₀ left₀ before₀ j₀ sums left before j =
+Inv-loop w i scale node-count count sums₀ left₀ before₀ j₀ sums left before j =
     (before ≤ mostCords)
-    × Row cordCount (server node-count) (λ before s. before + cordCount s) w count 0 i before left before j
-    × ServersCrediting node-count w (creditedServers (rowOf (servers node-count count 0 w i)) sums₀) (length sums₀) (sum node-count (at sums₀) + mostServerCords * mostWatts * count) left before j sums
+    × Row cordCount (server scale node-count) (λ before s. before + cordCount s) w count 0 i before left before j
+    × ServersCrediting scale node-count w (creditedServers scale (rowOf (servers scale node-count count 0 w i)) sums₀) (length sums₀) (sum node-count (at sums₀) + mostServerCords * mostWatts * count) left before j sums
 
 abbrev μ-loop : tie.MeasureT-loop
-μ-loop w i node-count count sums₀ left₀ before₀ j₀ sums left before j = left
+μ-loop w i scale node-count count sums₀ left₀ before₀ j₀ sums left before j = left
 
 loop-holds : tie.Need-loop-holds Inv-loop μ-loop
 loop-holds c = (search needs, row-start _ _ _ _ _ _ _, crediting-start _ _ _ 0 _)
@@ -28,7 +28,7 @@ loop-holds c = (search needs, row-start _ _ _ _ _ _ _, crediting-start _ _ _ 0 _
 check-server-requires : tie.Need-check-server-requires Inv-loop μ-loop
 check-server-requires c κs =
     let inv = c .before .before .loop .inv in
-    (inv .0, omega (arith, inv .2 .length-is, c .before .before .before .before .before .pre .0), omega (arith, inv .2 .sum-is, c .before .before .before .before .before .pre .1, c .before .loop-test .taken))
+    (c .before .before .before .before .before .pre .0, inv .0, omega (arith, inv .2 .length-is, c .before .before .before .before .before .pre .1), omega (arith, inv .2 .sum-is, c .before .before .before .before .before .pre .2, c .before .loop-test .taken))
 
 enum-known-server : tie.Need-enum-known-server Inv-loop μ-loop
 enum-known-server c = search needs
@@ -43,7 +43,7 @@ returns : tie.Need-returns Inv-loop μ-loop
 returns c = stopped _ _ (row-stop _ _ _ _ _ _ _ (search needs) (c .before .before .before .before .before .before .before .loop .inv .1) (c .before .before .before .before .check-server .ensures .0) (c .enum-told .given .1)) (c .enum-told .given .1)
 
 add-before : tie.Need-add-before Inv-loop μ-loop
-add-before c = omega (arith, server-most _ _ _ _ (c .before .before .before .before .before .before .before .before .loop .inv .0) (c .before .before .before .before .before .check-server .ensures .0) (c .before .server .given .1))
+add-before c = omega (arith, server-most _ _ _ _ _ (c .before .before .before .before .before .before .before .before .loop .inv .0) (c .before .before .before .before .before .check-server .ensures .0) (c .before .server .given .1))
 
 sub-left : tie.Need-sub-left Inv-loop μ-loop
 sub-left c = search needs
@@ -56,16 +56,16 @@ loop-again c =
     let inv = c .before .before .before .before .before .before .before .before .loop .inv in
     let tells = c .before .before .before .before .before .check-server .ensures .0 in
     let server = c .before .server .given .1 in (
-      server-most _ _ _ _ (inv .0) tells server,
+      server-most _ _ _ _ _ (inv .0) tells server,
       row-turn _ _ _ _ _ _ _ (search needs) (inv .1) tells server (λ s count. ap (λ (n : ℕ). c .before .before .before .before .before .before .before .before .loop .before + n) count),
-      servers-turn (inv .2) (search needs) tells server (c .before .before .before .before .before .check-server .ensures .1) (c .before .before .before .before .before .check-server .kept .1 .1 .1 .1 .0),
+      servers-turn _ (inv .2) (search needs) tells server (c .before .before .before .before .before .check-server .ensures .1) (c .before .before .before .before .before .check-server .kept .1 .1 .1 .1 .1 .0),
     )
 
 same-length-2 : tie.Need-same-length-2 Inv-loop μ-loop
 same-length-2 c = c .before .loop .inv .2 .length-is
 
 returns-2 : tie.Need-returns-2 Inv-loop μ-loop
-returns-2 c = (row-end _ _ _ _ _ _ _ (search needs) (c .before .loop .inv .1), servers-end _ _ _ (c .before .loop .inv .2) (search needs))
+returns-2 c = (row-end _ _ _ _ _ _ _ (search needs) (c .before .loop .inv .1), servers-end _ _ _ _ (c .before .loop .inv .2) (search needs))
 
 pub check-servers-spec : {M : Type 1} → statement M
 check-servers-spec =

@@ -3,13 +3,14 @@ use mathlib.Core.Path.{refl, sym, ap, _∙_}
 use Prim.Native.Nat.{ℕ}
 use native.Mathlib.Omega.{arith}
 use lib.ListN.{getD}
-use Rattle.rooms.specs.Table.{table, roomCords}
+use Rattle.rooms.specs.Table.{formOf, table, roomCords}
 use Rattle.rooms.specs.Told.{told}
 use Rattle.rooms.specs.declared.Checked.{Checked}
 use Rattle.rooms.proofs.Steps.{Reached, known, stop, pass, pass-known, pass-word, left-over, ended, gives, word-told, word-most}
 use Rattle.rooms.proofs.Credits.{sum-zeros}
 use Rattle.rooms.proofs.CreditTurns.{stopped}
 use Rattle.rooms.proofs.Found.{table-credits}
+use Rattle.rooms.proofs.Whole.{form-scale}
 use borrow.Author.Needs.{needs}
 use Rattle.rooms.proofs.table.check_table.Statement.{statement}
 use Rattle.rooms.proofs.table.check_table.Tie as tie
@@ -22,7 +23,7 @@ abbrev goal2 : tie.After-known-told2 → Checked
 goal2 c = goal (c .before .before .before .before)
 
 abbrev goal3 : tie.After-known-told3 → Checked
-goal3 c = goal2 (c .before .before .before .before)
+goal3 c = goal2 (c .before .before .before .before .before)
 
 abbrev goal4 : tie.After-known-told4 → Checked
 goal4 c = goal3 (c .before .before .before .before)
@@ -32,7 +33,7 @@ abbrev version-passed : (c : tie.After-known-told) → Reached roomCords (goal c
 unfolding table
 version-passed c = record {
   left = _;
-  decides = λ h. pass-word _ _ _ (c .before .before .before .check-word .ensures) (c .before .version .given .1) h;
+  decides = λ h. pass-word _ _ _ (c .before .before .before .check-word .ensures) (c .before .first .given .1) h;
 }
 
 -- The count of nodes is passed.
@@ -40,7 +41,7 @@ abbrev node-count-passed : (c : tie.After-known-told2) → Reached roomCords (go
 unfolding table
 node-count-passed c = record {
   left = _;
-  decides = λ h. version-passed (c .before .before .before .before) .decides (pass-word _ _ _ (c .before .before .before .check-word2 .ensures) (c .before .first .given .1) h);
+  decides = λ h. version-passed (c .before .before .before .before) .decides (pass-word _ _ _ (c .before .before .before .check-word2 .ensures) (c .before .second .given .1) h);
 }
 
 -- The nodes are passed.
@@ -48,8 +49,8 @@ abbrev nodes-passed : (c : tie.After-known-told3) → Reached roomCords (goal3 c
 unfolding table
 nodes-passed c = record {
   left = _;
-  decides = λ h. node-count-passed (c .before .before .before .before) .decides
-      (pass-known _ _ _ _ (known _ _ (c .before .before .before .check-nodes .ensures) (c .before .nodes .given .1)) h);
+  decides = λ h. node-count-passed (c .before .before .before .before .before) .decides
+      (pass-known _ _ _ _ (known _ _ (rw (c .before .before .before .before .has-percents .ensures) at (c .before .before .before .check-nodes .ensures)) (c .before .nodes .given .1)) h);
 }
 
 -- The count of servers is passed.
@@ -57,14 +58,14 @@ abbrev server-count-passed : (c : tie.After-known-told4) → Reached roomCords (
 unfolding table
 server-count-passed c = record {
   left = _;
-  decides = λ h. nodes-passed (c .before .before .before .before) .decides (pass-word _ _ _ (c .before .before .before .check-word3 .ensures) (c .before .second .given .1) h);
+  decides = λ h. nodes-passed (c .before .before .before .before) .decides (pass-word _ _ _ (c .before .before .before .check-word3 .ensures) (c .before .third .given .1) h);
 }
 
 check-word-requires : tie.Need-check-word-requires
 check-word-requires c κs = search needs
 
-enum-known-version : tie.Need-enum-known-version
-enum-known-version c = search needs
+enum-known-first : tie.Need-enum-known-first
+enum-known-first c = search needs
 
 enum-told : tie.Need-enum-told
 enum-told c = search needs
@@ -76,8 +77,8 @@ returns c = stopped _ _ (stop _ _ _ _ (c .before .before .check-word .ensures) (
 check-word-requires-2 : tie.Need-check-word-requires-2
 check-word-requires-2 c κs = search needs
 
-enum-known-first : tie.Need-enum-known-first
-enum-known-first c = search needs
+enum-known-second : tie.Need-enum-known-second
+enum-known-second c = search needs
 
 enum-told-2 : tie.Need-enum-told-2
 enum-told-2 c = search needs
@@ -86,8 +87,11 @@ returns-2 : tie.Need-returns-2
 unfolding table
 returns-2 c = stopped _ _ (version-passed (c .before .before .before) .decides (stop _ _ _ _ (c .before .before .check-word2 .ensures) (c .enum-told2 .given .1))) (c .enum-told2 .given .1)
 
+has-percents-requires : tie.Need-has-percents-requires
+has-percents-requires c κs = search needs
+
 check-nodes-requires : tie.Need-check-nodes-requires
-check-nodes-requires c κs = word-most _ _ _ _ (c .before .before .before .check-word2 .ensures) (c .before .first .given .1)
+check-nodes-requires c κs = word-most _ _ _ _ (c .before .before .before .before .check-word2 .ensures) (c .before .before .second .given .1)
 
 enum-known-nodes : tie.Need-enum-known-nodes
 enum-known-nodes c = search needs
@@ -97,13 +101,17 @@ enum-told-3 c = search needs
 
 returns-3 : tie.Need-returns-3
 unfolding table
-returns-3 c = stopped _ _ (node-count-passed (c .before .before .before) .decides (stop _ _ _ _ (c .before .before .check-nodes .ensures) (c .enum-told3 .given .1))) (c .enum-told3 .given .1)
+returns-3 c =
+    stopped _ _
+    (node-count-passed (c .before .before .before .before) .decides
+    (stop _ _ _ _ (rw (c .before .before .before .has-percents .ensures) at (c .before .before .check-nodes .ensures)) (c .enum-told3 .given .1)))
+    (c .enum-told3 .given .1)
 
 check-word-requires-3 : tie.Need-check-word-requires-3
 check-word-requires-3 c κs = search needs
 
-enum-known-second : tie.Need-enum-known-second
-enum-known-second c = search needs
+enum-known-third : tie.Need-enum-known-third
+enum-known-third c = search needs
 
 enum-told-4 : tie.Need-enum-told-4
 enum-told-4 c = search needs
@@ -112,12 +120,18 @@ returns-4 : tie.Need-returns-4
 unfolding table
 returns-4 c = stopped _ _ (nodes-passed (c .before .before .before) .decides (stop _ _ _ _ (c .before .before .check-word3 .ensures) (c .enum-told4 .given .1))) (c .enum-told4 .given .1)
 
+scale-of-requires : tie.Need-scale-of-requires
+scale-of-requires c κs = search needs
+
 check-servers-requires : tie.Need-check-servers-requires
 check-servers-requires c κs =
-    let pre = c .before .before .before .before .before .before .before .before .before .before .before .before .before .before .before .before .before .before .before .pre in
-    let nodes = word-most _ _ _ _ (c .before .before .before .before .before .before .before .before .before .before .before .before .check-word2 .ensures) (c .before .before .before .before .before .before .before .before .before .before .first .given .1) in
-    let servers = word-most _ _ _ _ (c .before .before .before .before .check-word3 .ensures) (c .before .before .second .given .1) in
-    (omega (arith, nodes, pre .0), omega (arith, servers, sum-zeros (c .before .before .before .before .before .before .before .before .before .before .first .given .0 .0) (c .before .before .before .before .before .before .before .before .before .before .before .before .before .before .before .before .before .before .before .args .sums .now) (pre .1)))
+    let start = c .before .before .before .before .before .before .before .before .before .before .before .before .before .before .before .before .before .before .before .before .before in
+    let nodes = word-most _ _ _ _ (c .before .before .before .before .before .before .before .before .before .before .before .before .before .before .check-word2 .ensures) (c .before .before .before .before .before .before .before .before .before .before .before .before .second .given .1) in
+    let servers = word-most _ _ _ _ (c .before .before .before .before .before .check-word3 .ensures) (c .before .before .before .third .given .1) in (
+      rw (c .before .scale-of .ensures) (form-scale _),
+      omega (arith, nodes, start .pre .0),
+      omega (arith, servers, sum-zeros (c .before .before .before .before .before .before .before .before .before .before .before .before .second .given .0 .0) (start .args .sums .now) (start .pre .1)),
+    )
 
 enum-known-servers : tie.Need-enum-known-servers
 enum-known-servers c = search needs
@@ -130,7 +144,11 @@ same-length c = search needs
 
 returns-5 : tie.Need-returns-5
 unfolding table
-returns-5 c = stopped _ _ (server-count-passed (c .before .before .before .before .before .before) .decides (stop _ _ _ _ (c .before .before .before .before .check-servers .ensures .0) (c .enum-told5 .given .1))) (c .enum-told5 .given .1)
+returns-5 c =
+    stopped _ _
+    (server-count-passed (c .before .before .before .before .before .before .before) .decides
+    (stop _ _ _ _ (rw (c .before .before .before .before .before .before .scale-of .ensures) at (c .before .before .before .before .check-servers .ensures .0)) (c .enum-told5 .given .1)))
+    (c .enum-told5 .given .1)
 
 same-length-2 : tie.Need-same-length-2
 same-length-2 c = search needs
@@ -139,8 +157,8 @@ returns-6 : tie.Need-returns-6
 unfolding table
 returns-6 c =
     stopped _ _
-    (server-count-passed (c .before .before .before .before .before .before .before .before) .decides
-    (pass _ _ _ _ (c .before .before .before .before .before .before .check-servers .ensures .0) (c .before .before .servers .given .1) (λ servers is cords.
+    (server-count-passed (c .before .before .before .before .before .before .before .before .before) .decides
+    (pass _ _ _ _ (rw (c .before .before .before .before .before .before .before .before .scale-of .ensures) at (c .before .before .before .before .before .before .check-servers .ensures .0)) (c .before .before .servers .given .1) (λ servers is cords.
     left-over _ _ _ _ (c .if1 .taken))))
     refl
 
@@ -150,15 +168,20 @@ same-length-3 c = search needs
 returns-7 : tie.Need-returns-7
 unfolding table
 returns-7 c =
-    let version = word-told _ _ _ _ (c .before .before .before .before .before .before .before .before .before .before .before .before .before .before .before .before .before .before .before .before .before .before .before .check-word .ensures) (c .before .before .before .before .before .before .before .before .before .before .before .before .before .before .before .before .before .before .before .before .before .version .given .1) in
-    let first = word-told _ _ _ _ (c .before .before .before .before .before .before .before .before .before .before .before .before .before .before .before .before .before .before .before .check-word2 .ensures) (c .before .before .before .before .before .before .before .before .before .before .before .before .before .before .before .before .before .first .given .1) in
-    let nodes = known _ _ (c .before .before .before .before .before .before .before .before .before .before .before .before .before .before .before .check-nodes .ensures) (c .before .before .before .before .before .before .before .before .before .before .before .before .before .nodes .given .1) in
-    let second = word-told _ _ _ _ (c .before .before .before .before .before .before .before .before .before .before .before .check-word3 .ensures) (c .before .before .before .before .before .before .before .before .before .second .given .1) in
-    let few = word-most _ _ _ _ (c .before .before .before .before .before .before .before .before .before .before .before .check-word3 .ensures) (c .before .before .before .before .before .before .before .before .before .second .given .1) in (
-      server-count-passed (c .before .before .before .before .before .before .before .before) .decides
-          (pass _ _ _ _ (c .before .before .before .before .before .before .check-servers .ensures .0) (c .before .before .servers .given .1) (λ servers is cords.
+    let w = c .before .before .before .before .before .before .before .before .before .before .before .before .before .before .before .before .before .before .before .before .before .before .before .before .before .before .before .before .args .w .now in
+    let version = word-told _ _ _ _ (c .before .before .before .before .before .before .before .before .before .before .before .before .before .before .before .before .before .before .before .before .before .before .before .before .before .check-word .ensures) (c .before .before .before .before .before .before .before .before .before .before .before .before .before .before .before .before .before .before .before .before .before .before .before .first .given .1) in
+    let second = word-told _ _ _ _ (c .before .before .before .before .before .before .before .before .before .before .before .before .before .before .before .before .before .before .before .before .before .check-word2 .ensures) (c .before .before .before .before .before .before .before .before .before .before .before .before .before .before .before .before .before .before .before .second .given .1) in
+    let nodes = known _ _ (c .before .before .before .before .before .before .before .before .before .before .before .before .before .before .before .before .check-nodes .ensures) (c .before .before .before .before .before .before .before .before .before .before .before .before .before .before .nodes .given .1) in
+    let third = word-told _ _ _ _ (c .before .before .before .before .before .before .before .before .before .before .before .before .check-word3 .ensures) (c .before .before .before .before .before .before .before .before .before .before .third .given .1) in
+    let few = word-most _ _ _ _ (c .before .before .before .before .before .before .before .before .before .before .before .before .check-word3 .ensures) (c .before .before .before .before .before .before .before .before .before .before .third .given .1) in
+    let servers = c .before .before .before .before .before .before .check-servers .ensures in (
+      server-count-passed (c .before .before .before .before .before .before .before .before .before) .decides
+          (pass _ _ _ _ (rw (c .before .before .before .before .before .before .before .before .scale-of .ensures) at (servers .0)) (c .before .before .servers .given .1) (λ servers is cords.
           ended _ _ _ _ (c .if1 .left) (gives _ _ _ (sym cords)))),
-      table-credits _ (first .0 ∙ ap (λ (k : ℕ). getD (c .before .before .before .before .before .before .before .before .before .before .before .before .before .before .before .before .before .before .before .before .before .before .before .before .before .before .args .w .now) k 0) (version .1)) (first .1 ∙ omega (arith, version .1)) (nodes .is) (second .0) (second .1) few (c .before .before .before .before .before .before .check-servers .ensures .1),
+      table-credits _
+          (c .before .before .before .before .before .before .before .before .before .before .before .before .before .before .before .before .before .has-percents .ensures ∙ ap (λ (v : ℕ). formOf v .percents) (version .0))
+          (c .before .before .before .before .before .before .before .before .scale-of .ensures ∙ ap (λ (v : ℕ). formOf v .scale) (version .0))
+          (second .0 ∙ ap (λ (k : ℕ). getD w k 0) (version .1)) (second .1 ∙ omega (arith, version .1)) (nodes .is) (third .0) (third .1) few (servers .1),
     )
 
 pub check-table-spec : {M : Type 1} → statement M
@@ -166,21 +189,23 @@ check-table-spec =
     tie.close
     (tie.spec
     check-word-requires
-    enum-known-version
+    enum-known-first
     enum-told
     returns
     check-word-requires-2
-    enum-known-first
+    enum-known-second
     enum-told-2
     returns-2
+    has-percents-requires
     check-nodes-requires
     enum-known-nodes
     enum-told-3
     returns-3
     check-word-requires-3
-    enum-known-second
+    enum-known-third
     enum-told-4
     returns-4
+    scale-of-requires
     check-servers-requires
     enum-known-servers
     enum-told-5

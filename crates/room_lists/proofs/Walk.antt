@@ -7,19 +7,20 @@ use native.Mathlib.Omega.{arith}
 use native.Mathlib.Numerals.{add-one}
 use lib.ListN.{length, getD, drop, List·getD-append, drop-of-length-le}
 use lib.Seq.{drop-cons, drop-drop, drop-at, getD-drop}
-use Rattle.rooms.specs.Part.{good, Good}
+use Rattle.rooms.specs.Part.{good}
 use Rattle.figures.specs.Figures.{total}
-use Rattle.rooms.specs.Table.{Node, Cord, Server, Room, scale, mostNodes, mostCords, mostWatts, highestRank, cord, cords, server, servers, cordCount, roomCords}
-use Rattle.rooms.specs.Limits.{checked, nodeAt}
+use Rattle.rooms.specs.Table.{Cord, Server, Room, mostNodes, mostCords, mostWatts, highestRank, cord, cords, server, servers, cordCount, roomCords}
+use Rattle.rooms.specs.Limits.{checked}
 use Rattle.rooms.proofs.Inversion.{many-is, CordIs, cord-is, server-is}
-use Rattle.rooms.proofs.Rows.{nodes-words, nodes-at, cords-words}
-use Rattle.rooms.proofs.Whole.{table-is, checked-is}
+use Rattle.rooms.proofs.Rows.{nodes-words, cords-words}
+use Rattle.rooms.proofs.Whole.{percentsOf, table-is, checked-is}
 use Rattle.rooms.proofs.Accepted.{accepted}
 use Rattle.rooms.specs.Cords.{RoomCord, serverCords, cordsFrom, cordsOf, cordAt, serverAt}
-use Rattle.layout.specs.Lists.{NodesFit}
+use Rattle.rooms.specs.Credits.{nodeIndex}
+use Rattle.room_lists.specs.Walk.{serversIndex}
 use Rattle.rooms.proofs.Cords.{noCord, noRoomCord, noServer, placed, serverCords-length}
 
--- ---- The nodes
+-- ---- The counts
 
 -- The count of nodes of a good table; the most nodes and cords that it has.
 pub record Begun (table : List ℕ) (r : Room) : Type 0 where
@@ -28,59 +29,31 @@ pub record Begun (table : List ℕ) (r : Room) : Type 0 where
   pub most : length (r .nodes) ≤ mostNodes
   pub cords-most : roomCords r ≤ mostCords
 
--- The node at a place.
-pub record NodeHere (table : List ℕ) (r : Room) (m : ℕ) : Type 0 where
-  pub there : 3 + 2 * m < length table
-  pub parent : getD table (2 + 2 * m) 0 ≡ nodeAt r m .parent
-  pub rating : getD table (3 + 2 * m) 0 ≡ nodeAt r m .rating
-  pub parent-below : getD table (2 + 2 * m) 0 ≤ m
-  pub most : nodeAt r m .rating ≤ mostWatts
-
 module _ {table : List ℕ} {r : Room} {end : ℕ} (e : checked table 0 ≡ good r end) where
   pub begun : Begun table r
   begun =
       let t = table-is table r end (checked-is table r end e .0) in
       record { there = t .begun; count = t .nodeCount; most = t .fewNodes; cords-most = accepted table r end e .fewCords }
 
-  pub node-here : (m : ℕ) → m < length (r .nodes) → NodeHere table r m
-  node-here m h =
-      let t = table-is table r end (checked-is table r end e .0) in
-      let n = nodes-at (length (r .nodes)) 1 table 2 (r .nodes) (t .middle) (record { parent = 0; rating = 0 }) m h (t .nodesRead) in
-      let q : 3 + 2 * m ≡ suc (2 + 2 * m) = omega arith in
-      record {
-        there = omega (arith, n .there);
-        parent = sym (ap (λ (x : Node). x .parent) (n .is));
-        rating = rw q (sym (ap (λ (x : Node). x .rating) (n .is)));
-        parent-below = omega (arith, n .parent, ap (λ (x : Node). x .parent) (n .is));
-        most = n .rating;
-      }
-
--- The node at a place of a list that is as long as the table's count of nodes.
-pub node-read : (table : List ℕ) (size : ℕ) (g : Good (checked table 0)) → NodesFit table size → (m : ℕ) → m < size → NodeHere table (g .value) m
-node-read table size g fit m h = node-here (g .is) m (omega (arith, fit (g .value) (g .next) (g .is)))
-
-pub nodes-same : (table : List ℕ) {a b : ℕ} → Good (checked table 0) → NodesFit table a → NodesFit table b → a ≡ b
-nodes-same table g f h = f (g .value) (g .next) (g .is) ∙ sym (h (g .value) (g .next) (g .is))
-
 -- ---- The cords of a server
 
 -- The cords of a good row by place.
-cords-at : (nodeCount count : ℕ) (w : List ℕ) (i : ℕ) (l : List Cord) (j : ℕ) (d : Cord) (k : ℕ) → k < count → cords nodeCount count w i ≡ good l j
-    → CordIs nodeCount w (i + 2 * k) (getD l k d) (suc (suc (i + 2 * k)))
-cords-at nodeCount zero w i l j d k h e = absurd (omega arith)
-cords-at nodeCount (suc count) w i l j d zero h e =
-    let a = many-is count (λ _. cord nodeCount) (λ given _. given) 0 w i l j e in
-    let n = cord-is nodeCount w i (a .got) (a .at) (a .first) in
+cords-at : (scale nodeCount count : ℕ) (w : List ℕ) (i : ℕ) (l : List Cord) (j : ℕ) (d : Cord) (k : ℕ) → k < count → cords scale nodeCount count w i ≡ good l j
+    → CordIs scale nodeCount w (i + 2 * k) (getD l k d) (suc (suc (i + 2 * k)))
+cords-at scale nodeCount zero w i l j d k h e = absurd (omega arith)
+cords-at scale nodeCount (suc count) w i l j d zero h e =
+    let a = many-is count (λ _. cord scale nodeCount) (λ given _. given) 0 w i l j e in
+    let n = cord-is scale nodeCount w i (a .got) (a .at) (a .first) in
     let z : i + 2 * 0 ≡ i = omega arith in
     rw (a .is, z, ← n .next) n
-cords-at nodeCount (suc count) w i l j d (suc k) h e =
-    let a = many-is count (λ _. cord nodeCount) (λ given _. given) 0 w i l j e in
-    let n = cord-is nodeCount w i (a .got) (a .at) (a .first) in
+cords-at scale nodeCount (suc count) w i l j d (suc k) h e =
+    let a = many-is count (λ _. cord scale nodeCount) (λ given _. given) 0 w i l j e in
+    let n = cord-is scale nodeCount w i (a .got) (a .at) (a .first) in
     let z : i + 2 * suc k ≡ a .at + 2 * k = omega (arith, n .next) in
-    rw (a .is, z) (cords-at nodeCount count w (a .at) (a .rest) j d k (omega arith) (a .others))
+    rw (a .is, z) (cords-at scale nodeCount count w (a .at) (a .rest) j d k (omega arith) (a .others))
 
 -- The k-th of a server's cords among the room's.
-serverCords-at : (v : ℕ) (l : List Cord) (k : ℕ) → k < length l → getD (serverCords v l) k noRoomCord ≡ placed v (getD l k noCord)
+pub serverCords-at : (v : ℕ) (l : List Cord) (k : ℕ) → k < length l → getD (serverCords v l) k noRoomCord ≡ placed v (getD l k noCord)
 unfolding serverCords
 serverCords-at v [] k h = absurd (not-suc-le-zero h)
 serverCords-at v (c ∷ rest) zero h = refl
@@ -94,7 +67,7 @@ pub record Walk (table : List ℕ) (r : Room) (v index c : ℕ) : Type 0 where
   pub left : ℕ
   pub end : ℕ
   pub servers-left : v + left ≡ length (r .servers)
-  pub is : servers (length (r .nodes)) left before table index ≡ good (drop v (r .servers)) end
+  pub is : servers (r .scale) (length (r .nodes)) left before table index ≡ good (drop v (r .servers)) end
   pub there : index ≤ length table
   pub cords-are : drop c (cordsOf r) ≡ cordsFrom v (drop v (r .servers))
   pub cords-left : c + total cordCount (drop v (r .servers)) ≡ roomCords r
@@ -104,7 +77,7 @@ pub record CordHere (table : List ℕ) (r : Room) (v index c k : ℕ) : Type 0 w
   pub there : index + 5 + 2 * k < length table
   pub is : cordAt r (c + k) ≡ record { server = v; node = getD table (index + 4 + 2 * k) 0; share = getD table (index + 5 + 2 * k) 0 }
   pub node-most : getD table (index + 4 + 2 * k) 0 ≤ length (r .nodes)
-  pub share-most : getD table (index + 5 + 2 * k) 0 ≤ scale
+  pub share-most : getD table (index + 5 + 2 * k) 0 ≤ r .scale
   pub within : c + k < roomCords r
 
 -- The server that stands next, at place v, and the walk after it.
@@ -117,15 +90,17 @@ pub record ServerHere (table : List ℕ) (r : Room) (v index c : ℕ) : Type 0 w
   pub highest : getD table index 0 ≤ highestRank
   pub ordered : getD table (index + 1) 0 ≤ getD table (index + 2) 0
   pub most : getD table (index + 2) 0 ≤ mostWatts
+  pub count : cordCount (serverAt r v) ≡ getD table (index + 3) 0
   pub cords-within : c + getD table (index + 3) 0 ≤ roomCords r
   pub cord : (k : ℕ) → k < getD table (index + 3) 0 → CordHere table r v index c k
   pub next : Walk table r (v + 1) (index + (4 + 2 * getD table (index + 3) 0)) (c + getD table (index + 3) 0)
 
-pub walk-start : {table : List ℕ} {r : Room} {end : ℕ} → checked table 0 ≡ good r end → (n : ℕ) → n ≡ getD table 1 0 → Walk table r 0 (3 + 2 * n) 0
-walk-start {table} {r} {end} e n count =
+pub walk-start : {table : List ℕ} {r : Room} {end : ℕ} → checked table 0 ≡ good r end → Walk table r 0 (serversIndex table + 1) 0
+walk-start {table} {r} {end} e =
     let t = table-is table r end (checked-is table r end e .0) in
-    let m = nodes-words (length (r .nodes)) 1 table 2 (r .nodes) (t .middle) (t .begun) (t .nodesRead) .0 in
-    let i : 3 + 2 * n ≡ suc (t .middle) = omega (arith, t .nodeCount) in
+    let m = nodes-words (percentsOf table) (length (r .nodes)) 1 table 2 (r .nodes) (t .middle) (t .begun) (t .nodesRead) .0 in
+    let i : serversIndex table + 1 ≡ suc (t .middle)
+    = add-one (serversIndex table) ∙ ap (λ (k : ℕ). suc (nodeIndex (percentsOf table) k)) (t .nodeCount) ∙ ap suc (sym m) in
     rw i
     (record {
       before = 0;
@@ -142,8 +117,8 @@ walk-start {table} {r} {end} e n count =
 module _ (table : List ℕ) (r : Room) (v index c before left end after : ℕ) (s : Server) (rest : List Server)
     (counted : v + suc left ≡ length (r .servers))
     (split : drop v (r .servers) ≡ s ∷ rest)
-    (first : server (length (r .nodes)) before table index ≡ good s after)
-    (others : servers (length (r .nodes)) left (before + cordCount s) table after ≡ good rest end)
+    (first : server (r .scale) (length (r .nodes)) before table index ≡ good s after)
+    (others : servers (r .scale) (length (r .nodes)) left (before + cordCount s) table after ≡ good rest end)
     (walk : Walk table r v index c) where
   here : (serverAt r v ≡ s) × (drop (suc v) (r .servers) ≡ rest)
   here =
@@ -154,8 +129,8 @@ module _ (table : List ℕ) (r : Room) (v index c before left end after : ℕ) (
 
   words : (index + 3 < length table) × (getD table (index + 3) 0 ≡ cordCount s) × (after ≡ index + (4 + 2 * cordCount s)) × (after ≤ length table)
   words =
-      let l = server-is (length (r .nodes)) before table index s after first .load in
-      let c = cords-words (length (r .nodes)) (getD table (suc (suc (suc index))) 0) table (suc (suc (suc (suc index)))) (s .cords) after (l .there) (l .are) in
+      let l = server-is (r .scale) (length (r .nodes)) before table index s after first .load in
+      let c = cords-words (r .scale) (length (r .nodes)) (getD table (suc (suc (suc index))) 0) table (suc (suc (suc (suc index)))) (s .cords) after (l .there) (l .are) in
       let e : index + 3 ≡ suc (suc (suc index)) = omega arith in
       (omega (arith, l .there), rw e (sym (l .count)), omega (arith, c .0, l .count), c .1)
 
@@ -176,8 +151,8 @@ module _ (table : List ℕ) (r : Room) (v index c before left end after : ℕ) (
 
   cord-here : (k : ℕ) → k < cordCount s → CordHere table r v index c k
   cord-here k h =
-      let l = server-is (length (r .nodes)) before table index s after first .load in
-      let i = cords-at (length (r .nodes)) (getD table (suc (suc (suc index))) 0) table (suc (suc (suc (suc index)))) (s .cords) after noCord k (omega (arith, l .count)) (l .are) in
+      let l = server-is (r .scale) (length (r .nodes)) before table index s after first .load in
+      let i = cords-at (r .scale) (length (r .nodes)) (getD table (suc (suc (suc index))) 0) table (suc (suc (suc (suc index)))) (s .cords) after noCord k (omega (arith, l .count)) (l .are) in
       let e4 : index + 4 + 2 * k ≡ suc (suc (suc (suc index))) + 2 * k = omega arith in
       let e5 : index + 5 + 2 * k ≡ suc (suc (suc (suc (suc index))) + 2 * k) = omega arith in
       let n : getD (s .cords) k noCord .node ≡ getD table (index + 4 + 2 * k) 0 = rw e4 (ap (λ (x : Cord). x .node) (i .is)) in
@@ -209,7 +184,7 @@ module _ (table : List ℕ) (r : Room) (v index c before left end after : ℕ) (
 
   server-here : ServerHere table r v index c
   server-here =
-      let i = server-is (length (r .nodes)) before table index s after first in
+      let i = server-is (r .scale) (length (r .nodes)) before table index s after first in
       let e1 : index + 1 ≡ suc index = omega arith in
       let e2 : index + 2 ≡ suc (suc index) = omega arith in
       let a : s .rank ≡ getD table index 0 = ap (λ (x : Server). x .rank) (i .is) in
@@ -226,6 +201,7 @@ module _ (table : List ℕ) (r : Room) (v index c before left end after : ℕ) (
         highest = rw (← a) (i .highest);
         ordered = rw (← b, ← d) (i .ordered);
         most = rw (← d) (i .greatest);
+        count = ap cordCount (here .0) ∙ sym n;
         cords-within = omega (arith, count-after);
         cord = λ k l. cord-here k (rw n at l);
         next = rw (add-one, w, n) walk-on;
@@ -235,11 +211,11 @@ module _ (table : List ℕ) (r : Room) (v index c before left end after : ℕ) (
 pub walk-server : {table : List ℕ} {r : Room} {v index c : ℕ} → Walk table r v index c → v < length (r .servers) → ServerHere table r v index c
 walk-server {table} {r} {v} {index} {c} walk h = go (walk .left) (walk .servers-left) (walk .is)
   where
-    go : (left : ℕ) → v + left ≡ length (r .servers) → servers (length (r .nodes)) left (walk .before) table index ≡ good (drop v (r .servers)) (walk .end)
+    go : (left : ℕ) → v + left ≡ length (r .servers) → servers (r .scale) (length (r .nodes)) left (walk .before) table index ≡ good (drop v (r .servers)) (walk .end)
         → ServerHere table r v index c
     go zero n e = absurd (omega arith)
     go (suc left) n e =
-        let m = many-is left (server (length (r .nodes))) (λ before s. before + cordCount s) (walk .before) table index (drop v (r .servers)) (walk .end) e in
+        let m = many-is left (server (r .scale) (length (r .nodes))) (λ before s. before + cordCount s) (walk .before) table index (drop v (r .servers)) (walk .end) e in
         server-here table r v index c (walk .before) left (walk .end) (m .at) (m .got) (m .rest) n (m .is) (m .first) (m .others) walk
 
 -- After the last server every cord is passed.

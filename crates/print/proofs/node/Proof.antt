@@ -1,0 +1,40 @@
+-- `node` meets its contract: there is no row past the last.
+use mathlib.Core.Path.{sym, ap}
+use mathlib.Core.List.{List, []}
+use Prim.Native.Nat.{ℕ}
+use lib.ListN.{List·getD-eq-default}
+use borrow.Author.Needs.{needs}
+use Rattle.figures.specs.Figures.{at}
+use Rattle.room_lists.specs.Lists.{nodeColumn}
+use Rattle.print.proofs.node.Statement.{statement}
+use Rattle.print.proofs.node.Tie as tie
+
+mul-word-index : tie.Need-mul-word-index
+mul-word-index c = search needs
+
+index-1-word-index : tie.Need-index-1-word-index
+index-1-word-index c = search needs
+
+index-2-word-index : tie.Need-index-2-word-index
+index-2-word-index c = search needs
+
+word-index-requires : tie.Need-word-index-requires
+word-index-requires c κs = search needs
+
+returns : tie.Need-returns
+returns c = search needs
+
+returns-2 : tie.Need-returns-2
+returns-2 c =
+    sym (ap (λ (row : List ℕ). at row nodeColumn) (List·getD-eq-default (c .before .args .cords .now) [] {n = c .before .args .place} (c .if1 .left)))
+
+pub node-spec : {M : Type 1} → statement M
+node-spec =
+    tie.close
+    (tie.spec
+    mul-word-index
+    index-1-word-index
+    index-2-word-index
+    word-index-requires
+    returns
+    returns-2)

@@ -1,0 +1,40 @@
+-- `plan_by` meets its contract: the rows are the room's, and so the print of the rows is the room's.
+use Rattle.print.proofs.Putting.{put-as}
+use Rattle.print.proofs.Promises.{prints-room}
+use borrow.Author.Needs.{needs}
+use Rattle.print.proofs.plan_by.Statement.{statement}
+use Rattle.print.proofs.plan_by.Tie as tie
+
+lay-out-servers-requires : tie.Need-lay-out-servers-requires
+lay-out-servers-requires c κs = c .before .before .before .before .before .before .pre
+
+put-plan-requires : tie.Need-put-plan-requires
+put-plan-requires c κs = search needs
+
+same-length : tie.Need-same-length
+same-length c = search needs
+
+same-length-2 : tie.Need-same-length-2
+same-length-2 c = search needs
+
+same-length-3 : tie.Need-same-length-3
+same-length-3 c = search needs
+
+returns : tie.Need-returns
+returns c = (
+  λ room end is.
+      let rows = c .before .before .before .before .before .before .before .before .lay-out-servers .ensures room end is in
+      put-as (prints-room _ room end _ _ _ _ _ _ is (rows .0) (rows .1)) (c .before .before .put-plan .ensures .0),
+  c .before .before .put-plan .ensures .1,
+)
+
+pub plan-by-spec : {M : Type 1} → statement M
+plan-by-spec =
+    tie.close
+    (tie.spec
+    lay-out-servers-requires
+    put-plan-requires
+    same-length
+    same-length-2
+    same-length-3
+    returns)

@@ -1,0 +1,4 @@
+-- The laws of `room_lists`.
+pub mod Counts
+pub mod Walk
+pub mod Laying

@@ -1,0 +1,64 @@
+-- `carried_by` meets its contract, by either divisor: a share of a load, within their ranges, stays far below 2^64.
+use mathlib.Core.Path.{sym}
+use native.Mathlib.Omega.{arith}
+use Rattle.rooms.proofs.Carried.{product-most, quotient-most, carried-is}
+use borrow.Author.Needs.{needs}
+use Rattle.rooms.proofs.limits.carried_by.Statement.{statement}
+use Rattle.rooms.proofs.limits.carried_by.Tie as tie
+
+wide-requires : tie.Need-wide-requires
+wide-requires c κs = search needs
+
+wide-requires-2 : tie.Need-wide-requires-2
+wide-requires-2 c κs = search needs
+
+mul-parts : tie.Need-mul-parts
+mul-parts c = omega (arith, product-most (c .before .wide .ensures .0) (c .wide2 .ensures .0) (c .before .before .pre))
+
+wide-requires-3 : tie.Need-wide-requires-3
+wide-requires-3 c κs = search needs
+
+sub-parts : tie.Need-sub-parts
+sub-parts c = omega (arith, c .wide3 .ensures .0, c .before .before .before .pre .0 .0)
+
+add-parts : tie.Need-add-parts
+add-parts c = omega (arith, product-most (c .before .before .wide .ensures .0) (c .before .wide2 .ensures .0) (c .before .before .before .pre), c .wide3 .ensures .1)
+
+narrow-requires : tie.Need-narrow-requires
+narrow-requires c κs =
+    omega (arith, quotient-most (c .before .before .before .wide .ensures .0) (c .before .before .wide2 .ensures .0) (c .before .wide3 .ensures .0) (c .before .before .before .before .pre) 1000 (sym (c .if1 .taken)))
+
+returns : tie.Need-returns
+returns c =
+    carried-is (c .before .before .before .before .wide .ensures .0) (c .before .before .before .wide2 .ensures .0) (c .before .before .wide3 .ensures .0) (sym (c .before .if1 .taken)) (c .narrow .ensures)
+
+wide-requires-4 : tie.Need-wide-requires-4
+wide-requires-4 c κs = search needs
+
+div-narrow : tie.Need-div-narrow
+div-narrow c = omega (arith, c .wide4 .ensures .0, c .before .before .before .before .before .pre .0 .0)
+
+narrow-requires-2 : tie.Need-narrow-requires-2
+narrow-requires-2 c κs =
+    omega (arith, quotient-most (c .before .before .before .before .wide .ensures .0) (c .before .before .before .wide2 .ensures .0) (c .before .before .wide3 .ensures .0) (c .before .before .before .before .before .pre) _ (c .wide4 .ensures .0))
+
+returns-2 : tie.Need-returns-2
+returns-2 c =
+    carried-is (c .before .before .before .before .before .wide .ensures .0) (c .before .before .before .before .wide2 .ensures .0) (c .before .before .before .wide3 .ensures .0) (c .before .wide4 .ensures .0) (c .narrow2 .ensures)
+
+pub carried-by-spec : {M : Type 1} → statement M
+carried-by-spec =
+    tie.close
+    (tie.spec
+    wide-requires
+    wide-requires-2
+    mul-parts
+    wide-requires-3
+    sub-parts
+    add-parts
+    narrow-requires
+    returns
+    wide-requires-4
+    div-narrow
+    narrow-requires-2
+    returns-2)

@@ -1,10 +1,11 @@
-//! The three C calls beside plain Rust: equal answers first, then times, growth, stack and size.
+//! The C calls beside plain Rust: equal answers first, then times, growth, stack and size.
 
 mod calls;
 mod compare;
 mod plain;
 mod rooms;
 mod stack;
+mod steps;
 
 use std::process::Command;
 use std::time::Instant;
@@ -27,6 +28,7 @@ fn main() {
     println!();
     full_rooms();
     growth();
+    steps::times();
     stack_depths();
     archive_size();
 }
@@ -107,12 +109,13 @@ fn stack_depths() {
         for shape in SHAPES {
             for given in compared_rooms(Kind { shape, ..FULL }) {
                 let mut out = Outputs::lent();
-                deepest.0 = stack::depth(product, &given, &mut out).max(deepest.0);
-                deepest.1 = stack::depth(baseline, &given, &mut out).max(deepest.1);
+                let mut depth = |call: Call| stack::depth(&mut || call(&given, &mut out));
+                deepest = (depth(product).max(deepest.0), depth(baseline).max(deepest.1));
             }
         }
         println!("{name:36} {:10} {:9}", deepest.0, deepest.1);
     }
+    steps::stack_depth();
     println!();
 }
 

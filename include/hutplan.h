@@ -9,14 +9,15 @@
  * A sheet is bytes. A table is a list of words (unsigned, 32 bits). So are demands, grants and
  * caps, which are watts. Every list of words passes as bytes, at any alignment: four for each word,
  * the lowest first. Its length is given in bytes. Where that is no multiple of four, the last one to
- * three bytes are not looked at and not changed. Figures of the cap loop (hutplan_step) are doubles,
- * in arrays of C's own.
+ * three bytes are not looked at and not changed. Figures of the cap loop (hutplan_step,
+ * hutplan_step_all) are doubles; the length of a list of them is their count.
  *
  * The answer is sixteen bytes, two numbers of eight bytes each, low byte first:
  *   bytes 0 to 7    0 if the input was accepted, else the number of the refusal (see below);
  *   bytes 8 to 15   refused: the refusal's place;
  *                   accepted: the count written, of words (hutplan_read, hutplan_schedule) or bytes
- *                   (hutplan_write), the freed watts (hutplan_plan), or 0 (hutplan_step).
+ *                   (hutplan_write), the freed watts (hutplan_plan), 0 (hutplan_step), or how many
+ *                   controllers were stepped (hutplan_step_all).
  * Bytes past the sixteenth are not touched. If the answer buffer is shorter than sixteen bytes, a
  * call returns 0 and changes nothing. In every other case it returns 1. The answer of hutplan_send
  * has eight bytes more (see there).
@@ -39,7 +40,8 @@
  *
  * Stack, as measured on x86-64 (docs/PERFORMANCE.md has the figures): about 25 KB for hutplan_read
  * and for hutplan_write, about 130 KB for hutplan_plan, about 8 KB for hutplan_schedule, about
- * 2 KB for hutplan_send, and less than 1 KB for hutplan_step. It does not grow with the input.
+ * 2 KB for hutplan_send, and less than 1 KB for hutplan_step and for hutplan_step_all. It does not
+ * grow with the input.
  */
 #ifndef HUTPLAN_H
 #define HUTPLAN_H
@@ -85,12 +87,16 @@ enum hutplan_refusal {
                                           (hutplan_plan) or servers named (hutplan_send) */
     HUTPLAN_CAPS_TOO_SHORT = 13,       /* the cap list; place: the count of servers */
 
-    /* A step of the DC cap loop (hutplan_step). */
+    /* A step of the DC cap loop (hutplan_step; in the results of hutplan_step_all). */
     HUTPLAN_CONTROLLER_OUT_OF_RANGE = 16, /* not 0 < k <= 1, or not
                                              0 <= low <= cap <= high <= 16,777,215, or one of these
                                              not finite; place: 0 */
     HUTPLAN_READING_OUT_OF_RANGE = 17,    /* a working cord's budget or measured watts not from 0 to
                                              16,777,215, or not finite; place: the first such cord */
+
+    /* A step of every controller (hutplan_step_all), before any is stepped. */
+    HUTPLAN_CONTROLLERS_UNFIT = 18,       /* over 512 controllers, readings not four each, or results
+                                             not one each; place: the number of controllers */
 
     /* Lines of a schedule, line by line (hutplan_schedule), all before 12. Place: the line. */
     HUTPLAN_NOT_A_LINE = 24,           /* not of the form, or a number above 9,999 */
@@ -124,6 +130,11 @@ enum hutplan_refusal {
 #define HUTPLAN_SEND_LIST_BYTES 2048
 #define HUTPLAN_ANSWER_BYTES 16
 #define HUTPLAN_SEND_ANSWER_BYTES 24
+
+/* Controllers of one hutplan_step_all, figures of a controller, and cords of a controller. */
+#define HUTPLAN_CONTROLLERS 512
+#define HUTPLAN_CONTROLLER_FIGURES 4
+#define HUTPLAN_CONTROLLER_CORDS 4
 
 /* The table of a schedule has no servers: at most 1,027 words. */
 #define HUTPLAN_SCHEDULE_TABLE_BYTES 4108
@@ -211,6 +222,27 @@ uint32_t hutplan_step(double controller[4],
                       const double budgets[4],
                       const double measured[4],
                       uint8_t *answer, size_t answer_len);
+
+/*
+ * Step all: one step of each of up to 512 servers' loops, in one call.
+ *
+ * The lists go controller by controller: controllers has four doubles each, as in hutplan_step;
+ * working, budgets and measured have four entries each, one a cord; results has one byte each. The
+ * lengths are counts of entries, so that of controllers is four times their number. One to three
+ * doubles over at its end belong to no controller, and are neither read nor written.
+ *
+ * Each controller ends exactly as hutplan_step would leave it. Its result is 0 where that step is
+ * accepted; where it is refused, the result is the number of the refusal, 16 or 17, and the
+ * controller stays as it was. Accepted, the answer's figure is how many results are 0.
+ *
+ * Refusals: 18, before anything is stepped.
+ */
+uint32_t hutplan_step_all(double *controllers, size_t controllers_len,
+                          const uint8_t *working, size_t working_len,
+                          const double *budgets, size_t budgets_len,
+                          const double *measured, size_t measured_len,
+                          uint8_t *results, size_t results_len,
+                          uint8_t *answer, size_t answer_len);
 
 /*
  * Send: the servers that a period's messages go to, over a bus that carries m messages a period.

@@ -6,6 +6,7 @@ mod plain;
 mod rooms;
 mod send;
 mod stack;
+mod steps;
 
 use std::process::Command;
 use std::time::Instant;
@@ -28,6 +29,7 @@ fn main() {
     println!();
     full_rooms();
     growth();
+    steps::times();
     stack_depths();
     send::periods();
     archive_size();
@@ -109,12 +111,13 @@ fn stack_depths() {
         for shape in SHAPES {
             for given in compared_rooms(Kind { shape, ..FULL }) {
                 let mut out = Outputs::lent();
-                deepest.0 = stack::depth(product, &given, &mut out).max(deepest.0);
-                deepest.1 = stack::depth(baseline, &given, &mut out).max(deepest.1);
+                let mut depth = |call: Call| stack::depth(&mut || call(&given, &mut out));
+                deepest = (depth(product).max(deepest.0), depth(baseline).max(deepest.1));
             }
         }
         println!("{name:36} {:10} {:9}", deepest.0, deepest.1);
     }
+    steps::stack_depth();
     println!();
 }
 

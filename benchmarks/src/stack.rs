@@ -2,27 +2,23 @@
 
 use std::arch::asm;
 
-use crate::calls::{Call, Inputs, Outputs};
-
 const STACK: usize = 1 << 20;
 const PAINT: u8 = 0xC3;
 
-/// A call with what it takes, for the far side of the change of stacks.
+/// A call, for the far side of the change of stacks.
 struct Errand<'a> {
-    call: Call,
-    given: &'a Inputs,
-    out: &'a mut Outputs,
+    call: &'a mut dyn FnMut() -> u32,
 }
 
 /// The bytes of stack that a call used, without those that an empty one uses.
-pub fn depth(call: Call, given: &Inputs, out: &mut Outputs) -> usize {
-    let own = painted(|_, _| 1, given, out);
-    painted(call, given, out) - own
+pub fn depth(call: &mut dyn FnMut() -> u32) -> usize {
+    let own = painted(&mut || 1);
+    painted(call) - own
 }
 
-fn painted(call: Call, given: &Inputs, out: &mut Outputs) -> usize {
+fn painted(call: &mut dyn FnMut() -> u32) -> usize {
     let mut stack = vec![PAINT; STACK];
-    let mut errand = Errand { call, given, out };
+    let mut errand = Errand { call };
     let top = (stack.as_mut_ptr() as usize + STACK) & !15;
     // SAFETY: a mebibyte is far more than any call needs; r12, which every callee keeps, holds the old stack meanwhile.
     unsafe {
@@ -42,5 +38,5 @@ fn painted(call: Call, given: &Inputs, out: &mut Outputs) -> usize {
 }
 
 extern "C" fn run(errand: &mut Errand) {
-    (errand.call)(errand.given, errand.out);
+    (errand.call)();
 }

@@ -1,7 +1,7 @@
 /*
- * Tests of hutplan_step by running, through the archive that firmware links.
+ * Tests of hutplan_step and hutplan_step_all by running, through the archive that firmware links.
  *
- * Every expected figure here is worked out from document 02, A.6. Each call is made on a copy of its
+ * Every expected figure here is worked out from document 02, A.6 and A.7. Each call is made on a copy of its
  * arrays with guard bytes around it; after it every byte is compared, so that zeros of either sign and
  * NaNs of any pattern are told apart. Prints one line; exit status 1 and a line for each difference.
  */
@@ -195,6 +195,118 @@ static void answers(void)
     }
 }
 
+/* ---- Every controller */
+
+#define MOST (HUTPLAN_CONTROLLERS + 1)
+
+static struct {
+    double controllers[4 * MOST + 3];
+    uint64_t guard0;
+    double budgets[4 * MOST];
+    double measured[4 * MOST];
+    uint8_t working[4 * MOST];
+    uint8_t guard1[8];
+    uint8_t results[MOST + 1];
+    uint8_t guard2[8];
+    uint8_t answer[24];
+} pass, expected_pass;
+
+/* So many servers, of which every third has a bad k, and every fifth a bad reading; the others get 10 W. */
+static void servers(size_t count)
+{
+    size_t i;
+
+    memset(&pass, 0xA5, sizeof pass);
+    memset(pass.working, 0, sizeof pass.working);
+    for (i = 0; i < count; i++) {
+        pass.controllers[4 * i] = 300.0;
+        pass.controllers[4 * i + 1] = i % 3 == 2 ? 2.0 : 0.5;
+        pass.controllers[4 * i + 2] = 100.0;
+        pass.controllers[4 * i + 3] = 400.0;
+        pass.working[4 * i] = pass.working[4 * i + 3] = 1;
+        pass.budgets[4 * i] = pass.budgets[4 * i + 3] = i % 5 == 4 ? -200.0 : 200.0;
+        pass.measured[4 * i] = 180.0;
+        pass.measured[4 * i + 3] = 190.0;
+    }
+}
+
+static uint32_t step_servers(size_t controllers, size_t working, size_t budgets, size_t measured,
+                             size_t results, size_t answer)
+{
+    return hutplan_step_all(pass.controllers, controllers, pass.working, working,
+                            pass.budgets, budgets, pass.measured, measured,
+                            pass.results, results, pass.answer, answer);
+}
+
+/* Steps so many servers, with this many doubles over, and expects each to be stepped or left. */
+static void pass_of(size_t count, size_t over)
+{
+    size_t i, stepped = 0;
+    uint32_t returned;
+
+    servers(count);
+    expected_pass = pass;
+    for (i = 0; i < count; i++) {
+        expected_pass.results[i] = i % 3 == 2 ? 16 : i % 5 == 4 ? 17 : 0;
+        if (expected_pass.results[i] == 0) {
+            expected_pass.controllers[4 * i] = 310.0;
+            stepped++;
+        }
+    }
+    memset(expected_pass.answer, 0, HUTPLAN_ANSWER_BYTES);
+    expected_pass.answer[8] = (uint8_t)(stepped % 256);
+    expected_pass.answer[9] = (uint8_t)(stepped / 256);
+    returned = step_servers(4 * count + over, 4 * count, 4 * count, 4 * count, count, HUTPLAN_ANSWER_BYTES);
+    expect(returned == 1, "returned", "a pass");
+    expect(memcmp(&pass, &expected_pass, sizeof pass) == 0, "lists, guards or answer", "a pass");
+}
+
+/* Expects refusal 18 at the number of controllers, and nothing else changed. */
+static void unfit(size_t count, size_t working, size_t budgets, size_t measured, size_t results, const char *name)
+{
+    uint32_t returned;
+
+    servers(count);
+    expected_pass = pass;
+    memset(expected_pass.answer, 0, HUTPLAN_ANSWER_BYTES);
+    expected_pass.answer[0] = HUTPLAN_CONTROLLERS_UNFIT;
+    expected_pass.answer[8] = (uint8_t)(count % 256);
+    expected_pass.answer[9] = (uint8_t)(count / 256);
+    returned = step_servers(4 * count, working, budgets, measured, results, HUTPLAN_ANSWER_BYTES);
+    expect(returned == 1, "returned", name);
+    expect(memcmp(&pass, &expected_pass, sizeof pass) == 0, "lists, guards or answer", name);
+}
+
+static void passes(void)
+{
+    size_t count, length;
+    uint8_t answer[HUTPLAN_ANSWER_BYTES], nothing[HUTPLAN_ANSWER_BYTES] = {0};
+
+    for (count = 0; count <= 20; count++)
+        pass_of(count, count % 4);
+    pass_of(HUTPLAN_CONTROLLERS, 3);
+    unfit(MOST, 4 * MOST, 4 * MOST, 4 * MOST, MOST, "513 controllers");
+    unfit(7, 27, 28, 28, 7, "a mark too few");
+    unfit(7, 29, 28, 28, 7, "a mark too many");
+    unfit(7, 28, 27, 28, 7, "a budget too few");
+    unfit(7, 28, 29, 28, 7, "a budget too many");
+    unfit(7, 28, 28, 24, 7, "a measurement too few");
+    unfit(7, 28, 28, 32, 7, "a measurement too many");
+    unfit(7, 28, 28, 28, 6, "a result too few");
+    unfit(7, 28, 28, 28, 8, "a result too many");
+    unfit(0, 0, 0, 0, 1, "a result for no controller");
+    for (length = 0; length < HUTPLAN_ANSWER_BYTES; length++) {
+        servers(3);
+        expected_pass = pass;
+        expect(step_servers(12, 12, 12, 12, 3, length) == 0, "returned", "a short answer");
+        expect(memcmp(&pass, &expected_pass, sizeof pass) == 0, "lists or answer", "a short answer");
+    }
+    memset(answer, 0xA5, sizeof answer);
+    expect(hutplan_step_all(NULL, 0, NULL, 0, NULL, 0, NULL, 0, NULL, 0, answer, sizeof answer) == 1,
+           "returned", "no controllers");
+    expect(memcmp(answer, nothing, sizeof answer) == 0, "answer", "no controllers");
+}
+
 int main(void)
 {
     moved_caps();
@@ -202,6 +314,7 @@ int main(void)
     rounded();
     refused();
     answers();
+    passes();
     printf("steps: %lu checks, %lu failed\n", checks, failures);
     return failures != 0;
 }

@@ -1,11 +1,14 @@
-//! The baseline: Read, Write and Plan of document 01 in plain Rust, over the bytes that a C caller lends.
+//! The baseline: Read, Write and Plan of document 01, and the pass of document 02's A.7, in plain Rust, over
+//! what a C caller lends.
 
 mod deal;
 mod number;
 mod plan;
+mod steps;
 mod table;
 
 pub use plan::plan;
+pub use steps::step_all;
 
 use table::Table;
 

@@ -72,7 +72,7 @@ unfolding least
 least-real error [] h no-reals = h
 least-real error (next ∷ rest) h (reals k more) = least-real (lesser error next) rest (go (lt (next .0) (error .0))) more
   where
-    go : (b : Bool) → T (real (cond b next error .0))
+    go : (b : Bool) → T (real (cond b (next .0) (error .0)))
     go true = k
     go false = h
 

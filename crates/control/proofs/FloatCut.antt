@@ -1,5 +1,5 @@
 -- Laws of cutting a cap to a range: it lands there, a cap in the range stays, and so does its value where a zero is added first.
-use mathlib.Core.Path.{_≡_, refl, sym, ap, _∙_}
+use mathlib.Core.Path.{_≡_, refl, sym, ap, _∙_, subst}
 use mathlib.Core.Logic.{_⊎_, inl, inr}
 use mathlib.Core.Bool.{Bool, true, false, cond}
 use Prim.Native.Nat.{_*_}
@@ -23,7 +23,7 @@ cut-within x low high p h = go (lt (x .0) (low .0)) (lt (high .0) (x .0)) refl r
     ends : T (real (low .0)) × T (real (high .0))
     ends = le-real (low .0) (high .0) h
 
-    go : (a b : Bool) → lt (x .0) (low .0) ≡ a → lt (high .0) (x .0) ≡ b → T (ordered (low .0) (cond a low (cond b high x) .0) (high .0))
+    go : (a b : Bool) → lt (x .0) (low .0) ≡ a → lt (high .0) (x .0) ≡ b → T (ordered (low .0) (cond a (low .0) (cond b (high .0) (x .0))) (high .0))
     go true b e f = and-i (le (low .0) (low .0)) (le (low .0) (high .0)) (le-refl (low .0) (ends .0)) h
     go false true e f = and-i (le (low .0) (high .0)) (le (high .0) (high .0)) h (le-refl (high .0) (ends .1))
     go false false e f =
@@ -81,4 +81,4 @@ cut-zero-added x y low high h p z l u = go (add-zero-is binary64 (x .0) (y .0) h
     go (inr e) =
         let w = zero-shape binary64 (x .0) h (e .0) in
         let kept : cut (sum x y) low high ≡ dc float0 = ap (λ (v : Float). cut (dc v) low high) (e .1) ∙ zero-cut (w .0) low high (rw (w .1) at l) (rw (w .1) at u) in
-        inr (e .0, rw (kept, w .1) (zeros-equal (w .0)))
+        inr (e .0, subst (λ (v : DcWatts). T (eq (v .0) (x .0))) (sym kept) (rw (w .1) (zeros-equal (w .0))))

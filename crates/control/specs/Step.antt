@@ -71,8 +71,11 @@ errors (Working budget measured ∷ rest) = difference budget measured ∷ error
 errors (Failed ∷ rest) = errors rest
 
 -- The lesser of two, and the first of equals.
+abbrev pub lesserFigure : Float → Float → Float
+lesserFigure first second = cond (lt second first) second first
+
 abbrev pub lesser : AcWatts → AcWatts → AcWatts
-lesser first second = cond (lt (second .0) (first .0)) second first
+lesser first second = ac (lesserFigure (first .0) (second .0))
 
 -- The least of an error and those after it, and the first of equals.
 unfoldable pub least : AcWatts → List AcWatts → AcWatts
@@ -89,8 +92,11 @@ abbrev pub sum : DcWatts → DcWatts → DcWatts
 sum cap change = dc (add binary64 (cap .0) (change .0))
 
 -- A cap cut to a range.
+abbrev pub cutFigure : Float → Float → Float → Float
+cutFigure x low high = cond (lt x low) low (cond (lt high x) high x)
+
 abbrev pub cut : DcWatts → DcWatts → DcWatts → DcWatts
-cut cap low high = cond (lt (cap .0) (low .0)) low (cond (lt (high .0) (cap .0)) high cap)
+cut cap low high = dc (cutFigure (cap .0) (low .0) (high .0))
 
 -- The controller with another cap; k, low and high stay.
 abbrev pub withCap : Controller → DcWatts → Controller

@@ -3,9 +3,9 @@
 // This is A.6 of document 02, after section IV.B of the report. Figures are 64-bit floats; each operation is rounded once.
 ghost use mathlib.Core.Path.{_≡_};
 ghost use Prim.Native.Nat.{_<_};
-ghost use Rattle.control.specs.Step.{ordered, isEfficiency, inRange, difference, lesser, dcChange, sum, cut, goodReading, goodController, moved, stepped, refusal, stepNumber, stepPlace, controllerAfter};
+ghost use Rattle.control.specs.Step.{ordered, isEfficiency, inRange, difference, lesserFigure, lesser, dcChange, sum, cutFigure, cut, goodReading, goodController, moved, stepped, refusal, stepNumber, stepPlace, controllerAfter};
 ghost use Rattle.control.specs.declared.Stepped.the-variants.{Refused};
-ghost use Rattle.control.specs.Tally.{counted, tallied};
+ghost use Rattle.control.specs.Tally.{tallied};
 
 pub mod call;
 
@@ -49,10 +49,10 @@ pub enum Stepped {
     Refused(Refusal, Controller),
 }
 
-// What the cords seen so far come to: no working one; or the least error of those that work, and how many they are.
-pub enum Tally {
-    Empty,
-    Least(AcWatts, u32),
+// What the cords seen so far come to: how many of them work, and the least error of those. Where none does, the error says nothing.
+pub struct Tally {
+    pub least: AcWatts,
+    pub working: u32,
 }
 
 // Whether low ≤ x ≤ high, which no NaN does.
@@ -88,7 +88,7 @@ impl AcWatts {
     fn lesser(self, second: AcWatts) -> AcWatts
         ensures { λ r. ⌜ r ≡ lesser self second ⌝ }
     {
-        if second.0 < self.0 { second } else { self }
+        AcWatts(lesser(self.0, second.0))
     }
 
     // The DC change for an AC error of so many working cords: the one place where AC watts become DC watts.
@@ -113,13 +113,27 @@ impl DcWatts {
     fn cut(self, low: DcWatts, high: DcWatts) -> DcWatts
         ensures { λ r. ⌜ r ≡ cut self low high ⌝ }
     {
-        if self.0 < low.0 {
-            low
-        } else if high.0 < self.0 {
-            high
-        } else {
-            self
-        }
+        DcWatts(cut(self.0, low.0, high.0))
+    }
+}
+
+// The lesser of two figures, and the first of equals. (Of floats the processor chooses without a branch; of structs it would not.)
+fn lesser(first: f64, second: f64) -> f64
+    ensures { λ r. ⌜ r ≡ lesserFigure first second ⌝ }
+{
+    if second < first { second } else { first }
+}
+
+// A figure cut to a range.
+fn cut(x: f64, low: f64, high: f64) -> f64
+    ensures { λ r. ⌜ r ≡ cutFigure x low high ⌝ }
+{
+    if x < low {
+        low
+    } else if high < x {
+        high
+    } else {
+        x
     }
 }
 
@@ -138,15 +152,22 @@ impl Reading {
 impl Tally {
     // The tally with one cord more.
     fn with(self, reading: Reading) -> Tally
-        requires { ⌜ counted self < 4 ⌝ }
+        requires { ⌜ self .working < 4 ⌝ }
         ensures { λ r. ⌜ r ≡ tallied self reading ⌝ }
     {
         match reading {
             Reading::Working(budget, measured) => {
                 let error = budget.less(measured);
-                match self {
-                    Tally::Empty => Tally::Least(error, 1),
-                    Tally::Least(least, working) => Tally::Least(least.lesser(error), working + 1),
+                if self.working == 0 {
+                    return Tally {
+                        least: error,
+                        working: 1,
+                    };
+                }
+                let least = self.least;
+                Tally {
+                    least: least.lesser(error),
+                    working: self.working + 1,
                 }
             }
             Reading::Failed => self,
@@ -162,7 +183,10 @@ impl Controller {
         if !self.is_good() {
             return refused(BAD_CONTROLLER, 0, self);
         }
-        let mut tally = Tally::Empty;
+        let mut tally = Tally {
+            least: AcWatts(0.0),
+            working: 0,
+        };
         for cord in 0..4usize {
             let reading = readings[cord];
             if !reading.is_good() {
@@ -171,10 +195,11 @@ impl Controller {
             let next = tally.with(reading);
             tally = next;
         }
-        match tally {
-            Tally::Empty => Stepped::Next(self),
-            Tally::Least(error, working) => Stepped::Next(self.moved(error, working)),
+        if tally.working == 0 {
+            return Stepped::Next(self);
         }
+        let error = tally.least;
+        Stepped::Next(self.moved(error, tally.working))
     }
 
     // Whether k is an efficiency, and 0 ≤ low ≤ cap ≤ high ≤ the greatest watts.

@@ -1,7 +1,7 @@
 //! The C calls: word lists as bytes, four a word, low byte first, figures of the cap loop as doubles,
 //! and the answer buffer.
 
-use crate::control::Controller;
+use crate::control::{step_all as step_each, Controller, Cord};
 use crate::Refusal;
 
 const ANSWER: usize = 16;
@@ -67,12 +67,48 @@ pub fn step(
     answer: &mut [u8],
 ) -> u32 {
     answered(answer, || {
-        let [cap, k, low, high] = *controller;
-        let cord = |i: usize| (working[i] != 0).then_some((budgets[i], measured[i]));
-        let cords = [0, 1, 2, 3].map(cord);
-        controller[0] = Controller { cap, k, low, high }.step(cords)?;
+        controller[0] = controller_of(controller).step(cords_of(working, budgets, measured))?;
         Ok(0)
     })
+}
+
+/// A step of every controller: the figures of each, four a controller, then the marks, the budgets and
+/// the measured watts of their cords, four a controller, and the results, one a controller.
+pub fn step_all(
+    controllers: &mut [f64],
+    working: &[u8],
+    budgets: &[f64],
+    measured: &[f64],
+    results: &mut [u8],
+    answer: &mut [u8],
+) -> u32 {
+    answered(answer, || {
+        let count = controllers.len() / 4;
+        let fours = [working.len(), budgets.len(), measured.len()];
+        if count > 512 || fours != [4 * count; 3] || results.len() != count {
+            return Err(Refusal::new(18, count));
+        }
+        let found: Vec<Controller> = controllers.chunks_exact(4).map(controller_of).collect();
+        let cords = |i| cords_of(&working[i..], &budgets[i..], &measured[i..]);
+        let cords: Vec<[Cord; 4]> = (0..count).map(|i| cords(4 * i)).collect();
+        for (i, (cap, number)) in step_each(&found, &cords).into_iter().enumerate() {
+            results[i] = number as u8;
+            if number == 0 {
+                controllers[4 * i] = cap;
+            }
+        }
+        Ok(results.iter().filter(|number| **number == 0).count() as u64)
+    })
+}
+
+fn controller_of(figures: &[f64]) -> Controller {
+    let [cap, k, low, high] = [figures[0], figures[1], figures[2], figures[3]];
+    Controller { cap, k, low, high }
+}
+
+/// The first four cords of the lists.
+fn cords_of(working: &[u8], budgets: &[f64], measured: &[f64]) -> [Cord; 4] {
+    [0, 1, 2, 3].map(|i| (working[i] != 0).then_some((budgets[i], measured[i])))
 }
 
 /// Runs the call if its answer fits, and answers.

@@ -59,6 +59,17 @@ impl Controller {
     }
 }
 
+/// Every controller's step, each with its four cords: the cap that it is left with, and the number of its
+/// refusal, or 0.
+pub fn step_all(controllers: &[Controller], cords: &[[Cord; 4]]) -> Vec<(f64, u64)> {
+    let both = controllers.iter().zip(cords);
+    both.map(|(controller, cords)| match controller.step(*cords) {
+        Ok(cap) => (cap, 0),
+        Err(refusal) => (controller.cap, refusal.number),
+    })
+    .collect()
+}
+
 fn in_range(watts: f64) -> bool {
     watts.is_finite() && (0.0..=MOST).contains(&watts)
 }

@@ -152,3 +152,105 @@ fn the_call_changes_the_cap_alone() {
         (0, [305.0, 0.5, 100.0, 400.0], [0xAA; 15])
     );
 }
+
+/// Three controllers, of which the second has no efficiency and the third a bad reading at cord 1.
+fn three() -> ([f64; 12], [u8; 12], [f64; 12], [f64; 12]) {
+    let controllers = [
+        [300.0, 0.5, 100.0, 400.0],
+        [300.0, 0.0, 100.0, 400.0],
+        [300.0, 0.5, 100.0, 400.0],
+    ];
+    let working = [[1, 0, 0, 1], [1, 0, 0, 0], [1, 1, 0, 0]];
+    let budgets = [
+        [200.0, 0.0, 0.0, 250.0],
+        [200.0, 0.0, 0.0, 0.0],
+        [200.0, -1.0, 0.0, 0.0],
+    ];
+    let measured = [[190.0, 0.0, 0.0, 190.0], [190.0; 4], [190.0; 4]];
+    (
+        controllers.concat().try_into().expect("twelve"),
+        working.concat().try_into().expect("twelve"),
+        budgets.concat().try_into().expect("twelve"),
+        measured.concat().try_into().expect("twelve"),
+    )
+}
+
+#[test]
+fn a_pass_steps_those_that_can_be_stepped() {
+    let (mut controllers, working, budgets, measured) = three();
+    let mut expected = controllers;
+    expected[0] = 310.0;
+    let (mut results, mut answer) = ([0xAA; 3], [0xAA; 16]);
+    let returned = call::step_all(
+        &mut controllers,
+        &working,
+        &budgets,
+        &measured,
+        &mut results,
+        &mut answer,
+    );
+    assert_eq!((returned, controllers, results), (1, expected, [0, 16, 17]));
+    assert_eq!(answer, [0, 0, 0, 0, 0, 0, 0, 0, 1, 0, 0, 0, 0, 0, 0, 0]);
+}
+
+#[test]
+fn lists_that_do_not_fit_are_refused_before_any_step() {
+    let (controllers, working, budgets, measured) = three();
+    let refused = |w: usize, b: usize, m: usize, r: usize| {
+        let (mut after, mut results, mut answer) = (controllers, [0xAA; 4], [0xAA; 16]);
+        call::step_all(
+            &mut after,
+            &working[..w],
+            &budgets[..b],
+            &measured[..m],
+            &mut results[..r],
+            &mut answer,
+        );
+        assert_eq!((after, results), (controllers, [0xAA; 4]));
+        assert_eq!(answer, [18, 0, 0, 0, 0, 0, 0, 0, 3, 0, 0, 0, 0, 0, 0, 0]);
+    };
+    refused(11, 12, 12, 3);
+    refused(12, 8, 12, 3);
+    refused(12, 12, 0, 3);
+    refused(12, 12, 12, 2);
+    refused(12, 12, 12, 4);
+}
+
+#[test]
+fn at_most_512_controllers_are_stepped() {
+    for (count, number, figure) in [(512, 0, 512), (513, 18, 513)] {
+        let mut controllers = [300.0, 0.5, 100.0, 400.0].repeat(count);
+        let (marks, watts) = (vec![0; 4 * count], vec![0.0; 4 * count]);
+        let (mut results, mut answer) = (vec![9; count], [0xAA; 16]);
+        let (working, budgets) = (&marks, &watts);
+        call::step_all(
+            &mut controllers,
+            working,
+            budgets,
+            &watts,
+            &mut results,
+            &mut answer,
+        );
+        assert_eq!(answer[..8], u64::to_le_bytes(number));
+        assert_eq!(answer[8..], u64::to_le_bytes(figure));
+        assert!(results
+            .iter()
+            .all(|result| *result == if number == 0 { 0 } else { 9 }));
+    }
+}
+
+#[test]
+fn figures_over_belong_to_no_controller() {
+    let mut controllers = [300.0, 0.5, 100.0, 400.0, 1.0, 2.0, 3.0];
+    let (mut results, mut answer) = ([9], [0xAA; 16]);
+    let returned = call::step_all(
+        &mut controllers,
+        &[1, 0, 0, 0],
+        &[200.0; 4],
+        &[190.0; 4],
+        &mut results,
+        &mut answer,
+    );
+    assert_eq!((returned, results), (1, [0]));
+    assert_eq!(controllers, [305.0, 0.5, 100.0, 400.0, 1.0, 2.0, 3.0]);
+}

@@ -1,13 +1,15 @@
--- `lesser` meets its contract.
-use Rattle.control.proofs.Tests.{cond-true, cond-false}
+-- `AcWatts::lesser` meets its contract.
+use borrow.Author.Needs.{needs}
+use mathlib.Core.Path.{ap}
+use Rattle.control.specs.Step.{ac}
 use Rattle.control.proofs.AcWatts.lesser.Statement.{statement}
 use Rattle.control.proofs.AcWatts.lesser.Tie as tie
 
-returns : tie.Need-returns
-returns c = cond-true _ _ (c .if1 .taken)
+lesser-requires : tie.Need-lesser-requires
+lesser-requires c κs = search needs
 
-returns-2 : tie.Need-returns-2
-returns-2 c = cond-false _ _ (c .if1 .left)
+returns : tie.Need-returns
+returns c = ap ac (c .lesser .ensures)
 
 pub lesser-spec : {M : Type 1} → statement M
-lesser-spec = tie.close (tie.spec returns returns-2)
+lesser-spec = tie.close (tie.spec lesser-requires returns)

@@ -1,12 +1,13 @@
 -- `Controller::step` meets its contract: the cords are judged and tallied in order.
 use borrow.Author.Needs.{needs}
 use native.Mathlib.Omega.{arith}
-use mathlib.Core.Path.{ap, _∙_}
+use mathlib.Core.Path.{sym, ap, _∙_}
+use mathlib.Core.List.{[]}
 use Prim.Native.Nat.{_-_}
 use Rattle.control.specs.declared.Stepped.the-variants.{Next}
 use Rattle.control.specs.Step.{successor}
 use Rattle.control.proofs.Tests.{was-true, was-false}
-use Rattle.control.proofs.Cords.{Before, successorFrom, successorFrom-least, before-first, before-next, stepped-bad-controller, stepped-bad-reading, stepped-next}
+use Rattle.control.proofs.Cords.{Before, successorFrom-none, successorFrom-end, before-first, before-next, stepped-bad-controller, stepped-bad-reading, stepped-next}
 use Rattle.control.proofs.Controller.step.Statement.{statement}
 use Rattle.control.proofs.Controller.step.Tie as tie
 
@@ -28,7 +29,7 @@ returns c =
     c .refused .ensures ∙ stepped-bad-controller (test .before .args .self) _ (was-false (test .is-good .ensures) (c .before .if1 .taken))
 
 loop-holds : tie.Need-loop-holds Inv-loop μ-loop
-loop-holds c = before-first _ _ (was-true (c .before .is-good .ensures) (c .if1 .left)) (search needs)
+loop-holds c = before-first _ _ _ (was-true (c .before .is-good .ensures) (c .if1 .left)) (search needs)
 
 mul-reading : tie.Need-mul-reading Inv-loop μ-loop
 mul-reading c = omega arith
@@ -63,26 +64,20 @@ loop-again c =
     rw (c .with .ensures)
     (before-next _ _ _ _ (test .before .before .before .loop .inv) _ (omega arith) (was-true (test .is-good2 .ensures) (c .before .if2 .left)))
 
-enum-told : tie.Need-enum-told Inv-loop μ-loop
-enum-told c = search needs
-
-enum-known-tally : tie.Need-enum-known-tally Inv-loop μ-loop
-enum-known-tally c = search needs
+returns-3 : tie.Need-returns-3 Inv-loop μ-loop
+unfolding successor
+returns-3 c =
+    let inv = c .before .before .before .loop .inv in
+    ap Next (sym (successorFrom-none _ _ [] (c .if3 .taken))) ∙ stepped-next _ _ _ _ inv (omega arith)
 
 moved-requires : tie.Need-moved-requires Inv-loop μ-loop
 moved-requires c κs = search needs
 
-returns-3 : tie.Need-returns-3 Inv-loop μ-loop
-unfolding successorFrom successor
-returns-3 c =
-    let inv = rw (c .enum-told .given .1) at (c .before .before .before .loop .inv) in
-    stepped-next _ _ _ _ inv (omega arith)
-
 returns-4 : tie.Need-returns-4 Inv-loop μ-loop
 returns-4 c =
-    let known = c .before .before in
-    let inv = rw (known .tally .given .1) at (known .before .before .before .loop .inv) in
-    ap Next (c .moved .ensures ∙ successorFrom-least _ _ _) ∙ stepped-next _ _ _ _ inv (omega arith)
+    let test = c .before .before in
+    let inv = test .before .before .before .loop .inv in
+    ap Next (c .moved .ensures ∙ successorFrom-end _ _ (omega (arith, test .if3 .left))) ∙ stepped-next _ _ _ _ inv (omega arith)
 
 pub step-spec : {M : Type 1} → statement M
-step-spec = tie.close (tie.spec Inv-loop μ-loop is-good-requires refused-requires returns loop-holds mul-reading array-copy-out-reading is-good-requires-2 refused-requires-2 returns-2 with-requires add-cord loop-less loop-again enum-told enum-known-tally moved-requires returns-3 returns-4)
+step-spec = tie.close (tie.spec Inv-loop μ-loop is-good-requires refused-requires returns loop-holds mul-reading array-copy-out-reading is-good-requires-2 refused-requires-2 returns-2 with-requires add-cord loop-less loop-again returns-3 moved-requires returns-4)

@@ -1,17 +1,15 @@
--- `cut` meets its contract.
-use mathlib.Core.Path.{_∙_}
-use Rattle.control.proofs.Tests.{cond-true, cond-false}
+-- `DcWatts::cut` meets its contract.
+use borrow.Author.Needs.{needs}
+use mathlib.Core.Path.{ap}
+use Rattle.control.specs.Step.{dc}
 use Rattle.control.proofs.DcWatts.cut.Statement.{statement}
 use Rattle.control.proofs.DcWatts.cut.Tie as tie
 
+cut-requires : tie.Need-cut-requires
+cut-requires c κs = search needs
+
 returns : tie.Need-returns
-returns c = cond-true _ _ (c .if1 .taken)
-
-returns-2 : tie.Need-returns-2
-returns-2 c = cond-true _ _ (c .if2 .taken) ∙ cond-false _ _ (c .before .before .before .if1 .left)
-
-returns-3 : tie.Need-returns-3
-returns-3 c = cond-false _ _ (c .if2 .left) ∙ cond-false _ _ (c .before .before .before .if1 .left)
+returns c = ap dc (c .cut .ensures)
 
 pub cut-spec : {M : Type 1} → statement M
-cut-spec = tie.close (tie.spec returns returns-2 returns-3)
+cut-spec = tie.close (tie.spec cut-requires returns)

@@ -1,0 +1,71 @@
+-- `step_each` meets its contract: each turn makes one controller's own step.
+use borrow.Author.Needs.{needs}
+use native.Mathlib.Omega.{arith}
+use Prim.Native.Nat.{_-_}
+use Rattle.control_all.proofs.Turns.{Before, before-first, before-next, before-last}
+use Rattle.control_all.proofs.step_each.Statement.{statement}
+use Rattle.control_all.proofs.step_each.Tie as tie
+
+abbrev Inv-loop : tie.InvT-loop
+Inv-loop controllers₀ working budgets measured results₀ count stepped₀ i₀ controllers results stepped i =
+    Before controllers₀ working budgets measured results₀ controllers results stepped i
+
+abbrev μ-loop : tie.MeasureT-loop
+μ-loop controllers₀ working budgets measured results₀ count stepped₀ i₀ controllers results stepped i = count - i
+
+loop-holds : tie.Need-loop-holds Inv-loop μ-loop
+loop-holds c = before-first _ _ _ _ _ (c .before .before .before .before .before .pre)
+
+mul-step-at : tie.Need-mul-step-at Inv-loop μ-loop
+mul-step-at c = let inv = c .before .before .loop .inv in omega (arith, inv .fit .few)
+
+step-at-requires : tie.Need-step-at-requires Inv-loop μ-loop
+step-at-requires c κs =
+    let inv = c .before .before .loop .inv in
+    let fit = inv .fit in
+    let here = c .before .loop-test .taken in
+    (omega (arith, here, fit .controllers-are, inv .controllers-kept), omega (arith, here, fit .working-are), omega (arith, here, fit .budgets-are), omega (arith, here, fit .measured-are))
+
+mul-keep-at : tie.Need-mul-keep-at Inv-loop μ-loop
+mul-keep-at c = let inv = c .before .before .before .before .loop .inv in omega (arith, inv .fit .few)
+
+keep-at-requires : tie.Need-keep-at-requires Inv-loop μ-loop
+keep-at-requires c κs =
+    let inv = c .before .before .before .before .loop .inv in
+    omega (arith, c .before .before .before .loop-test .taken, inv .fit .controllers-are, inv .controllers-kept)
+
+slice-write-results : tie.Need-slice-write-results Inv-loop μ-loop
+slice-write-results c = omega (arith, c .before .before .before .before .before .before .before .loop .inv .results-kept)
+
+one-if-zero-requires : tie.Need-one-if-zero-requires Inv-loop μ-loop
+one-if-zero-requires c κs = search needs
+
+add-stepped : tie.Need-add-stepped Inv-loop μ-loop
+add-stepped c =
+    let inv = c .before .before .before .before .before .before .before .before .loop .inv in
+    omega (arith, inv .few, inv .fit .few, inv .within, c .one-if-zero .ensures .1)
+
+add-i : tie.Need-add-i Inv-loop μ-loop
+add-i c = omega arith
+
+loop-less : tie.Need-loop-less Inv-loop μ-loop
+loop-less c = omega arith
+
+loop-again : tie.Need-loop-again Inv-loop μ-loop
+loop-again c =
+    let keep = c .before .before .before in
+    let step = keep .before .before in
+    before-next _ _ _ _ _ (step .before .before .before .loop .inv) (omega (arith, step .before .before .loop-test .taken)) (step .step-at .ensures) (keep .keep-at .ensures .0) (keep .keep-at .ensures .1)
+    (c .one-if-zero .ensures .0) (c .one-if-zero .ensures .1)
+
+same-length : tie.Need-same-length Inv-loop μ-loop
+same-length c = c .before .loop .inv .controllers-kept
+
+same-length-2 : tie.Need-same-length-2 Inv-loop μ-loop
+same-length-2 c = c .before .loop .inv .results-kept
+
+returns : tie.Need-returns Inv-loop μ-loop
+returns c = let e = before-last _ _ _ _ _ (c .before .loop .inv) (omega arith) in (e .0, (e .1, e .2))
+
+pub step-each-spec : {M : Type 1} → statement M
+step-each-spec = tie.close (tie.spec Inv-loop μ-loop loop-holds mul-step-at step-at-requires mul-keep-at keep-at-requires slice-write-results one-if-zero-requires add-stepped add-i loop-less loop-again same-length same-length-2 returns)

@@ -1,0 +1,95 @@
+-- A pass over every controller: document 02, A.7. What each one's step is stands in `control`.
+--
+-- A list of controllers has four figures for each, in a row: cap, k, low and high. One to three figures over at its end belong to none.
+-- The marks, the budgets and the measured watts have four entries for each controller, one a cord.
+use mathlib.Core.Path.{_≡_}
+use mathlib.Core.Bool.{Bool, cond, _&&_}
+use mathlib.Core.List.{List, [], _∷_}
+use Prim.Native.Nat.{ℕ, zero, suc, _+_, _*_, _/_, _≤_}
+use lib.Dec.{eqb, leb}
+use lib.ListN.{length, set}
+use lib.Ieee.{Float}
+use Rattle.control.specs.declared.Stepped.{Stepped}
+use Rattle.control.specs.Step.{stepNumber}
+use Rattle.control.specs.Call.{stepAt, figuresAfter}
+use Rattle.control_all.specs.declared.Answer.{Answer}
+use Rattle.control_all.specs.declared.Answer.the-variants.{Accepted, Refused}
+
+-- ---- Lists that fit
+
+-- The most controllers of a pass.
+abbrev pub mostControllers : ℕ
+mostControllers = 512
+
+-- How many controllers a list has.
+abbrev pub controllerCount : List Float → ℕ
+controllerCount controllers = length controllers / 4
+
+-- Whether lists of these lengths fit so many controllers: no more than the most, four readings each, one result each.
+abbrev pub fitting : ℕ → ℕ → ℕ → ℕ → ℕ → Bool
+fitting controllers working budgets measured results =
+    leb controllers mostControllers
+    && (eqb working (4 * controllers) && (eqb budgets (4 * controllers) && (eqb measured (4 * controllers) && eqb results controllers)))
+
+-- ---- Every controller's step
+
+module _ (controllers : List Float) (working : List ℕ) (budgets measured : List Float) where
+  -- The step of controller i, as it is found.
+  abbrev pub ownStep : ℕ → Stepped
+  ownStep i = stepAt controllers working budgets measured (4 * i)
+
+  -- The controllers, once the first so many are stepped.
+  unfoldable pub steppedTo : ℕ → List Float
+  steppedTo zero = controllers
+  steppedTo (suc i) = figuresAfter (ownStep i) (steppedTo i) (4 * i)
+
+  -- The results, once the first so many numbers are in their places: 0, 16 or 17.
+  unfoldable pub numbersTo : List ℕ → ℕ → List ℕ
+  numbersTo results zero = results
+  numbersTo results (suc i) = set (numbersTo results i) i (stepNumber (ownStep i))
+
+-- How many entries are 0.
+unfoldable pub zeros : List ℕ → ℕ
+zeros [] = 0
+zeros (number ∷ rest) = cond (eqb number 0) 1 0 + zeros rest
+
+-- ---- Outcomes
+
+-- What a pass comes to: the controllers and the results after it; or refused, with the number of controllers.
+pub data Outcome : Type 0 where
+  accepted : List Float → List ℕ → Outcome
+  refused : ℕ → Outcome
+
+-- A pass: refused, before anything is stepped, where the lists do not fit.
+unfoldable pub passed : List Float → List ℕ → List Float → List Float → List ℕ → Outcome
+unfolding steppedTo numbersTo
+passed controllers working budgets measured results =
+    let count = controllerCount controllers in
+    cond (fitting count (length working) (length budgets) (length measured) (length results))
+    (accepted (steppedTo controllers working budgets measured count) (numbersTo controllers working budgets measured results count))
+    (refused count)
+
+-- The answer: how many results are 0, or the refusal's place.
+abbrev pub answerOf : Outcome → Answer
+answerOf (accepted controllers results) = Accepted (zeros results)
+answerOf (refused count) = Refused count
+
+-- The lists after an outcome; a refused pass leaves both as they were.
+abbrev pub controllersAfter : Outcome → List Float → List Float
+controllersAfter (accepted controllers results) before = controllers
+controllersAfter (refused count) before = before
+
+abbrev pub resultsAfter : Outcome → List ℕ → List ℕ
+resultsAfter (accepted controllers results) before = results
+resultsAfter (refused count) before = before
+
+-- ---- Numbers and figures
+
+-- An answer's number, 0 if accepted, and its figure: how many controllers have 0, or the refusal's place.
+abbrev pub answerNumber : Answer → ℕ
+answerNumber (Accepted count) = 0
+answerNumber (Refused place) = 18
+
+abbrev pub answerFigure : Answer → ℕ
+answerFigure (Accepted count) = count
+answerFigure (Refused place) = place

@@ -117,7 +117,7 @@ impl DcWatts {
     }
 }
 
-// The lesser of two figures, and the first of equals. (Of floats the processor chooses without a branch; of structs it would not.)
+// The lesser of two figures, and the first of equals. They are chosen as floats: a choice between structs goes through integer registers.
 fn lesser(first: f64, second: f64) -> f64
     ensures { λ r. ⌜ r ≡ lesserFigure first second ⌝ }
 {

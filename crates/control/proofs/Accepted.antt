@@ -3,13 +3,13 @@ use mathlib.Core.Path.{_≡_, refl, sym, ap, _∙_}
 use mathlib.Core.Bool.{Bool, true, false, cond, _&&_, _||_, Bool·beq, true≢false}
 use mathlib.Core.List.{List, [], _∷_}
 use mathlib.Core.Logic.{_⊎_, inl, inr}
-use Prim.Native.Nat.{ℕ, suc, _*_, _^_, _<_, _≤_}
+use Prim.Native.Nat.{ℕ, suc, _+_, _*_, _^_, _<_, _≤_}
 use native.Mathlib.Nat.{zero-lt-suc, zero-mul}
 use native.Mathlib.Omega.{arith}
 use lib.IntN.{pos}
 use lib.Dec.{T, eqb, eqb→eq}
 use lib.ListN.{length}
-use lib.Ieee.{Float, nan, inf, fin, binary64, up, down, mul, lt, le, eq, ofInt}
+use lib.Ieee.{Float, nan, inf, fin, binary64, up, down, fits, mul, lt, le, eq, ofInt}
 use lib.Ieee.Bits.{is-true}
 use lib.Ieee.Fits.{and-i, and-l, and-r, up-pos, eq→eqb}
 use lib.Ieee.Positive.{positive}
@@ -20,8 +20,8 @@ use Rattle.control.specs.declared.Reading.{Reading}
 use Rattle.control.specs.declared.Reading.the-variants.{Working, Failed}
 use Rattle.control.specs.declared.Controller.{Controller}
 use Rattle.control.specs.declared.Stepped.{Stepped}
-use Rattle.control.specs.declared.Stepped.the-variants.{Next}
-use Rattle.control.specs.Step.{float0, ordered, errors, lesser, least, dcChange, sum, cut, withCap, successor, stepped, stepNumber}
+use Rattle.control.specs.declared.Stepped.the-variants.{Next, Refused}
+use Rattle.control.specs.Step.{float0, ordered, errors, lesser, least, dcChange, sum, cut, withCap, moved, successor, stepped, stepNumber}
 use Rattle.control.specs.Promises.{AcceptedStep, Sound, Kept}
 use Rattle.control.proofs.FloatOrder.{real, from-true, le-trans, eq-refl, finite-real, bottomless-up, topless-down, finite-bottomless, finite-topless, is-finite}
 use Rattle.control.proofs.FloatRounding.{zeroed, no-size, add-real, mul-real, sub-real, mul-zero, count-positive}

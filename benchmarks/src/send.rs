@@ -61,7 +61,8 @@ pub fn periods() {
         let (ours, theirs) = times(product, baseline, &rooms);
         println!("{name:36} {ours:11.2} {theirs:9.2} {:9.2}", ours / theirs);
     }
-    let depth = |call| stack::depth(call, &rooms[0], &mut Outputs::lent());
+    let mut out = Outputs::lent();
+    let mut depth = |call: Call| stack::depth(&mut || call(&rooms[0], &mut out));
     let (_, product, baseline) = PERIODS[2];
     println!("its stack, in bytes                  {:10} {:9}", depth(product), depth(baseline));
     println!();

@@ -95,8 +95,8 @@ enum hutplan_refusal {
                                              16,777,215, or not finite; place: the first such cord */
 
     /* A step of every controller (hutplan_step_all), before any is stepped. */
-    HUTPLAN_CONTROLLERS_UNFIT = 18,       /* over 512 controllers, readings not four each, or results
-                                             not one each; place: the number of controllers */
+    HUTPLAN_CONTROLLERS_UNFIT = 18,       /* more than 512 controllers, or a list whose length does
+                                             not fit their number; place: that number */
 
     /* Lines of a schedule, line by line (hutplan_schedule), all before 12. Place: the line. */
     HUTPLAN_NOT_A_LINE = 24,           /* not of the form, or a number above 9,999 */

@@ -25,7 +25,7 @@ unfolding plan
     beneath serverLows lows firstNode overloaded
 room-h = (refl, refl, refl, refl, refl)
 
--- Under a root with 150 W, a child limited to 100 W but wanting 1,000, beside a cord wanting 100, all lows 0.
+-- A root with 150 W over a node with 100 W and a cord. What hangs on the node wants 1,000 W, the cord wants 100; no cord has a low.
 abbrev tableN : List ℕ
 tableN = 1 ∷ 2 ∷ 0 ∷ 188 ∷ 1 ∷ 125 ∷ 2 ∷ 1 ∷ 0 ∷ 1000 ∷ 1 ∷ 2 ∷ 1000 ∷ 1 ∷ 0 ∷ 100 ∷ 1 ∷ 1 ∷ 1000 ∷ []
 

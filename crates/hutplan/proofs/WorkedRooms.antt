@@ -1,4 +1,4 @@
--- The starred rooms of document 01, worked by hand there, as a group: by one computed check over the definitions.
+-- The starred rooms of document 01, which has their figures by hand: one check of all, which the definitions compute.
 use mathlib.Core.Path.{_≡_, refl}
 use mathlib.Core.List.{List, [], _∷_, _++_}
 use Prim.Native.Nat.{ℕ}

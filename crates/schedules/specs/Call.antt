@@ -1,6 +1,6 @@
 -- The C call: what it returns and leaves in every byte of every buffer, for every length.
 --
--- A list of words is four bytes a word, low byte first; one to three bytes over at its end are neither read nor written.
+-- A word is four bytes of its list, the lowest first. Where a length is no multiple of four, the last bytes belong to no word.
 use mathlib.Core.List.{List}
 use Prim.Native.Nat.{ℕ, _/_}
 use lib.ListN.{length}

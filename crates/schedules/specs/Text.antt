@@ -1,5 +1,5 @@
--- The text of a schedule: each line has parent, amperes and volts in decimal without leading zeros, parted by one space and
--- ended by a newline.
+-- The text of a schedule, line by line: three numbers in decimal (the parent, the amperes, the volts) with a space between two of
+-- them, and a newline behind the last. No number begins with a zero that it could do without.
 use mathlib.Core.Bool.{Bool, cond, _&&_}
 use mathlib.Core.List.{List}
 use Prim.Native.Nat.{ℕ, zero, suc, _+_, _-_, _*_}

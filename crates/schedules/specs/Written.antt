@@ -13,7 +13,7 @@ pub data Decimal : ℕ → List ℕ → Type 0 where
   digit : (d : ℕ) → d < 10 → Decimal d ((digitZero + d) ∷ [])
   more : (n d : ℕ) (s : List ℕ) → Decimal n s → 1 ≤ n → d < 10 → Decimal (n * 10 + d) (s ++ ((digitZero + d) ∷ []))
 
--- A text is the line of an entry: its three numbers in decimal, parted by one space and ended by a newline.
+-- A text is the line of an entry: its three numbers in decimal, a space behind the first and the second, a newline behind the third.
 pub record LineText (e : Entry) (text : List ℕ) : Type 0 where
   pub parent : List ℕ
   pub amperes : List ℕ

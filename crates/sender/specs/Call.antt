@@ -1,6 +1,6 @@
 -- Send, called from C: what it returns and leaves in every byte of both buffers, for every length.
 --
--- The list is four bytes a word, low byte first; one to three bytes over at its end are not written.
+-- A word is four bytes of the list, the lowest first. Where its length is no multiple of four, the last bytes are not written.
 use mathlib.Core.Path.{_≡_}
 use mathlib.Core.Bool.{Bool, cond}
 use mathlib.Core.List.{List, _++_}

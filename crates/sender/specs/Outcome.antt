@@ -24,7 +24,7 @@ pub data Outcome : Type 0 where
 abbrev pub inRange : (count position : ℕ) → Bool
 inRange count position = ltb position count && (leb 1 count && leb count mostServers)
 
--- Send, to a list of so many words. Refused in order: m is 0 (27); the position not below the count, or the count not from 1 to 512
+-- Send, to a list of so many words. Refused in order: m is 0 (27); a position that is no server's, or a count out of its range
 -- (28); the list too short (12).
 unfoldable pub sending : (count position m space : ℕ) → Outcome
 sending count position m space =

@@ -152,7 +152,7 @@ fn answer_for(count: u64, position: u64, m: u64, space: usize) -> Sent
     Sent::Accepted(named, position_after(count, position, named))
 }
 
-// Whether the position is not below the count, or the count not from 1 to 512. A count of 0 is above no position.
+// Whether no server has the position, or there are more servers than a room has. With a count of 0 no server has any position.
 fn out_of_range(count: u64, position: u64) -> bool
     ensures { λ r. ⌜ r ≡ not (inRange count position) ⌝ }
 {

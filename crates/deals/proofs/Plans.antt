@@ -3,22 +3,21 @@ use mathlib.Core.Path.{_≡_, refl, sym, ap, _∙_}
 use mathlib.Core.Bool.{Bool, true, false, cond, not, true≢false}
 use mathlib.Core.List.{List, [], _∷_}
 use mathlib.Core.Logic.{_↔_, Iff·trans}
-use Prim.Native.Nat.{ℕ, zero, suc, _≤_, _<_}
+use Prim.Native.Nat.{ℕ, suc, _≤_}
 use native.Mathlib.Omega.{arith}
 use lib.Dec.{eqb, ltb}
 use lib.ListN.{length}
-use borrow.Author.Tests.{eqb-true, ltb-false, lt-ltb, le-ltb}
+use borrow.Author.Tests.{eqb-true, ltb-false}
 use Rattle.rooms.specs.Part.{Step, good, bad, Good}
-use Rattle.rooms.specs.Table.{Room, mostWatts, roomCords}
+use Rattle.rooms.specs.Table.{Room, roomCords}
 use Rattle.rooms.specs.Limits.{checked}
 use Rattle.rooms.specs.Promises.{Overloaded}
 use Rattle.rooms.specs.declared.Refusal.{Refusal}
 use Rattle.rooms.specs.declared.Refusal.the-variants.{LowsAboveLimit}
 use Rattle.rooms.proofs.Overloaded.{checked-nine, nine-lows}
-use Rattle.figures.specs.Figures.{at}
 use Rattle.deals.specs.Dealing.{granted, grantsBy}
-use Rattle.deals.specs.SecondDeal.{usable, freed, secondWants, secondGrants, caps}
-use Rattle.deals.specs.Plan.{Plan, planOf, Outcome, accepted, refused, firstTooLarge, Reason, countDiffers, demandTooLarge, tooShort, reasons, unless, planRoom, planStep, plan, answerOf, planRefusalNumber, planNumber}
+use Rattle.deals.specs.SecondDeal.{usable, secondWants, secondGrants, caps}
+use Rattle.deals.specs.Plan.{Plan, planOf, Outcome, accepted, refused, Reason, countDiffers, demandTooLarge, tooShort, reasons, unless, planRoom, planStep, plan, answerOf, planRefusalNumber, planNumber}
 use Rattle.deals.specs.Promises.{IsNine}
 use Rattle.deals.specs.declared.Lengths.{Lengths}
 use Rattle.deals.specs.declared.PlanList.the-variants.{Grants, Caps}
@@ -26,28 +25,13 @@ use Rattle.deals.specs.declared.PlanRefusal.the-variants.{Table}
 use Rattle.figures.proofs.Lists.{figures-length}
 use Rattle.deals.proofs.RoomDeals.{grantsBy-is}
 
--- ---- The first demand that is too large
+-- ---- Tests
 
 cond-yes : {A : Type 0} (t : Bool) (a b : A) → t ≡ true → cond t a b ≡ a
 cond-yes t a b e = ap (λ (x : Bool). cond x a b) e
 
 cond-no : {A : Type 0} (t : Bool) (a b : A) → t ≡ false → cond t a b ≡ b
 cond-no t a b e = ap (λ (x : Bool). cond x a b) e
-
-pub firstTooLarge-at : (l : List ℕ) (i : ℕ) → i < length l → ((k : ℕ) → k < i → at l k ≤ mostWatts) → mostWatts < at l i → firstTooLarge l ≡ i
-unfolding firstTooLarge
-firstTooLarge-at [] i h before here = absurd (omega arith)
-firstTooLarge-at (a ∷ rest) zero h before here = cond-yes (ltb mostWatts a) 0 (suc (firstTooLarge rest)) (lt-ltb mostWatts a here)
-firstTooLarge-at (a ∷ rest) (suc i) h before here =
-    cond-no (ltb mostWatts a) 0 (suc (firstTooLarge rest)) (le-ltb mostWatts a (before 0 (omega arith)))
-    ∙ ap suc (firstTooLarge-at rest i (omega arith) (λ k l. before (suc k) (omega arith)) here)
-
-pub firstTooLarge-none : (l : List ℕ) → ((k : ℕ) → k < length l → at l k ≤ mostWatts) → firstTooLarge l ≡ length l
-unfolding firstTooLarge
-firstTooLarge-none [] h = refl
-firstTooLarge-none (a ∷ rest) h =
-    cond-no (ltb mostWatts a) 0 (suc (firstTooLarge rest)) (le-ltb mostWatts a (h 0 (omega arith)))
-    ∙ ap suc (firstTooLarge-none rest (λ k l. h (suc k) (omega arith)))
 
 -- ---- The lengths of the answer's lists
 

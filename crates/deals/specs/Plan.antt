@@ -5,6 +5,7 @@ use Prim.Native.Nat.{ℕ, suc}
 use lib.Dec.{eqb, ltb}
 use lib.ListN.{length}
 use lib.Seq.{sets}
+use Rattle.words.specs.Lists.{firstNotBelow}
 use Rattle.rooms.specs.Part.{Step, good, bad}
 use Rattle.rooms.specs.Table.{Room, mostWatts, mostServers, mostCords, roomCords}
 use Rattle.rooms.specs.Limits.{checked}
@@ -38,9 +39,8 @@ pub data Outcome : Type 0 where
 -- ---- Refusals
 
 -- The index of the first demand above the most watts; the count of demands if there is none.
-unfoldable pub firstTooLarge : List ℕ → ℕ
-firstTooLarge [] = 0
-firstTooLarge (demand ∷ rest) = cond (ltb mostWatts demand) 0 (suc (firstTooLarge rest))
+abbrev pub firstTooLarge : List ℕ → ℕ
+firstTooLarge demands = firstNotBelow (suc mostWatts) demands
 
 -- A reason to refuse: whether it holds, and the refusal that it gives.
 pub record Reason : Type 0 where
@@ -77,7 +77,7 @@ unless (reason ∷ rest) plan = cond (reason .holds) (refused (reason .refusal))
 
 -- The plan of a good room, in lists of given lengths.
 unfoldable pub planRoom : Room → List ℕ → Lengths → Outcome
-unfolding unless firstTooLarge freed secondGrants caps
+unfolding unless firstNotBelow freed secondGrants caps
 planRoom r demands lengths = unless (reasons r demands lengths) (planOf r demands)
 
 -- The plan of what the table's check gives: its refusals (4 to 9) stand.

@@ -1,7 +1,7 @@
 // Plan: the checks of its inputs, and the two deals of a room.
 ghost use mathlib.Core.Path.{_≡_};
 ghost use Rattle.rooms.specs.Limits.{checked, lowsTold};
-ghost use Rattle.deals.specs.Plan.{firstTooLarge, plan, lent, answerOf, after};
+ghost use Rattle.deals.specs.Plan.{plan, lent, answerOf, after};
 ghost use Rattle.plans.specs.Admission.{admission};
 use deals::Lengths;
 use deals::PlanList;
@@ -11,27 +11,15 @@ use figures::word_index;
 use plan_rooms::plan_room;
 use room_lists::server_count;
 use rooms::Checked;
+use words::first_not_below;
 
-const MOST_WATTS: u32 = 16_777_215;
+// One more than the most watts of a demand.
+const TOO_MANY_WATTS: u32 = 16_777_216;
 
 // What the checks come to: the counts of cords and of servers, or why a plan is turned back.
 enum Admission {
     Good(usize, usize),
     Refused(PlanRefusal),
-}
-
-// The index of the first demand above the most watts; the count of demands if there is none.
-fn first_too_large(demands: &[u32]) -> usize
-    ensures { λ r. ⌜ r ≡ firstTooLarge (now (demands .entry)) ⌝ }
-{
-    let mut i = 0;
-    while i < demands.len() {
-        if MOST_WATTS < demands[i] {
-            return i;
-        }
-        i += 1;
-    }
-    i
 }
 
 // All checks of Plan, in their order. Of a good table, `beneath` gets the lows beneath each node.
@@ -49,7 +37,7 @@ fn admit(table: &[u32], demands: &[u32], lengths: Lengths, beneath: &mut [u64; 5
     if demands.len() != servers {
         return Admission::Refused(PlanRefusal::DemandCount(servers));
     }
-    let large = first_too_large(demands);
+    let large = first_not_below(TOO_MANY_WATTS, demands);
     if large < demands.len() {
         return Admission::Refused(PlanRefusal::DemandTooLarge(large));
     }

@@ -50,7 +50,7 @@ abbrev count-checked : (c : tie.Else1) → Passed (c .before .before .before) 1
 count-checked c = count-passed (table-checked (c .before .before .before)) _ (server-count (c .before)) (c .if1 .left)
 
 abbrev demands-checked : (c : tie.Else2) → Passed (c .before .before .before .before .before) 2
-demands-checked c = large-passed (count-checked (c .before .before)) _ (c .before .first-too-large .ensures) (c .if2 .left)
+demands-checked c = large-passed (count-checked (c .before .before)) _ (c .before .first-not-below .ensures) (c .if2 .left)
 
 abbrev grants-checked : (c : tie.Else3) → Passed (c .before .before .before .before .before .before .before) 3
 grants-checked c = list-passed (demands-checked (c .before .before)) _ (cord-count (c .before .before .before .before .before .before)) (c .if3 .left)
@@ -82,12 +82,12 @@ returns-2 c = (
   c .before .before .before .before .before .before .check-lows .ensures .1,
 )
 
-first-too-large-requires : tie.Need-first-too-large-requires
-first-too-large-requires c κs = search needs
+first-not-below-requires : tie.Need-first-not-below-requires
+first-not-below-requires c κs = search needs
 
 returns-3 : tie.Need-returns-3
 returns-3 c = (
-  large-told (count-checked (c .before .before)) _ (c .before .first-too-large .ensures) (c .if2 .taken),
+  large-told (count-checked (c .before .before)) _ (c .before .first-not-below .ensures) (c .if2 .taken),
   c .before .before .before .before .before .before .before .before .check-lows .ensures .1,
 )
 
@@ -121,7 +121,7 @@ admit-spec =
     word-index-requires
     server-count-requires
     returns-2
-    first-too-large-requires
+    first-not-below-requires
     returns-3
     returns-4
     returns-5

@@ -5,7 +5,7 @@ use Prim.Native.Nat.{ℕ}
 use lib.ListN.{length, drop}
 use Rattle.rooms.specs.Part.{Good}
 use Rattle.rooms.specs.Table.{roomCords}
-use Rattle.rooms.specs.Limits.{checked}
+use Rattle.rooms.specs.Limits.{checked, lowsTold}
 use Rattle.deals.specs.Plan.{reasons}
 use Rattle.deals.specs.declared.Lengths.{Lengths}
 use Rattle.plans.proofs.PlanCall.{table-good, cords-told, Left, table-told, table-passed, count-told, count-passed, large-told, large-passed, short-told, list-passed, all-passed}
@@ -39,24 +39,31 @@ cord-count c =
 abbrev server-count : (c : tie.After-server-count) → c .server-count .result ≡ length (room (c .before .before) .value .servers)
 server-count c = c .server-count .ensures .0 (room (c .before .before) .value) (room (c .before .before) .next) (room (c .before .before) .is)
 
+-- The lows beneath each node, as the table's check left them.
+abbrev lows : (c : tie.After-server-count) → c .before .before .before .before .before .check-lows .last .1 .0 ≡ lowsTold (checked (table (c .before .before)) 0)
+lows c = c .before .before .before .before .before .check-lows .ensures .1
+
 -- So many of the reasons to refuse are passed.
-abbrev Passed : tie.After-known-told → ℕ → Type 0
-Passed c k = Left (table c) (demands c) (lengths c) (room c .value) (drop k (reasons (room c .value) (demands c) (lengths c)))
+abbrev Passed : tie.After-server-count → ℕ → Type 0
+Passed c k =
+    let known = c .before .before in
+    Left (table known) (demands known) (lengths known) (room known .value) (drop k (reasons (room known .value) (demands known) (lengths known)))
 
-abbrev table-checked : (c : tie.After-known-told) → Passed c 0
-table-checked c = table-passed (room c)
+abbrev table-checked : (c : tie.After-server-count) → Passed c 0
+table-checked c = table-passed (room (c .before .before))
 
-abbrev count-checked : (c : tie.Else1) → Passed (c .before .before .before) 1
-count-checked c = count-passed (table-checked (c .before .before .before)) _ (server-count (c .before)) (c .if1 .left)
+-- Where the counts were taken, from behind each check.
+abbrev counted : tie.Else1 → tie.After-server-count
+counted c = c .before
 
-abbrev demands-checked : (c : tie.Else2) → Passed (c .before .before .before .before .before) 2
-demands-checked c = large-passed (count-checked (c .before .before)) _ (c .before .first-not-below .ensures) (c .if2 .left)
+abbrev counted2 : tie.Else2 → tie.After-server-count
+counted2 c = counted (c .before .before)
 
-abbrev grants-checked : (c : tie.Else3) → Passed (c .before .before .before .before .before .before .before) 3
-grants-checked c = list-passed (demands-checked (c .before .before)) _ (cord-count (c .before .before .before .before .before .before)) (c .if3 .left)
+abbrev counted3 : tie.Else3 → tie.After-server-count
+counted3 c = counted2 (c .before .before)
 
-abbrev caps-checked : (c : tie.Else4) → Passed (c .before .before .before .before .before .before .before .before .before) 4
-caps-checked c = list-passed (grants-checked (c .before .before)) _ (server-count (c .before .before .before .before .before .before .before)) (c .if4 .left)
+abbrev counted4 : tie.Else4 → tie.After-server-count
+counted4 c = counted3 (c .before .before)
 
 check-lows-requires : tie.Need-check-lows-requires
 check-lows-requires c κs = search needs
@@ -77,10 +84,11 @@ server-count-requires : tie.Need-server-count-requires
 server-count-requires c κs = search needs
 
 returns-2 : tie.Need-returns-2
-returns-2 c = (
-  count-told (table-checked (c .before .before .before)) _ (server-count (c .before)) (c .if1 .taken),
-  c .before .before .before .before .before .before .check-lows .ensures .1,
-)
+returns-2 c = (count-told (table-checked (c .before)) _ (server-count (c .before)) (c .if1 .taken), lows (c .before))
+
+-- Past each check one reason fewer is left.
+abbrev count-checked : (c : tie.Else1) → Passed (counted c) 1
+count-checked c = count-passed (table-checked (counted c)) _ (server-count (counted c)) (c .if1 .left)
 
 first-not-below-requires : tie.Need-first-not-below-requires
 first-not-below-requires c κs = search needs
@@ -88,27 +96,30 @@ first-not-below-requires c κs = search needs
 returns-3 : tie.Need-returns-3
 returns-3 c = (
   large-told (count-checked (c .before .before)) _ (c .before .first-not-below .ensures) (c .if2 .taken),
-  c .before .before .before .before .before .before .before .before .check-lows .ensures .1,
+  lows (counted (c .before .before)),
 )
+
+abbrev demands-checked : (c : tie.Else2) → Passed (counted2 c) 2
+demands-checked c = large-passed (count-checked (c .before .before)) _ (c .before .first-not-below .ensures) (c .if2 .left)
 
 returns-4 : tie.Need-returns-4
-returns-4 c = (
-  short-told (demands-checked (c .before .before)) _ (cord-count (c .before .before .before .before .before .before)) (c .if3 .taken),
-  c .before .before .before .before .before .before .before .before .before .before .check-lows .ensures .1,
-)
+returns-4 c =
+    let past = c .before .before in
+    (short-told (demands-checked past) _ (cord-count (counted2 past .before)) (c .if3 .taken), lows (counted2 past))
+
+abbrev grants-checked : (c : tie.Else3) → Passed (counted3 c) 3
+grants-checked c = list-passed (demands-checked (c .before .before)) _ (cord-count (counted3 c .before)) (c .if3 .left)
 
 returns-5 : tie.Need-returns-5
-returns-5 c = (
-  short-told (grants-checked (c .before .before)) _ (server-count (c .before .before .before .before .before .before .before)) (c .if4 .taken),
-  c .before .before .before .before .before .before .before .before .before .before .before .before .check-lows .ensures .1,
-)
+returns-5 c =
+    let past = c .before .before in
+    (short-told (grants-checked past) _ (server-count (counted3 past)) (c .if4 .taken), lows (counted3 past))
+
+abbrev caps-checked : (c : tie.Else4) → Passed (counted4 c) 4
+caps-checked c = list-passed (grants-checked (c .before .before)) _ (server-count (counted4 c)) (c .if4 .left)
 
 returns-6 : tie.Need-returns-6
-returns-6 c =
-    let counted = c .before .before .before .before .before .before .before in (
-      all-passed (caps-checked c) _ _ (cord-count (counted .before)) (server-count counted),
-      counted .before .before .before .before .before .check-lows .ensures .1,
-    )
+returns-6 c = (all-passed (caps-checked c) _ _ (cord-count (counted4 c .before)) (server-count (counted4 c)), lows (counted4 c))
 
 pub admit-spec : {M : Type 1} → statement M
 admit-spec =

@@ -6,149 +6,116 @@ use native.Mathlib.Omega.{arith}
 use lib.ListN.{length, take, drop}
 use lib.Seq.{sets}
 use Rattle.words.specs.Bytes.{wordsOf, bytesOf, answered}
-use Rattle.words.proofs.Bytes.{take-loaded}
+use Rattle.words.proofs.Bytes.{holdsAnswer-short, holdsAnswer-long, answered-short, take-loaded}
+use Rattle.words.proofs.Calls.{answer-told}
 use Rattle.rooms.specs.Table.{mostWords, mostServers}
 use Rattle.rooms.proofs.Outcomes.{front-length}
 use Rattle.room_lists.specs.Lists.{CordsFit}
-use Rattle.deals.specs.Plan.{Outcome, accepted, refused, plan, answerOf, grantsAfter, capsAfter, planNumber, planFigure}
+use Rattle.deals.specs.Plan.{Plan, Outcome, accepted, refused, plan, lent, answerOf, after, planNumber, planFigure}
+use Rattle.deals.specs.declared.Lengths.{Lengths}
 use Rattle.deals.specs.declared.Planned.{Planned}
-use Rattle.deals.proofs.Lent.{plan-inputs-cut, plan-lists-cut, plan-written}
-use Rattle.capi.specs.Calls.{PlannedCall, PlanCall, grantBytesAfter, capBytesAfter}
+use Rattle.deals.proofs.Plans.{Fits}
+use Rattle.deals.proofs.Lent.{plan-inputs-cut, Ample, plan-lists-cut, plan-written}
+use Rattle.capi.specs.Calls.{lentBytes, PlannedCall, PlanCall}
 use Rattle.capi.specs.Counts.{plannedCount}
-use Rattle.words.proofs.Calls.{call-short, call-done, answer-told}
 use Rattle.capi.proofs.CallLaws.{count-fits, written-stored}
 
--- ---- What an outcome writes
+-- ---- What an outcome writes to a list
 
--- The grants and the caps of an outcome: none where refused.
-abbrev grantsOf : Outcome → List ℕ
-grantsOf (accepted freed grants caps) = grants
-grantsOf (refused refusal) = []
+-- What a plan has for the list; nothing where refused.
+abbrev writtenBy : (Plan → List ℕ) → Outcome → List ℕ
+writtenBy output (accepted plan) = output plan
+writtenBy output (refused refusal) = []
 
-abbrev capsOf : Outcome → List ℕ
-capsOf (accepted freed grants caps) = caps
-capsOf (refused refusal) = []
+words-after : (output : Plan → List ℕ) (o : Outcome) (list : List ℕ) → after output o list ≡ sets list 0 (writtenBy output o)
+words-after output (accepted plan) list = refl
+words-after output (refused refusal) list = refl
 
-grants-after : (o : Outcome) (list : List ℕ) → grantsAfter o list ≡ sets list 0 (grantsOf o)
-grants-after (accepted freed grants caps) list = refl
-grants-after (refused refusal) list = refl
-
-caps-after : (o : Outcome) (list : List ℕ) → capsAfter o list ≡ sets list 0 (capsOf o)
-caps-after (accepted freed grants caps) list = refl
-caps-after (refused refusal) list = refl
-
-grant-bytes : (o : Outcome) (bytes : List ℕ) → sets bytes 0 (bytesOf (grantsOf o)) ≡ grantBytesAfter o bytes
+bytes-after : (output : Plan → List ℕ) (o : Outcome) (bytes : List ℕ) → sets bytes 0 (bytesOf (writtenBy output o)) ≡ after (λ p. bytesOf (output p)) o bytes
 unfolding bytesOf
-grant-bytes (accepted freed grants caps) bytes = refl
-grant-bytes (refused refusal) bytes = refl
+bytes-after output (accepted plan) bytes = refl
+bytes-after output (refused refusal) bytes = refl
 
-cap-bytes : (o : Outcome) (bytes : List ℕ) → sets bytes 0 (bytesOf (capsOf o)) ≡ capBytesAfter o bytes
-unfolding bytesOf
-cap-bytes (accepted freed grants caps) bytes = refl
-cap-bytes (refused refusal) bytes = refl
+-- It is as many entries as the count says, and fits the list.
+pub record Counted (output : Plan → List ℕ) (o : Outcome) (count entries : ℕ) : Type 0 where
+  pub counts : length (writtenBy output o) ≡ plannedCount (answerOf o) count
+  pub fits : length (writtenBy output o) ≤ entries
 
--- They are as many as the counts say, and fit their lists.
-record Counted (demands : List ℕ) (cords g c : ℕ) (o : Outcome) : Type 0 where
-  grants : length (grantsOf o) ≡ plannedCount (answerOf o) cords
-  caps : length (capsOf o) ≡ plannedCount (answerOf o) (length demands)
-  grantsFit : length (grantsOf o) ≤ g
-  capsFit : length (capsOf o) ≤ c
+counted : (output : Plan → List ℕ) (count entries : ℕ) (o : Outcome) → ((plan : Plan) → o ≡ accepted plan → Fits (output plan) count entries) → Counted output o count entries
+counted output count entries (accepted plan) h = let f = h plan refl in record { counts = f .count; fits = omega (arith, f .count, f .within) }
+counted output count entries (refused q) h = record { counts = refl; fits = omega arith }
 
-counted : (table demands : List ℕ) (cords g c : ℕ) → CordsFit table cords → Counted demands cords g c (plan table demands g c)
-counted table demands cords g c fit = go (plan table demands g c) refl
-  where
-    go : (o : Outcome) → plan table demands g c ≡ o → Counted demands cords g c o
-    go (accepted f gs cs) e =
-        let w = plan-written table demands g c e in
-        record {
-          grants = w .fits .grantCount ∙ sym (fit _ _ (w .isRoom));
-          caps = w .fits .capCount;
-          grantsFit = w .fits .grantsFit;
-          capsFit = w .fits .capsFit;
-        }
-    go (refused q) e = record { grants = refl; caps = refl; grantsFit = omega arith; capsFit = omega arith }
+-- So it is with each list of Plan: as many grants as cords, and as many caps as demands.
+module _ (table demands : List ℕ) (lengths : Lengths) where
+  pub grants-counted : (cords : ℕ) → CordsFit table cords → Counted (λ p. p .grants) (plan table demands lengths) cords (lengths .grants)
+  grants-counted cords fit =
+      counted (λ p. p .grants) cords (lengths .grants) (plan table demands lengths)
+      (λ p e. let w = plan-written table demands lengths e in rw (fit (w .room) (w .end) (w .isRoom)) (w .planning .grants))
+
+  pub caps-counted : Counted (λ p. p .caps) (plan table demands lengths) (length demands) (lengths .caps)
+  caps-counted =
+      counted (λ p. p .caps) (length demands) (lengths .caps) (plan table demands lengths)
+      (λ p e. let w = plan-written table demands lengths e in rw (w .planning .demandCount) (w .planning .caps))
+
+-- A list of which the front is lent to Plan, and becomes `front′`: just what was written is stored.
+module _ {output : Plan → List ℕ} {o : Outcome} {count : ℕ} (list : List ℕ) (space : ℕ) (c : Counted output o count (length (take space list)))
+    {planned : Planned} {front′ : List ℕ} {stored : ℕ} (is : planned ≡ answerOf o) (f : front′ ≡ after output o (take space list)) (n : stored ≡ plannedCount planned count) where
+  stored-count : stored ≡ length (writtenBy output o)
+  stored-count = n ∙ ap (λ (p : Planned). plannedCount p count) is ∙ sym (c .counts)
+
+  pub list-fits : stored ≤ length (front′ ++ drop space list)
+  list-fits = count-fits list space (writtenBy output o) (c .fits) (f ∙ words-after output o _) stored-count
+
+  pub list-stored : (bytes : List ℕ) {bytes′ : List ℕ} → space ≡ min (length bytes / 4) (length list)
+      → bytes′ ≡ sets bytes 0 (bytesOf (take (length bytes / 4) (take stored (front′ ++ drop space list)))) → bytes′ ≡ after (λ p. bytesOf (output p)) o bytes
+  list-stored bytes r b =
+      written-stored list space (writtenBy output o) (c .fits) (f ∙ words-after output o _) stored-count bytes r b ∙ bytes-after output o bytes
 
 -- ---- The call
 
 -- Where the answer's buffer is too short, nothing is changed.
 pub plan-short : (outcome : Outcome) (grants caps answer : List ℕ) → length answer < 16 → PlannedCall outcome grants caps answer 0 grants caps answer
 plan-short outcome grants caps answer h =
-    let call = call-short _ _ (grantBytesAfter outcome grants) grants answer h in
-    record { returned = call .returned; grants-after = call .output-after; caps-after = call-short 0 0 _ caps answer h .output-after; answer-after = call .answer-after }
+    let short = holdsAnswer-short answer h in
+    record { returned = rw short; grants-after = rw short; caps-after = rw short; answer-after = sym (answered-short _ _ answer h) }
 
--- Plan by way of the fronts of two lists.
-module _ (table demands granted capped : List ℕ) (grantsSpace capsSpace : ℕ) where
-  abbrev own : Outcome
-  own = plan table demands (length (take grantsSpace granted)) (length (take capsSpace capped))
+-- A call of the same outcome.
+pub call-same : {own outcome : Outcome} {grants caps answer grants′ caps′ answer′ : List ℕ} {r : ℕ} → own ≡ outcome
+    → PlannedCall own grants caps answer r grants′ caps′ answer′ → PlannedCall outcome grants caps answer r grants′ caps′ answer′
+call-same same call = rw same at call
 
-  same-plan : (g c : ℕ) → 1024 ≤ length granted → 512 ≤ length capped → grantsSpace ≡ min g (length granted) → capsSpace ≡ min c (length capped)
-      → own ≡ plan table demands g c
-  same-plan g c hg hc rg rc =
-      ap₂ (plan table demands) (sym (front-length g granted rg) ∙ rg) (sym (front-length c capped rc) ∙ rc)
-      ∙ plan-lists-cut table demands g (length granted) c (length capped) hg hc
+-- Where it is long enough, it has the answer, and the lists are those after the outcome.
+pub plan-done : (outcome : Outcome) (grants caps answer : List ℕ) {planned : Planned} {grants′ caps′ answer′ : List ℕ} {number figure : ℕ}
+    → 16 ≤ length answer → planned ≡ answerOf outcome → grants′ ≡ after (λ p. bytesOf (p .grants)) outcome grants → caps′ ≡ after (λ p. bytesOf (p .caps)) outcome caps
+    → number ≡ planNumber planned → figure ≡ planFigure planned → answer′ ≡ answered number figure answer
+    → PlannedCall outcome grants caps answer 1 grants′ caps′ answer′
+plan-done outcome grants caps answer h is g c k v a =
+    let long = holdsAnswer-long answer h in
+    record {
+      returned = rw long;
+      grants-after = rw long g;
+      caps-after = rw long c;
+      answer-after = answer-told answer (k ∙ ap planNumber is) (v ∙ ap planFigure is) a;
+    }
 
-  module _ {planned : Planned} {cords : ℕ} (is : planned ≡ answerOf own) (k : CordsFit table cords) where
-    own-counted : Counted demands cords (length (take grantsSpace granted)) (length (take capsSpace capped)) own
-    own-counted = counted table demands cords (length (take grantsSpace granted)) (length (take capsSpace capped)) k
-
-    grants-counted : {count : ℕ} → count ≡ plannedCount planned cords → count ≡ length (grantsOf own)
-    grants-counted n = n ∙ ap (λ (p : Planned). plannedCount p cords) is ∙ sym (own-counted .grants)
-
-    caps-counted : {count : ℕ} → count ≡ plannedCount planned (length demands) → count ≡ length (capsOf own)
-    caps-counted n = n ∙ ap (λ (p : Planned). plannedCount p (length demands)) is ∙ sym (own-counted .caps)
-
-    module _ {front′ : List ℕ} {count : ℕ} (f : front′ ≡ grantsAfter own (take grantsSpace granted)) (n : count ≡ plannedCount planned cords) where
-      pub grants-fit : count ≤ length (front′ ++ drop grantsSpace granted)
-      grants-fit = count-fits granted grantsSpace (grantsOf own) (own-counted .grantsFit) (f ∙ grants-after own _) (grants-counted n)
-
-      grants-stored : (grants : List ℕ) {grants′ : List ℕ} → grantsSpace ≡ min (length grants / 4) (length granted)
-          → grants′ ≡ sets grants 0 (bytesOf (take (length grants / 4) (take count (front′ ++ drop grantsSpace granted)))) → grants′ ≡ grantBytesAfter own grants
-      grants-stored grants r g =
-          written-stored granted grantsSpace (grantsOf own) (own-counted .grantsFit) (f ∙ grants-after own _) (grants-counted n) grants r g ∙ grant-bytes own grants
-
-    module _ {front′ : List ℕ} {count : ℕ} (f : front′ ≡ capsAfter own (take capsSpace capped)) (n : count ≡ plannedCount planned (length demands)) where
-      pub caps-fit : count ≤ length (front′ ++ drop capsSpace capped)
-      caps-fit = count-fits capped capsSpace (capsOf own) (own-counted .capsFit) (f ∙ caps-after own _) (caps-counted n)
-
-      caps-stored : (caps : List ℕ) {caps′ : List ℕ} → capsSpace ≡ min (length caps / 4) (length capped)
-          → caps′ ≡ sets caps 0 (bytesOf (take (length caps / 4) (take count (front′ ++ drop capsSpace capped)))) → caps′ ≡ capBytesAfter own caps
-      caps-stored caps r c =
-          written-stored capped capsSpace (capsOf own) (own-counted .capsFit) (f ∙ caps-after own _) (caps-counted n) caps r c ∙ cap-bytes own caps
-
-    pub plan-done : (grants caps answer : List ℕ) {granted′ capped′ grants′ caps′ answer′ : List ℕ} {grantsCount capsCount number figure : ℕ}
-        → 1024 ≤ length granted → 512 ≤ length capped
-        → grantsSpace ≡ min (length grants / 4) (length granted) → capsSpace ≡ min (length caps / 4) (length capped) → 16 ≤ length answer
-        → granted′ ≡ grantsAfter own (take grantsSpace granted) → grantsCount ≡ plannedCount planned cords
-        → capped′ ≡ capsAfter own (take capsSpace capped) → capsCount ≡ plannedCount planned (length demands)
-        → grants′ ≡ sets grants 0 (bytesOf (take (length grants / 4) (take grantsCount (granted′ ++ drop grantsSpace granted))))
-        → caps′ ≡ sets caps 0 (bytesOf (take (length caps / 4) (take capsCount (capped′ ++ drop capsSpace capped))))
-        → number ≡ planNumber planned → figure ≡ planFigure planned → answer′ ≡ answered number figure answer
-        → PlanCall table demands grants caps answer 1 grants′ caps′ answer′
-    plan-done grants caps answer {granted′} {capped′} {grants′} {caps′} {answer′} hg hc rg rc long fg ng fc nc g c k v a =
-        let stored : answer′ ≡ answered (planNumber (answerOf own)) (planFigure (answerOf own)) answer =
-        answer-told answer (k ∙ ap planNumber is) (v ∙ ap planFigure is) a in
-        let grants-call = call-done _ _ _ grants answer long (grants-stored fg ng grants rg g) stored in
-        let caps-call = call-done _ _ _ caps answer long (caps-stored fc nc caps rc c) stored in
-        let done : PlannedCall own grants caps answer 1 grants′ caps′ answer′ = record {
-          returned = grants-call .returned;
-          grants-after = grants-call .output-after;
-          caps-after = caps-call .output-after;
-          answer-after = stored;
-        } in
-        rw (same-plan (length grants / 4) (length caps / 4) hg hc rg rc) at done
+-- Plan in lists of its own, which take every answer, comes to the same.
+pub same-plan : (table demands granted capped grants caps : List ℕ) (grantsSpace capsSpace : ℕ) → Ample (lent granted capped)
+    → grantsSpace ≡ min (length grants / 4) (length granted) → capsSpace ≡ min (length caps / 4) (length capped)
+    → plan table demands (lent (take grantsSpace granted) (take capsSpace capped)) ≡ plan table demands (lentBytes grants caps)
+same-plan table demands granted capped grants caps grantsSpace capsSpace ample rg rc =
+    let grantsAre : length (take grantsSpace granted) ≡ min (length grants / 4) (length granted) = sym (front-length (length grants / 4) granted rg) ∙ rg in
+    let capsAre : length (take capsSpace capped) ≡ min (length caps / 4) (length capped) = sym (front-length (length caps / 4) capped rc) ∙ rc in
+    rw (grantsAre, capsAre) (plan-lists-cut table demands (lentBytes grants caps) (lent granted capped) ample)
 
 -- ---- Its table and demands
 
 -- Plan of what `load` takes of a table and of demands.
-pub plan-loaded : (table words demands figures grants caps answer : List ℕ) {wordCount figureCount r : ℕ} {words′ figures′ grants′ caps′ answer′ : List ℕ}
+pub plan-loaded : (table words demands figures : List ℕ) (lengths : Lengths) {wordCount figureCount : ℕ} {words′ figures′ : List ℕ}
     → suc mostWords ≤ length words → suc mostServers ≤ length figures
     → wordCount ≡ min (length table / 4) (length words) → words′ ≡ sets words 0 (wordsOf table)
     → figureCount ≡ min (length demands / 4) (length figures) → figures′ ≡ sets figures 0 (wordsOf demands)
-    → PlanCall (take wordCount words′) (take figureCount figures′) grants caps answer r grants′ caps′ answer′
-    → PlanCall (wordsOf table) (wordsOf demands) grants caps answer r grants′ caps′ answer′
-plan-loaded table words demands figures grants caps answer {wordCount} {figureCount} {r} {words′} {figures′} {grants′} {caps′} {answer′} hw hf nw w nf f call =
-    let same : plan (take wordCount words′) (take figureCount figures′) (length grants / 4) (length caps / 4) ≡ plan (wordsOf table) (wordsOf demands) (length grants / 4) (length caps / 4) =
-    ap₂ (λ (t d : List ℕ). plan t d (length grants / 4) (length caps / 4))
+    → plan (take wordCount words′) (take figureCount figures′) lengths ≡ plan (wordsOf table) (wordsOf demands) lengths
+plan-loaded table words demands figures lengths {wordCount} {figureCount} {words′} {figures′} hw hf nw w nf f =
+    ap₂ (λ (t d : List ℕ). plan t d lengths)
     (take-loaded (length words) wordCount table words words′ refl nw w) (take-loaded (length figures) figureCount demands figures figures′ refl nf f)
-    ∙ plan-inputs-cut (wordsOf table) (wordsOf demands) (length words) (length figures) (length grants / 4) (length caps / 4) hw hf in
-    rw same at call
+    ∙ plan-inputs-cut (wordsOf table) (wordsOf demands) (length words) (length figures) lengths hw hf

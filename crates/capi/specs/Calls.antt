@@ -10,8 +10,9 @@ use lib.Seq.{sets}
 use Rattle.words.specs.Bytes.{wordsOf, bytesOf, holdsAnswer, answered}
 use Rattle.words.specs.Calls.{Call}
 use Rattle.rooms.specs.Outcome.{Outcome, accepted, refused, answerOf, answerNumber, answerFigure, after, reading, writing}
-use Rattle.deals.specs.Plan.{plan, planNumber, planFigure}
+use Rattle.deals.specs.Plan.{Plan, plan, planNumber, planFigure}
 use Rattle.deals.specs.Plan as plan
+use Rattle.deals.specs.declared.Lengths.{Lengths}
 
 -- ---- Read and Write
 
@@ -36,24 +37,23 @@ WriteCall table sheet answer r sheet′ answer′ = OutcomeCall (writing (wordsO
 
 -- ---- Plan
 
--- The bytes of the grant list and of the cap list after an outcome: the grants or caps stand at the front; bytes past them, and
--- all where refused, are unchanged.
-abbrev pub grantBytesAfter : plan.Outcome → List ℕ → List ℕ
-grantBytesAfter (plan.accepted freed grants caps) bytes = sets bytes 0 (bytesOf grants)
-grantBytesAfter (plan.refused refusal) bytes = bytes
+-- A grant list and a cap list of so many bytes hold one figure for every four.
+abbrev pub lentBytes : (grants caps : List ℕ) → Lengths
+lentBytes grants caps = record { grants = length grants / 4; caps = length caps / 4 }
 
-abbrev pub capBytesAfter : plan.Outcome → List ℕ → List ℕ
-capBytesAfter (plan.accepted freed grants caps) bytes = sets bytes 0 (bytesOf caps)
-capBytesAfter (plan.refused refusal) bytes = bytes
+-- The bytes of a list after the call of a plan that comes to an outcome, by what a plan has for the list: as after the outcome, its
+-- words as bytes; unchanged where the answer's buffer is too short.
+abbrev pub bytesPlanned : (Plan → List ℕ) → plan.Outcome → (answer bytes : List ℕ) → List ℕ
+bytesPlanned output outcome answer bytes = cond (holdsAnswer answer) (plan.after (λ p. bytesOf (output p)) outcome bytes) bytes
 
--- The call of a plan that comes to an outcome: as any call, with two lists for its output.
+-- The call of a plan that comes to an outcome: as any call, with more than one list for its output.
 pub record PlannedCall (outcome : plan.Outcome) (grants caps answer : List ℕ) (r : ℕ) (grants′ caps′ answer′ : List ℕ) : Type 0 where
   pub returned : r ≡ cond (holdsAnswer answer) 1 0
-  pub grants-after : grants′ ≡ cond (holdsAnswer answer) (grantBytesAfter outcome grants) grants
-  pub caps-after : caps′ ≡ cond (holdsAnswer answer) (capBytesAfter outcome caps) caps
+  pub grants-after : grants′ ≡ bytesPlanned (λ p. p .grants) outcome answer grants
+  pub caps-after : caps′ ≡ bytesPlanned (λ p. p .caps) outcome answer caps
   pub answer-after : answer′ ≡ answered (planNumber (plan.answerOf outcome)) (planFigure (plan.answerOf outcome)) answer
 
--- Plan, called from C, of a table and demands in words: a list of grants or caps holds one for every four of its bytes.
+-- Plan, called from C, of a table and demands in words.
 abbrev pub PlanCall : (table demands grants caps answer : List ℕ) (r : ℕ) (grants′ caps′ answer′ : List ℕ) → Type 0
 PlanCall table demands grants caps answer r grants′ caps′ answer′ =
-    PlannedCall (plan table demands (length grants / 4) (length caps / 4)) grants caps answer r grants′ caps′ answer′
+    PlannedCall (plan table demands (lentBytes grants caps)) grants caps answer r grants′ caps′ answer′

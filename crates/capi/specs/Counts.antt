@@ -10,7 +10,7 @@ abbrev pub writtenCount : Answer → ℕ
 writtenCount (Accepted count) = count
 writtenCount (Refused refusal) = 0
 
--- How many entries a plan wrote to a list that it fills with `count`: none where refused.
+-- How many entries a plan wrote to a list with one for each of `count` cords or servers: none where refused.
 abbrev pub plannedCount : Planned → ℕ → ℕ
 plannedCount (planned.Accepted freed) count = count
 plannedCount (planned.Refused refusal) count = 0

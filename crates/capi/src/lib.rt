@@ -21,6 +21,7 @@ ghost use Rattle.rooms.specs.Outcome.{answerNumber, answerFigure};
 ghost use Rattle.capi.specs.Calls.{ReadCall, WriteCall, PlanCall};
 ghost use Rattle.capi.specs.Counts.{writtenCount, plannedCount};
 use deals::Planned;
+use demands::DECIDING_DEMANDS;
 use room_lists::cord_count;
 use rooms::Answer;
 use rooms::DECIDING_WORDS;
@@ -31,9 +32,6 @@ pub mod steps;
 
 // An answer is two numbers of eight bytes each.
 const ANSWER_BYTES: usize = 16;
-
-// One demand more than a room may have servers: so many decide every demand list.
-const DECIDING_DEMANDS: usize = 513;
 
 // A plan writes at most 1,024 grants and 512 caps.
 const MOST_GRANTS: usize = 1024;
@@ -184,10 +182,10 @@ fn plan_by(
         &mut granted[..grants_space],
         &mut capped[..caps_space],
     );
-    let grants_count = planned_count(planned, cord_count(table));
-    let caps_count = planned_count(planned, demands.len());
-    words::store(&granted[..grants_count], grants);
-    words::store(&capped[..caps_count], caps);
+    let cords = planned_count(planned, cord_count(table));
+    let servers = planned_count(planned, demands.len());
+    words::store(&granted[..cords], grants);
+    words::store(&capped[..servers], caps);
     words::store_answer(planned.number(), planned.figure(), answer);
     1
 }
@@ -211,7 +209,7 @@ fn written_count(told: Answer) -> usize
     }
 }
 
-// How many entries a plan wrote to a list that it fills with `count`: none where refused.
+// How many entries a plan wrote to a list with one for each of `count` cords or servers: none where refused.
 fn planned_count(planned: Planned, count: usize) -> usize
     ensures { λ r. ⌜ r ≡ plannedCount planned count ⌝ }
 {

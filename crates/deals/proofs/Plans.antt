@@ -1,177 +1,37 @@
--- The outcomes of a plan: one law for each, what an accepted plan gives, and how long its lists are.
-use mathlib.Core.Path.{_≡_, refl, ap, _∙_}
-use mathlib.Core.Bool.{Bool, true, false, cond, not}
+-- The outcomes of a plan: how its reasons to refuse are worked off, what an accepted plan says, and how long its lists are.
+use mathlib.Core.Path.{_≡_, refl, sym, ap, _∙_}
+use mathlib.Core.Bool.{Bool, true, false, cond, not, true≢false}
 use mathlib.Core.List.{List, [], _∷_}
 use mathlib.Core.Logic.{_↔_, Iff·trans}
-use Prim.Native.Nat.{ℕ, zero, suc, _≤_, _<_}
+use Prim.Native.Nat.{ℕ, suc, _≤_}
 use native.Mathlib.Omega.{arith}
 use lib.Dec.{eqb, ltb}
 use lib.ListN.{length}
-use lib.Seq.{sets}
-use borrow.Author.Tests.{eq-eqb, ne-eqb, lt-ltb, le-ltb}
+use borrow.Author.Tests.{eqb-true, ltb-false}
 use Rattle.rooms.specs.Part.{Step, good, bad, Good}
-use Rattle.rooms.specs.Table.{Room, mostWatts, roomCords}
+use Rattle.rooms.specs.Table.{Room, roomCords}
 use Rattle.rooms.specs.Limits.{checked}
 use Rattle.rooms.specs.Promises.{Overloaded}
 use Rattle.rooms.specs.declared.Refusal.{Refusal}
 use Rattle.rooms.specs.declared.Refusal.the-variants.{LowsAboveLimit}
 use Rattle.rooms.proofs.Overloaded.{checked-nine, nine-lows}
-use Rattle.figures.specs.Figures.{at}
 use Rattle.deals.specs.Dealing.{granted, grantsBy}
-use Rattle.deals.specs.SecondDeal.{usable, freed, secondWants, secondGrants, caps}
-use Rattle.deals.specs.Plan.{Outcome, accepted, refused, firstTooLarge, planRoom, planStep, plan, answerOf, grantsAfter, capsAfter, planNumber}
+use Rattle.deals.specs.SecondDeal.{usable, secondWants, secondGrants, caps}
+use Rattle.deals.specs.Plan.{Plan, planOf, Outcome, accepted, refused, Reason, countDiffers, demandTooLarge, tooShort, reasons, unless, planRoom, planStep, plan, answerOf, planRefusalNumber, planNumber}
 use Rattle.deals.specs.Promises.{IsNine}
-use Rattle.deals.specs.declared.PlanRefusal.{PlanRefusal}
-use Rattle.deals.specs.declared.PlanRefusal.the-variants.{Table, DemandCount, DemandTooLarge, GrantsTooShort, CapsTooShort}
-use Rattle.deals.specs.declared.Planned.the-variants.{Accepted, Refused}
+use Rattle.deals.specs.declared.Lengths.{Lengths}
+use Rattle.deals.specs.declared.PlanList.the-variants.{Grants, Caps}
+use Rattle.deals.specs.declared.PlanRefusal.the-variants.{Table}
 use Rattle.figures.proofs.Lists.{figures-length}
 use Rattle.deals.proofs.RoomDeals.{grantsBy-is}
 
--- ---- The first demand that is too large
+-- ---- Tests
 
 cond-yes : {A : Type 0} (t : Bool) (a b : A) → t ≡ true → cond t a b ≡ a
 cond-yes t a b e = ap (λ (x : Bool). cond x a b) e
 
 cond-no : {A : Type 0} (t : Bool) (a b : A) → t ≡ false → cond t a b ≡ b
 cond-no t a b e = ap (λ (x : Bool). cond x a b) e
-
-pub firstTooLarge-at : (l : List ℕ) (i : ℕ) → i < length l → ((k : ℕ) → k < i → at l k ≤ mostWatts) → mostWatts < at l i → firstTooLarge l ≡ i
-unfolding firstTooLarge
-firstTooLarge-at [] i h before here = absurd (omega arith)
-firstTooLarge-at (a ∷ rest) zero h before here = cond-yes (ltb mostWatts a) 0 (suc (firstTooLarge rest)) (lt-ltb mostWatts a here)
-firstTooLarge-at (a ∷ rest) (suc i) h before here =
-    cond-no (ltb mostWatts a) 0 (suc (firstTooLarge rest)) (le-ltb mostWatts a (before 0 (omega arith)))
-    ∙ ap suc (firstTooLarge-at rest i (omega arith) (λ k l. before (suc k) (omega arith)) here)
-
-pub firstTooLarge-none : (l : List ℕ) → ((k : ℕ) → k < length l → at l k ≤ mostWatts) → firstTooLarge l ≡ length l
-unfolding firstTooLarge
-firstTooLarge-none [] h = refl
-firstTooLarge-none (a ∷ rest) h =
-    cond-no (ltb mostWatts a) 0 (suc (firstTooLarge rest)) (le-ltb mostWatts a (h 0 (omega arith)))
-    ∙ ap suc (firstTooLarge-none rest (λ k l. h (suc k) (omega arith)))
-
--- ---- One law for each outcome
-
-pub plan-bad-table : (table demands : List ℕ) (g c : ℕ) (refusal : Refusal) → checked table 0 ≡ bad refusal
-    → plan table demands g c ≡ refused (Table refusal)
-unfolding plan planStep
-plan-bad-table table demands g c refusal e = ap (λ (s : Step Room). planStep s demands g c) e
-
-pub plan-good-table : (table demands : List ℕ) (g c : ℕ) (r : Room) (end : ℕ) → checked table 0 ≡ good r end
-    → plan table demands g c ≡ planRoom r demands g c
-unfolding plan planStep
-plan-good-table table demands g c r end e = ap (λ (s : Step Room). planStep s demands g c) e
-
-module _ (r : Room) (demands : List ℕ) (g c : ℕ) where
-  pub plan-demand-count : (length demands ≡ length (r .servers) → ⊥) → planRoom r demands g c ≡ refused (DemandCount (length (r .servers)))
-  unfolding planRoom
-  plan-demand-count n = cond-yes (not (eqb (length demands) (length (r .servers)))) _ _ (ap not (ne-eqb (length demands) (length (r .servers)) n))
-
-  module _ (counted : length demands ≡ length (r .servers)) where
-    past-count : {A : Type 0} (a b : A) → cond (not (eqb (length demands) (length (r .servers)))) a b ≡ b
-    past-count a b = cond-no (not (eqb (length demands) (length (r .servers)))) a b (ap not (eq-eqb (length demands) (length (r .servers)) counted))
-
-    pub plan-demand-too-large : firstTooLarge demands < length demands → planRoom r demands g c ≡ refused (DemandTooLarge (firstTooLarge demands))
-    unfolding planRoom
-    plan-demand-too-large h =
-        past-count _ _ ∙ cond-yes (ltb (firstTooLarge demands) (length demands)) _ _ (lt-ltb (firstTooLarge demands) (length demands) h)
-
-    module _ (small : length demands ≤ firstTooLarge demands) where
-      past-large : {A : Type 0} (a b : A) → cond (ltb (firstTooLarge demands) (length demands)) a b ≡ b
-      past-large a b = cond-no (ltb (firstTooLarge demands) (length demands)) a b (le-ltb (firstTooLarge demands) (length demands) small)
-
-      pub plan-grants-too-short : g < roomCords r → planRoom r demands g c ≡ refused (GrantsTooShort (roomCords r))
-      unfolding planRoom
-      plan-grants-too-short h = past-count _ _ ∙ past-large _ _ ∙ cond-yes (ltb g (roomCords r)) _ _ (lt-ltb g (roomCords r) h)
-
-      module _ (grantsFit : roomCords r ≤ g) where
-        past-grants : {A : Type 0} (a b : A) → cond (ltb g (roomCords r)) a b ≡ b
-        past-grants a b = cond-no (ltb g (roomCords r)) a b (le-ltb g (roomCords r) grantsFit)
-
-        pub plan-caps-too-short : c < length (r .servers) → planRoom r demands g c ≡ refused (CapsTooShort (length (r .servers)))
-        unfolding planRoom
-        plan-caps-too-short h =
-            past-count _ _ ∙ past-large _ _ ∙ past-grants _ _ ∙ cond-yes (ltb c (length (r .servers))) _ _ (lt-ltb c (length (r .servers)) h)
-
-        pub plan-accepted : length (r .servers) ≤ c → planRoom r demands g c ≡ accepted (freed r demands) (secondGrants r demands) (caps r demands)
-        unfolding planRoom
-        plan-accepted h =
-            past-count _ _ ∙ past-large _ _ ∙ past-grants _ _ ∙ cond-no (ltb c (length (r .servers))) _ _ (le-ltb c (length (r .servers)) h)
-
--- A refused plan leaves both lists; an accepted one has written its grants and caps to their fronts.
-pub refused-done : (outcome : Outcome) (grants caps : List ℕ) {q : PlanRefusal} → outcome ≡ refused q
-    → (Refused q ≡ answerOf outcome) × (grants ≡ grantsAfter outcome grants) × (caps ≡ capsAfter outcome caps)
-refused-done outcome grants caps e = rw e (refl, refl, refl)
-
-pub accepted-done : (outcome : Outcome) (grants grants′ caps caps′ : List ℕ) {f : ℕ} {gs cs : List ℕ} → outcome ≡ accepted f gs cs
-    → grants′ ≡ sets grants 0 gs → caps′ ≡ sets caps 0 cs
-    → (Accepted f ≡ answerOf outcome) × (grants′ ≡ grantsAfter outcome grants) × (caps′ ≡ capsAfter outcome caps)
-accepted-done outcome grants grants′ caps caps′ e g c = rw e (refl, g, c)
-
--- ---- An accepted plan gives the answer of the table's room
-
-pub plan-answer : (r : Room) (demands : List ℕ) (g c f : ℕ) (gs cs : List ℕ) → planRoom r demands g c ≡ accepted f gs cs
-    → (f ≡ freed r demands) × (gs ≡ secondGrants r demands) × (cs ≡ caps r demands)
-unfolding planRoom
-plan-answer r demands g c f gs cs e =
-    go (not (eqb (length demands) (length (r .servers)))) (ltb (firstTooLarge demands) (length demands)) (ltb g (roomCords r)) (ltb c (length (r .servers))) e
-  where
-    go : (p q s t : Bool)
-        → cond p (refused (DemandCount (length (r .servers))))
-        (cond q (refused (DemandTooLarge (firstTooLarge demands)))
-        (cond s (refused (GrantsTooShort (roomCords r)))
-        (cond t (refused (CapsTooShort (length (r .servers))))
-        (accepted (freed r demands) (secondGrants r demands) (caps r demands))))) ≡ accepted f gs cs
-        → (f ≡ freed r demands) × (gs ≡ secondGrants r demands) × (cs ≡ caps r demands)
-    go true q s t e = absurd (let z : _≡_ {A = ℕ} 0 1 = cc in omega arith)
-    go false true s t e = absurd (let z : _≡_ {A = ℕ} 0 1 = cc in omega arith)
-    go false false true t e = absurd (let z : _≡_ {A = ℕ} 0 1 = cc in omega arith)
-    go false false false true e = absurd (let z : _≡_ {A = ℕ} 0 1 = cc in omega arith)
-    go false false false false e = (cc, cc, cc)
-
--- Its table is good.
-pub plan-good : (table demands : List ℕ) (g c f : ℕ) (gs cs : List ℕ) → plan table demands g c ≡ accepted f gs cs → Good (checked table 0)
-unfolding plan planStep
-plan-good table demands g c f gs cs e = go (checked table 0) refl e
-  where
-    go : (s : Step Room) → checked table 0 ≡ s → planStep s demands g c ≡ accepted f gs cs → Good (checked table 0)
-    go (good r end) q d = record { value = r; next = end; is = q }
-    go (bad refusal) q d = absurd (let z : _≡_ {A = ℕ} 0 1 = cc in omega arith)
-
--- ---- Refusal 9
-
--- The plan of a good room is accepted, or refused by 10 to 13.
-room-other : (r : Room) (demands : List ℕ) (g c : ℕ) → planNumber (answerOf (planRoom r demands g c)) ≡ 9 → ⊥
-unfolding planRoom
-room-other r demands g c =
-    go (not (eqb (length demands) (length (r .servers)))) (ltb (firstTooLarge demands) (length demands)) (ltb g (roomCords r)) (ltb c (length (r .servers)))
-  where
-    go : (p q s t : Bool)
-        → planNumber (answerOf
-        (cond p (refused (DemandCount (length (r .servers))))
-        (cond q (refused (DemandTooLarge (firstTooLarge demands)))
-        (cond s (refused (GrantsTooShort (roomCords r)))
-        (cond t (refused (CapsTooShort (length (r .servers))))
-        (accepted (freed r demands) (secondGrants r demands) (caps r demands))))))) ≡ 9
-        → ⊥
-    go true q s t e = omega arith
-    go false true s t e = omega arith
-    go false false true t e = omega arith
-    go false false false true e = omega arith
-    go false false false false e = omega arith
-
-step-nine : (s : Step Room) (demands : List ℕ) (g c n : ℕ) → IsNine (answerOf (planStep s demands g c)) n ↔ (s ≡ bad (LowsAboveLimit n))
-unfolding planStep
-step-nine (good r end) demands g c n =
-    (λ a. absurd (room-other r demands g c (a .0)), λ e. absurd (let z : _≡_ {A = ℕ} 0 1 = cc in omega arith))
-step-nine (bad refusal) demands g c n = (
-  λ a. ap bad (nine-lows refusal n (a .0) (a .1)),
-  λ e. let q : refusal ≡ LowsAboveLimit n = cc in rw q (refl, refl),
-)
-
-pub plan-nine : (table demands : List ℕ) (g c n : ℕ) → IsNine (answerOf (plan table demands g c)) n ↔ Overloaded table n
-unfolding plan
-plan-nine table demands g c n = Iff·trans (step-nine (checked table 0) demands g c n) (checked-nine table n)
 
 -- ---- The lengths of the answer's lists
 
@@ -186,3 +46,134 @@ secondGrants-length r demands = grantsBy-length r (secondWants r demands)
 pub caps-length : (r : Room) (demands : List ℕ) → length (caps r demands) ≡ length (r .servers)
 unfolding caps usable
 caps-length r demands = figures-length (length (r .servers)) _
+
+-- ---- Reasons to refuse
+
+-- The first reason that holds refuses, and one that does not is passed.
+module _ (reason : Reason) (rest : List Reason) (plan : Plan) where
+  pub unless-stop : reason .holds ≡ true → unless (reason ∷ rest) plan ≡ refused (reason .refusal)
+  unfolding unless
+  unless-stop e = cond-yes (reason .holds) _ _ e
+
+  pub unless-pass : reason .holds ≡ false → unless (reason ∷ rest) plan ≡ unless rest plan
+  unfolding unless
+  unless-pass e = cond-no (reason .holds) _ _ e
+
+  -- Where a plan is accepted, a reason does not hold, and the others decide.
+  pub unless-back : {answer : Plan} → unless (reason ∷ rest) plan ≡ accepted answer → (reason .holds ≡ false) × (unless rest plan ≡ accepted answer)
+  unless-back {answer} e = go (reason .holds) refl
+    where
+      go : (t : Bool) → reason .holds ≡ t → (reason .holds ≡ false) × (unless rest plan ≡ accepted answer)
+      go true h = absurd (let d : refused (reason .refusal) ≡ accepted answer = sym (unless-stop h) ∙ e in let z : _≡_ {A = ℕ} 0 1 = cc in omega arith)
+      go false h = (h, sym (unless-pass h) ∙ e)
+
+  -- A number is not told that neither this reason nor the others tell.
+  unless-other : (n : ℕ) → (planRefusalNumber (reason .refusal) ≡ n → ⊥) → (planNumber (answerOf (unless rest plan)) ≡ n → ⊥)
+      → planNumber (answerOf (unless (reason ∷ rest) plan)) ≡ n → ⊥
+  unless-other n own others e = go (reason .holds) refl
+    where
+      go : (t : Bool) → reason .holds ≡ t → ⊥
+      go true h = own (sym (ap (λ (o : Outcome). planNumber (answerOf o)) (unless-stop h)) ∙ e)
+      go false h = others (sym (ap (λ (o : Outcome). planNumber (answerOf o)) (unless-pass h)) ∙ e)
+
+-- Where no reason is left, no number is told.
+unless-none : (plan : Plan) (n : ℕ) → planNumber (answerOf (unless [] plan)) ≡ suc n → ⊥
+unfolding unless
+unless-none plan n e = omega arith
+
+-- Where a plan is accepted, it is the one that was to be.
+pub unless-is : (reasons : List Reason) (plan answer : Plan) → unless reasons plan ≡ accepted answer → answer ≡ plan
+unfolding unless
+unless-is [] plan answer e = cc
+unless-is (reason ∷ rest) plan answer e = unless-is rest plan answer (unless-back reason rest plan e .1)
+
+-- ---- The table
+
+pub planRoom-is : (r : Room) (demands : List ℕ) (lengths : Lengths) → planRoom r demands lengths ≡ unless (reasons r demands lengths) (planOf r demands)
+unfolding planRoom
+planRoom-is r demands lengths = refl
+
+pub plan-bad-table : (table demands : List ℕ) (lengths : Lengths) (refusal : Refusal) → checked table 0 ≡ bad refusal
+    → plan table demands lengths ≡ refused (Table refusal)
+unfolding plan planStep
+plan-bad-table table demands lengths refusal e = ap (λ (s : Step Room). planStep s demands lengths) e
+
+pub plan-good-table : (table demands : List ℕ) (lengths : Lengths) (r : Room) (end : ℕ) → checked table 0 ≡ good r end
+    → plan table demands lengths ≡ planRoom r demands lengths
+unfolding plan planStep
+plan-good-table table demands lengths r end e = ap (λ (s : Step Room). planStep s demands lengths) e
+
+-- An accepted plan has a good table.
+pub plan-good : (table demands : List ℕ) (lengths : Lengths) (answer : Plan) → plan table demands lengths ≡ accepted answer → Good (checked table 0)
+unfolding plan planStep
+plan-good table demands lengths answer e = go (checked table 0) refl e
+  where
+    go : (s : Step Room) → checked table 0 ≡ s → planStep s demands lengths ≡ accepted answer → Good (checked table 0)
+    go (good r end) q d = record { value = r; next = end; is = q }
+    go (bad refusal) q d = absurd (let z : _≡_ {A = ℕ} 0 1 = cc in omega arith)
+
+-- ---- What an accepted plan says
+
+-- A list has the entries that what is written to it needs.
+pub record Fits (written : List ℕ) (needed entries : ℕ) : Type 0 where
+  pub count : length written ≡ needed
+  pub within : needed ≤ entries
+
+-- An accepted plan is that of its room, which has as many servers as there are demands, and fits its lists.
+pub record Planning (r : Room) (demands : List ℕ) (lengths : Lengths) (answer : Plan) : Type 0 where
+  pub is : answer ≡ planOf r demands
+  pub demandCount : length demands ≡ length (r .servers)
+  pub grants : Fits (answer .grants) (roomCords r) (lengths .grants)
+  pub caps : Fits (answer .caps) (length (r .servers)) (lengths .caps)
+
+-- A list is not too short.
+fits : {written output : List ℕ} {needed entries : ℕ} → written ≡ output → length output ≡ needed → ltb entries needed ≡ false → Fits written needed entries
+fits {needed = needed} {entries = entries} is count t = record { count = ap length is ∙ count; within = ltb-false entries needed t }
+
+pub planRoom-accepted : (r : Room) (demands : List ℕ) (lengths : Lengths) (answer : Plan) → planRoom r demands lengths ≡ accepted answer
+    → Planning r demands lengths answer
+planRoom-accepted r demands lengths answer e =
+    let all = sym (planRoom-is r demands lengths) ∙ e in
+    let is = unless-is _ (planOf r demands) answer all in
+    let count = unless-back _ _ (planOf r demands) all in
+    let large = unless-back _ _ (planOf r demands) (count .1) in
+    let grants = unless-back _ _ (planOf r demands) (large .1) in
+    let caps = unless-back _ _ (planOf r demands) (grants .1) in
+    record {
+      is = is;
+      demandCount = not-differs (length demands) (length (r .servers)) (count .0);
+      grants = fits (ap (λ (p : Plan). p .grants) is) (secondGrants-length r demands) (grants .0);
+      caps = fits (ap (λ (p : Plan). p .caps) is) (caps-length r demands) (caps .0);
+    }
+  where
+    not-differs : (a b : ℕ) → not (eqb a b) ≡ false → a ≡ b
+    not-differs a b e = go (eqb a b) refl e
+      where
+        go : (t : Bool) → eqb a b ≡ t → not t ≡ false → a ≡ b
+        go true q d = eqb-true a b q
+        go false q d = absurd (true≢false d)
+
+-- ---- Refusal 9
+
+-- The plan of a good room is accepted, or refused by 10 to 13.
+room-other : (r : Room) (demands : List ℕ) (lengths : Lengths) → planNumber (answerOf (planRoom r demands lengths)) ≡ 9 → ⊥
+room-other r demands lengths e =
+    unless-other (countDiffers r demands) _ (planOf r demands) 9 (λ q. omega arith)
+    (unless-other (demandTooLarge demands) _ (planOf r demands) 9 (λ q. omega arith)
+    (unless-other (tooShort Grants (lengths .grants) (roomCords r)) _ (planOf r demands) 9 (λ q. omega arith)
+    (unless-other (tooShort Caps (lengths .caps) (length (r .servers))) _ (planOf r demands) 9 (λ q. omega arith)
+    (unless-none (planOf r demands) 8))))
+    (sym (ap (λ (o : Outcome). planNumber (answerOf o)) (planRoom-is r demands lengths)) ∙ e)
+
+step-nine : (s : Step Room) (demands : List ℕ) (lengths : Lengths) (n : ℕ) → IsNine (answerOf (planStep s demands lengths)) n ↔ (s ≡ bad (LowsAboveLimit n))
+unfolding planStep
+step-nine (good r end) demands lengths n =
+    (λ a. absurd (room-other r demands lengths (a .0)), λ e. absurd (let z : _≡_ {A = ℕ} 0 1 = cc in omega arith))
+step-nine (bad refusal) demands lengths n = (
+  λ a. ap bad (nine-lows refusal n (a .0) (a .1)),
+  λ e. let q : refusal ≡ LowsAboveLimit n = cc in rw q (refl, refl),
+)
+
+pub plan-nine : (table demands : List ℕ) (lengths : Lengths) (n : ℕ) → IsNine (answerOf (plan table demands lengths)) n ↔ Overloaded table n
+unfolding plan
+plan-nine table demands lengths n = Iff·trans (step-nine (checked table 0) demands lengths n) (checked-nine table n)

@@ -20,6 +20,7 @@ use Rattle.rooms.specs.Cords.{cordAt, rankOf}
 use Rattle.rooms.specs.Lists.{carriedBy, lowsOf}
 use Rattle.deals.specs.Dealing.{grantsBy}
 use Rattle.deals.specs.SecondDeal.{firstGrants, firstUsable, secondWants, secondGrants, caps}
+use Rattle.deals.specs.Plan.{Plan}
 use Rattle.deals.specs.Ways.{cordBeneath, sumBeneath, fromRank}
 use Rattle.deals.specs.Promises.{AcceptedPlan, AcceptedHasRoom, Answered, AnswerOfBothDeals, Kept, FirstKept, SecondKept, Greatest, FirstGreatest, SecondGreatest, SettledFromRank, RefusalNine}
 use Rattle.deals.specs.Properties.{CapsInRange, UsedGranted, SecondWantsInRange, FirstGivesAll, SecondGivesAll, fromLevel, Totals, FiguresFit}
@@ -30,7 +31,7 @@ use Rattle.deals.proofs.RoomDeals.{levelsOf-at, roomDeal, grantsBy-is}
 use Rattle.deals.proofs.BothDeals.{server-facts, cord-facts, room-dealable, room-startable, grants-way, first-dealable, first-startable, second-dealable, second-startable, firstWants-lows, secondWants-lows, firstUsed-granted, capsUsed-granted, secondWants-wants, caps-least, caps-need}
 use Rattle.deals.proofs.LowerRanks.{firstGrants-same, firstUsable-same, secondGrants-same, caps-same}
 use Rattle.deals.proofs.Bounds.{bounded}
-use Rattle.deals.proofs.Plans.{plan-nine, plan-good, plan-good-table, plan-answer, secondGrants-length, caps-length}
+use Rattle.deals.proofs.Plans.{plan-nine, plan-good, plan-good-table, planRoom-accepted}
 
 -- The levels from that of a rank on are the ranks from it on.
 rank-level : (rank own : ℕ) → 1 ≤ own → own ≤ highestRank → leb rank own ≡ leb (min (rank - 1) highestRank) (own - 1)
@@ -83,19 +84,19 @@ module _ (p : AcceptedPlan) where
 
   answered : Answered p
   answered =
-      let e = plan-good-table (p .table) (p .demands) (p .grantsLength) (p .capsLength) (p .room) (p .end) (p .isRoom) in
-      let a = plan-answer (p .room) (p .demands) (p .grantsLength) (p .capsLength) (p .freed) (p .grants) (p .caps) (sym e ∙ p .isAnswer) in
+      let e = plan-good-table (p .table) (p .demands) (p .lengths) (p .room) (p .end) (p .isRoom) in
+      let a = planRoom-accepted (p .room) (p .demands) (p .lengths) (p .answer) (sym e ∙ p .isAnswer) in
       record {
-        freed = a .0;
-        grants = a .1;
-        caps = a .2;
-        eachCord = ap length (a .1) ∙ secondGrants-length (p .room) (p .demands);
-        eachServer = ap length (a .2) ∙ caps-length (p .room) (p .demands);
+        freed = ap (λ (x : Plan). x .freed) (a .is);
+        grants = ap (λ (x : Plan). x .grants) (a .is);
+        caps = ap (λ (x : Plan). x .caps) (a .is);
+        eachCord = a .grants .count;
+        eachServer = a .caps .count;
       }
 
   -- What holds of the second grants of an accepted room holds of the answer's grants.
   of-grants : (P : Room → List ℕ → List ℕ → Type 0) → ((r : Room) → Accepted r → (demands : List ℕ) → P r demands (secondGrants r demands))
-      → P (p .room) (p .demands) (p .grants)
+      → P (p .room) (p .demands) (p .answer .grants)
   of-grants P h = subst (P (p .room) (p .demands)) (sym (answered .grants)) (h (p .room) accepted-room (p .demands))
 
 pub accepted-has-room : AcceptedHasRoom
@@ -157,16 +158,16 @@ refusal-nine = plan-nine
 
 pub caps-in-range : CapsInRange
 caps-in-range p v l =
-    let e : at (p .caps) v ≡ at (caps (p .room) (p .demands)) v = ap (λ (z : List ℕ). at z v) (answered p .caps) in (
+    let e : at (p .answer .caps) v ≡ at (caps (p .room) (p .demands)) v = ap (λ (z : List ℕ). at z v) (answered p .caps) in (
       le-trans (caps-least (p .room) (accepted-room p) (p .demands) v l) (le-of-eq (sym e)),
       le-trans (le-of-eq e) (caps-need (p .room) (accepted-room p) (p .demands) v l),
     )
 
 pub used-granted : UsedGranted
 used-granted p c l =
-    let e : at (carriedBy (p .room) (p .caps)) c ≡ at (carriedBy (p .room) (caps (p .room) (p .demands))) c
+    let e : at (carriedBy (p .room) (p .answer .caps)) c ≡ at (carriedBy (p .room) (caps (p .room) (p .demands))) c
     = ap (λ (z : List ℕ). at (carriedBy (p .room) z) c) (answered p .caps) in
-    let d : at (p .grants) c ≡ at (secondGrants (p .room) (p .demands)) c = ap (λ (z : List ℕ). at z c) (answered p .grants) in (
+    let d : at (p .answer .grants) c ≡ at (secondGrants (p .room) (p .demands)) c = ap (λ (z : List ℕ). at z c) (answered p .grants) in (
       firstUsed-granted (p .room) (accepted-room p) (p .demands) c l,
       le-trans (le-of-eq e) (le-trans (capsUsed-granted (p .room) (accepted-room p) (p .demands) c l) (le-of-eq (sym d))),
     )

@@ -7,19 +7,30 @@ use Rattle.rooms.specs.Part.{follow, word, ensure, end, many}
 use Rattle.figures.specs.Figures.{total}
 use Rattle.rooms.specs.Table.{formOf, percent, node, cord, range, load, server, table}
 use Rattle.rooms.specs.Limits.{beneath, serverLows, lows, firstNode, overloaded}
-use Rattle.deals.specs.Plan.{accepted, refused, plan}
-use Rattle.deals.specs.declared.PlanRefusal.the-variants.{DemandCount, DemandTooLarge, GrantsTooShort, CapsTooShort}
+use Rattle.deals.specs.Plan.{Outcome, accepted, refused, plan, mostLent}
+use Rattle.deals.specs.declared.Lengths.{Lengths}
+use Rattle.deals.specs.declared.PlanList.the-variants.{Grants, Caps}
+use Rattle.deals.specs.declared.PlanRefusal.the-variants.{DemandCount, DemandTooLarge, ListTooShort}
+
+-- Lists of so many grants and caps.
+abbrev lengths : ℕ → ℕ → Lengths
+lengths grants caps = record { grants = grants; caps = caps }
+
+-- The grants of a plan; none if it is refused.
+abbrev grantsOf : Outcome → List ℕ
+grantsOf (accepted plan) = plan .grants
+grantsOf (refused refusal) = []
 
 -- Room H.
 abbrev tableH : List ℕ
 tableH = 1 ∷ 2 ∷ 0 ∷ 150 ∷ 0 ∷ 500 ∷ 2 ∷ 1 ∷ 100 ∷ 400 ∷ 2 ∷ 1 ∷ 500 ∷ 2 ∷ 500 ∷ 1 ∷ 100 ∷ 400 ∷ 1 ∷ 2 ∷ 1000 ∷ []
 
 -- Its plan whole, and room H turned back by 10, 11, 12 and 13.
-room-h : (plan tableH (400 ∷ 400 ∷ []) 3 2 ≡ accepted 13 (120 ∷ 97 ∷ 303 ∷ []) (194 ∷ 303 ∷ []))
-    × (plan tableH (400 ∷ []) 0 0 ≡ refused (DemandCount 2))
-    × (plan tableH (400 ∷ 16777216 ∷ []) 0 0 ≡ refused (DemandTooLarge 1))
-    × (plan tableH (400 ∷ 400 ∷ []) 2 0 ≡ refused (GrantsTooShort 3))
-    × (plan tableH (400 ∷ 400 ∷ []) 3 1 ≡ refused (CapsTooShort 2))
+room-h : (plan tableH (400 ∷ 400 ∷ []) (lengths 3 2) ≡ accepted (record { freed = 13; grants = 120 ∷ 97 ∷ 303 ∷ []; caps = 194 ∷ 303 ∷ [] }))
+    × (plan tableH (400 ∷ []) (lengths 0 0) ≡ refused (DemandCount 2))
+    × (plan tableH (400 ∷ 16777216 ∷ []) (lengths 0 0) ≡ refused (DemandTooLarge 1))
+    × (plan tableH (400 ∷ 400 ∷ []) (lengths 2 0) ≡ refused (ListTooShort Grants 3))
+    × (plan tableH (400 ∷ 400 ∷ []) (lengths 3 1) ≡ refused (ListTooShort Caps 2))
 unfolding plan
     follow word ensure end many total formOf percent node cord range load server table
     beneath serverLows lows firstNode overloaded
@@ -41,9 +52,9 @@ tableS =
 
 -- What programs that nearly get there get wrong: weights that are excesses; child nodes before cords; and a rank that counts
 -- across breakers.
-near-misses : (plan tableN (1000 ∷ 100 ∷ []) 2 2 ≡ accepted 0 (75 ∷ 75 ∷ []) (75 ∷ 75 ∷ []))
-    × (plan tableO (1 ∷ 1 ∷ []) 2 2 ≡ accepted 0 (0 ∷ 1 ∷ []) (0 ∷ 1 ∷ []))
-    × (plan tableS (430 ∷ 430 ∷ 430 ∷ 430 ∷ []) 4 4 ≡ accepted 0 (430 ∷ 270 ∷ 270 ∷ 270 ∷ []) (430 ∷ 270 ∷ 270 ∷ 270 ∷ []))
+near-misses : (grantsOf (plan tableN (1000 ∷ 100 ∷ []) mostLent) ≡ 75 ∷ 75 ∷ [])
+    × (grantsOf (plan tableO (1 ∷ 1 ∷ []) mostLent) ≡ 0 ∷ 1 ∷ [])
+    × (grantsOf (plan tableS (430 ∷ 430 ∷ 430 ∷ 430 ∷ []) mostLent) ≡ 430 ∷ 270 ∷ 270 ∷ 270 ∷ [])
 unfolding plan
     follow word ensure end many total formOf percent node cord range load server table
     beneath serverLows lows firstNode overloaded

@@ -1,86 +1,136 @@
 -- The whole plan: the table's refusals, those of the demands and of the lists, and the answer.
-use mathlib.Core.Bool.{cond, not}
+use mathlib.Core.Bool.{Bool, cond, not}
 use mathlib.Core.List.{List, [], _∷_}
 use Prim.Native.Nat.{ℕ, suc}
 use lib.Dec.{eqb, ltb}
 use lib.ListN.{length}
 use lib.Seq.{sets}
+use Rattle.words.specs.Lists.{firstNotBelow}
 use Rattle.rooms.specs.Part.{Step, good, bad}
-use Rattle.rooms.specs.Table.{Room, mostWatts, roomCords}
+use Rattle.rooms.specs.Table.{Room, mostWatts, mostServers, mostCords, roomCords}
 use Rattle.rooms.specs.Limits.{checked}
 use Rattle.rooms.specs.Outcome.{refusalNumber, refusalPlace}
 use Rattle.deals.specs.SecondDeal.{freed, secondGrants, caps}
+use Rattle.deals.specs.declared.PlanList.{PlanList}
+use Rattle.deals.specs.declared.PlanList.the-variants.{Grants, Caps}
+use Rattle.deals.specs.declared.Lengths.{Lengths}
 use Rattle.deals.specs.declared.PlanRefusal.{PlanRefusal}
-use Rattle.deals.specs.declared.PlanRefusal.the-variants.{Table, DemandCount, DemandTooLarge, GrantsTooShort, CapsTooShort}
+use Rattle.deals.specs.declared.PlanRefusal.the-variants.{Table, DemandCount, DemandTooLarge, ListTooShort}
 use Rattle.deals.specs.declared.Planned.{Planned}
 use Rattle.deals.specs.declared.Planned.the-variants.{Accepted, Refused}
 
--- What a plan comes to: freed watts, a grant for each cord and a cap for each server; or a refusal.
+-- ---- Plans
+
+-- A plan: the freed watts, a grant for each cord and a cap for each server.
+pub record Plan : Type 0 where
+  pub freed : ℕ
+  pub grants : List ℕ
+  pub caps : List ℕ
+
+-- The plan of a room with its servers' demands.
+abbrev pub planOf : Room → List ℕ → Plan
+planOf r demands = record { freed = freed r demands; grants = secondGrants r demands; caps = caps r demands }
+
+-- What Plan comes to: a plan, or a refusal.
 pub data Outcome : Type 0 where
-  accepted : ℕ → List ℕ → List ℕ → Outcome
+  accepted : Plan → Outcome
   refused : PlanRefusal → Outcome
 
--- The index of the first demand above the most watts; the count of demands if there is none.
-unfoldable pub firstTooLarge : List ℕ → ℕ
-firstTooLarge [] = 0
-firstTooLarge (demand ∷ rest) = cond (ltb mostWatts demand) 0 (suc (firstTooLarge rest))
+-- ---- Refusals
 
--- The plan of a good room. Refused in order: the demands' count (10), a demand too large (11), the grant list too short (12),
--- the cap list too short (13).
-unfoldable pub planRoom : Room → List ℕ → ℕ → ℕ → Outcome
-unfolding firstTooLarge freed secondGrants caps
-planRoom r demands grantsLength capsLength =
-    cond (not (eqb (length demands) (length (r .servers)))) (refused (DemandCount (length (r .servers))))
-    (cond (ltb (firstTooLarge demands) (length demands)) (refused (DemandTooLarge (firstTooLarge demands)))
-    (cond (ltb grantsLength (roomCords r)) (refused (GrantsTooShort (roomCords r)))
-    (cond (ltb capsLength (length (r .servers))) (refused (CapsTooShort (length (r .servers))))
-    (accepted (freed r demands) (secondGrants r demands) (caps r demands)))))
+-- The index of the first demand above the most watts; the count of demands if there is none.
+abbrev pub firstTooLarge : List ℕ → ℕ
+firstTooLarge demands = firstNotBelow (suc mostWatts) demands
+
+-- A reason to refuse: whether it holds, and the refusal that it gives.
+pub record Reason : Type 0 where
+  pub holds : Bool
+  pub refusal : PlanRefusal
+
+-- There is not a demand for each server.
+abbrev pub countDiffers : Room → List ℕ → Reason
+countDiffers r demands = record { holds = not (eqb (length demands) (length (r .servers))); refusal = DemandCount (length (r .servers)) }
+
+-- A demand is above the most watts.
+abbrev pub demandTooLarge : List ℕ → Reason
+demandTooLarge demands = record { holds = ltb (firstTooLarge demands) (length demands); refusal = DemandTooLarge (firstTooLarge demands) }
+
+-- A list of so many entries is too short for what is needed.
+abbrev pub tooShort : PlanList → ℕ → ℕ → Reason
+tooShort list entries needed = record { holds = ltb entries needed; refusal = ListTooShort list needed }
+
+-- The reasons to refuse the plan of a good room, in their order (10, 11, 12, 13).
+abbrev pub reasons : Room → List ℕ → Lengths → List Reason
+reasons r demands lengths =
+    countDiffers r demands
+    ∷ demandTooLarge demands
+    ∷ tooShort Grants (lengths .grants) (roomCords r)
+    ∷ tooShort Caps (lengths .caps) (length (r .servers))
+    ∷ []
+
+-- The first reason that holds refuses; where none does, the plan is accepted.
+unfoldable pub unless : List Reason → Plan → Outcome
+unless [] plan = accepted plan
+unless (reason ∷ rest) plan = cond (reason .holds) (refused (reason .refusal)) (unless rest plan)
+
+-- ---- Plan
+
+-- The plan of a good room, in lists of given lengths.
+unfoldable pub planRoom : Room → List ℕ → Lengths → Outcome
+unfolding unless firstNotBelow freed secondGrants caps
+planRoom r demands lengths = unless (reasons r demands lengths) (planOf r demands)
 
 -- The plan of what the table's check gives: its refusals (4 to 9) stand.
-unfoldable pub planStep : Step Room → List ℕ → ℕ → ℕ → Outcome
+unfoldable pub planStep : Step Room → List ℕ → Lengths → Outcome
 unfolding planRoom
-planStep (good r end) demands grantsLength capsLength = planRoom r demands grantsLength capsLength
-planStep (bad refusal) demands grantsLength capsLength = refused (Table refusal)
+planStep (good r end) demands lengths = planRoom r demands lengths
+planStep (bad refusal) demands lengths = refused (Table refusal)
 
--- Plan: a table, a demand list, and the lengths of the grant list and the cap list.
-unfoldable pub plan : List ℕ → List ℕ → ℕ → ℕ → Outcome
+-- Plan: a table, a demand list, and the lengths of the lists that are lent.
+unfoldable pub plan : List ℕ → List ℕ → Lengths → Outcome
 unfolding planStep checked
-plan table demands grantsLength capsLength = planStep (checked table 0) demands grantsLength capsLength
+plan table demands lengths = planStep (checked table 0) demands lengths
+
+-- The lengths of a grant list and a cap list.
+abbrev pub lent : (grants caps : List ℕ) → Lengths
+lent grants caps = record { grants = length grants; caps = length caps }
+
+-- The lengths of lists that take the plan of every room.
+abbrev pub mostLent : Lengths
+mostLent = record { grants = mostCords; caps = mostServers }
 
 -- ---- What the caller sees
 
 -- The answer to an outcome.
 abbrev pub answerOf : Outcome → Planned
-answerOf (accepted freed grants caps) = Accepted freed
+answerOf (accepted plan) = Accepted (plan .freed)
 answerOf (refused refusal) = Refused refusal
 
--- The grant list and the cap list after an outcome: what is written stands at the front; entries past it, and all where
--- refused, are unchanged.
-abbrev pub grantsAfter : Outcome → List ℕ → List ℕ
-grantsAfter (accepted freed grants caps) list = sets list 0 grants
-grantsAfter (refused refusal) list = list
-
-abbrev pub capsAfter : Outcome → List ℕ → List ℕ
-capsAfter (accepted freed grants caps) list = sets list 0 caps
-capsAfter (refused refusal) list = list
+-- A list after an outcome, by what a plan has for it: that stands at the front; entries past it, and all where refused, are unchanged.
+abbrev pub after : (Plan → List ℕ) → Outcome → List ℕ → List ℕ
+after output (accepted plan) list = sets list 0 (output plan)
+after output (refused refusal) list = list
 
 -- ---- Numbers and places
+
+-- The number of the refusal where a list is too short.
+abbrev pub planListNumber : PlanList → ℕ
+planListNumber Grants = 12
+planListNumber Caps = 13
 
 -- A refusal's number.
 abbrev pub planRefusalNumber : PlanRefusal → ℕ
 planRefusalNumber (Table refusal) = refusalNumber refusal
 planRefusalNumber (DemandCount place) = 10
 planRefusalNumber (DemandTooLarge place) = 11
-planRefusalNumber (GrantsTooShort place) = 12
-planRefusalNumber (CapsTooShort place) = 13
+planRefusalNumber (ListTooShort list place) = planListNumber list
 
 -- A refusal's place.
 abbrev pub planRefusalPlace : PlanRefusal → ℕ
 planRefusalPlace (Table refusal) = refusalPlace refusal
 planRefusalPlace (DemandCount place) = place
 planRefusalPlace (DemandTooLarge place) = place
-planRefusalPlace (GrantsTooShort place) = place
-planRefusalPlace (CapsTooShort place) = place
+planRefusalPlace (ListTooShort list place) = place
 
 -- An answer's number, 0 if accepted, and its figure: the freed watts, or the refusal's place.
 abbrev pub planNumber : Planned → ℕ

@@ -14,37 +14,35 @@ use Rattle.rooms.specs.Cords.{serverAt, rankOf}
 use Rattle.deals.specs.Wants.{firstWants}
 use Rattle.rooms.specs.Lists.{lowsOf}
 use Rattle.deals.specs.SecondDeal.{firstGrants, firstUsable, freed, secondWants, secondGrants, caps}
-use Rattle.deals.specs.Plan.{accepted, plan, answerOf, planNumber, planFigure}
+use Rattle.deals.specs.Plan.{Plan, accepted, plan, answerOf, planNumber, planFigure}
 use Rattle.deals.specs.Ways.{Root, Way, sumBeneath, fromRank}
+use Rattle.deals.specs.declared.Lengths.{Lengths}
 use Rattle.deals.specs.declared.Planned.{Planned}
 
 -- A table and a demand list that Plan accepts, with lists of some lengths: the table's room, and the answer.
 pub record AcceptedPlan : Type 0 where
   pub table : List ℕ
   pub demands : List ℕ
-  pub grantsLength : ℕ
-  pub capsLength : ℕ
+  pub lengths : Lengths
   pub room : Room
   pub end : ℕ
-  pub freed : ℕ
-  pub grants : List ℕ
-  pub caps : List ℕ
+  pub answer : Plan
   pub isRoom : checked table 0 ≡ good room end
-  pub isAnswer : plan table demands grantsLength capsLength ≡ accepted freed grants caps
+  pub isAnswer : plan table demands lengths ≡ accepted answer
 
 -- So it is with every answer that is accepted: its table is good, and gives a room.
 abbrev pub AcceptedHasRoom : Type 0
 AcceptedHasRoom =
-    (table demands : List ℕ) (grantsLength capsLength freed : ℕ) (grants caps : List ℕ)
-    → plan table demands grantsLength capsLength ≡ accepted freed grants caps → Good (checked table 0)
+    (table demands : List ℕ) (lengths : Lengths) (answer : Plan)
+    → plan table demands lengths ≡ accepted answer → Good (checked table 0)
 
 -- The answer is that of the two deals: a grant for each cord, and a cap for each server.
 pub record Answered (p : AcceptedPlan) : Type 0 where
-  pub freed : p .freed ≡ freed (p .room) (p .demands)
-  pub grants : p .grants ≡ secondGrants (p .room) (p .demands)
-  pub caps : p .caps ≡ caps (p .room) (p .demands)
-  pub eachCord : length (p .grants) ≡ roomCords (p .room)
-  pub eachServer : length (p .caps) ≡ length (p .room .servers)
+  pub freed : p .answer .freed ≡ freed (p .room) (p .demands)
+  pub grants : p .answer .grants ≡ secondGrants (p .room) (p .demands)
+  pub caps : p .answer .caps ≡ caps (p .room) (p .demands)
+  pub eachCord : length (p .answer .grants) ≡ roomCords (p .room)
+  pub eachServer : length (p .answer .caps) ≡ length (p .room .servers)
 
 abbrev pub AnswerOfBothDeals : Type 0
 AnswerOfBothDeals = (p : AcceptedPlan) → Answered p
@@ -62,7 +60,7 @@ FirstKept =
     (p : AcceptedPlan) → Kept (p .room) (firstWants (p .room) (p .demands)) (firstGrants (p .room) (p .demands))
 
 abbrev pub SecondKept : Type 0
-SecondKept = (p : AcceptedPlan) → Kept (p .room) (secondWants (p .room) (p .demands)) (p .grants)
+SecondKept = (p : AcceptedPlan) → Kept (p .room) (secondWants (p .room) (p .demands)) (p .answer .grants)
 
 -- ---- 2. No other way of dealing gives a tree's cords of a rank and above more
 
@@ -77,7 +75,7 @@ FirstGreatest =
     (p : AcceptedPlan) → Greatest (p .room) (firstWants (p .room) (p .demands)) (firstGrants (p .room) (p .demands))
 
 abbrev pub SecondGreatest : Type 0
-SecondGreatest = (p : AcceptedPlan) → Greatest (p .room) (secondWants (p .room) (p .demands)) (p .grants)
+SecondGreatest = (p : AcceptedPlan) → Greatest (p .room) (secondWants (p .room) (p .demands)) (p .answer .grants)
 
 -- ---- 3. What a rank and above get is settled by the demands of that rank and above
 
@@ -94,8 +92,8 @@ SameCords r rank f g = (c : ℕ) → c < roomCords r → rank ≤ rankOf r c →
 pub record SameFromRank (rank : ℕ) (p q : AcceptedPlan) : Type 0 where
   pub first : SameCords (p .room) rank (firstGrants (p .room) (p .demands)) (firstGrants (q .room) (q .demands))
   pub usable : SameServers (p .room) rank (firstUsable (p .room) (p .demands)) (firstUsable (q .room) (q .demands))
-  pub second : SameCords (p .room) rank (p .grants) (q .grants)
-  pub caps : SameServers (p .room) rank (p .caps) (q .caps)
+  pub second : SameCords (p .room) rank (p .answer .grants) (q .answer .grants)
+  pub caps : SameServers (p .room) rank (p .answer .caps) (q .answer .caps)
 
 -- Two accepted demand lists for one room that agree on every server of a rank and above.
 abbrev pub SettledFromRank : Type 0
@@ -113,5 +111,5 @@ IsNine answer n = (planNumber answer ≡ 9) × (planFigure answer ≡ n)
 -- (That of Read and Write: `RefusalNine` of rooms/specs/Promises.antt.)
 abbrev pub RefusalNine : Type 0
 RefusalNine =
-    (table demands : List ℕ) (grantsLength capsLength n : ℕ)
-    → IsNine (answerOf (plan table demands grantsLength capsLength)) n ↔ Overloaded table n
+    (table demands : List ℕ) (lengths : Lengths) (n : ℕ)
+    → IsNine (answerOf (plan table demands lengths)) n ↔ Overloaded table n

@@ -25,14 +25,14 @@ use Rattle.deals.specs.Promises.{AcceptedPlan}
 abbrev pub CapsInRange : Type 0
 CapsInRange =
     (p : AcceptedPlan) (v : ℕ) → v < length (p .room .servers)
-    → (serverAt (p .room) v .least ≤ at (p .caps) v) × (at (p .caps) v ≤ at (needs (p .room) (p .demands)) v)
+    → (serverAt (p .room) v .least ≤ at (p .answer .caps) v) × (at (p .answer .caps) v ≤ at (needs (p .room) (p .demands)) v)
 
 -- Used never exceeds grant: after the first deal, and of the caps after the second.
 abbrev pub UsedGranted : Type 0
 UsedGranted =
     (p : AcceptedPlan) (c : ℕ) → c < roomCords (p .room)
     → (at (firstUsed (p .room) (p .demands)) c ≤ at (firstGrants (p .room) (p .demands)) c)
-    × (at (carriedBy (p .room) (p .caps)) c ≤ at (p .grants) c)
+    × (at (carriedBy (p .room) (p .answer .caps)) c ≤ at (p .answer .grants) c)
 
 -- The second deal's wants lie from low to the first's wants.
 abbrev pub SecondWantsInRange : Type 0

@@ -1,21 +1,45 @@
 // What Plan answers. The definitions of both deals and of the whole plan, and its promises, stand in specs/, their proofs in proofs/;
 // the operation itself is `plans::plan`.
 ghost use mathlib.Core.Path.{_≡_};
-ghost use Rattle.deals.specs.Plan.{planRefusalNumber, planRefusalPlace, planNumber, planFigure};
+ghost use Rattle.deals.specs.Plan.{planListNumber, planRefusalNumber, planRefusalPlace, planNumber, planFigure};
 
-// Why a plan is turned back, and where: the table's refusal, the count of servers or cords, or a demand's index.
+// The lists that a plan is written to.
+pub enum PlanList {
+    Grants,
+    Caps,
+}
+
+// How many entries each of the lists has that are lent to Plan.
+pub struct Lengths {
+    pub grants: usize,
+    pub caps: usize,
+}
+
+// Why a plan is turned back, and where: the table's refusal, the count of servers, a demand's index, or a list and the length that it
+// needs.
 pub enum PlanRefusal {
     Table(rooms::Refusal),
     DemandCount(usize),
     DemandTooLarge(usize),
-    GrantsTooShort(usize),
-    CapsTooShort(usize),
+    ListTooShort(PlanList, usize),
 }
 
 // What a plan comes to: the freed watts, or why it is turned back.
 pub enum Planned {
     Accepted(u64),
     Refused(PlanRefusal),
+}
+
+impl PlanList {
+    // The number of the refusal where the list is too short.
+    pub fn number(self) -> u64
+        ensures { λ r. ⌜ r ≡ planListNumber self ⌝ }
+    {
+        match self {
+            PlanList::Grants => 12,
+            PlanList::Caps => 13,
+        }
+    }
 }
 
 impl PlanRefusal {
@@ -27,8 +51,7 @@ impl PlanRefusal {
             PlanRefusal::Table(refusal) => refusal.number(),
             PlanRefusal::DemandCount(_) => 10,
             PlanRefusal::DemandTooLarge(_) => 11,
-            PlanRefusal::GrantsTooShort(_) => 12,
-            PlanRefusal::CapsTooShort(_) => 13,
+            PlanRefusal::ListTooShort(list, _) => list.number(),
         }
     }
 
@@ -40,8 +63,7 @@ impl PlanRefusal {
             PlanRefusal::Table(refusal) => refusal.place(),
             PlanRefusal::DemandCount(place) => place,
             PlanRefusal::DemandTooLarge(place) => place,
-            PlanRefusal::GrantsTooShort(place) => place,
-            PlanRefusal::CapsTooShort(place) => place,
+            PlanRefusal::ListTooShort(_, place) => place,
         }
     }
 }

@@ -3,8 +3,8 @@ ghost use mathlib.Core.Path.{_≡_};
 ghost use Prim.Native.Nat.{min};
 ghost use Rattle.demands.specs.Reading.{emptyLine, extended, hasByte, lineDemand, held, with, closed, fedByte, fed, finished, countIn, isFull};
 
-// At most so many lines are read.
-const MOST_LINES: usize = 513;
+// One demand more than a room may have servers: so many decide every demand list, and no more lines are read.
+pub const DECIDING_DEMANDS: usize = 513;
 
 // A demand has at most so many digits.
 const MOST_DIGITS: u32 = 8;
@@ -112,7 +112,7 @@ impl Reading {
     pub fn is_full(self) -> bool
         ensures { λ r. ⌜ r ≡ isFull self ⌝ }
     {
-        MOST_LINES <= self.count
+        DECIDING_DEMANDS <= self.count
     }
 
     // The reading after a byte.
@@ -135,7 +135,7 @@ impl Reading {
     {
         let count = self.count;
         let line = self.line;
-        if count < least(MOST_LINES, list.len()) {
+        if count < least(DECIDING_DEMANDS, list.len()) {
             list[count] = line.demand();
             return Reading {
                 count: count + 1,

@@ -9,13 +9,13 @@ use lib.Dec.{ltb}
 use lib.ListN.{length, take, getD, List·getD-eq-default}
 use Rattle.words.specs.Lists.{AllBelow}
 use Rattle.rooms.specs.Part.{Step, good, bad}
-use Rattle.rooms.specs.Table.{Room, mostWatts, mostServers, mostCords, roomCords}
+use Rattle.rooms.specs.Table.{Room, mostWatts, roomCords}
 use Rattle.rooms.specs.Limits.{checked}
 use Rattle.rooms.specs.Outcome.{reading}
 use Rattle.rooms.specs.Outcome as read
 use Rattle.rooms.proofs.Accepted.{accepted}
 use Rattle.deals.specs.Metrics.{dealOf}
-use Rattle.deals.specs.Plan.{plan, planRoom, Outcome}
+use Rattle.deals.specs.Plan.{plan, planRoom, mostLent, Outcome}
 use Rattle.deals.specs.Plan as plan
 use Rattle.deals.specs.Promises.{AcceptedPlan}
 use Rattle.figures.proofs.Lists.{figures-length}
@@ -35,18 +35,18 @@ words-below l h i = go (ltb i (length l)) refl
     go false e = rw (List·getD-eq-default l 0 (ltb-false i (length l) e)) (omega arith)
 
 -- An accepted plan.
-plan-fits : (p : AcceptedPlan) → length (roomText (p .room) (plan.accepted (p .freed) (p .grants) (p .caps))) ≤ mostText
+plan-fits : (p : AcceptedPlan) → length (roomText (p .room) (plan.accepted (p .answer))) ≤ mostText
 unfolding dealOf
 plan-fits p =
     let whole = answer-of-both-deals p in
     let bounded = figures-fit (p .table) (p .room) (p .end) (p .isRoom) (p .demands) in
-    length-printOf (p .room) (p .freed) (p .caps) (p .grants) (accepted (p .table) (p .room) (p .end) (p .isRoom))
+    length-printOf (p .room) (p .answer .freed) (p .answer .caps) (p .answer .grants) (accepted (p .table) (p .room) (p .end) (p .isRoom))
     (omega (arith, whole .freed, bounded .freed))
-    (words-below (p .caps)
+    (words-below (p .answer .caps)
     (λ v h.
     let there : v < length (p .room .servers) = omega (arith, whole .eachServer) in
     omega (arith, caps-in-range p v there .1, bounded .needs v there)))
-    (words-below (p .grants)
+    (words-below (p .answer .grants)
     (λ c h.
     let there : c < roomCords (p .room) = omega (arith, whole .eachCord) in
     let most = bounded .second .wants c (rw (figures-length (roomCords (p .room)) _) there) in
@@ -56,28 +56,25 @@ pub tableText-fits : (table demands : List ℕ) → length (tableText table dema
 unfolding tableText
 tableText-fits table demands = go (checked table 0) refl
   where
-    room : (r : Room) (end : ℕ) → checked table 0 ≡ good r end → (o : Outcome) → planRoom r demands mostCords mostServers ≡ o
+    room : (r : Room) (end : ℕ) → checked table 0 ≡ good r end → (o : Outcome) → planRoom r demands mostLent ≡ o
         → length (roomText r o) ≤ mostText
     room r end q (plan.refused refusal) e =
         omega (arith, length-refusedLine (plan.planRefusalNumber refusal) (plan.planRefusalPlace refusal))
-    room r end q (plan.accepted f gs cs) e =
+    room r end q (plan.accepted answer) e =
         plan-fits
         (record {
           table = table;
           demands = demands;
-          grantsLength = mostCords;
-          capsLength = mostServers;
+          lengths = mostLent;
           room = r;
           end = end;
-          freed = f;
-          grants = gs;
-          caps = cs;
+          answer = answer;
           isRoom = q;
-          isAnswer = plan-good-table table demands mostCords mostServers r end q ∙ e;
+          isAnswer = plan-good-table table demands mostLent r end q ∙ e;
         })
 
     go : (s : Step Room) → checked table 0 ≡ s → length (stepText s demands) ≤ mostText
-    go (good r end) q = room r end q (planRoom r demands mostCords mostServers) refl
+    go (good r end) q = room r end q (planRoom r demands mostLent) refl
     go (bad refusal) q = omega (arith, length-refusedLine (read.refusalNumber refusal) (read.refusalPlace refusal))
 
 pub sheetText-fits : (sheet demands : List ℕ) → length (sheetText sheet demands) ≤ mostText

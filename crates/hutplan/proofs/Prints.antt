@@ -20,33 +20,38 @@ use Rattle.rooms.specs.declared.Refusal.{Refusal}
 use Rattle.rooms.specs.declared.Refusal.the-variants.{OutputTooShort}
 use Rattle.rooms.specs.declared.Answer.the-variants as answer
 use Rattle.rooms.proofs.Accepted.{accepted}
-use Rattle.deals.specs.Plan.{plan, planRoom, planStep, Outcome, answerOf, grantsAfter, capsAfter, planRefusalNumber, planRefusalPlace}
+use Rattle.deals.specs.Plan.{Plan, plan, planRoom, planStep, lent, mostLent, Outcome, answerOf, after, planRefusalNumber, planRefusalPlace}
 use Rattle.deals.specs.Plan as plan
+use Rattle.deals.specs.declared.Lengths.{Lengths}
 use Rattle.deals.specs.declared.PlanRefusal.{PlanRefusal}
 use Rattle.deals.specs.declared.Planned.the-variants.{Accepted, Refused}
 use Rattle.deals.specs.declared.PlanRefusal.the-variants.{Table}
-use Rattle.deals.proofs.Plans.{plan-good-table, plan-bad-table}
+use Rattle.deals.proofs.Plans.{plan-good, plan-good-table}
 use Rattle.deals.proofs.Promises.{answer-of-both-deals}
 use Rattle.print.specs.Line.{refusedLine}
 use Rattle.print.specs.Print.{printOf}
 use Rattle.print.proofs.Room.{printOf-front}
 use Rattle.hutplan.specs.Printed.{mostWords, tableText, roomText, stepText, sheetText, readText}
 
-module _ (table demands : List ℕ) (g c : ℕ) where
+-- Lists as long as any room's plan.
+pub most-lent : (grants caps : List ℕ) → length grants ≡ mostCords → length caps ≡ mostServers → lent grants caps ≡ mostLent
+most-lent grants caps hg hc = rw (hg, hc) refl
+
+module _ (table demands : List ℕ) (lengths : Lengths) (most : lengths ≡ mostLent) where
   -- A refused plan.
-  pub table-refused : {q : PlanRefusal} → g ≡ mostCords → c ≡ mostServers → Refused q ≡ answerOf (plan table demands g c)
+  pub table-refused : {q : PlanRefusal} → Refused q ≡ answerOf (plan table demands lengths)
       → tableText table demands ≡ refusedLine (planRefusalNumber q) (planRefusalPlace q)
   unfolding tableText plan planStep
-  table-refused {q} hg hc e = go (checked table 0) (rw (hg, hc) at e)
+  table-refused {q} e = go (checked table 0) (rw most at e)
     where
       room : (r : Room) (o : Outcome) → Refused q ≡ answerOf o
           → roomText r o ≡ refusedLine (planRefusalNumber q) (planRefusalPlace q)
-      room r (plan.accepted f gs cs) e = let z : _≡_ {A = ℕ} 0 1 = cc in absurd (omega arith)
+      room r (plan.accepted answer) e = let z : _≡_ {A = ℕ} 0 1 = cc in absurd (omega arith)
       room r (plan.refused p) e = let same : q ≡ p = cc in rw same
 
-      go : (s : Step Room) → Refused q ≡ answerOf (planStep s demands mostCords mostServers)
+      go : (s : Step Room) → Refused q ≡ answerOf (planStep s demands mostLent)
           → stepText s demands ≡ refusedLine (planRefusalNumber q) (planRefusalPlace q)
-      go (good r end) e = room r (planRoom r demands mostCords mostServers) e
+      go (good r end) e = room r (planRoom r demands mostLent) e
       go (bad refusal) e = let same : q ≡ Table refusal = cc in rw same
 
   -- A good table, and the print of its room, which is the table's text.
@@ -55,54 +60,47 @@ module _ (table demands : List ℕ) (g c : ℕ) where
     pub text : printOf f (good-table .value .servers) caps grants ≡ tableText table demands
 
   -- An accepted plan, whose figures stand at the front of the lists.
-  pub table-accepted : (grants caps grants' caps' : List ℕ) {f : ℕ} → length grants ≡ g → length caps ≡ c → g ≡ mostCords
-      → c ≡ mostServers
-      → Accepted f ≡ answerOf (plan table demands g c) → grants' ≡ grantsAfter (plan table demands g c) grants
-      → caps' ≡ capsAfter (plan table demands g c) caps
+  pub table-accepted : (grants caps grants' caps' : List ℕ) {f : ℕ} → length grants ≡ mostCords → length caps ≡ mostServers
+      → Accepted f ≡ answerOf (plan table demands lengths) → grants' ≡ after (λ p. p .grants) (plan table demands lengths) grants
+      → caps' ≡ after (λ p. p .caps) (plan table demands lengths) caps
       → RoomText f caps' grants'
   unfolding tableText
-  table-accepted grants caps grants' caps' {f} lg lc hg hc e eg ec = go (plan table demands g c) refl e eg ec
+  table-accepted grants caps grants' caps' {f} hg hc e eg ec = go (plan table demands lengths) refl e eg ec
     where
-      in-room : (f : ℕ) (gs cs : List ℕ) → plan table demands g c ≡ plan.accepted f gs cs → (s : Step Room) → checked table 0 ≡ s
-          → RoomText f (sets caps 0 cs) (sets grants 0 gs)
-      in-room f gs cs is (bad refusal) q =
-          let same = sym (plan-bad-table table demands g c refusal q) ∙ is in
-          let z : _≡_ {A = ℕ} 0 1 = cc in
-          absurd (omega arith)
-      in-room f gs cs is (good r end) q =
-          let few = accepted table r end q in
+      in-room : (answer : Plan) → plan table demands lengths ≡ plan.accepted answer
+          → RoomText (answer .freed) (sets caps 0 (answer .caps)) (sets grants 0 (answer .grants))
+      in-room answer is =
+          let g = plan-good table demands lengths answer is in
+          let few = accepted table (g .value) (g .next) (g .is) in
           let whole =
           answer-of-both-deals
           (record {
             table = table;
             demands = demands;
-            grantsLength = g;
-            capsLength = c;
-            room = r;
-            end = end;
-            freed = f;
-            grants = gs;
-            caps = cs;
-            isRoom = q;
+            lengths = lengths;
+            room = g .value;
+            end = g .next;
+            answer = answer;
+            isRoom = g .is;
             isAnswer = is;
           }) in
-          let room : planRoom r demands mostCords mostServers ≡ plan.accepted f gs cs =
-          rw (← hg, ← hc) (sym (plan-good-table table demands g c r end q) ∙ is) in
+          let room : planRoom (g .value) demands mostLent ≡ plan.accepted answer =
+          rw (← most) (sym (plan-good-table table demands lengths (g .value) (g .next) (g .is)) ∙ is) in
           record {
-            good-table = record { value = r; next = end; is = q };
+            good-table = g;
             text =
-                printOf-front r f cs gs caps grants (whole .eachServer) (whole .eachCord)
+                printOf-front (g .value) (answer .freed) (answer .caps) (answer .grants) caps grants (whole .eachServer) (whole .eachCord)
                 (omega (arith, few .fewServers, whole .eachServer)) (omega (arith, few .fewCords, whole .eachCord))
-                ∙ sym (ap (λ (s : Step Room). stepText s demands) q ∙ ap (roomText r) room);
+                ∙ sym (ap (λ (s : Step Room). stepText s demands) (g .is) ∙ ap (roomText (g .value)) room);
           }
 
-      go : (o : Outcome) → plan table demands g c ≡ o → Accepted f ≡ answerOf o → grants' ≡ grantsAfter o grants
-          → caps' ≡ capsAfter o caps
+      go : (o : Outcome) → plan table demands lengths ≡ o → Accepted f ≡ answerOf o → grants' ≡ after (λ p. p .grants) o grants
+          → caps' ≡ after (λ p. p .caps) o caps
           → RoomText f caps' grants'
       go (plan.refused q) is e eg ec = let z : _≡_ {A = ℕ} 0 1 = cc in absurd (omega arith)
-      go (plan.accepted f' gs cs) is e eg ec =
-          let same : f ≡ f' = cc in
-          rw (same, eg, ec) (in-room f' gs cs is (checked table 0) refl)
+      go (plan.accepted answer) is e eg ec =
+          let same : f ≡ answer .freed = cc in
+          rw (same, eg, ec) (in-room answer is)
 
 -- ---- Read
 

@@ -12,8 +12,9 @@ use Rattle.rooms.specs.Limits.{beneath, serverLows, lows, firstNode, overloaded
 use Rattle.rooms.specs.Outcome.{reading, answerOf, answerNumber, answerFigure}
 use Rattle.rooms.specs.Outcome as read
 use Rattle.deals.specs.SecondDeal.{firstGrants, firstUsable}
-use Rattle.deals.specs.Plan.{plan, grantsAfter, capsAfter}
+use Rattle.deals.specs.Plan.{plan, mostLent, after}
 use Rattle.deals.specs.Plan as plan
+use Rattle.deals.specs.declared.Lengths.{Lengths}
 use Rattle.deals.specs.declared.Planned.the-variants.{Accepted}
 use Rattle.demands.specs.Text.{before, lines, areDigits, numberAfter, demandOf, demandsOf}
 use Rattle.print.specs.Line.{numeral, freedLine, serverLine, cordLine, refusedLine}
@@ -65,6 +66,10 @@ demandsS = 430 ∷ 430 ∷ 430 ∷ 430 ∷ []
 abbrev noServers : List ℕ
 noServers = 1 ∷ 1 ∷ 0 ∷ 100 ∷ 0 ∷ []
 
+-- Two words for grants and one for caps.
+abbrev twoAndOne : Lengths
+twoAndOne = record { grants = 2; caps = 1 }
+
 -- Figures of the room that a table gives.
 abbrev ofRoom : Step Room → (Room → List ℕ) → List ℕ
 ofRoom (good r end) figure = figure r
@@ -76,10 +81,10 @@ numbered outcome = (answerNumber (answerOf outcome), answerFigure (answerOf outc
 
 -- The grants of a plan; none if it is refused.
 abbrev grantsOf : plan.Outcome → List ℕ
-grantsOf (plan.accepted freed grants caps) = grants
+grantsOf (plan.accepted answer) = answer .grants
 grantsOf (plan.refused refusal) = []
 
--- The starred items, in their order. For the room with no servers, two words are lent for grants and one for caps.
+-- The starred items, in their order.
 pub record Starred : Type 0 where
   pub wordsH : reading (sheetH 0xF4 0x03) 21 ≡ read.accepted (tableH 500)
   pub countH : length (tableH 500) ≡ 21
@@ -89,14 +94,14 @@ pub record Starred : Type 0 where
   pub rated188 : reading (sheetH 0xBC 0x01) 21 ≡ read.accepted (tableH 188)
   pub rated187 : numbered (reading (sheetH 0xBB 0x01) 21) ≡ (9, 2)
   pub print187 : printed (sheetH 0xBB 0x01) twice400 ≡ nineAtTwo
-  pub root1550 : grantsOf (plan (tableS 1550) demandsS 4 4) ≡ 430 ∷ 270 ∷ 270 ∷ 270 ∷ []
-  pub root1625 : grantsOf (plan (tableS 1625) demandsS 4 4) ≡ 430 ∷ 281 ∷ 294 ∷ 295 ∷ []
+  pub root1550 : grantsOf (plan (tableS 1550) demandsS mostLent) ≡ 430 ∷ 270 ∷ 270 ∷ 270 ∷ []
+  pub root1625 : grantsOf (plan (tableS 1625) demandsS mostLent) ≡ 430 ∷ 281 ∷ 294 ∷ 295 ∷ []
   pub byte80 : numbered (reading (0x80 ∷ []) 1) ≡ (3, 0)
   pub bytes018000 : numbered (reading (0x01 ∷ 0x80 ∷ 0x00 ∷ []) 3) ≡ (2, 1)
   pub bytes80808080 : numbered (reading (0x80 ∷ 0x80 ∷ 0x80 ∷ 0x80 ∷ []) 4) ≡ (1, 0)
-  pub noServersFreed : plan.answerOf (plan noServers [] 2 1) ≡ Accepted 0
-  pub noServersGrants : (a b : ℕ) → grantsAfter (plan noServers [] 2 1) (a ∷ b ∷ []) ≡ a ∷ b ∷ []
-  pub noServersCaps : (a : ℕ) → capsAfter (plan noServers [] 2 1) (a ∷ []) ≡ a ∷ []
+  pub noServersFreed : plan.answerOf (plan noServers [] twoAndOne) ≡ Accepted 0
+  pub noServersGrants : (a b : ℕ) → after (λ p. p .grants) (plan noServers [] twoAndOne) (a ∷ b ∷ []) ≡ a ∷ b ∷ []
+  pub noServersCaps : (a : ℕ) → after (λ p. p .caps) (plan noServers [] twoAndOne) (a ∷ []) ≡ a ∷ []
 
 pub starred : Starred
 unfolding printed sheetText tableText reading number later sheetFrom

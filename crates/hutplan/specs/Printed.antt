@@ -4,12 +4,12 @@ use mathlib.Core.List.{List}
 use Prim.Native.Nat.{ℕ, _≤_}
 use lib.ListN.{length, take}
 use Rattle.rooms.specs.Part.{Step, good, bad}
-use Rattle.rooms.specs.Table.{Room, mostServers, mostCords}
+use Rattle.rooms.specs.Table.{Room}
 use Rattle.rooms.specs.Table as rooms
 use Rattle.rooms.specs.Limits.{checked}
 use Rattle.rooms.specs.Outcome.{reading, refusalNumber, refusalPlace}
 use Rattle.rooms.specs.Outcome as read
-use Rattle.deals.specs.Plan.{planRoom, planRefusalNumber, planRefusalPlace}
+use Rattle.deals.specs.Plan.{planRoom, mostLent, planRefusalNumber, planRefusalPlace}
 use Rattle.deals.specs.Plan as plan
 use Rattle.demands.specs.Text.{mostLines, demandsOf}
 use Rattle.print.specs.Line.{refusedLine}
@@ -26,12 +26,12 @@ mostText = 47131
 
 -- The print of a room's plan.
 abbrev pub roomText : Room → plan.Outcome → List ℕ
-roomText room (plan.accepted freed grants caps) = printOf freed (room .servers) caps grants
+roomText room (plan.accepted plan) = printOf (plan .freed) (room .servers) (plan .caps) (plan .grants)
 roomText room (plan.refused refusal) = refusedLine (planRefusalNumber refusal) (planRefusalPlace refusal)
 
 -- The print of what a table's check gives, with demands.
 abbrev pub stepText : Step Room → List ℕ → List ℕ
-stepText (good room end) demands = roomText room (planRoom room demands mostCords mostServers)
+stepText (good room end) demands = roomText room (planRoom room demands mostLent)
 stepText (bad refusal) demands = refusedLine (refusalNumber refusal) (refusalPlace refusal)
 
 -- The print of a table with demands.

@@ -1,5 +1,6 @@
 // `hutplan`: reads a room from the file `room.bin` and its servers' demands from standard input, plans, and prints.
 use deals::Planned;
+use demands::DECIDING_DEMANDS;
 use demands::Reading;
 use libc::STDIN_FILENO;
 use libc::STDOUT_FILENO;
@@ -134,7 +135,7 @@ fn print_input(
 
 fn main() {
     let mut sheet = [0u8; 32768];
-    let mut demands = [0u32; 513];
+    let mut demands = [0u32; DECIDING_DEMANDS];
     let mut table = [0u32; 5123];
     let mut buffer = io::large_buffer();
     let bytes = read_sheet(&mut sheet);

@@ -1,15 +1,14 @@
 -- Laws of whole sheets: their sizes and ranges, and that reading and writing undo each other.
 use mathlib.Core.Path.{_≡_, refl, _∙_}
-use mathlib.Core.Bool.{Bool, true, false, cond}
 use mathlib.Core.List.{List, [], _∷_, _++_}
 use Prim.Native.Nat.{ℕ, zero, suc, _+_, _*_, _^_, _≤_, _<_}
 use native.Mathlib.Omega.{arith}
 use lib.ListN.{length, getD, drop, length-append, length-drop}
 use lib.Seq.{drop-append-seam, drop-cons}
-use lib.Dec.{ltb}
-use borrow.Author.Tests.{ltb-true, lt-ltb, le-ltb, le-leb, lt-leb}
+use borrow.Author.Tests.{lt-ltb, le-ltb, le-leb, lt-leb}
 use Rattle.words.specs.Lists.{AllBelow}
 use Rattle.words.proofs.Lists.{cons-below, drop-below, append-below}
+use Rattle.words.proofs.Search.{none-below, below-none}
 use Rattle.numbers.specs.Number.{Front, good, bad, number, form}
 use Rattle.numbers.specs.Sheet.{whole, Sheet, onto, sheetFrom, sheetOf, bytesOf, firstTooLarge, fitted, written}
 use Rattle.numbers.specs.declared.Written.the-variants.{Bytes, TooLarge, TooShort}
@@ -102,25 +101,13 @@ words-below bytes all = read-from (length bytes) 0 bytes (omega arith) all .belo
 
 -- ---- the answer on words that are to be written
 
--- Where no word is too large, each has a form; and the other way round.
+-- Where no word is too large, each has a form.
 pub forms-below : (words : List ℕ) → length words ≤ firstTooLarge words → AllBelow (2 ^ 28) words
-unfolding firstTooLarge
-forms-below [] h = λ i. omega arith
-forms-below (w ∷ words) h = go (ltb w (2 ^ 28)) refl h (λ l. forms-below words l)
-  where
-    go : (t : Bool) → ltb w (2 ^ 28) ≡ t → suc (length words) ≤ cond t (suc (firstTooLarge words)) 0 → (length words ≤ firstTooLarge words → AllBelow (2 ^ 28) words)
-        → AllBelow (2 ^ 28) (w ∷ words)
-    go true e l ih = cons-below (2 ^ 28) w words (ltb-true w (2 ^ 28) e) (ih (omega arith))
-    go false e l ih = absurd (omega arith)
-
-below-forms : (words : List ℕ) → AllBelow (2 ^ 28) words → length words ≤ firstTooLarge words
-unfolding firstTooLarge
-below-forms [] h = omega arith
-below-forms (w ∷ words) h = rw (lt-ltb w (2 ^ 28) (h 0)) (omega (arith, below-forms words (λ i. h (suc i))))
+forms-below words h = none-below (2 ^ 28) (omega arith) words h
 
 -- Words that all have forms are written where there is space.
 pub written-forms : (words : List ℕ) (space : ℕ) → AllBelow (2 ^ 28) words → written words space ≡ fitted (length (bytesOf words)) space
-written-forms words space h = rw (le-ltb (firstTooLarge words) (length words) (below-forms words h))
+written-forms words space h = rw (le-ltb (firstTooLarge words) (length words) (below-none (2 ^ 28) words h))
 
 module _ (words : List ℕ) (space : ℕ) where
   pub written-large : firstTooLarge words < length words → TooLarge (firstTooLarge words) ≡ written words space

@@ -1,14 +1,13 @@
--- The loops over a whole sheet: of `decode_sheet`, `put_all`, `first_too_large` and `total_size`.
+-- The loops over a whole sheet: of `decode_sheet`, `put_all` and `total_size`.
 use mathlib.Core.Path.{_≡_, refl, sym, ap, _∙_}
 use mathlib.Core.List.{List, [], _++_}
-use Prim.Native.Nat.{ℕ, zero, suc, _+_, _-_, _*_, _^_, _≤_, _<_}
+use Prim.Native.Nat.{ℕ, zero, suc, _+_, _-_, _*_, _≤_, _<_}
 use native.Mathlib.Omega.{arith}
 use native.Mathlib.Numerals.{add-one}
 use lib.ListN.{length, getD, drop, set, length-append, length-drop, length-set, drop-of-length-le}
-use lib.Seq.{sets, length-sets, drop-cons, drop-drop}
-use borrow.Author.Tests.{lt-ltb, le-ltb}
+use lib.Seq.{sets, length-sets, drop-drop}
 use Rattle.numbers.specs.Number.{Front, good, bad, number, decoded, form}
-use Rattle.numbers.specs.Sheet.{whole, onto, sheetFrom, sheetOf, answer, judged, bytesOf, firstTooLarge}
+use Rattle.numbers.specs.Sheet.{whole, onto, sheetFrom, sheetOf, answer, judged, bytesOf}
 use Rattle.words.specs.Lists.{AllBelow}
 use Rattle.numbers.specs.declared.Fault.{Fault}
 use Rattle.numbers.specs.declared.Decoded.the-variants.{Number, Refused}
@@ -162,34 +161,6 @@ writing-last words sheet₀ sheet index at inv h last sheet′ at′ a s =
     writing-end words sheet₀ sheet′ (index + 1) at′
     (writing-again words sheet₀ sheet index at inv h sheet′ at′ a (rw s (length-sets sheet at w)) (rw (a, s) (sym (sets-append sheet at w after))))
     last
-
--- ---- `first_too_large`: the words in front of `index` have forms
-
-pub record Searching (words : List ℕ) (index : ℕ) : Type 0 where
-  pub within : index ≤ length words
-  pub same : index + firstTooLarge (drop index words) ≡ firstTooLarge words
-
-pub searching-begin : (words : List ℕ) → Searching words 0
-searching-begin words = record { within = omega arith; same = omega arith }
-
-module _ (words : List ℕ) (index : ℕ) (inv : Searching words index) where
-  pub searching-again : index < length words → getD words index 0 < 2 ^ 28 → Searching words (index + 1)
-  unfolding firstTooLarge
-  searching-again h w =
-      let s = rw (drop-cons words index 0 h, lt-ltb (getD words index 0) (2 ^ 28) w) at (inv .same) in
-      record { within = omega arith; same = rw add-one (omega arith) }
-
-  pub searching-stop : index < length words → 2 ^ 28 ≤ getD words index 0 → index ≡ firstTooLarge words
-  unfolding firstTooLarge
-  searching-stop h w =
-      let s = rw (drop-cons words index 0 h, le-ltb (getD words index 0) (2 ^ 28) w) at (inv .same) in
-      omega arith
-
-  pub searching-end : length words ≤ index → index ≡ firstTooLarge words
-  unfolding firstTooLarge
-  searching-end h =
-      let s = rw (drop-of-length-le words h) at (inv .same) in
-      omega arith
 
 -- ---- `total_size`: the words in front of `index` have `total` bytes
 

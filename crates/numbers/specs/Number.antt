@@ -1,6 +1,6 @@
 -- Numbers on the sheet: one to four bytes, of which each but the last is 128 or more. The low seven bits of the bytes make the
 -- value, those of the first byte being the lowest. A number that a shorter form would carry is not good.
-use mathlib.Core.Bool.{Bool, cond}
+use mathlib.Core.Bool.{cond}
 use mathlib.Core.List.{List, [], _∷_}
 use Prim.Native.Nat.{ℕ, zero, suc, _+_, _-_, _*_, _/_, _%_, _^_}
 use lib.Dec.{ltb, eqb}
@@ -59,6 +59,6 @@ groups (suc left) value = cond (ltb value 128) (value ∷ []) ((128 + value % 12
 abbrev pub form : ℕ → List ℕ
 form value = groups 4 value
 
--- A value has a form if four groups of seven bits carry it.
-abbrev pub hasForm : ℕ → Bool
-hasForm value = ltb value (2 ^ 28)
+-- A value has a form if four groups of seven bits carry it: if it is below this.
+abbrev pub formLimit : ℕ
+formLimit = 2 ^ 28

@@ -5,12 +5,13 @@ use Prim.Native.Nat.{ℕ, zero, suc, _+_}
 use lib.ListN.{length, drop}
 use lib.Seq.{sets}
 use lib.Dec.{ltb, leb}
+use Rattle.words.specs.Lists.{firstNotBelow}
 use Rattle.numbers.specs.declared.Fault.{Fault}
 use Rattle.numbers.specs.declared.Judged.{Judged}
 use Rattle.numbers.specs.declared.Judged.the-variants.{Words, Refused}
 use Rattle.numbers.specs.declared.Written.{Written}
 use Rattle.numbers.specs.declared.Written.the-variants.{Bytes, TooLarge, TooShort}
-use Rattle.numbers.specs.Number.{Front, good, bad, number, form, hasForm}
+use Rattle.numbers.specs.Number.{Front, good, bad, number, form, formLimit}
 
 -- ---- reading
 
@@ -56,9 +57,8 @@ bytesOf [] = []
 bytesOf (w ∷ words) = form w ++ bytesOf words
 
 -- The index of the first word that has no form; the count of words, if each has one.
-unfoldable pub firstTooLarge : List ℕ → ℕ
-firstTooLarge [] = 0
-firstTooLarge (w ∷ words) = cond (hasForm w) (suc (firstTooLarge words)) 0
+abbrev pub firstTooLarge : List ℕ → ℕ
+firstTooLarge words = firstNotBelow formLimit words
 
 -- What becomes of `size` bytes that are to stand in a sheet with space for so many.
 abbrev pub fitted : ℕ → ℕ → Written

@@ -6,8 +6,9 @@ ghost use lib.ListN.{length, drop, set};
 ghost use lib.Seq.{sets};
 ghost use Rattle.numbers.specs.Number.{number, decoded, form};
 ghost use Rattle.numbers.specs.Followed.{Followed};
-ghost use Rattle.numbers.specs.Sheet.{sheetOf, judged, bytesOf, firstTooLarge, written, afterEncodeSheet};
+ghost use Rattle.numbers.specs.Sheet.{sheetOf, judged, bytesOf, written, afterEncodeSheet};
 ghost use Rattle.words.specs.Lists.{AllBelow};
+use words::first_not_below;
 
 // Why bytes are no number: four bytes that all say another follows; a last byte of 0 after others; the bytes end inside.
 pub enum Fault {
@@ -180,20 +181,6 @@ pub fn decode_sheet(sheet: &[u8], words: &mut [u32]) -> Judged
     Judged::Words(count)
 }
 
-// The index of the first word that has no form; the count of words, if each has one.
-fn first_too_large(words: &[u32]) -> usize
-    ensures { λ r. ⌜ r ≡ firstTooLarge (now (words .entry)) ⌝ }
-{
-    let mut index = 0;
-    while index < words.len() {
-        if FORM_LIMIT <= words[index] {
-            return index;
-        }
-        index += 1;
-    }
-    index
-}
-
 // The count of bytes in the forms of some words.
 fn total_size(words: &[u32]) -> usize
     ensures { λ r. ⌜ r ≡ length (bytesOf (now (words .entry))) ⌝ }
@@ -232,7 +219,7 @@ pub fn encode_sheet(words: &[u32], sheet: &mut [u8]) -> Written
     ensures { λ r. ⌜ r ≡ written (now (words .entry)) (length (now (sheet .entry))) ⌝ }
     ensures { λ r. ⌜ now (sheet .exit) ≡ afterEncodeSheet r (now (words .entry)) (now (sheet .entry)) ⌝ }
 {
-    let large = first_too_large(words);
+    let large = first_not_below(FORM_LIMIT, words);
     if large < words.len() {
         return Written::TooLarge(large);
     }

@@ -1,64 +1,79 @@
 // Plan: the checks of its inputs, and the two deals of a room.
 ghost use mathlib.Core.Path.{_≡_};
-ghost use lib.ListN.{length};
-ghost use Rattle.deals.specs.Plan.{firstTooLarge, plan, answerOf, grantsAfter, capsAfter};
+ghost use Rattle.rooms.specs.Limits.{checked, lowsTold};
+ghost use Rattle.deals.specs.Plan.{plan, lent, answerOf, after};
+ghost use Rattle.plans.specs.Admission.{admission};
+use deals::Lengths;
+use deals::PlanList;
 use deals::PlanRefusal;
 use deals::Planned;
 use figures::word_index;
 use plan_rooms::plan_room;
 use room_lists::server_count;
 use rooms::Checked;
+use words::first_not_below;
 
-const MOST_WATTS: u32 = 16_777_215;
+// One more than the most watts of a demand.
+const TOO_MANY_WATTS: u32 = 16_777_216;
 
-// The index of the first demand above the most watts; the count of demands if there is none.
-fn first_too_large(demands: &[u32]) -> usize
-    ensures { λ r. ⌜ r ≡ firstTooLarge (now (demands .entry)) ⌝ }
-{
-    let mut i = 0;
-    while i < demands.len() {
-        if MOST_WATTS < demands[i] {
-            return i;
-        }
-        i += 1;
-    }
-    i
+// What the checks come to: the counts of cords and of servers, or why a plan is turned back.
+enum Admission {
+    Good(usize, usize),
+    Refused(PlanRefusal),
 }
 
-// Plan: a table and its servers' demands; a grant for each cord and a cap for each server, at the front of their lists.
-// Refused, it leaves both lists unchanged.
-pub fn plan(table: &[u32], demands: &[u32], grants: &mut [u32], caps: &mut [u32]) -> Planned
-    ensures { λ r. ⌜ r ≡ answerOf (plan (now (table .entry)) (now (demands .entry)) (length (now (grants .entry))) (length (now (caps .entry)))) ⌝ }
-    ensures { λ _. ⌜ now (grants .exit) ≡ grantsAfter (plan (now (table .entry)) (now (demands .entry)) (length (now (grants .entry))) (length (now (caps .entry)))) (now (grants .entry)) ⌝ }
-    ensures { λ _. ⌜ now (caps .exit) ≡ capsAfter (plan (now (table .entry)) (now (demands .entry)) (length (now (grants .entry))) (length (now (caps .entry)))) (now (caps .entry)) ⌝ }
+// All checks of Plan, in their order. Of a good table, `beneath` gets the lows beneath each node.
+fn admit(table: &[u32], demands: &[u32], lengths: Lengths, beneath: &mut [u64; 512]) -> Admission
+    ensures { λ r. ⌜ r ≡ admission (plan (now (table .entry)) (now (demands .entry)) lengths) ⌝ }
+    ensures { λ _. ⌜ now (beneath .exit) ≡ lowsTold (checked (now (table .entry)) 0) ⌝ }
 {
-    let mut beneath = [0u64; 512];
-    let checked = rooms::check_lows(table, &mut beneath);
+    let checked = rooms::check_lows(table, beneath);
     let count = match checked {
         Checked::Good(cords, _) => cords,
-        Checked::Refused(refusal) => return Planned::Refused(PlanRefusal::Table(refusal)),
+        Checked::Refused(refusal) => return Admission::Refused(PlanRefusal::Table(refusal)),
     };
     let cords = word_index(count);
     let servers = server_count(table);
     if demands.len() != servers {
-        return Planned::Refused(PlanRefusal::DemandCount(servers));
+        return Admission::Refused(PlanRefusal::DemandCount(servers));
     }
-    let large = first_too_large(demands);
+    let large = first_not_below(TOO_MANY_WATTS, demands);
     if large < demands.len() {
-        return Planned::Refused(PlanRefusal::DemandTooLarge(large));
+        return Admission::Refused(PlanRefusal::DemandTooLarge(large));
     }
-    if grants.len() < cords {
-        return Planned::Refused(PlanRefusal::GrantsTooShort(cords));
+    if lengths.grants < cords {
+        return Admission::Refused(PlanRefusal::ListTooShort(PlanList::Grants, cords));
     }
-    if caps.len() < servers {
-        return Planned::Refused(PlanRefusal::CapsTooShort(servers));
+    if lengths.caps < servers {
+        return Admission::Refused(PlanRefusal::ListTooShort(PlanList::Caps, servers));
     }
-    let freed = plan_room(
-        table,
-        demands,
-        &beneath,
-        &mut grants[..cords],
-        &mut caps[..servers],
-    );
-    Planned::Accepted(freed)
+    Admission::Good(cords, servers)
+}
+
+// Plan: a table and its servers' demands; a grant for each cord and a cap for each server, at the front of their lists.
+// Refused, it leaves every list unchanged.
+pub fn plan(table: &[u32], demands: &[u32], grants: &mut [u32], caps: &mut [u32]) -> Planned
+    ensures { λ r. ⌜ r ≡ answerOf (plan (now (table .entry)) (now (demands .entry)) (lent (now (grants .entry)) (now (caps .entry)))) ⌝ }
+    ensures { λ _. ⌜ now (grants .exit) ≡ after (λ p. p .grants) (plan (now (table .entry)) (now (demands .entry)) (lent (now (grants .entry)) (now (caps .entry)))) (now (grants .entry)) ⌝ }
+    ensures { λ _. ⌜ now (caps .exit) ≡ after (λ p. p .caps) (plan (now (table .entry)) (now (demands .entry)) (lent (now (grants .entry)) (now (caps .entry)))) (now (caps .entry)) ⌝ }
+{
+    let mut beneath = [0u64; 512];
+    let lengths = Lengths {
+        grants: grants.len(),
+        caps: caps.len(),
+    };
+    let admission = admit(table, demands, lengths, &mut beneath);
+    match admission {
+        Admission::Good(cords, servers) => {
+            let freed = plan_room(
+                table,
+                demands,
+                &beneath,
+                &mut grants[..cords],
+                &mut caps[..servers],
+            );
+            Planned::Accepted(freed)
+        }
+        Admission::Refused(refusal) => Planned::Refused(refusal),
+    }
 }

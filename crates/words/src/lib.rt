@@ -6,6 +6,7 @@ ghost use mathlib.Core.Path.{_≡_};
 ghost use Prim.Native.Nat.{_+_, _/_, _≤_, _<_, min};
 ghost use lib.ListN.{length, take};
 ghost use lib.Seq.{sets};
+ghost use Rattle.words.specs.Lists.{firstNotBelow};
 ghost use Rattle.words.specs.Bytes.{littleEndian, wordAt, wordsOf, bytesOf, holdsAnswer, answered, numberStored};
 
 // The words of the bytes, as many as the list holds, at its front; how many. One to three bytes
@@ -40,6 +41,20 @@ pub fn copy(from: &[u32], to: &mut [u32])
     for i in 0..count {
         to[i] = from[i];
     }
+}
+
+// The index of the first word that is not below a bound; the count of words, if each is.
+pub fn first_not_below(bound: u32, list: &[u32]) -> usize
+    ensures { λ r. ⌜ r ≡ firstNotBelow bound (now (list .entry)) ⌝ }
+{
+    let mut index = 0;
+    while index < list.len() {
+        if bound <= list[index] {
+            return index;
+        }
+        index += 1;
+    }
+    index
 }
 
 // The answer of a C call at the front of its buffer: two numbers of eight bytes each, low byte

@@ -1,12 +1,40 @@
 -- `plan_by` meets its contract: the lists that are lent take every answer, and just what was written is stored.
 use mathlib.Core.Path.{sym}
+use mathlib.Core.List.{List}
 use native.Mathlib.Omega.{arith}
+use lib.ListN.{take, length}
 use lib.Seq.{length-take-le}
 use Rattle.rooms.proofs.Outcomes.{front-length}
-use Rattle.capi.proofs.PlanLaws.{plan-short, grants-fit, caps-fit, plan-done}
+use Rattle.deals.specs.Plan.{Outcome, plan, lent}
+use Rattle.deals.specs.declared.Lengths.{Lengths}
+use Rattle.capi.proofs.PlanLaws.{Counted, grants-counted, caps-counted, list-fits, list-stored, call-same, plan-short, plan-done, same-plan}
 use borrow.Author.Needs.{needs}
 use Rattle.capi.proofs.plan_by.Statement.{statement}
 use Rattle.capi.proofs.plan_by.Tie as tie
+
+-- The spaces of the lists that are lent, and the start.
+abbrev spaces : tie.After-plan → tie.After-least2
+spaces c = c .before .before .before
+
+abbrev start : tie.After-plan → tie.Start
+start c = spaces c .before .before .before .before .before .before .before .before .before .before
+
+-- What Plan comes to in them.
+abbrev lengths : tie.After-plan → Lengths
+lengths c = lent (take (spaces c .before .least .result) (start c .args .granted .now)) (take (spaces c .least2 .result) (start c .args .capped .now))
+
+abbrev own : tie.After-plan → Outcome
+own c = plan (start c .args .table .now) (start c .args .demands .now) (lengths c)
+
+-- How many entries it writes for the cords and for the servers, and how many of each list.
+abbrev plan-of : tie.After-planned-count2 → tie.After-plan
+plan-of c = c .before .before .before .before .before .before .before
+
+abbrev grants-written : (c : tie.After-planned-count2) → Counted (λ p. p .grants) (own (plan-of c)) (c .before .before .cord-count .result) (lengths (plan-of c) .grants)
+grants-written c = grants-counted (start (plan-of c) .args .table .now) (start (plan-of c) .args .demands .now) (lengths (plan-of c)) _ (c .before .before .cord-count .ensures)
+
+abbrev caps-written : (c : tie.After-planned-count2) → Counted (λ p. p .caps) (own (plan-of c)) (length (start (plan-of c) .args .demands .now)) (lengths (plan-of c) .caps)
+caps-written c = caps-counted (start (plan-of c) .args .table .now) (start (plan-of c) .args .demands .now) (lengths (plan-of c))
 
 returns : tie.Need-returns
 returns c = plan-short _ _ _ _ (omega arith)
@@ -43,11 +71,8 @@ planned-count-requires-2 c κs = search needs
 
 slice-reshare-prefix-store : tie.Need-slice-reshare-prefix-store
 slice-reshare-prefix-store c =
-    let counts = c in
-    let plan = counts .before .before .before .before .before .before .before in
-    let spaces = plan .before .before .before in
-    let start = spaces .before .before .before .before .before .before .before .before .before .before in
-    omega (arith, grants-fit _ _ (start .args .granted .now) (start .args .capped .now) (spaces .before .least .result) (spaces .least2 .result) (plan .plan .ensures .0) (counts .before .before .cord-count .ensures) (plan .plan .ensures .1 .0) (counts .before .planned-count .ensures))
+    let plan = plan-of c in
+    omega (arith, list-fits (start plan .args .granted .now) (spaces plan .before .least .result) (grants-written c) (plan .plan .ensures .0) (plan .plan .ensures .1 .0) (c .before .planned-count .ensures))
 
 slice-aggregate-store : tie.Need-slice-aggregate-store
 slice-aggregate-store c = sym (length-take-le _ _ (slice-reshare-prefix-store (c .before)))
@@ -58,10 +83,8 @@ store-requires c κs = search needs
 slice-reshare-prefix-store-2 : tie.Need-slice-reshare-prefix-store-2
 slice-reshare-prefix-store-2 c =
     let counts = c .before .before .before .before .before in
-    let plan = counts .before .before .before .before .before .before .before in
-    let spaces = plan .before .before .before in
-    let start = spaces .before .before .before .before .before .before .before .before .before .before in
-    omega (arith, caps-fit _ _ (start .args .granted .now) (start .args .capped .now) (spaces .before .least .result) (spaces .least2 .result) (plan .plan .ensures .0) (counts .before .before .cord-count .ensures) (plan .plan .ensures .1 .1) (counts .planned-count2 .ensures))
+    let plan = plan-of counts in
+    omega (arith, list-fits (start plan .args .capped .now) (spaces plan .least2 .result) (caps-written counts) (plan .plan .ensures .0) (plan .plan .ensures .1 .1) (counts .planned-count2 .ensures))
 
 slice-aggregate-store-2 : tie.Need-slice-aggregate-store-2
 slice-aggregate-store-2 c = sym (length-take-le _ _ (slice-reshare-prefix-store-2 (c .before)))
@@ -95,15 +118,27 @@ same-length-5 c = search needs
 
 returns-2 : tie.Need-returns-2
 returns-2 c =
-    let counts = c .before .before .before .before .before .before .before .before .before .before .before .before .before .before .before .before in
-    let plan = counts .before .before .before .before .before .before .before in
-    let spaces = plan .before .before .before in
-    let start = spaces .before .before .before .before .before .before .before .before .before .before in
-    plan-done _ _ (start .args .granted .now) (start .args .capped .now) (spaces .before .least .result) (spaces .least2 .result) (plan .plan .ensures .0) (counts .before .before .cord-count .ensures) _ _ _
-    (start .pre .0) (start .pre .1) (spaces .before .least .ensures) (spaces .least2 .ensures) (omega (arith, spaces .before .before .if1 .left))
-    (plan .plan .ensures .1 .0) (counts .before .planned-count .ensures) (plan .plan .ensures .1 .1) (counts .planned-count2 .ensures)
-    (c .before .before .before .before .before .before .before .before .before .before .before .before .before .store .ensures) (c .before .before .before .before .before .before .before .before .store2 .ensures)
-    (c .before .before .before .before .before .number .ensures) (c .before .before .before .before .figure .ensures) (c .before .before .store-answer .ensures .1)
+    let answer = c .before .before in
+    let figure = answer .before .before in
+    let number = figure .before in
+    let caps-store = number .before .before .before in
+    let grants-store = caps-store .before .before .before .before .before in
+    let counts = grants-store .before .before .before in
+    let plan = plan-of counts in
+    let args = start plan .args in
+    let pre = start plan .pre in
+    let grantsSpace = spaces plan .before .least in
+    let capsSpace = spaces plan .least2 in
+    let told = plan .plan .ensures in
+    call-same
+    (same-plan _ _ (args .granted .now) (args .capped .now) (args .grants .now) (args .caps .now) (grantsSpace .result) (capsSpace .result)
+    (record { grants = pre .0; caps = pre .1 }) (grantsSpace .ensures) (capsSpace .ensures))
+    (plan-done (own plan) (args .grants .now) (args .caps .now) (args .answer .now) (omega (arith, spaces plan .before .before .if1 .left)) (told .0)
+    (list-stored (args .granted .now) (grantsSpace .result) (grants-written counts) (told .0) (told .1 .0) (counts .before .planned-count .ensures) (args .grants .now) (grantsSpace .ensures)
+    (grants-store .store .ensures))
+    (list-stored (args .capped .now) (capsSpace .result) (caps-written counts) (told .0) (told .1 .1) (counts .planned-count2 .ensures) (args .caps .now) (capsSpace .ensures)
+    (caps-store .store2 .ensures))
+    (number .number .ensures) (figure .figure .ensures) (answer .store-answer .ensures .1))
 
 pub plan-by-spec : {M : Type 1} → statement M
 plan-by-spec =

@@ -1,9 +1,17 @@
 -- `plan_loaded` meets its contract: the words that are loaded decide, and the rest is what `plan_words` ensures.
+use Rattle.capi.specs.Calls.{lentBytes}
 use Rattle.capi.proofs.CallLaws.{loaded-length}
-use Rattle.capi.proofs.PlanLaws.{plan-loaded}
+use Rattle.capi.proofs.PlanLaws.{call-same, plan-loaded}
 use borrow.Author.Needs.{needs}
 use Rattle.capi.proofs.plan_loaded.Statement.{statement}
 use Rattle.capi.proofs.plan_loaded.Tie as tie
+
+-- The load of the table, before that of the demands; and the start.
+abbrev table-load : tie.After-load2 → tie.After-load
+table-load c = c .before .before .before .before
+
+abbrev start : tie.After-load → tie.Start
+start c = c .before .before .before .before .before .before .before .before .before
 
 load-requires : tie.Need-load-requires
 load-requires c κs = search needs
@@ -47,10 +55,15 @@ same-length-5 c = search needs
 
 returns : tie.Need-returns
 returns c =
-    let load = c .before .before .before .before .before .before .before .before .before .before .before .before .before .before .before .before .before .before in
-    let start = load .before .before .before .before .before .before .before .before .before in
-    let figures = c .before .before .before .before .before .before .before .before .before .before .before .before .before .before .load2 .ensures in
-    plan-loaded _ _ _ _ _ _ _ (start .pre .0) (start .pre .1) (load .load .ensures .0) (load .load .ensures .1) (figures .0) (figures .1) (c .before .before .before .before .before .before .plan-words .ensures)
+    let words = c .before .before .before .before .before .before in
+    let demands = words .before .before .before .before .before .before .before .before in
+    let table = table-load demands in
+    let args = start table .args in
+    let pre = start table .pre in
+    call-same
+    (plan-loaded (args .table .now) (args .words .now) (args .demands .now) (args .figures .now) (lentBytes (args .grants .now) (args .caps .now)) (pre .0) (pre .1)
+    (table .load .ensures .0) (table .load .ensures .1) (demands .load2 .ensures .0) (demands .load2 .ensures .1))
+    (words .plan-words .ensures)
 
 pub plan-loaded-spec : {M : Type 1} → statement M
 plan-loaded-spec =

@@ -1,10 +1,15 @@
 -- `print_table` meets its contract: what is printed of each answer of Plan is what the definition gives.
-use mathlib.Core.Path.{refl, sym, _∙_}
-use Rattle.hutplan.proofs.Prints.{table-refused, table-accepted}
+use mathlib.Core.Path.{_≡_, sym, _∙_}
+use Rattle.deals.specs.Plan.{lent, mostLent}
+use Rattle.hutplan.proofs.Prints.{most-lent, table-refused, table-accepted}
 use Rattle.print.proofs.Putting.{put-as}
 use borrow.Author.Needs.{needs}
 use Rattle.hutplan.proofs.print_table.Statement.{statement}
 use Rattle.hutplan.proofs.print_table.Tie as tie
+
+-- The lists take the plan of every room.
+abbrev most : (c : tie.Start) → lent (c .args .grants .now) (c .args .caps .now) ≡ mostLent
+most c = most-lent (c .args .grants .now) (c .args .caps .now) (c .pre .0) (c .pre .1)
 
 plan-requires : tie.Need-plan-requires
 plan-requires c κs = search needs
@@ -19,7 +24,7 @@ plan-requires-2 c κs =
     let start = planned .before .before .before .before .before .before .before .before in
     let args = start .args in
     let said = planned .plan .ensures in
-    table-accepted (args .table .now) (args .demands .now) _ _ (args .grants .now) (args .caps .now) _ _ refl refl
+    table-accepted (args .table .now) (args .demands .now) _ (most start) (args .grants .now) (args .caps .now) _ _
     (start .pre .0) (start .pre .1) (sym (known .planned .given .1) ∙ said .0) (said .1 .0) (said .1 .1) .good-table
 
 enum-known-planned-2 : tie.Need-enum-known-planned-2
@@ -52,7 +57,7 @@ returns c =
     let args = start .args in
     let said = planned .plan .ensures in
     let is =
-    table-accepted (args .table .now) (args .demands .now) _ _ (args .grants .now) (args .caps .now) _ _ refl refl
+    table-accepted (args .table .now) (args .demands .now) _ (most start) (args .grants .now) (args .caps .now) _ _
     (start .pre .0) (start .pre .1) (sym (known .planned .given .1) ∙ said .0) (said .1 .0) (said .1 .1) in
     (put-as (is .text) (put .plan2 .ensures .0 (is .good-table .value) (is .good-table .next) (is .good-table .is)), put .plan2 .ensures .1)
 
@@ -73,7 +78,7 @@ returns-2 c =
     let start = planned .before .before .before .before .before .before .before .before in
     let args = start .args in
     let refused = sym (known .planned2 .given .1) ∙ planned .plan .ensures .0 in
-    let is = table-refused (args .table .now) (args .demands .now) _ _ (start .pre .0) (start .pre .1) refused in
+    let is = table-refused (args .table .now) (args .demands .now) _ (most start) refused in
     let number = put .before .before .before .number .ensures in
     let place = put .before .before .place .ensures in
     (rw (number, place, ← is) at (put .refusal .ensures .0), put .refusal .ensures .1)

@@ -8,12 +8,12 @@ use Rattle.numbers.proofs.SheetLaws.{length-bytesOf≤, forms-below, wr
 use Rattle.numbers.proofs.encode_sheet.Statement.{statement}
 use Rattle.numbers.proofs.encode_sheet.Tie as tie
 
-first-too-large-requires : tie.Need-first-too-large-requires
-first-too-large-requires c κs = search needs
+first-not-below-requires : tie.Need-first-not-below-requires
+first-not-below-requires c κs = search needs
 
 returns : tie.Need-returns
 returns c =
-    let large = c .before .first-too-large .ensures in
+    let large = c .before .first-not-below .ensures in
     (ap TooLarge large ∙ written-large _ _ (omega arith), refl)
 
 total-size-requires : tie.Need-total-size-requires
@@ -22,12 +22,12 @@ total-size-requires c κs = search needs
 returns-2 : tie.Need-returns-2
 returns-2 c =
     let total = c .before .total-size .ensures in
-    (ap TooShort total ∙ written-short _ _ (omega (arith, c .before .before .before .before .first-too-large .ensures)) (omega arith), refl)
+    (ap TooShort total ∙ written-short _ _ (omega (arith, c .before .before .before .before .first-not-below .ensures)) (omega arith), refl)
 
 put-all-requires : tie.Need-put-all-requires
 put-all-requires c κs =
     let words = c .before .before .before .before .before .before .args .words .now in (
-      forms-below words (omega (arith, c .before .before .before .first-too-large .ensures)),
+      forms-below words (omega (arith, c .before .before .before .first-not-below .ensures)),
       ⊎-elim (λ w. omega (arith, w .1 .ensures)) (λ w. omega (arith, length-bytesOf≤ words)) (c .before .if2 .came),
     )
 
@@ -39,7 +39,7 @@ returns-3 c =
     let put = c .before .before .put-all .ensures in
     let join = c .before .before .before .before in
     let words = join .before .before .before .before .before .args .words .now in (
-      ap Bytes (put .0) ∙ written-whole words _ (omega (arith, join .before .before .first-too-large .ensures))
+      ap Bytes (put .0) ∙ written-whole words _ (omega (arith, join .before .before .first-not-below .ensures))
           (⊎-elim (λ w. omega (arith, w .1 .ensures)) (λ w. omega (arith, length-bytesOf≤ words)) (join .if2 .came)),
       put .1,
     )
@@ -48,7 +48,7 @@ pub encode-sheet-spec : {M : Type 1} → statement M
 encode-sheet-spec =
     tie.close
     (tie.spec
-    first-too-large-requires
+    first-not-below-requires
     returns
     total-size-requires
     returns-2

@@ -1,104 +1,82 @@
--- `plan` meets its contract: the refusals in their order, then both deals in the lists' fronts.
+-- `plan` meets its contract: what is admitted is dealt into the fronts of the lists.
 use mathlib.Core.Path.{sym, _∙_}
-use lib.Seq.{length-take-le}
-use Rattle.plan_rooms.proofs.Planning.{cords-fit, servers-fit}
-use Rattle.plans.proofs.PlanCall.{table-good, cords-told, lows-long, lows-told, refused-done, bad-table, count-refused, large-refused, grants-refused, caps-refused, accepted-is, accepted-done}
+use mathlib.Core.List.{List}
+use Prim.Native.Nat.{ℕ}
 use native.Mathlib.Nat.{le-of-eq}
+use lib.Seq.{length-take-le}
+use Rattle.deals.specs.Plan.{plan, lent}
+use Rattle.deals.specs.declared.Lengths.{Lengths}
+use Rattle.plan_rooms.proofs.Planning.{cords-fit, servers-fit}
+use Rattle.plans.proofs.PlanCall.{lows-long, lows-told, Admitted, admitted-good, admitted-refused, refusal-told, unwritten, freed-told, written}
 use borrow.Author.Needs.{needs}
 use Rattle.plans.proofs.plan.Statement.{statement}
 use Rattle.plans.proofs.plan.Tie as tie
 
-check-lows-requires : tie.Need-check-lows-requires
-check-lows-requires c κs = search needs
+-- The table, the demands and the lists.
+abbrev start : tie.After-admit → tie.Start
+start c = c .before .before .before .before .before .before
 
-enum-known-checked : tie.Need-enum-known-checked
-enum-known-checked c = search needs
+abbrev table : tie.After-admit → List ℕ
+table c = start c .args .table .now
 
-enum-known-checked-2 : tie.Need-enum-known-checked-2
-enum-known-checked-2 c = search needs
+abbrev demands : tie.After-admit → List ℕ
+demands c = start c .args .demands .now
 
-returns : tie.Need-returns
-returns c = refused-done _ _ _ (bad-table _ _ _ _ (c .before .before .before .check-lows .ensures .0) (c .before .checked2 .given .1))
+abbrev lengths : tie.After-admit → Lengths
+lengths c = lent (start c .args .grants .now) (start c .args .caps .now)
 
-word-index-requires : tie.Need-word-index-requires
-word-index-requires c κs = search needs
+-- What is admitted, with its counts of cords and of servers.
+abbrev admit-of : tie.After-known-told → tie.After-admit
+admit-of c = c .before .before .before
 
-server-count-requires : tie.Need-server-count-requires
-server-count-requires c κs = search needs
+abbrev cords : tie.After-known-told → ℕ
+cords c = c .before .admission .given .0 .0
 
-returns-2 : tie.Need-returns-2
-returns-2 c =
-    let start = c .before .before .before .before .before .before .before .before .before .before .before .before in
-    let table = start .args .table .now in
-    let told = c .before .before .before .before .before .before .check-lows .ensures .0 in
-    let is = c .before .before .before .before .checked .given .1 in
-    let g = table-good table told is in
-    let fit = c .before .server-count .ensures .0 in
-    let cords = cords-fit table (c .before .before .word-index .ensures .0) (cords-told table told is) in
-    refused-done _ _ _ (count-refused _ (start .args .demands .now) _ _ g _ fit (c .if1 .taken))
+abbrev servers : tie.After-known-told → ℕ
+servers c = c .before .admission .given .0 .1 .0
 
-first-too-large-requires : tie.Need-first-too-large-requires
-first-too-large-requires c κs = search needs
+abbrev admitted : (c : tie.After-known-told) → Admitted (table (admit-of c)) (demands (admit-of c)) (lengths (admit-of c)) (cords c) (servers c)
+admitted c = admitted-good _ _ _ (admit-of c .admit .ensures .0) (c .before .admission .given .1)
 
-returns-3 : tie.Need-returns-3
-returns-3 c =
-    let start = c .before .before .before .before .before .before .before .before .before .before .before .before .before .before in
-    let table = start .args .table .now in
-    let told = c .before .before .before .before .before .before .before .before .check-lows .ensures .0 in
-    let is = c .before .before .before .before .before .before .checked .given .1 in
-    let g = table-good table told is in
-    let fit = c .before .before .before .server-count .ensures .0 in
-    let cords = cords-fit table (c .before .before .before .before .word-index .ensures .0) (cords-told table told is) in
-    refused-done _ _ _ (large-refused _ (start .args .demands .now) _ _ g _ fit (c .before .before .if1 .left) _ (c .before .first-too-large .ensures) (c .if2 .taken))
+admit-requires : tie.Need-admit-requires
+admit-requires c κs = search needs
 
-returns-4 : tie.Need-returns-4
-returns-4 c =
-    let start = c .before .before .before .before .before .before .before .before .before .before .before .before .before .before .before in
-    let table = start .args .table .now in
-    let told = c .before .before .before .before .before .before .before .before .before .check-lows .ensures .0 in
-    let is = c .before .before .before .before .before .before .before .checked .given .1 in
-    let g = table-good table told is in
-    let fit = c .before .before .before .before .server-count .ensures .0 in
-    let cords = cords-fit table (c .before .before .before .before .before .word-index .ensures .0) (cords-told table told is) in
-    refused-done _ _ _ (grants-refused _ (start .args .demands .now) _ _ g _ fit (c .before .before .before .if1 .left) _ (c .before .before .first-too-large .ensures) (c .before .if2 .left) _ cords (c .if3 .taken))
-
-returns-5 : tie.Need-returns-5
-returns-5 c =
-    let start = c .before .before .before .before .before .before .before .before .before .before .before .before .before .before .before .before in
-    let table = start .args .table .now in
-    let told = c .before .before .before .before .before .before .before .before .before .before .check-lows .ensures .0 in
-    let is = c .before .before .before .before .before .before .before .before .checked .given .1 in
-    let g = table-good table told is in
-    let fit = c .before .before .before .before .before .server-count .ensures .0 in
-    let cords = cords-fit table (c .before .before .before .before .before .before .word-index .ensures .0) (cords-told table told is) in
-    refused-done _ _ _ (caps-refused _ (start .args .demands .now) _ _ g _ fit (c .before .before .before .before .if1 .left) _ (c .before .before .before .first-too-large .ensures) (c .before .before .if2 .left) _ cords (c .before .if3 .left) (c .if4 .taken))
+enum-known-admission : tie.Need-enum-known-admission
+enum-known-admission c = search needs
 
 slice-aggregate-plan-room : tie.Need-slice-aggregate-plan-room
-slice-aggregate-plan-room c = lows-long (c .before .before .before .before .before .before .before .before .before .before .before .before .before .before .before .before .before .args .table .now) _ (c .before .before .before .before .before .before .before .before .before .before .before .check-lows .ensures .1)
+slice-aggregate-plan-room c = lows-long (table (admit-of (c .before))) _ (admit-of (c .before) .admit .ensures .1)
 
 slice-relend-prefix-plan-room : tie.Need-slice-relend-prefix-plan-room
-slice-relend-prefix-plan-room c = search needs
+slice-relend-prefix-plan-room c = admitted (c .before) .grantsLong
 
 slice-aggregate-plan-room-2 : tie.Need-slice-aggregate-plan-room-2
-slice-aggregate-plan-room-2 c = sym (length-take-le _ _ (c .before .before .before .if3 .left))
+slice-aggregate-plan-room-2 c = sym (length-take-le _ _ (admitted (c .before .before) .grantsLong))
 
 slice-relend-prefix-plan-room-2 : tie.Need-slice-relend-prefix-plan-room-2
-slice-relend-prefix-plan-room-2 c = search needs
+slice-relend-prefix-plan-room-2 c = admitted (c .before .before) .capsLong
 
 slice-aggregate-plan-room-3 : tie.Need-slice-aggregate-plan-room-3
-slice-aggregate-plan-room-3 c = sym (length-take-le _ _ (c .before .before .before .if4 .left))
+slice-aggregate-plan-room-3 c = sym (length-take-le _ _ (admitted (c .before .before .before) .capsLong))
 
 plan-room-requires : tie.Need-plan-room-requires
 plan-room-requires c κs =
-    let start = c .before .before .before .before .before .before .before .before .before .before .before .before .before .before .before .before .before .before .before in
-    let table = start .args .table .now in
-    let check = c .before .before .before .before .before .before .before .before .before .before .before .before .before .check-lows in
-    let told = check .ensures .0 in
-    let is = c .before .before .before .before .before .before .before .before .before .before .before .checked .given .1 in
-    let g = table-good table told is in
-    let fit = c .before .before .before .before .before .before .before .before .server-count .ensures .0 in
-    let cords = cords-fit table (c .before .before .before .before .before .before .before .before .before .word-index .ensures .0) (cords-told table told is) in
-    (g, (servers-fit table (c .before .before .before .before .before .before .before .if1 .left) fit, cords-fit table (length-take-le _ _ (c .before .before .before .before .if3 .left)) cords, servers-fit table (length-take-le _ _ (c .before .before .before .if4 .left)) fit, le-of-eq (lows-long table _ (check .ensures .1)), lows-told table _ (check .ensures .1)))
+    let known = c .before .before .before in
+    let a = admitted known in
+    let lows = admit-of known .admit .ensures .1 in
+    let table = table (admit-of known) in (
+      a .room,
+      (
+        a .demandsFit,
+        cords-fit table (length-take-le _ _ (a .grantsLong)) (a .cordsFit),
+        servers-fit table (length-take-le _ _ (a .capsLong)) (a .serversFit),
+        le-of-eq (lows-long table _ lows),
+        lows-told table _ lows,
+      ),
+    )
+
+enum-known-admission-2 : tie.Need-enum-known-admission-2
+enum-known-admission-2 c = search needs
 
 same-length : tie.Need-same-length
 same-length c = search needs
@@ -106,43 +84,43 @@ same-length c = search needs
 same-length-2 : tie.Need-same-length-2
 same-length-2 c = search needs
 
-returns-6 : tie.Need-returns-6
-returns-6 c =
-    let start = c .before .before .before .before .before .before .before .before .before .before .before .before .before .before .before .before .before .before .before .before .before .before .before .before in
-    let table = start .args .table .now in
-    let told = c .before .before .before .before .before .before .before .before .before .before .before .before .before .before .before .before .before .before .check-lows .ensures .0 in
-    let is = c .before .before .before .before .before .before .before .before .before .before .before .before .before .before .before .before .checked .given .1 in
-    let g = table-good table told is in
-    let fit = c .before .before .before .before .before .before .before .before .before .before .before .before .before .server-count .ensures .0 in
-    let cords = cords-fit table (c .before .before .before .before .before .before .before .before .before .before .before .before .before .before .word-index .ensures .0) (cords-told table told is) in
-    let room = c .before .before .before .before .plan-room in
-    let long = c .before .before .before .before .before .before .before .before .before .if3 .left in
-    let longer = c .before .before .before .before .before .before .before .before .if4 .left in
-    accepted-done table (start .args .demands .now) _ _ _ _ _ _ _ _ g
-    (accepted-is _ (start .args .demands .now) _ _ g _ fit (c .before .before .before .before .before .before .before .before .before .before .before .before .if1 .left) _ (c .before .before .before .before .before .before .before .before .before .before .before .first-too-large .ensures) (c .before .before .before .before .before .before .before .before .before .before .if2 .left) _ cords long longer)
-    (room .ensures) (room .kept .1 .1 .1 .0 ∙ length-take-le _ _ long) (room .kept .1 .1 .1 .1 .0 ∙ length-take-le _ _ longer) long longer
+returns : tie.Need-returns
+returns c =
+    let room = c .before .before .before .before in
+    let known = room .before .before .before .before in
+    let a = admitted known in
+    let dealt = room .plan-room .ensures in
+    let lists = room .plan-room .kept .1 .1 .1 in
+    let r = a .room .value in
+    let end = a .room .next in
+    let is = a .room .is in (
+      freed-told _ (a .is) (dealt .freed-is r end is),
+      (
+        written _ (a .is) (λ p. p .grants) _ _ _ (dealt .grants-are r end is) (lists .0 ∙ length-take-le _ _ (a .grantsLong)) (a .grantsLong),
+        written _ (a .is) (λ p. p .caps) _ _ _ (dealt .caps-are r end is) (lists .1 .0 ∙ length-take-le _ _ (a .capsLong)) (a .capsLong),
+      ),
+    )
+
+returns-2 : tie.Need-returns-2
+returns-2 c =
+    let admit = c .before .before .before in
+    let refused = admitted-refused (plan (table admit) (demands admit) (lengths admit)) (admit .admit .ensures .0) (c .before .admission2 .given .1) in
+    (refusal-told _ refused, (unwritten _ refused (λ p. p .grants) _, unwritten _ refused (λ p. p .caps) _))
 
 pub plan-spec : {M : Type 1} → statement M
 plan-spec =
     tie.close
     (tie.spec
-    check-lows-requires
-    enum-known-checked
-    enum-known-checked-2
-    returns
-    word-index-requires
-    server-count-requires
-    returns-2
-    first-too-large-requires
-    returns-3
-    returns-4
-    returns-5
+    admit-requires
+    enum-known-admission
     slice-aggregate-plan-room
     slice-relend-prefix-plan-room
     slice-aggregate-plan-room-2
     slice-relend-prefix-plan-room-2
     slice-aggregate-plan-room-3
     plan-room-requires
+    enum-known-admission-2
     same-length
     same-length-2
-    returns-6)
+    returns
+    returns-2)

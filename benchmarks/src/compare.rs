@@ -72,5 +72,5 @@ fn shorten(given: &mut Inputs, chance: &mut Chance) {
 
 fn short_outputs(chance: &mut Chance) -> Outputs {
     let answer = 14 + chance.below(4);
-    Outputs::of_lengths(chance.below(20_500) as usize, chance.below(2_100) as usize, answer as usize)
+    Outputs::of_lengths(chance.below(22_550) as usize, chance.below(2_100) as usize, answer as usize)
 }

@@ -38,8 +38,8 @@
  * There is no other duty: any bytes, of any length, and any doubles, NaNs and infinities too, are
  * good input.
  *
- * Stack, as measured on x86-64 (docs/PERFORMANCE.md has the figures): about 25 KB for hutplan_read
- * and for hutplan_write, about 130 KB for hutplan_plan, about 8 KB for hutplan_schedule, about
+ * Stack, as measured on x86-64 (docs/PERFORMANCE.md has the figures): about 27 KB for hutplan_read
+ * and for hutplan_write, about 132 KB for hutplan_plan, about 8 KB for hutplan_schedule, about
  * 2 KB for hutplan_send, and less than 1 KB for hutplan_step and for hutplan_step_all. It does not
  * grow with the input.
  */

@@ -1,10 +1,10 @@
 -- Equal plans of tables of two versions.
-use mathlib.Core.Path.{_≡_, refl, sym, ap, _∙_}
+use mathlib.Core.Path.{_≡_, refl}
 use mathlib.Core.Bool.{Bool, true, false}
 use mathlib.Core.List.{List}
 use Prim.Native.Nat.{ℕ}
 use lib.Dec.{eqb}
-use Rattle.rooms.specs.Part.{Step, good, bad, follow, ensure}
+use Rattle.rooms.specs.Part.{good, follow, ensure}
 use Rattle.rooms.specs.declared.Refusal.the-variants.{LowsAboveLimit}
 use Rattle.rooms.specs.Table.{Room, table}
 use Rattle.rooms.specs.Limits.{overloaded, checked}

@@ -1,20 +1,19 @@
 -- A good table is the words of its room in its version: every good table has these words, and the words of a room whose figures are
 -- in range are a good table of it. What a table made of another is, is shown by this: once for its words, once for its room.
 use mathlib.Core.Path.{_≡_, refl, sym, ap, ap₂, _∙_}
-use mathlib.Core.Bool.{Bool, true, false, cond, _||_}
+use mathlib.Core.Bool.{Bool, true, false, cond}
 use mathlib.Core.List.{List, [], _∷_, _++_, append-assoc, append-nil}
-use Prim.Native.Nat.{ℕ, zero, suc, _+_, _-_, _≤_, min}
+use Prim.Native.Nat.{ℕ, zero, suc, _+_, _-_, _≤_, _<_}
 use native.Mathlib.Omega.{arith}
 use lib.ListN.{length, getD, drop, drop-of-length-le, length-drop}
 use lib.Seq.{drop-cons}
-use lib.Dec.{eqb}
 use borrow.Author.Tests.{eq-eqb, eqb-true, le-leb, lt-leb, le-ltb}
-use Rattle.rooms.specs.Part.{Step, good, Part, _>>=_, give, here, follow, word, ensure, end, many, within}
+use Rattle.rooms.specs.Part.{good, Part, _>>=_, give, here, follow, word, ensure, end, many, within}
 use Rattle.rooms.specs.declared.Refusal.{Refusal}
-use Rattle.rooms.specs.Table.{Node, Cord, Server, Room, mostWatts, mostNodes, mostServers, mostCords, newestVersion, formOf, nodeWords, percent, node, nodes, cord, cords, range, load, server, servers, cordCount, table}
+use Rattle.rooms.specs.Table.{Node, Cord, Server, Room, mostWatts, mostNodes, mostServers, mostCords, highestRank, newestVersion, formOf, percent, node, nodes, cord, cords, range, load, server, servers, cordCount, table}
 use Rattle.rooms.proofs.Fronts.{stands}
 use Rattle.rooms.proofs.NodeWords.{PercentFits, percent-in}
-use Rattle.rooms.proofs.Inversion.{took, word-is, many-is, NodeIs, node-is, cord-is, server-is, server-few}
+use Rattle.rooms.proofs.Inversion.{many-is, NodeIs, node-is, cord-is, server-is, server-few}
 use Rattle.rooms.proofs.Whole.{percentsOf, table-is}
 use Rattle.rooms.proofs.All.{All, all-head, all-tail}
 use Rattle.rooms.proofs.Accepted.{CordAccepted, ServerAccepted, server-accepted}
@@ -43,6 +42,10 @@ tableOf version r =
 -- ---- A good table has the words of its room
 
 module _ (w : List ℕ) where
+  -- Two words in a row.
+  two-words : (i : ℕ) → suc i < length w → drop i w ≡ getD w i 0 ∷ getD w (suc i) 0 ∷ drop (suc (suc i)) w
+  two-words i h = drop-cons w i 0 (omega arith) ∙ ap (λ (z : List ℕ). getD w i 0 ∷ z) (drop-cons w (suc i) 0 h)
+
   many-written : {A : Type 0} (part : ℕ → Part A) (next : ℕ → A → ℕ) (words : A → List ℕ)
       → ((given i : ℕ) (a : A) (j : ℕ) → part given w i ≡ good a j → drop i w ≡ words a ++ drop j w)
       → (count given i : ℕ) (l : List A) (j : ℕ) → many count part next given w i ≡ good l j → drop i w ≡ rowWords words l ++ drop j w
@@ -65,20 +68,17 @@ module _ (w : List ℕ) where
       go : (percents : Bool) → NodeIs percents own w i n j → drop i w ≡ wordsOfNode percents n ++ drop j w
       go false a =
           let y : j ≡ suc (suc i) = omega (arith, a .next) in
-          rw (a .is, y)
-          (drop-cons w i 0 (omega (arith, a .there)) ∙ ap (λ (z : List ℕ). getD w i 0 ∷ z) (drop-cons w (suc i) 0 (omega (arith, a .there))))
+          rw (a .is, y) (two-words i (omega (arith, a .there)))
       go true a =
           let y : j ≡ suc (suc (suc i)) = omega (arith, a .next) in
           rw (a .is, y)
-          (drop-cons w i 0 (omega (arith, a .there))
-          ∙ ap (λ (z : List ℕ). getD w i 0 ∷ z) (drop-cons w (suc i) 0 (omega (arith, a .there)))
+          (two-words i (omega (arith, a .there))
           ∙ ap (λ (z : List ℕ). getD w i 0 ∷ getD w (suc i) 0 ∷ z) (drop-cons w (suc (suc i)) 0 (omega (arith, a .there))))
 
   cord-written : (scale nodeCount i : ℕ) (c : Cord) (j : ℕ) → cord scale nodeCount w i ≡ good c j → drop i w ≡ wordsOfCord c ++ drop j w
   cord-written scale nodeCount i c j e =
       let a = cord-is scale nodeCount w i c j e in
-      rw (a .is, a .next)
-      (drop-cons w i 0 (omega (arith, a .there)) ∙ ap (λ (z : List ℕ). getD w i 0 ∷ z) (drop-cons w (suc i) 0 (a .there)))
+      rw (a .is, a .next) (two-words i (a .there))
 
   server-written : (scale nodeCount before i : ℕ) (s : Server) (j : ℕ) → server scale nodeCount before w i ≡ good s j → drop i w ≡ wordsOfServer s ++ drop j w
   server-written scale nodeCount before i s j e =
@@ -89,10 +89,9 @@ module _ (w : List ℕ) where
       let least : s .least ≡ getD w (suc i) 0 = ap (λ (q : Server). q .least) (a .is) in
       let greatest : s .greatest ≡ getD w (suc (suc i)) 0 = ap (λ (q : Server). q .greatest) (a .is) in
       rw (rank, least, greatest, a .load .count)
-      (drop-cons w i 0 (omega arith)
-      ∙ ap (λ (z : List ℕ). getD w i 0 ∷ z) (drop-cons w (suc i) 0 (omega arith))
-      ∙ ap (λ (z : List ℕ). getD w i 0 ∷ getD w (suc i) 0 ∷ z) (drop-cons w (suc (suc i)) 0 (omega arith))
-      ∙ ap (λ (z : List ℕ). getD w i 0 ∷ getD w (suc i) 0 ∷ getD w (suc (suc i)) 0 ∷ z) (drop-cons w (suc (suc (suc i))) 0 there ∙ ap (λ (z : List ℕ). getD w (suc (suc (suc i))) 0 ∷ z) cords))
+      (two-words i (omega arith)
+      ∙ ap (λ (z : List ℕ). getD w i 0 ∷ getD w (suc i) 0 ∷ z)
+      (two-words (suc (suc i)) there ∙ ap (λ (z : List ℕ). getD w (suc (suc i)) 0 ∷ getD w (suc (suc (suc i))) 0 ∷ z) cords))
 
 -- A good table is its version and its room.
 pub table-written : (w : List ℕ) (r : Room) (j : ℕ) → table w 0 ≡ good r j → w ≡ tableOf (getD w 0 0) r
@@ -116,14 +115,16 @@ unfoldable pub Chain : {A : Type 0} → (ℕ → A → Type 0) → (ℕ → A �
 Chain fact next given [] = Unit {0}
 Chain fact next given (a ∷ l) = fact given a × Chain fact next (next given a) l
 
-many-chain : {A : Type 0} (part : ℕ → Part A) (next : ℕ → A → ℕ) (w : List ℕ) (fact : ℕ → A → Type 0)
-    → ((given i : ℕ) (a : A) (j : ℕ) → part given w i ≡ good a j → fact given a)
-    → (count given i : ℕ) (l : List A) (j : ℕ) → many count part next given w i ≡ good l j → Chain fact next given l
+-- The parts of a good row have a fact each, where what each is given keeps something that the fact needs.
+many-chain : {A : Type 0} (part : ℕ → Part A) (next : ℕ → A → ℕ) (w : List ℕ) (fact : ℕ → A → Type 0) (Kept : ℕ → Type 0)
+    → ((given i : ℕ) (a : A) (j : ℕ) → Kept given → part given w i ≡ good a j → fact given a × Kept (next given a))
+    → (count given i : ℕ) (l : List A) (j : ℕ) → Kept given → many count part next given w i ≡ good l j → Chain fact next given l
 unfolding many Chain
-many-chain part next w fact each zero given i l j e = let x : [] ≡ l = cc in rw (← x) tt
-many-chain part next w fact each (suc count) given i l j e =
+many-chain part next w fact Kept each zero given i l j k e = let x : [] ≡ l = cc in rw (← x) tt
+many-chain part next w fact Kept each (suc count) given i l j k e =
     let a = many-is count part next given w i l j e in
-    rw (a .is) (each given i (a .got) (a .at) (a .first), many-chain part next w fact each count (next given (a .got)) (a .at) (a .rest) j (a .others))
+    let f = each given i (a .got) (a .at) k (a .first) in
+    rw (a .is) (f .0, many-chain part next w fact Kept each count (next given (a .got)) (a .at) (a .rest) j (f .1) (a .others))
 
 -- A node by its own number.
 pub record NodeFits (percents : Bool) (own : ℕ) (n : Node) : Type 0 where
@@ -162,15 +163,6 @@ server-fits : (scale nodeCount before : ℕ) (w : List ℕ) (i : ℕ) (s : Serve
 server-fits scale nodeCount before w i s j h e =
     record { accepted = server-accepted scale nodeCount before w i s j e; few = server-few scale nodeCount before w i s j h e }
 
-servers-chain : (w : List ℕ) (scale nodeCount count before i : ℕ) (l : List Server) (j : ℕ) → before ≤ mostCords → servers scale nodeCount count before w i ≡ good l j
-    → Chain (ServerFits scale nodeCount) (λ before s. before + cordCount s) before l
-unfolding many Chain
-servers-chain w scale nodeCount zero before i l j h e = let x : [] ≡ l = cc in rw (← x) tt
-servers-chain w scale nodeCount (suc count) before i l j h e =
-    let a = many-is count (server scale nodeCount) (λ before s. before + cordCount s) before w i l j e in
-    let fits = server-fits scale nodeCount before w i (a .got) (a .at) h (a .first) in
-    rw (a .is) (fits, servers-chain w scale nodeCount count (before + cordCount (a .got)) (a .at) (a .rest) j (fits .few) (a .others))
-
 -- The figures of a good table are in range.
 pub table-fits : (w : List ℕ) (r : Room) (j : ℕ) → table w 0 ≡ good r j → RoomFits (getD w 0 0) r
 table-fits w r j e =
@@ -181,9 +173,10 @@ table-fits w r j e =
       scaled = t .scale-is;
       someNodes = t .someNodes;
       fewNodes = t .fewNodes;
-      nodes = many-chain _ _ w (NodeFits (percentsOf w)) (λ own i n j d. node-fits (percentsOf w) own w i n j d) _ 1 2 (r .nodes) (t .middle) (t .nodesRead);
+      nodes = many-chain _ _ w (NodeFits (percentsOf w)) (λ _. Unit {0}) (λ own i n j _ d. (node-fits (percentsOf w) own w i n j d, tt)) _ 1 2 (r .nodes) (t .middle) tt (t .nodesRead);
       fewServers = t .fewServers;
-      servers = servers-chain w (r .scale) (length (r .nodes)) _ 0 _ (r .servers) j (omega arith) (t .serversRead);
+      servers = many-chain _ _ w (ServerFits (r .scale) (length (r .nodes))) (λ before. before ≤ mostCords)
+          (λ before i s j h d. let f = server-fits (r .scale) (length (r .nodes)) before w i s j h d in (f, f .few)) _ 0 _ (r .servers) j (omega arith) (t .serversRead);
     }
 
 -- ---- The words of a room are read back
@@ -276,7 +269,7 @@ module _ (w : List ℕ) where
       let a = f .accepted in
       let few = f .few in
       here-reads w i _
-      (then-reads w i _ (word-reads w i 1 16 (s .rank) _ d (a .rankFrom) (a .rankTo)) (λ j b.
+      (then-reads w i _ (word-reads w i 1 highestRank (s .rank) _ d (a .rankFrom) (a .rankTo)) (λ j b.
       then-reads w j _
       (then-reads w j _ (word-reads w j 0 mostWatts (s .least) _ b (omega arith) (omega (arith, a .ordered, a .greatestTo))) (λ k c.
       here-reads w k _

@@ -18,9 +18,8 @@ use Rattle.rooms.proofs.Tables.{rowWords, wordsOfNode, Chain, NodeFits, RoomFit
 use Rattle.rooms.proofs.Tables as rooms-tables
 use Rattle.rooms.proofs.Outcomes.{writing-good, fitting-whole}
 use Rattle.rooms.proofs.Promises.{refusal-nine}
-use Rattle.schedules.specs.Sizes.{isSize}
 use Rattle.schedules.specs.Text.{line}
-use Rattle.schedules.specs.Schedule.{rating, inRange, Judgement, passed, failed, judged, whole, onto, linesFrom, nodeWords, tableOf}
+use Rattle.schedules.specs.Schedule.{rating, Judgement, passed, failed, judged, whole, onto, linesFrom, nodeWords, tableOf}
 use Rattle.schedules.specs.Written.{Pass, none, more}
 use Rattle.schedules.proofs.LineLaws.{range-is, rating-most, passed-is}
 use Rattle.schedules.specs.declared.Entry.{Entry}

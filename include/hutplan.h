@@ -38,8 +38,8 @@
  * There is no other duty: any bytes, of any length, and any doubles, NaNs and infinities too, are
  * good input.
  *
- * Stack, as measured on x86-64 (docs/PERFORMANCE.md has the figures): about 25 KB for hutplan_read
- * and for hutplan_write, about 130 KB for hutplan_plan, about 8 KB for hutplan_schedule, about
+ * Stack, as measured on x86-64 (docs/PERFORMANCE.md has the figures): about 27 KB for hutplan_read
+ * and for hutplan_write, about 132 KB for hutplan_plan, about 8 KB for hutplan_schedule, about
  * 2 KB for hutplan_send, and less than 1 KB for hutplan_step and for hutplan_step_all. It does not
  * grow with the input.
  */
@@ -113,17 +113,17 @@ enum hutplan_refusal {
 /*
  * Sizes to lend, enough for every accepted input.
  *
- * A table has at most 5,123 words: version and count of nodes (2), two for each of at most 512
- * nodes (1,024), the count of servers (1), four for each of at most 512 servers (2,048) and two for
- * each of at most 1,024 cords (2,048). A word takes four bytes of a word list, and one to four
- * bytes of a sheet, so a table's list and its sheet both have at most 20,492 bytes.
+ * A table has at most 5,635 words: version and count of nodes (2), three for each of at most 512
+ * nodes (1,536; two in version 1), the count of servers (1), four for each of at most 512 servers
+ * (2,048) and two for each of at most 1,024 cords (2,048). A word takes four bytes of a word list,
+ * and one to four bytes of a sheet, so a table's list and its sheet both have at most 22,540 bytes.
  *
  * A plan takes one demand a server, at most 512, and gives one grant a cord, at most 1,024, and one
  * cap a server. A period of a slow bus names each of at most 512 servers once.
  */
-#define HUTPLAN_TABLE_WORDS 5123
-#define HUTPLAN_TABLE_BYTES 20492
-#define HUTPLAN_SHEET_BYTES 20492
+#define HUTPLAN_TABLE_WORDS (2 + 3 * 512 + 1 + 4 * 512 + 2 * 1024)
+#define HUTPLAN_TABLE_BYTES (4 * HUTPLAN_TABLE_WORDS)
+#define HUTPLAN_SHEET_BYTES (4 * HUTPLAN_TABLE_WORDS)
 #define HUTPLAN_DEMANDS_BYTES 2048
 #define HUTPLAN_GRANTS_BYTES 4096
 #define HUTPLAN_CAPS_BYTES 2048

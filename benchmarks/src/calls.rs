@@ -47,7 +47,7 @@ impl Outputs {
 
     /// Buffers a little longer than any accepted input needs.
     pub fn lent() -> Outputs {
-        Outputs::of_lengths(20_496, 2_052, 24)
+        Outputs::of_lengths(4 * plain::DECIDING_WORDS, 2_052, 24)
     }
 
     /// The answer's two numbers.

@@ -1,6 +1,7 @@
 //! Both sides on the same input: equal results and equal buffers, to the last byte.
 
 use crate::calls::{Call, Inputs, Outputs, CALLS};
+use crate::plain::DECIDING_WORDS;
 use crate::rooms::Chance;
 
 /// Inputs damaged in one way each, of every room.
@@ -72,5 +73,5 @@ fn shorten(given: &mut Inputs, chance: &mut Chance) {
 
 fn short_outputs(chance: &mut Chance) -> Outputs {
     let answer = 14 + chance.below(4);
-    Outputs::of_lengths(chance.below(20_500) as usize, chance.below(2_100) as usize, answer as usize)
+    Outputs::of_lengths(chance.below(4 * DECIDING_WORDS as u32) as usize, chance.below(2_100) as usize, answer as usize)
 }

@@ -53,12 +53,15 @@ impl Shape {
     }
 }
 
-/// A room of the kind: its table, its demands and the sheet that Write makes of the table.
-pub fn room(kind: Kind, chance: &mut Chance) -> Inputs {
+/// A room of the kind, in one of the versions: its table, its demands and the sheet that Write makes of the table. In
+/// version 2 every second node may carry all of its rating.
+pub fn room(kind: Kind, version: u32, chance: &mut Chance) -> Inputs {
     let servers = servers(kind, chance);
-    let mut words = vec![1, kind.nodes as u32];
-    for (i, rating) in ratings(kind, &servers, chance).into_iter().enumerate() {
-        words.extend([kind.shape.parent(i as u32 + 1), rating]);
+    let mut words = vec![version, kind.nodes as u32];
+    for (i, limit) in limits(kind, &servers, chance).into_iter().enumerate() {
+        let percent = if version > 1 && i % 2 == 1 { 100 } else { 80 };
+        words.extend([kind.shape.parent(i as u32 + 1), (limit * 100).div_ceil(percent)]);
+        words.extend((version > 1).then_some(percent));
     }
     words.push(servers.len() as u32);
     for server in &servers {
@@ -112,8 +115,8 @@ fn server(kind: Kind, cords: u32, chance: &mut Chance) -> Server {
     }
 }
 
-/// Ratings between what the lows beneath a node need and a little more than what the wants there ask.
-fn ratings(kind: Kind, servers: &[Server], chance: &mut Chance) -> Vec<u32> {
+/// Limits between what the lows beneath a node need and a little more than what the wants there ask.
+fn limits(kind: Kind, servers: &[Server], chance: &mut Chance) -> Vec<u32> {
     let mut lows = vec![0; kind.nodes + 1];
     let mut wants = vec![0; kind.nodes + 1];
     for server in servers {
@@ -129,5 +132,5 @@ fn ratings(kind: Kind, servers: &[Server], chance: &mut Chance) -> Vec<u32> {
         wants[parent] += wants[node];
     }
     let mut limit = |n: usize| lows[n] + (wants[n] - lows[n]) / 100 * (40 + chance.below(70));
-    (1..=kind.nodes).map(|n| (limit(n) * 5).div_ceil(4)).collect()
+    (1..=kind.nodes).map(&mut limit).collect()
 }

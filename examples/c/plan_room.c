@@ -80,8 +80,9 @@ static int accepted(void)
 static void print_plan(uint64_t freed)
 {
     uint32_t nodes = word_at(table, 1), servers, server, cords, cord;
-    size_t at = 2 + 2 * (size_t)nodes; /* the place of the table's next word */
-    size_t grant = 0;                  /* the place of the next cord's grant */
+    size_t node_words = word_at(table, 0) == 1 ? 2 : 3; /* by the version */
+    size_t at = 2 + node_words * nodes;                 /* the place of the table's next word */
+    size_t grant = 0;                                   /* the place of the next cord's grant */
 
     printf("freed %" PRIu64 "\n", freed);
     servers = word_at(table, at);

@@ -27,7 +27,7 @@ mod hutplan {
     }
 
     // The header's sizes, enough for every accepted input: no output is ever too short.
-    const TABLE_BYTES: usize = 20492;
+    const TABLE_BYTES: usize = 22540;
     const GRANTS_BYTES: usize = 4096;
     const CAPS_BYTES: usize = 2048;
     const ANSWER_BYTES: usize = 16;
@@ -68,6 +68,13 @@ mod hutplan {
         bytes.chunks_exact(4).take(count).map(word).collect()
     }
 
+    /// The index of an accepted table's count of servers: after the nodes, which have two words each
+    /// in version 1 and three in version 2.
+    pub fn servers_index(table: &[u32]) -> usize {
+        let node_words = if table[0] == 1 { 2 } else { 3 };
+        2 + node_words * table[1] as usize
+    }
+
     /// Read: the words of a sheet's table.
     pub fn read(sheet: &[u8]) -> Result<Vec<u32>, Refusal> {
         let mut table = vec![0; TABLE_BYTES];
@@ -103,11 +110,10 @@ mod hutplan {
             );
         }
         let freed = figure(answer)?;
-        // Accepted, so there is one demand a server, and the table has three words, two a node,
-        // four a server and two a cord.
-        let nodes = table[1] as usize;
+        // Accepted, so there is one demand a server, and after the count of servers the table has
+        // four words a server and two a cord.
         let servers = demands.len();
-        let cords = (table.len() - 3 - 2 * nodes - 4 * servers) / 2;
+        let cords = (table.len() - servers_index(table) - 1 - 4 * servers) / 2;
         Ok(Plan { freed, grants: to_words(&grants, cords), caps: to_words(&caps, servers) })
     }
 }
@@ -136,7 +142,7 @@ fn accepted<T>(result: Result<T, hutplan::Refusal>) -> T {
 /// Prints the plan of an accepted table, which has all its words, so that no index is out of range.
 fn print(table: &[u32], plan: &hutplan::Plan) {
     println!("freed {}", plan.freed);
-    let mut at = 3 + 2 * table[1] as usize; // past the nodes and the count of servers
+    let mut at = hutplan::servers_index(table) + 1;
     let mut grant = 0; // the place of the next cord's grant
     for (server, cap) in (1..).zip(&plan.caps) {
         println!("server {server} cap {cap}");

@@ -157,8 +157,8 @@ static const struct bytes_case bytes_cases[] = {
     {"four bytes with the top bit and a fifth", "01 02 FF FF FF FF 07", 1, 2},
     {"three bytes with the top bit", "01 FF FF FF", 3, 1},
     {"the last number cut", "01 02 00 96 01 00 F4 03 02 01 64 90 03 02 01 F4 03 02 F4 03 01 64 90 03 01 02 E8", 3, 26},
-    {"a bad version, then a cut number", "02 80", 3, 1},
-    {"a bad version, then a number too long", "02 80 80 80 80", 1, 1},
+    {"a bad version, then a cut number", "03 80", 3, 1},
+    {"a bad version, then a number too long", "03 80 80 80 80", 1, 1},
     {"words left over, then a number not shortest", "01 01 00 64 00 00 81 00", 2, 6},
     {"the first bad number wins", "80 00 80", 2, 0},
 };
@@ -187,7 +187,7 @@ static const struct table_case table_cases[] = {
 
     {"no words", "", 4, 0},
     {"version 0", "0 1 0 150 0", 5, 0},
-    {"version 2", "2", 5, 0},
+    {"version 3", "3", 5, 0},
     {"version 4,294,967,295", "4294967295", 5, 0},
     {"no nodes", "1 0 0", 5, 1},
     {"513 nodes", "1 513", 5, 1},
@@ -221,6 +221,26 @@ static const struct table_case table_cases[] = {
     {"lows above the limit of a chain's leaf", "1 3 0 200 1 200 2 124 1 3 100 400 1 3 1000", 9, 3},
     {"the lowest of two nodes", "1 3 0 200 1 124 2 124 1 3 100 400 1 3 1000", 9, 2},
     {"a limit of 0", "1 1 0 1 1 3 1 1 1 1 1000", 9, 1},
+
+    /* Version 2: a node's words are parent, rating and percent. */
+    {"version 2, room H at 80", "2 2 0 150 80 0 500 80 2 1 100 400 2 1 500 2 500 1 100 400 1 2 1000", 0, 0},
+    {"version 2, H, node 2 rated 150 at 100", "2 2 0 150 80 0 150 100 2 1 100 400 2 1 500 2 500 1 100 400 1 2 1000", 0, 0},
+    {"version 2, H, node 2 rated 149 at 100", "2 2 0 150 80 0 149 100 2 1 100 400 2 1 500 2 500 1 100 400 1 2 1000", 9, 2},
+    {"version 2, H, node 2 rated 187 at 80", "2 2 0 150 80 0 187 80 2 1 100 400 2 1 500 2 500 1 100 400 1 2 1000", 9, 2},
+    {"version 2, watts at their greatest", "2 1 0 16777215 100 1 16 16777215 16777215 1 1 1000", 0, 0},
+    {"version 2, and no more", "2", 4, 1},
+    {"version 2, a percent missing", "2 1 0 150", 4, 4},
+    {"version 2, a table of version 1", "2 1 0 150 0", 5, 4},
+    {"version 2, percent 0", "2 1 0 150 0 0", 5, 4},
+    {"version 2, percent 79", "2 1 0 150 79 0", 5, 4},
+    {"version 2, percent 81", "2 1 0 150 81 0", 5, 4},
+    {"version 2, percent 90", "2 1 0 150 90 0", 5, 4},
+    {"version 2, percent 99", "2 1 0 150 99 0", 5, 4},
+    {"version 2, percent 101", "2 1 0 150 101 0", 5, 4},
+    {"version 2, percent 4,294,967,295", "2 1 0 150 4294967295 0", 5, 4},
+    {"version 2, percent of the second node", "2 2 0 150 100 1 150 90 3 0", 5, 7},
+    {"version 2, a bad rating before a bad percent", "2 1 0 16777216 90 0", 5, 3},
+    {"version 2, a word left over", "2 1 0 150 100 0 7", 8, 6},
 };
 
 #define COUNT(array) (sizeof(array) / sizeof(array)[0])
@@ -347,17 +367,20 @@ static void test_null(void)
     expect_call(hutplan_read, 0, 0, NULL, 0, "Read, answer NULL");
 }
 
-/* A room of so many nodes, each the child of the one before, and servers of so many cords each. */
-static size_t make_room(uint32_t nodes, uint32_t servers, uint32_t cords)
+/* A room of so many nodes, each the child of the one before, and servers of so many cords each. In
+   version 2 each node has its percent: 80, as in version 1. */
+static size_t make_room(uint32_t version, uint32_t nodes, uint32_t servers, uint32_t cords)
 {
     size_t count = 0;
     uint32_t i, k;
 
-    words[count++] = 1;
+    words[count++] = version;
     words[count++] = nodes;
     for (i = 1; i <= nodes; i++) {
         words[count++] = i - 1;
         words[count++] = 16777215;
+        if (version > 1)
+            words[count++] = 80;
     }
     words[count++] = servers;
     for (i = 1; i <= servers; i++) {
@@ -376,9 +399,12 @@ static size_t make_room(uint32_t nodes, uint32_t servers, uint32_t cords)
 /* The largest table, and inputs beyond it. */
 static void test_sizes(void)
 {
-    size_t count = make_room(512, 512, 2);
+    size_t count = make_room(2, 512, 512, 2);
 
-    expect(count == HUTPLAN_TABLE_WORDS, "5,123 words", "the largest room");
+    expect(count == HUTPLAN_TABLE_WORDS, "as many words as the header says", "the largest room");
+    expect(count == 5635, "5,635 words", "the largest room");
+    expect_table(make_room(1, 512, 512, 2), 0, 0, "the largest room of version 1");
+    make_room(2, 512, 512, 2);
     expect_table(count, 0, 0, "the largest room");
     words[3] = 1000;
     expect_table(count, 9, 1, "the largest room, lows above the root's limit");
@@ -389,8 +415,8 @@ static void test_sizes(void)
     expect_table(1000000, 8, count, "a million words");
 
     /* 1,024 cords are the most: 256 servers of four leave none for the next. */
-    expect_table(make_room(1, 256, 4), 0, 0, "1,024 cords");
-    count = make_room(1, 257, 4);
+    expect_table(make_room(1, 1, 256, 4), 0, 0, "1,024 cords");
+    count = make_room(1, 1, 257, 4);
     expect_table(count, 5, 5 + 256 * 12 + 3, "1,025 cords");
 
     /* All bytes before any word: a bad number far behind. */
@@ -438,6 +464,12 @@ static const char room_s_words[] =
 static const char larger_s_words[] =
     "1 3 0 1625 1 938 1 938 4 2 270 500 1 2 1000 1 270 500 1 2 1000 1 270 500 1 3 1000 1 270 500 1 3 1000";
 
+/* Room S in version 2, at 80 throughout; and with the limits of the larger one at percents of 100, 80 and 100. */
+static const char second_s_words[] =
+    "2 3 0 1550 80 1 938 80 1 938 80 4 2 270 500 1 2 1000 1 270 500 1 2 1000 1 270 500 1 3 1000 1 270 500 1 3 1000";
+static const char full_s_words[] =
+    "2 3 0 1300 100 1 938 80 1 750 100 4 2 270 500 1 2 1000 1 270 500 1 2 1000 1 270 500 1 3 1000 1 270 500 1 3 1000";
+
 /* The rooms of document 01, those of its near misses with the right figures, and one refusal before the next. */
 static const struct plan_case plan_cases[] = {
     {"H", room_h_words, "400 400", 12, 8, 0, 13, "120 97 303", "194 303"},
@@ -445,6 +477,9 @@ static const struct plan_case plan_cases[] = {
     {"H, lists longer than any room's", room_h_words, "400 400", 100001, 50002, 0, 13, "120 97 303", "194 303"},
     {"S", room_s_words, "430 430 430 430", 16, 16, 0, 0, "430 270 270 270", "430 270 270 270"},
     {"S, root rated 1,625", larger_s_words, "430 430 430 430", 16, 16, 0, 0, "430 281 294 295", "430 281 294 295"},
+    {"S in version 2", second_s_words, "430 430 430 430", 16, 16, 0, 0, "430 270 270 270", "430 270 270 270"},
+    {"S, root at 100", full_s_words, "430 430 430 430", 16, 16, 0, 0, "430 281 294 295", "430 281 294 295"},
+    {"a percent of 90", "2 1 0 150 90 0", "", 0, 0, 5, 4, "", ""},
     {"weights are excesses", "1 2 0 188 1 125 2 1 0 1000 1 2 1000 1 0 100 1 1 1000", "1000 100", 8, 8, 0, 0, "75 75", "75 75"},
     {"60 W over 50 and 210", "1 1 0 75 2 1 0 50 1 1 1000 1 0 210 1 1 1000", "50 210", 8, 8, 0, 0, "11 49", "11 49"},
     {"a child node before a cord", "1 2 0 2 1 2 2 1 0 1 1 2 1000 1 0 1 1 1 1000", "1 1", 8, 8, 0, 0, "0 1", "0 1"},
@@ -493,7 +528,7 @@ static void test_plan(void)
             expect_plan(&plan_cases[i], length);
 
     /* The largest room, with as many demands as it has servers, and with more than any room has. */
-    lend_bytes(&input, list_bytes, list_of(words, make_room(512, 512, 2), list_bytes));
+    lend_bytes(&input, list_bytes, list_of(words, make_room(2, 512, 512, 2), list_bytes));
     lend(&output, 0);
     lend(&caps, 0);
     memset(list_bytes, 0, 4 * 100000);

@@ -1,5 +1,5 @@
-//! The baseline: Read, Write and Plan of document 01, and the pass of document 02's A.7, in plain Rust, over
-//! what a C caller lends.
+//! The baseline: Read, Write and Plan of document 01 with document 02's A.3, and the pass of its A.7, in plain Rust,
+//! over what a C caller lends.
 
 mod deal;
 mod number;
@@ -17,8 +17,8 @@ pub const MOST_NODES: usize = 512;
 pub const MOST_SERVERS: usize = 512;
 pub const MOST_CORDS: usize = 1024;
 
-/// A table has at most 5,123 words, so that many and one more decide every check.
-pub const DECIDING_WORDS: usize = 5124;
+/// A table has at most three words a node, four a server, two a cord and three beside; one word more decides every check.
+pub const DECIDING_WORDS: usize = 3 + 3 * MOST_NODES + 4 * MOST_SERVERS + 2 * MOST_CORDS + 1;
 
 /// A refusal's number and place.
 pub struct Refusal(pub u64, pub u64);

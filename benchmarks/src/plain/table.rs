@@ -4,6 +4,8 @@ use std::array::from_fn;
 
 use super::{Outcome, Refusal, MOST_CORDS, MOST_NODES, MOST_SERVERS, MOST_WATTS};
 
+const NEWEST_VERSION: u32 = 2;
+
 /// The bytes of a longest server: four words, and two for each of four cords.
 const SERVER_BYTES: usize = 48;
 
@@ -28,6 +30,10 @@ pub struct Room {
     pub ranks: [u8; MOST_CORDS + 3],
 }
 
+fn is_percent(word: u32) -> bool {
+    (word == 80) | (word == 100)
+}
+
 /// What a share carries of a load, rounded up.
 pub fn carried(share: u32, load: u32) -> u32 {
     ((u64::from(share) * u64::from(load) + 999) / 1000) as u32
@@ -47,6 +53,11 @@ impl<'a> Table<'a> {
         self.0.get(4 * i..)?.first_chunk().map(|bytes| u32::from_le_bytes(*bytes))
     }
 
+    /// Two words a node, or three where the version gives it a percent.
+    fn node_words(self) -> usize {
+        2 + usize::from(self.word(0) != Some(1))
+    }
+
     /// Refusals 4 to 9.
     pub fn check(self) -> Outcome<()> {
         self.scan(&mut Room::empty())
@@ -63,11 +74,14 @@ impl<'a> Table<'a> {
     /// Every record, judged whole; none where some rule of the words is broken.
     fn scan_records(self, room: &mut Room) -> Option<()> {
         room.node_count = (self.word(1)? as usize).min(MOST_NODES + 1);
-        let at_servers = 2 + 2 * room.node_count;
+        let at_servers = 2 + self.node_words() * room.node_count;
         room.server_count = self.word(at_servers)? as usize;
-        let bad =
-            self.word(0)? != 1 || room.node_count.wrapping_sub(1) >= MOST_NODES || room.server_count > MOST_SERVERS;
-        if bad || !room.put_nodes(&self.0[8..4 * at_servers]) {
+        let version = self.word(0)?;
+        let bad = version.wrapping_sub(1) >= NEWEST_VERSION
+            || room.node_count.wrapping_sub(1) >= MOST_NODES
+            || room.server_count > MOST_SERVERS;
+        let nodes = &self.0[8..4 * at_servers];
+        if bad || !(if version == 1 { room.put_nodes::<2>(nodes) } else { room.put_nodes::<3>(nodes) }) {
             return None;
         }
         let mut at = at_servers + 1;
@@ -86,13 +100,17 @@ impl<'a> Table<'a> {
     /// The rules word by word, in their order: the first refusal of 4 to 8.
     #[cold]
     fn walk(self) -> Outcome<()> {
-        self.ranged(0, 1, 1)?;
+        self.ranged(0, 1, NEWEST_VERSION)?;
         let nodes = self.ranged(1, 1, MOST_NODES as u32)?;
+        let mut at = 2;
         for i in 0..nodes {
-            self.ranged(2 + 2 * i as usize, 0, i)?;
-            self.ranged(3 + 2 * i as usize, 0, MOST_WATTS)?;
+            self.ranged(at, 0, i)?;
+            self.ranged(at + 1, 0, MOST_WATTS)?;
+            if self.node_words() == 3 && !is_percent(self.ranged(at + 2, 0, u32::MAX)?) {
+                return Err(Refusal(5, at as u64 + 2));
+            }
+            at += self.node_words();
         }
-        let mut at = 2 + 2 * nodes as usize;
         let servers = self.ranged(at, 0, MOST_SERVERS as u32)?;
         let mut left = MOST_CORDS as u32;
         at += 1;
@@ -154,14 +172,16 @@ impl Room {
         }
     }
 
-    /// Puts down the parents, and the limits where the slack will stand; whether no rule is broken.
-    fn put_nodes(&mut self, bytes: &[u8]) -> bool {
+    /// Puts down the parents, and the limits where the slack will stand; whether no rule is broken. A node has so many
+    /// words, the third of which is its percent.
+    fn put_nodes<const WORDS: usize>(&mut self, bytes: &[u8]) -> bool {
         let mut good = true;
-        for (i, node) in bytes.chunks_exact(8).enumerate() {
+        for (i, node) in bytes.chunks_exact(4 * WORDS).enumerate() {
             let (parent, rating) = (low_first(node, 0), low_first(node, 1));
-            good &= (parent <= i as u32) & (rating <= MOST_WATTS);
+            let percent = if WORDS == 3 { low_first(node, 2) } else { 80 };
+            good &= (parent <= i as u32) & (rating <= MOST_WATTS) & is_percent(percent);
             self.parents[i + 1] = parent as u16;
-            self.slack[i + 1] = (u64::from(rating) * 80 / 100) as u32;
+            self.slack[i + 1] = (u64::from(rating) * u64::from(percent) / 100) as u32;
         }
         good
     }

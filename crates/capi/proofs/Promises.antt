@@ -16,6 +16,7 @@ use Rattle.words.proofs.Bytes.{length-wordsOf, length-bytesOf, wordsOf-bytesOf}
 use Rattle.numbers.specs.Sheet as sheets
 use Rattle.numbers.proofs.SheetLaws.{length-bytesOf≤}
 use Rattle.rooms.specs.Part.{Good}
+use Rattle.rooms.specs.Table.{mostWords}
 use Rattle.rooms.specs.Limits.{checked}
 use Rattle.rooms.specs.Outcome.{accepted, refused, after, reading, writing}
 use Rattle.rooms.specs.declared.Refusal.the-variants.{OutputTooShort}
@@ -29,13 +30,13 @@ use Rattle.capi.proofs.RoundTrip.{bytesOf-wordsOf, wrote, accepted-so}
 
 -- A good table has few words, each of 32 bits, and its sheet few bytes.
 module _ (table : List ℕ) (g : Good (checked table 0)) where
-  few-words : length table ≤ 5123
+  few-words : length table ≤ mostWords
   few-words = length-small table (g .value) (g .next) (g .is)
 
   are-words : AllBelow (2 ^ 32) table
   are-words i = omega (arith, words-small table (g .value) (g .next) (g .is) i)
 
-  few-bytes : length (sheets.bytesOf table) ≤ 20492
+  few-bytes : length (sheets.bytesOf table) ≤ 4 * mostWords
   few-bytes = omega (arith, length-bytesOf≤ table, few-words)
 
 -- What was written to the front of a list stands there.
@@ -66,7 +67,7 @@ sheet-writes-back sheet table answer r table′ answer′ words below read told 
     let loaded : wordsOf (take (4 * words) table′) ≡ got = ap wordsOf stored ∙ wordsOf-bytesOf got (are-words got g) in
     let back = rooms.sheet-writes-back sheet got (length table / 4) (length copy) below (w .is) long in
     let same = writing-is got (length copy) back .1 in
-    let short : length sheet ≤ 20492 = rw (← same) (few-bytes got g) in
+    let short : length sheet ≤ 4 * mostWords = rw (← same) (few-bytes got g) in
     accepted-so after copy answer₂ sheet (ap (λ (l : List ℕ). writing l (length copy)) loaded ∙ back) (omega arith) long₂ write
 
 pub table-reads-back : TableReadsBack
@@ -74,7 +75,7 @@ table-reads-back table sheet answer r sheet′ answer′ bytes below write told 
     let w = wrote after sheet answer (writing (wordsOf table) (length sheet)) write told in
     let got = w .written in
     let g = writing-is (wordsOf table) (length sheet) (w .is) in
-    let short : length got ≤ 20492 = rw (← g .1) (few-bytes (wordsOf table) (g .0)) in
+    let short : length got ≤ 4 * mostWords = rw (← g .1) (few-bytes (wordsOf table) (g .0)) in
     let count : bytes ≡ length got = w .counted (omega arith) in
     let stored : take bytes sheet′ ≡ got = ap (take bytes) (w .left) ∙ front sheet got bytes count (writing-fits (wordsOf table) (length sheet) (w .is)) in
     let back = rooms.table-reads-back (wordsOf table) got (length sheet) (length copy / 4) (w .is) (omega (arith, length-wordsOf table)) in

@@ -21,3 +21,4 @@ pub mod Bounds
 pub mod Plans
 pub mod Lent
 pub mod Promises
+pub mod Versions

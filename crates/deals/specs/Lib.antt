@@ -11,5 +11,6 @@ pub mod Plan
 -- What is promised (demand 3): trees and other ways of dealing them, and the statements.
 pub mod Ways
 pub mod Promises
+pub mod Versions
 -- What else is proved of every plan.
 pub mod Properties

@@ -5,6 +5,7 @@ use demands::Reading;
 use libc::STDIN_FILENO;
 use libc::STDOUT_FILENO;
 use rooms::Answer;
+use rooms::MOST_WORDS;
 ghost use mathlib.Core.Path.{_≡_};
 ghost use Prim.Native.Nat.{_≤_};
 ghost use lib.ListN.{length, take};
@@ -136,7 +137,7 @@ fn print_input(
 fn main() {
     let mut sheet = [0u8; 32768];
     let mut demands = [0u32; DECIDING_DEMANDS];
-    let mut table = [0u32; 5123];
+    let mut table = [0u32; MOST_WORDS];
     let mut buffer = io::large_buffer();
     let bytes = read_sheet(&mut sheet);
     let count = read_demands(&mut demands);

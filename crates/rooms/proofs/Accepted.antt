@@ -9,6 +9,7 @@ use Rattle.rooms.specs.Part.{good, many}
 use Rattle.figures.specs.Figures.{total}
 use Rattle.rooms.specs.Table.{Node, Cord, Server, Room, IsScale, mostWatts, mostNodes, mostServers, mostCords, mostServerCords, highestRank, node, nodes, cord, server, servers, cordCount, roomCords, shareSum}
 use Rattle.rooms.specs.Limits.{limit, nodeAt, lowsBeneath, overloaded, checked}
+use Rattle.rooms.proofs.NodeWords.{percent-to}
 use Rattle.rooms.proofs.Inversion.{cord-is, server-is, server-few, many-is}
 use Rattle.rooms.proofs.Whole.{form-scale, table-is, checked-is}
 use Rattle.rooms.proofs.All.{All}
@@ -58,7 +59,7 @@ cord-accepted scale nodeCount w i c j e =
     let a = cord-is scale nodeCount w i c j e in
     record { nodeFrom = a .first; nodeTo = a .last; shareTo = a .share }
 
-server-accepted : (scale nodeCount before : ℕ) (w : List ℕ) (i : ℕ) (s : Server) (j : ℕ) → server scale nodeCount before w i ≡ good s j → ServerAccepted scale nodeCount s
+pub server-accepted : (scale nodeCount before : ℕ) (w : List ℕ) (i : ℕ) (s : Server) (j : ℕ) → server scale nodeCount before w i ≡ good s j → ServerAccepted scale nodeCount s
 server-accepted scale nodeCount before w i s j e =
     let a = server-is scale nodeCount before w i s j e in
     record {
@@ -87,7 +88,7 @@ nodes-accepted : (percents : Bool) (count : ℕ) (w : List ℕ) (i : ℕ) (l : L
     → (m : ℕ) (d : Node) → m < count → NodeAccepted m (getD l m d)
 nodes-accepted percents count w i l j e m d h =
     let n = nodes-at percents count 1 w i l j d m h e in
-    record { parentTo = omega (arith, n .parent); ratingTo = n .rating; percentTo = n .percent }
+    record { parentTo = omega (arith, n .parent); ratingTo = n .rating; percentTo = percent-to percents _ (n .percent) }
 
 -- The lows beneath the node at place m, whose number is one more, are within its limit.
 lows-within : (r : Room) → overloaded r ≡ 0 → (m : ℕ) → m < length (r .nodes) → lowsBeneath r m ≤ limit (nodeAt r m)

@@ -13,7 +13,7 @@ use Rattle.rooms.specs.declared.Refusal.{Refusal}
 use Rattle.rooms.specs.declared.Refusal.the-variants.{WordMissing, WordOutOfRange, WordsLeftOver}
 use Rattle.rooms.specs.Table.{Node, Cord, Server, Range, mostWatts, mostCords, mostServerCords, highestRank, nodeWords, percent, node, cord, cords, range, load, server, cordCount, shareSum}
 use Rattle.rooms.specs.Credits.{nodeFrom}
-use Rattle.rooms.proofs.NodeWords.{percent-words}
+use Rattle.rooms.proofs.NodeWords.{PercentFits, percent-words}
 
 -- ---- One part after another
 
@@ -109,25 +109,25 @@ many-length (suc left) part next given w i l j e =
 
 -- ---- A node and a cord
 
--- A percent of 80, or the word there.
+-- A percent of 80, or the word there, which is 80 or 100.
 record PercentIs (percents : Bool) (w : List ℕ) (i p j : ℕ) : Type 0 where
   there : i ≤ length w → j ≤ length w
   is : p ≡ cond percents (getD w i 0) 80
   next : j ≡ i + cond percents 1 0
-  most : p ≤ 100
+  fits : PercentFits percents p
 
 percent-is : (percents : Bool) (w : List ℕ) (i p j : ℕ) → percent percents w i ≡ good p j → PercentIs percents w i p j
 unfolding percent
 percent-is false w i p j e =
     let x : 80 ≡ p = cc in
     let y : i ≡ j = cc in
-    rw (← x, ← y) (record { there = λ h. h; is = refl; next = omega arith; most = omega arith })
+    rw (← x, ← y) (record { there = λ h. h; is = refl; next = omega arith; fits = refl })
 percent-is true w i p j e =
     let a = word-is _ _ _ _ _ _ _ (said _ _ _ _ _ e) in
     let t = passed _ _ _ _ _ _ _ (a .rest) in
     let x : getD w i 0 ≡ p = cc in
     let y : suc i ≡ j = cc in
-    rw (← x, ← y) (record { there = λ h. a .there; is = refl; next = omega arith; most = a .most })
+    rw (← x, ← y) (record { there = λ h. a .there; is = refl; next = omega arith; fits = t .0 })
 
 pub record NodeIs (percents : Bool) (own : ℕ) (w : List ℕ) (i : ℕ) (n : Node) (j : ℕ) : Type 0 where
   pub there : i + nodeWords percents ≤ length w
@@ -135,7 +135,7 @@ pub record NodeIs (percents : Bool) (own : ℕ) (w : List ℕ) (i : ℕ) (n : No
   pub next : j ≡ i + nodeWords percents
   pub parent : n .parent ≤ own - 1
   pub rating : n .rating ≤ mostWatts
-  pub percent : n .percent ≤ 100
+  pub percent : PercentFits percents (n .percent)
 
 pub node-is : (percents : Bool) (own : ℕ) (w : List ℕ) (i : ℕ) (n : Node) (j : ℕ) → node percents own w i ≡ good n j → NodeIs percents own w i n j
 unfolding node
@@ -159,7 +159,7 @@ node-is percents own w i n j e =
           next = next;
           parent = parent;
           rating = rating;
-          percent = p .most;
+          percent = p .fits;
         })
 
 -- The cord of two words.

@@ -4,6 +4,7 @@
 pub mod Trees
 pub mod Cords
 -- What a good part of a table is, and what a good table and its room are as a whole.
+pub mod Fronts
 pub mod NodeWords
 pub mod Inversion
 pub mod All
@@ -23,6 +24,9 @@ pub mod Search
 pub mod Found
 pub mod Overloaded
 pub mod Accepted
+-- A good table as the words of its room; a table of one version made of another.
+pub mod Tables
+pub mod Versions
 -- Read and Write.
 pub mod Outcomes
 pub mod Lent

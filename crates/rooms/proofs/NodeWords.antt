@@ -1,5 +1,6 @@
 -- Where the words of a node stand, by whether it has a word for its percent.
-use mathlib.Core.Path.{_≡_, ap, _∙_}
+use mathlib.Core.Path.{_≡_, refl, ap, _∙_}
+use mathlib.Core.Logic.{_⊎_, inl, inr, ⊎-elim}
 use mathlib.Core.Bool.{Bool, true, false, cond, _||_}
 use mathlib.Core.List.{List}
 use Prim.Native.Nat.{ℕ, suc, _+_, _*_, _/_, _≤_, _<_}
@@ -8,7 +9,7 @@ use native.Mathlib.Omega.{arith}
 use native.Mathlib.Numerals.{add-one}
 use lib.ListN.{length, getD}
 use lib.Dec.{eqb}
-use borrow.Author.Tests.{eq-eqb, ne-eqb}
+use borrow.Author.Tests.{eq-eqb, ne-eqb, eqb-true}
 use Rattle.rooms.specs.Table.{nodeWords}
 use Rattle.rooms.specs.Limits.{limit}
 use Rattle.rooms.specs.Credits.{nodeFrom, nodeIndex, NodesRead, parentAt, limitAt}
@@ -33,6 +34,24 @@ is-hundred v n e = rw (ne-eqb v 80 n, eq-eqb v 100 e)
 
 pub is-neither : (v : ℕ) → (v ≡ 80 → ⊥) → (v ≡ 100 → ⊥) → eqb v 80 || eqb v 100 ≡ false
 is-neither v n m = rw (ne-eqb v 80 n, ne-eqb v 100 m)
+
+-- A percent that a node may have: 80, or where it has a word for it, also 100.
+abbrev pub PercentFits : Bool → ℕ → Type 0
+PercentFits percents p = cond percents (eqb p 80 || eqb p 100) (eqb p 80) ≡ true
+
+pub percent-is : (p : ℕ) → eqb p 80 || eqb p 100 ≡ true → (p ≡ 80) ⊎ (p ≡ 100)
+percent-is p e = go (eqb p 80) refl e
+  where
+    go : (t : Bool) → eqb p 80 ≡ t → t || eqb p 100 ≡ true → (p ≡ 80) ⊎ (p ≡ 100)
+    go true d e = inl (eqb-true p 80 d)
+    go false d e = inr (eqb-true p 100 e)
+
+pub percent-in : (p : ℕ) → eqb p 80 || eqb p 100 ≡ true → (80 ≤ p) × (p ≤ 100)
+percent-in p e = ⊎-elim (λ (d : p ≡ 80). (omega arith, omega arith)) (λ (d : p ≡ 100). (omega arith, omega arith)) (percent-is p e)
+
+pub percent-to : (percents : Bool) (p : ℕ) → PercentFits percents p → p ≤ 100
+percent-to true p f = percent-in p f .1
+percent-to false p f = omega (arith, eqb-true p 80 f)
 
 module _ (percents : Bool) (w : List ℕ) (i : ℕ) where
   third : i + 2 ≡ suc (suc i)

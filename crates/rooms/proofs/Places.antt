@@ -10,6 +10,7 @@ use Rattle.rooms.specs.Part.{good}
 use Rattle.rooms.specs.Table.{Node, Room, mostNodes, mostServers, formOf, nodeWords, node, nodes, servers, table}
 use Rattle.rooms.specs.Limits.{limit, nodeAt, parentOf}
 use Rattle.rooms.specs.Credits.{nodeIndex, NodesRead, parentAt, limitAt}
+use Rattle.rooms.proofs.NodeWords.{percent-to}
 use Rattle.rooms.proofs.Inversion.{many-length, NodeIs}
 use Rattle.rooms.proofs.Whole.{percentsOf, table-is}
 use Rattle.rooms.proofs.Rows.{nodes-words, nodes-at}
@@ -62,7 +63,7 @@ module _ (w : List ℕ) (r : Room) (j n count-at : ℕ) (is : Layout w r j n cou
         few = is .most;
         there = omega (arith, is .there);
         rises = table-rises;
-        part = λ m g. omega (arith, node-at m g .percent, ap (λ (x : Node). x .percent) (node-at m g .is));
+        part = λ m g. omega (arith, percent-to (percentsOf w) (nodeAt r m .percent) (node-at m g .percent), ap (λ (x : Node). x .percent) (node-at m g .is));
       })
 
   pub node-count : length (r .nodes) ≡ n

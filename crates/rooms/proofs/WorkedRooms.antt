@@ -1,4 +1,5 @@
--- Near document 01's rooms: Read of room H into a list of one word less than it has, and of no bytes.
+-- Near document 01's rooms: Read of room H into a list of one word less than it has, and of no bytes; and of small sheets of both
+-- versions and of a third.
 -- (The starred rooms are proved as a group in hutplan/proofs/WorkedRooms.antt.)
 use mathlib.Core.Path.{_≡_, refl}
 use mathlib.Core.List.{List, [], _∷_}
@@ -26,3 +27,15 @@ unfolding reading number later sheetFrom
     checked table formOf percent node cord range load server follow word ensure end many total
     overloaded firstNode beneath serverLows lows
 turned-back = (refl, refl)
+
+-- A version 2 room of one node, rated 100 W at a percent, with a server of 81 W at least: 81 exceeds a limit of 80, not one of 100.
+abbrev sheetOf : ℕ → List ℕ
+sheetOf percent = 2 ∷ 1 ∷ 0 ∷ 100 ∷ percent ∷ 1 ∷ 1 ∷ 81 ∷ 90 ∷ 1 ∷ 1 ∷ 0xE8 ∷ 0x07 ∷ []
+
+-- In version 1 the word after the rating is the count of servers, so that 100 stands for the rank of one of 80, and is out of range.
+pub percents-read : (numbered (reading (sheetOf 100) 12) ≡ (0, 12)) × (numbered (reading (sheetOf 80) 12) ≡ (9, 1)) × (numbered (reading (sheetOf 90) 12) ≡ (5, 4))
+    × (numbered (reading (1 ∷ 1 ∷ 0 ∷ 100 ∷ 80 ∷ 100 ∷ []) 12) ≡ (5, 5)) × (numbered (reading (2 ∷ 1 ∷ 0 ∷ 100 ∷ []) 12) ≡ (4, 4)) × (numbered (reading (3 ∷ []) 12) ≡ (5, 0))
+unfolding reading number later sheetFrom
+    checked table formOf percent node cord range load server follow word ensure end many total
+    overloaded firstNode beneath serverLows lows
+percents-read = (refl, refl, refl, refl, refl, refl)

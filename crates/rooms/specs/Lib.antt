@@ -7,5 +7,6 @@ pub mod Lists
 pub mod Told
 pub mod Outcome
 pub mod Promises
+pub mod Versions
 -- Cited by contracts of private functions alone.
 pub mod Credits

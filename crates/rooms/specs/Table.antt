@@ -3,7 +3,7 @@ use mathlib.Core.Bool.{Bool, true, false, cond, _||_}
 use mathlib.Core.List.{List}
 use Prim.Native.Nat.{ℕ, suc, _+_, _-_, _*_, _≤_, min}
 use lib.ListN.{length}
-use lib.Dec.{leb, eqb}
+use lib.Dec.{leb, ltb, eqb}
 use Rattle.rooms.specs.Part.{Part, _>>=_, give, here, within, word, ensure, end, many}
 use Rattle.figures.specs.Figures.{total}
 use Rattle.rooms.specs.declared.Refusal.the-variants.{WordOutOfRange, GreatestBelowLeast, SharesNotWhole}
@@ -43,10 +43,11 @@ pub record Form : Type 0 where
 
 -- The good versions are 1 to this one.
 abbrev pub newestVersion : ℕ
-newestVersion = 1
+newestVersion = 2
 
+-- From version 2 on a node has its percent.
 unfoldable pub formOf : ℕ → Form
-formOf version = record { percents = false; scale = 1000 }
+formOf version = record { percents = ltb 1 version; scale = 1000 }
 
 -- The words of a node: parent and rating, and its percent where it has a word.
 abbrev pub nodeWords : Bool → ℕ
@@ -54,7 +55,7 @@ nodeWords percents = cond percents 3 2
 
 -- The most words of a node in any good version, and a bound of every version's scale: a share fits 16 bits.
 abbrev pub mostNodeWords : ℕ
-mostNodeWords = 2
+mostNodeWords = 3
 
 abbrev pub mostScale : ℕ
 mostScale = 65535

@@ -14,7 +14,7 @@ const USUAL_PERCENT: u32 = 80;
 pub fn has_percents(version: u32) -> bool
     ensures { λ r. ⌜ r ≡ formOf version .percents ⌝ }
 {
-    false
+    1 < version
 }
 
 // A version's scale.

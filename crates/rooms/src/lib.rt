@@ -43,8 +43,12 @@ pub enum Answer {
     Refused(Refusal),
 }
 
+// The most words of a table, of whatever version: version, count of nodes, three words a node, count of servers, four a server and
+// two a cord (`mostWords`, specs/Table.antt).
+pub const MOST_WORDS: usize = 2 + 3 * 512 + 1 + 4 * 512 + 2 * 1024;
+
 // One word more than a table may have: so many decide every check.
-pub const DECIDING_WORDS: usize = 5124;
+pub const DECIDING_WORDS: usize = MOST_WORDS + 1;
 
 // The number of a fault.
 fn fault_number(fault: Fault) -> u64

@@ -4,7 +4,6 @@ pub mod NumberLaws
 pub mod LineLaws
 pub mod LineLoop
 pub mod TableLaws
-pub mod Fronts
 pub mod RoomTable
 pub mod ReadsText
 pub mod WritesText

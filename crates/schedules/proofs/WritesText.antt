@@ -16,7 +16,7 @@ use Rattle.schedules.specs.Text.{byteAt, space, newline, isDigit, Step, 
 use Rattle.schedules.specs.Schedule.{inRange, passed, judged, whole, linesFrom}
 use Rattle.schedules.specs.Written.{Decimal, digit, LineText, Written, Pass}
 use Rattle.schedules.specs.Written as written
-use Rattle.schedules.proofs.Fronts.{stands}
+use Rattle.rooms.proofs.Fronts.{stands}
 use Rattle.schedules.proofs.SizeLaws.{size-most}
 use Rattle.schedules.proofs.LineLaws.{range-is}
 use Rattle.schedules.proofs.LineLoop.{linesFrom-end, linesFrom-some}

@@ -129,7 +129,7 @@ fn read_bad_numbers() {
         b"\x01\x01\x00\xFF\xFF\xFF\x00\x00",
         3,
     );
-    read(b"version 2, then a number cut short", b"\x02\x80", 3);
+    read(b"version 3, then a number cut short", b"\x03\x80", 3);
 }
 
 // Refusals 4 and 5 of sheets: words that are missing or out of range.
@@ -139,7 +139,7 @@ fn read_bad_words() {
         b"\x01\x02\x00\x96\x01\x00\xF4\x03\x02\x01\x64\x90\x03\x02\x01\xF4\x03\x02\xF4\x03\x01\x64\x90\x03\x01\x02",
         22,
     );
-    read(b"version 2, and no more", b"\x02", 3);
+    read(b"version 3, and no more", b"\x03", 3);
     read(b"node 1 its own parent", b"\x01\x01\x01\x64\x00", 6);
     read(b"rating 16,777,215", b"\x01\x01\x00\xFF\xFF\xFF\x07\x00", 6);
     read(b"rating 16,777,216", b"\x01\x01\x00\x80\x80\x80\x08\x00", 6);
@@ -169,6 +169,30 @@ fn read_bad_tables() {
         20,
     );
     read(b"no servers into no words", b"\x01\x01\x00\x64\x00", 0);
+}
+
+// Version 2: room H at 80 throughout; then with node 2 at 100, rated just what its lows are, and 1 W less; and percents that are refused.
+fn read_second_version() {
+    read(
+        b"H in version 2",
+        b"\x02\x02\x00\x96\x01\x50\x00\xF4\x03\x50\x02\x01\x64\x90\x03\x02\x01\xF4\x03\x02\xF4\x03\x01\x64\x90\x03\x01\x02\xE8\x07",
+        25,
+    );
+    read(
+        b"H, node 2 rated 150 at 100",
+        b"\x02\x02\x00\x96\x01\x50\x00\x96\x01\x64\x02\x01\x64\x90\x03\x02\x01\xF4\x03\x02\xF4\x03\x01\x64\x90\x03\x01\x02\xE8\x07",
+        23,
+    );
+    read(
+        b"H, node 2 rated 149 at 100",
+        b"\x02\x02\x00\x96\x01\x50\x00\x95\x01\x64\x02\x01\x64\x90\x03\x02\x01\xF4\x03\x02\xF4\x03\x01\x64\x90\x03\x01\x02\xE8\x07",
+        23,
+    );
+    read(b"version 2, and no more", b"\x02", 3);
+    read(b"percent missing", b"\x02\x01\x00\x64", 6);
+    read(b"percent 79", b"\x02\x01\x00\x64\x4F\x00", 6);
+    read(b"percent 90", b"\x02\x01\x00\x64\x5A\x00", 6);
+    read(b"percent 101", b"\x02\x01\x00\x64\x65\x00", 6);
 }
 
 // Write, on room H with another rating of node 2.
@@ -223,11 +247,28 @@ fn write_bad_tables() {
     write(b"no servers into no bytes", &[1, 1, 0, 100, 0], 0);
 }
 
+// Version 2: tables without servers.
+fn write_second_version() {
+    write(
+        b"percents of 80 and 100",
+        &[2, 2, 0, 100, 80, 1, 90, 100, 0],
+        10,
+    );
+    write(b"percent 90", &[2, 1, 0, 100, 90, 0], 6);
+    write(
+        b"percent of the second node missing",
+        &[2, 2, 0, 100, 80, 1, 90],
+        8,
+    );
+}
+
 fn main() {
     read_rooms();
     read_bad_numbers();
     read_bad_words();
     read_bad_tables();
+    read_second_version();
     write_rooms();
     write_bad_tables();
+    write_second_version();
 }

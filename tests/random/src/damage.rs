@@ -21,8 +21,18 @@ pub fn drawn(dice: &mut Dice) -> (Room, Vec<u32>, Vec<u32>) {
     (drawn, table, watts)
 }
 
-/// Breaks a rule that takes a figure in step with others: refusals 6, 7 and 9.
+/// Breaks a rule that takes a figure in step with others: refusals 6, 7 and 9. Or gives a node a percent that is none, or the
+/// table another version than its words have.
 fn room(dice: &mut Dice, room: &mut Room) {
+    if dice.one_in(8) {
+        let which = dice.below(room.nodes.len());
+        room.nodes[which].percent = dice.pick(&[0, 1, 79, 81, 90, 99, 101, MOST]);
+        return;
+    }
+    if dice.one_in(16) {
+        room.version = dice.pick(&[0, 1, 2, 3]);
+        return;
+    }
     if dice.one_in(2) {
         return lower_ratings(dice, room);
     }
@@ -47,7 +57,8 @@ fn lower_ratings(dice: &mut Dice, room: &mut Room) {
     for _ in 0..1 + dice.below(3) {
         let which = dice.below(lows.len());
         if lows[which] > 0 {
-            room.nodes[which].rating = rating(dice, lows[which] - 1);
+            let node = &mut room.nodes[which];
+            node.rating = rating(dice, lows[which] - 1, node.percent);
         }
     }
 }

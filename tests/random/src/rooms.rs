@@ -9,6 +9,8 @@ pub const MOST: u32 = 16_777_215;
 pub struct Node {
     pub parent: u32,
     pub rating: u32,
+    /// Written in version 2 alone; in version 1 it is 80.
+    pub percent: u32,
 }
 
 #[derive(Clone)]
@@ -27,15 +29,17 @@ pub struct Server {
 
 #[derive(Clone)]
 pub struct Room {
+    pub version: u32,
     pub nodes: Vec<Node>,
     pub servers: Vec<Server>,
 }
 
 impl Room {
     pub fn words(&self) -> Vec<u32> {
-        let mut words = vec![1, self.nodes.len() as u32];
+        let mut words = vec![self.version, self.nodes.len() as u32];
         for node in &self.nodes {
             words.extend([node.parent, node.rating]);
+            words.extend((self.version > 1).then_some(node.percent));
         }
         words.push(self.servers.len() as u32);
         for server in &self.servers {
@@ -50,15 +54,16 @@ impl Room {
     pub fn parse(words: &[u32]) -> Option<Room> {
         let mut left = words.iter().copied();
         let mut room = Room {
+            version: left.next().filter(|version| matches!(version, 1 | 2))?,
             nodes: Vec::new(),
             servers: Vec::new(),
         };
-        let (1, nodes) = (left.next()?, left.next()?) else {
-            return None;
-        };
-        for _ in 0..nodes {
-            let (parent, rating) = (left.next()?, left.next()?);
-            room.nodes.push(Node { parent, rating });
+        for _ in 0..left.next()? {
+            room.nodes.push(Node {
+                parent: left.next()?,
+                rating: left.next()?,
+                percent: if room.version > 1 { left.next()? } else { 80 },
+            });
         }
         for _ in 0..left.next()? {
             let (rank, least, greatest) = (left.next()?, left.next()?, left.next()?);
@@ -133,17 +138,19 @@ pub fn watts(dice: &mut Dice) -> u32 {
 }
 
 /// A rating whose limit is `limit`, if there is one.
-pub fn rating(dice: &mut Dice, limit: u64) -> u32 {
-    let twin = u64::from(limit.is_multiple_of(4) && dice.one_in(2));
-    ((5 * limit).div_ceil(4) + twin).min(u64::from(MOST)) as u32
+pub fn rating(dice: &mut Dice, limit: u64, percent: u32) -> u32 {
+    let twin = u64::from(percent == 80 && limit.is_multiple_of(4) && dice.one_in(2));
+    ((100 * limit).div_ceil(u64::from(percent)) + twin).min(u64::from(MOST)) as u32
 }
 
 /// A room that is good, but for sizes beyond the limits (now and then) and lows that no rating
 /// can carry (rare).
 pub fn room(dice: &mut Dice) -> Room {
     let (nodes, servers, cords) = sizes(dice);
+    let version = dice.within(1, 2);
     let mut room = Room {
-        nodes: tree(dice, nodes),
+        version,
+        nodes: tree(dice, nodes, version),
         servers: Vec::new(),
     };
     add_servers(dice, &mut room, servers, cords);
@@ -165,9 +172,14 @@ fn sizes(dice: &mut Dice) -> (usize, usize, usize) {
     }
 }
 
-/// A forest of one of several shapes, without ratings.
-fn tree(dice: &mut Dice, count: usize) -> Vec<Node> {
+/// A forest of one of several shapes, without ratings. Nodes of version 2 are all at 80, all at 100 or mixed.
+fn tree(dice: &mut Dice, count: usize, version: u32) -> Vec<Node> {
     let shape = dice.below(8);
+    let percents = match (version, dice.below(4)) {
+        (1, _) | (_, 0) => [80, 80],
+        (_, 1) => [100, 100],
+        _ => [80, 100],
+    };
     (0..count)
         .map(|k| {
             let parent = match shape {
@@ -182,6 +194,7 @@ fn tree(dice: &mut Dice, count: usize) -> Vec<Node> {
             Node {
                 parent: parent as u32,
                 rating: 0,
+                percent: dice.pick(&percents),
             }
         })
         .collect()
@@ -246,9 +259,10 @@ fn cord_list(dice: &mut Dice, nodes: usize, count: usize) -> Vec<Cord> {
     cuts.into_iter().map(&mut cord).collect()
 }
 
-/// Halves the leasts until the greatest limit carries the lows of every node.
+/// Halves the leasts until each node's greatest limit carries the lows beneath it.
 fn lower_leasts(room: &mut Room) {
-    while room.lows_beneath().iter().any(|low| *low > 13_421_772) {
+    let over = |(low, node): (u64, &Node)| low > u64::from(MOST) * u64::from(node.percent) / 100;
+    while room.lows_beneath().into_iter().zip(&room.nodes).any(over) {
         for server in &mut room.servers {
             server.least /= 2;
         }
@@ -270,7 +284,7 @@ fn rate(dice: &mut Dice, room: &mut Room) {
             3 => lows[k] + spare * (6 + dice.below(4) as u64) / 8,
             _ => lows[k] + dice.roll() % (spare + 1),
         };
-        room.nodes[k].rating = rating(dice, limit);
+        room.nodes[k].rating = rating(dice, limit, room.nodes[k].percent);
         let passed = limit.min(asked[k]);
         if let Some(sum) = at_node(&mut asked, room.nodes[k].parent) {
             *sum += passed;

@@ -178,8 +178,10 @@ fn with_lower_least(room: &mut Room, _: &mut Vec<u32>, at: usize, run: usize) ->
 fn keep_spare(before: &Room, room: &mut Room) {
     let (old, new) = (before.lows_beneath(), room.lows_beneath());
     for ((node, old), new) in room.nodes.iter_mut().zip(old).zip(new) {
-        let limit = (u64::from(node.rating) * 4 / 5 + new).saturating_sub(old);
-        node.rating = (5 * limit).div_ceil(4).min(u64::from(node.rating)) as u32;
+        let percent = u64::from(node.percent.max(1));
+        let limit = (u64::from(node.rating) * percent / 100 + new).saturating_sub(old);
+        let rating = (100 * limit).div_ceil(percent);
+        node.rating = rating.min(u64::from(node.rating)) as u32;
     }
 }
 

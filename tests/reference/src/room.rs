@@ -1,6 +1,6 @@
 //! The room as trees of breakers, each owning what hangs on it: limits, lows and refusal 9.
 
-use crate::table::{CordEntry, ServerEntry, Table};
+use crate::table::{CordEntry, NodeEntry, ServerEntry, Table};
 use crate::{Refusal, Watts};
 use std::ops::Range;
 
@@ -130,8 +130,8 @@ pub fn carried(share: Watts, load: Watts) -> Watts {
     (share * load + 999) / 1_000
 }
 
-fn limit(rating: u32) -> Watts {
-    Watts::from(rating) * 80 / 100
+fn limit(node: &NodeEntry) -> Watts {
+    Watts::from(node.rating) * Watts::from(node.percent) / 100
 }
 
 /// What hangs on each node (0: on none), noted once so that growing the trees is one walk.
@@ -169,7 +169,7 @@ impl Hangings<'_> {
         let breakers = nodes.map(|&child| Child::Breaker(self.grow(child)));
         Breaker {
             number,
-            limit: limit(self.table.nodes[place - 1].rating),
+            limit: limit(&self.table.nodes[place - 1]),
             children: breakers.chain(cords.map(|&c| Child::Cord(c))).collect(),
         }
     }

@@ -1,4 +1,4 @@
-//! The room table, word by word: refusals 4 to 8.
+//! The room table, word by word: refusals 4 to 8. Version 2 (request A.3) has a percent for each node.
 
 use crate::Refusal;
 
@@ -19,6 +19,8 @@ pub struct Table {
 pub struct NodeEntry {
     pub parent: u32,
     pub rating: u32,
+    /// What the node may carry of its rating.
+    pub percent: u32,
 }
 
 #[derive(Clone, Debug, PartialEq, Eq)]
@@ -38,8 +40,8 @@ pub struct CordEntry {
 impl Table {
     pub fn of_words(words: &[u32]) -> Result<Table, Refusal> {
         let mut reader = Reader { words, index: 0 };
-        reader.next(1, 1)?;
-        let nodes = reader.nodes()?;
+        let version = reader.next(1, 2)?;
+        let nodes = reader.nodes(version)?;
         let servers = reader.servers(nodes.len() as u32)?;
         reader.end()?;
         Ok(Table { nodes, servers })
@@ -64,16 +66,29 @@ impl Reader<'_> {
         Ok(word)
     }
 
-    fn nodes(&mut self) -> Result<Vec<NodeEntry>, Refusal> {
+    fn nodes(&mut self, version: u32) -> Result<Vec<NodeEntry>, Refusal> {
         let count = self.next(1, MOST_NODES)?;
-        (1..=count).map(|number| self.node(number)).collect()
+        (1..=count)
+            .map(|number| self.node(version, number))
+            .collect()
     }
 
-    fn node(&mut self, number: u32) -> Result<NodeEntry, Refusal> {
+    fn node(&mut self, version: u32, number: u32) -> Result<NodeEntry, Refusal> {
         Ok(NodeEntry {
             parent: self.next(0, number - 1)?,
             rating: self.next(0, MOST_WATTS)?,
+            percent: match version {
+                1 => 80,
+                _ => self.percent()?,
+            },
         })
+    }
+
+    fn percent(&mut self) -> Result<u32, Refusal> {
+        match self.next(0, u32::MAX)? {
+            percent @ (80 | 100) => Ok(percent),
+            _ => Err(Refusal::new(5, self.index - 1)),
+        }
     }
 
     fn servers(&mut self, nodes: u32) -> Result<Vec<ServerEntry>, Refusal> {

@@ -1,0 +1,137 @@
+//! Version 2 of the table (request A.3): a percent for each node.
+
+mod common;
+
+use common::{room_h, table, Node, Server};
+use reference::{plan, read, write, Plan, Refusal};
+
+const MOST: u32 = 16_777_215;
+
+/// The words of a version 2 table: one of version 1, with a percent after each rating.
+fn second(table: &[u32], percents: &[u32]) -> Vec<u32> {
+    let (nodes, servers) = table[2..].split_at(2 * percents.len());
+    let with_percent = |(node, percent): (&[u32], &u32)| [node[0], node[1], *percent];
+    let nodes = nodes.chunks(2).zip(percents).flat_map(with_percent);
+    [2, table[1]]
+        .into_iter()
+        .chain(nodes)
+        .chain(servers.iter().copied())
+        .collect()
+}
+
+fn planned(table: &[u32], demands: &[u32]) -> Plan {
+    plan(table, demands, 1_024, 512).expect("an accepted room")
+}
+
+fn refused(words: &[u32]) -> (u64, u64) {
+    let refusal = write(words, 1 << 20).expect_err("a refusal");
+    assert_eq!(plan(words, &[], 0, 0), Err(refusal));
+    assert_eq!(read(&reference::number::bytes(words), 0), Err(refusal));
+    (refusal.number, refusal.place)
+}
+
+fn accepted(words: &[u32]) {
+    let sheet = write(words, 1 << 20).expect("an accepted room");
+    assert_eq!(read(&sheet, words.len()), Ok(words.to_vec()));
+}
+
+/// Room S with these ratings.
+fn room_s(ratings: [u32; 3]) -> Vec<u32> {
+    let server = |rank, cords| (rank, 270, 500, cords);
+    let (left, right): (&[_], &[_]) = (&[(2, 1000)], &[(3, 1000)]);
+    table(
+        &[(0, ratings[0]), (1, ratings[1]), (1, ratings[2])],
+        &[
+            server(2, left),
+            server(1, left),
+            server(1, right),
+            server(1, right),
+        ],
+    )
+}
+
+/// Room S's limits, by other ratings: 1,240 W or 1,300 W at 100 percent are 1,550 W or 1,625 W at 80.
+#[test]
+fn a_limit_goes_by_the_percent() {
+    let grants = |ratings, percents| planned(&second(&room_s(ratings), percents), &[430; 4]).grants;
+    assert_eq!(grants([1_550, 938, 938], &[80; 3]), [430, 270, 270, 270]);
+    assert_eq!(grants([1_240, 750, 750], &[100; 3]), [430, 270, 270, 270]);
+    assert_eq!(
+        grants([1_300, 938, 750], &[100, 80, 100]),
+        [430, 281, 294, 295]
+    );
+    // Of 1,550 W rank 1 has 1,120: 310 over its lows. By excesses of 160 and 320 the left gets 103, the right 207.
+    assert_eq!(grants([1_550, 938, 938], &[100; 3]), [430, 373, 373, 374]);
+}
+
+#[test]
+fn the_greatest_limit_is_the_greatest_rating() {
+    let all: Server = (1, MOST, MOST, &[(1, 1000)]);
+    let full = table(&[(0, MOST)], &[all]);
+    assert_eq!(refused(&full), (9, 1));
+    assert_eq!(refused(&second(&full, &[80])), (9, 1));
+    accepted(&second(&full, &[100]));
+    assert_eq!(planned(&second(&full, &[100]), &[MOST]).grants, [MOST]);
+}
+
+#[test]
+fn eighty_throughout_is_version_1() {
+    for rating in [188, 250, 500] {
+        let one = room_h(rating);
+        let two = second(&one, &[80, 80]);
+        assert_eq!(planned(&one, &[400, 300]), planned(&two, &[400, 300]));
+    }
+    assert_eq!(refused(&second(&room_h(187), &[80, 80])), (9, 2));
+    accepted(&second(&room_h(187), &[80, 100]));
+    accepted(&second(&room_h(150), &[80, 100]));
+    assert_eq!(refused(&second(&room_h(149), &[80, 100])), (9, 2));
+}
+
+#[test]
+fn any_other_percent_is_5_at_its_index() {
+    for percent in [0, 1, 79, 81, 90, 99, 101, MOST] {
+        assert_eq!(refused(&second(&room_h(500), &[percent, 80])), (5, 4));
+        assert_eq!(refused(&second(&room_h(500), &[100, percent])), (5, 7));
+    }
+    let large = [2, 1, 0, 0, u32::MAX, 0];
+    assert_eq!(
+        write(&large, 9),
+        Err(Refusal {
+            number: 5,
+            place: 4
+        })
+    );
+}
+
+/// A percent is looked at after its rating and before the next node.
+#[test]
+fn words_are_judged_one_by_one() {
+    let words = second(&room_h(500), &[80, 100]);
+    for length in 0..words.len() {
+        assert_eq!(refused(&words[..length]), (4, length as u64));
+    }
+    assert_eq!(refused(&[words.clone(), vec![0]].concat()), (8, 23));
+    assert_eq!(refused(&[2, 2, 0, MOST + 1, 90, 2]), (5, 3));
+    assert_eq!(refused(&[2, 2, 0, 500, 90, 2]), (5, 4));
+    assert_eq!(refused(&[2, 2, 0, 500, 80, 2]), (5, 5));
+}
+
+#[test]
+fn a_version_is_1_or_2() {
+    for version in [0, 3, 4, 128, MOST] {
+        assert_eq!(refused(&[version]), (5, 0));
+    }
+    assert_eq!(refused(&[2]), (4, 1));
+}
+
+/// The longest table: 512 nodes of three words, 512 servers and 1,024 cords.
+#[test]
+fn the_greatest_room_has_5635_words() {
+    let nodes: Vec<Node> = (0..512).map(|parent| (parent, MOST)).collect();
+    let two: &[(u32, u32)] = &[(511, 500), (512, 500)];
+    let one = table(&nodes, &vec![(1, 0, MOST, two); 512]);
+    let words = second(&one, &[100; 512]);
+    assert_eq!(words.len(), 5_635);
+    accepted(&words);
+    assert_eq!(refused(&[words, vec![1]].concat()), (8, 5_635));
+}

@@ -41,7 +41,7 @@ add-upto c = search needs
 quotient-requires : tie.Need-quotient-requires
 quotient-requires c κs =
     let pre = c .before .before .before .before .pre in
-    (pre .room, omega (arith, pre .room, c .before .if1 .left), pre .fits)
+    (omega (arith, pre .room), omega (arith, pre .room, c .before .if1 .left), pre .fits)
 
 mul-given : tie.Need-mul-given
 mul-given c = search needs

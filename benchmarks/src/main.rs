@@ -22,13 +22,14 @@ const ROUNDS: usize = 150;
 
 const SHAPES: [Shape; 4] = [Shape::Chain, Shape::Star, Shape::Binary, Shape::Feeds];
 
-const FULL: Kind = Kind { shape: Shape::Binary, nodes: 512, cords: 1024, ranks: 16 };
+const FULL: Kind = Kind { shape: Shape::Binary, nodes: 512, cords: 1024, ranks: 16, watts: 1 };
 
 fn main() {
     println!("Microseconds a call: the least of {ROUNDS} rounds, product and baseline in turn, {ROOMS} rooms a round.");
     println!();
     full_rooms();
     growth();
+    large_watts();
     steps::times();
     stack_depths();
     send::periods();
@@ -91,6 +92,17 @@ fn growth() {
         }
         for ranks in [1, 2, 4, 8, 16] {
             grown(&format!("{shape:?}, ranks: {ranks}"), Kind { shape, ranks, ..FULL });
+        }
+    }
+    println!();
+}
+
+/// Plan where the weights of a node's children mostly sum to 65,536 or more, so that the split goes its long way.
+fn large_watts() {
+    println!("Plan, full size, large watts             product  baseline     ratio");
+    for shape in SHAPES {
+        for ranks in [1, 16] {
+            grown(&format!("{shape:?}, ranks: {ranks}"), Kind { shape, ranks, watts: 1000, ..FULL });
         }
     }
     println!();

@@ -2,13 +2,15 @@
 
 use crate::calls::{Inputs, Outputs, CALLS};
 
-/// A room's kind: how its nodes hang, how many there are of everything, and how many ranks its servers have.
+/// A room's kind: how its nodes hang, how many there are of everything, how many ranks its servers have, and how far their
+/// watts spread, as a multiple. With 1 a rank's weights mostly sum to less than 65,536 on a node; with 1,000 to more.
 #[derive(Clone, Copy)]
 pub struct Kind {
     pub shape: Shape,
     pub nodes: usize,
     pub cords: usize,
     pub ranks: u32,
+    pub watts: u32,
 }
 
 #[derive(Clone, Copy, Debug)]
@@ -109,13 +111,14 @@ fn server(kind: Kind, cords: u32, chance: &mut Chance) -> Server {
     Server {
         rank: 1 + chance.below(kind.ranks),
         least,
-        greatest: least + chance.below(600),
-        demand: chance.below(1200),
+        greatest: least + kind.watts * chance.below(600),
+        demand: kind.watts * chance.below(1200),
         cords: shares.into_iter().map(|share| (1 + chance.below(nodes), share)).collect(),
     }
 }
 
-/// Limits between what the lows beneath a node need and a little more than what the wants there ask.
+/// Limits between what the lows beneath a node need and a little more than what the wants there ask, cut to what 80 percent
+/// of the greatest rating are.
 fn limits(kind: Kind, servers: &[Server], chance: &mut Chance) -> Vec<u32> {
     let mut lows = vec![0; kind.nodes + 1];
     let mut wants = vec![0; kind.nodes + 1];
@@ -132,5 +135,5 @@ fn limits(kind: Kind, servers: &[Server], chance: &mut Chance) -> Vec<u32> {
         wants[parent] += wants[node];
     }
     let mut limit = |n: usize| lows[n] + (wants[n] - lows[n]) / 100 * (40 + chance.below(70));
-    (1..=kind.nodes).map(&mut limit).collect()
+    (1..=kind.nodes).map(|n| limit(n).min(13_421_772)).collect()
 }

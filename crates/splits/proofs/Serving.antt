@@ -14,7 +14,7 @@ use Rattle.figures.proofs.Sums.{on-yes, on-no}
 use Rattle.figures.specs.Figures.{at}
 use Rattle.splits.specs.Split.{part}
 use Rattle.splits.specs.Serving.{MayServe, HasServed}
-use Rattle.splits.proofs.Splits.{part-whole}
+use Rattle.splits.proofs.Splits.{div-mono, quotient-whole}
 
 -- ---- One child
 
@@ -23,15 +23,19 @@ dealt-none : (x e b : ℕ) → b ≡ 0 → x * b / e ≡ 0
 dealt-none x e b z = ap (λ (y : ℕ). x * y / e) z ∙ ap (λ (y : ℕ). y / e) (mul-zero x) ∙ zero-div e
 
 -- A child with all the weight gets all.
-pub serve-all : (x e w p : ℕ) (before dealt : List ℕ) → at before p + w ≤ e → x ≤ e → w ≡ e → HasServed x e w p before dealt x (set before p w) (set dealt p x)
+pub serve-all : (x e w p : ℕ) (before dealt : List ℕ) → at before p + w ≤ e → (e ≡ 0 → x ≡ 0) → w ≡ e → HasServed x e w p before dealt x (set before p w) (set dealt p x)
 unfolding part
 serve-all x e w p before dealt room h z =
-    let all : x * (at before p + w) / e ≡ x = ap (λ (y : ℕ). x * y / e) (let s : at before p + w ≡ e = omega arith in s) ∙ part-whole x e h in
+    let all : x * (at before p + w) / e ≡ x = ap (λ (y : ℕ). x * y / e) (let s : at before p + w ≡ e = omega arith in s) ∙ quotient-whole x e h in
     record {
       watts-are = sym (ap₂ _-_ all (dealt-none x e (at before p) (omega arith)) ∙ sub-zero x);
       before-is = ap (set before p) (omega arith);
       dealt-is = ap (set dealt p) (sym all);
     }
+
+-- The watts dealt never fall: the next child's part is the difference of two quotients, of which the later is no less.
+pub dealt-rises : (x e w b : ℕ) {dealt watts : ℕ} → dealt ≡ x * b / e → watts ≡ x * (b + w) / e → dealt ≤ watts
+dealt-rises x e w b dealt-is watts-are = omega (arith, dealt-is, watts-are, div-mono (x * b) (x * (b + w)) e (omega arith))
 
 -- A child of any weight: the watts dealt grow by its part.
 pub serve-some : (x e w p : ℕ) (before dealt : List ℕ) {watts given : ℕ} → at dealt p ≡ x * at before p / e → watts ≡ x * (at before p + w) / e → given ≡ watts - at dealt p
@@ -110,7 +114,7 @@ module _ {count : ℕ} {some : ℕ → Type 0} {whole : ℕ → ℕ} {amounts : 
           before-has = omega (arith, is .before-size);
           dealt-has = omega (arith, is .dealt-size);
           room = omega (arith, is .before-is p is-some);
-          enough = enough;
+          weightless = λ z. omega arith;
           fits = fits;
           dealt-is = is .dealt-is p is-some;
         }

@@ -67,13 +67,17 @@ pub part-none : (x e c : ℕ) → part x e c 0 ≡ 0
 unfolding part
 part-none x e c = omega (arith, ap (λ (y : ℕ). x * y / e) (add-zero c))
 
--- An amount of at most the whole weight is given whole.
-pub part-whole : (x e : ℕ) → x ≤ e → x * e / e ≡ x
-part-whole x e h = go (eq-zero-or-pos e)
+-- The quotient by the whole weight is all of the amount, where none is without weight.
+pub quotient-whole : (x e : ℕ) → (e ≡ 0 → x ≡ 0) → x * e / e ≡ x
+quotient-whole x e h = go (eq-zero-or-pos e)
   where
     go : (e ≡ 0) ⊎ (0 < e) → x * e / e ≡ x
-    go (inl z) = let y : x ≡ 0 = omega arith in rw (z, div-zero, y)
+    go (inl z) = let y : x ≡ 0 = h z in rw (z, div-zero, y)
     go (inr q) = mul-div-cancel x q
+
+-- An amount of at most the whole weight is given whole.
+pub part-whole : (x e : ℕ) → x ≤ e → x * e / e ≡ x
+part-whole x e h = quotient-whole x e (λ z. omega arith)
 
 -- A quotient of an amount by a sum of the weights is no more than the amount.
 pub quotient-most : (x u e : ℕ) → u ≤ e → 0 < e → x * u / e ≤ x

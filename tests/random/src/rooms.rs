@@ -153,6 +153,10 @@ pub fn room(dice: &mut Dice) -> Room {
         nodes: tree(dice, nodes, version),
         servers: Vec::new(),
     };
+    if dice.one_in(12) {
+        at_border(dice, &mut room);
+        return room;
+    }
     add_servers(dice, &mut room, servers, cords);
     if !dice.one_in(50) {
         lower_leasts(&mut room);
@@ -292,6 +296,28 @@ fn rate(dice: &mut Dice, room: &mut Room) {
     }
 }
 
+/// Servers of one rank and one cord each, which ask for about 65,536 watts together, and limits of
+/// about as much: amounts and total weights on both sides of where products fit in 32 bits.
+fn at_border(dice: &mut Dice, room: &mut Room) {
+    let near = |dice: &mut Dice| dice.within(65_533, 65_538);
+    for k in 0..room.nodes.len() {
+        let limit = near(dice);
+        room.nodes[k].rating = rating(dice, u64::from(limit), room.nodes[k].percent);
+    }
+    let (rank, asked) = (dice.within(1, 16), near(dice));
+    let mut cuts: Vec<u32> = (0..dice.below(6)).map(|_| dice.within(0, asked)).collect();
+    cuts.extend([0, asked]);
+    cuts.sort_unstable();
+    for cut in cuts.windows(2) {
+        room.servers.push(Server {
+            rank,
+            least: 0,
+            greatest: cut[1] - cut[0],
+            cords: cord_list(dice, room.nodes.len(), 1),
+        });
+    }
+}
+
 /// A good demand for each server.
 pub fn demands(dice: &mut Dice, room: &Room) -> Vec<u32> {
     let style = dice.below(6);
@@ -306,4 +332,39 @@ pub fn demands(dice: &mut Dice, room: &Room) -> Vec<u32> {
         }
     };
     room.servers.iter().map(&mut demand).collect()
+}
+
+#[cfg(test)]
+mod tests {
+    use super::{demands, room, Dice};
+    use reference::plan::deals;
+    use reference::Watts;
+    use std::collections::BTreeSet;
+
+    /// In a room of one node and no lows, with one rank, the wants are the weights and the grants
+    /// the amount.
+    #[test]
+    fn splits_meet_the_border_of_short_products() {
+        let mut dice = Dice(1);
+        let mut met = BTreeSet::new();
+        for _ in 0..100_000 {
+            let drawn = room(&mut dice);
+            let demands = demands(&mut dice, &drawn);
+            let plain =
+                |server: &super::Server| server.least == 0 && server.rank == drawn.servers[0].rank;
+            if drawn.nodes.len() != 1 || !drawn.servers.iter().all(plain) {
+                continue;
+            }
+            if let Ok(room) = reference::room::Room::of_words(&drawn.words()) {
+                let deals = deals(&room, &demands);
+                let sum = |figures: &[Watts]| figures.iter().sum::<Watts>();
+                met.insert((sum(&deals.first_grants), sum(&deals.first_wants)));
+            }
+        }
+        for amount in 65_534..=65_537 {
+            for whole in amount..=65_537 {
+                assert!(met.contains(&(amount, whole)), "{amount} of {whole}");
+            }
+        }
+    }
 }

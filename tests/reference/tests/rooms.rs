@@ -115,6 +115,27 @@ fn sixty_watts_over_50_and_210_stay_sixty() {
     assert_eq!(grants(&room, &[50, 210]), [11, 49]);
 }
 
+/// Around 65,536, where products stop to fit in 32 bits: a watt short of the weights, the first
+/// child's one watt rounds down to nothing, and the running part in the middle is a half or so
+/// below its weights.
+#[test]
+fn splits_around_65_536_watts() {
+    assert_eq!(split(65_534, &[1, 32_767, 32_767]), [0, 32_767, 32_767]);
+    assert_eq!(split(65_535, &[1, 32_767, 32_767]), [1, 32_767, 32_767]);
+    assert_eq!(split(65_535, &[1, 32_767, 32_768]), [0, 32_767, 32_768]);
+    assert_eq!(split(65_536, &[1, 32_767, 32_769]), [0, 32_767, 32_769]);
+    assert_eq!(split(65_535, &[1, 1]), [32_767, 32_768]);
+    let room = table(
+        &[(0, 81_919)],
+        &[
+            (1, 0, 1, &[(1, 1000)]),
+            (1, 0, 32_767, &[(1, 1000)]),
+            (1, 0, 32_768, &[(1, 1000)]),
+        ],
+    );
+    assert_eq!(grants(&room, &[65_536; 3]), [0, 32_767, 32_768]);
+}
+
 #[test]
 fn nothing_is_dealt_where_nothing_is_wanted() {
     assert_eq!(split(0, &[0, 0]), [0, 0]);

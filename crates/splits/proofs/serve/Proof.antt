@@ -1,9 +1,8 @@
 -- `serve` meets its contract: the watts dealt on the node grow from one quotient of the split to the next, and all the weight takes all.
-use mathlib.Core.Path.{sym, ap₂, _∙_}
-use Prim.Native.Nat.{_-_}
+use mathlib.Core.Path.{refl}
 use native.Mathlib.Omega.{arith}
 use borrow.Author.Needs.{needs}
-use Rattle.splits.proofs.Serving.{serve-all, serve-some}
+use Rattle.splits.proofs.Serving.{serve-all, serve-some, dealt-rises}
 use Rattle.splits.proofs.serve.Statement.{statement}
 use Rattle.splits.proofs.serve.Tie as tie
 
@@ -28,7 +27,7 @@ same-length-2 c = search needs
 returns : tie.Need-returns
 returns c =
     let start = c .before .before .before in
-    serve-all _ _ _ (start .args .p) (start .args .before .now) (start .args .dealt .now) (start .pre .room) (start .pre .enough) (c .if1 .taken)
+    serve-all _ _ _ (start .args .p) (start .args .before .now) (start .args .dealt .now) (start .pre .room) (start .pre .weightless) (c .if1 .taken)
 
 mul-upto : tie.Need-mul-upto
 mul-upto c = search needs
@@ -42,19 +41,18 @@ add-upto c = search needs
 quotient-requires : tie.Need-quotient-requires
 quotient-requires c κs =
     let pre = c .before .before .before .before .pre in
-    (pre .room, omega (arith, pre .room, c .before .if1 .left), pre .fits)
+    (omega (arith, pre .room), omega (arith, pre .room, c .before .if1 .left), pre .fits)
 
-mul-wide : tie.Need-mul-wide
-mul-wide c = search needs
+mul-given : tie.Need-mul-given
+mul-given c = search needs
 
-slice-read-wide : tie.Need-slice-read-wide
-slice-read-wide c = search needs
+slice-read-given : tie.Need-slice-read-given
+slice-read-given c = search needs
 
-wide-requires : tie.Need-wide-requires
-wide-requires c κs = search needs
-
-over-requires : tie.Need-over-requires
-over-requires c κs = search needs
+sub-given : tie.Need-sub-given
+sub-given c =
+    let start = c .before .before .before .before .before .before in
+    dealt-rises (start .args .amount) (start .args .whole) (start .args .weight) _ (start .pre .dealt-is) (c .before .quotient .ensures)
 
 mul-before-2 : tie.Need-mul-before-2
 mul-before-2 c = search needs
@@ -62,17 +60,11 @@ mul-before-2 c = search needs
 slice-write-before-2 : tie.Need-slice-write-before-2
 slice-write-before-2 c = search needs
 
-narrow-requires : tie.Need-narrow-requires
-narrow-requires c κs = omega (arith, c .before .before .before .quotient .ensures)
-
 mul-dealt-2 : tie.Need-mul-dealt-2
 mul-dealt-2 c = search needs
 
 slice-write-dealt-2 : tie.Need-slice-write-dealt-2
 slice-write-dealt-2 c = search needs
-
-narrow-requires-2 : tie.Need-narrow-requires-2
-narrow-requires-2 c κs = omega (arith, c .before .before .before .before .quotient .ensures, c .before .over .ensures)
 
 same-length-3 : tie.Need-same-length-3
 same-length-3 c = search needs
@@ -82,10 +74,8 @@ same-length-4 c = search needs
 
 returns-2 : tie.Need-returns-2
 returns-2 c =
-    let start = c .before .before .before .before .before .before .before .before .before .before in
-    serve-some _ _ (start .args .weight) (start .args .p) (start .args .before .now) (start .args .dealt .now) (start .pre .dealt-is)
-    (c .before .narrow .ensures ∙ c .before .before .before .before .before .quotient .ensures .0)
-    (c .narrow2 .ensures ∙ c .before .before .over .ensures ∙ ap₂ _-_ (sym (c .before .narrow .ensures)) (c .before .before .before .wide .ensures .0))
+    let start = c .before .before .before .before .before .before in
+    serve-some _ _ (start .args .weight) (start .args .p) (start .args .before .now) (start .args .dealt .now) (start .pre .dealt-is) (c .before .quotient .ensures) refl
 
 pub serve-spec : {M : Type 1} → statement M
 serve-spec =
@@ -102,16 +92,13 @@ serve-spec =
     slice-read-upto
     add-upto
     quotient-requires
-    mul-wide
-    slice-read-wide
-    wide-requires
-    over-requires
+    mul-given
+    slice-read-given
+    sub-given
     mul-before-2
     slice-write-before-2
-    narrow-requires
     mul-dealt-2
     slice-write-dealt-2
-    narrow-requires-2
     same-length-3
     same-length-4
     returns-2)

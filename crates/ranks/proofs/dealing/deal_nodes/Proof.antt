@@ -11,11 +11,11 @@ use Rattle.ranks.proofs.dealing.deal_nodes.Statement.{statement}
 use Rattle.ranks.proofs.dealing.deal_nodes.Tie as tie
 
 abbrev Inv-loop : tie.InvT-loop
-Inv-loop parents active count level requests pcapmins wholes amounts₀ before₀ dealt₀ i₀ amounts before dealt i =
-    DealTurn parents active count level requests pcapmins wholes i amounts before dealt
+Inv-loop parents active count level requests bases wholes amounts₀ before₀ dealt₀ i₀ amounts before dealt i =
+    DealTurn parents active count level requests bases wholes i amounts before dealt
 
 abbrev μ-loop : tie.MeasureT-loop
-μ-loop parents active count level requests pcapmins wholes amounts₀ before₀ dealt₀ i₀ amounts before dealt i = count - i
+μ-loop parents active count level requests bases wholes amounts₀ before₀ dealt₀ i₀ amounts before dealt i = count - i
 
 loop-holds : tie.Need-loop-holds Inv-loop μ-loop
 loop-holds c =
@@ -27,7 +27,7 @@ loop-holds c =
       few = pre .0 .0;
       ranked = pre .0 .1;
       rises = pre .0 .2;
-      pcapmins-size = sizes .0;
+      starts-size = sizes .0;
       wholes-size = sizes .1;
       bounds = pre .1 .1 .0;
       nodes = pre .1 .1 .1 .0;
@@ -77,7 +77,7 @@ mul-weight : tie.Need-mul-weight Inv-loop μ-loop
 mul-weight c = search needs
 
 shared-slice-read-weight : tie.Need-shared-slice-read-weight Inv-loop μ-loop
-shared-slice-read-weight c = omega (arith, deal-within (c .before .before .before .before .before .before .loop .inv) (c .before .before .before .before .before .loop-test .taken) (c .before .before .before .index .ensures .0), c .before .before .before .before .before .before .loop .inv .turn .ready .pcapmins-size)
+shared-slice-read-weight c = omega (arith, deal-within (c .before .before .before .before .before .before .loop .inv) (c .before .before .before .before .before .loop-test .taken) (c .before .before .before .index .ensures .0), c .before .before .before .before .before .before .loop .inv .turn .ready .starts-size)
 
 sub-weight : tie.Need-sub-weight Inv-loop μ-loop
 sub-weight c =

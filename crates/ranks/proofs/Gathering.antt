@@ -4,7 +4,7 @@ use mathlib.Core.Path.{_≡_, refl, sym, ap, ap₂, _∙_}
 use mathlib.Core.Bool.{Bool, true, false}
 use mathlib.Core.List.{List, []}
 use mathlib.Core.Logic.{_⊎_, inl, inr}
-use Prim.Native.Nat.{ℕ, zero, suc, _+_, _-_, _*_, _^_, _≤_, _<_, min}
+use Prim.Native.Nat.{ℕ, zero, suc, _+_, _-_, _^_, _≤_, _<_, min}
 use native.Mathlib.Nat.{eq-or-lt-of-le, le-refl}
 use native.Mathlib.Omega.{arith}
 use lib.Dec.{eqb}
@@ -12,7 +12,7 @@ use lib.ListN.{length, getD, set, length-set}
 use lib.Seq.{set-getD, getD-set-same, getD-set-other}
 use borrow.Author.Tests.{ne-eqb, eqb-true, eqb-false}
 use Rattle.figures.specs.Sums.{on, sum}
-use Rattle.rooms.specs.Table.{mostNodes, mostCords, mostWatts, highestRank}
+use Rattle.rooms.specs.Table.{mostNodes, mostWatts, highestRank}
 use Rattle.rooms.specs.Credits.{credited}
 use Rattle.figures.proofs.Sums.{on-no, sum-suc, up-cong}
 use Rattle.rooms.proofs.Trees.{kids, kids-cong, down}
@@ -75,10 +75,10 @@ pub record Given (parents : List ℕ) (level : ℕ) (left : List ℕ) (pcapmin b
   pub bounds : (m : ℕ) → m < length parents → (at left m + pcapmin m ≤ mostWatts) × (base m ≤ at left m + pcapmin m)
 
 -- What a node has to give over the starts beneath it. Its weight is the lesser of this and of its children's weights.
-abbrev pub restOf : List ℕ → (ℕ → ℕ) → (ℕ → ℕ) → ℕ → ℕ
+abbrev restOf : List ℕ → (ℕ → ℕ) → (ℕ → ℕ) → ℕ → ℕ
 restOf left pcapmin base m = at left m + pcapmin m - base m
 
-abbrev pub overBase : List (List ℕ) → ℕ → (ℕ → ℕ) → ℕ → ℕ
+abbrev overBase : List (List ℕ) → ℕ → (ℕ → ℕ) → ℕ → ℕ
 overBase rows level base m = cell rows m level - base m
 
 -- What the turn of the node at place m leaves.
@@ -100,7 +100,7 @@ pub record Requesting (parents : List ℕ) (level : ℕ) (left₀ : List ℕ) (p
   pub wholes-size : length wholes ≡ length weights
   pub full : FullRows rows
 
-pub requesting-start : {parents : List ℕ} {level : ℕ} {left : List ℕ} {pcapmin base : ℕ → ℕ} {weights : List ℕ} (rows : List (List ℕ)) → Given parents level left pcapmin base weights → FullRows rows
+requesting-start : {parents : List ℕ} {level : ℕ} {left : List ℕ} {pcapmin base : ℕ → ℕ} {weights : List ℕ} (rows : List (List ℕ)) → Given parents level left pcapmin base weights → FullRows rows
     → Requesting parents level left pcapmin base weights rows (length parents) left weights rows
 requesting-start {parents} {level} {left} {pcapmin} {base} {weights} rows given full =
     record {
@@ -208,7 +208,7 @@ module _ {parents : List ℕ} {level : ℕ} {left₀ : List ℕ} {pcapmin base :
       let rows-same : stored rows k level (base k + 0) ≡ rows = ap (set rows k) row-same ∙ set-getD rows k [] in
       rw (left-same, rows-same, credited-nothing (at parents k) wholes) at (turned k left wholes rows 0 (omega arith) inv)
 
-  pub next-node : {k : ℕ} {left wholes : List ℕ} {rows : List (List ℕ)} → Requesting parents level left₀ pcapmin base weights rows₀ (suc k) left wholes rows
+  next-node : {k : ℕ} {left wholes : List ℕ} {rows : List (List ℕ)} → Requesting parents level left₀ pcapmin base weights rows₀ (suc k) left wholes rows
       → NextNode parents level left₀ pcapmin base weights rows₀ k left wholes rows
   next-node {k} {left = left} {wholes = wholes} {rows = rows} inv =
       let given = inv .given in
@@ -237,7 +237,7 @@ module _ {parents : List ℕ} {level : ℕ} {left₀ : List ℕ} {pcapmin base :
         turn = λ er ev ew eu ep es. rw (eu, ew, es, ep, er) (turned k left wholes rows _ (ev ∙ ap (λ (x : ℕ). min x (at wholes k)) er) inv);
       }
 
-pub requesting-end : {parents : List ℕ} {level : ℕ} {left₀ lows starts weights : List ℕ} {rows₀ : List (List ℕ)} {n : ℕ} {left wholes : List ℕ} {rows : List (List ℕ)}
+requesting-end : {parents : List ℕ} {level : ℕ} {left₀ lows starts weights : List ℕ} {rows₀ : List (List ℕ)} {n : ℕ} {left wholes : List ℕ} {rows : List (List ℕ)}
     → Requesting parents level left₀ (beneathAll parents lows) (beneathAll parents starts) weights rows₀ n left wholes rows → n ≤ 0 → (pcapmins bases : List ℕ)
     → ((m : ℕ) → m < length parents → at pcapmins m ≡ beneathAll parents lows m)
     → ((m : ℕ) → m < length parents → at bases m ≡ beneathAll parents starts m)

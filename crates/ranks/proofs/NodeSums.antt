@@ -1,27 +1,24 @@
 -- Laws of figures summed on nodes: of the pass from the last node to the first that sums over all nodes beneath each, and of what the
 -- limits have over such sums.
-use mathlib.Core.Path.{_≡_, refl, sym, ap, ap₂, _∙_}
+use mathlib.Core.Path.{_≡_, refl, sym, ap, _∙_}
 use mathlib.Core.Bool.{Bool, true, false}
 use mathlib.Core.List.{List}
 use Prim.Native.Nat.{ℕ, zero, suc, _+_, _-_, _*_, _^_, _≤_, _<_}
 use native.Mathlib.Nat.{add-zero, mul-le-mul, lt-of-le-of-lt}
-use native.Mathlib.Numerals.{add-one}
 use native.Mathlib.Omega.{arith}
 use lib.Dec.{eqb, lit<}
-use lib.ListN.{length, set, replicate, length-set}
+use lib.ListN.{length, set, length-set}
 use lib.Seq.{set-getD, getD-set-same, getD-set-other}
 use borrow.Author.Count.{below-more}
 use borrow.Author.Tests.{eqb-true}
 use Rattle.figures.specs.Sums.{on, sum}
 use Rattle.rooms.specs.Table.{mostCords, mostWatts}
 use Rattle.rooms.specs.Credits.{sumBeneath, credited}
-use Rattle.figures.proofs.Sums.{sum-suc, sum-none, sum-cong, sum-zero, sum-le, sum-up}
-use Rattle.rooms.proofs.Trees.{kids, own}
-use Rattle.figures.proofs.Filled.{zeros-at}
+use Rattle.figures.proofs.Sums.{sum-suc, sum-cong, sum-zero, sum-up}
+use Rattle.rooms.proofs.Trees.{kids}
 use Rattle.rooms.proofs.Credits.{credited-at, credited-length, sumBeneath-step, sumBeneath-most}
 use Rattle.rooms.proofs.Gather.{Holds, holds-start, holds-turn, holds-most, holds-end, holds-whole}
 use Rattle.figures.specs.Figures.{at}
-use Rattle.figures.proofs.Lists.{sum-most}
 
 pub on-zero : (t : Bool) (a : ℕ) → a ≡ 0 → on t a ≡ 0
 on-zero true a e = e

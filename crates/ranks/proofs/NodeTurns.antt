@@ -11,7 +11,7 @@ use lib.Seq.{getD-set-same, getD-set-other}
 use borrow.Author.Count.{below-more}
 use borrow.Author.Tests.{eq-eqb, ne-eqb}
 use Rattle.figures.specs.Sums.{on}
-use Rattle.rooms.specs.Table.{mostNodes, mostWatts, mostCords, highestRank}
+use Rattle.rooms.specs.Table.{mostWatts, mostCords}
 use Rattle.figures.proofs.Sums.{on-yes, on-no, sum-suc, sum-cong, sum-zero}
 use Rattle.figures.specs.Figures.{at, cell}
 use Rattle.splits.specs.Split.{part}
@@ -26,11 +26,7 @@ use Rattle.splits.proofs.Serving.{Served, served-same, served-more, served-amou
 
 -- What the pass takes of the nodes.
 pub record NodesReady (parents active : List ℕ) (count level : ℕ) (rows : List (List ℕ)) (starts wholes : List ℕ) : Type 0 where
-  pub few : length parents ≤ mostNodes
-  pub ranked : level < highestRank
   pub rises : (m : ℕ) → m < length parents → at parents m ≤ m
-  pub starts-size : length starts ≡ length parents
-  pub wholes-size : length wholes ≡ length parents
   pub bounds : (n : ℕ) → n < length parents
       → (at starts n ≤ cell rows n level)
       × (cell rows n level ≤ mostWatts)
@@ -81,7 +77,7 @@ module _ {parents active : List ℕ} {count level : ℕ} {rows : List (List ℕ)
     };
   }
 
-  pub nodes-end : {m : ℕ} {amounts before dealt : List ℕ} → NodeTurn parents active count level rows starts wholes m amounts before dealt → length parents ≤ m
+  nodes-end : {m : ℕ} {amounts before dealt : List ℕ} → NodeTurn parents active count level rows starts wholes m amounts before dealt → length parents ≤ m
       → NodesDealt parents active count level rows starts wholes amounts before dealt
   nodes-end {m} turn end =
       let e : m ≡ length parents = omega (arith, turn .reached) in

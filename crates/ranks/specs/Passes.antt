@@ -7,7 +7,7 @@ use lib.ListN.{length}
 use Rattle.figures.specs.Sums.{on, sum}
 use Rattle.rooms.specs.Table.{mostNodes, mostCords, mostWatts, highestRank}
 use Rattle.rooms.specs.Credits.{sumBeneath}
-use Rattle.figures.specs.Figures.{figures, at, cell}
+use Rattle.figures.specs.Figures.{at, cell}
 use Rattle.splits.specs.Split.{part}
 use Rattle.levels.specs.Levels.{Absent, Present, Full}
 

@@ -1,5 +1,5 @@
 -- `deal_cords` meets its contract: before each turn the cords of the entries passed have their grants and are served on their nodes.
-use mathlib.Core.Path.{_≡_, refl, sym, _∙_}
+use mathlib.Core.Path.{refl, sym, _∙_}
 use Prim.Native.Nat.{_-_, _≤_, _<_}
 use native.Mathlib.Omega.{arith}
 use lib.ListN.{length}
@@ -52,7 +52,6 @@ loop-holds c =
     cords-start
     (record {
       cords = pre .0;
-      wholes-size = sizes .0;
       amount-most = λ n has. bounds (has .entry) n (has .within) (has .hangs) .0;
       amount-inside = λ n has. bounds (has .entry) n (has .within) (has .hangs) .1;
       wholes-most = λ n has. bounds (has .entry) n (has .within) (has .hangs) .2;

@@ -1,10 +1,8 @@
 -- `gather` meets its contract: an active node's Pcapmin and starts, and its children's weights, are whole when its turn comes, since all
 -- active nodes beneath it had their turns before, and the others have nothing.
-use mathlib.Core.Path.{_≡_}
-use Prim.Native.Nat.{_+_, _-_, _≤_, _<_}
+use Prim.Native.Nat.{_+_, _≤_}
 use native.Mathlib.Omega.{arith}
 use borrow.Author.Needs.{needs}
-use lib.ListN.{length}
 use Rattle.rooms.specs.Table.{mostWatts}
 use Rattle.figures.specs.Figures.{at}
 use Rattle.ranks.proofs.Gathering.{GatherTurn, gather-start, gather-end, gather-node, gather-sizes, gather-bounds, pcapmin-fits, base-fits, gather-turn}

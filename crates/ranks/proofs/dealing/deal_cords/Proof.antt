@@ -41,9 +41,6 @@ node-there c =
     let hangs = cord-hangs (start (turn (cord c) .before) .pre .0) (turn (cord c) .loop-test .taken) (cord c .index .ensures .0) in
     (omega (arith, hangs .0, c .index2 .ensures .0), omega (arith, hangs .1, c .index2 .ensures .0))
 
-grant-there : (c : tie.After-slice-known5 Inv-loop μ-loop) → cord (node (weight c)) .index .result < length (turn (cord (node (weight c))) .before .loop .grants)
-grant-there c = omega (arith, cord-there (cord (node (weight c))), turn (cord (node (weight c))) .before .loop .inv .grants-size)
-
 loop-holds : tie.Need-loop-holds Inv-loop μ-loop
 loop-holds c =
     let pre = c .before .before .before .before .before .before .before .before .before .pre in
@@ -133,7 +130,9 @@ mul-grants : tie.Need-mul-grants Inv-loop μ-loop
 mul-grants c = search needs
 
 slice-write-grants : tie.Need-slice-write-grants Inv-loop μ-loop
-slice-write-grants c = grant-there c
+slice-write-grants c =
+    let at-cord = cord (node (weight c)) in
+    omega (arith, cord-there at-cord, turn at-cord .before .loop .inv .grants-size)
 
 add-i : tie.Need-add-i Inv-loop μ-loop
 add-i c = search needs

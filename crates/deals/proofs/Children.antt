@@ -19,13 +19,13 @@ use Rattle.deals.specs.Dealing.{Child, node, cord, same, placesFrom, chi
 
 -- A root with a child node, and a cord on each of the two, of which the table has the child node's first.
 abbrev dealO : Deal
-dealO = dealFrom (0 ∷ 1 ∷ []) (1 ∷ 1 ∷ []) (2 ∷ 1 ∷ []) (0 ∷ 0 ∷ []) (0 ∷ 0 ∷ []) (1 ∷ 1 ∷ [])
+dealO = dealFrom (0 ∷ 1 ∷ []) (1 ∷ 1 ∷ []) (2 ∷ 1 ∷ []) (0 ∷ 0 ∷ []) (0 ∷ 0 ∷ []) (0 ∷ 0 ∷ []) (1 ∷ 1 ∷ [])
 
 -- Room S with a root of 1,625 W, which has 60 W to split over 50 and 210 at the lowest rank.
 abbrev dealS : Deal
 dealS =
     dealFrom (0 ∷ 1 ∷ 1 ∷ []) (1300 ∷ 750 ∷ 750 ∷ []) (2 ∷ 2 ∷ 3 ∷ 3 ∷ []) (1 ∷ 0 ∷ 0 ∷ 0 ∷ []) (270 ∷ 270 ∷ 270 ∷ 270 ∷ [])
-    (430 ∷ 430 ∷ 430 ∷ 430 ∷ [])
+    (270 ∷ 270 ∷ 270 ∷ 270 ∷ []) (430 ∷ 430 ∷ 430 ∷ 430 ∷ [])
 
 -- The child node before the cord, the weights of room S's root, and what its child nodes get.
 by-hand : (children dealO 0 ≡ node 1 ∷ cord 1 ∷ [])

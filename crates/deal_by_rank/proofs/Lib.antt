@@ -1,3 +1,2 @@
 -- The laws of `deal_by_rank`.
 pub mod Ranks
-pub mod RankLoop

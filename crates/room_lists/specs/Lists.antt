@@ -3,10 +3,10 @@ use mathlib.Core.Path.{_≡_}
 use mathlib.Core.List.{List, []}
 use Prim.Native.Nat.{ℕ, _<_}
 use lib.ListN.{length, getD}
-use Rattle.figures.specs.Figures.{figures, column}
+use Rattle.figures.specs.Figures.{figures, at, column}
 use Rattle.rooms.specs.Part.{good}
 use Rattle.rooms.specs.Table.{Room, cordCount, roomCords}
-use Rattle.rooms.specs.Limits.{checked}
+use Rattle.rooms.specs.Limits.{checked, carried}
 use Rattle.rooms.specs.Cords.{serverAt}
 use Rattle.rooms.specs.Lists.{nodesOf, levelsOf, sharesOf, serversOf}
 
@@ -56,6 +56,11 @@ shareColumn = 3
 -- How many figures a server's row and a cord's row have.
 abbrev pub rowWidth : ℕ
 rowWidth = 4
+
+-- What each cord carries where each server has the load given, by the cords' shares and the places of their servers:
+-- ceil(share × load / scale).
+abbrev pub carriedFrom : ℕ → List ℕ → List ℕ → List ℕ → List ℕ
+carriedFrom scale shares servers loads = figures (length shares) (λ c. carried scale (at shares c) (at loads (at servers c)))
 
 -- The rows are those of the room's servers, in table order.
 pub record ServerRows (r : Room) (rows : List (List ℕ)) : Type 0 where

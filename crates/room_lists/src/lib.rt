@@ -73,7 +73,7 @@ pub fn server_count(table: &[u32]) -> usize
 }
 
 // The index of a table's first server, where it has one.
-pub fn first_server(table: &[u32]) -> usize
+fn first_server(table: &[u32]) -> usize
     ensures { λ r. ⌜ (r ≡ serversIndex (now (table .entry)) + 1) × (r < 2 ^ 35) ⌝ }
 {
     servers_index(table) + 1

@@ -106,7 +106,7 @@ index-word-requires : tie.Need-index-word-requires Inv-loop2 μ-loop2 Inv-loop �
 index-word-requires c κs = omega (arith, fits (c .before .before) .server-few)
 
 sub-t27 : tie.Need-sub-t27 Inv-loop2 μ-loop2 Inv-loop μ-loop
-sub-t27 c = omega (arith, standing (turn (c .before .before .before)) .lowest)
+sub-t27 c = let server = standing (turn (c .before .before .before)) in omega arith
 
 mul-t22 : tie.Need-mul-t22 Inv-loop2 μ-loop2 Inv-loop μ-loop
 mul-t22 c = omega (arith, fits (c .before .before .before) .cord-few)

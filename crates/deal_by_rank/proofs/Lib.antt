@@ -1,2 +1,3 @@
 -- The laws of `deal_by_rank`.
 pub mod Ranks
+pub mod RankLoop

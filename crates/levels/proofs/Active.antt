@@ -365,6 +365,7 @@ pub level-lists : {parents nodes levels : List ℕ} {rows rows′ : List (List �
     → Ordered levels rows order → ActivesListed parents nodes levels rows actives rows′ → LevelLists parents nodes levels rows′ order actives
 level-lists ordered all = record {
   ordered = record {
+    size = ordered .size;
     full = all .rows-full;
     bounds = λ j l. (omega (arith, ordered .bounds j l, all .bounds j), omega (arith, ordered .bounds j l, all .bounds j));
     cords = λ j l. rw (all .bounds j .0, all .bounds j .1) (ordered .cords j l);

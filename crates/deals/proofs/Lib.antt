@@ -9,6 +9,7 @@ pub mod Children
 pub mod Requests
 pub mod Equations
 pub mod Computed
+pub mod Starts
 pub mod Totals
 pub mod Inside
 -- The deals of a room whose table is accepted.

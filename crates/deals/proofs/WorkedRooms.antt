@@ -15,7 +15,7 @@ abbrev tableH : List ℕ
 tableH = 1 ∷ 2 ∷ 0 ∷ 150 ∷ 0 ∷ 500 ∷ 2 ∷ 1 ∷ 100 ∷ 400 ∷ 2 ∷ 1 ∷ 500 ∷ 2 ∷ 500 ∷ 1 ∷ 100 ∷ 400 ∷ 1 ∷ 2 ∷ 1000 ∷ []
 
 -- Its plan whole, and room H turned back by 10, 11, 12 and 13.
-room-h : (plan tableH (400 ∷ 400 ∷ []) 3 2 ≡ accepted 13 (120 ∷ 97 ∷ 303 ∷ []) (194 ∷ 303 ∷ []))
+room-h : (plan tableH (400 ∷ 400 ∷ []) 3 2 ≡ accepted 13 (120 ∷ 120 ∷ 280 ∷ []) (240 ∷ 280 ∷ []))
     × (plan tableH (400 ∷ []) 0 0 ≡ refused (DemandCount 2))
     × (plan tableH (400 ∷ 16777216 ∷ []) 0 0 ≡ refused (DemandTooLarge 1))
     × (plan tableH (400 ∷ 400 ∷ []) 2 0 ≡ refused (GrantsTooShort 3))

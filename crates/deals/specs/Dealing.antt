@@ -1,12 +1,20 @@
 -- Dealing: the children of a node, what each gets of the node's amount, and the grants.
+--
+-- Every cord has its start before anything is dealt; a node deals what it has over the starts beneath it. Where the starts are
+-- the lows (the first deal), a node's amount is its excess or its part of one, split by the children's excesses. Where they are
+-- the used watts (the second), the same rule says: a node with Y watts over the lows beneath it first passes each child the
+-- used − low watts of the cords beneath the child, P(1), P(2) .. , and then splits the rest, each child weighted by its excess − P(k).
+-- For the P(k) sum to the node's own used − low watts, P, so that the rest is Y − P, what the node has over the starts; an
+-- excess less P(k) is Request − Pcapmin − (starts − Pcapmin) = Request − starts, the weight here; a root's Y is its excess, so that
+-- its rest is its own weight; child k then has P(k) and its part, so that its own rest, once P(k) is passed on, is that part; and
+-- a cord's low, used − low and part are its start and part. (`PassedFirst` in Properties.antt says it of the figures, proved.)
 use mathlib.Core.Bool.{Bool, false, cond}
 use mathlib.Core.List.{List, [], _∷_, _++_, map}
 use Prim.Native.Nat.{ℕ, zero, suc, _+_, _-_}
 use lib.Dec.{eqb}
 use Rattle.figures.specs.Figures.{total, figuresFrom, figures, cell, sumOf}
 use Rattle.splits.specs.Split.{split}
-use Rattle.rooms.specs.Table.{Room}
-use Rattle.deals.specs.Metrics.{Deal, Metrics, dealOf, metrics, atLevel}
+use Rattle.deals.specs.Metrics.{Deal, Metrics, metrics, atLevel}
 
 -- ---- The children of a node
 
@@ -98,8 +106,3 @@ unfolding figuresFrom metrics reached
 granted d =
     let f = metrics d in
     figures (d .cords) (λ c. d .start c + reached d f c)
-
--- The grants of a room, dealt by given wants.
-unfoldable pub grantsBy : Room → List ℕ → List ℕ
-unfolding dealOf granted
-grantsBy r wants = granted (dealOf r wants)

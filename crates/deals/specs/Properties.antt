@@ -14,9 +14,9 @@ use Rattle.figures.specs.Sums.{on, sum}
 use Rattle.rooms.specs.Cords.{serverAt}
 use Rattle.deals.specs.Wants.{needs, firstWants}
 use Rattle.rooms.specs.Lists.{carriedBy, lowsOf}
-use Rattle.deals.specs.Metrics.{Deal, dealOf, metrics, excess, cordExcess, overNodes, overCords, childSums}
-use Rattle.deals.specs.Dealing.{weightSum, amount, reached}
-use Rattle.deals.specs.SecondDeal.{firstGrants, firstUsed, freed, secondWants}
+use Rattle.deals.specs.Metrics.{Deal, metrics, excess, overNodes, overCords, childSums}
+use Rattle.deals.specs.Dealing.{nodeOver, cordOver, weightSum, amount, reached}
+use Rattle.deals.specs.SecondDeal.{firstDeal, firstGrants, firstUsable, firstUsed, freed, secondDeal, secondWants}
 use Rattle.deals.specs.Promises.{AcceptedPlan}
 
 -- ---- Caps, used watts, the second deal's wants, and what a node gives
@@ -41,19 +41,20 @@ SecondWantsInRange =
     → (at (lowsOf (p .room)) c ≤ at (secondWants (p .room) (p .demands)) c)
     × (at (secondWants (p .room) (p .demands)) c ≤ at (firstWants (p .room) (p .demands)) c)
 
--- A deal in which every node gives its children all of its amount at each rank, and none of them more than its excess.
+-- A deal in which every node gives its children all of its amount at each rank, and none of them more than its weight: its
+-- excess in the first deal, and its excess less what it was passed first in the second.
 pub record GivesAll (d : Deal) : Type 0 where
   pub all : (n j : ℕ) → n < d .nodes → j < d .levels
       → overNodes d n (λ m. amount d (metrics d) (suc m) m j) + overCords d n j (reached d (metrics d))
       ≡ amount d (metrics d) (suc n) n j
-  pub toNode : (m j : ℕ) → m < d .nodes → j < d .levels → amount d (metrics d) (suc m) m j ≤ excess (metrics d) m j
-  pub toCord : (c : ℕ) → c < d .cords → reached d (metrics d) c ≤ cordExcess d c
+  pub toNode : (m j : ℕ) → m < d .nodes → j < d .levels → amount d (metrics d) (suc m) m j ≤ nodeOver (metrics d) m j
+  pub toCord : (c : ℕ) → c < d .cords → reached d (metrics d) c ≤ cordOver d c
 
 abbrev pub FirstGivesAll : Type 0
-FirstGivesAll = (p : AcceptedPlan) → GivesAll (dealOf (p .room) (firstWants (p .room) (p .demands)))
+FirstGivesAll = (p : AcceptedPlan) → GivesAll (firstDeal (p .room) (p .demands))
 
 abbrev pub SecondGivesAll : Type 0
-SecondGivesAll = (p : AcceptedPlan) → GivesAll (dealOf (p .room) (secondWants (p .room) (p .demands)))
+SecondGivesAll = (p : AcceptedPlan) → GivesAll (secondDeal (p .room) (p .demands))
 
 -- ---- The law of totals
 
@@ -83,7 +84,7 @@ TotalsOf d =
 abbrev pub Totals : Type 0
 Totals =
     (table : List ℕ) (r : Room) (end : ℕ) → checked table 0 ≡ good r end → (demands : List ℕ)
-    → TotalsOf (dealOf r (firstWants r demands)) × TotalsOf (dealOf r (secondWants r demands))
+    → TotalsOf (firstDeal r demands) × TotalsOf (secondDeal r demands)
 
 -- ---- The figures that code holds fit their words
 
@@ -91,16 +92,19 @@ Totals =
 abbrev pub mostSum : ℕ
 mostSum = mostCords * mostWatts
 
--- The figures of a deal, for every node and level. A limit, a want, and so each low, grant, Pcapmin, Request and amount, fits
+-- The figures of a deal, for every node and level. A limit, a want, and so each low, start, grant, Pcapmin, Request and amount, fits
 -- in 24 bits; the children's sums fit in 34, and an amount times any running sum of weights in 58. No difference is below 0.
 pub record DealBounded (d : Deal) : Type 0 where
   pub limits : (n : ℕ) → n < d .nodes → d .limit n ≤ mostWatts
   pub wants : (c : ℕ) → c < d .cords → d .want c ≤ mostWatts
-  pub lows : (c : ℕ) → c < d .cords → d .low c ≤ d .want c
+  pub lows : (c : ℕ) → c < d .cords → d .low c ≤ d .start c
+  pub starts : (c : ℕ) → c < d .cords → d .start c ≤ d .want c
   pub left : (n j : ℕ) → n < d .nodes → j < d .levels
       → pcapminBelow d n j + requestTotal d n (j + 1) ≤ d .limit n
   pub pcapmins : (n j : ℕ) → n < d .nodes → j < d .levels
-      → cell (metrics d .pcapmins) n j ≤ cell (metrics d .requests) n j
+      → cell (metrics d .pcapmins) n j ≤ cell (metrics d .starts) n j
+  pub beneath : (n j : ℕ) → n < d .nodes → j < d .levels
+      → cell (metrics d .starts) n j ≤ cell (metrics d .requests) n j
   pub requests : (n : ℕ) → n < d .nodes → sumOf (getD (metrics d .requests) n []) ≤ d .limit n
   pub children : (n j : ℕ) → n < d .nodes → j < d .levels
       → at (childSums d n (drop (n + 1) (metrics d .requests)) (d .want)) j ≤ mostSum
@@ -113,8 +117,8 @@ pub record DealBounded (d : Deal) : Type 0 where
 pub record Bounded (r : Room) (demands : List ℕ) : Type 0 where
   pub needs : (v : ℕ) → v < length (r .servers) → at (needs r demands) v ≤ mostWatts
   pub freed : freed r demands ≤ mostSum
-  pub first : DealBounded (dealOf r (firstWants r demands))
-  pub second : DealBounded (dealOf r (secondWants r demands))
+  pub first : DealBounded (firstDeal r demands)
+  pub second : DealBounded (secondDeal r demands)
 
 -- Where the table is accepted, they fit, whatever the demands.
 abbrev pub FiguresFit : Type 0

@@ -10,6 +10,7 @@ pub mod Requests
 pub mod Equations
 pub mod Computed
 pub mod Starts
+pub mod Passed
 pub mod Totals
 pub mod Inside
 -- The deals of a room whose table is accepted.

@@ -23,9 +23,10 @@ use Rattle.deals.specs.Dealing.{granted}
 use Rattle.deals.specs.SecondDeal.{firstDeal, firstGrants, firstUsable, firstUsed, secondDeal, secondWants, secondGrants, caps}
 use Rattle.deals.specs.Ways.{cordBeneath, sumBeneath, fromRank}
 use Rattle.deals.specs.Promises.{AcceptedPlan, AcceptedHasRoom, Answered, AnswerOfBothDeals, Kept, FirstKept, SecondKept, Greatest, FirstGreatest, SecondGreatest, SettledFromRank, RefusalNine, CapsKeepUsable, GrantsKeepUsed}
-use Rattle.deals.specs.Properties.{CapsInRange, UsedGranted, SecondWantsInRange, FirstGivesAll, SecondGivesAll, fromLevel, Totals, FiguresFit}
+use Rattle.deals.specs.Properties.{CapsInRange, UsedGranted, SecondWantsInRange, FirstGivesAll, SecondGivesAll, SecondPassesFirst, fromLevel, Totals, FiguresFit}
 use Rattle.deals.proofs.Requests.{WholeWay}
 use Rattle.deals.proofs.Computed.{Startable, granted-most, deal-gives-all}
+use Rattle.deals.proofs.Passed.{passed-first}
 use Rattle.deals.proofs.Totals.{deal-totals}
 use Rattle.deals.proofs.RoomDeals.{levelsOf-at, roomDeal, dealOf-is}
 use Rattle.deals.proofs.BothDeals.{server-facts, cord-facts, room-dealable, grants-way, first-dealable, first-starts, first-startable, second-dealable, second-starts, second-startable, firstWants-lows, secondWants-lows, firstUsed-granted, secondGrants-used, capsUsed-granted, secondWants-wants, caps-least, caps-usable, caps-need}
@@ -205,6 +206,9 @@ first-gives-all p = deal-gives-all _ (first-dealable (p .room) (accepted-room p)
 
 pub second-gives-all : SecondGivesAll
 second-gives-all p = deal-gives-all _ (second-dealable (p .room) (accepted-room p) (p .demands)) (second-startable (p .room) (accepted-room p) (p .demands))
+
+pub second-passes-first : SecondPassesFirst
+second-passes-first p = passed-first _ (second-dealable (p .room) (accepted-room p) (p .demands)) (second-startable (p .room) (accepted-room p) (p .demands))
 
 pub totals : Totals
 totals table r end e demands =

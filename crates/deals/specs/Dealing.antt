@@ -1,13 +1,12 @@
 -- Dealing: the children of a node, what each gets of the node's amount, and the grants.
 --
--- Every cord has its start before anything is dealt; a node deals what it has over the starts beneath it. Where the starts are
--- the lows (the first deal), a node's amount is its excess or its part of one, split by the children's excesses. Where they are
--- the used watts (the second), the same rule says: a node with Y watts over the lows beneath it first passes each child the
--- used − low watts of the cords beneath the child, P(1), P(2) .. , and then splits the rest, each child weighted by its excess − P(k).
--- For the P(k) sum to the node's own used − low watts, P, so that the rest is Y − P, what the node has over the starts; an
--- excess less P(k) is Request − Pcapmin − (starts − Pcapmin) = Request − starts, the weight here; a root's Y is its excess, so that
--- its rest is its own weight; child k then has P(k) and its part, so that its own rest, once P(k) is passed on, is that part; and
--- a cord's low, used − low and part are its start and part. (`PassedFirst` in Properties.antt says it of the figures, proved.)
+-- Every cord has its start before anything is dealt, and a node deals what it has over the starts beneath it. In the first deal
+-- the starts are the lows, so that the weights are excesses. In the second they are the used watts, and the same rule is request
+-- A.2's: a node with Y watts over the lows first passes each child k the used − low watts beneath it, P(k), and splits the rest by
+-- the excesses less P(k). Such a weight is Request − Pcapmin − (starts − Pcapmin) = Request − starts. The P(k) sum to the node's
+-- own used − low watts, which its parent passed to it in the same way, so that the rest is just the part that it got itself (of a
+-- root: its excess less that, its weight). A cord's low, its used − low and its part are its start and its part.
+-- (`SecondPassesFirst` in Properties.antt says this of the figures.)
 use mathlib.Core.Bool.{Bool, false, cond}
 use mathlib.Core.List.{List, [], _∷_, _++_, map}
 use Prim.Native.Nat.{ℕ, zero, suc, _+_, _-_}

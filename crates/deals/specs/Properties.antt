@@ -1,21 +1,22 @@
--- What else is proved of every plan: that caps, wants and amounts lie in their ranges, what a node's Requests of a rank and above
--- sum to, and that the figures fit their words. Demand 3 does not ask for these. Statements only; proofs/Promises.antt proves
--- each: `CapsInRange` as `caps-in-range`, and so on.
+-- What else is proved of every plan: that caps, wants and amounts lie in their ranges, that the second deal is the one that
+-- request A.2 tells of, what a node's Requests of a rank and above sum to, and that the figures fit their words. Demand 3 does not
+-- ask for these. Statements only; proofs/Promises.antt proves each: `CapsInRange` as `caps-in-range`, and so on.
 use mathlib.Core.Path.{_≡_}
-use mathlib.Core.List.{List, []}
+use mathlib.Core.List.{List, [], map}
 use Prim.Native.Nat.{ℕ, suc, _+_, _*_, _-_, _≤_, _<_, _^_, min}
 use lib.Dec.{eqb, leb}
 use lib.ListN.{length, getD, take, drop}
 use Rattle.rooms.specs.Part.{good}
 use Rattle.rooms.specs.Table.{Room, mostWatts, mostCords, roomCords}
 use Rattle.rooms.specs.Limits.{checked}
-use Rattle.figures.specs.Figures.{at, cell, sumOf}
+use Rattle.figures.specs.Figures.{total, at, cell, sumOf}
 use Rattle.figures.specs.Sums.{on, sum}
+use Rattle.splits.specs.Split.{split}
 use Rattle.rooms.specs.Cords.{serverAt}
 use Rattle.deals.specs.Wants.{needs, firstWants}
 use Rattle.rooms.specs.Lists.{carriedBy, lowsOf}
-use Rattle.deals.specs.Metrics.{Deal, metrics, excess, overNodes, overCords, childSums}
-use Rattle.deals.specs.Dealing.{nodeOver, cordOver, weightSum, amount, reached}
+use Rattle.deals.specs.Metrics.{Deal, atLevel, metrics, excess, cordExcess, overNodes, overCords, childSums}
+use Rattle.deals.specs.Dealing.{Child, node, cord, children, nodeOver, cordOver, weightSum, beside, amount, reached, granted}
 use Rattle.deals.specs.SecondDeal.{firstDeal, firstGrants, firstUsable, firstUsed, freed, secondDeal, secondWants}
 use Rattle.deals.specs.Promises.{AcceptedPlan}
 
@@ -55,6 +56,40 @@ FirstGivesAll = (p : AcceptedPlan) → GivesAll (firstDeal (p .room) (p .demands
 
 abbrev pub SecondGivesAll : Type 0
 SecondGivesAll = (p : AcceptedPlan) → GivesAll (secondDeal (p .room) (p .demands))
+
+-- ---- The second deal in request A.2's own terms
+
+-- What a child is passed first at level j: the watts from low to start of the cords beneath it, or of the cord itself.
+abbrev pub passed : Deal → ℕ → Child → ℕ
+passed d j (node m) = cell (metrics d .starts) m j - cell (metrics d .pcapmins) m j
+passed d j (cord c) = atLevel d j (λ c. d .start c - d .low c) c
+
+-- A child's excess at level j.
+abbrev pub childExcess : Deal → ℕ → Child → ℕ
+childExcess d j (node m) = excess (metrics d) m j
+childExcess d j (cord c) = atLevel d j (cordExcess d) c
+
+-- What a child gets of the watts in hand of the node at place n: what is passed to it first, and its part of what then remains,
+-- split among the children by their excesses less what is passed to each.
+unfoldable pub given : Deal → ℕ → ℕ → ℕ → Child → ℕ
+unfolding children beside split total
+given d n j watts child =
+    passed d j child
+    + beside child (children d n)
+    (split (watts - sumOf (map (passed d j) (children d n))) (map (λ other. childExcess d j other - passed d j other) (children d n)))
+
+-- A deal in which each node has watts in hand at each rank, beyond the lows: a root all of its excess, any other what its parent
+-- gives it so; and in which each cord is granted its low and what its node gives it so.
+pub record PassedFirst (d : Deal) : Type 0 where
+  pub inHand : ℕ → ℕ → ℕ
+  pub root : (m j : ℕ) → m < d .nodes → j < d .levels → d .parent m ≡ 0 → inHand m j ≡ excess (metrics d) m j
+  pub toNode : (m n j : ℕ) → m < d .nodes → j < d .levels → d .parent m ≡ suc n → inHand m j ≡ given d n j (inHand n j) (node m)
+  pub toCord : (c n : ℕ) → c < d .cords → d .node c ≡ suc n
+      → at (granted d) c ≡ d .low c + given d n (d .level c) (inHand n (d .level c)) (cord c)
+
+-- The second deal is such; what is passed first there is used − low.
+abbrev pub SecondPassesFirst : Type 0
+SecondPassesFirst = (p : AcceptedPlan) → PassedFirst (secondDeal (p .room) (p .demands))
 
 -- ---- The law of totals
 

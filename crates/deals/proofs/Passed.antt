@@ -3,17 +3,17 @@
 use mathlib.Core.Path.{_≡_, refl, sym, ap, ap₂, _∙_, subst}
 use mathlib.Core.Bool.{Bool, true, false}
 use mathlib.Core.List.{List, map}
-use Prim.Native.Nat.{ℕ, suc, _+_, _-_, _≤_, _<_}
+use Prim.Native.Nat.{ℕ, _+_, _-_, _≤_, _<_}
 use native.Mathlib.Omega.{arith}
 use lib.Dec.{eqb}
 use borrow.Author.Tests.{eq-eqb}
 use Rattle.figures.specs.Figures.{at, sumOf}
-use Rattle.figures.specs.Sums.{on, sum}
+use Rattle.figures.specs.Sums.{on}
 use Rattle.figures.proofs.Sums.{on-yes}
 use Rattle.rooms.proofs.Trees.{kids, own, kids-add, kids-cong}
 use Rattle.splits.specs.Split.{split}
-use Rattle.deals.specs.Metrics.{Deal, metrics, atLevel}
-use Rattle.deals.specs.Dealing.{Child, node, cord, children, weightsOf, beside, partOf, reached, granted}
+use Rattle.deals.specs.Metrics.{Deal, metrics}
+use Rattle.deals.specs.Dealing.{Child, node, cord, children, weightsOf, beside, partOf, reached}
 use Rattle.deals.specs.Properties.{passed, childExcess, given, PassedFirst}
 use Rattle.deals.proofs.Children.{children-sum, children-cong, partOf-node, partOf-cord}
 use Rattle.deals.proofs.Requests.{Dealable, later, own-add}
@@ -70,7 +70,6 @@ module _ (d : Deal) (ok : Dealable d) (st : Startable d) where
         ap (λ (x : ℕ). startsOf d m j - pcapmin d m j + x) (dealt d ok .inner m n j l e ∙ sym (partOf-node d (metrics d) n j (amountOf d n j) m l e))
         ∙ sym (given-is n j (omega arith) h (node m));
     toCord = λ c n l e.
-        let j : ℕ = d .level c in
         let q : n < d .nodes = subst (λ (i : ℕ). i ≤ d .nodes) e (ok .here c l) in
         let y : reached d (metrics d) c ≡ partOf d (metrics d) n (d .level c) (amountOf d n (d .level c)) (cord c)
         = dealt d ok .leaf c n l e ∙ sym (partOf-cord d (metrics d) n (d .level c) (amountOf d n (d .level c)) c l e refl) in

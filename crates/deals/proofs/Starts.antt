@@ -8,10 +8,10 @@ use lib.Dec.{eqb}
 use Rattle.figures.specs.Figures.{at}
 use Rattle.figures.specs.Sums.{sum}
 use Rattle.figures.proofs.Sums.{on-le, sum-cong, up}
-use Rattle.rooms.proofs.Trees.{kids, own, kids-le, down}
+use Rattle.rooms.proofs.Trees.{kids-le, down}
 use Rattle.deals.specs.Metrics.{Deal, atLevel}
 use Rattle.deals.specs.Dealing.{granted}
-use Rattle.deals.proofs.Requests.{Dealable, sumBelow, sumBelow-unique, sumBelow-le, asked, own-le, later, pcapmin-is, byWants, request-total-mono}
+use Rattle.deals.proofs.Requests.{Dealable, sumBelow-unique, sumBelow-le, asked, own-le, later, pcapmin-is, byWants, request-total-mono}
 use Rattle.deals.proofs.Computed.{pcapmin, request, startsOf, measured, dealt, Startable, granted-asked}
 
 -- A Request by its rule, b being those of the higher ranks, and one by another such rule, whose higher ranks ask no less.

@@ -17,7 +17,7 @@ use Rattle.deals.specs.Wants.{needs, firstWants}
 use Rattle.rooms.specs.Lists.{carriedBy, lowsOf}
 use Rattle.deals.specs.Metrics.{Deal, atLevel, metrics, excess, cordExcess, overNodes, overCords, childSums}
 use Rattle.deals.specs.Dealing.{Child, node, cord, children, nodeOver, cordOver, weightSum, beside, amount, reached, granted}
-use Rattle.deals.specs.SecondDeal.{firstDeal, firstGrants, firstUsable, firstUsed, freed, secondDeal, secondWants}
+use Rattle.deals.specs.SecondDeal.{firstDeal, firstGrants, firstUsed, freed, secondDeal, secondWants}
 use Rattle.deals.specs.Promises.{AcceptedPlan}
 
 -- ---- Caps, used watts, the second deal's wants, and what a node gives

@@ -14,7 +14,7 @@ use Rattle.deals.specs.Dealing.{granted}
 use Rattle.deals.proofs.Requests.{Dealable, sumBelow-unique, sumBelow-le, asked, own-le, later, pcapmin-is, byWants, request-total-mono}
 use Rattle.deals.proofs.Computed.{pcapmin, request, startsOf, measured, dealt, Startable, granted-asked}
 
--- A Request by its rule, b being those of the higher ranks, and one by another such rule, whose higher ranks ask no less.
+-- What one Request x has room for, another, y, has too, where its higher ranks ask no more (b ≤ a) and its children ask for it.
 bracket : (limit a b p x y s e : ℕ) → b ≤ a → x ≤ limit - a - p → y ≡ min (limit - b - p) e → s ≤ x → s ≤ e → s ≤ y
 bracket limit a b p x y s e h k q m n = omega arith
 

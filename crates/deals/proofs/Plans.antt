@@ -17,15 +17,16 @@ use Rattle.rooms.specs.declared.Refusal.{Refusal}
 use Rattle.rooms.specs.declared.Refusal.the-variants.{LowsAboveLimit}
 use Rattle.rooms.proofs.Overloaded.{checked-nine, nine-lows}
 use Rattle.figures.specs.Figures.{at}
-use Rattle.deals.specs.Dealing.{granted, grantsBy}
-use Rattle.deals.specs.SecondDeal.{usable, freed, secondWants, secondGrants, caps}
+use Rattle.deals.specs.Metrics.{Deal, dealOf}
+use Rattle.deals.specs.Dealing.{granted}
+use Rattle.deals.specs.SecondDeal.{usable, freed, firstUsed, secondDeal, secondWants, secondGrants, caps}
 use Rattle.deals.specs.Plan.{Outcome, accepted, refused, firstTooLarge, planRoom, planStep, plan, answerOf, grantsAfter, capsAfter, planNumber}
 use Rattle.deals.specs.Promises.{IsNine}
 use Rattle.deals.specs.declared.PlanRefusal.{PlanRefusal}
 use Rattle.deals.specs.declared.PlanRefusal.the-variants.{Table, DemandCount, DemandTooLarge, GrantsTooShort, CapsTooShort}
 use Rattle.deals.specs.declared.Planned.the-variants.{Accepted, Refused}
 use Rattle.figures.proofs.Lists.{figures-length}
-use Rattle.deals.proofs.RoomDeals.{grantsBy-is}
+use Rattle.deals.proofs.RoomDeals.{dealOf-is}
 
 -- ---- The first demand that is too large
 
@@ -175,13 +176,13 @@ plan-nine table demands g c n = Iff·trans (step-nine (checked table 0) demands 
 
 -- ---- The lengths of the answer's lists
 
-pub grantsBy-length : (r : Room) (wants : List ℕ) → length (grantsBy r wants) ≡ roomCords r
+pub grants-length : (r : Room) (starts wants : List ℕ) → length (granted (dealOf r starts wants)) ≡ roomCords r
 unfolding granted
-grantsBy-length r wants = ap length (grantsBy-is r wants) ∙ figures-length (roomCords r) _
+grants-length r starts wants = ap (λ (d : Deal). length (granted d)) (dealOf-is r starts wants) ∙ figures-length (roomCords r) _
 
 pub secondGrants-length : (r : Room) (demands : List ℕ) → length (secondGrants r demands) ≡ roomCords r
-unfolding secondGrants
-secondGrants-length r demands = grantsBy-length r (secondWants r demands)
+unfolding secondGrants secondDeal
+secondGrants-length r demands = grants-length r (firstUsed r demands) (secondWants r demands)
 
 pub caps-length : (r : Room) (demands : List ℕ) → length (caps r demands) ≡ length (r .servers)
 unfolding caps usable

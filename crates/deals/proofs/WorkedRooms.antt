@@ -15,7 +15,7 @@ abbrev tableH : List ℕ
 tableH = 1 ∷ 2 ∷ 0 ∷ 150 ∷ 0 ∷ 500 ∷ 2 ∷ 1 ∷ 100 ∷ 400 ∷ 2 ∷ 1 ∷ 500 ∷ 2 ∷ 500 ∷ 1 ∷ 100 ∷ 400 ∷ 1 ∷ 2 ∷ 1000 ∷ []
 
 -- Its plan whole, and room H turned back by 10, 11, 12 and 13.
-room-h : (plan tableH (400 ∷ 400 ∷ []) 3 2 ≡ accepted 13 (120 ∷ 97 ∷ 303 ∷ []) (194 ∷ 303 ∷ []))
+room-h : (plan tableH (400 ∷ 400 ∷ []) 3 2 ≡ accepted 13 (120 ∷ 120 ∷ 280 ∷ []) (240 ∷ 280 ∷ []))
     × (plan tableH (400 ∷ []) 0 0 ≡ refused (DemandCount 2))
     × (plan tableH (400 ∷ 16777216 ∷ []) 0 0 ≡ refused (DemandTooLarge 1))
     × (plan tableH (400 ∷ 400 ∷ []) 2 0 ≡ refused (GrantsTooShort 3))
@@ -38,6 +38,19 @@ abbrev tableS : List ℕ
 tableS =
     1 ∷ 3 ∷ 0 ∷ 1550 ∷ 1 ∷ 938 ∷ 1 ∷ 938 ∷ 4 ∷ 2 ∷ 270 ∷ 500 ∷ 1 ∷ 2 ∷ 1000 ∷ 1 ∷ 270 ∷ 500 ∷ 1 ∷ 2 ∷ 1000
     ∷ 1 ∷ 270 ∷ 500 ∷ 1 ∷ 3 ∷ 1000 ∷ 1 ∷ 270 ∷ 500 ∷ 1 ∷ 3 ∷ 1000 ∷ []
+
+-- A root with 120 W over a node with 80 W and a cord, and a root with 20 W that holds one of a server's two cords down.
+abbrev tableP : List ℕ
+tableP =
+    1 ∷ 3 ∷ 0 ∷ 150 ∷ 1 ∷ 100 ∷ 0 ∷ 25 ∷ 3 ∷ 1 ∷ 0 ∷ 100 ∷ 2 ∷ 3 ∷ 500 ∷ 2 ∷ 500 ∷ 1 ∷ 0 ∷ 100 ∷ 1 ∷ 2 ∷ 1000
+    ∷ 1 ∷ 0 ∷ 60 ∷ 1 ∷ 1 ∷ 1000 ∷ []
+
+-- The first grants are 20, 22, 46 and 52. The used watts, 2 W less, are passed on through the node before those 2 W are split.
+through-nodes : plan tableP (100 ∷ 100 ∷ 60 ∷ []) 4 3 ≡ accepted 2 (20 ∷ 20 ∷ 47 ∷ 53 ∷ []) (40 ∷ 47 ∷ 53 ∷ [])
+unfolding plan
+    follow word ensure end many total formOf percent node cord range load server table
+    beneath serverLows lows firstNode overloaded
+through-nodes = refl
 
 -- What programs that nearly get there get wrong: weights that are excesses; child nodes before cords; and a rank that counts
 -- across breakers.

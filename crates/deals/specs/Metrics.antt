@@ -38,10 +38,10 @@ dealFrom parents limits nodes levels lows starts wants = record {
   levels = highestRank;
 }
 
--- The deal of a room by given wants, one a cord. Each cord starts from its low.
-unfoldable pub dealOf : Room → List ℕ → Deal
+-- The deal of a room by given starts and wants, one of each a cord.
+unfoldable pub dealOf : Room → (starts wants : List ℕ) → Deal
 unfolding dealFrom parentsOf limitsOf nodesOf levelsOf lowsOf
-dealOf r wants = dealFrom (parentsOf r) (limitsOf r) (nodesOf r) (levelsOf r) (lowsOf r) (lowsOf r) wants
+dealOf r starts wants = dealFrom (parentsOf r) (limitsOf r) (nodesOf r) (levelsOf r) (lowsOf r) starts wants
 
 -- A figure of a cord at a level: 0 where that is not the cord's.
 abbrev pub atLevel : Deal → ℕ → (ℕ → ℕ) → ℕ → ℕ

@@ -121,20 +121,21 @@ grants-kept lists e = rw e lists
 -- ---- The watts freed, and the wants of the next deal
 
 -- After the cords before place c.
-pub record Reclaiming (scale : ℕ) (cords : List (List ℕ)) (usable grants first : List ℕ) (c freed : ℕ) (wants : List ℕ) : Type 0 where
+pub record Reclaiming (scale : ℕ) (cords : List (List ℕ)) (usable grants first starts₀ : List ℕ) (c freed : ℕ) (starts wants : List ℕ) : Type 0 where
   pub freed-is : freed ≡ sum c (at (strandedFrom (used scale cords usable) grants))
   pub freed-most : freed ≤ c * 4294967295
+  pub starts-done : Filled (at (used scale cords usable)) (length starts₀) c starts
   pub wants-done : Filled (at (wantsFrom (used scale cords usable) grants first)) (length first) c wants
   pub wants-left : (h : ℕ) → c ≤ h → at wants h ≡ at first h
 
 used-length : (scale : ℕ) (cords : List (List ℕ)) (usable : List ℕ) → length (used scale cords usable) ≡ length cords
 used-length scale cords usable = figures-length (length (shares cords)) _ ∙ column-length shareColumn cords
 
-module _ {scale : ℕ} {cords : List (List ℕ)} {usable grants first : List ℕ} where
-  pub reclaiming-start : Reclaiming scale cords usable grants first 0 0 first
-  reclaiming-start = record { freed-is = sym (sum-none _); freed-most = omega arith; wants-done = filled-none _ first; wants-left = λ h l. refl }
+module _ {scale : ℕ} {cords : List (List ℕ)} {usable grants first starts₀ : List ℕ} where
+  pub reclaiming-start : Reclaiming scale cords usable grants first starts₀ 0 0 starts₀ first
+  reclaiming-start = record { freed-is = sym (sum-none _); freed-most = omega arith; starts-done = filled-none _ starts₀; wants-done = filled-none _ first; wants-left = λ h l. refl }
 
-  module _ {c freed : ℕ} {wants : List ℕ} (by : Reclaiming scale cords usable grants first c freed wants) (size : length first ≡ length cords) where
+  module _ {c freed : ℕ} {starts wants : List ℕ} (by : Reclaiming scale cords usable grants first starts₀ c freed starts wants) (sizes : (length starts₀ ≡ length cords) × (length first ≡ length cords)) where
     module _ (here : c < length cords)
         {v x watts more : ℕ} (place-is : v ≡ cell cords c serverColumn) (used-is : x ≡ carried scale (cell cords c shareColumn) (at usable v)) (stranded-is : watts ≡ at grants c - x)
         (most : watts ≤ 4294967295) (more-is : more ≡ freed + watts) where
@@ -163,20 +164,25 @@ module _ {scale : ℕ} {cords : List (List ℕ)} {usable grants first : List ℕ
           ∙ sym (ap (λ (n : ℕ). sum n (at (strandedFrom (used scale cords usable) grants))) (add-one c) ∙ sum-suc c _)
 
       -- One cord more: it wants its used watts if it leaves watts stranded, else what it did.
-      pub reclaiming-more : {want : ℕ} → want ≡ cond (ltb 0 watts) x (at wants c) → Reclaiming scale cords usable grants first (c + 1) more (set wants c want)
+      pub reclaiming-more : {want : ℕ} → want ≡ cond (ltb 0 watts) x (at wants c) → Reclaiming scale cords usable grants first starts₀ (c + 1) more (set starts c x) (set wants c want)
       reclaiming-more {want} e =
           record {
             freed-is = freed-here;
             freed-most = omega (arith, by .freed-most);
-            wants-done = filled-one want (by .wants-done) (omega arith) (want-here e);
+            starts-done = filled-one x (by .starts-done) (omega (arith, sizes .0)) (sym used-here);
+            wants-done = filled-one want (by .wants-done) (omega (arith, sizes .1)) (want-here e);
             wants-left = λ i l. getD-set-other wants c i want 0 (λ e. omega arith) ∙ by .wants-left i (omega arith);
           }
 
-    pub reclaiming-end : c ≡ length cords → (freed ≡ sumOf (strandedFrom (used scale cords usable) grants)) × (wants ≡ wantsFrom (used scale cords usable) grants first)
+    pub reclaiming-end : c ≡ length cords
+        → (freed ≡ sumOf (strandedFrom (used scale cords usable) grants)) × ((starts ≡ used scale cords usable) × (wants ≡ wantsFrom (used scale cords usable) grants first))
     reclaiming-end e =
         let n = used-length scale cords usable in
         let last : List ℕ = strandedFrom (used scale cords usable) grants in
         let all : c ≡ length last = omega (arith, figures-length (length (used scale cords usable)) (λ c. at grants c - at (used scale cords usable) c)) in (
           by .freed-is ∙ ap (λ (n : ℕ). sum n (at last)) all ∙ sym (total-sum (λ a. a) 0 last),
-          filled-all _ _ (by .wants-done) (omega arith) (omega arith) (λ i l. figures-at _ i _ l),
+          (
+            ext-getD 0 starts (used scale cords usable) (omega (arith, by .starts-done .size-is, sizes .0)) (λ i l. by .starts-done .done i (omega (arith, by .starts-done .size-is, sizes .0))),
+            filled-all _ _ (by .wants-done) (omega (arith, sizes .1)) (omega arith) (λ i l. figures-at _ i _ l),
+          ),
         )

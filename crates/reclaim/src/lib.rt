@@ -44,16 +44,19 @@ fn next_want(stranded: u64, used: u32, want: u32) -> u32
     narrow(some * wide(used) + (1 - some) * wide(want))
 }
 
-// After the first deal: the cords that have stranded watts want their used watts from now on; gives the watts freed.
+// After the first deal: the next one starts from each cord's used watts, and the cords that have stranded watts want no more than
+// those; gives the watts freed.
 pub fn reclaim(
     cords: &[[u32; 4]],
     usable: &[u32],
     grants: &[u32],
+    starts: &mut [u32],
     wants: &mut [u32],
     scale: u32,
 ) -> u64
-    requires { ⌜ ServerLists scale (now cords) (now usable) (length (now grants)) × (length (now wants) ≡ length (now cords)) ⌝ }
+    requires { ⌜ ServerLists scale (now cords) (now usable) (length (now grants)) × (length (now starts) ≡ length (now cords)) × (length (now wants) ≡ length (now cords)) ⌝ }
     ensures { λ freed. ⌜ freed ≡ freedFrom scale (column shareColumn (now (cords .entry))) (column serverColumn (now (cords .entry))) (now (usable .entry)) (now (grants .entry)) ⌝ }
+    ensures { λ _. ⌜ now (starts .exit) ≡ usedFrom scale (column shareColumn (now (cords .entry))) (column serverColumn (now (cords .entry))) (now (usable .entry)) ⌝ }
     ensures { λ _. ⌜ now (wants .exit) ≡ wantsFrom (usedFrom scale (column shareColumn (now (cords .entry))) (column serverColumn (now (cords .entry))) (now (usable .entry))) (now (grants .entry)) (now (wants .entry)) ⌝ }
 {
     let mut freed: u64 = 0;
@@ -62,6 +65,7 @@ pub fn reclaim(
         let used = carried_by(cord[SHARE], usable[word_index(cord[SERVER])], scale);
         let stranded = over(wide(grants[c]), wide(used));
         freed += stranded;
+        starts[c] = used;
         wants[c] = next_want(stranded, used, wants[c]);
     }
     freed

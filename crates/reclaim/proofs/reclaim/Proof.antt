@@ -9,10 +9,10 @@ use Rattle.reclaim.proofs.reclaim.Statement.{statement}
 use Rattle.reclaim.proofs.reclaim.Tie as tie
 
 abbrev Inv-loop : tie.InvT-loop
-Inv-loop cords usable grants wants₀ scale freed₀ c₀ c-end wants freed c = (c ≤ length cords) × Reclaiming scale cords usable grants wants₀ c freed wants
+Inv-loop cords usable grants starts₀ wants₀ scale freed₀ c₀ c-end starts wants freed c = (c ≤ length cords) × Reclaiming scale cords usable grants wants₀ starts₀ c freed starts wants
 
 abbrev μ-loop : tie.MeasureT-loop
-μ-loop cords usable grants wants₀ scale freed₀ c₀ c-end wants freed c = c-end - c
+μ-loop cords usable grants starts₀ wants₀ scale freed₀ c₀ c-end starts wants freed c = c-end - c
 
 -- ---- What is known at a turn, once the place of the cord's server is read
 
@@ -20,7 +20,7 @@ abbrev Placed : Type 0
 Placed = tie.After-word-index Inv-loop μ-loop
 
 abbrev start : Placed → tie.Start Inv-loop μ-loop
-start p = p .before .before .before .before .before .before .before
+start p = p .before .before .before .before .before .before .before .before
 
 abbrev turn : Placed → tie.In-loop Inv-loop μ-loop
 turn p = p .before .before
@@ -28,9 +28,12 @@ turn p = p .before .before
 placed : (p : Placed) → p .word-index .result < length (start p .args .usable .now)
 placed p = omega (arith, start p .pre .0 .within _ (turn p .loop-test .taken), p .word-index .ensures .0)
 
--- There is a want for the cord.
+-- There is a start and a want for the cord.
+started : (p : Placed) → turn p .before .loop .c < length (turn p .before .loop .starts)
+started p = omega (arith, turn p .before .loop .inv .1 .starts-done .size-is, start p .pre .1, turn p .loop-test .taken)
+
 wanted : (p : Placed) → turn p .before .loop .c < length (turn p .before .loop .wants)
-wanted p = omega (arith, turn p .before .loop .inv .1 .wants-done .size-is, start p .pre .1, turn p .loop-test .taken)
+wanted p = omega (arith, turn p .before .loop .inv .1 .wants-done .size-is, start p .pre .2, turn p .loop-test .taken)
 
 loop-holds : tie.Need-loop-holds Inv-loop μ-loop
 loop-holds c = (omega arith, reclaiming-start)
@@ -82,6 +85,12 @@ add-freed c =
     let p = c .before .before .before .before .before .before in
     omega (arith, turn p .before .loop .inv .1 .freed-most, turn p .loop-test .taken, start p .pre .0 .few, c .over .ensures, c .before .before .wide .ensures .1)
 
+mul-starts : tie.Need-mul-starts Inv-loop μ-loop
+mul-starts c = search needs
+
+slice-write-starts : tie.Need-slice-write-starts Inv-loop μ-loop
+slice-write-starts c = started (c .before .before .before .before .before .before)
+
 mul-next-want : tie.Need-mul-next-want Inv-loop μ-loop
 mul-next-want c = search needs
 
@@ -112,14 +121,17 @@ loop-again c =
     let stranded = over .ensures ∙ ap₂ _-_ (wide .0) (c .before .before .before .wide2 .ensures .0) in
     let most : over .result ≤ 4294967295 = omega (arith, over .ensures, wide .1) in (
       omega (arith, less),
-      reclaiming-more (turn p .before .loop .inv .1) (start p .pre .1) less (p .word-index .ensures .0) (c .before .before .before .before .before .before .carried-by .ensures) stranded most (omega arith) (c .next-want .ensures),
+      reclaiming-more (turn p .before .loop .inv .1) (start p .pre .1, start p .pre .2) less (p .word-index .ensures .0) (c .before .before .before .before .before .before .carried-by .ensures) stranded most (omega arith) (c .next-want .ensures),
     )
 
 same-length : tie.Need-same-length Inv-loop μ-loop
-same-length c = c .before .loop .inv .1 .wants-done .size-is
+same-length c = c .before .loop .inv .1 .starts-done .size-is
+
+same-length-2 : tie.Need-same-length-2 Inv-loop μ-loop
+same-length-2 c = c .before .loop .inv .1 .wants-done .size-is
 
 returns : tie.Need-returns Inv-loop μ-loop
-returns c = reclaiming-end (c .before .loop .inv .1) (c .before .before .before .before .before .pre .1) (omega (arith, c .before .loop .inv .0, c .loop-test .left))
+returns c = reclaiming-end (c .before .loop .inv .1) (c .before .before .before .before .before .before .pre .1, c .before .before .before .before .before .before .pre .2) (omega (arith, c .before .loop .inv .0, c .loop-test .left))
 
 pub reclaim-spec : {M : Type 1} → statement M
 reclaim-spec =
@@ -142,6 +154,8 @@ reclaim-spec =
     wide-requires-2
     over-requires
     add-freed
+    mul-starts
+    slice-write-starts
     mul-next-want
     slice-read-next-want
     next-want-requires
@@ -151,4 +165,5 @@ reclaim-spec =
     loop-less
     loop-again
     same-length
+    same-length-2
     returns)

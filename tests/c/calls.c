@@ -472,9 +472,9 @@ static const char full_s_words[] =
 
 /* The rooms of document 01, those of its near misses with the right figures, and one refusal before the next. */
 static const struct plan_case plan_cases[] = {
-    {"H", room_h_words, "400 400", 12, 8, 0, 13, "120 97 303", "194 303"},
-    {"H, longer lists", room_h_words, "400 400", 19, 30, 0, 13, "120 97 303", "194 303"},
-    {"H, lists longer than any room's", room_h_words, "400 400", 100001, 50002, 0, 13, "120 97 303", "194 303"},
+    {"H", room_h_words, "400 400", 12, 8, 0, 13, "120 120 280", "240 280"},
+    {"H, longer lists", room_h_words, "400 400", 19, 30, 0, 13, "120 120 280", "240 280"},
+    {"H, lists longer than any room's", room_h_words, "400 400", 100001, 50002, 0, 13, "120 120 280", "240 280"},
     {"S", room_s_words, "430 430 430 430", 16, 16, 0, 0, "430 270 270 270", "430 270 270 270"},
     {"S, root rated 1,625", larger_s_words, "430 430 430 430", 16, 16, 0, 0, "430 281 294 295", "430 281 294 295"},
     {"S in version 2", second_s_words, "430 430 430 430", 16, 16, 0, 0, "430 270 270 270", "430 270 270 270"},
@@ -483,6 +483,8 @@ static const struct plan_case plan_cases[] = {
     {"weights are excesses", "1 2 0 188 1 125 2 1 0 1000 1 2 1000 1 0 100 1 1 1000", "1000 100", 8, 8, 0, 0, "75 75", "75 75"},
     {"60 W over 50 and 210", "1 1 0 75 2 1 0 50 1 1 1000 1 0 210 1 1 1000", "50 210", 8, 8, 0, 0, "11 49", "11 49"},
     {"a child node before a cord", "1 2 0 2 1 2 2 1 0 1 1 2 1000 1 0 1 1 1 1000", "1 1", 8, 8, 0, 0, "0 1", "0 1"},
+    {"watts in use go first, through a node", "1 3 0 150 1 100 0 25 3 1 0 100 2 3 500 2 500 1 0 100 1 2 1000 1 0 60 1 1 1000",
+     "100 100 60", 16, 12, 0, 2, "20 20 47 53", "40 47 53"},
     {"lows rounded up", "1 1 0 127 1 1 100 100 2 1 333 1 667", "100", 8, 4, 0, 0, "34 67", "100"},
     {"no servers, no demands", "1 1 0 150 0", "", 9, 9, 0, 0, "", ""},
     {"no servers, no lists", "1 1 0 150 0", "", 0, 0, 0, 0, "", ""},
@@ -493,7 +495,7 @@ static const struct plan_case plan_cases[] = {
     {"a demand over", room_h_words, "400 400 400", 12, 8, 10, 2, "", ""},
     {"a demand too large", room_h_words, "400 16777216", 0, 0, 11, 1, "", ""},
     {"two demands too large", room_h_words, "4294967295 16777216", 12, 8, 11, 0, "", ""},
-    {"the largest demands", room_h_words, "16777215 16777215", 12, 8, 0, 13, "120 97 303", "194 303"},
+    {"the largest demands", room_h_words, "16777215 16777215", 12, 8, 0, 13, "120 120 280", "240 280"},
     {"grants too short", room_h_words, "400 400", 11, 0, 12, 3, "", ""},
     {"caps too short", room_h_words, "400 400", 12, 7, 13, 2, "", ""},
 };

@@ -1,6 +1,6 @@
 //! Plan: the demands, both deals and what servers can use of them.
 
-use super::deal::Deals;
+use super::deal::{Deals, Starts};
 use super::table::{carried, Room, Table};
 use super::{tell, Outcome, Refusal, MOST_CORDS, MOST_SERVERS, MOST_WATTS};
 
@@ -45,9 +45,9 @@ fn plan_room(room: &Room, demands: Table, grants: &mut [u8], caps: &mut [u8]) ->
     }
     let deals = Deals::of(room);
     let mut granted = [0; MOST_CORDS];
-    deals.deal(room, &wants, &mut granted);
-    let freed = reclaim(room, &usable(room, &needs, &granted), &granted, &mut wants);
-    deals.deal(room, &wants, &mut granted);
+    deals.deal(room, &Starts::lows(room), &wants, &mut granted);
+    let (freed, used) = reclaim(room, &usable(room, &needs, &granted), &granted, &mut wants);
+    deals.deal(room, &Starts::used(room, used), &wants, &mut granted);
     put(&granted[..room.cord_count], grants);
     put(&usable(room, &needs, &granted)[..room.server_count], caps);
     freed
@@ -67,21 +67,22 @@ fn usable(room: &Room, needs: &[u32; MOST_SERVERS], granted: &[u32; MOST_CORDS])
     usable
 }
 
-/// A cord with stranded watts wants its used watts from now on; the sum of stranded watts.
+/// A cord with stranded watts wants its used watts from now on; the sum of stranded watts, and each cord's used watts.
 fn reclaim(
     room: &Room,
     usable: &[u32; MOST_SERVERS],
     granted: &[u32; MOST_CORDS],
     wants: &mut [u32; MOST_CORDS],
-) -> u64 {
+) -> (u64, [u32; MOST_CORDS]) {
     let mut freed = 0;
+    let mut used = [0; MOST_CORDS];
     for c in 0..room.cord_count {
-        let used = carried(room.shares[c].into(), usable[usize::from(room.servers[c])]);
-        let stranded = granted[c] - used;
+        used[c] = carried(room.shares[c].into(), usable[usize::from(room.servers[c])]);
+        let stranded = granted[c] - used[c];
         freed += u64::from(stranded);
-        wants[c] = if stranded > 0 { used } else { wants[c] };
+        wants[c] = if stranded > 0 { used[c] } else { wants[c] };
     }
-    freed
+    (freed, used)
 }
 
 fn put(list: &[u32], bytes: &mut [u8]) {

@@ -1,340 +1,361 @@
--- One rank of a deal, pass by pass: what each pass asks, and what they leave together. Then the loop over the ranks.
+-- The loop over the ranks: what each pass of a rank asks, and what they leave together.
 use mathlib.Core.Path.{_≡_, refl, sym, ap, _∙_, subst}
 use mathlib.Core.Bool.{Bool, true, false}
-use mathlib.Core.List.{List, []}
-use mathlib.Core.Logic.{⊎-elim}
-use Prim.Native.Nat.{ℕ, zero, suc, _+_, _-_, _*_, _/_, _≤_, _<_}
-use native.Mathlib.Nat.{eq-or-lt-of-le}
+use mathlib.Core.List.{List, [], _++_}
+use Prim.Native.Nat.{ℕ, suc, _+_, _-_, _*_, _/_, _≤_, _<_}
+use native.Mathlib.Nat.{le-refl}
 use native.Mathlib.Omega.{arith}
 use lib.Dec.{eqb}
-use lib.ListN.{length, getD, take, replicate, length-replicate, getD-replicate}
-use lib.Seq.{length-take-le}
+use lib.ListN.{length, getD, take, drop, replicate, length-replicate}
+use lib.Seq.{length-take-le, length-front, take-at}
 use borrow.Author.Tests.{eqb-true, eqb-false}
 use Rattle.figures.specs.Sums.{on, sum}
+use Rattle.figures.proofs.Sums.{sum-cong, sum-zero}
 use Rattle.rooms.specs.Table.{mostNodes, mostCords, mostWatts, highestRank}
 use Rattle.rooms.specs.Credits.{sumBeneath}
-use Rattle.figures.proofs.Sums.{sum-cong, sum-zero}
-use Rattle.figures.proofs.Filled.{zeros-at}
 use Rattle.rooms.proofs.Trees.{kids, down}
 use Rattle.figures.specs.Figures.{at, cell}
 use Rattle.deals.specs.Metrics.{dealFrom, metrics}
-use Rattle.deals.specs.Dealing.{granted}
-use Rattle.deal_by_rank.specs.Ranks.{NodeLists, LowsWithin, Spare, DealLists, NodeFigures, RankLists, RanksDealt, ColumnFilled, BlankRows}
-use Rattle.ranks.specs.Passes.{CordLists, HasCord, FullRows, onNode, overChildren, Gathered, cordsBefore, weightOf, NodesDealt, CordsDealt}
-use Rattle.levels.specs.Levels.{LevelLists, Absent}
 use Rattle.deals.proofs.Computed.{request}
+use Rattle.levels.specs.Levels.{Absent, ActiveNodes, CordsActive, CordsOf, LevelLists, entries, fromColumn, toColumn, countColumn}
+use Rattle.levels.proofs.Ordering.{entries-length}
+use Rattle.ranks.specs.Passes.{LevelCords, overListed, cordWeight, weightOf, overChildren, FullRows, Gathered, NodesDealt, CordsDealt}
 use Rattle.ranks.proofs.NodeSums.{kids-none}
-use Rattle.levels.proofs.Links.{chain-of, no-cord}
 use Rattle.ranks.proofs.Gathering.{Idle, beneath-none}
-use Rattle.deal_by_rank.proofs.Ranks.{State, state-of, ranks-dealt, state-start, state-end, state-skip, filled-skip, requests-are, lows-sum, excesses-sum, gather-asks, nodes-ask, cords-ask, cords-room, state-turn}
+use Rattle.deal_by_rank.specs.Ranks.{NodeLists, CordLists, DealLists, DealGiven, SomeDeal, BlankRows, DealMade}
+use Rattle.deal_by_rank.proofs.Ranks.{State, state-start, state-end, state-skip, sums-most, gather-asks, nodes-ask, cords-ask, state-turn}
 
--- ---- Lists of zeros, as they are lent at first
+-- ---- The front of a list
 
-zeros : ℕ → List ℕ
-zeros k = replicate k 0
+pub front-length : (n : ℕ) (l : List ℕ) → n ≤ length l → n ≡ length (take n l)
+front-length n l h = sym (length-take-le n l h)
 
-pub zeros-front : (k n : ℕ) → n ≤ k → length {A = ℕ} (take n (replicate k 0)) ≡ n
-unfolding zeros
-zeros-front k n h = length-take-le n (zeros k) (omega (arith, length-replicate {A = ℕ} k 0))
+-- The front is lent, and what comes back is put before the rest: the front again, and a list of the same length.
+pub front-again : (n : ℕ) (l rest : List ℕ) → length l ≡ n → take n (l ++ rest) ≡ l
+front-again n l rest e = take-at l rest n e
 
-pub zeros-rows : (k n : ℕ) → (length (replicate k (replicate {A = ℕ} n 0)) ≡ k) × ((m : ℕ) → m < k → length (getD (replicate k (replicate {A = ℕ} n 0)) m []) ≡ n)
-unfolding zeros
-zeros-rows k n = (length-replicate k (zeros n), λ m l. ap length (getD-replicate k m (zeros n) [] l) ∙ length-replicate {A = ℕ} n 0)
+pub front-size : (n : ℕ) (l rest : List ℕ) → length l ≡ n → n ≤ length rest → length (l ++ drop n rest) ≡ length rest
+front-size n l rest e h = length-front rest l n (e ∙ front-length n rest h)
 
-rows-at : (row : List ℕ) → ((j : ℕ) → at row j ≡ 0) → (k n j : ℕ) → cell (replicate k row) n j ≡ 0
-rows-at row z zero n j = refl
-rows-at row z (suc k) zero j = z j
-rows-at row z (suc k) (suc n) j = rows-at row z k n j
+-- The length of the lists with a rank's figure of each node.
+abbrev pub figuresLength : ℕ
+figuresLength = 520
 
-pub zeros-cells : (n j : ℕ) → cell (replicate mostNodes (replicate highestRank 0)) n j ≡ 0
-unfolding zeros
-zeros-cells n j = rows-at (zeros highestRank) (zeros-at highestRank) mostNodes n j
+pub zeros-length : (k : ℕ) → length {A = ℕ} (replicate k 0) ≡ k
+zeros-length k = length-replicate {A = ℕ} k 0
 
--- ---- One rank
-
--- The cords' lows and excesses at a level, summed on the nodes that they hang on.
-pub record Summed (nodes levels lows wants : List ℕ) (level count : ℕ) (pcapmins wholes : List ℕ) : Type 0 where
-  pub pcapmins-size : length pcapmins ≡ count
-  pub wholes-size : length wholes ≡ count
-  pub on-lows : (n : ℕ) → n < count → at pcapmins n ≡ onNode nodes levels lows level n
-  pub on-excesses : (n : ℕ) → n < count → at wholes n ≡ cordsBefore nodes levels lows wants level n (length nodes)
-
-module _ {parents limits nodes levels lows wants next : List ℕ} {level from : ℕ} {active : List ℕ} {count : ℕ} {rows : List (List ℕ)} {left pcapmins wholes amounts before dealt grants : List ℕ}
-    (given : RankLists parents limits nodes levels lows wants next level from active count rows left pcapmins wholes amounts before dealt grants) where
-  ns : NodeLists parents limits
-  ns = given .lists .of-nodes
-
-  cs : CordLists (length parents) nodes levels lows wants
-  cs = given .lists .of-cords
-
-  lw : LowsWithin parents limits nodes lows
-  lw = given .lists .lows-within
-
-  state : State parents limits nodes levels lows wants ns cs lw (suc level) left grants
-  state = state-of parents limits nodes levels lows wants ns cs lw (given .ranks)
-
-  -- What `sum_cords` asks, and what it leaves.
-  pub cords-fit : CordLists (length pcapmins) nodes levels lows wants
-  cords-fit = subst (λ (n : ℕ). CordLists n nodes levels lows wants) (sym (given .figures .pcapmins-size)) cs
-
-  pub wholes-fit : length wholes ≡ length pcapmins
-  wholes-fit = given .figures .wholes-size ∙ sym (given .figures .pcapmins-size)
-
-  pub summed : (pcapmins₁ wholes₁ : List ℕ) → length pcapmins₁ ≡ length pcapmins → length wholes₁ ≡ length wholes
-      → ((n : ℕ) → n < length pcapmins → at pcapmins₁ n ≡ onNode nodes levels lows level n)
-      → ((n : ℕ) → n < length pcapmins → at wholes₁ n ≡ cordsBefore nodes levels lows wants level n (length nodes))
-      → Summed nodes levels lows wants level (length parents) pcapmins₁ wholes₁
-  summed pcapmins₁ wholes₁ p a on-lows on-excesses = record {
-    pcapmins-size = p ∙ given .figures .pcapmins-size;
-    wholes-size = a ∙ given .figures .wholes-size;
-    on-lows = λ n l. on-lows n (omega (arith, given .figures .pcapmins-size));
-    on-excesses = λ n l. on-excesses n (omega (arith, given .figures .pcapmins-size));
-  }
-
-  module _ {pcapmins₁ wholes₁ : List ℕ} (sums : Summed nodes levels lows wants level (length parents) pcapmins₁ wholes₁) where
-    -- No cord of the level hangs on a node that is not active.
-    none-on : (figure : ℕ → ℕ) (n : ℕ) → Absent active count n → sum (length nodes) (λ c. on (eqb (at nodes c) (suc n)) (on (eqb (at levels c) level) (figure c))) ≡ 0
-    none-on figure n none = sum-cong (length nodes) _ _ (λ c l. here c l (eqb (at nodes c) (suc n)) refl (eqb (at levels c) level) refl) ∙ sum-zero (length nodes)
-      where
-        here : (c : ℕ) → c < length nodes → (t : Bool) → eqb (at nodes c) (suc n) ≡ t → (u : Bool) → eqb (at levels c) level ≡ u → on t (on u (figure c)) ≡ 0
-        here c l true e true q = absurd (given .cords-active c n l (eqb-true (at levels c) level q) (eqb-true (at nodes c) (suc n) e) none)
-        here c l true e false q = refl
-        here c l false e u q = refl
-
-    -- What `gather` asks.
-    pub gather-nodes : (length parents ≤ mostNodes) × (level < highestRank) × ((m : ℕ) → m < length parents → at parents m ≤ m)
-    gather-nodes = (ns .few, omega (arith, state .sum-is), ns .rises)
-
-    pub gather-sizes : (length left ≡ length parents) × (length pcapmins₁ ≡ length parents) × (length wholes₁ ≡ length parents)
-    gather-sizes = (given .figures .left-size, sums .pcapmins-size, sums .wholes-size)
-
-    pub gather-sums : (sum (length parents) (at pcapmins₁) ≤ mostCords * mostWatts) × (sum (length parents) (at wholes₁) ≤ mostCords * mostWatts)
-    gather-sums = (
-      lows-sum parents limits nodes levels lows wants ns cs lw level left grants state pcapmins₁ wholes₁ (sums .on-lows) (sums .on-excesses),
-      excesses-sum parents limits nodes levels lows wants ns cs lw level left grants state pcapmins₁ wholes₁ (sums .on-lows) (sums .on-excesses),
-    )
-
-    pub gather-room : (n : ℕ) → n < length parents → at left n + sumBeneath (at parents) (length parents) (at pcapmins₁) n ≤ mostWatts
-    gather-room = gather-asks parents limits nodes levels lows wants ns cs lw level left grants state pcapmins₁ wholes₁ (sums .on-lows) (sums .on-excesses)
-
-    pub gather-idle : Idle parents active count level pcapmins₁ wholes₁ rows
-    gather-idle n l none = (sums .on-lows n l ∙ none-on (at lows) n none, sums .on-excesses n l ∙ none-on (λ c. at wants c - at lows c) n none, given .blank n l none)
-
-    -- The lists after it.
-    pub gathered-sizes : {rows₁ : List (List ℕ)} {left₁ pcapmins₂ wholes₂ : List ℕ} → Gathered parents level left pcapmins₁ wholes₁ rows left₁ pcapmins₂ wholes₂ rows₁
-        → length left₁ ≡ length left → length pcapmins₂ ≡ length pcapmins₁ → length wholes₂ ≡ length wholes₁
-        → NodeFigures (length parents) left₁ pcapmins₂ wholes₂ amounts before dealt
-    gathered-sizes g l p w = record {
-      left-size = l ∙ given .figures .left-size;
-      pcapmins-size = p ∙ sums .pcapmins-size;
-      wholes-size = w ∙ sums .wholes-size;
-      amounts-size = given .figures .amounts-size;
-      before-size = given .figures .before-size;
-      dealt-size = given .figures .dealt-size;
-    }
-
-    module _ {rows₁ : List (List ℕ)} {left₁ pcapmins₂ wholes₂ : List ℕ} (sizes : NodeFigures (length parents) left₁ pcapmins₂ wholes₂ amounts before dealt)
-        (g : Gathered parents level left pcapmins₁ wholes₁ rows left₁ pcapmins₂ wholes₂ rows₁) where
-      -- What `deal_nodes` asks.
-      pub nodes-sizes : (length pcapmins₂ ≡ length parents) × (length wholes₂ ≡ length parents) × (length amounts ≡ length parents) × (length before ≡ length parents) × (length dealt ≡ length parents)
-      nodes-sizes = (sizes .pcapmins-size, sizes .wholes-size, sizes .amounts-size, sizes .before-size, sizes .dealt-size)
-
-      pub nodes-room : (n : ℕ) → n < length parents → (at pcapmins₂ n ≤ cell rows₁ n level) × (cell rows₁ n level ≤ mostWatts) × (weightOf rows₁ level pcapmins₂ n ≤ at wholes₂ n)
-          × (at wholes₂ n ≤ mostCords * mostWatts) × (overChildren parents (weightOf rows₁ level pcapmins₂) n ≤ at wholes₂ n)
-      nodes-room =
-          nodes-ask parents limits nodes levels lows wants ns cs lw level left grants state pcapmins₁ wholes₁ (sums .on-lows) (sums .on-excesses) rows rows₁ left₁ pcapmins₂ wholes₂ g
-
-      pub nodes-blank : (n : ℕ) → n < length parents → Absent active count n → cell rows₁ n level ≡ 0
-      unfolding kids
-      nodes-blank = down (length parents) (λ n. Absent active count n → cell rows₁ n level ≡ 0) (λ n l below none.
-          let child : (m : ℕ) → m < length parents → at parents m ≡ suc n → Absent active count m = λ m h e. given .nodes-active .closed m n h e none in
-          omega (
-            arith,
-            g .request n l,
-            g .children n l,
-            g .pcapmin n l,
-            gather-idle n l none .1,
-            beneath-none (given .nodes-active) (ns .rises) pcapmins₁ (λ m h away. gather-idle m h away .0) n l none,
-            kids-none (length parents) (at parents) n (weightOf rows₁ level pcapmins₂) (λ m h e. omega (arith, below m h (omega (arith, ns .rises m h)) (child m h e))),
-          ))
-
-      pub column-filled : ColumnFilled (length parents) level active count rows rows₁
-      column-filled = record { others = g .others; blank = nodes-blank }
-
-      -- The lists after it.
-      pub dealt-sizes : {amounts₁ before₁ dealt₁ : List ℕ} → NodesDealt parents active count level rows₁ pcapmins₂ wholes₂ amounts₁ before₁ dealt₁
-          → length amounts₁ ≡ length amounts → length before₁ ≡ length before → length dealt₁ ≡ length dealt
-          → NodeFigures (length parents) left₁ pcapmins₂ wholes₂ amounts₁ before₁ dealt₁
-      dealt-sizes nd a b d = record {
-        left-size = sizes .left-size;
-        pcapmins-size = sizes .pcapmins-size;
-        wholes-size = sizes .wholes-size;
-        amounts-size = a ∙ sizes .amounts-size;
-        before-size = b ∙ sizes .before-size;
-        dealt-size = d ∙ sizes .dealt-size;
-      }
-
-      module _ {amounts₁ before₁ dealt₁ : List ℕ} (sizes₁ : NodeFigures (length parents) left₁ pcapmins₂ wholes₂ amounts₁ before₁ dealt₁)
-          (nd : NodesDealt parents active count level rows₁ pcapmins₂ wholes₂ amounts₁ before₁ dealt₁) where
-        -- What `deal_cords` asks.
-        pub cords-lists : CordLists (length amounts₁) nodes levels lows wants
-        cords-lists = subst (λ (n : ℕ). CordLists n nodes levels lows wants) (sym (sizes₁ .amounts-size)) cs
-
-        pub cords-sizes : (length wholes₂ ≡ length amounts₁) × (length before₁ ≡ length amounts₁) × (length dealt₁ ≡ length amounts₁) × (length grants ≡ length nodes)
-        cords-sizes = (
-          sizes₁ .wholes-size ∙ sym (sizes₁ .amounts-size),
-          sizes₁ .before-size ∙ sym (sizes₁ .amounts-size),
-          sizes₁ .dealt-size ∙ sym (sizes₁ .amounts-size),
-          given .lists .grants-size,
-        )
-
-        pub cords-figures : (n : ℕ) → HasCord nodes levels level n → (at amounts₁ n ≤ mostWatts) × (at amounts₁ n ≤ at wholes₂ n) × (at wholes₂ n ≤ mostCords * mostWatts)
-            × (at dealt₁ n ≡ at amounts₁ n * at before₁ n / at wholes₂ n)
-        cords-figures n has =
-            cords-ask parents limits nodes levels lows wants ns cs lw level left grants state pcapmins₁ wholes₁ (sums .on-lows) (sums .on-excesses) rows rows₁ left₁ pcapmins₂ wholes₂ g
-            active count (given .nodes-active) (given .cords-active) amounts₁ before₁ dealt₁ nd n has
-
-        pub cords-weights : (n : ℕ) → HasCord nodes levels level n → at before₁ n + cordsBefore nodes levels lows wants level n (length nodes) ≤ at wholes₂ n
-        cords-weights n has =
-            cords-room parents limits nodes levels lows wants ns cs lw level left grants state pcapmins₁ wholes₁ (sums .on-lows) (sums .on-excesses) rows rows₁ left₁ pcapmins₂ wholes₂ g
-            active count (given .nodes-active) (given .cords-active) amounts₁ before₁ dealt₁ nd n has
-
-        -- What the four leave.
-        pub rank-dealt : {grants₁ : List ℕ} → CordsDealt nodes levels lows wants level wholes₂ amounts₁ before₁ grants grants₁
-            → RanksDealt (dealFrom parents limits nodes levels lows wants) level rows₁ left₁ grants₁
-        unfolding dealFrom request
-        rank-dealt {grants₁} cd =
-            ranks-dealt parents limits nodes levels lows wants ns cs lw
-            (state-turn parents limits nodes levels lows wants ns cs lw level left grants state pcapmins₁ wholes₁ (sums .on-lows) (sums .on-excesses) rows rows₁ left₁ pcapmins₂ wholes₂ g
-            active count (given .nodes-active) (given .cords-active) amounts₁ before₁ dealt₁ nd grants₁ cd)
-            filled (g .full)
-          where
-            filled : (n j : ℕ) → n < length parents → level ≤ j → j < highestRank → cell rows₁ n j ≡ request (dealFrom parents limits nodes levels lows wants) n j
-            filled n j l a b =
-                ⊎-elim
-                (λ e. subst (λ (k : ℕ). cell rows₁ n k ≡ request (dealFrom parents limits nodes levels lows wants) n k) e
-                (requests-are parents limits nodes levels lows wants ns cs lw level left grants state pcapmins₁ wholes₁ (sums .on-lows) (sums .on-excesses) rows rows₁ left₁ pcapmins₂ wholes₂ g n l))
-                (λ more. g .others n j (λ e. omega arith) ∙ given .ranks .filled n j l more b)
-                (eq-or-lt-of-le a)
-
--- ---- The loop over the ranks
+-- ---- The loop
 
 -- Before the ranks below `above`.
-pub record RankLoop (parents limits nodes levels lows wants first next : List ℕ) (actives : List (List ℕ)) (counts : List ℕ) (above : ℕ) (rows : List (List ℕ)) (left pcapmins wholes amounts before dealt grants : List ℕ) : Type 0 where
-  pub lists : DealLists parents limits nodes levels lows wants (length grants)
-  pub by-level : LevelLists parents nodes levels first next actives counts
-  pub figures : NodeFigures (length parents) left pcapmins wholes amounts before dealt
-  pub ranks : RanksDealt (dealFrom parents limits nodes levels lows wants) above rows left grants
-  pub blank : BlankRows (length parents) actives counts rows
-
-module _ {parents limits nodes levels lows wants : List ℕ} {grantCount : ℕ} (lists : DealLists parents limits nodes levels lows wants grantCount) where
-  pub levels-rank : (c : ℕ) → c < length levels → at levels c < highestRank
-  levels-rank c l = lists .of-cords .ranked c (omega (arith, lists .of-cords .levels-size))
-
-  pub levels-few : length levels ≤ mostCords
-  levels-few = omega (arith, lists .of-cords .few, lists .of-cords .levels-size)
-
-  pub cords-within : (c : ℕ) → c < length nodes → (at nodes c ≤ length parents) × (at levels c < highestRank)
-  cords-within c l = (lists .of-cords .within c l, lists .of-cords .ranked c l)
-
-  -- Before the first rank.
-  pub ranks-start : {rows : List (List ℕ)} {left : List ℕ} (grants : List ℕ) → FullRows rows → Spare parents limits nodes lows left
-      → RanksDealt (dealFrom parents limits nodes levels lows wants) highestRank rows left grants
-  ranks-start grants full spare =
-      ranks-dealt parents limits nodes levels lows wants (lists .of-nodes) (lists .of-cords) (lists .lows-within)
-      (state-start parents limits nodes levels lows wants (lists .of-nodes) (lists .of-cords) (lists .lows-within) _ grants spare) (λ n j l a b. absurd (omega arith)) full
+pub record RankLoop (parents : List ℕ) (rows : List (List ℕ)) (order : List ℕ) (actives : List (List ℕ)) (nodes lows starts wants left₀ : List ℕ) (above : ℕ) (left : List ℕ)
+    (requests : List (List ℕ)) (grants pcapmins bases wholes amounts before dealt : List ℕ) : Type 0 where
+  pub within : above ≤ highestRank
+  pub left-size : length left ≡ length parents
+  pub grants-size : length grants ≡ length nodes
+  pub pcapmins-size : length pcapmins ≡ figuresLength
+  pub bases-size : length bases ≡ figuresLength
+  pub wholes-size : length wholes ≡ figuresLength
+  pub amounts-size : length amounts ≡ figuresLength
+  pub before-size : length before ≡ figuresLength
+  pub dealt-size : length dealt ≡ figuresLength
+  pub blank : BlankRows (length parents) rows actives requests
+  pub state : (limits levels : List ℕ) → (given : DealGiven parents rows order actives nodes lows starts wants left₀ limits levels)
+      → State parents limits nodes levels lows starts wants (given .lists) above requests left grants
 
 -- A number above 0 is one more than the number before it.
-pub one-more : (n : ℕ) → 0 < n → n ≡ suc (n - 1)
+one-more : (n : ℕ) → 0 < n → n ≡ suc (n - 1)
 one-more n h = omega arith
 
-module _ {parents limits nodes levels lows wants first next : List ℕ} {actives : List (List ℕ)} {counts : List ℕ} {above : ℕ} {rows : List (List ℕ)} {left pcapmins wholes amounts before dealt grants : List ℕ}
-    (inv : RankLoop parents limits nodes levels lows wants first next actives counts above rows left pcapmins wholes amounts before dealt grants) where
-  -- After the last rank.
-  pub loop-end : above ≤ 0 → grants ≡ granted (dealFrom parents limits nodes levels lows wants)
-  loop-end h =
-      let z : above ≡ 0 = omega arith in
-      let lists = inv .lists in
-      state-end parents limits nodes levels lows wants (lists .of-nodes) (lists .of-cords) (lists .lows-within) left grants (lists .grants-size)
-      (subst (λ (a : ℕ). State parents limits nodes levels lows wants (lists .of-nodes) (lists .of-cords) (lists .lows-within) a left grants) z
-      (state-of parents limits nodes levels lows wants (lists .of-nodes) (lists .of-cords) (lists .lows-within) (inv .ranks)))
+module _ {parents : List ℕ} {rows : List (List ℕ)} {order : List ℕ} {actives : List (List ℕ)} {nodes lows starts wants left₀ : List ℕ}
+    (some-deal : SomeDeal parents rows order actives nodes lows starts wants left₀) where
+  abbrev lists : DealLists parents (some-deal .limits) nodes (some-deal .levels) lows starts wants
+  lists = some-deal .given .lists
 
-  -- The rows are then the Requests of all nodes.
-  pub rows-end : above ≤ 0 → (n j : ℕ) → n < length parents → j < highestRank → cell rows n j ≡ cell (metrics (dealFrom parents limits nodes levels lows wants) .requests) n j
-  unfolding dealFrom
-  rows-end h n j l b = inv .ranks .filled n j l (omega arith) b
+  abbrev ns : NodeLists parents (some-deal .limits)
+  ns = lists .of-nodes
 
-  module _ (some : 0 < above) where
-    abbrev level : ℕ
-    level = above - 1
+  abbrev cs : CordLists (length parents) nodes (some-deal .levels) lows starts wants
+  cs = lists .of-cords
 
-    pub level-fits : level < highestRank
-    unfolding dealFrom
-    level-fits = omega (arith, inv .ranks .within)
+  abbrev by-level : LevelLists parents nodes (some-deal .levels) rows order actives
+  by-level = some-deal .given .by-level
 
-    at-level : RanksDealt (dealFrom parents limits nodes levels lows wants) (suc level) rows left grants
-    at-level = subst (λ (a : ℕ). RanksDealt (dealFrom parents limits nodes levels lows wants) a rows left grants) (one-more above some) (inv .ranks)
+  pub few-nodes : length parents ≤ mostNodes
+  few-nodes = ns .few
 
-    -- A rank that no cord has.
-    pub loop-skip : {from : ℕ} → from ≡ at first level → length nodes ≤ from → RankLoop parents limits nodes levels lows wants first next actives counts level rows left pcapmins wholes amounts before dealt grants
+  module _ {above : ℕ} {left : List ℕ} {requests : List (List ℕ)} {grants pcapmins₀ bases₀ wholes₀ amounts₀ before₀ dealt₀ : List ℕ}
+      (inv : RankLoop parents rows order actives nodes lows starts wants left₀ above left requests grants pcapmins₀ bases₀ wholes₀ amounts₀ before₀ dealt₀) where
+    -- After the last rank.
+    pub loop-end : above ≤ 0 → (limits levels : List ℕ) → DealGiven parents rows order actives nodes lows starts wants left₀ limits levels
+        → DealMade (dealFrom parents limits nodes levels lows starts wants) requests grants
     unfolding dealFrom request
-    loop-skip is none =
-        let lists = inv .lists in
-        let n = lists .of-nodes in
-        let k = lists .of-cords in
+    loop-end h limits levels given =
+        let z : above ≡ 0 = omega arith in
+        let state : State parents limits nodes levels lows starts wants (given .lists) 0 requests left grants
+        = subst (λ (a : ℕ). State parents limits nodes levels lows starts wants (given .lists) a requests left grants) z (inv .state limits levels given) in
         record {
-          lists = lists;
-          by-level = inv .by-level;
-          figures = inv .figures;
-          ranks =
-              let counted = inv .by-level .none level level-fits (omega arith) in
-              let none : (c : ℕ) → c < length nodes → at levels c ≡ level → ⊥
-              = λ c l. no-cord (inv .by-level .linked) level level-fits is (omega (arith, k .levels-size)) c (omega (arith, k .levels-size)) in
-              let blank-here : (n : ℕ) → n < length parents → cell rows n level ≡ 0 = λ n l. inv .blank .blank n level l level-fits (λ i h. absurd (omega arith)) in
-              ranks-dealt parents limits nodes levels lows wants n k (lists .lows-within)
-              (state-skip parents limits nodes levels lows wants n k (lists .lows-within) level left grants none
-              (state-of parents limits nodes levels lows wants n k (lists .lows-within) at-level))
-              (filled-skip parents limits nodes levels lows wants n k (lists .lows-within) level rows level-fits none blank-here (at-level .filled)) (inv .ranks .full);
-          blank = inv .blank;
+          grants-are = state-end parents limits nodes levels lows starts wants (given .lists) (inv .grants-size) state;
+          requests-are = λ n j l b. state .filled n j l (omega arith) b;
         }
 
-    -- What one rank asks.
-    pub rank-lists : {from count : ℕ} → from ≡ at first level → from < length nodes → count ≡ at counts level
-        → RankLists parents limits nodes levels lows wants next level from (getD actives level []) count rows left pcapmins wholes amounts before dealt grants
-    rank-lists is some counted =
-        rw counted
-        (record {
-          lists = inv .lists;
-          chain = chain-of (inv .by-level .linked) level level-fits is;
-          nodes-active = inv .by-level .nodes-active level level-fits (omega arith);
-          cords-active = inv .by-level .cords-active level level-fits (omega arith);
-          figures = inv .figures;
-          ranks = at-level;
-          blank = λ n l absent. inv .blank .blank n level l level-fits absent;
-        })
+    module _ (more : 0 < above) where
+      abbrev level : ℕ
+      level = above - 1
 
-    -- The next rank.
-    pub loop-turn : {rows₁ : List (List ℕ)} {left₁ pcapmins₁ wholes₁ amounts₁ before₁ dealt₁ grants₁ : List ℕ} → length left₁ ≡ length left → length pcapmins₁ ≡ length pcapmins → length wholes₁ ≡ length wholes → length amounts₁ ≡ length amounts → length before₁ ≡ length before → length dealt₁ ≡ length dealt
-        → length grants₁ ≡ length grants → RanksDealt (dealFrom parents limits nodes levels lows wants) level rows₁ left₁ grants₁
-        → {count : ℕ} → count ≡ at counts level → ColumnFilled (length parents) level (getD actives level []) count rows rows₁
-        → RankLoop parents limits nodes levels lows wants first next actives counts level rows₁ left₁ pcapmins₁ wholes₁ amounts₁ before₁ dealt₁ grants₁
-    loop-turn {rows₁} l p w m b d g ranks counted column = record {
-      lists = subst (DealLists parents limits nodes levels lows wants) (sym g) (inv .lists);
-      by-level = inv .by-level;
-      figures = record {
-        left-size = l ∙ inv .figures .left-size;
-        pcapmins-size = p ∙ inv .figures .pcapmins-size;
-        wholes-size = w ∙ inv .figures .wholes-size;
-        amounts-size = m ∙ inv .figures .amounts-size;
-        before-size = b ∙ inv .figures .before-size;
-        dealt-size = d ∙ inv .figures .dealt-size;
-      };
-      ranks = ranks;
-      blank = record { full = ranks .full; blank = λ n j h u absent. kept n j h u absent (eqb j level) refl };
-    }
-      where
-        kept : (n j : ℕ) → n < length parents → j < highestRank → Absent (getD actives j []) (at counts j) n → (t : Bool) → eqb j level ≡ t → cell rows₁ n j ≡ 0
-        kept n j h u absent true e =
-            let q = eqb-true j level e in
-            rw q (column .blank n h (rw counted (rw q at absent)))
-        kept n j h u absent false e = column .others n j (eqb-false j level e) ∙ inv .blank .blank n j h u absent
+      pub level-fits : level < highestRank
+      level-fits = omega (arith, inv .within)
+
+      at-level : (limits levels : List ℕ) (given : DealGiven parents rows order actives nodes lows starts wants left₀ limits levels)
+          → State parents limits nodes levels lows starts wants (given .lists) (suc level) requests left grants
+      at-level limits levels given =
+          subst (λ (a : ℕ). State parents limits nodes levels lows starts wants (given .lists) a requests left grants) (one-more above more) (inv .state limits levels given)
+
+      -- A rank that no cord has.
+      pub loop-skip : {from to : ℕ} → from ≡ cell rows level fromColumn → to ≡ cell rows level toColumn → to ≤ from
+          → RankLoop parents rows order actives nodes lows starts wants left₀ level left requests grants pcapmins₀ bases₀ wholes₀ amounts₀ before₀ dealt₀
+      loop-skip {from} {to} ef et none = record {
+        within = omega (arith, inv .within);
+        left-size = inv .left-size;
+        grants-size = inv .grants-size;
+        pcapmins-size = inv .pcapmins-size;
+        bases-size = inv .bases-size;
+        wholes-size = inv .wholes-size;
+        amounts-size = inv .amounts-size;
+        before-size = inv .before-size;
+        dealt-size = inv .dealt-size;
+        blank = inv .blank;
+        state = λ limits levels given.
+            let by = given .by-level in
+            let bounds = by .ordered .bounds level level-fits in
+            let of = by .ordered .cords level level-fits in
+            let empty : length (entries order (cell rows level fromColumn) (cell rows level toColumn)) ≡ 0
+            = entries-length order (cell rows level fromColumn) (cell rows level toColumn) (bounds .1) ∙ omega (arith, ef, et) in
+            let no-cord : (c : ℕ) → c < length nodes → at levels c ≡ level → ⊥
+            = λ c l e. let found = of .all c (omega (arith, given .lists .of-cords .levels-size)) e in absurd (omega (arith, found .below, empty)) in
+            let counted = by .none level level-fits (omega (arith, ef, et)) in
+            state-skip parents limits nodes levels lows starts wants (given .lists) level no-cord
+            (λ n l. inv .blank .blank n level l level-fits (λ i h. absurd (omega (arith, counted)))) (at-level limits levels given);
+      }
+
+      module _ {from to count : ℕ} (ef : from ≡ cell rows level fromColumn) (et : to ≡ cell rows level toColumn) (ec : count ≡ cell rows level countColumn) (has : from < to) where
+        abbrev listed : List ℕ
+        listed = entries order from to
+
+        abbrev active : List ℕ
+        active = getD actives level []
+
+        pub part-end : to ≤ length order
+        part-end = omega (arith, et, by-level .ordered .bounds level level-fits)
+
+        listed-of : (limits levels : List ℕ) → DealGiven parents rows order actives nodes lows starts wants left₀ limits levels → CordsOf levels level listed
+        listed-of limits levels given = rw (ef, et) (given .by-level .ordered .cords level level-fits)
+
+        nodes-active : ActiveNodes parents active count
+        nodes-active = rw ec (by-level .nodes-active level level-fits (omega (arith, ef, et)))
+
+        cords-active : (limits levels : List ℕ) → DealGiven parents rows order actives nodes lows starts wants left₀ limits levels → CordsActive nodes levels level active count
+        cords-active limits levels given = rw ec (given .by-level .cords-active level level-fits (omega (arith, ef, et)))
+
+        of : CordsOf (some-deal .levels) level listed
+        of = listed-of (some-deal .limits) (some-deal .levels) (some-deal .given)
+
+        here : State parents (some-deal .limits) nodes (some-deal .levels) lows starts wants lists (suc level) requests left grants
+        here = at-level (some-deal .limits) (some-deal .levels) (some-deal .given)
+
+        -- A listed cord is one of the room's.
+        cord-within : (i : ℕ) → i < length listed → at listed i < length nodes
+        cord-within i h = omega (arith, of .within i h, cs .levels-size)
+
+        -- What `sum_cords` and `deal_cords` ask of the cords.
+        pub level-cords : (bottoms : List ℕ) → length bottoms ≡ length nodes → ((c : ℕ) → c < length nodes → at bottoms c ≤ at starts c)
+            → {size : ℕ} → size ≡ length parents → LevelCords size listed nodes bottoms starts wants
+        level-cords bottoms bottoms-size least {size} e = record {
+          few = omega (arith, entries-length order from to part-end, part-end, by-level .ordered .size, cs .levels-size, cs .few);
+          lows-size = bottoms-size;
+          starts-size = cs .starts-size;
+          wants-size = cs .wants-size;
+          within = cord-within;
+          rises = of .rises;
+          hangs = λ i h. cs .hangs (at listed i) (cord-within i h);
+          there = λ i h. omega (arith, cs .within (at listed i) (cord-within i h));
+          ordered = λ i h. (least (at listed i) (cord-within i h), cs .ordered (at listed i) (cord-within i h));
+          most = λ i h. cs .most (at listed i) (cord-within i h);
+        }
+
+        pub sum-cords-asks : {size size-b size-w : ℕ} → size ≡ length parents → size-b ≡ length parents → size-w ≡ length parents
+            → LevelCords size listed nodes lows starts wants × ((size-b ≡ size) × (size-w ≡ size))
+        sum-cords-asks e eb ew = (level-cords lows (cs .lows-size) (cs .least) e, (eb ∙ sym e, ew ∙ sym e))
+
+        -- What it leaves.
+        pub record Summed (pcapmins bases wholes : List ℕ) : Type 0 where
+          pub pcapmins-size : length pcapmins ≡ length parents
+          pub bases-size : length bases ≡ length parents
+          pub wholes-size : length wholes ≡ length parents
+          pub on-lows : (n : ℕ) → n < length parents → at pcapmins n ≡ overListed listed nodes (at lows) n
+          pub on-starts : (n : ℕ) → n < length parents → at bases n ≡ overListed listed nodes (at starts) n
+          pub on-weights : (n : ℕ) → n < length parents → at wholes n ≡ overListed listed nodes (cordWeight starts wants) n
+
+        pub summed : {size : ℕ} {p b w : List ℕ} → size ≡ length parents → length p ≡ length parents → length b ≡ length parents → length w ≡ length parents
+            → ((n : ℕ) → n < size → at p n ≡ overListed listed nodes (at lows) n)
+            → ((n : ℕ) → n < size → at b n ≡ overListed listed nodes (at starts) n)
+            → ((n : ℕ) → n < size → at w n ≡ overListed listed nodes (cordWeight starts wants) n) → Summed p b w
+        summed e sp sb sw on-lows on-starts on-weights = record {
+          pcapmins-size = sp;
+          bases-size = sb;
+          wholes-size = sw;
+          on-lows = λ n l. on-lows n (omega arith);
+          on-starts = λ n l. on-starts n (omega arith);
+          on-weights = λ n l. on-weights n (omega arith);
+        }
+
+        pub summed-again : {p b w : List ℕ} → Summed p b w → (p₁ b₁ w₁ : List ℕ) → p₁ ≡ p → b₁ ≡ b → w₁ ≡ w → Summed p₁ b₁ w₁
+        summed-again sums p₁ b₁ w₁ ep eb ew = rw (ep, eb, ew) sums
+
+        module _ {p b w : List ℕ} (sums : Summed p b w) where
+          -- No listed cord hangs on a node that is not active.
+          none-on : (figure : ℕ → ℕ) (n : ℕ) → Absent active count n → overListed listed nodes figure n ≡ 0
+          none-on figure n none = sum-cong (length listed) _ _ (λ i h. at-entry i h (eqb (at nodes (at listed i)) (suc n)) refl) ∙ sum-zero (length listed)
+            where
+              at-entry : (i : ℕ) → i < length listed → (t : Bool) → eqb (at nodes (at listed i)) (suc n) ≡ t → on t (figure (at listed i)) ≡ 0
+              at-entry i h true e =
+                  absurd (cords-active (some-deal .limits) (some-deal .levels) (some-deal .given) (at listed i) n (cord-within i h) (of .ranked i h) (eqb-true (at nodes (at listed i)) (suc n) e) none)
+              at-entry i h false e = refl
+
+          -- What `gather` asks.
+          pub gather-nodes : (length parents ≤ mostNodes) × (level < highestRank) × ((m : ℕ) → m < length parents → at parents m ≤ m)
+          gather-nodes = (ns .few, level-fits, ns .rises)
+
+          pub gather-sizes : (length left ≡ length parents) × (length p ≡ length parents) × (length b ≡ length parents) × (length w ≡ length parents)
+          gather-sizes = (inv .left-size, sums .pcapmins-size, sums .bases-size, sums .wholes-size)
+
+          pub gather-sums : (sum (length parents) (at p) ≤ mostCords * mostWatts) × (sum (length parents) (at b) ≤ mostCords * mostWatts) × (sum (length parents) (at w) ≤ mostCords * mostWatts)
+          gather-sums = sums-most parents (some-deal .limits) nodes (some-deal .levels) lows starts wants lists level here listed of p b w (sums .on-lows) (sums .on-starts) (sums .on-weights)
+
+          pub gather-room : (n : ℕ) → n < length parents
+              → (at left n + sumBeneath (at parents) (length parents) (at p) n ≤ mostWatts)
+              × (sumBeneath (at parents) (length parents) (at b) n ≤ at left n + sumBeneath (at parents) (length parents) (at p) n)
+          gather-room = gather-asks parents (some-deal .limits) nodes (some-deal .levels) lows starts wants lists level here listed of p b w (sums .on-lows) (sums .on-starts) (sums .on-weights)
+
+          pub gather-idle : Idle parents active count level p b w requests
+          gather-idle n l none = (
+            sums .on-lows n l ∙ none-on (at lows) n none,
+            sums .on-starts n l ∙ none-on (at starts) n none,
+            sums .on-weights n l ∙ none-on (cordWeight starts wants) n none,
+            inv .blank .blank n level l level-fits (rw ec at none),
+          )
+
+          pub gather-active : ActiveNodes parents active count
+          gather-active = nodes-active
+
+          module _ {requests₁ : List (List ℕ)} {left₁ p₁ b₁ w₁ : List ℕ} (g : Gathered parents level left p b w requests left₁ p₁ b₁ w₁ requests₁) where
+            -- What `deal_nodes` asks.
+            pub nodes-room : (n : ℕ) → n < length parents → (at b₁ n ≤ cell requests₁ n level) × (cell requests₁ n level ≤ mostWatts) × (weightOf requests₁ level b₁ n ≤ at w₁ n)
+                × (at w₁ n ≤ mostCords * mostWatts) × (overChildren parents (weightOf requests₁ level b₁) n ≤ at w₁ n)
+            nodes-room =
+                nodes-ask parents (some-deal .limits) nodes (some-deal .levels) lows starts wants lists level here listed of p b w (sums .on-lows) (sums .on-starts) (sums .on-weights)
+                requests₁ left₁ p₁ b₁ w₁ g
+
+            pub nodes-blank : (n : ℕ) → n < length parents → Absent active count n → cell requests₁ n level ≡ 0
+            unfolding kids
+            nodes-blank = down (length parents) (λ n. Absent active count n → cell requests₁ n level ≡ 0) (λ n l below none.
+                let child : (m : ℕ) → m < length parents → at parents m ≡ suc n → Absent active count m = λ m h e. nodes-active .closed m n h e none in
+                omega (
+                  arith,
+                  g .request n l,
+                  g .children n l,
+                  g .start n l,
+                  gather-idle n l none .2,
+                  beneath-none nodes-active (ns .rises) b (λ m h away. gather-idle m h away .1) n l none,
+                  kids-none (length parents) (at parents) n (weightOf requests₁ level b₁) (λ m h e. omega (arith, below m h (omega (arith, ns .rises m h)) (child m h e))),
+                ))
+
+            -- The same of lists that are equal.
+            pub deal-nodes-asks : (b₂ w₂ : List ℕ) → b₂ ≡ b₁ → w₂ ≡ w₁ → length b₁ ≡ length parents → length w₁ ≡ length parents
+                → {size-a size-e size-d : ℕ} → size-a ≡ length parents → size-e ≡ length parents → size-d ≡ length parents
+                → ((length parents ≤ mostNodes) × (level < highestRank) × ((m : ℕ) → m < length parents → at parents m ≤ m))
+                × (((length b₂ ≡ length parents) × (length w₂ ≡ length parents) × (size-a ≡ length parents) × (size-e ≡ length parents) × (size-d ≡ length parents))
+                × (((n : ℕ) → n < length parents → (at b₂ n ≤ cell requests₁ n level) × (cell requests₁ n level ≤ mostWatts) × (weightOf requests₁ level b₂ n ≤ at w₂ n)
+                × (at w₂ n ≤ mostCords * mostWatts) × (overChildren parents (weightOf requests₁ level b₂) n ≤ at w₂ n))
+                × (ActiveNodes parents active count × ((n : ℕ) → n < length parents → Absent active count n → cell requests₁ n level ≡ 0))))
+            deal-nodes-asks b₂ w₂ eb ew sb sw sa se sd = rw (eb, ew) (gather-nodes, ((sb, sw, sa, se, sd), (nodes-room, (nodes-active, nodes-blank))))
+
+            module _ {amounts before dealt : List ℕ} (nd : NodesDealt parents active count level requests₁ b₁ w₁ amounts before dealt) where
+              -- What `deal_cords` asks.
+              pub cords-room : (i n : ℕ) → i < length listed → at nodes (at listed i) ≡ suc n → (at amounts n ≤ mostWatts) × (at amounts n ≤ at w₁ n) × (at w₁ n ≤ mostCords * mostWatts)
+                  × (at dealt n ≡ at amounts n * at before n / at w₁ n)
+                  × (at before n + overListed listed nodes (cordWeight starts wants) n ≤ at w₁ n)
+              cords-room =
+                  cords-ask parents (some-deal .limits) nodes (some-deal .levels) lows starts wants lists level here listed of p b w (sums .on-lows) (sums .on-starts) (sums .on-weights)
+                  requests₁ left₁ p₁ b₁ w₁ g active count nodes-active (cords-active (some-deal .limits) (some-deal .levels) (some-deal .given)) amounts before dealt nd
+
+              pub deal-cords-asks : (w₂ a₂ e₂ d₂ : List ℕ) → w₂ ≡ w₁ → a₂ ≡ amounts → e₂ ≡ before → d₂ ≡ dealt
+                  → length w₁ ≡ length parents → length amounts ≡ length parents → length before ≡ length parents → length dealt ≡ length parents
+                  → LevelCords (length a₂) listed nodes starts starts wants
+                  × (((length w₂ ≡ length a₂) × (length e₂ ≡ length a₂) × (length d₂ ≡ length a₂) × (length grants ≡ length nodes))
+                  × ((i n : ℕ) → i < length listed → at nodes (at listed i) ≡ suc n → (at a₂ n ≤ mostWatts) × (at a₂ n ≤ at w₂ n) × (at w₂ n ≤ mostCords * mostWatts)
+                  × (at d₂ n ≡ at a₂ n * at e₂ n / at w₂ n)
+                  × (at e₂ n + overListed listed nodes (cordWeight starts wants) n ≤ at w₂ n)))
+              deal-cords-asks w₂ a₂ e₂ d₂ ew ea ee ed sw sa se sd =
+                  rw (ew, ea, ee, ed) (
+                    level-cords starts (cs .starts-size) (λ c l. le-refl _) sa,
+                    ((sw ∙ sym sa, se ∙ sym sa, sd ∙ sym sa, inv .grants-size), cords-room),
+                  )
+
+              module _ {grants₁ : List ℕ} (cd : CordsDealt listed nodes starts wants w₁ amounts before grants grants₁) where
+                -- The next rank.
+                pub loop-turn : {pcapmins₂ bases₂ wholes₂ amounts₂ before₂ dealt₂ : List ℕ} → length left₁ ≡ length left → length grants₁ ≡ length grants
+                    → length pcapmins₂ ≡ figuresLength → length bases₂ ≡ figuresLength → length wholes₂ ≡ figuresLength
+                    → length amounts₂ ≡ figuresLength → length before₂ ≡ figuresLength → length dealt₂ ≡ figuresLength
+                    → RankLoop parents rows order actives nodes lows starts wants left₀ level left₁ requests₁ grants₁ pcapmins₂ bases₂ wholes₂ amounts₂ before₂ dealt₂
+                loop-turn el eg sp sb sw sa se sd = record {
+                  within = omega (arith, inv .within);
+                  left-size = el ∙ inv .left-size;
+                  grants-size = eg ∙ inv .grants-size;
+                  pcapmins-size = sp;
+                  bases-size = sb;
+                  wholes-size = sw;
+                  amounts-size = sa;
+                  before-size = se;
+                  dealt-size = sd;
+                  blank = record { full = g .full; blank = λ n j h u absent. kept n j h u absent (eqb j level) refl };
+                  state = λ limits levels given.
+                      state-turn parents limits nodes levels lows starts wants (given .lists) level (at-level limits levels given) listed (listed-of limits levels given) p b w
+                      (sums .on-lows) (sums .on-starts) (sums .on-weights) requests₁ left₁ p₁ b₁ w₁ g active count nodes-active (cords-active limits levels given) amounts before dealt nd grants₁ cd;
+                }
+                  where
+                    kept : (n j : ℕ) → n < length parents → j < highestRank → Absent (getD actives j []) (cell rows j countColumn) n → (t : Bool) → eqb j level ≡ t → cell requests₁ n j ≡ 0
+                    kept n j h u absent true e =
+                        let q = eqb-true j level e in
+                        rw q (nodes-blank n h (rw ec (rw q at absent)))
+                    kept n j h u absent false e = g .others n j (eqb-false j level e) ∙ inv .blank .blank n j h u absent
+
+-- What is said of lists is said of equal ones.
+pub nodes-again : {parents active : List ℕ} {count level : ℕ} {rows : List (List ℕ)} {b w amounts before dealt b₁ w₁ : List ℕ}
+    → NodesDealt parents active count level rows b w amounts before dealt → b ≡ b₁ → w ≡ w₁ → NodesDealt parents active count level rows b₁ w₁ amounts before dealt
+nodes-again nd eb ew = rw (sym eb, sym ew) nd
+
+pub cords-again : {listed nodes starts wants w amounts before grants grants₁ w₁ amounts₁ before₁ : List ℕ}
+    → CordsDealt listed nodes starts wants w amounts before grants grants₁ → w ≡ w₁ → amounts ≡ amounts₁ → before ≡ before₁
+    → CordsDealt listed nodes starts wants w₁ amounts₁ before₁ grants grants₁
+cords-again cd ew ea eb = rw (sym ew, sym ea, sym eb) cd
+
+-- Before the first rank.
+pub loop-start : {parents : List ℕ} {rows : List (List ℕ)} {order : List ℕ} {actives : List (List ℕ)} {nodes lows starts wants left : List ℕ} {requests : List (List ℕ)}
+    {grants pcapmins bases wholes amounts before dealt : List ℕ} → SomeDeal parents rows order actives nodes lows starts wants left → length grants ≡ length nodes
+    → BlankRows (length parents) rows actives requests
+    → length pcapmins ≡ figuresLength → length bases ≡ figuresLength → length wholes ≡ figuresLength
+    → length amounts ≡ figuresLength → length before ≡ figuresLength → length dealt ≡ figuresLength
+    → RankLoop parents rows order actives nodes lows starts wants left highestRank left requests grants pcapmins bases wholes amounts before dealt
+loop-start {parents} {rows} {order} {actives} {nodes} {lows} {starts} {wants} {left} {requests} {grants} deal size blank sp sb sw sa se sd = record {
+  within = le-refl highestRank;
+  left-size = deal .given .spared .size;
+  grants-size = size;
+  pcapmins-size = sp;
+  bases-size = sb;
+  wholes-size = sw;
+  amounts-size = sa;
+  before-size = se;
+  dealt-size = sd;
+  blank = blank;
+  state = λ limits levels given. state-start parents limits nodes levels lows starts wants (given .lists) requests left grants (given .spared);
+}

@@ -1,4 +1,5 @@
--- Both deals of a room whose table is accepted: each goes by wants that lie above the lows, so that what holds of every deal holds of both.
+-- Both deals of a room whose table is accepted: each goes by wants that lie above the lows, and starts from watts that its Requests
+-- have room for, so that what holds of every deal holds of both.
 use mathlib.Core.Path.{_≡_, refl, sym, ap, ap₂, _∙_, subst}
 use mathlib.Core.Bool.{Bool, true, false, cond, _&&_}
 use mathlib.Core.List.{List, []}
@@ -21,14 +22,15 @@ use Rattle.rooms.specs.Cords.{RoomCord, cordAt, serverAt, serverOf}
 use Rattle.deals.specs.Wants.{need, needs, firstWants}
 use Rattle.rooms.specs.Lists.{carriedBy, lowsOf, parentsOf, nodesOf}
 use Rattle.deals.specs.Metrics.{Deal, dealFrom, dealOf}
-use Rattle.deals.specs.SecondDeal.{leastOver, loaded, loadOf, usable, stranded, wantsAfter, firstGrants, firstUsable, firstUsed, secondWants, secondGrants, caps}
-use Rattle.deals.specs.Dealing.{grantsBy}
+use Rattle.deals.specs.SecondDeal.{leastOver, loaded, loadOf, usable, stranded, wantsAfter, firstDeal, firstGrants, firstUsable, firstUsed, secondDeal, secondWants, secondGrants, caps}
+use Rattle.deals.specs.Dealing.{granted}
 use Rattle.deals.proofs.Requests.{Dealable, WholeWay}
 use Rattle.figures.proofs.Lists.{figures-at, figures-length}
-use Rattle.deals.proofs.Computed.{Startable, lows-startable, granted-way}
+use Rattle.deals.proofs.Computed.{Startable, lows-startable, granted-way, granted-start}
+use Rattle.deals.proofs.Starts.{later-startable}
 use Rattle.rooms.proofs.Carried.{carried-le}
 use Rattle.rooms.proofs.Cords.{cordsOf-all, lows-sum}
-use Rattle.deals.proofs.RoomDeals.{levelsOf-at, roomDeal, dealOf-is, grantsBy-is}
+use Rattle.deals.proofs.RoomDeals.{levelsOf-at, roomDeal, dealOf-is}
 use Rattle.deals.proofs.Loads.{carried-mono, load-within, load-reached, both, leastOver-ge, leastOver-start, leastOver-le}
 
 -- What the rules leave of one of the room's cords.
@@ -133,18 +135,27 @@ module _ (r : Room) (ok : Accepted r) where
   pub usable-need : (need grants : List ℕ) (v : ℕ) → v < length (r .servers) → at (usable r need grants) v ≤ at need v
   usable-need need grants v l = le-trans (le-of-eq (usable-at r need grants v l)) (leastOver-start (roomCords r) (loaded r v) (loadOf r grants) (at need v))
 
+  -- Servers whose cords are granted what they carry of some loads, none above its need, can use those loads.
+  usable-ge : (need grants loads : List ℕ) → ((v : ℕ) → v < length (r .servers) → at loads v ≤ at need v)
+      → ((c : ℕ) → c < roomCords r → at (carriedBy r loads) c ≤ at grants c)
+      → (v : ℕ) → v < length (r .servers) → at loads v ≤ at (usable r need grants) v
+  usable-ge need grants loads n h v l =
+      le-trans
+      (leastOver-ge (roomCords r) (at loads v) (loaded r v) (loadOf r grants) (at need v) (n v l) (λ c lc t.
+      let q : (eqb (cordAt r c .server) v ≡ true) × (ltb 0 (cordAt r c .share) ≡ true) = both _ _ t in
+      le-trans (le-of-eq (ap (at loads) (sym (eqb-true (cordAt r c .server) v (q .0)))))
+      (load-reached (r .scale) (cordAt r c .share) (at loads (cordAt r c .server)) (at grants c) (ok .scaled .0) (ltb-true 0 (cordAt r c .share) (q .1))
+      (le-trans (le-of-eq (sym (carriedBy-at r loads c lc))) (h c lc)))))
+      (le-of-eq (sym (usable-at r need grants v l)))
+
+  -- So they can use their leasts, where no grant is below the low.
   pub usable-least : (need grants : List ℕ) → ((v : ℕ) → v < length (r .servers) → serverAt r v .least ≤ at need v)
       → ((c : ℕ) → c < roomCords r → at (lowsOf r) c ≤ at grants c)
       → (v : ℕ) → v < length (r .servers) → serverAt r v .least ≤ at (usable r need grants) v
+  unfolding lowsOf
   usable-least need grants n h v l =
-      le-trans
-      (leastOver-ge (roomCords r) (serverAt r v .least) (loaded r v) (loadOf r grants) (at need v) (n v l) (λ c lc t.
-      let q : (eqb (cordAt r c .server) v ≡ true) × (ltb 0 (cordAt r c .share) ≡ true) = both _ _ t in
-      let e : serverOf r c .least ≡ serverAt r v .least = ap (λ (z : ℕ). serverAt r z .least) (eqb-true (cordAt r c .server) v (q .0)) in
-      le-trans (le-of-eq (sym e))
-      (load-reached (r .scale) (cordAt r c .share) (serverOf r c .least) (at grants c) (ok .scaled .0) (ltb-true 0 (cordAt r c .share) (q .1))
-      (le-trans (le-of-eq (sym (lowsOf-at c lc))) (h c lc)))))
-      (le-of-eq (sym (usable-at r need grants v l)))
+      let least : (v : ℕ) → v < length (r .servers) → at (leasts r) v ≡ serverAt r v .least = λ v l. figures-at (length (r .servers)) v _ l in
+      le-trans (le-of-eq (sym (least v l))) (usable-ge need grants (leasts r) (λ v l. le-trans (le-of-eq (least v l)) (n v l)) h v l)
 
   -- A cord uses no more than its grant.
   pub used-granted : (need grants : List ℕ) (c : ℕ) → c < roomCords r → at (carriedBy r (usable r need grants)) c ≤ at grants c
@@ -172,15 +183,15 @@ module _ (r : Room) (ok : Accepted r) where
   pub lows-under : (n : ℕ) → sum (length (nodesOf r)) (λ c. on (beneath (at (parentsOf r)) (length (parentsOf r)) n (at (nodesOf r) c)) (at (lowsOf r) c)) ≡ lowsBeneath r n
   unfolding dealOf dealFrom
   lows-under n =
-      ap (λ (d : Deal). sum (d .cords) (λ c. on (beneath (d .parent) (d .nodes) n (d .node c)) (d .low c))) (dealOf-is r []) ∙ lows-are n
+      ap (λ (d : Deal). sum (d .cords) (λ c. on (beneath (d .parent) (d .nodes) n (d .node c)) (d .low c))) (dealOf-is r [] []) ∙ lows-are n
 
   lows-fit : (n : ℕ) → n < length (r .nodes)
       → under (length (r .nodes)) (parentOf r) (roomCords r) (λ c. cordAt r c .node) n (at (lowsOf r)) ≤ limit (nodeAt r n)
   unfolding under
   lows-fit n l = le-trans (le-of-eq (lows-are n)) (ok .lows n l)
 
-  pub room-dealable : (wants : List ℕ) → ((c : ℕ) → c < roomCords r → at (lowsOf r) c ≤ at wants c) → Dealable (roomDeal r wants)
-  room-dealable wants h = record {
+  pub room-dealable : (starts wants : List ℕ) → ((c : ℕ) → c < roomCords r → at (lowsOf r) c ≤ at wants c) → Dealable (roomDeal r starts wants)
+  room-dealable starts wants h = record {
     rises = parents-below;
     here = λ c l. cord-facts c l .2;
     hangs = λ c l. cord-facts c l .1;
@@ -189,21 +200,20 @@ module _ (r : Room) (ok : Accepted r) where
     lows = lows-fit;
   }
 
-  -- Each cord starts from its low.
-  pub room-startable : (wants : List ℕ) → ((c : ℕ) → c < roomCords r → at (lowsOf r) c ≤ at wants c) → Startable (roomDeal r wants)
-  room-startable wants h = lows-startable (roomDeal r wants) (room-dealable wants h) refl
+  pub dealable : (starts wants : List ℕ) → ((c : ℕ) → c < roomCords r → at (lowsOf r) c ≤ at wants c) → Dealable (dealOf r starts wants)
+  dealable starts wants h = subst Dealable (sym (dealOf-is r starts wants)) (room-dealable starts wants h)
 
-  pub dealable : (wants : List ℕ) → ((c : ℕ) → c < roomCords r → at (lowsOf r) c ≤ at wants c) → Dealable (dealOf r wants)
-  dealable wants h = subst Dealable (sym (dealOf-is r wants)) (room-dealable wants h)
+  -- The grants of a deal by such wants, from starts that its Requests have room for, are a way of dealing the room.
+  module _ (starts wants : List ℕ) (h : (c : ℕ) → c < roomCords r → at (lowsOf r) c ≤ at wants c) (st : Startable (roomDeal r starts wants)) where
+    pub grants-way : WholeWay (roomDeal r starts wants) (at (granted (dealOf r starts wants)))
+    grants-way =
+        subst (λ (d : Deal). WholeWay (roomDeal r starts wants) (at (granted d))) (sym (dealOf-is r starts wants))
+        (granted-way (roomDeal r starts wants) (room-dealable starts wants h) st)
 
-  startable : (wants : List ℕ) → ((c : ℕ) → c < roomCords r → at (lowsOf r) c ≤ at wants c) → Startable (dealOf r wants)
-  startable wants h = subst Startable (sym (dealOf-is r wants)) (room-startable wants h)
-
-  -- The grants are a way of dealing the room.
-  pub grants-way : (wants : List ℕ) → ((c : ℕ) → c < roomCords r → at (lowsOf r) c ≤ at wants c)
-      → WholeWay (roomDeal r wants) (at (grantsBy r wants))
-  grants-way wants h =
-      subst (λ (g : List ℕ). WholeWay (roomDeal r wants) (at g)) (sym (grantsBy-is r wants)) (granted-way (roomDeal r wants) (room-dealable wants h) (room-startable wants h))
+    grants-start : (c : ℕ) → c < roomCords r → at starts c ≤ at (granted (dealOf r starts wants)) c
+    grants-start =
+        subst (λ (d : Deal). (c : ℕ) → c < roomCords r → at starts c ≤ at (granted d) c) (sym (dealOf-is r starts wants))
+        (granted-start (roomDeal r starts wants) (room-dealable starts wants h) st)
 
   -- ---- The two deals
 
@@ -212,15 +222,21 @@ module _ (r : Room) (ok : Accepted r) where
     unfolding firstWants
     firstWants-lows = carriedBy-lows (needs r demands) (need-ge demands)
 
-    pub first-dealable : Dealable (dealOf r (firstWants r demands))
-    first-dealable = dealable (firstWants r demands) firstWants-lows
+    pub first-dealable : Dealable (firstDeal r demands)
+    unfolding firstDeal
+    first-dealable = dealable (lowsOf r) (firstWants r demands) firstWants-lows
 
-    pub first-startable : Startable (dealOf r (firstWants r demands))
-    first-startable = startable (firstWants r demands) firstWants-lows
+    -- In the first deal each cord starts from its low.
+    pub first-starts : Startable (roomDeal r (lowsOf r) (firstWants r demands))
+    first-starts = lows-startable (roomDeal r (lowsOf r) (firstWants r demands)) (room-dealable (lowsOf r) (firstWants r demands) firstWants-lows) refl
 
-    first-way : WholeWay (roomDeal r (firstWants r demands)) (at (firstGrants r demands))
-    unfolding firstGrants
-    first-way = grants-way (firstWants r demands) firstWants-lows
+    pub first-startable : Startable (firstDeal r demands)
+    unfolding firstDeal
+    first-startable = subst Startable (sym (dealOf-is r (lowsOf r) (firstWants r demands))) first-starts
+
+    first-way : WholeWay (roomDeal r (lowsOf r) (firstWants r demands)) (at (firstGrants r demands))
+    unfolding firstGrants firstDeal
+    first-way = grants-way (lowsOf r) (firstWants r demands) firstWants-lows first-starts
 
     first-least : (c : ℕ) → c < roomCords r → at (lowsOf r) c ≤ at (firstGrants r demands) c
     first-least = first-way .least
@@ -252,15 +268,38 @@ module _ (r : Room) (ok : Accepted r) where
         le-trans (le-of-eq (wantsAfter-at r (firstWants r demands) (firstGrants r demands) (firstUsed r demands) c l))
         (cond-le (ltb 0 (at (stranded r (firstGrants r demands) (firstUsed r demands)) c)) (firstUsed-wants c l) (le-refl (at (firstWants r demands) c)))
 
-    pub second-dealable : Dealable (dealOf r (secondWants r demands))
-    second-dealable = dealable (secondWants r demands) secondWants-lows
+    pub firstUsed-secondWants : (c : ℕ) → c < roomCords r → at (firstUsed r demands) c ≤ at (secondWants r demands) c
+    unfolding secondWants
+    firstUsed-secondWants c l =
+        le-trans (cond-ge (ltb 0 (at (stranded r (firstGrants r demands) (firstUsed r demands)) c)) (le-refl (at (firstUsed r demands) c)) (firstUsed-wants c l))
+        (le-of-eq (sym (wantsAfter-at r (firstWants r demands) (firstGrants r demands) (firstUsed r demands) c l)))
 
-    pub second-startable : Startable (dealOf r (secondWants r demands))
-    second-startable = startable (secondWants r demands) secondWants-lows
+    pub second-dealable : Dealable (secondDeal r demands)
+    unfolding secondDeal
+    second-dealable = dealable (firstUsed r demands) (secondWants r demands) secondWants-lows
 
-    second-way : WholeWay (roomDeal r (secondWants r demands)) (at (secondGrants r demands))
-    unfolding secondGrants
-    second-way = grants-way (secondWants r demands) secondWants-lows
+    -- In the second each starts from its used watts, which were granted in the first.
+    pub second-starts : Startable (roomDeal r (firstUsed r demands) (secondWants r demands))
+    unfolding firstGrants firstDeal
+    second-starts =
+        later-startable (roomDeal r (lowsOf r) (firstWants r demands)) (at (secondWants r demands)) (at (firstUsed r demands))
+        (room-dealable (lowsOf r) (firstWants r demands) firstWants-lows) first-starts
+        (room-dealable (firstUsed r demands) (secondWants r demands) secondWants-lows)
+        firstUsed-lows firstUsed-secondWants
+        (subst (λ (d : Deal). (c : ℕ) → c < roomCords r → at (firstUsed r demands) c ≤ at (granted d) c) (dealOf-is r (lowsOf r) (firstWants r demands)) firstUsed-granted)
+        secondWants-wants
+
+    pub second-startable : Startable (secondDeal r demands)
+    unfolding secondDeal
+    second-startable = subst Startable (sym (dealOf-is r (firstUsed r demands) (secondWants r demands))) second-starts
+
+    second-way : WholeWay (roomDeal r (firstUsed r demands) (secondWants r demands)) (at (secondGrants r demands))
+    unfolding secondGrants secondDeal
+    second-way = grants-way (firstUsed r demands) (secondWants r demands) secondWants-lows second-starts
+
+    pub secondGrants-used : (c : ℕ) → c < roomCords r → at (firstUsed r demands) c ≤ at (secondGrants r demands) c
+    unfolding secondGrants secondDeal
+    secondGrants-used = grants-start (firstUsed r demands) (secondWants r demands) secondWants-lows second-starts
 
     second-least : (c : ℕ) → c < roomCords r → at (lowsOf r) c ≤ at (secondGrants r demands) c
     second-least = second-way .least
@@ -268,6 +307,12 @@ module _ (r : Room) (ok : Accepted r) where
     pub caps-least : (v : ℕ) → v < length (r .servers) → serverAt r v .least ≤ at (caps r demands) v
     unfolding caps
     caps-least = usable-least (needs r demands) (secondGrants r demands) (need-ge demands) second-least
+
+    pub caps-usable : (v : ℕ) → v < length (r .servers) → at (firstUsable r demands) v ≤ at (caps r demands) v
+    unfolding caps firstUsable firstUsed
+    caps-usable =
+        usable-ge (needs r demands) (secondGrants r demands) (firstUsable r demands)
+        (usable-need (needs r demands) (firstGrants r demands)) secondGrants-used
 
     pub caps-need : (v : ℕ) → v < length (r .servers) → at (caps r demands) v ≤ at (needs r demands) v
     unfolding caps

@@ -20,16 +20,16 @@ use Rattle.deals.specs.Wants.{needs, firstWants}
 use Rattle.rooms.specs.Lists.{lowsOf}
 use Rattle.deals.specs.Metrics.{Deal, dealOf, atLevel, metrics, sumsFrom, childSums, excess}
 use Rattle.deals.specs.Dealing.{weightSum, amount}
-use Rattle.deals.specs.SecondDeal.{stranded, firstGrants, firstUsed, freed, secondWants}
+use Rattle.deals.specs.SecondDeal.{stranded, firstDeal, firstGrants, firstUsed, freed, secondDeal, secondWants}
 use Rattle.deals.specs.Properties.{requestTotal, pcapminBelow, mostSum, DealBounded, Bounded}
 use Rattle.deals.proofs.Children.{weightSum-is}
-use Rattle.deals.proofs.Requests.{Dealable, sumBelow, asked, pcapmin-request, requests-fit, requests-left, asked-wants}
-use Rattle.deals.proofs.Equations.{weights, amount-within, weights-asked}
+use Rattle.deals.proofs.Requests.{Dealable, sumBelow, asked, requests-fit, requests-left, asked-wants}
+use Rattle.deals.proofs.Equations.{weights, pcapmin-starts, amount-within, weights-asked}
 use Rattle.deals.proofs.Computed.{childSums-at, requestsFrom-length, requests-levels, pcapmin, request, startsOf, amountOf, measured, dealt, Startable}
 use Rattle.deals.proofs.Totals.{requestTotal-is, pcapminBelow-is}
 use Rattle.figures.proofs.Lists.{total-sum, sum-most, sum-one-le, sumOf-most}
 use Rattle.rooms.proofs.Carried.{carried-most, limit-le}
-use Rattle.deals.proofs.BothDeals.{server-facts, cord-facts, carriedBy-at, stranded-at, stranded-count, need-le, first-most, firstWants-lows, secondWants-lows, secondWants-wants, room-dealable, room-startable}
+use Rattle.deals.proofs.BothDeals.{server-facts, cord-facts, carriedBy-at, stranded-at, stranded-count, need-le, first-most, firstWants-lows, secondWants-lows, secondWants-wants, room-dealable, first-starts, second-starts}
 use Rattle.deals.proofs.RoomDeals.{roomDeal, dealOf-is}
 
 on-most : (t : Bool) (a most : ℕ) → a ≤ most → on t a ≤ most
@@ -102,13 +102,15 @@ module _ (d : Deal) (ok : Dealable d) (few : d .cords ≤ mostCords) (limits : (
         omega (arith, mul-le-mul a (weights-most n j l h))
 
     pub deal-bounded : DealBounded d
-    unfolding pcapmin request
+    unfolding pcapmin request startsOf
     deal-bounded = record {
       limits = limits;
       wants = wants;
-      lows = ok .wants;
+      lows = st .least;
+      starts = st .most;
       left = left-most;
-      pcapmins = λ n j l h. pcapmin-request d ok (pcapmin d) (request d) (measured d ok) n l j h;
+      pcapmins = λ n j l h. pcapmin-starts d ok (pcapmin d) (request d) (measured d ok) (startsOf d) (amountOf d) _ st (dealt d ok) n j l h;
+      beneath = st .within;
       requests = requests-most;
       children = children-most;
       weights = weights-most;
@@ -144,17 +146,18 @@ module _ (r : Room) (ok : Accepted r) (demands : List ℕ) where
       stranded-length : length (stranded r (firstGrants r demands) (firstUsed r demands)) ≡ roomCords r
       stranded-length = stranded-count r (firstGrants r demands) (firstUsed r demands)
 
-  -- A deal by wants at or above the lows that fit their words.
-  room-bounded : (wants : List ℕ) → ((c : ℕ) → c < roomCords r → at (lowsOf r) c ≤ at wants c) → ((c : ℕ) → c < roomCords r → at wants c ≤ mostWatts)
-      → DealBounded (dealOf r wants)
-  room-bounded wants h most =
-      subst DealBounded (sym (dealOf-is r wants)) (deal-bounded (roomDeal r wants) (room-dealable r ok wants h) (ok .fewCords) limit-most most (room-startable r ok wants h))
+  -- A deal by wants at or above the lows that fit their words, from starts that its Requests have room for.
+  room-bounded : (starts wants : List ℕ) → ((c : ℕ) → c < roomCords r → at (lowsOf r) c ≤ at wants c) → ((c : ℕ) → c < roomCords r → at wants c ≤ mostWatts)
+      → Startable (roomDeal r starts wants) → DealBounded (dealOf r starts wants)
+  room-bounded starts wants h most st =
+      subst DealBounded (sym (dealOf-is r starts wants)) (deal-bounded (roomDeal r starts wants) (room-dealable r ok starts wants h) (ok .fewCords) limit-most most st)
 
   pub bounded : Bounded r demands
+  unfolding firstDeal secondDeal
   bounded = record {
     needs = needs-most;
     freed = freed-most;
-    first = room-bounded (firstWants r demands) (firstWants-lows r ok demands) firstWants-most;
-    second = room-bounded (secondWants r demands) (secondWants-lows r ok demands)
-        (λ c l. le-trans (secondWants-wants r ok demands c l) (firstWants-most c l));
+    first = room-bounded (lowsOf r) (firstWants r demands) (firstWants-lows r ok demands) firstWants-most (first-starts r ok demands);
+    second = room-bounded (firstUsed r demands) (secondWants r demands) (secondWants-lows r ok demands)
+        (λ c l. le-trans (secondWants-wants r ok demands c l) (firstWants-most c l)) (second-starts r ok demands);
   }

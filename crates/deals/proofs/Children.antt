@@ -1,7 +1,7 @@
 -- The children of a node as a list: their weights summed, and what a child gets, by the sums of the weights before it.
 use mathlib.Core.Path.{_≡_, refl, sym, ap, ap₂, _∙_}
 use mathlib.Core.Bool.{Bool, true, false, cond}
-use mathlib.Core.List.{List, [], _∷_, _++_, map, append-nil}
+use mathlib.Core.List.{List, [], _∷_, _++_, map, append-nil, map-append}
 use Prim.Native.Nat.{ℕ, zero, suc, _+_, _<_}
 use native.Mathlib.Nat.{zero-add, add-zero, add-assoc, not-suc-le-zero, le-of-suc-le-suc}
 use native.Mathlib.Omega.{arith}
@@ -19,13 +19,13 @@ use Rattle.deals.specs.Dealing.{Child, node, cord, same, placesFrom, chi
 
 -- A root with a child node, and a cord on each of the two, of which the table has the child node's first.
 abbrev dealO : Deal
-dealO = dealFrom (0 ∷ 1 ∷ []) (1 ∷ 1 ∷ []) (2 ∷ 1 ∷ []) (0 ∷ 0 ∷ []) (0 ∷ 0 ∷ []) (1 ∷ 1 ∷ [])
+dealO = dealFrom (0 ∷ 1 ∷ []) (1 ∷ 1 ∷ []) (2 ∷ 1 ∷ []) (0 ∷ 0 ∷ []) (0 ∷ 0 ∷ []) (0 ∷ 0 ∷ []) (1 ∷ 1 ∷ [])
 
 -- Room S with a root of 1,625 W, which has 60 W to split over 50 and 210 at the lowest rank.
 abbrev dealS : Deal
 dealS =
     dealFrom (0 ∷ 1 ∷ 1 ∷ []) (1300 ∷ 750 ∷ 750 ∷ []) (2 ∷ 2 ∷ 3 ∷ 3 ∷ []) (1 ∷ 0 ∷ 0 ∷ 0 ∷ []) (270 ∷ 270 ∷ 270 ∷ 270 ∷ [])
-    (430 ∷ 430 ∷ 430 ∷ 430 ∷ [])
+    (270 ∷ 270 ∷ 270 ∷ 270 ∷ []) (430 ∷ 430 ∷ 430 ∷ 430 ∷ [])
 
 -- The child node before the cord, the weights of room S's root, and what its child nodes get.
 by-hand : (children dealO 0 ≡ node 1 ∷ cord 1 ∷ [])
@@ -38,6 +38,19 @@ by-hand = (refl, refl, refl, refl)
 -- The places from the first on, as the places below.
 up-first : (k : ℕ) (g : ℕ → ℕ) → up k 0 g ≡ sum k g
 up-first k g = omega (arith, sum-up k 0 k g (zero-add k), sum-none g)
+
+-- Two figures that agree on the places agree on those that are picked.
+map-places : (w v : Child → ℕ) (kind : ℕ → Child) (test : ℕ → Bool) (k a : ℕ) → ((i : ℕ) → i < a + k → w (kind i) ≡ v (kind i))
+    → map w (map kind (placesFrom k a test)) ≡ map v (map kind (placesFrom k a test))
+unfolding placesFrom
+map-places w v kind test zero a e = refl
+map-places w v kind test (suc k) a e = go (test a) (map-places w v kind test k (suc a) (λ i l. e i (omega arith)))
+  where
+    go : (t : Bool) → map w (map kind (placesFrom k (suc a) test)) ≡ map v (map kind (placesFrom k (suc a) test))
+        → map w (map kind (cond t (a ∷ placesFrom k (suc a) test) (placesFrom k (suc a) test)))
+        ≡ map v (map kind (cond t (a ∷ placesFrom k (suc a) test) (placesFrom k (suc a) test)))
+    go true ih = ap₂ _∷_ (e a (omega arith)) ih
+    go false ih = ih
 
 -- ---- Any children of one kind, by weights of any kind
 
@@ -105,20 +118,36 @@ module _ (d : Deal) (f : Metrics) (n j : ℕ) where
   cordsAt : List Child
   cordsAt = map cord (placesFrom (d .cords) 0 (λ c. eqb (d .node c) (suc n)))
 
-  nodes-total : total (weight d f j) nodesAt ≡ overNodes d n (λ m. nodeOver f m j)
+  -- A figure of the children, summed over those that are nodes, and over all.
+  nodes-total : (w : Child → ℕ) → total w nodesAt ≡ overNodes d n (λ m. w (node m))
   unfolding nodesAt
-  nodes-total = total-places (weight d f j) node (λ m. eqb (d .parent m) (suc n)) (d .nodes) 0 ∙ up-first (d .nodes) _
+  nodes-total w = total-places w node (λ m. eqb (d .parent m) (suc n)) (d .nodes) 0 ∙ up-first (d .nodes) _
+
+  pub children-sum : (w : Child → ℕ) → sumOf (map w (children d n)) ≡ overNodes d n (λ m. w (node m)) + sum (d .cords) (λ c. on (eqb (d .node c) (suc n)) (w (cord c)))
+  unfolding children nodesAt cordsAt
+  children-sum w =
+      sumOf-map w (children d n)
+      ∙ total-append w nodesAt cordsAt
+      ∙ ap₂ _+_ (nodes-total w) (total-places w cord (λ c. eqb (d .node c) (suc n)) (d .cords) 0 ∙ up-first (d .cords) _)
+
+  -- Two figures that agree on all nodes and cords of the deal agree on the children.
+  pub children-cong : (w v : Child → ℕ) → ((m : ℕ) → m < d .nodes → w (node m) ≡ v (node m)) → ((c : ℕ) → c < d .cords → w (cord c) ≡ v (cord c))
+      → map w (children d n) ≡ map v (children d n)
+  unfolding children nodesAt cordsAt
+  children-cong w v a b =
+      map-append w nodesAt cordsAt
+      ∙ ap₂ _++_
+      (map-places w v node (λ m. eqb (d .parent m) (suc n)) (d .nodes) 0 (λ m h. a m (omega arith)))
+      (map-places w v cord (λ c. eqb (d .node c) (suc n)) (d .cords) 0 (λ c h. b c (omega arith)))
+      ∙ sym (map-append v nodesAt cordsAt)
 
   -- All weights: those of the child nodes, and of the cords on the node.
   abbrev pub allWeights : ℕ
   allWeights = overNodes d n (λ m. nodeOver f m j) + overCords d n j (cordOver d)
 
   pub weightSum-is : weightSum d f n j ≡ allWeights
-  unfolding weightSum weightsOf children nodesAt cordsAt
-  weightSum-is =
-      sumOf-map (weight d f j) (children d n)
-      ∙ total-append (weight d f j) nodesAt cordsAt
-      ∙ ap₂ _+_ nodes-total (total-places (weight d f j) cord (λ c. eqb (d .node c) (suc n)) (d .cords) 0 ∙ up-first (d .cords) _)
+  unfolding weightSum weightsOf
+  weightSum-is = children-sum (weight d f j)
 
   -- A child node gets its part after the child nodes before it.
   pub partOf-node : (x m : ℕ) → m < d .nodes → d .parent m ≡ suc n
@@ -136,7 +165,7 @@ module _ (d : Deal) (f : Metrics) (n j : ℕ) where
   unfolding partOf split weightSum weightsOf children parted nodesAt cordsAt
   partOf-cord x c l e same-level =
       beside-others (weight d f j) node x (weightSum d f n j) cordsAt (cord c) (λ i. refl) (placesFrom (d .nodes) 0 (λ m. eqb (d .parent m) (suc n))) 0
-      ∙ ap₂ (λ (z : ℕ) (l : List Child). beside (cord c) l (partsAfter x (weightSum d f n j) z (map (weight d f j) l))) (zero-add _ ∙ nodes-total) (sym (append-nil cordsAt))
+      ∙ ap₂ (λ (z : ℕ) (l : List Child). beside (cord c) l (partsAfter x (weightSum d f n j) z (map (weight d f j) l))) (zero-add _ ∙ nodes-total (weight d f j)) (sym (append-nil cordsAt))
       ∙ beside-places (weight d f j) cord x (weightSum d f n j) [] (λ i h. refl) (λ h. eqb (d .node h) (suc n))
       (d .cords) 0 c c (overNodes d n (λ m. nodeOver f m j)) (zero-add c) l (eq-eqb (d .node c) (suc n) e)
       ∙ ap₂ (λ (w z : ℕ). part x w (overNodes d n (λ m. nodeOver f m j) + z) (atLevel d j (cordOver d) c)) weightSum-is (up-first c _)

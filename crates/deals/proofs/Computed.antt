@@ -19,7 +19,7 @@ use Rattle.figures.proofs.Lists.{figures-at, figures-length, total-drop}
 use Rattle.deals.proofs.Rows.{IsRow}
 use Rattle.deals.proofs.Children.{partOf-node, partOf-cord}
 use Rattle.deals.proofs.Requests.{Dealable, WholeWay, TreeWay, Measured, asked, sumBelow, sumBelow-cong, pcapmin-request}
-use Rattle.deals.proofs.Equations.{Starting, Dealt, weights, grant, amount-within, gives-all, reached-excess, ours, most-above}
+use Rattle.deals.proofs.Equations.{Starting, Dealt, weights, grant, amount-weight, gives-all, granted-request, reached-over, ours, most-above}
 
 -- ---- The rows of the nodes, from the last to the first
 
@@ -228,13 +228,24 @@ module _ (d : Deal) (ok : Dealable d) (st : Startable d) where
       le-trans (most-above d ok (pcapmin d) (request d) (measured d ok) (startsOf d) (amountOf d) (reached d (metrics d)) st (dealt d ok) f n w l e j h)
       (le-of-eq (sumBelow-cong d n _ _ (λ c lc. ap (λ (z : ℕ). on (leb j (d .level c)) z) (sym (granted-at d ok c lc)))))
 
-  -- Every node gives its children all of its amount, and none of them more than its excess.
+  -- No cord is granted less than its start.
+  pub granted-start : (c : ℕ) → c < d .cords → d .start c ≤ at (granted d) c
+  granted-start c l = omega (arith, granted-at d ok c l)
+
+  -- A node's cords of a level are granted no more than its Request there.
+  pub granted-asked : (n j : ℕ) → n < d .nodes → j < d .levels → sumBelow d n (atLevel d j (at (granted d))) ≤ request d n j
+  unfolding grant
+  granted-asked n j l h =
+      le-trans (le-of-eq (sumBelow-cong d n _ _ (λ c lc. ap (λ (z : ℕ). on (eqb (d .level c) j) z) (granted-at d ok c lc))))
+      (granted-request d ok (pcapmin d) (request d) (measured d ok) (startsOf d) (amountOf d) (reached d (metrics d)) st (dealt d ok) j h n l)
+
+  -- Every node gives its children all of its amount, and none of them more than its weight.
   pub deal-gives-all : GivesAll d
-  unfolding amountOf pcapmin request kids own
+  unfolding amountOf startsOf request kids own
   deal-gives-all = record {
     all = λ n j l h. add-comm _ _ ∙ gives-all d ok (pcapmin d) (request d) (measured d ok) (startsOf d) (amountOf d) (reached d (metrics d)) st (dealt d ok) n j l h;
-    toNode = λ m j l h. amount-within d ok (pcapmin d) (request d) (measured d ok) (startsOf d) (amountOf d) (reached d (metrics d)) st (dealt d ok) m l j h;
-    toCord = reached-excess d ok (pcapmin d) (request d) (measured d ok) (startsOf d) (amountOf d) (reached d (metrics d)) st (dealt d ok);
+    toNode = λ m j l h. amount-weight d ok (pcapmin d) (request d) (measured d ok) (startsOf d) (amountOf d) (reached d (metrics d)) st (dealt d ok) m l j h;
+    toCord = reached-over d ok (pcapmin d) (request d) (measured d ok) (startsOf d) (amountOf d) (reached d (metrics d)) st (dealt d ok);
   }
 
 -- ---- A deal in which each cord starts from its low

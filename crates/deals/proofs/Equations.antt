@@ -83,16 +83,19 @@ module _ (d : Deal) (ok : Dealable d) where
               let u : q < n = subst (λ (z : ℕ). z ≤ n) e (ok .rises n l) in
               le-trans (le-of-eq (de .inner n q j l e)) (part-le (x q j) (weigh q j) _ (nodeOver n j) (le-trans (ih q u j h) (over-weights q j (le-trans u (omega arith)) h)))
 
+      pub amount-weight : (n : ℕ) → n < nodes → (j : ℕ) → j < levels → x n j ≤ r n j - s n j
+      unfolding nodeOver
+      amount-weight = amount-over
+
       -- So none gets more than its excess: the starts are no less than the lows.
-      pcapmin-starts : (n j : ℕ) → n < nodes → j < levels → p n j ≤ s n j
+      pub pcapmin-starts : (n j : ℕ) → n < nodes → j < levels → p n j ≤ s n j
       pcapmin-starts n j l h =
           le-trans (le-of-eq (pcapmin-is d ok p r me j n h l))
           (le-trans (sumBelow-le d ok n (atLevel d j low) (atLevel d j start) (λ c lc b. on-le (eqb (level c) j) (low c) (start c) (λ t. st .least c lc)))
           (le-of-eq (sym (sumBelow-unique d ok (atLevel d j start) (λ n. s n j) (λ n l. de .starts n j l h ∙ add-comm _ _) n l))))
 
       pub amount-within : (n : ℕ) → n < nodes → (j : ℕ) → j < levels → x n j ≤ r n j - p n j
-      unfolding nodeOver
-      amount-within n l j h = let a : x n j ≤ r n j - s n j = amount-over n l j h in omega (arith, pcapmin-starts n j l h)
+      amount-within n l j h = omega (arith, amount-weight n l j h, pcapmin-starts n j l h)
 
       pub weights-are : (n j : ℕ) → n < nodes → j < levels → weights d s r n j + s n j ≡ asked d r n j
       unfolding weigh
@@ -158,7 +161,11 @@ module _ (d : Deal) (ok : Dealable d) where
             own-add d ok n j start y grant (unfold grant in (λ c lc. refl)),
           ))
 
-      reached-over : (c : ℕ) → c < cords → y c ≤ want c - start c
+      -- A node's cords of a level are granted no more than its Request there.
+      pub granted-request : (j : ℕ) → j < levels → (n : ℕ) → n < nodes → sumBelow d n (atLevel d j grant) ≤ r n j
+      granted-request j h n l = omega (arith, granted-beneath j h n l, amount-weight n l j h, st .within n j l h)
+
+      pub reached-over : (c : ℕ) → c < cords → y c ≤ want c - start c
       unfolding weigh
       reached-over c l = go (node c) refl
         where
@@ -170,12 +177,9 @@ module _ (d : Deal) (ok : Dealable d) where
               (part-le (x n (level c)) (weigh n (level c)) _ (want c - start c)
               (le-trans (amount-over n q (level c) (ok .ranks c l)) (over-weights n (level c) q (ok .ranks c l))))
 
-      pub reached-excess : (c : ℕ) → c < cords → y c ≤ want c - low c
-      reached-excess c l = omega (arith, reached-over c l, st .least c l)
-
       -- Ours is a way of dealing.
       pub ours : WholeWay d grant
-      unfolding grant nodeOver
+      unfolding grant
       ours = record {
         least = λ c l. omega (arith, st .least c l);
         most = λ c l. omega (arith, reached-over c l, st .most c l);
@@ -183,8 +187,7 @@ module _ (d : Deal) (ok : Dealable d) where
             le-trans
             (le-of-eq (sym (sumBelow-all d ok n grant)))
             (le-trans
-            (sum-le levels (λ j. sumBelow d n (atLevel d j grant)) (r n) (λ j h.
-            le-trans (le-of-eq (sym (granted-beneath j h n l))) (let z : x n j ≤ r n j - s n j = amount-over n l j h in omega (arith, st .within n j l h))))
+            (sum-le levels (λ j. sumBelow d n (atLevel d j grant)) (r n) (λ j h. granted-request j h n l))
             (requests-fit d ok p r me n l));
       }
 

@@ -9,6 +9,8 @@ pub mod Children
 pub mod Requests
 pub mod Equations
 pub mod Computed
+pub mod Starts
+pub mod Passed
 pub mod Totals
 pub mod Inside
 -- The deals of a room whose table is accepted.

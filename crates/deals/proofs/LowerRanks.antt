@@ -11,15 +11,16 @@ use Rattle.rooms.specs.Table.{Room, roomCords}
 use Rattle.rooms.specs.Limits.{carried}
 use Rattle.rooms.proofs.Accepted.{Accepted}
 use Rattle.figures.specs.Figures.{at}
-use Rattle.rooms.specs.Cords.{cordAt, serverAt}
+use Rattle.rooms.specs.Cords.{cordAt, serverAt, rankOf}
 use Rattle.deals.specs.Wants.{need, needs, firstWants}
-use Rattle.rooms.specs.Lists.{carriedBy, lowsOf}
-use Rattle.deals.specs.Dealing.{grantsBy}
-use Rattle.deals.specs.SecondDeal.{loaded, loadOf, usable, stranded, firstGrants, firstUsable, firstUsed, secondWants, secondGrants, caps}
+use Rattle.rooms.specs.Lists.{carriedBy, levelsOf, lowsOf}
+use Rattle.deals.specs.Metrics.{Deal, dealOf}
+use Rattle.deals.specs.Dealing.{granted}
+use Rattle.deals.specs.SecondDeal.{loaded, loadOf, usable, stranded, firstDeal, firstGrants, firstUsable, firstUsed, secondDeal, secondWants, secondGrants, caps}
 use Rattle.deals.specs.Promises.{SameServers, SameCords}
 use Rattle.deals.proofs.Inside.{Inside, lift, granted-in}
 use Rattle.deals.proofs.Loads.{both, leastOver-cong}
-use Rattle.deals.proofs.RoomDeals.{levelsOf-at, roomDeal, grantsBy-is}
+use Rattle.deals.proofs.RoomDeals.{levelsOf-at, roomDeal, dealOf-is}
 use Rattle.deals.proofs.BothDeals.{needs-at, carriedBy-at, usable-at, stranded-at, wantsAfter-at, server-facts, cord-facts, room-dealable, firstWants-lows, secondWants-lows}
 
 lift-none : (v : ℕ) → v ≡ lift 0 v
@@ -27,9 +28,13 @@ lift-none zero = refl
 lift-none (suc q) = ap suc (sym (add-zero q))
 
 module _ (r : Room) (ok : Accepted r) (rank : ℕ) where
-  -- Two deals of the room are inside each other, from a rank on, where their wants are.
-  self-inside : (f g : List ℕ) → SameCords r rank f g → Inside (roomDeal r g) (roomDeal r f) 0 0 (rank - 1)
-  self-inside f g h = record {
+  -- A cord whose level is not below that of a rank is not below the rank.
+  level-rank : (c : ℕ) → c < roomCords r → rank - 1 ≤ at (levelsOf r) c → rank ≤ rankOf r c
+  level-rank c l k = omega (arith, levelsOf-at r c l, server-facts r ok (cordAt r c .server) (cord-facts r ok c l .0) .rankFrom)
+
+  -- Two deals of the room, from starts s and t by wants f and g, are inside each other from a rank on, where these agree.
+  self-inside : (s f t g : List ℕ) → SameCords r rank s t → SameCords r rank f g → Inside (roomDeal r t g) (roomDeal r s f) 0 0 (rank - 1)
+  self-inside s f t g b h = record {
     nodesFit = omega arith;
     cordsFit = omega arith;
     parent = λ n l. rw add-zero (lift-none _);
@@ -37,22 +42,22 @@ module _ (r : Room) (ok : Accepted r) (rank : ℕ) where
     limit = λ n l. rw add-zero;
     level = λ c l. rw add-zero;
     low = λ c l. rw add-zero;
-    want = λ c l k. rw add-zero (h c l (omega (arith, levelsOf-at r c l, server-facts r ok (cordAt r c .server) (cord-facts r ok c l .0) .rankFrom)));
-    start = λ c l k. rw add-zero;
+    want = λ c l k. rw add-zero (h c l (level-rank c l k));
+    start = λ c l k. rw add-zero (b c l (level-rank c l k));
     levels = refl;
     alone = λ m n l o e. omega arith;
     bare = λ c n l o e. omega arith;
   }
 
-  grants-same : (f g : List ℕ) → SameCords r rank f g
+  grants-same : (s f t g : List ℕ) → SameCords r rank s t → SameCords r rank f g
       → ((c : ℕ) → c < roomCords r → at (lowsOf r) c ≤ at f c) → ((c : ℕ) → c < roomCords r → at (lowsOf r) c ≤ at g c)
-      → SameCords r rank (grantsBy r f) (grantsBy r g)
-  grants-same f g h lf lg c l k =
-      ap (λ (z : List ℕ). at z c) (grantsBy-is r f)
+      → SameCords r rank (granted (dealOf r s f)) (granted (dealOf r t g))
+  grants-same s f t g b h lf lg c l k =
+      ap (λ (d : Deal). at (granted d) c) (dealOf-is r s f)
       ∙ rw add-zero at
-      (granted-in (roomDeal r g) (roomDeal r f) 0 0 (rank - 1) (self-inside f g h) (room-dealable r ok g lg) (room-dealable r ok f lf) c l
+      (granted-in (roomDeal r t g) (roomDeal r s f) 0 0 (rank - 1) (self-inside s f t g b h) (room-dealable r ok t g lg) (room-dealable r ok s f lf) c l
       (omega (arith, levelsOf-at r c l)))
-      ∙ ap (λ (z : List ℕ). at z c) (sym (grantsBy-is r g))
+      ∙ ap (λ (d : Deal). at (granted d) c) (sym (dealOf-is r t g))
 
   carriedBy-same : (f g : List ℕ) → SameServers r rank f g → SameCords r rank (carriedBy r f) (carriedBy r g)
   carriedBy-same f g h c l k =
@@ -77,8 +82,8 @@ module _ (r : Room) (ok : Accepted r) (rank : ℕ) where
     firstWants-same = carriedBy-same (needs r d) (needs r e) needs-same
 
     pub firstGrants-same : SameCords r rank (firstGrants r d) (firstGrants r e)
-    unfolding firstGrants
-    firstGrants-same = grants-same (firstWants r d) (firstWants r e) firstWants-same (firstWants-lows r ok d) (firstWants-lows r ok e)
+    unfolding firstGrants firstDeal
+    firstGrants-same = grants-same (lowsOf r) (firstWants r d) (lowsOf r) (firstWants r e) (λ c l k. refl) firstWants-same (firstWants-lows r ok d) (firstWants-lows r ok e)
 
     pub firstUsable-same : SameServers r rank (firstUsable r d) (firstUsable r e)
     unfolding firstUsable
@@ -102,8 +107,9 @@ module _ (r : Room) (ok : Accepted r) (rank : ℕ) where
         ∙ sym (wantsAfter-at r (firstWants r e) (firstGrants r e) (firstUsed r e) c l)
 
     pub secondGrants-same : SameCords r rank (secondGrants r d) (secondGrants r e)
-    unfolding secondGrants
-    secondGrants-same = grants-same (secondWants r d) (secondWants r e) secondWants-same (secondWants-lows r ok d) (secondWants-lows r ok e)
+    unfolding secondGrants secondDeal
+    secondGrants-same =
+        grants-same (firstUsed r d) (secondWants r d) (firstUsed r e) (secondWants r e) firstUsed-same secondWants-same (secondWants-lows r ok d) (secondWants-lows r ok e)
 
     pub caps-same : SameServers r rank (caps r d) (caps r e)
     unfolding caps

@@ -15,15 +15,16 @@ use Rattle.rooms.specs.Promises.{Overloaded}
 use Rattle.rooms.specs.declared.Refusal.{Refusal}
 use Rattle.rooms.specs.declared.Refusal.the-variants.{LowsAboveLimit}
 use Rattle.rooms.proofs.Overloaded.{checked-nine, nine-lows}
-use Rattle.deals.specs.Dealing.{granted, grantsBy}
-use Rattle.deals.specs.SecondDeal.{usable, secondWants, secondGrants, caps}
+use Rattle.deals.specs.Metrics.{Deal, dealOf}
+use Rattle.deals.specs.Dealing.{granted}
+use Rattle.deals.specs.SecondDeal.{usable, firstUsed, secondDeal, secondWants, secondGrants, caps}
 use Rattle.deals.specs.Plan.{Plan, planOf, Outcome, accepted, refused, Reason, countDiffers, demandTooLarge, tooShort, reasons, unless, planRoom, planStep, plan, answerOf, planRefusalNumber, planNumber}
 use Rattle.deals.specs.Promises.{IsNine}
 use Rattle.deals.specs.declared.Lengths.{Lengths}
 use Rattle.deals.specs.declared.PlanList.the-variants.{Grants, Caps}
 use Rattle.deals.specs.declared.PlanRefusal.the-variants.{Table}
 use Rattle.figures.proofs.Lists.{figures-length}
-use Rattle.deals.proofs.RoomDeals.{grantsBy-is}
+use Rattle.deals.proofs.RoomDeals.{dealOf-is}
 
 -- ---- Tests
 
@@ -35,13 +36,13 @@ cond-no t a b e = ap (λ (x : Bool). cond x a b) e
 
 -- ---- The lengths of the answer's lists
 
-pub grantsBy-length : (r : Room) (wants : List ℕ) → length (grantsBy r wants) ≡ roomCords r
+pub grants-length : (r : Room) (starts wants : List ℕ) → length (granted (dealOf r starts wants)) ≡ roomCords r
 unfolding granted
-grantsBy-length r wants = ap length (grantsBy-is r wants) ∙ figures-length (roomCords r) _
+grants-length r starts wants = ap (λ (d : Deal). length (granted d)) (dealOf-is r starts wants) ∙ figures-length (roomCords r) _
 
 pub secondGrants-length : (r : Room) (demands : List ℕ) → length (secondGrants r demands) ≡ roomCords r
-unfolding secondGrants
-secondGrants-length r demands = grantsBy-length r (secondWants r demands)
+unfolding secondGrants secondDeal
+secondGrants-length r demands = grants-length r (firstUsed r demands) (secondWants r demands)
 
 pub caps-length : (r : Room) (demands : List ℕ) → length (caps r demands) ≡ length (r .servers)
 unfolding caps usable

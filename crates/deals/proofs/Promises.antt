@@ -18,17 +18,19 @@ use Rattle.rooms.proofs.Trees.{under}
 use Rattle.figures.specs.Figures.{at}
 use Rattle.rooms.specs.Cords.{cordAt, rankOf}
 use Rattle.rooms.specs.Lists.{carriedBy, lowsOf}
-use Rattle.deals.specs.Dealing.{grantsBy}
-use Rattle.deals.specs.SecondDeal.{firstGrants, firstUsable, secondWants, secondGrants, caps}
+use Rattle.deals.specs.Metrics.{Deal, dealOf}
+use Rattle.deals.specs.Dealing.{granted}
+use Rattle.deals.specs.SecondDeal.{firstDeal, firstGrants, firstUsable, firstUsed, secondDeal, secondWants, secondGrants, caps}
 use Rattle.deals.specs.Plan.{Plan}
 use Rattle.deals.specs.Ways.{cordBeneath, sumBeneath, fromRank}
-use Rattle.deals.specs.Promises.{AcceptedPlan, AcceptedHasRoom, Answered, AnswerOfBothDeals, Kept, FirstKept, SecondKept, Greatest, FirstGreatest, SecondGreatest, SettledFromRank, RefusalNine}
-use Rattle.deals.specs.Properties.{CapsInRange, UsedGranted, SecondWantsInRange, FirstGivesAll, SecondGivesAll, fromLevel, Totals, FiguresFit}
+use Rattle.deals.specs.Promises.{AcceptedPlan, AcceptedHasRoom, Answered, AnswerOfBothDeals, Kept, FirstKept, SecondKept, Greatest, FirstGreatest, SecondGreatest, SettledFromRank, RefusalNine, CapsKeepUsable, GrantsKeepUsed}
+use Rattle.deals.specs.Properties.{CapsInRange, UsedGranted, SecondWantsInRange, FirstGivesAll, SecondGivesAll, SecondPassesFirst, fromLevel, Totals, FiguresFit}
 use Rattle.deals.proofs.Requests.{WholeWay}
-use Rattle.deals.proofs.Computed.{granted-most, deal-gives-all}
+use Rattle.deals.proofs.Computed.{Startable, granted-most, deal-gives-all}
+use Rattle.deals.proofs.Passed.{passed-first}
 use Rattle.deals.proofs.Totals.{deal-totals}
-use Rattle.deals.proofs.RoomDeals.{levelsOf-at, roomDeal, grantsBy-is}
-use Rattle.deals.proofs.BothDeals.{server-facts, cord-facts, room-dealable, room-startable, grants-way, first-dealable, first-startable, second-dealable, second-startable, firstWants-lows, secondWants-lows, firstUsed-granted, capsUsed-granted, secondWants-wants, caps-least, caps-need}
+use Rattle.deals.proofs.RoomDeals.{levelsOf-at, roomDeal, dealOf-is}
+use Rattle.deals.proofs.BothDeals.{server-facts, cord-facts, room-dealable, grants-way, first-dealable, first-starts, first-startable, second-dealable, second-starts, second-startable, firstWants-lows, secondWants-lows, firstUsed-granted, secondGrants-used, capsUsed-granted, secondWants-wants, caps-least, caps-usable, caps-need}
 use Rattle.deals.proofs.LowerRanks.{firstGrants-same, firstUsable-same, secondGrants-same, caps-same}
 use Rattle.deals.proofs.Bounds.{bounded}
 use Rattle.deals.proofs.Plans.{plan-nine, plan-good, plan-good-table, planRoom-accepted}
@@ -45,36 +47,44 @@ rank-level rank own h q = go (leb (min (rank - 1) highestRank) (own - 1)) refl
         let a : own - 1 < min (rank - 1) highestRank = leb-false (min (rank - 1) highestRank) (own - 1) e in
         lt-leb rank own (omega arith)
 
-module _ (r : Room) (ok : Accepted r) (wants : List ℕ) (lows : (c : ℕ) → c < roomCords r → at (lowsOf r) c ≤ at wants c) where
-  -- A deal by wants at or above the lows keeps them, the wants and the limits.
-  kept : Kept r wants (grantsBy r wants)
+module _ (r : Room) (ok : Accepted r) (starts wants : List ℕ) (lows : (c : ℕ) → c < roomCords r → at (lowsOf r) c ≤ at wants c)
+    (st : Startable (roomDeal r starts wants)) where
+  -- The deal by functions of place, and its grants.
+  abbrev deal : Deal
+  deal = roomDeal r starts wants
+
+  abbrev grants : List ℕ
+  grants = granted (dealOf r starts wants)
+
+  -- A deal by wants at or above the lows, from starts that its Requests have room for, keeps the lows, the wants and the limits.
+  kept : Kept r wants grants
   unfolding sumBeneath under
   kept =
-      let w : WholeWay (roomDeal r wants) (at (grantsBy r wants)) = grants-way r ok wants lows in
+      let w : WholeWay deal (at grants) = grants-way r ok starts wants lows st in
       record { least = w .least; most = w .most; within = w .within }
 
   -- The cords of a rank and above, by their levels.
   fromRank-level : (n rank : ℕ) (watts : List ℕ)
       → sumBeneath r n (fromRank r rank watts)
-      ≡ under (length (r .nodes)) (parentOf r) (roomCords r) (λ c. cordAt r c .node) n (fromLevel (roomDeal r wants) (min (rank - 1) highestRank) (at watts))
+      ≡ under (length (r .nodes)) (parentOf r) (roomCords r) (λ c. cordAt r c .node) n (fromLevel deal (min (rank - 1) highestRank) (at watts))
   unfolding sumBeneath under
   fromRank-level n rank watts = sum-cong (roomCords r) _ _ (λ c l.
       let s = server-facts r ok (cordAt r c .server) (cord-facts r ok c l .0) in
       ap (λ (t : Bool). on (cordBeneath r n c) (on t (at watts c)))
       (rank-level rank (rankOf r c) (s .rankFrom) (s .rankTo) ∙ ap (leb (min (rank - 1) highestRank)) (sym (levelsOf-at r c l))))
 
-  greatest : Greatest r wants (grantsBy r wants)
+  greatest : Greatest r wants grants
   unfolding sumBeneath under
   greatest root top rank watts way =
       le-trans (le-of-eq (fromRank-level root rank watts))
       (le-trans
-      (granted-most (roomDeal r wants) (room-dealable r ok wants lows) (room-startable r ok wants lows) (at watts) root
+      (granted-most deal (room-dealable r ok starts wants lows) st (at watts) root
       (record { least = way .least; most = way .most; within = way .within })
       (top .node) (top .top) (min (rank - 1) highestRank) (omega arith))
       (le-of-eq
-      (ap (λ (g : List ℕ). under (length (r .nodes)) (parentOf r) (roomCords r) (λ c. cordAt r c .node) root (fromLevel (roomDeal r wants) (min (rank - 1) highestRank) (at g)))
-      (sym (grantsBy-is r wants))
-      ∙ sym (fromRank-level root rank (grantsBy r wants)))))
+      (ap (λ (d : Deal). under (length (r .nodes)) (parentOf r) (roomCords r) (λ c. cordAt r c .node) root (fromLevel deal (min (rank - 1) highestRank) (at (granted d))))
+      (sym (dealOf-is r starts wants))
+      ∙ sym (fromRank-level root rank grants))))
 
 -- ---- An accepted plan
 
@@ -108,22 +118,28 @@ answer-of-both-deals = answered
 -- ---- 1
 
 pub first-kept : FirstKept
-unfolding firstGrants
-first-kept p = kept (p .room) (accepted-room p) _ (firstWants-lows (p .room) (accepted-room p) (p .demands))
+unfolding firstGrants firstDeal
+first-kept p =
+    let ok = accepted-room p in
+    kept (p .room) ok (lowsOf (p .room)) _ (firstWants-lows (p .room) ok (p .demands)) (first-starts (p .room) ok (p .demands))
 
 pub second-kept : SecondKept
-unfolding secondGrants
-second-kept p = of-grants p (λ r demands. Kept r (secondWants r demands)) (λ r ok demands. kept r ok _ (secondWants-lows r ok demands))
+unfolding secondGrants secondDeal
+second-kept p =
+    of-grants p (λ r demands. Kept r (secondWants r demands)) (λ r ok demands. kept r ok (firstUsed r demands) _ (secondWants-lows r ok demands) (second-starts r ok demands))
 
 -- ---- 2
 
 pub first-greatest : FirstGreatest
-unfolding firstGrants
-first-greatest p = greatest (p .room) (accepted-room p) _ (firstWants-lows (p .room) (accepted-room p) (p .demands))
+unfolding firstGrants firstDeal
+first-greatest p =
+    let ok = accepted-room p in
+    greatest (p .room) ok (lowsOf (p .room)) _ (firstWants-lows (p .room) ok (p .demands)) (first-starts (p .room) ok (p .demands))
 
 pub second-greatest : SecondGreatest
-unfolding secondGrants
-second-greatest p = of-grants p (λ r demands. Greatest r (secondWants r demands)) (λ r ok demands. greatest r ok _ (secondWants-lows r ok demands))
+unfolding secondGrants secondDeal
+second-greatest p =
+    of-grants p (λ r demands. Greatest r (secondWants r demands)) (λ r ok demands. greatest r ok (firstUsed r demands) _ (secondWants-lows r ok demands) (second-starts r ok demands))
 
 -- ---- 3
 
@@ -154,6 +170,16 @@ settled-from-rank rank p q one same =
 pub refusal-nine : RefusalNine
 refusal-nine = plan-nine
 
+-- ---- 5
+
+pub caps-keep-usable : CapsKeepUsable
+caps-keep-usable p v l =
+    le-trans (caps-usable (p .room) (accepted-room p) (p .demands) v l) (le-of-eq (ap (λ (z : List ℕ). at z v) (sym (answered p .caps))))
+
+pub grants-keep-used : GrantsKeepUsed
+grants-keep-used p c l =
+    le-trans (secondGrants-used (p .room) (accepted-room p) (p .demands) c l) (le-of-eq (ap (λ (z : List ℕ). at z c) (sym (answered p .grants))))
+
 -- ---- What else is proved of every plan
 
 pub caps-in-range : CapsInRange
@@ -181,6 +207,9 @@ first-gives-all p = deal-gives-all _ (first-dealable (p .room) (accepted-room p)
 
 pub second-gives-all : SecondGivesAll
 second-gives-all p = deal-gives-all _ (second-dealable (p .room) (accepted-room p) (p .demands)) (second-startable (p .room) (accepted-room p) (p .demands))
+
+pub second-passes-first : SecondPassesFirst
+second-passes-first p = passed-first _ (second-dealable (p .room) (accepted-room p) (p .demands)) (second-startable (p .room) (accepted-room p) (p .demands))
 
 pub totals : Totals
 totals table r end e demands =

@@ -139,7 +139,7 @@ module _ (d : Deal) (ok : Dealable d) where
       ∙ sumBelow-from levels 0 n f (zero-add levels)
       ∙ sumBelow-cong d n _ _ (λ c l. on-yes (leb 0 (level c)) (f c) (leb·zero (level c)))
 
-  own-le : (n : ℕ) (f g : ℕ → ℕ) → ((c : ℕ) → c < cords → node c ≡ suc n → f c ≤ g c) → own cords node n f ≤ own cords node n g
+  pub own-le : (n : ℕ) (f g : ℕ → ℕ) → ((c : ℕ) → c < cords → node c ≡ suc n → f c ≤ g c) → own cords node n f ≤ own cords node n g
   unfolding own
   own-le n f g h = sum-le cords _ _ (λ c l. on-le (eqb (node c) (suc n)) (f c) (g c) (λ e. h c l (eqb-true (node c) (suc n) e)))
 

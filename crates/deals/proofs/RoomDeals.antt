@@ -11,7 +11,6 @@ use Rattle.figures.specs.Figures.{figures, at}
 use Rattle.rooms.specs.Cords.{RoomCord, cordsOf, cordAt, rankOf}
 use Rattle.rooms.specs.Lists.{lowsOf, parentsOf, limitsOf, nodesOf, levelsOf, sharesOf, serversOf}
 use Rattle.deals.specs.Metrics.{Deal, dealFrom, dealOf}
-use Rattle.deals.specs.Dealing.{granted, grantsBy}
 use Rattle.figures.proofs.Lists.{figures-at, figures-length}
 use Rattle.rooms.proofs.Cords.{cordsOf-length}
 
@@ -74,8 +73,8 @@ module _ (r : Room) where
 
   -- ---- The deal
 
-  module _ (wants : List ℕ) where
-    -- The deal of the room by given wants, by functions of place.
+  module _ (starts wants : List ℕ) where
+    -- The deal of the room by given starts and wants, by functions of place.
     abbrev pub roomDeal : Deal
     roomDeal = record {
       nodes = length (r .nodes);
@@ -86,11 +85,11 @@ module _ (r : Room) where
       level = at (levelsOf r);
       low = at (lowsOf r);
       want = at wants;
-      start = at (lowsOf r);
+      start = at starts;
       levels = highestRank;
     }
 
-    pub dealOf-is : dealOf r wants ≡ roomDeal
+    pub dealOf-is : dealOf r starts wants ≡ roomDeal
     unfolding dealOf dealFrom
     dealOf-is = λ i. record {
       nodes = parentsOf-length i;
@@ -101,10 +100,6 @@ module _ (r : Room) where
       level = at (levelsOf r);
       low = at (lowsOf r);
       want = at wants;
-      start = at (lowsOf r);
+      start = at starts;
       levels = highestRank;
     }
-
-    pub grantsBy-is : grantsBy r wants ≡ granted roomDeal
-    unfolding grantsBy
-    grantsBy-is = ap granted dealOf-is

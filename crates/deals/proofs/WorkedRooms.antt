@@ -7,7 +7,7 @@ use Rattle.rooms.specs.Part.{follow, word, ensure, end, many}
 use Rattle.figures.specs.Figures.{total}
 use Rattle.rooms.specs.Table.{formOf, percent, node, cord, range, load, server, table}
 use Rattle.rooms.specs.Limits.{beneath, serverLows, lows, firstNode, overloaded}
-use Rattle.deals.specs.Plan.{Outcome, accepted, refused, plan, mostLent}
+use Rattle.deals.specs.Plan.{Outcome, accepted, refused, plan}
 use Rattle.deals.specs.declared.Lengths.{Lengths}
 use Rattle.deals.specs.declared.PlanList.the-variants.{Grants, Caps}
 use Rattle.deals.specs.declared.PlanRefusal.the-variants.{DemandCount, DemandTooLarge, ListTooShort}
@@ -16,17 +16,16 @@ use Rattle.deals.specs.declared.PlanRefusal.the-variants.{DemandCount, D
 abbrev lengths : ℕ → ℕ → Lengths
 lengths grants caps = record { grants = grants; caps = caps }
 
--- The grants of a plan; none if it is refused.
-abbrev grantsOf : Outcome → List ℕ
-grantsOf (accepted plan) = plan .grants
-grantsOf (refused refusal) = []
+-- A plan of these freed watts, grants and caps.
+abbrev planned : ℕ → List ℕ → List ℕ → Outcome
+planned freed grants caps = accepted (record { freed = freed; grants = grants; caps = caps })
 
 -- Room H.
 abbrev tableH : List ℕ
 tableH = 1 ∷ 2 ∷ 0 ∷ 150 ∷ 0 ∷ 500 ∷ 2 ∷ 1 ∷ 100 ∷ 400 ∷ 2 ∷ 1 ∷ 500 ∷ 2 ∷ 500 ∷ 1 ∷ 100 ∷ 400 ∷ 1 ∷ 2 ∷ 1000 ∷ []
 
 -- Its plan whole, and room H turned back by 10, 11, 12 and 13.
-room-h : (plan tableH (400 ∷ 400 ∷ []) (lengths 3 2) ≡ accepted (record { freed = 13; grants = 120 ∷ 97 ∷ 303 ∷ []; caps = 194 ∷ 303 ∷ [] }))
+room-h : (plan tableH (400 ∷ 400 ∷ []) (lengths 3 2) ≡ planned 13 (120 ∷ 120 ∷ 280 ∷ []) (240 ∷ 280 ∷ []))
     × (plan tableH (400 ∷ []) (lengths 0 0) ≡ refused (DemandCount 2))
     × (plan tableH (400 ∷ 16777216 ∷ []) (lengths 0 0) ≡ refused (DemandTooLarge 1))
     × (plan tableH (400 ∷ 400 ∷ []) (lengths 2 0) ≡ refused (ListTooShort Grants 3))
@@ -50,11 +49,24 @@ tableS =
     1 ∷ 3 ∷ 0 ∷ 1550 ∷ 1 ∷ 938 ∷ 1 ∷ 938 ∷ 4 ∷ 2 ∷ 270 ∷ 500 ∷ 1 ∷ 2 ∷ 1000 ∷ 1 ∷ 270 ∷ 500 ∷ 1 ∷ 2 ∷ 1000
     ∷ 1 ∷ 270 ∷ 500 ∷ 1 ∷ 3 ∷ 1000 ∷ 1 ∷ 270 ∷ 500 ∷ 1 ∷ 3 ∷ 1000 ∷ []
 
+-- A root with 120 W over a node with 80 W and a cord, and a root with 20 W that holds one of a server's two cords down.
+abbrev tableP : List ℕ
+tableP =
+    1 ∷ 3 ∷ 0 ∷ 150 ∷ 1 ∷ 100 ∷ 0 ∷ 25 ∷ 3 ∷ 1 ∷ 0 ∷ 100 ∷ 2 ∷ 3 ∷ 500 ∷ 2 ∷ 500 ∷ 1 ∷ 0 ∷ 100 ∷ 1 ∷ 2 ∷ 1000
+    ∷ 1 ∷ 0 ∷ 60 ∷ 1 ∷ 1 ∷ 1000 ∷ []
+
+-- The first grants are 20, 22, 46 and 52. The used watts, 2 W less, are passed on through the node before those 2 W are split.
+through-nodes : plan tableP (100 ∷ 100 ∷ 60 ∷ []) (lengths 4 3) ≡ planned 2 (20 ∷ 20 ∷ 47 ∷ 53 ∷ []) (40 ∷ 47 ∷ 53 ∷ [])
+unfolding plan
+    follow word ensure end many total formOf percent node cord range load server table
+    beneath serverLows lows firstNode overloaded
+through-nodes = refl
+
 -- What programs that nearly get there get wrong: weights that are excesses; child nodes before cords; and a rank that counts
 -- across breakers.
-near-misses : (grantsOf (plan tableN (1000 ∷ 100 ∷ []) mostLent) ≡ 75 ∷ 75 ∷ [])
-    × (grantsOf (plan tableO (1 ∷ 1 ∷ []) mostLent) ≡ 0 ∷ 1 ∷ [])
-    × (grantsOf (plan tableS (430 ∷ 430 ∷ 430 ∷ 430 ∷ []) mostLent) ≡ 430 ∷ 270 ∷ 270 ∷ 270 ∷ [])
+near-misses : (plan tableN (1000 ∷ 100 ∷ []) (lengths 2 2) ≡ planned 0 (75 ∷ 75 ∷ []) (75 ∷ 75 ∷ []))
+    × (plan tableO (1 ∷ 1 ∷ []) (lengths 2 2) ≡ planned 0 (0 ∷ 1 ∷ []) (0 ∷ 1 ∷ []))
+    × (plan tableS (430 ∷ 430 ∷ 430 ∷ 430 ∷ []) (lengths 4 4) ≡ planned 0 (430 ∷ 270 ∷ 270 ∷ 270 ∷ []) (430 ∷ 270 ∷ 270 ∷ 270 ∷ []))
 unfolding plan
     follow word ensure end many total formOf percent node cord range load server table
     beneath serverLows lows firstNode overloaded

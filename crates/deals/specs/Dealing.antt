@@ -1,12 +1,19 @@
 -- Dealing: the children of a node, what each gets of the node's amount, and the grants.
+--
+-- Every cord has its start before anything is dealt, and a node deals what it has over the starts beneath it. In the first deal
+-- the starts are the lows, so that the weights are excesses. In the second they are the used watts, and the same rule is request
+-- A.2's: a node with Y watts over the lows first passes each child k the used − low watts beneath it, P(k), and splits the rest by
+-- the excesses less P(k). Such a weight is Request − Pcapmin − (starts − Pcapmin) = Request − starts. The P(k) sum to the node's
+-- own used − low watts, which its parent passed to it in the same way, so that the rest is just the part that it got itself (of a
+-- root: its excess less that, its weight). A cord's low, its used − low and its part are its start and its part.
+-- (`SecondPassesFirst` in Properties.antt says this of the figures.)
 use mathlib.Core.Bool.{Bool, false, cond}
 use mathlib.Core.List.{List, [], _∷_, _++_, map}
 use Prim.Native.Nat.{ℕ, zero, suc, _+_, _-_}
 use lib.Dec.{eqb}
 use Rattle.figures.specs.Figures.{total, figuresFrom, figures, cell, sumOf}
 use Rattle.splits.specs.Split.{split}
-use Rattle.rooms.specs.Table.{Room}
-use Rattle.deals.specs.Metrics.{Deal, Metrics, dealOf, metrics, atLevel}
+use Rattle.deals.specs.Metrics.{Deal, Metrics, metrics, atLevel}
 
 -- ---- The children of a node
 
@@ -98,8 +105,3 @@ unfolding figuresFrom metrics reached
 granted d =
     let f = metrics d in
     figures (d .cords) (λ c. d .start c + reached d f c)
-
--- The grants of a room, dealt by given wants.
-unfoldable pub grantsBy : Room → List ℕ → List ℕ
-unfolding dealOf granted
-grantsBy r wants = granted (dealOf r wants)

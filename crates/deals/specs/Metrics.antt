@@ -23,10 +23,9 @@ pub record Deal : Type 0 where
   pub start : ℕ → ℕ
   pub levels : ℕ
 
--- The deal of lists of figures: parents and limits, one a node; nodes, levels, lows and wants, one a cord. Each cord starts
--- from its low.
-unfoldable pub dealFrom : (parents limits nodes levels lows wants : List ℕ) → Deal
-dealFrom parents limits nodes levels lows wants = record {
+-- The deal of lists of figures: parents and limits, one a node; nodes, levels, lows, starts and wants, one a cord.
+unfoldable pub dealFrom : (parents limits nodes levels lows starts wants : List ℕ) → Deal
+dealFrom parents limits nodes levels lows starts wants = record {
   nodes = length parents;
   parent = at parents;
   limit = at limits;
@@ -35,14 +34,14 @@ dealFrom parents limits nodes levels lows wants = record {
   level = at levels;
   low = at lows;
   want = at wants;
-  start = at lows;
+  start = at starts;
   levels = highestRank;
 }
 
--- The deal of a room by given wants, one a cord.
-unfoldable pub dealOf : Room → List ℕ → Deal
+-- The deal of a room by given starts and wants, one of each a cord.
+unfoldable pub dealOf : Room → (starts wants : List ℕ) → Deal
 unfolding dealFrom parentsOf limitsOf nodesOf levelsOf lowsOf
-dealOf r wants = dealFrom (parentsOf r) (limitsOf r) (nodesOf r) (levelsOf r) (lowsOf r) wants
+dealOf r starts wants = dealFrom (parentsOf r) (limitsOf r) (nodesOf r) (levelsOf r) (lowsOf r) starts wants
 
 -- A figure of a cord at a level: 0 where that is not the cord's.
 abbrev pub atLevel : Deal → ℕ → (ℕ → ℕ) → ℕ → ℕ

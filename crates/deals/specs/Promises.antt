@@ -1,5 +1,5 @@
--- Demand 3: what Plan promises, whatever the table and the demands. Statements only; proofs/Promises.antt proves each:
--- `FirstKept` as `first-kept`, and so on.
+-- Demand 3, and what request A.2 asks for: what Plan promises, whatever the table and the demands. Statements only;
+-- proofs/Promises.antt proves each: `FirstKept` as `first-kept`, and so on.
 use mathlib.Core.Path.{_≡_}
 use mathlib.Core.List.{List}
 use mathlib.Core.Logic.{_↔_}
@@ -13,7 +13,7 @@ use Rattle.figures.specs.Figures.{at}
 use Rattle.rooms.specs.Cords.{serverAt, rankOf}
 use Rattle.deals.specs.Wants.{firstWants}
 use Rattle.rooms.specs.Lists.{lowsOf}
-use Rattle.deals.specs.SecondDeal.{firstGrants, firstUsable, freed, secondWants, secondGrants, caps}
+use Rattle.deals.specs.SecondDeal.{firstGrants, firstUsable, firstUsed, freed, secondWants, secondGrants, caps}
 use Rattle.deals.specs.Plan.{Plan, accepted, plan, answerOf, planNumber, planFigure}
 use Rattle.deals.specs.Ways.{Root, Way, sumBeneath, fromRank}
 use Rattle.deals.specs.declared.Lengths.{Lengths}
@@ -113,3 +113,15 @@ abbrev pub RefusalNine : Type 0
 RefusalNine =
     (table demands : List ℕ) (lengths : Lengths) (n : ℕ)
     → IsNine (answerOf (plan table demands lengths)) n ↔ Overloaded table n
+
+-- ---- 5. Watts are reclaimed from the stranded alone (request A.2)
+
+-- No cap is below what its server could use after the first deal.
+abbrev pub CapsKeepUsable : Type 0
+CapsKeepUsable =
+    (p : AcceptedPlan) (v : ℕ) → v < length (p .room .servers) → at (firstUsable (p .room) (p .demands)) v ≤ at (p .answer .caps) v
+
+-- No cord is granted less than it used after the first deal.
+abbrev pub GrantsKeepUsed : Type 0
+GrantsKeepUsed =
+    (p : AcceptedPlan) (c : ℕ) → c < roomCords (p .room) → at (firstUsed (p .room) (p .demands)) c ≤ at (p .answer .grants) c

@@ -1,22 +1,23 @@
--- What else is proved of every plan: that caps, wants and amounts lie in their ranges, what a node's Requests of a rank and above
--- sum to, and that the figures fit their words. Demand 3 does not ask for these. Statements only; proofs/Promises.antt proves
--- each: `CapsInRange` as `caps-in-range`, and so on.
+-- What else is proved of every plan: that caps, wants and amounts lie in their ranges, that the second deal is the one that
+-- request A.2 tells of, what a node's Requests of a rank and above sum to, and that the figures fit their words. Demand 3 does not
+-- ask for these. Statements only; proofs/Promises.antt proves each: `CapsInRange` as `caps-in-range`, and so on.
 use mathlib.Core.Path.{_≡_}
-use mathlib.Core.List.{List, []}
+use mathlib.Core.List.{List, [], map}
 use Prim.Native.Nat.{ℕ, suc, _+_, _*_, _-_, _≤_, _<_, _^_, min}
 use lib.Dec.{eqb, leb}
 use lib.ListN.{length, getD, take, drop}
 use Rattle.rooms.specs.Part.{good}
 use Rattle.rooms.specs.Table.{Room, mostWatts, mostCords, roomCords}
 use Rattle.rooms.specs.Limits.{checked}
-use Rattle.figures.specs.Figures.{at, cell, sumOf}
+use Rattle.figures.specs.Figures.{total, at, cell, sumOf}
 use Rattle.figures.specs.Sums.{on, sum}
+use Rattle.splits.specs.Split.{split}
 use Rattle.rooms.specs.Cords.{serverAt}
 use Rattle.deals.specs.Wants.{needs, firstWants}
 use Rattle.rooms.specs.Lists.{carriedBy, lowsOf}
-use Rattle.deals.specs.Metrics.{Deal, dealOf, metrics, excess, cordExcess, overNodes, overCords, childSums}
-use Rattle.deals.specs.Dealing.{weightSum, amount, reached}
-use Rattle.deals.specs.SecondDeal.{firstGrants, firstUsed, freed, secondWants}
+use Rattle.deals.specs.Metrics.{Deal, atLevel, metrics, excess, cordExcess, overNodes, overCords, childSums}
+use Rattle.deals.specs.Dealing.{Child, node, cord, children, nodeOver, cordOver, weightSum, beside, amount, reached, granted}
+use Rattle.deals.specs.SecondDeal.{firstDeal, firstGrants, firstUsed, freed, secondDeal, secondWants}
 use Rattle.deals.specs.Promises.{AcceptedPlan}
 
 -- ---- Caps, used watts, the second deal's wants, and what a node gives
@@ -41,19 +42,54 @@ SecondWantsInRange =
     → (at (lowsOf (p .room)) c ≤ at (secondWants (p .room) (p .demands)) c)
     × (at (secondWants (p .room) (p .demands)) c ≤ at (firstWants (p .room) (p .demands)) c)
 
--- A deal in which every node gives its children all of its amount at each rank, and none of them more than its excess.
+-- A deal in which every node gives its children all of its amount at each rank, and none of them more than its weight: its
+-- excess in the first deal, and its excess less what it was passed first in the second.
 pub record GivesAll (d : Deal) : Type 0 where
   pub all : (n j : ℕ) → n < d .nodes → j < d .levels
       → overNodes d n (λ m. amount d (metrics d) (suc m) m j) + overCords d n j (reached d (metrics d))
       ≡ amount d (metrics d) (suc n) n j
-  pub toNode : (m j : ℕ) → m < d .nodes → j < d .levels → amount d (metrics d) (suc m) m j ≤ excess (metrics d) m j
-  pub toCord : (c : ℕ) → c < d .cords → reached d (metrics d) c ≤ cordExcess d c
+  pub toNode : (m j : ℕ) → m < d .nodes → j < d .levels → amount d (metrics d) (suc m) m j ≤ nodeOver (metrics d) m j
+  pub toCord : (c : ℕ) → c < d .cords → reached d (metrics d) c ≤ cordOver d c
 
 abbrev pub FirstGivesAll : Type 0
-FirstGivesAll = (p : AcceptedPlan) → GivesAll (dealOf (p .room) (firstWants (p .room) (p .demands)))
+FirstGivesAll = (p : AcceptedPlan) → GivesAll (firstDeal (p .room) (p .demands))
 
 abbrev pub SecondGivesAll : Type 0
-SecondGivesAll = (p : AcceptedPlan) → GivesAll (dealOf (p .room) (secondWants (p .room) (p .demands)))
+SecondGivesAll = (p : AcceptedPlan) → GivesAll (secondDeal (p .room) (p .demands))
+
+-- ---- The second deal in request A.2's own terms
+
+-- What a child is passed first at level j: the watts from low to start of the cords beneath it, or of the cord itself.
+abbrev pub passed : Deal → ℕ → Child → ℕ
+passed d j (node m) = cell (metrics d .starts) m j - cell (metrics d .pcapmins) m j
+passed d j (cord c) = atLevel d j (λ c. d .start c - d .low c) c
+
+-- A child's excess at level j.
+abbrev pub childExcess : Deal → ℕ → Child → ℕ
+childExcess d j (node m) = excess (metrics d) m j
+childExcess d j (cord c) = atLevel d j (cordExcess d) c
+
+-- What a child gets of the watts in hand of the node at place n: what is passed to it first, and its part of what then remains,
+-- split among the children by their excesses less what is passed to each.
+unfoldable pub given : Deal → ℕ → ℕ → ℕ → Child → ℕ
+unfolding children beside split total
+given d n j watts child =
+    passed d j child
+    + beside child (children d n)
+    (split (watts - sumOf (map (passed d j) (children d n))) (map (λ other. childExcess d j other - passed d j other) (children d n)))
+
+-- A deal in which each node has watts in hand at each rank, beyond the lows: a root all of its excess, any other what its parent
+-- gives it so; and in which each cord is granted its low and what its node gives it so.
+pub record PassedFirst (d : Deal) : Type 0 where
+  pub inHand : ℕ → ℕ → ℕ
+  pub root : (m j : ℕ) → m < d .nodes → j < d .levels → d .parent m ≡ 0 → inHand m j ≡ excess (metrics d) m j
+  pub toNode : (m n j : ℕ) → m < d .nodes → j < d .levels → d .parent m ≡ suc n → inHand m j ≡ given d n j (inHand n j) (node m)
+  pub toCord : (c n : ℕ) → c < d .cords → d .node c ≡ suc n
+      → at (granted d) c ≡ d .low c + given d n (d .level c) (inHand n (d .level c)) (cord c)
+
+-- The second deal is such; what is passed first there is used − low.
+abbrev pub SecondPassesFirst : Type 0
+SecondPassesFirst = (p : AcceptedPlan) → PassedFirst (secondDeal (p .room) (p .demands))
 
 -- ---- The law of totals
 
@@ -83,7 +119,7 @@ TotalsOf d =
 abbrev pub Totals : Type 0
 Totals =
     (table : List ℕ) (r : Room) (end : ℕ) → checked table 0 ≡ good r end → (demands : List ℕ)
-    → TotalsOf (dealOf r (firstWants r demands)) × TotalsOf (dealOf r (secondWants r demands))
+    → TotalsOf (firstDeal r demands) × TotalsOf (secondDeal r demands)
 
 -- ---- The figures that code holds fit their words
 
@@ -91,16 +127,19 @@ Totals =
 abbrev pub mostSum : ℕ
 mostSum = mostCords * mostWatts
 
--- The figures of a deal, for every node and level. A limit, a want, and so each low, grant, Pcapmin, Request and amount, fits
+-- The figures of a deal, for every node and level. A limit, a want, and so each low, start, grant, Pcapmin, Request and amount, fits
 -- in 24 bits; the children's sums fit in 34, and an amount times any running sum of weights in 58. No difference is below 0.
 pub record DealBounded (d : Deal) : Type 0 where
   pub limits : (n : ℕ) → n < d .nodes → d .limit n ≤ mostWatts
   pub wants : (c : ℕ) → c < d .cords → d .want c ≤ mostWatts
-  pub lows : (c : ℕ) → c < d .cords → d .low c ≤ d .want c
+  pub lows : (c : ℕ) → c < d .cords → d .low c ≤ d .start c
+  pub starts : (c : ℕ) → c < d .cords → d .start c ≤ d .want c
   pub left : (n j : ℕ) → n < d .nodes → j < d .levels
       → pcapminBelow d n j + requestTotal d n (j + 1) ≤ d .limit n
   pub pcapmins : (n j : ℕ) → n < d .nodes → j < d .levels
-      → cell (metrics d .pcapmins) n j ≤ cell (metrics d .requests) n j
+      → cell (metrics d .pcapmins) n j ≤ cell (metrics d .starts) n j
+  pub beneath : (n j : ℕ) → n < d .nodes → j < d .levels
+      → cell (metrics d .starts) n j ≤ cell (metrics d .requests) n j
   pub requests : (n : ℕ) → n < d .nodes → sumOf (getD (metrics d .requests) n []) ≤ d .limit n
   pub children : (n j : ℕ) → n < d .nodes → j < d .levels
       → at (childSums d n (drop (n + 1) (metrics d .requests)) (d .want)) j ≤ mostSum
@@ -113,8 +152,8 @@ pub record DealBounded (d : Deal) : Type 0 where
 pub record Bounded (r : Room) (demands : List ℕ) : Type 0 where
   pub needs : (v : ℕ) → v < length (r .servers) → at (needs r demands) v ≤ mostWatts
   pub freed : freed r demands ≤ mostSum
-  pub first : DealBounded (dealOf r (firstWants r demands))
-  pub second : DealBounded (dealOf r (secondWants r demands))
+  pub first : DealBounded (firstDeal r demands)
+  pub second : DealBounded (secondDeal r demands)
 
 -- Where the table is accepted, they fit, whatever the demands.
 abbrev pub FiguresFit : Type 0

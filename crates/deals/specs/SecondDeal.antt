@@ -8,8 +8,9 @@ use Rattle.figures.specs.Figures.{total, figuresFrom, figures, at, sumOf}
 use Rattle.rooms.specs.Table.{Room, roomCords}
 use Rattle.rooms.specs.Cords.{cordsFrom, cordAt}
 use Rattle.deals.specs.Wants.{needs, firstWants}
-use Rattle.rooms.specs.Lists.{carriedBy}
-use Rattle.deals.specs.Dealing.{grantsBy}
+use Rattle.rooms.specs.Lists.{carriedBy, lowsOf}
+use Rattle.deals.specs.Metrics.{Deal, dealOf}
+use Rattle.deals.specs.Dealing.{granted}
 
 -- The least of a start and of the figures, at the places below k, of which a test holds.
 unfoldable pub leastOver : ℕ → (ℕ → Bool) → (ℕ → ℕ) → ℕ → ℕ
@@ -47,10 +48,14 @@ wantsAfter r wants grants used =
 
 -- ---- The two deals of a room with given demands
 
--- The grants of the first deal.
+-- The first deal, in which each cord starts from its low, and its grants.
+unfoldable pub firstDeal : Room → List ℕ → Deal
+unfolding dealOf lowsOf firstWants
+firstDeal r demands = dealOf r (lowsOf r) (firstWants r demands)
+
 unfoldable pub firstGrants : Room → List ℕ → List ℕ
-unfolding firstWants grantsBy
-firstGrants r demands = grantsBy r (firstWants r demands)
+unfolding firstDeal granted
+firstGrants r demands = granted (firstDeal r demands)
 
 -- The usable watts of each server after the first deal, and the used watts of each cord: ceil(share × usable / scale).
 unfoldable pub firstUsable : Room → List ℕ → List ℕ
@@ -71,10 +76,14 @@ unfoldable pub secondWants : Room → List ℕ → List ℕ
 unfolding wantsAfter firstWants firstGrants firstUsed
 secondWants r demands = wantsAfter r (firstWants r demands) (firstGrants r demands) (firstUsed r demands)
 
--- The grants of the second deal: the answer.
+-- The second deal, in which each cord starts from its used watts (`Dealing.antt` says how that deals), and its grants: the answer.
+unfoldable pub secondDeal : Room → List ℕ → Deal
+unfolding dealOf firstUsed secondWants
+secondDeal r demands = dealOf r (firstUsed r demands) (secondWants r demands)
+
 unfoldable pub secondGrants : Room → List ℕ → List ℕ
-unfolding secondWants grantsBy
-secondGrants r demands = grantsBy r (secondWants r demands)
+unfolding secondDeal granted
+secondGrants r demands = granted (secondDeal r demands)
 
 -- The cap of each server: its usable watts by the second grants.
 unfoldable pub caps : Room → List ℕ → List ℕ

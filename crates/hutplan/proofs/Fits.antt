@@ -14,7 +14,7 @@ use Rattle.rooms.specs.Limits.{checked}
 use Rattle.rooms.specs.Outcome.{reading}
 use Rattle.rooms.specs.Outcome as read
 use Rattle.rooms.proofs.Accepted.{accepted}
-use Rattle.deals.specs.Metrics.{dealOf}
+use Rattle.deals.specs.SecondDeal.{secondDeal}
 use Rattle.deals.specs.Plan.{plan, planRoom, mostLent, Outcome}
 use Rattle.deals.specs.Plan as plan
 use Rattle.deals.specs.Promises.{AcceptedPlan}
@@ -36,7 +36,7 @@ words-below l h i = go (ltb i (length l)) refl
 
 -- An accepted plan.
 plan-fits : (p : AcceptedPlan) → length (roomText (p .room) (plan.accepted (p .answer))) ≤ mostText
-unfolding dealOf
+unfolding secondDeal
 plan-fits p =
     let whole = answer-of-both-deals p in
     let bounded = figures-fit (p .table) (p .room) (p .end) (p .isRoom) (p .demands) in

@@ -1,2 +1,3 @@
 -- The laws of `layout`.
+pub mod Rows
 pub mod Loading

@@ -1,253 +1,148 @@
--- The turns of the loops that lay out a good table's cords: before each turn the lists have the figures of the cords and servers passed.
+-- The turns of the loop over the rows of cords, and that the figures of a room's rows are the room's.
 use mathlib.Core.Path.{_≡_, refl, sym, ap, ap₂, _∙_}
 use mathlib.Core.List.{List}
-use Prim.Native.Nat.{ℕ, _+_, _-_, _*_, _≤_, _<_, min, max}
+use Prim.Native.Nat.{ℕ, _+_, _≤_, _<_, min, max}
 use native.Mathlib.Omega.{arith}
 use lib.ListN.{length, set}
-use Rattle.rooms.specs.Part.{good}
-use Rattle.rooms.specs.Table.{Room, IsScale, mostWords, mostWatts, mostNodes, mostServers, mostCords, roomCords}
-use Rattle.rooms.specs.Limits.{checked, carried}
-use Rattle.rooms.proofs.Accepted.{accepted}
-use Rattle.rooms.proofs.Reach.{length-small}
-use Rattle.figures.specs.Figures.{figures, at}
-use Rattle.rooms.specs.Cords.{RoomCord, cordAt, serverAt, rankOf}
-use Rattle.deals.specs.Wants.{needs, firstWants}
-use Rattle.rooms.specs.Lists.{carriedBy, lowsOf, nodesOf, levelsOf}
-use Rattle.room_lists.specs.Walk.{serversIndex}
-use Rattle.layout.specs.Lists.{CordsLent, CordsLaidOut}
-use Rattle.figures.proofs.Lists.{figures-at}
+use lib.Seq.{ext-getD}
+use Rattle.figures.specs.Figures.{figures, at, cell, column}
+use Rattle.figures.proofs.Lists.{figures-at, figures-length}
+use Rattle.figures.proofs.Columns.{column-length, column-at}
 use Rattle.figures.proofs.Filled.{Filled, filled-none, filled-one, filled-all}
-use Rattle.room_lists.proofs.Walk.{begun, Walk, CordHere, ServerHere, walk-start, walk-server, walk-end}
+use Rattle.rooms.specs.Table.{Room, roomCords}
+use Rattle.rooms.specs.Part.{good}
+use Rattle.rooms.specs.Limits.{checked, carried}
+use Rattle.rooms.specs.Cords.{cordAt, serverAt}
+use Rattle.rooms.specs.Lists.{carriedBy, lowsOf, sharesOf, serversOf}
+use Rattle.rooms.proofs.Accepted.{Accepted, accepted}
+use Rattle.room_lists.specs.Lists.{nodeColumn, serverColumn, shareColumn, leastColumn, greatestColumn, carriedFrom, OfRoom, ScaleIs, ServerRows, CordRows}
+use Rattle.deals.specs.Wants.{need, needs, firstWants}
+use Rattle.deals.proofs.RoomDeals.{sharesOf-at, serversOf-at}
+use Rattle.deals.proofs.BothDeals.{server-facts, cord-facts}
+use Rattle.deals.proofs.Bounds.{bounded}
+use Rattle.layout.specs.Lists.{CordsLent, CordsLaidOut}
+use Rattle.layout.specs.Loading.{needsFrom, CordsLoadable, CordsLoaded}
+use Rattle.layout.proofs.Rows.{cords-count, node-at, server-at, share-at, servers-count, least-at, greatest-at}
 
--- What the cord at a place of the room's carries, by the servers' loads.
-abbrev carriedOf : Room → List ℕ → ℕ → ℕ
-carriedOf r loads h = carried (r .scale) (cordAt r h .share) (at loads (cordAt r h .server))
+-- ---- The loop over the cords
 
--- The servers' least watts.
-abbrev leasts : Room → List ℕ
-leasts r = figures (length (r .servers)) (λ v. serverAt r v .least)
+-- What the cord of a row carries, by the servers' loads.
+abbrev carriedAt : ℕ → List (List ℕ) → (ℕ → ℕ) → ℕ → ℕ
+carriedAt scale cords load c = carried scale (cell cords c shareColumn) (load (cell cords c serverColumn))
 
--- The need, by a demand, of the server whose words start at an index of the table.
-abbrev needWord : List ℕ → ℕ → ℕ → ℕ
-needWord table start demand = min (max demand (at table (start + 1))) (at table (start + 2))
+-- The lists have the figures of the cords before place c.
+pub record Loaded (scale : ℕ) (servers cords : List (List ℕ)) (needed : List ℕ) (c : ℕ) (nodes lows wants : List ℕ) : Type 0 where
+  pub nodes-done : Filled (λ h. cell cords h nodeColumn) (length cords) c nodes
+  pub lows-done : Filled (carriedAt scale cords (λ v. cell servers v leastColumn)) (length cords) c lows
+  pub wants-done : Filled (carriedAt scale cords (at needed)) (length cords) c wants
 
--- The walk stands before the server at place v, whose cords stand from place `first` on; the figures of the servers before it and
--- of the cords before place c are laid out.
-pub record Loading (table demands : List ℕ) (scale v start first c : ℕ) (nodes levels lows wants shares servers needed : List ℕ) : Type 0 where
-  pub room : Room
-  pub end : ℕ
-  pub read : checked table 0 ≡ good room end
-  pub scale-is : scale ≡ room .scale
-  pub served : length demands ≡ length (room .servers)
-  pub walk : Walk table room v start first
-  pub nodes-done : Filled (λ h. cordAt room h .node) (roomCords room) c nodes
-  pub levels-done : Filled (λ h. rankOf room h - 1) (roomCords room) c levels
-  pub lows-done : Filled (carriedOf room (leasts room)) (roomCords room) c lows
-  pub wants-done : Filled (carriedOf room (needs room demands)) (roomCords room) c wants
-  pub shares-done : Filled (λ h. cordAt room h .share) (roomCords room) c shares
-  pub servers-done : Filled (λ h. cordAt room h .server) (roomCords room) c servers
-  pub needs-done : Filled (at (needs room demands)) (length (room .servers)) v needed
+module _ {scale : ℕ} {servers cords : List (List ℕ)} {needed : List ℕ} where
+  pub loaded-none : {nodes lows wants : List ℕ} → length nodes ≡ length cords → length lows ≡ length cords → length wants ≡ length cords
+      → Loaded scale servers cords needed 0 nodes lows wants
+  loaded-none {nodes} {lows} {wants} n l w =
+      record { nodes-done = rw (← n) (filled-none _ nodes); lows-done = rw (← l) (filled-none _ lows); wants-done = rw (← w) (filled-none _ wants) }
 
--- Within that server: the words of the cord at place c start at index `word`.
-pub record LoadingServer (table demands : List ℕ) (scale v start first count c word : ℕ) (nodes levels lows wants shares servers needed : List ℕ) : Type 0 where
-  pub loading : Loading table demands scale v start first c nodes levels lows wants shares servers needed
-  pub more : v < length demands
-  pub counted : count ≡ at table (start + 3)
-  pub from : first ≤ c
-  pub to : c ≤ first + count
-  pub next : word + 2 * first ≡ start + 4 + 2 * c
-
--- What code relies on at that cord.
-pub record CordFits (table : List ℕ) (scale v start c word : ℕ) (nodes levels lows wants shares servers : List ℕ) : Type 0 where
-  pub scaled : IsScale scale
-  pub words-few : length table ≤ mostWords
-  pub there : word + 1 < length table
-  pub node-most : at table word ≤ mostNodes
-  pub share-most : at table (word + 1) ≤ scale
-  pub greatest-most : at table (start + 2) ≤ mostWatts
-  pub least-most : at table (start + 1) ≤ mostWatts
-  pub server-few : v < mostServers
-  pub cord-few : c < mostCords
-  pub in-nodes : c < length nodes
-  pub in-levels : c < length levels
-  pub in-lows : c < length lows
-  pub in-wants : c < length wants
-  pub in-shares : c < length shares
-  pub in-servers : c < length servers
-
-pub loading-start : {table demands nodes levels lows wants shares servers needed : List ℕ} {scale : ℕ} → CordsLent table demands nodes levels lows wants shares servers needed scale
-    → {i : ℕ} → i ≡ serversIndex table + 1 → Loading table demands scale 0 i 0 0 nodes levels lows wants shares servers needed
-loading-start {nodes = nodes} {levels = levels} {lows = lows} {wants = wants} {shares = shares} {servers = servers} {needed = needed} lent e =
-    let g = lent .good-table in
-    rw e
-    (record {
-      room = g .value;
-      end = g .next;
-      read = g .is;
-      scale-is = lent .scale-fit (g .value) (g .next) (g .is);
-      served = lent .demands-fit (g .value) (g .next) (g .is);
-      walk = walk-start (g .is);
-      nodes-done = rw (← lent .nodes-fit (g .value) (g .next) (g .is)) (filled-none _ nodes);
-      levels-done = rw (← lent .levels-fit (g .value) (g .next) (g .is)) (filled-none _ levels);
-      lows-done = rw (← lent .lows-fit (g .value) (g .next) (g .is)) (filled-none _ lows);
-      wants-done = rw (← lent .wants-fit (g .value) (g .next) (g .is)) (filled-none _ wants);
-      shares-done = rw (← lent .shares-fit (g .value) (g .next) (g .is)) (filled-none _ shares);
-      servers-done = rw (← lent .servers-fit (g .value) (g .next) (g .is)) (filled-none _ servers);
-      needs-done = rw (← lent .needs-fit (g .value) (g .next) (g .is)) (filled-none _ needed);
-    })
-
-module _ {table demands : List ℕ} {scale v start first c : ℕ} {nodes levels lows wants shares servers needed : List ℕ}
-    (loading : Loading table demands scale v start first c nodes levels lows wants shares servers needed) where
-  pub loading-end : length demands ≤ v → first ≤ c → (r : Room) (end : ℕ) → checked table 0 ≡ good r end
-      → CordsLaidOut r demands nodes levels lows wants shares servers needed scale
-  unfolding nodesOf levelsOf lowsOf firstWants carriedBy needs
-  loading-end h f r end e =
-      let read = loading .read in
-      let same : loading .room ≡ r = cc in
-      let s : length (loading .room .servers) ≤ v = omega (arith, loading .served) in
-      let n : roomCords (loading .room) ≤ c = omega (arith, walk-end (loading .walk) s) in
-      rw (← same)
-      (record {
-        nodes-are = filled-all _ _ (loading .nodes-done) refl n (λ i l. refl);
-        levels-are = filled-all _ _ (loading .levels-done) refl n (λ i l. refl);
-        lows-are = filled-all _ _ (loading .lows-done) refl n (λ i l. refl);
-        wants-are = filled-all _ _ (loading .wants-done) refl n (λ i l. refl);
-        shares-are = filled-all _ _ (loading .shares-done) refl n (λ i l. refl);
-        servers-are = filled-all _ _ (loading .servers-done) refl n (λ i l. refl);
-        needs-are = filled-all _ _ (loading .needs-done) refl s (λ i l. figures-at _ i _ l);
-        scale-is = loading .scale-is;
-      })
-
-  module _ (more : v < length demands) where
-    here : v < length (loading .room .servers)
-    here = omega (arith, loading .served)
-
-    pub loading-server : ServerHere table (loading .room) v start first
-    loading-server = walk-server (loading .walk) here
-
-    need-here : needWord table start (at demands v) ≡ at (needs (loading .room) demands) v
-    unfolding needs
-    need-here =
-        ap₂ (λ (x y : ℕ). min (max (at demands v) x) y) (sym (loading-server .least)) (sym (loading-server .greatest))
-        ∙ sym (figures-at (length (loading .room .servers)) v _ here)
-
-    least-here : at table (start + 1) ≡ at (leasts (loading .room)) v
-    least-here = sym (figures-at (length (loading .room .servers)) v _ here ∙ loading-server .least)
-
-walk-to : {table : List ℕ} {r : Room} {v i j c d : ℕ} → i ≡ j → c ≡ d → Walk table r v j d → Walk table r v i c
-walk-to e f walk = rw (e, f) walk
-
-pub server-begin : {table demands : List ℕ} {scale v start first count : ℕ} {nodes levels lows wants shares servers needed : List ℕ}
-    → Loading table demands scale v start first first nodes levels lows wants shares servers needed → v < length demands → count ≡ at table (start + 3)
-    → LoadingServer table demands scale v start first count first (start + 4) nodes levels lows wants shares servers needed
-server-begin loading more e =
-    record { loading = loading; more = more; counted = e; from = omega arith; to = omega arith; next = omega arith }
-
-module _ {table demands : List ℕ} {scale v start first count c word : ℕ} {nodes levels lows wants shares servers needed : List ℕ}
-    (server : LoadingServer table demands scale v start first count c word nodes levels lows wants shares servers needed) where
-  abbrev loading : Loading table demands scale v start first c nodes levels lows wants shares servers needed
-  loading = server .loading
-
-  abbrev r : Room
-  r = server .loading .room
-
-  module _ (short : c < first + count) where
-    cord-here : CordHere table r v start first (c - first)
-    cord-here = loading-server loading (server .more) .cord (c - first) (omega (arith, server .counted, server .from))
-
-    at-c : first + (c - first) ≡ c
-    at-c = omega (arith, server .from)
-
-    at-word : start + 4 + 2 * (c - first) ≡ word
-    at-word = omega (arith, server .from, server .next)
-
-    at-share : start + 5 + 2 * (c - first) ≡ word + 1
-    at-share = omega (arith, server .from, server .next)
-
-    is : record { server = v; node = at table word; share = at table (word + 1) } ≡ cordAt r c
-    is = sym (rw (at-c, at-word, at-share) at (cord-here .is))
-
-    pub cord-fits : CordFits table scale v start c word nodes levels lows wants shares servers
-    cord-fits =
-        let within : c < roomCords r = rw at-c at (cord-here .within) in
-        let standing = loading-server loading (server .more) in
+  module _ {c : ℕ} {nodes lows wants : List ℕ} (loaded : Loaded scale servers cords needed c nodes lows wants) where
+    pub loaded-one : c < length cords → {v node low want : ℕ} → v ≡ cell cords c serverColumn → node ≡ cell cords c nodeColumn
+        → low ≡ carried scale (cell cords c shareColumn) (cell servers v leastColumn) → want ≡ carried scale (cell cords c shareColumn) (at needed v)
+        → Loaded scale servers cords needed (c + 1) (set nodes c node) (set lows c low) (set wants c want)
+    loaded-one h {node = node} {low = low} {want = want} place n l w =
         record {
-          scaled = rw (loading .scale-is) (accepted table r (loading .end) (loading .read) .scaled);
-          words-few = length-small table r (loading .end) (loading .read);
-          there = omega (arith, cord-here .there, at-share);
-          node-most = omega (arith, rw at-word at (cord-here .node-most), begun (loading .read) .most);
-          share-most = rw (loading .scale-is) (rw at-share at (cord-here .share-most));
-          greatest-most = standing .most;
-          least-most = omega (arith, standing .ordered, standing .most);
-          server-few = omega (arith, server .more, loading .served, accepted table r (loading .end) (loading .read) .fewServers);
-          cord-few = omega (arith, begun (loading .read) .cords-most);
-          in-nodes = omega (arith, loading .nodes-done .size-is);
-          in-levels = omega (arith, loading .levels-done .size-is);
-          in-lows = omega (arith, loading .lows-done .size-is);
-          in-wants = omega (arith, loading .wants-done .size-is);
-          in-shares = omega (arith, loading .shares-done .size-is);
-          in-servers = omega (arith, loading .servers-done .size-is);
+          nodes-done = filled-one node (loaded .nodes-done) h n;
+          lows-done = filled-one low (loaded .lows-done) h (l ∙ ap (λ (v : ℕ). carried scale (cell cords c shareColumn) (cell servers v leastColumn)) place);
+          wants-done = filled-one want (loaded .wants-done) h (w ∙ ap (λ (v : ℕ). carried scale (cell cords c shareColumn) (at needed v)) place);
         }
 
-    carried-here : (loads : List ℕ) {load x : ℕ} → load ≡ at loads v → x ≡ carried scale (at table (word + 1)) load → x ≡ carriedOf r loads c
-    carried-here loads e f =
-        f ∙ ap₂ (λ (s y : ℕ). carried s (at table (word + 1)) y) (loading .scale-is) e ∙ ap (λ (x : RoomCord). carried (r .scale) (x .share) (at loads (x .server))) is
+    -- Figures that are carried of some loads, filled to the end.
+    carried-all : (loads : List ℕ) {load : ℕ → ℕ} {l : List ℕ} → Filled (carriedAt scale cords load) (length cords) c l → length cords ≤ c → ((v : ℕ) → load v ≡ at loads v)
+        → l ≡ carriedFrom scale (column shareColumn cords) (column serverColumn cords) loads
+    carried-all loads {load} filled h same =
+        let n = column-length shareColumn cords in
+        filled-all (length (column shareColumn cords)) _ filled (sym n) (omega arith)
+        (λ i q. ap₂ (λ (x y : ℕ). carried scale x y) (sym (column-at shareColumn cords i)) (same (cell cords i serverColumn) ∙ ap (at loads) (sym (column-at serverColumn cords i))))
 
-    -- One cord more.
-    pub server-cord : {load level node low want place : ℕ} → load ≡ needWord table start (at demands v)
-        → level ≡ at table start - 1
-        → node ≡ at table word
-        → low ≡ carried scale (at table (word + 1)) (at table (start + 1))
-        → want ≡ carried scale (at table (word + 1)) load
-        → place ≡ v
-        → LoadingServer table demands scale v start first count (c + 1) (word + 2) (set nodes c node) (set levels c level) (set lows c low)
-        (set wants c want) (set shares c (at table (word + 1))) (set servers c place) needed
-    server-cord {level = level} {node = node} {low = low} {want = want} {place = place} el eh en ec ew ep =
-        let within : c < roomCords r = rw at-c at (cord-here .within) in
-        let standing = loading-server loading (server .more) in
+    pub loaded-all : length cords ≤ c → CordsLoaded scale servers cords needed nodes lows wants
+    loaded-all h =
+        let n = column-length nodeColumn cords in
         record {
-          loading = record {
-            room = r;
-            end = loading .end;
-            read = loading .read;
-            scale-is = loading .scale-is;
-            served = loading .served;
-            walk = loading .walk;
-            nodes-done = filled-one node (loading .nodes-done) within (en ∙ ap (λ (x : RoomCord). x .node) is);
-            levels-done =
-                filled-one level (loading .levels-done) within
-                (eh ∙ ap (λ (x : ℕ). x - 1) (sym (standing .rank)) ∙ ap (λ (x : RoomCord). serverAt r (x .server) .rank - 1) is);
-            lows-done = filled-one low (loading .lows-done) within (carried-here (leasts r) (least-here loading (server .more)) ec);
-            wants-done = filled-one want (loading .wants-done) within (carried-here (needs r demands) (el ∙ need-here loading (server .more)) ew);
-            shares-done = filled-one _ (loading .shares-done) within (ap (λ (x : RoomCord). x .share) is);
-            servers-done = filled-one place (loading .servers-done) within (ep ∙ ap (λ (x : RoomCord). x .server) is);
-            needs-done = loading .needs-done;
-          };
-          more = server .more;
-          counted = server .counted;
-          from = omega (arith, server .from);
-          to = omega arith;
-          next = omega (arith, server .next);
+          nodes-are =
+              ext-getD 0 nodes (column nodeColumn cords) (loaded .nodes-done .size-is ∙ sym n)
+              (λ i q. loaded .nodes-done .done i (omega (arith, loaded .nodes-done .size-is)) ∙ sym (column-at nodeColumn cords i));
+          lows-are = carried-all (column leastColumn servers) (loaded .lows-done) h (λ v. sym (column-at leastColumn servers v));
+          wants-are = carried-all needed (loaded .wants-done) h (λ v. refl);
         }
 
-  -- The server is passed, after its cords.
-  pub server-end : {load : ℕ} → first + count ≤ c → load ≡ needWord table start (at demands v)
-      → Loading table demands scale (v + 1) word (first + count) (first + count) nodes levels lows wants shares servers (set needed v load)
-  server-end {load} h el =
-      let all : first + count ≡ c = omega (arith, server .to) in
-      let w : word ≡ start + (4 + 2 * at table (start + 3)) = omega (arith, server .counted, server .next) in
-      record {
-        room = r;
-        end = loading .end;
-        read = loading .read;
-        scale-is = loading .scale-is;
-        served = loading .served;
-        walk = walk-to w (ap (λ (k : ℕ). first + k) (server .counted)) (loading-server loading (server .more) .next);
-        nodes-done = rw all (loading .nodes-done);
-        levels-done = rw all (loading .levels-done);
-        lows-done = rw all (loading .lows-done);
-        wants-done = rw all (loading .wants-done);
-        shares-done = rw all (loading .shares-done);
-        servers-done = rw all (loading .servers-done);
-        needs-done = filled-one load (loading .needs-done) (here loading (server .more)) (el ∙ need-here loading (server .more));
-      }
+-- ---- The room's figures
+
+-- What is carried by the room's shares and servers.
+pub carried-is : (r : Room) (loads : List ℕ) → carriedFrom (r .scale) (sharesOf r) (serversOf r) loads ≡ carriedBy r loads
+unfolding carriedBy
+carried-is r loads = λ i. figures (figures-length (roomCords r) (λ c. cordAt r c .share) i) (λ c. carried (r .scale) (sharesOf-at r c i) (at loads (serversOf-at r c i)))
+
+module _ {r : Room} {servers cords : List (List ℕ)} (of-servers : ServerRows r servers) (of-cords : CordRows r cords) (demands : List ℕ) {needed : List ℕ} (of-needs : needed ≡ needsFrom servers demands) where
+  all : Filled (λ v. min (max (at demands v) (cell servers v leastColumn)) (cell servers v greatestColumn)) (length servers) (length servers) (needsFrom servers demands)
+  all = record { size-is = figures-length (length servers) _; done = λ i h. figures-at (length servers) i _ h }
+
+  needs-is : needed ≡ needs r demands
+  unfolding needs
+  needs-is =
+      let n = servers-count of-servers in
+      of-needs
+      ∙ filled-all (length (r .servers)) (λ v. need (serverAt r v) (at demands v)) all n (omega arith)
+      (λ v h. ap₂ (λ (x y : ℕ). min (max (at demands v) x) y) (least-at of-servers v h) (greatest-at of-servers v h))
+
+  module _ (ok : Accepted r) {scale : ℕ} (scale-is : scale ≡ r .scale) where
+    -- They fit their entries.
+    pub loadable : CordsLoadable scale servers cords needed
+    loadable =
+        let k = cords-count of-cords in
+        let n = servers-count of-servers in
+        record {
+          scaled = rw scale-is (ok .scaled);
+          needs-size = ap length of-needs ∙ figures-length (length servers) _;
+          hangs = λ c h. omega (arith, node-at of-cords c, cord-facts r ok c (omega arith) .2, ok .fewNodes);
+          within = λ c h. omega (arith, server-at of-cords c, cord-facts r ok c (omega arith) .0);
+          parts = λ c h. omega (arith, share-at of-cords c, cord-facts r ok c (omega arith) .3);
+          least-most = λ v h.
+              let there : v < length (r .servers) = omega arith in
+              omega (arith, least-at of-servers v there, server-facts r ok v there .ordered, server-facts r ok v there .greatestTo);
+          need-most = λ v h. rw needs-is (bounded r ok demands .needs v (omega arith));
+        }
+
+    pub laid-out : {nodes lows wants : List ℕ} → CordsLoaded scale servers cords needed nodes lows wants → CordsLaidOut r demands cords nodes lows wants needed
+    unfolding lowsOf firstWants
+    laid-out loaded =
+        let least : List ℕ = figures (length (r .servers)) (λ v. serverAt r v .least) in
+        record {
+          rows-are = of-cords;
+          nodes-are = loaded .nodes-are ∙ of-cords .nodes;
+          lows-are = loaded .lows-are ∙ rw (scale-is, of-cords .shares, of-cords .servers, of-servers .leasts) (carried-is r least);
+          wants-are = loaded .wants-are ∙ rw (scale-is, of-cords .shares, of-cords .servers, needs-is) (carried-is r (needs r demands));
+          needs-are = needs-is;
+        }
+
+-- ---- What the calls ask and leave, of a good table
+
+module _ {table demands : List ℕ} {cords₀ : List (List ℕ)} {nodes₀ lows₀ wants₀ needs₀ : List ℕ} (lent : CordsLent table demands cords₀ nodes₀ lows₀ wants₀ needs₀)
+    {servers cords : List (List ℕ)} (rows : OfRoom table (λ r. ServerRows r servers × CordRows r cords)) where
+  abbrev room : Room
+  room = lent .good-table .value
+
+  abbrev read : checked table 0 ≡ good room (lent .good-table .next)
+  read = lent .good-table .is
+
+  pub needs-asked : (length demands ≡ length servers) × (length needs₀ ≡ length servers)
+  needs-asked =
+      let n = servers-count (rows room _ read .0) in
+      (lent .demands-fit room _ read ∙ sym n, lent .needs-fit room _ read ∙ sym n)
+
+  module _ {needed : List ℕ} (of-needs : needed ≡ needsFrom servers demands) {scale : ℕ} (scaled : ScaleIs table scale) where
+    pub figures-asked : CordsLoadable scale servers cords needed × ((length nodes₀ ≡ length cords) × (length lows₀ ≡ length cords) × (length wants₀ ≡ length cords))
+    figures-asked =
+        let k = cords-count (rows room _ read .1) in (
+          loadable (rows room _ read .0) (rows room _ read .1) demands of-needs (accepted table room _ read) (scaled room _ read),
+          (lent .nodes-fit room _ read ∙ sym k, lent .lows-fit room _ read ∙ sym k, lent .wants-fit room _ read ∙ sym k),
+        )
+
+    pub all-laid-out : {nodes lows wants : List ℕ} → CordsLoaded scale servers cords needed nodes lows wants → OfRoom table (λ r. CordsLaidOut r demands cords nodes lows wants needed)
+    all-laid-out loaded r end is = laid-out (rows r end is .0) (rows r end is .1) demands of-needs (accepted table r end is) (scaled r end is) loaded

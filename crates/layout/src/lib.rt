@@ -1,14 +1,24 @@
-// A room's lists, laid out from its table: a figure a cord in table order, and a figure a server.
+// A room's lists, laid out from its table: a row and figures a cord in table order, and a figure a server.
 // Private to Plan: no operation stands here.
 ghost use mathlib.Core.Path.{_≡_};
 ghost use Prim.Native.Nat.{min, max};
-ghost use Rattle.room_lists.specs.Lists.{OfRoom};
+ghost use lib.ListN.{length};
+ghost use Rattle.room_lists.specs.Lists.{OfRoom, ServersFit};
 ghost use Rattle.layout.specs.Lists.{CordsLent, CordsLaidOut};
-use figures::place;
+ghost use Rattle.layout.specs.Loading.{needsFrom, CordsLoadable, CordsLoaded};
 use figures::short;
 use figures::word_index;
-use room_lists::first_server;
+use room_lists::GREATEST;
+use room_lists::LEAST;
+use room_lists::NODE;
+use room_lists::SERVER;
+use room_lists::SHARE;
+use room_lists::lay_out_servers;
+use room_lists::table_scale;
 use rooms::limits::carried_by;
+
+// The most servers of a room.
+const MOST_SERVERS: usize = 512;
 
 // The need of a server: its demand, brought into the range from least to greatest.
 fn need_of(demand: u32, least: u32, greatest: u32) -> u32
@@ -18,42 +28,92 @@ fn need_of(demand: u32, least: u32, greatest: u32) -> u32
     if greatest < raised { greatest } else { raised }
 }
 
-// The cords of a good table and its servers' needs by the demands, one a server; the wants are those of the first deal.
+// The need of each server, by the servers' rows and the demands.
+fn load_needs(servers: &[[u32; 4]], demands: &[u32], needs: &mut [u32])
+    requires { ⌜ (length (now demands) ≡ length (now servers)) × (length (now needs) ≡ length (now servers)) ⌝ }
+    ensures { λ _. ⌜ now (needs .exit) ≡ needsFrom (now (servers .entry)) (now (demands .entry)) ⌝ }
+{
+    for v in 0..servers.len() {
+        let server = servers[v];
+        needs[v] = need_of(demands[v], server[LEAST], server[GREATEST]);
+    }
+}
+
+// The node of each cord, and what it carries of its server's least and need, by the rows.
+fn load_figures(
+    servers: &[[u32; 4]],
+    cords: &[[u32; 4]],
+    needs: &[u32],
+    nodes: &mut [u16],
+    lows: &mut [u32],
+    wants: &mut [u32],
+    scale: u32,
+)
+    requires { ⌜ CordsLoadable scale (now servers) (now cords) (now needs) ⌝ }
+    requires { ⌜ (length (now nodes) ≡ length (now cords)) × (length (now lows) ≡ length (now cords)) × (length (now wants) ≡ length (now cords)) ⌝ }
+    ensures { λ _. ⌜ CordsLoaded scale (now (servers .entry)) (now (cords .entry)) (now (needs .entry)) (now (nodes .exit)) (now (lows .exit)) (now (wants .exit)) ⌝ }
+{
+    for c in 0..cords.len() {
+        let cord = cords[c];
+        let share = cord[SHARE];
+        let v = word_index(cord[SERVER]);
+        nodes[c] = short(cord[NODE]);
+        lows[c] = carried_by(share, servers[v][LEAST], scale);
+        wants[c] = carried_by(share, needs[v], scale);
+    }
+}
+
+// `load_cords`, with a list lent for the servers' rows.
+fn load_rows(
+    table: &[u32],
+    demands: &[u32],
+    servers: &mut [[u32; 4]],
+    cords: &mut [[u32; 4]],
+    nodes: &mut [u16],
+    lows: &mut [u32],
+    wants: &mut [u32],
+    needs: &mut [u32],
+)
+    requires { ⌜ CordsLent (now table) (now demands) (now cords) (now nodes) (now lows) (now wants) (now needs) ⌝ }
+    requires { ⌜ ServersFit (now table) (length (now servers)) ⌝ }
+    ensures { λ _. ⌜ OfRoom (now (table .entry)) (λ r. CordsLaidOut r (now (demands .entry)) (now (cords .exit)) (now (nodes .exit)) (now (lows .exit)) (now (wants .exit)) (now (needs .exit))) ⌝ }
+{
+    lay_out_servers(table, servers, cords);
+    load_needs(servers, demands, needs);
+    load_figures(
+        servers,
+        cords,
+        needs,
+        nodes,
+        lows,
+        wants,
+        table_scale(table),
+    );
+}
+
+// The rows of a good table's cords, their nodes, lows and wants, and its servers' needs by the demands, one a server; the wants are
+// those of the first deal.
 pub fn load_cords(
     table: &[u32],
     demands: &[u32],
+    cords: &mut [[u32; 4]],
     nodes: &mut [u16],
-    levels: &mut [u16],
     lows: &mut [u32],
     wants: &mut [u32],
-    shares: &mut [u32],
-    servers: &mut [u16],
     needs: &mut [u32],
-    scale: u32,
 )
-    requires { ⌜ CordsLent (now table) (now demands) (now nodes) (now levels) (now lows) (now wants) (now shares) (now servers) (now needs) scale ⌝ }
-    ensures { λ _. ⌜ OfRoom (now (table .entry)) (λ r. CordsLaidOut r (now (demands .entry)) (now (nodes .exit)) (now (levels .exit)) (now (lows .exit)) (now (wants .exit)) (now (shares .exit)) (now (servers .exit)) (now (needs .exit)) scale) ⌝ }
+    requires { ⌜ CordsLent (now table) (now demands) (now cords) (now nodes) (now lows) (now wants) (now needs) ⌝ }
+    ensures { λ _. ⌜ OfRoom (now (table .entry)) (λ r. CordsLaidOut r (now (demands .entry)) (now (cords .exit)) (now (nodes .exit)) (now (lows .exit)) (now (wants .exit)) (now (needs .exit))) ⌝ }
 {
-    let mut start = first_server(table);
-    let mut first = 0;
-    for v in 0..demands.len() {
-        let level = short(table[start] - 1);
-        let least = table[start + 1];
-        let need = need_of(demands[v], least, table[start + 2]);
-        let count = word_index(table[start + 3]);
-        let mut word = start + 4;
-        for c in first..first + count {
-            let share = table[word + 1];
-            nodes[c] = short(table[word]);
-            levels[c] = level;
-            lows[c] = carried_by(share, least, scale);
-            wants[c] = carried_by(share, need, scale);
-            shares[c] = share;
-            servers[c] = place(v);
-            word += 2;
-        }
-        needs[v] = need;
-        first += count;
-        start = word;
-    }
+    let mut servers = [[0u32; 4]; MOST_SERVERS];
+    load_rows(
+        table,
+        demands,
+        &mut servers[..demands.len()],
+        cords,
+        nodes,
+        lows,
+        wants,
+        needs,
+    )
 }

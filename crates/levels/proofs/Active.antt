@@ -14,8 +14,9 @@ use lib.Seq.{getD-set-same, getD-set-other}
 use borrow.Author.Count.{below-more}
 use borrow.Author.Tests.{eqb-true, eqb-false, ltb-true, ltb-false}
 use Rattle.rooms.specs.Table.{mostNodes, highestRank}
-use Rattle.figures.specs.Figures.{at}
-use Rattle.levels.specs.Levels.{Marked, MarksAdded, NodeMarks, Linked, Listed, Absent, FullLists, LevelsListed, ActiveNodes, CordsActive, LevelLists}
+use Rattle.figures.specs.Figures.{at, cell}
+use Rattle.levels.specs.Levels.{fromColumn, toColumn, countColumn, LevelRows, Ordered, Marked, MarksAdded, NodeMarks, Listed, Absent, FullLists, LevelsListed, ActivesListed, ActiveNodes, CordsActive, LevelLists}
+use Rattle.levels.proofs.Cells.{stored, cell-here, cell-elsewhere, cell-others, stored-full}
 
 -- ---- Marks
 
@@ -239,21 +240,34 @@ module _ {parents nodes levels marks : List ℕ} (size : length marks ≡ length
 
 -- ---- The active nodes of all levels
 
--- Before the turns of the levels below `above`.
-pub record Levelling (marks first : List ℕ) (cords above : ℕ) (actives : List (List ℕ)) (counts : List ℕ) : Type 0 where
+-- Before the turns of the levels below `above`; `rows₀` are the levels' rows before all turns.
+pub record Levelling (marks : List ℕ) (rows₀ : List (List ℕ)) (above : ℕ) (rows actives : List (List ℕ)) : Type 0 where
   pub within : above ≤ highestRank
-  pub counts-size : length counts ≡ highestRank
+  pub rows-full : LevelRows rows
   pub full : FullLists actives
-  pub listed : (j : ℕ) → above ≤ j → j < highestRank → at first j < cords → Listed marks j (getD actives j []) (at counts j)
-  pub none : (j : ℕ) → above ≤ j → j < highestRank → cords ≤ at first j → at counts j ≡ 0
+  pub bounds : (j : ℕ) → (cell rows j fromColumn ≡ cell rows₀ j fromColumn) × (cell rows j toColumn ≡ cell rows₀ j toColumn)
+  pub listed : (j : ℕ) → above ≤ j → j < highestRank → cell rows₀ j fromColumn < cell rows₀ j toColumn → Listed marks j (getD actives j []) (cell rows j countColumn)
+  pub none : (j : ℕ) → above ≤ j → j < highestRank → cell rows₀ j toColumn ≤ cell rows₀ j fromColumn → cell rows j countColumn ≡ 0
 
-pub levelling-start : {marks first : List ℕ} {cords : ℕ} {actives : List (List ℕ)} {counts : List ℕ} → length counts ≡ highestRank → FullLists actives
-    → Levelling marks first cords highestRank actives counts
-levelling-start size full = record { within = le-refl highestRank; counts-size = size; full = full; listed = λ j l h. absurd (omega arith); none = λ j l h. absurd (omega arith) }
+pub levelling-start : {marks : List ℕ} {rows actives : List (List ℕ)} → LevelRows rows → FullLists actives → Levelling marks rows highestRank rows actives
+levelling-start rows-full full = record {
+  within = le-refl highestRank;
+  rows-full = rows-full;
+  full = full;
+  bounds = λ j. (refl, refl);
+  listed = λ j l h. absurd (omega arith);
+  none = λ j l h. absurd (omega arith);
+}
 
-module _ {marks first : List ℕ} {cords above : ℕ} {actives : List (List ℕ)} {counts : List ℕ} (inv : Levelling marks first cords above actives counts) where
-  pub levelling-end : above ≤ 0 → LevelsListed marks first cords actives counts
-  levelling-end h = record { counts-size = inv .counts-size; full = inv .full; listed = λ j l. inv .listed j (omega arith) l; none = λ j l. inv .none j (omega arith) l }
+module _ {marks : List ℕ} {rows₀ : List (List ℕ)} {above : ℕ} {rows actives : List (List ℕ)} (inv : Levelling marks rows₀ above rows actives) where
+  pub levelling-end : above ≤ 0 → LevelsListed marks rows₀ actives rows
+  levelling-end h = record {
+    rows-full = inv .rows-full;
+    full = inv .full;
+    bounds = inv .bounds;
+    listed = λ j l. inv .listed j (omega arith) l;
+    none = λ j l. inv .none j (omega arith) l;
+  }
 
   module _ (some : 0 < above) where
     abbrev level : ℕ
@@ -261,6 +275,12 @@ module _ {marks first : List ℕ} {cords above : ℕ} {actives : List (List ℕ)
 
     pub level-few : level < highestRank
     level-few = omega (arith, inv .within)
+
+    pub level-there : level < length rows
+    level-there = omega (arith, level-few, inv .rows-full .0)
+
+    pub level-width : length (getD rows level []) ≡ 4
+    level-width = inv .rows-full .1 level level-few
 
     -- What holds of the levels passed and of this one.
     passed : (holds : ℕ → Type 0) → ((j : ℕ) → above ≤ j → j < highestRank → holds j) → holds level → (j : ℕ) → level ≤ j → j < highestRank → holds j
@@ -272,59 +292,88 @@ module _ {marks first : List ℕ} {cords above : ℕ} {actives : List (List ℕ)
             let d : j ≡ level → ⊥ = eqb-false j level e in
             before j (omega arith) h
 
+    -- A level's count is stored: the counts of other levels stand, and so do all bounds.
+    module _ (v : ℕ) where
+      counted : cell (stored rows level countColumn v) level countColumn ≡ v
+      counted = cell-here rows level countColumn v level-there (omega (arith, level-width))
+
+      uncounted : (j : ℕ) → above ≤ j → cell (stored rows level countColumn v) j countColumn ≡ cell rows j countColumn
+      uncounted j l = cell-elsewhere rows level countColumn v level-there j countColumn (λ q. omega arith)
+
+      same-bounds : (j : ℕ) → (cell (stored rows level countColumn v) j fromColumn ≡ cell rows₀ j fromColumn) × (cell (stored rows level countColumn v) j toColumn ≡ cell rows₀ j toColumn)
+      same-bounds j = (
+        cell-others rows level countColumn v level-there j fromColumn (λ q. absurd (omega arith)) ∙ inv .bounds j .0,
+        cell-others rows level countColumn v level-there j toColumn (λ q. absurd (omega arith)) ∙ inv .bounds j .1,
+      )
+
     -- A level that no cord has.
-    pub levelling-skip : cords ≤ at first level → Levelling marks first cords level actives (set counts level 0)
+    pub levelling-skip : cell rows level toColumn ≤ cell rows level fromColumn → Levelling marks rows₀ level (stored rows level countColumn 0) actives
     levelling-skip none = record {
       within = omega (arith, inv .within);
-      counts-size = length-set counts level 0 ∙ inv .counts-size;
+      rows-full = stored-full rows level countColumn 0 level-there (inv .rows-full);
       full = inv .full;
-      listed = passed (λ j. at first j < cords → Listed marks j (getD actives j []) (at (set counts level 0) j))
-          (λ j l h has. rw (getD-set-other counts level j 0 0 (λ q. omega arith)) (inv .listed j l h has)) (λ has. absurd (omega arith));
-      none = passed (λ j. cords ≤ at first j → at (set counts level 0) j ≡ 0) (λ j l h has. getD-set-other counts level j 0 0 (λ q. omega arith) ∙ inv .none j l h has)
-          (λ has. getD-set-same counts level 0 0 (omega (arith, inv .counts-size, inv .within)));
+      bounds = same-bounds 0;
+      listed = passed (λ j. cell rows₀ j fromColumn < cell rows₀ j toColumn → Listed marks j (getD actives j []) (cell (stored rows level countColumn 0) j countColumn))
+          (λ j l h has. subst (Listed marks j (getD actives j [])) (sym (uncounted 0 j l)) (inv .listed j l h has))
+          (λ has. absurd (omega (arith, inv .bounds level)));
+      none = passed (λ j. cell rows₀ j toColumn ≤ cell rows₀ j fromColumn → cell (stored rows level countColumn 0) j countColumn ≡ 0)
+          (λ j l h has. uncounted 0 j l ∙ inv .none j l h has) (λ has. counted 0);
     }
 
-    pub levelling-turn : at first level < cords → (list : List ℕ) {v count : ℕ} → v ≡ count → length list ≡ length (getD actives level []) → Listed marks level list count
-        → Levelling marks first cords level (set actives level list) (set counts level v)
+    pub levelling-turn : cell rows level fromColumn < cell rows level toColumn → (list : List ℕ) {v count : ℕ} → v ≡ count → length list ≡ length (getD actives level [])
+        → Listed marks level list count → Levelling marks rows₀ level (stored rows level countColumn v) (set actives level list)
     levelling-turn some-cord list {v} {count} e size listed = record {
       within = omega (arith, inv .within);
-      counts-size = length-set counts level v ∙ inv .counts-size;
+      rows-full = stored-full rows level countColumn v level-there (inv .rows-full);
       full = (
         length-set actives level list ∙ inv .full .0,
         λ j h. set-length (eqb j level) j refl h,
       );
-      listed = passed (λ j. at first j < cords → Listed marks j (getD (set actives level list) j []) (at (set counts level v) j))
-          (λ j l h has. rw (getD-set-other actives level j list [] (λ q. omega arith), getD-set-other counts level j v 0 (λ q. omega arith)) (inv .listed j l h has))
-          (λ has. rw (row, told) listed);
-      none = passed (λ j. cords ≤ at first j → at (set counts level v) j ≡ 0) (λ j l h has. getD-set-other counts level j v 0 (λ q. omega arith) ∙ inv .none j l h has)
-          (λ has. absurd (omega arith));
+      bounds = same-bounds v;
+      listed = passed (λ j. cell rows₀ j fromColumn < cell rows₀ j toColumn → Listed marks j (getD (set actives level list) j []) (cell (stored rows level countColumn v) j countColumn))
+          (λ j l h has. rw (getD-set-other actives level j list [] (λ q. omega arith)) (subst (Listed marks j (getD actives j [])) (sym (uncounted v j l)) (inv .listed j l h has)))
+          (λ has. rw row (subst (Listed marks level list) (sym (counted v ∙ e)) listed));
+      none = passed (λ j. cell rows₀ j toColumn ≤ cell rows₀ j fromColumn → cell (stored rows level countColumn v) j countColumn ≡ 0)
+          (λ j l h has. uncounted v j l ∙ inv .none j l h has) (λ has. absurd (omega (arith, inv .bounds level)));
     }
       where
         row : getD (set actives level list) level [] ≡ list
         row = getD-set-same actives level list [] (omega (arith, inv .full .0, inv .within))
 
-        told : at (set counts level v) level ≡ count
-        told = getD-set-same counts level v 0 (omega (arith, inv .counts-size, inv .within)) ∙ e
-
         set-length : (t : Bool) (j : ℕ) → eqb j level ≡ t → j < highestRank → length (getD (set actives level list) j []) ≡ mostNodes
         set-length true j q h = rw (eqb-true j level q, row) (size ∙ inv .full .1 level level-few)
         set-length false j q h = rw (getD-set-other actives level j list [] (eqb-false j level q)) (inv .full .1 j h)
 
--- What both deals take of the levels.
-pub level-lists : {parents nodes levels first next marks : List ℕ} {actives : List (List ℕ)} {counts : List ℕ} → length marks ≡ length parents
+-- The marked nodes of a level are its active nodes.
+pub actives-listed : {parents nodes levels marks : List ℕ} {rows rows′ actives : List (List ℕ)} → length marks ≡ length parents
     → NodeMarks parents nodes levels marks
     → ((m : ℕ) → m < length parents → at parents m ≤ m)
     → ((c : ℕ) → c < length nodes → at nodes c ≤ length parents)
-    → Linked levels first next
-    → LevelsListed marks first (length nodes) actives counts
-    → LevelLists parents nodes levels first next actives counts
-level-lists size marked rises within linked all = record {
-  linked = linked;
-  counts-size = all .counts-size;
+    → LevelsListed marks rows actives rows′
+    → ActivesListed parents nodes levels rows actives rows′
+actives-listed size marked rises within all = record {
+  rows-full = all .rows-full;
   full = all .full;
+  bounds = all .bounds;
   nodes-active = λ j l some. active-nodes size marked (all .listed j l some) rises;
   cords-active = λ j l some. cords-active size marked (all .listed j l some) within;
   none = all .none;
+}
+
+-- What both deals take of the levels.
+pub level-lists : {parents nodes levels : List ℕ} {rows rows′ : List (List ℕ)} {order : List ℕ} {actives : List (List ℕ)}
+    → Ordered levels rows order → ActivesListed parents nodes levels rows actives rows′ → LevelLists parents nodes levels rows′ order actives
+level-lists ordered all = record {
+  ordered = record {
+    size = ordered .size;
+    full = all .rows-full;
+    bounds = λ j l. (omega (arith, ordered .bounds j l, all .bounds j), omega (arith, ordered .bounds j l, all .bounds j));
+    cords = λ j l. rw (all .bounds j .0, all .bounds j .1) (ordered .cords j l);
+  };
+  full = all .full;
+  nodes-active = λ j l some. all .nodes-active j l (omega (arith, all .bounds j));
+  cords-active = λ j l some. all .cords-active j l (omega (arith, all .bounds j));
+  none = λ j l none. all .none j l (omega (arith, all .bounds j));
 }
 
 -- ---- Passing over the nodes that are not active

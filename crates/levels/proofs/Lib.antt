@@ -1,3 +1,4 @@
 -- The laws of `levels`.
-pub mod Links
+pub mod Cells
+pub mod Ordering
 pub mod Active

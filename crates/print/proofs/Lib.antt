@@ -5,4 +5,3 @@ pub mod Turns
 pub mod Room
 pub mod Size
 pub mod Promises
-pub mod Lent

@@ -19,7 +19,7 @@ use Rattle.print.proofs.Room.{serversAt-servers}
 
 pub prints-room : PrintsRoom
 unfolding planPrint printOf
-prints-room table room end freed servers blank cords caps grants e sr cr =
+prints-room table room end freed servers cords caps grants e sr cr =
     let ok = accepted table room end e in
     let size : length servers ≡ length (room .servers)
     = sym (column-length rankColumn servers) ∙ ap length (sr .ranks) ∙ figures-length (length (room .servers)) _ in

@@ -39,7 +39,7 @@ serverPrint-same number cap count node node' grant same =
 -- ---- the servers
 
 -- The nodes of a server's cords, by their places among the room's.
-module _ (r : Room) (servers : List (List ℕ)) {blank cords : List (List ℕ)} (caps grants : List ℕ) (sr : ServerRows r servers) (cr : CordRows r blank cords)
+module _ (r : Room) (servers : List (List ℕ)) {cords : List (List ℕ)} (caps grants : List ℕ) (sr : ServerRows r servers) (cr : CordRows r cords)
     (few : (v : ℕ) → v < length (r .servers) → cordCount (serverAt r v) ≤ mostServerCords) where
   count-at : (v : ℕ) → v < length (r .servers) → cordsAt servers v ≡ cordCount (serverAt r v)
   count-at v h =

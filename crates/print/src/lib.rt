@@ -29,7 +29,7 @@ pub fn plan(freed: u64, table: &[u32], caps: &[u32], grants: &[u32], buffer: &mu
     ensures { λ r. ⌜ Counts r (now (buffer .exit)) ⌝ }
 {
     let mut servers = [[0u32; 4]; MOST_SERVERS];
-    let mut cords = [[0u32; 8]; MOST_CORDS];
+    let mut cords = [[0u32; 4]; MOST_CORDS];
     let server_count = room_lists::server_count(table);
     let cord_count = room_lists::cord_count(table);
     plan_by(
@@ -48,7 +48,7 @@ fn plan_by(
     freed: u64,
     table: &[u32],
     servers: &mut [[u32; 4]],
-    cords: &mut [[u32; 8]],
+    cords: &mut [[u32; 4]],
     caps: &[u32],
     grants: &[u32],
     buffer: &mut [u8],
@@ -67,7 +67,7 @@ fn plan_by(
 fn put_plan(
     freed: u64,
     servers: &[[u32; 4]],
-    cords: &[[u32; 8]],
+    cords: &[[u32; 4]],
     caps: &[u32],
     grants: &[u32],
     buffer: &mut [u8],
@@ -95,7 +95,7 @@ pub fn refusal(number: u64, place: usize, buffer: &mut [u8]) -> usize
 // The lines of all servers and their cords.
 fn put_servers(
     servers: &[[u32; 4]],
-    cords: &[[u32; 8]],
+    cords: &[[u32; 4]],
     caps: &[u32],
     grants: &[u32],
     buffer: &mut [u8],
@@ -121,7 +121,7 @@ fn put_servers(
 // The lines of a server's cords, whose rows and grants start at `first`.
 fn put_cords(
     count: usize,
-    cords: &[[u32; 8]],
+    cords: &[[u32; 4]],
     grants: &[u32],
     first: usize,
     buffer: &mut [u8],
@@ -146,7 +146,7 @@ fn put_cords(
 }
 
 // The node of the cord at a place; 0 past the last.
-fn node(cords: &[[u32; 8]], place: usize) -> usize
+fn node(cords: &[[u32; 4]], place: usize) -> usize
     ensures { λ r. ⌜ r ≡ cell (now (cords .entry)) place nodeColumn ⌝ }
 {
     if place < cords.len() {

@@ -1,134 +1,125 @@
--- The turns of a rank's dealing to the cords, in table order: a cord of the rank is served by its node, every other is passed over.
+-- The turns of a rank's dealing to its cords, in the order of their list: each is served by its node.
 use mathlib.Core.Path.{_≡_, refl, sym, ap, ap₂, subst, _∙_}
 use mathlib.Core.List.{List}
 use Prim.Native.Nat.{ℕ, suc, _+_, _*_, _-_, _/_, _≤_, _<_}
-use native.Mathlib.Nat.{le-trans, add-zero, add-assoc}
+use native.Mathlib.Nat.{le-trans, add-assoc}
 use native.Mathlib.Numerals.{add-one}
 use native.Mathlib.Omega.{arith}
 use lib.Dec.{eqb}
 use lib.ListN.{length, set, length-set}
 use lib.Seq.{getD-set-same, getD-set-other}
 use borrow.Author.Count.{below-more}
-use borrow.Author.Tests.{eq-eqb, ne-eqb}
+use borrow.Author.Tests.{eq-eqb}
 use Rattle.figures.specs.Sums.{on}
 use Rattle.rooms.specs.Table.{mostWatts, mostCords}
-use Rattle.figures.proofs.Sums.{on-yes, on-no, sum-suc, sum-none}
+use Rattle.figures.proofs.Sums.{on-yes, sum-suc, sum-none}
 use Rattle.figures.specs.Figures.{at}
 use Rattle.splits.specs.Split.{part}
-use Rattle.levels.specs.Levels.{NextOf}
-use Rattle.ranks.specs.Passes.{CordLists, HasCord, cordsBefore, CordsDealt}
-use Rattle.levels.proofs.Links.{skipped}
-use Rattle.ranks.proofs.NodeSums.{on-zero, sum-within, product-fits}
+use Rattle.levels.specs.Levels.{Absent}
+use Rattle.ranks.specs.Passes.{LevelCords, listedBefore, overListed, cordWeight, CordsDealt}
+use Rattle.ranks.proofs.NodeSums.{sum-within, product-fits}
+use Rattle.ranks.proofs.CordSums.{cord-within, cord-hangs, cord-ordered, cord-most}
 use Rattle.splits.proofs.Splits.{part-le}
 use Rattle.splits.specs.Serving.{MayServe, HasServed}
-use Rattle.splits.proofs.Serving.{Served, served-same, served-part, served-next, may-serve}
+use Rattle.splits.proofs.Serving.{Served, served-part, served-next, may-serve}
+
+-- A listed cord hangs on the node at place n.
+pub record HasCord (listed nodes : List ℕ) (n : ℕ) : Type 0 where
+  pub entry : ℕ
+  pub within : entry < length listed
+  pub hangs : at nodes (at listed entry) ≡ suc n
 
 -- What the pass takes of the cords and of their nodes.
-pub record CordsReady (nodes levels lows wants : List ℕ) (level : ℕ) (wholes amounts before₀ : List ℕ) : Type 0 where
-  pub cords : CordLists (length amounts) nodes levels lows wants
-  pub wholes-size : length wholes ≡ length amounts
-  pub amount-most : (n : ℕ) → HasCord nodes levels level n → at amounts n ≤ mostWatts
-  pub amount-inside : (n : ℕ) → HasCord nodes levels level n → at amounts n ≤ at wholes n
-  pub wholes-most : (n : ℕ) → HasCord nodes levels level n → at wholes n ≤ mostCords * mostWatts
-  pub room : (n : ℕ) → HasCord nodes levels level n → at before₀ n + cordsBefore nodes levels lows wants level n (length nodes) ≤ at wholes n
+pub record CordsReady (listed nodes starts wants wholes amounts before₀ : List ℕ) : Type 0 where
+  pub cords : LevelCords (length amounts) listed nodes starts starts wants
+  pub amount-most : (n : ℕ) → HasCord listed nodes n → at amounts n ≤ mostWatts
+  pub amount-inside : (n : ℕ) → HasCord listed nodes n → at amounts n ≤ at wholes n
+  pub wholes-most : (n : ℕ) → HasCord listed nodes n → at wholes n ≤ mostCords * mostWatts
+  pub room : (n : ℕ) → HasCord listed nodes n → at before₀ n + overListed listed nodes (cordWeight starts wants) n ≤ at wholes n
 
--- The weights served at the node at place n: those before the pass, and of the cords of the rank that stand before place c.
-abbrev pub weightsBefore : List ℕ → List ℕ → List ℕ → List ℕ → ℕ → List ℕ → ℕ → ℕ → ℕ
-weightsBefore nodes levels lows wants level before₀ c n = at before₀ n + cordsBefore nodes levels lows wants level n c
+-- The weights served at the node at place n: those before the pass, and of the first i listed cords.
+abbrev pub weightsBefore : List ℕ → List ℕ → List ℕ → List ℕ → List ℕ → ℕ → ℕ → ℕ
+weightsBefore listed nodes starts wants before₀ i n = at before₀ n + listedBefore listed nodes (cordWeight starts wants) n i
 
--- The grant of the cord at place h, if it is of the rank.
-abbrev pub CordDealt : List ℕ → List ℕ → List ℕ → List ℕ → ℕ → List ℕ → List ℕ → List ℕ → List ℕ → ℕ → Type 0
-CordDealt nodes levels lows wants level wholes amounts before₀ grants h =
-    (n : ℕ) → at levels h ≡ level → at nodes h ≡ suc n
-    → at grants h ≡ at lows h + part (at amounts n) (at wholes n) (weightsBefore nodes levels lows wants level before₀ h n) (at wants h - at lows h)
+-- The grant of the cord of entry h.
+abbrev pub CordDealt : List ℕ → List ℕ → List ℕ → List ℕ → List ℕ → List ℕ → List ℕ → List ℕ → ℕ → Type 0
+CordDealt listed nodes starts wants wholes amounts before₀ grants h =
+    (n : ℕ) → at nodes (at listed h) ≡ suc n
+    → at grants (at listed h)
+    ≡ at starts (at listed h) + part (at amounts n) (at wholes n) (weightsBefore listed nodes starts wants before₀ h n) (cordWeight starts wants (at listed h))
 
--- Before the turn at place c: the cords of the rank before it are served and have their grants, and no other grant is changed.
-pub record CordTurn (nodes levels lows wants : List ℕ) (level : ℕ) (wholes amounts before₀ grants₀ : List ℕ) (c : ℕ) (before dealt grants : List ℕ) : Type 0 where
-  pub ready : CordsReady nodes levels lows wants level wholes amounts before₀
-  pub reached : c ≤ length nodes
+-- Before the turn of entry i: the cords of the entries before it are served and have their grants, and no other grant is changed.
+pub record CordTurn (listed nodes starts wants wholes amounts before₀ grants₀ : List ℕ) (i : ℕ) (before dealt grants : List ℕ) : Type 0 where
+  pub ready : CordsReady listed nodes starts wants wholes amounts before₀
+  pub reached : i ≤ length listed
   pub grants-size : length grants ≡ length nodes
-  pub ours : (h : ℕ) → h < c → CordDealt nodes levels lows wants level wholes amounts before₀ grants h
-  pub others : (h : ℕ) → (h < c → at levels h ≡ level → ⊥) → at grants h ≡ at grants₀ h
-  pub served : Served (length amounts) (HasCord nodes levels level) (at wholes) amounts (weightsBefore nodes levels lows wants level before₀ c) before dealt
+  pub ours : (h : ℕ) → h < i → CordDealt listed nodes starts wants wholes amounts before₀ grants h
+  pub others : (c : ℕ) → Absent listed i c → at grants c ≡ at grants₀ c
+  pub served : Served (length amounts) (HasCord listed nodes) (at wholes) amounts (weightsBefore listed nodes starts wants before₀ i) before dealt
 
-module _ {nodes levels lows wants : List ℕ} {level : ℕ} {wholes amounts before₀ grants₀ : List ℕ} where
-  pub cords-start : {dealt₀ : List ℕ} → CordsReady nodes levels lows wants level wholes amounts before₀
+module _ {listed nodes starts wants wholes amounts before₀ grants₀ : List ℕ} where
+  pub cords-start : {dealt₀ : List ℕ} → CordsReady listed nodes starts wants wholes amounts before₀
       → length grants₀ ≡ length nodes
       → length before₀ ≡ length amounts
       → length dealt₀ ≡ length amounts
-      → ((n : ℕ) → HasCord nodes levels level n → at dealt₀ n ≡ at amounts n * at before₀ n / at wholes n)
-      → CordTurn nodes levels lows wants level wholes amounts before₀ grants₀ 0 before₀ dealt₀ grants₀
+      → ((n : ℕ) → HasCord listed nodes n → at dealt₀ n ≡ at amounts n * at before₀ n / at wholes n)
+      → CordTurn listed nodes starts wants wholes amounts before₀ grants₀ 0 before₀ dealt₀ grants₀
   cords-start ready size b d dealt-is =
       record {
         ready = ready;
         reached = omega arith;
         grants-size = size;
         ours = λ h l. absurd (omega arith);
-        others = λ h z. refl;
+        others = λ c none. refl;
         served = record {
           before-size = b;
           dealt-size = d;
-          before-is = λ n l. omega (arith, sum-none (λ h. on (eqb (at nodes h) (suc n)) (on (eqb (at levels h) level) (at wants h - at lows h))));
+          before-is = λ n has. omega (arith, sum-none (λ h. on (eqb (at nodes (at listed h)) (suc n)) (cordWeight starts wants (at listed h))));
           dealt-is = dealt-is;
         };
       }
 
-  pub cords-end : {c : ℕ} {before dealt grants : List ℕ}
-      → CordTurn nodes levels lows wants level wholes amounts before₀ grants₀ c before dealt grants
-      → length nodes ≤ c
-      → CordsDealt nodes levels lows wants level wholes amounts before₀ grants₀ grants
+  pub cords-end : {i : ℕ} {before dealt grants : List ℕ} → CordTurn listed nodes starts wants wholes amounts before₀ grants₀ i before dealt grants
+      → length listed ≤ i
+      → CordsDealt listed nodes starts wants wholes amounts before₀ grants₀ grants
   cords-end turn end =
       record {
         ours = λ h n l. turn .ours h (le-trans l end) n;
-        others = λ h l z. turn .others h (λ k. z);
+        others = λ c l none. turn .others c (λ k h. none k (omega (arith, turn .reached)));
       }
 
-  module _ {c : ℕ} {before dealt grants : List ℕ} (turn : CordTurn nodes levels lows wants level wholes amounts before₀ grants₀ c before dealt grants) (more : c < length nodes) where
+  module _ {i : ℕ} {before dealt grants : List ℕ} (turn : CordTurn listed nodes starts wants wholes amounts before₀ grants₀ i before dealt grants) (more : i < length listed) where
     weights-next : (n : ℕ)
-        → weightsBefore nodes levels lows wants level before₀ (c + 1) n
-        ≡ weightsBefore nodes levels lows wants level before₀ c n + on (eqb (at nodes c) (suc n)) (on (eqb (at levels c) level) (at wants c - at lows c))
+        → weightsBefore listed nodes starts wants before₀ (i + 1) n
+        ≡ weightsBefore listed nodes starts wants before₀ i n + on (eqb (at nodes (at listed i)) (suc n)) (cordWeight starts wants (at listed i))
     weights-next n =
-        ap (λ (k : ℕ). weightsBefore nodes levels lows wants level before₀ k n) (add-one c)
-        ∙ ap (λ (k : ℕ). at before₀ n + k) (sum-suc c (λ h. on (eqb (at nodes h) (suc n)) (on (eqb (at levels h) level) (at wants h - at lows h))))
-        ∙ sym (add-assoc (at before₀ n) (cordsBefore nodes levels lows wants level n c) (on (eqb (at nodes c) (suc n)) (on (eqb (at levels c) level) (at wants c - at lows c))))
+        ap (λ (k : ℕ). weightsBefore listed nodes starts wants before₀ k n) (add-one i)
+        ∙ ap (λ (k : ℕ). at before₀ n + k) (sum-suc i (λ h. on (eqb (at nodes (at listed h)) (suc n)) (cordWeight starts wants (at listed h))))
+        ∙ sym (add-assoc (at before₀ n) (listedBefore listed nodes (cordWeight starts wants) n i) (on (eqb (at nodes (at listed i)) (suc n)) (cordWeight starts wants (at listed i))))
 
-    -- A cord of another rank is passed over.
-    other-next : (at levels c ≡ level → ⊥) → CordTurn nodes levels lows wants level wholes amounts before₀ grants₀ (c + 1) before dealt grants
-    other-next other =
-        record {
-          ready = turn .ready;
-          reached = omega arith;
-          grants-size = turn .grants-size;
-          ours = below-more (CordDealt nodes levels lows wants level wholes amounts before₀ grants) c (turn .ours) (λ n r z. absurd (other r));
-          others = λ h z. turn .others h (λ l. z (omega arith));
-          served = served-same (turn .served) (weightsBefore nodes levels lows wants level before₀ (c + 1))
-              (λ n. weights-next n
-              ∙ ap (λ (y : ℕ). weightsBefore nodes levels lows wants level before₀ c n + y)
-              (on-zero (eqb (at nodes c) (suc n)) _ (on-no (eqb (at levels c) level) (at wants c - at lows c) (ne-eqb (at levels c) level other)))
-              ∙ add-zero (weightsBefore nodes levels lows wants level before₀ c n))
-              refl refl;
-        }
+    -- The cord of the entry, by its place and its node's number as the code has them.
+    module _ {c : ℕ} (c-is : c ≡ at listed i) {node : ℕ} (node-is : node ≡ at nodes c) where
+      hangs : at nodes (at listed i) ≡ suc (node - 1)
+      hangs = omega (arith, ap (at nodes) c-is, turn .ready .cords .hangs i more)
 
-    -- A cord of the rank is served by its node, which has a number.
-    module _ (node : ℕ) (node-is : node ≡ at nodes c) where
-      hangs : at nodes c ≡ suc (node - 1)
-      hangs = omega (arith, turn .ready .cords .hangs c more)
+      node-within : node - 1 < length amounts
+      node-within = omega (arith, cord-hangs (turn .ready .cords) more c-is)
 
-      pub node-within : node - 1 < length amounts
-      node-within = omega (arith, hangs, turn .ready .cords .within c more)
+      here : HasCord listed nodes (node - 1)
+      here = record { entry = i; within = more; hangs = hangs }
 
-      module _ (rank : ℕ) (rank-is : rank ≡ at levels c) (ours-is : rank ≡ level) (w : ℕ) (w-is : w ≡ at wants c - at lows c) where
-        here : HasCord nodes levels level (node - 1)
-        here = record { cord = c; within = more; ranked = sym rank-is ∙ ours-is; hangs = hangs }
+      module _ (w : ℕ) (w-is : w ≡ at wants c - at starts c) where
+        weight-is : w ≡ cordWeight starts wants (at listed i)
+        weight-is = w-is ∙ ap (cordWeight starts wants) c-is
 
-        weight-on : (n : ℕ) → on (eqb (at nodes c) (suc n)) (on (eqb (at levels c) level) (at wants c - at lows c)) ≡ on (eqb (suc (node - 1)) (suc n)) w
-        weight-on n = ap₂ (λ (k y : ℕ). on (eqb k (suc n)) y) hangs (on-yes (eqb (at levels c) level) (at wants c - at lows c) (eq-eqb (at levels c) level (sym rank-is ∙ ours-is)) ∙ sym w-is)
+        weight-on : (n : ℕ) → on (eqb (at nodes (at listed i)) (suc n)) (cordWeight starts wants (at listed i)) ≡ on (eqb (suc (node - 1)) (suc n)) w
+        weight-on n = ap₂ (λ (k y : ℕ). on (eqb k (suc n)) y) hangs (sym weight-is)
 
-        room-for : weightsBefore nodes levels lows wants level before₀ c (node - 1) + w ≤ at wholes (node - 1)
+        room-for : weightsBefore listed nodes starts wants before₀ i (node - 1) + w ≤ at wholes (node - 1)
         room-for =
             omega (
               arith,
-              sum-within c (length nodes) (λ h. on (eqb (at nodes h) (suc (node - 1))) (on (eqb (at levels h) level) (at wants h - at lows h))) more,
+              sum-within i (length listed) (λ h. on (eqb (at nodes (at listed h)) (suc (node - 1))) (cordWeight starts wants (at listed h))) more,
               weight-on (node - 1),
               on-yes (eqb (suc (node - 1)) (suc (node - 1))) w (eq-eqb (suc (node - 1)) (suc (node - 1)) refl),
               turn .ready .room (node - 1) here,
@@ -141,45 +132,40 @@ module _ {nodes levels lows wants : List ℕ} {level : ℕ} {wholes amounts befo
             (product-fits (at amounts (node - 1)) (at wholes (node - 1)) (turn .ready .amount-most (node - 1) here) (turn .ready .wholes-most (node - 1) here))
 
         module _ {watts : ℕ} {before′ dealt′ : List ℕ} (has : HasServed (at amounts (node - 1)) (at wholes (node - 1)) w (node - 1) before dealt watts before′ dealt′) where
-          watts-is : watts ≡ part (at amounts (node - 1)) (at wholes (node - 1)) (weightsBefore nodes levels lows wants level before₀ c (node - 1)) w
-          watts-is = has .watts-are ∙ served-part (turn .served) (node - 1) w node-within here
+          watts-are : watts ≡ part (at amounts (node - 1)) (at wholes (node - 1)) (weightsBefore listed nodes starts wants before₀ i (node - 1)) w
+          watts-are = has .watts-are ∙ served-part (turn .served) (node - 1) w node-within here
 
-          pub watts-most : watts ≤ mostWatts
-          watts-most =
+          pub grant-most : at starts c + watts ≤ mostWatts
+          grant-most =
               omega (
                 arith,
-                watts-is,
-                part-le (at amounts (node - 1)) (at wholes (node - 1)) (weightsBefore nodes levels lows wants level before₀ c (node - 1)) w (turn .ready .amount-inside (node - 1) here),
+                watts-are,
+                part-le (at amounts (node - 1)) (at wholes (node - 1)) (weightsBefore listed nodes starts wants before₀ i (node - 1)) w (turn .ready .amount-inside (node - 1) here),
                 w-is,
-                turn .ready .cords .most c more,
+                cord-ordered (turn .ready .cords) more c-is,
+                cord-most (turn .ready .cords) more c-is,
               )
 
-          pub cord-next : {grants′ : List ℕ} → grants′ ≡ set grants c (at lows c + watts)
-              → CordTurn nodes levels lows wants level wholes amounts before₀ grants₀ (c + 1) before′ dealt′ grants′
+          pub cord-next : {grants′ : List ℕ} → grants′ ≡ set grants c (at starts c + watts)
+              → CordTurn listed nodes starts wants wholes amounts before₀ grants₀ (i + 1) before′ dealt′ grants′
           cord-next {grants′} g =
-              let kept : (h : ℕ) → (h ≡ c → ⊥) → at grants′ h ≡ at grants h = λ h z. ap (λ (l : List ℕ). at l h) g ∙ getD-set-other grants c h (at lows c + watts) 0 z in
-              let stored : at grants′ c ≡ at lows c + watts = ap (λ (l : List ℕ). at l c) g ∙ getD-set-same grants c (at lows c + watts) 0 (omega (arith, turn .grants-size)) in
-              let granted : at grants′ c ≡ at lows c + part (at amounts (node - 1)) (at wholes (node - 1)) (weightsBefore nodes levels lows wants level before₀ c (node - 1)) (at wants c - at lows c)
-              = stored
-              ∙ ap (λ (y : ℕ). at lows c + y) watts-is
-              ∙ ap (λ (y : ℕ). at lows c + part (at amounts (node - 1)) (at wholes (node - 1)) (weightsBefore nodes levels lows wants level before₀ c (node - 1)) y) w-is in
+              let kept : (h : ℕ) → (h ≡ c → ⊥) → at grants′ h ≡ at grants h = λ h z. ap (λ (l : List ℕ). at l h) g ∙ getD-set-other grants c h (at starts c + watts) 0 z in
+              let stored : at grants′ c ≡ at starts c + watts = ap (λ (l : List ℕ). at l c) g ∙ getD-set-same grants c (at starts c + watts) 0 (omega (arith, turn .grants-size, cord-within (turn .ready .cords) more c-is)) in
+              let granted : at grants′ (at listed i)
+              ≡ at starts (at listed i) + part (at amounts (node - 1)) (at wholes (node - 1)) (weightsBefore listed nodes starts wants before₀ i (node - 1)) (cordWeight starts wants (at listed i))
+              = ap (at grants′) (sym c-is)
+              ∙ stored
+              ∙ ap₂ _+_ (ap (at starts) c-is)
+              (watts-are ∙ ap (part (at amounts (node - 1)) (at wholes (node - 1)) (weightsBefore listed nodes starts wants before₀ i (node - 1))) weight-is) in
               record {
                 ready = turn .ready;
                 reached = omega arith;
-                grants-size = ap length g ∙ length-set grants c (at lows c + watts) ∙ turn .grants-size;
-                ours = below-more (CordDealt nodes levels lows wants level wholes amounts before₀ grants′) c
-                    (λ h l n r z. kept h (λ q. omega arith) ∙ turn .ours h l n r z)
-                    (λ n r z. subst (λ (k : ℕ). at grants′ c ≡ at lows c + part (at amounts k) (at wholes k) (weightsBefore nodes levels lows wants level before₀ c k) (at wants c - at lows c)) (omega (arith, hangs)) granted);
-                others = λ h z. kept h (λ q. z (omega arith) (ap (at levels) q ∙ sym rank-is ∙ ours-is)) ∙ turn .others h (λ l. z (omega arith));
-                served = served-next (turn .served) (node - 1) w node-within here (weightsBefore nodes levels lows wants level before₀ (c + 1))
-                    (λ n. weights-next n ∙ ap (λ (y : ℕ). weightsBefore nodes levels lows wants level before₀ c n + y) (weight-on n))
+                grants-size = ap length g ∙ length-set grants c (at starts c + watts) ∙ turn .grants-size;
+                ours = below-more (CordDealt listed nodes starts wants wholes amounts before₀ grants′) i
+                    (λ h l n z. kept (at listed h) (λ q. omega (arith, turn .ready .cords .rises h i l more)) ∙ turn .ours h l n z)
+                    (λ n z. subst (λ (k : ℕ). at grants′ (at listed i) ≡ at starts (at listed i) + part (at amounts k) (at wholes k) (weightsBefore listed nodes starts wants before₀ i k) (cordWeight starts wants (at listed i))) (omega (arith, hangs)) granted);
+                others = λ h none. kept h (λ q. none i (omega arith) (sym (q ∙ c-is))) ∙ turn .others h (λ k l. none k (omega arith));
+                served = served-next (turn .served) (node - 1) w node-within here (weightsBefore listed nodes starts wants before₀ (i + 1))
+                    (λ n. weights-next n ∙ ap (λ (y : ℕ). weightsBefore listed nodes starts wants before₀ i n + y) (weight-on n))
                     has;
               }
-
--- The cords of other ranks up to the next one of the rank are passed over.
-pub cords-skip : {nodes levels lows wants : List ℕ} {level : ℕ} {wholes amounts before₀ grants₀ : List ℕ} {c d : ℕ} {before dealt grants : List ℕ} → NextOf levels level c d
-    → CordTurn nodes levels lows wants level wholes amounts before₀ grants₀ c before dealt grants
-    → CordTurn nodes levels lows wants level wholes amounts before₀ grants₀ d before dealt grants
-cords-skip {nodes} {levels} {lows} {wants} {level} {wholes} {amounts} {before₀} {grants₀} {before = before} {dealt = dealt} {grants = grants} ahead =
-    skipped (λ (i : ℕ). CordTurn nodes levels lows wants level wholes amounts before₀ grants₀ i before dealt grants) ahead
-    (λ h l other turn. other-next turn (omega (arith, turn .ready .cords .levels-size)) other)

@@ -2,4 +2,5 @@
 pub mod NodeSums
 pub mod Gathering
 pub mod NodeTurns
+pub mod CordSums
 pub mod CordTurns

@@ -7,28 +7,35 @@ use lib.ListN.{length}
 use Rattle.figures.specs.Sums.{on, sum}
 use Rattle.rooms.specs.Table.{mostNodes, mostCords, mostWatts, highestRank}
 use Rattle.rooms.specs.Credits.{sumBeneath}
-use Rattle.figures.specs.Figures.{figures, at, cell}
+use Rattle.figures.specs.Figures.{at, cell}
 use Rattle.splits.specs.Split.{part}
 use Rattle.levels.specs.Levels.{Absent, Present, Full}
 
--- The cords of a room of so many nodes: for each its node's number, its level (rank − 1), its low and its want.
-pub record CordLists (nodeCount : ℕ) (nodes levels lows wants : List ℕ) : Type 0 where
-  pub few : length nodes ≤ mostCords
-  pub levels-size : length levels ≡ length nodes
+-- The cords of a level, listed by their places, in a room of so many nodes; and for each cord its node's number, its low, its start
+-- and its want.
+pub record LevelCords (nodeCount : ℕ) (listed nodes lows starts wants : List ℕ) : Type 0 where
+  pub few : length listed ≤ mostCords
   pub lows-size : length lows ≡ length nodes
+  pub starts-size : length starts ≡ length nodes
   pub wants-size : length wants ≡ length nodes
-  pub hangs : (c : ℕ) → c < length nodes → 1 ≤ at nodes c
-  pub within : (c : ℕ) → c < length nodes → at nodes c ≤ nodeCount
-  pub ranked : (c : ℕ) → c < length nodes → at levels c < highestRank
-  pub ordered : (c : ℕ) → c < length nodes → at lows c ≤ at wants c
-  pub most : (c : ℕ) → c < length nodes → at wants c ≤ mostWatts
+  pub within : (i : ℕ) → i < length listed → at listed i < length nodes
+  pub rises : (i k : ℕ) → i < k → k < length listed → at listed i < at listed k
+  pub hangs : (i : ℕ) → i < length listed → 1 ≤ at nodes (at listed i)
+  pub there : (i : ℕ) → i < length listed → at nodes (at listed i) ≤ nodeCount
+  pub ordered : (i : ℕ) → i < length listed → (at lows (at listed i) ≤ at starts (at listed i)) × (at starts (at listed i) ≤ at wants (at listed i))
+  pub most : (i : ℕ) → i < length listed → at wants (at listed i) ≤ mostWatts
 
--- A cord of the level hangs on the node at place n.
-pub record HasCord (nodes levels : List ℕ) (level n : ℕ) : Type 0 where
-  pub cord : ℕ
-  pub within : cord < length nodes
-  pub ranked : at levels cord ≡ level
-  pub hangs : at nodes cord ≡ suc n
+-- A figure of the cords, summed over the first i listed ones that hang on the node at place n.
+abbrev pub listedBefore : List ℕ → List ℕ → (ℕ → ℕ) → ℕ → ℕ → ℕ
+listedBefore listed nodes figure n i = sum i (λ h. on (eqb (at nodes (at listed h)) (suc n)) (figure (at listed h)))
+
+-- Over all listed ones.
+abbrev pub overListed : List ℕ → List ℕ → (ℕ → ℕ) → ℕ → ℕ
+overListed listed nodes figure n = listedBefore listed nodes figure n (length listed)
+
+-- The weight of a cord: want less start.
+abbrev pub cordWeight : List ℕ → List ℕ → ℕ → ℕ
+cordWeight starts wants c = at wants c - at starts c
 
 -- A row for each place of a node, with a figure for each level.
 abbrev pub FullRows : List (List ℕ) → Type 0
@@ -38,10 +45,6 @@ FullRows = Full mostNodes highestRank
 abbrev pub BlankColumn : ℕ → ℕ → List ℕ → ℕ → List (List ℕ) → Type 0
 BlankColumn nodeCount level active count rows = (n : ℕ) → n < nodeCount → Absent active count n → cell rows n level ≡ 0
 
--- A figure of the cords of a level, summed over those that hang on the node at place n.
-abbrev pub onNode : List ℕ → List ℕ → List ℕ → ℕ → ℕ → ℕ
-onNode nodes levels figures level n = sum (length nodes) (λ c. on (eqb (at nodes c) (suc n)) (on (eqb (at levels c) level) (at figures c)))
-
 -- A figure of the nodes, summed over the child nodes of the node at place n that stand before place m.
 abbrev pub childrenBefore : List ℕ → (ℕ → ℕ) → ℕ → ℕ → ℕ
 childrenBefore parents figure n m = sum m (λ h. on (eqb (at parents h) (suc n)) (figure h))
@@ -50,38 +53,36 @@ childrenBefore parents figure n m = sum m (λ h. on (eqb (at parents h) (suc n))
 abbrev pub overChildren : List ℕ → (ℕ → ℕ) → ℕ → ℕ
 overChildren parents figure n = childrenBefore parents figure n (length parents)
 
--- The weights of the cords of a level on the node at place n that stand before place c: want less low.
-abbrev pub cordsBefore : List ℕ → List ℕ → List ℕ → List ℕ → ℕ → ℕ → ℕ → ℕ
-cordsBefore nodes levels lows wants level n c =
-    sum c (λ h. on (eqb (at nodes h) (suc n)) (on (eqb (at levels h) level) (at wants h - at lows h)))
-
--- The weight of the node at place m in the split at its parent: its excess at this rank.
+-- The weight of the node at place m in the split at its parent: its Request at this rank less the starts beneath it.
 abbrev pub weightOf : List (List ℕ) → ℕ → List ℕ → ℕ → ℕ
-weightOf rows level pcapmins m = cell rows m level - at pcapmins m
+weightOf rows level starts m = cell rows m level - at starts m
 
--- From what is left of each limit over the Requests of higher ranks and the Pcapmin of this rank and those below, and the cords' lows
--- and excesses on each node: the Pcapmin and the children's excesses at this rank, the Requests in their column of the rows, and what
--- is left for the next. (Document 01's two sides are `left` + Pcapmin and `wholes` + Pcapmin, so that their lesser is
--- Pcapmin and the lesser of `left` and `wholes`.)
-pub record Gathered (parents : List ℕ) (level : ℕ) (left lows excesses : List ℕ) (rows : List (List ℕ)) (left′ pcapmins wholes : List ℕ) (rows′ : List (List ℕ)) : Type 0 where
+-- From what is left of each limit over the Requests of higher ranks and the Pcapmin of this rank and those below, and the cords' lows,
+-- starts and weights on each node: the Pcapmin, the starts beneath and the children's weights at this rank, the Requests in their
+-- column of the rows, and what is left for the next. (Document 01's two sides are `left` + Pcapmin and `wholes` + starts, so that
+-- their lesser is the starts and the lesser of `left` + Pcapmin − starts and of `wholes`.)
+pub record Gathered (parents : List ℕ) (level : ℕ) (left lows starts weights : List ℕ) (rows : List (List ℕ)) (left′ pcapmins starts′ wholes : List ℕ) (rows′ : List (List ℕ)) : Type 0 where
   pub pcapmin : (n : ℕ) → n < length parents → at pcapmins n ≡ sumBeneath (at parents) (length parents) (at lows) n
-  pub children : (n : ℕ) → n < length parents → at wholes n ≡ at excesses n + overChildren parents (weightOf rows′ level pcapmins) n
-  pub request : (n : ℕ) → n < length parents → cell rows′ n level ≡ at pcapmins n + min (at left n) (at wholes n)
+  pub start : (n : ℕ) → n < length parents → at starts′ n ≡ sumBeneath (at parents) (length parents) (at starts) n
+  pub children : (n : ℕ) → n < length parents → at wholes n ≡ at weights n + overChildren parents (weightOf rows′ level starts′) n
+  pub request : (n : ℕ) → n < length parents → cell rows′ n level ≡ at starts′ n + min (at left n + at pcapmins n - at starts′ n) (at wholes n)
   pub others : (n j : ℕ) → (j ≡ level → ⊥) → cell rows′ n j ≡ cell rows n j
-  pub left-is : (n : ℕ) → n < length parents → at left′ n ≡ at left n - weightOf rows′ level pcapmins n
+  pub left-is : (n : ℕ) → n < length parents → at left′ n ≡ at left n + at pcapmins n - cell rows′ n level
   pub full : FullRows rows′
 
 -- What each active node has to give, the weights of its child nodes, and what these were dealt together.
-pub record NodesDealt (parents active : List ℕ) (count level : ℕ) (rows : List (List ℕ)) (pcapmins wholes amounts before dealt : List ℕ) : Type 0 where
-  pub root : (m : ℕ) → m < length parents → Present active count m → at parents m ≡ 0 → at amounts m ≡ weightOf rows level pcapmins m
+pub record NodesDealt (parents active : List ℕ) (count level : ℕ) (rows : List (List ℕ)) (starts wholes amounts before dealt : List ℕ) : Type 0 where
+  pub root : (m : ℕ) → m < length parents → Present active count m → at parents m ≡ 0 → at amounts m ≡ weightOf rows level starts m
   pub inner : (m n : ℕ) → m < length parents → Present active count m → at parents m ≡ suc n
-      → at amounts m ≡ part (at amounts n) (at wholes n) (childrenBefore parents (weightOf rows level pcapmins) n m) (weightOf rows level pcapmins m)
-  pub most : (m : ℕ) → m < length parents → Present active count m → at amounts m ≤ weightOf rows level pcapmins m
-  pub served : (n : ℕ) → n < length parents → Present active count n → at before n ≡ overChildren parents (weightOf rows level pcapmins) n
+      → at amounts m ≡ part (at amounts n) (at wholes n) (childrenBefore parents (weightOf rows level starts) n m) (weightOf rows level starts m)
+  pub most : (m : ℕ) → m < length parents → Present active count m → at amounts m ≤ weightOf rows level starts m
+  pub served : (n : ℕ) → n < length parents → Present active count n → at before n ≡ overChildren parents (weightOf rows level starts) n
   pub dealt-is : (n : ℕ) → n < length parents → Present active count n → at dealt n ≡ at amounts n * at before n / at wholes n
 
--- The grants after a rank: a cord of it has its low and its part of its node's amount, every other what it had.
-pub record CordsDealt (nodes levels lows wants : List ℕ) (level : ℕ) (wholes amounts before grants grants′ : List ℕ) : Type 0 where
-  pub ours : (c n : ℕ) → c < length nodes → at levels c ≡ level → at nodes c ≡ suc n
-      → at grants′ c ≡ at lows c + part (at amounts n) (at wholes n) (at before n + cordsBefore nodes levels lows wants level n c) (at wants c - at lows c)
-  pub others : (c : ℕ) → c < length nodes → (at levels c ≡ level → ⊥) → at grants′ c ≡ at grants c
+-- The grants after a rank: a listed cord has its start and its part of its node's amount, every other what it had.
+pub record CordsDealt (listed nodes starts wants wholes amounts before grants grants′ : List ℕ) : Type 0 where
+  pub ours : (i n : ℕ) → i < length listed → at nodes (at listed i) ≡ suc n
+      → at grants′ (at listed i)
+      ≡ at starts (at listed i)
+      + part (at amounts n) (at wholes n) (at before n + listedBefore listed nodes (cordWeight starts wants) n i) (cordWeight starts wants (at listed i))
+  pub others : (c : ℕ) → c < length nodes → Absent listed (length listed) c → at grants′ c ≡ at grants c

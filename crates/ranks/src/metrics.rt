@@ -6,8 +6,8 @@ ghost use Rattle.figures.specs.Sums.{sum};
 ghost use Rattle.rooms.specs.Table.{mostNodes, mostWatts, mostCords, highestRank};
 ghost use Rattle.rooms.specs.Credits.{sumBeneath, credited};
 ghost use Rattle.figures.specs.Figures.{at, cell};
-ghost use Rattle.ranks.specs.Passes.{CordLists, onNode, cordsBefore, FullRows, Gathered};
-ghost use Rattle.levels.specs.Levels.{ChainOf, Absent, ActiveNodes};
+ghost use Rattle.ranks.specs.Passes.{LevelCords, overListed, cordWeight, FullRows, Gathered};
+ghost use Rattle.levels.specs.Levels.{Absent, ActiveNodes};
 use figures::index;
 use figures::least;
 use figures::narrow;
@@ -36,34 +36,33 @@ fn credit(sums: &mut [u64], node: usize, figure: u64)
     sums[place] = sum + figure;
 }
 
-// The lows and the excesses of the cords of a level, which the links give from the first on, each summed on its cord's node.
-// (`levels` is for the contract alone.)
+// The lows, the starts (in `bases`) and the weights of the listed cords, each summed on its cord's node.
 pub fn sum_cords(
+    listed: &[u16],
     nodes: &[u16],
-    levels: &[u16],
     lows: &[u32],
+    starts: &[u32],
     wants: &[u32],
-    next: &[u16],
-    level: usize,
-    from: usize,
     pcapmins: &mut [u64],
+    bases: &mut [u64],
     wholes: &mut [u64],
 )
-    requires { ⌜ CordLists (length (now pcapmins)) (now nodes) (now levels) (now lows) (now wants) ⌝ }
-    requires { ⌜ length (now wholes) ≡ length (now pcapmins) ⌝ }
-    requires { ⌜ ChainOf (now levels) (now next) level from ⌝ }
-    ensures { λ _. ⌜ ((n : ℕ) → n < length (now (pcapmins .entry)) → at (now (pcapmins .exit)) n ≡ onNode (now (nodes .entry)) (now (levels .entry)) (now (lows .entry)) level n) ⌝ }
-    ensures { λ _. ⌜ ((n : ℕ) → n < length (now (pcapmins .entry)) → at (now (wholes .exit)) n ≡ cordsBefore (now (nodes .entry)) (now (levels .entry)) (now (lows .entry)) (now (wants .entry)) level n (length (now (nodes .entry)))) ⌝ }
+    requires { ⌜ LevelCords (length (now pcapmins)) (now listed) (now nodes) (now lows) (now starts) (now wants) ⌝ }
+    requires { ⌜ (length (now bases) ≡ length (now pcapmins)) × (length (now wholes) ≡ length (now pcapmins)) ⌝ }
+    ensures { λ _. ⌜ ((n : ℕ) → n < length (now (pcapmins .entry)) → at (now (pcapmins .exit)) n ≡ overListed (now (listed .entry)) (now (nodes .entry)) (at (now (lows .entry))) n) ⌝ }
+    ensures { λ _. ⌜ ((n : ℕ) → n < length (now (pcapmins .entry)) → at (now (bases .exit)) n ≡ overListed (now (listed .entry)) (now (nodes .entry)) (at (now (starts .entry))) n) ⌝ }
+    ensures { λ _. ⌜ ((n : ℕ) → n < length (now (pcapmins .entry)) → at (now (wholes .exit)) n ≡ overListed (now (listed .entry)) (now (nodes .entry)) (cordWeight (now (starts .entry)) (now (wants .entry))) n) ⌝ }
 {
     clear(pcapmins);
+    clear(bases);
     clear(wholes);
-    let mut c = from;
-    while c < nodes.len() {
+    for i in 0..listed.len() {
+        let c = index(listed[i]);
         let node = index(nodes[c]);
-        let low = lows[c];
-        credit(pcapmins, node, wide(low));
-        credit(wholes, node, wide(wants[c] - low));
-        c = index(next[c]);
+        let start = starts[c];
+        credit(pcapmins, node, wide(lows[c]));
+        credit(bases, node, wide(start));
+        credit(wholes, node, wide(wants[c] - start));
     }
 }
 
@@ -77,8 +76,8 @@ pub fn spare_limits(limits: &[u32], beneath: &[u64], spare: &mut [u32])
     }
 }
 
-// From the last active node to the first: a node's Request is its Pcapmin and its excess, the lesser of what is left of its limit
-// and of its children's excesses; its Pcapmin and its excess are added to its parent's sums.
+// From the last active node to the first: a node's Request is the starts beneath it and its weight, the lesser of what is left of its
+// limit over these and of its children's weights; its Pcapmin, starts and weight are added to its parent's sums.
 pub fn gather(
     parents: &[u16],
     active: &[u16],
@@ -86,29 +85,32 @@ pub fn gather(
     level: usize,
     left: &mut [u32],
     pcapmins: &mut [u64],
+    bases: &mut [u64],
     wholes: &mut [u64],
     requests: &mut [[u32; 16]; 512],
 )
     requires { ⌜ (length (now parents) ≤ mostNodes) × (level < highestRank) × ((m : ℕ) → m < length (now parents) → at (now parents) m ≤ m) ⌝ }
-    requires { ⌜ (length (now left) ≡ length (now parents)) × (length (now pcapmins) ≡ length (now parents)) × (length (now wholes) ≡ length (now parents)) ⌝ }
-    requires { ⌜ (sum (length (now parents)) (at (now pcapmins)) ≤ mostCords * mostWatts) × (sum (length (now parents)) (at (now wholes)) ≤ mostCords * mostWatts) ⌝ }
-    requires { ⌜ ((n : ℕ) → n < length (now parents) → at (now left) n + sumBeneath (at (now parents)) (length (now parents)) (at (now pcapmins)) n ≤ mostWatts) ⌝ }
+    requires { ⌜ (length (now left) ≡ length (now parents)) × (length (now pcapmins) ≡ length (now parents)) × (length (now bases) ≡ length (now parents)) × (length (now wholes) ≡ length (now parents)) ⌝ }
+    requires { ⌜ (sum (length (now parents)) (at (now pcapmins)) ≤ mostCords * mostWatts) × (sum (length (now parents)) (at (now bases)) ≤ mostCords * mostWatts) × (sum (length (now parents)) (at (now wholes)) ≤ mostCords * mostWatts) ⌝ }
+    requires { ⌜ ((n : ℕ) → n < length (now parents) → (at (now left) n + sumBeneath (at (now parents)) (length (now parents)) (at (now pcapmins)) n ≤ mostWatts) × (sumBeneath (at (now parents)) (length (now parents)) (at (now bases)) n ≤ at (now left) n + sumBeneath (at (now parents)) (length (now parents)) (at (now pcapmins)) n)) ⌝ }
     requires { ⌜ ActiveNodes (now parents) (now active) count ⌝ }
-    requires { ⌜ ((n : ℕ) → n < length (now parents) → Absent (now active) count n → (at (now pcapmins) n ≡ 0) × (at (now wholes) n ≡ 0) × (cell (now requests) n level ≡ 0)) ⌝ }
+    requires { ⌜ ((n : ℕ) → n < length (now parents) → Absent (now active) count n → (at (now pcapmins) n ≡ 0) × (at (now bases) n ≡ 0) × (at (now wholes) n ≡ 0) × (cell (now requests) n level ≡ 0)) ⌝ }
     requires { ⌜ FullRows (now requests) ⌝ }
-    ensures { λ _. ⌜ Gathered (now (parents .entry)) level (now (left .entry)) (now (pcapmins .entry)) (now (wholes .entry)) (now (requests .entry)) (now (left .exit)) (now (pcapmins .exit)) (now (wholes .exit)) (now (requests .exit)) ⌝ }
+    ensures { λ _. ⌜ Gathered (now (parents .entry)) level (now (left .entry)) (now (pcapmins .entry)) (now (bases .entry)) (now (wholes .entry)) (now (requests .entry)) (now (left .exit)) (now (pcapmins .exit)) (now (bases .exit)) (now (wholes .exit)) (now (requests .exit)) ⌝ }
 {
     let mut i = count;
     while 0 < i {
         i -= 1;
         let n = index(active[i]);
         let pcapmin = pcapmins[n];
-        let rest = wide(left[n]);
-        let excess = least(rest, wholes[n]);
-        left[n] = narrow(rest - excess);
-        requests[n][level] = narrow(pcapmin + excess);
+        let start = bases[n];
+        let rest = wide(left[n]) + pcapmin - start;
+        let weight = least(rest, wholes[n]);
+        left[n] = narrow(rest - weight);
+        requests[n][level] = narrow(start + weight);
         let parent = index(parents[n]);
         credit(pcapmins, parent, pcapmin);
-        credit(wholes, parent, excess);
+        credit(bases, parent, start);
+        credit(wholes, parent, weight);
     }
 }

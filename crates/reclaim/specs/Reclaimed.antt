@@ -1,5 +1,5 @@
 -- After a deal: shares, servers and grants by the places of cords, needs and usable watts by those of servers. What the contracts of
--- `reclaim` cite.
+-- `reclaim` cite, of the columns of the cords' rows.
 use mathlib.Core.Path.{_≡_}
 use mathlib.Core.Bool.{cond, _&&_}
 use mathlib.Core.List.{List}
@@ -7,19 +7,17 @@ use Prim.Native.Nat.{ℕ, _-_, _*_, _/_, _≤_, _<_}
 use lib.Dec.{eqb, ltb}
 use lib.ListN.{length}
 use Rattle.rooms.specs.Table.{IsScale, mostCords, mostWatts}
-use Rattle.rooms.specs.Limits.{carried}
-use Rattle.figures.specs.Figures.{figures, at, sumOf}
-use Rattle.deals.specs.Wants.{needs}
-use Rattle.deals.specs.SecondDeal.{leastOver, freed}
+use Rattle.figures.specs.Figures.{figures, at, cell, sumOf}
+use Rattle.room_lists.specs.Lists.{serverColumn, shareColumn, carriedFrom}
+use Rattle.deals.specs.SecondDeal.{leastOver}
 
--- What these lists must be, in a room of such a scale, with watts for each server: its need, or what it can use.
-pub record ServerLists (scale : ℕ) (shares servers watts : List ℕ) (grantCount : ℕ) : Type 0 where
+-- What the cords' rows must be, in a room of such a scale, with watts for each server: its need, or what it can use.
+pub record ServerLists (scale : ℕ) (cords : List (List ℕ)) (watts : List ℕ) (grantCount : ℕ) : Type 0 where
   pub scaled : IsScale scale
-  pub few : length shares ≤ mostCords
-  pub servers-size : length servers ≡ length shares
-  pub grants-size : grantCount ≡ length shares
-  pub within : (c : ℕ) → c < length shares → at servers c < length watts
-  pub parts : (c : ℕ) → c < length shares → at shares c ≤ scale
+  pub few : length cords ≤ mostCords
+  pub grants-size : grantCount ≡ length cords
+  pub within : (c : ℕ) → c < length cords → cell cords c serverColumn < length watts
+  pub parts : (c : ℕ) → c < length cords → cell cords c shareColumn ≤ scale
   pub most : (v : ℕ) → v < length watts → at watts v ≤ mostWatts
 
 -- The usable watts of the server at place v by its cords that stand before place c: the least of its need and, over those with
@@ -33,7 +31,7 @@ abbrev pub usableFrom : ℕ → List ℕ → List ℕ → List ℕ → List ℕ 
 usableFrom scale shares servers needs grants = figures (length needs) (usableBefore scale shares servers needs grants (length shares))
 
 abbrev pub usedFrom : ℕ → List ℕ → List ℕ → List ℕ → List ℕ
-usedFrom scale shares servers usable = figures (length shares) (λ c. carried scale (at shares c) (at usable (at servers c)))
+usedFrom = carriedFrom
 
 abbrev pub strandedFrom : List ℕ → List ℕ → List ℕ
 strandedFrom used grants = figures (length used) (λ c. at grants c - at used c)
@@ -49,9 +47,3 @@ wantsFrom used grants wants = figures (length used) (λ c. cond (ltb 0 (at (stra
 -- The same, with the used watts worked out from the grants.
 abbrev pub wantsNext : ℕ → List ℕ → List ℕ → List ℕ → List ℕ → List ℕ → List ℕ
 wantsNext scale shares servers needs grants wants = wantsFrom (usedFrom scale shares servers (usableFrom scale shares servers needs grants)) grants wants
-
--- What is freed after so many deals, and the wants of the next: before the first, no want is changed.
-pub record ReclaimedAfter (scale deals : ℕ) (shares servers usable grants wants : List ℕ) (freed : ℕ) (wants′ : List ℕ) : Type 0 where
-  pub none : deals ≡ 0 → wants′ ≡ wants
-  pub freed-is : 0 < deals → freed ≡ freedFrom scale shares servers usable grants
-  pub wants-are : 0 < deals → wants′ ≡ wantsFrom (usedFrom scale shares servers usable) grants wants

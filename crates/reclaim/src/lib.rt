@@ -5,32 +5,30 @@ ghost use mathlib.Core.Bool.{cond};
 ghost use Prim.Native.Nat.{_^_, _<_};
 ghost use lib.Dec.{ltb};
 ghost use lib.ListN.{length};
-ghost use Rattle.reclaim.specs.Reclaimed.{ServerLists, usableFrom, usedFrom, freedFrom, wantsFrom, ReclaimedAfter};
-use figures::index;
+ghost use Rattle.figures.specs.Figures.{column};
+ghost use Rattle.room_lists.specs.Lists.{serverColumn, shareColumn};
+ghost use Rattle.reclaim.specs.Reclaimed.{ServerLists, usableFrom, usedFrom, freedFrom, wantsFrom};
 use figures::least;
 use figures::narrow;
 use figures::over;
 use figures::wide;
+use figures::word_index;
+use room_lists::SERVER;
+use room_lists::SHARE;
 use rooms::limits::carried_by;
 
 // Each server's usable watts: its need, or the least of floor(scale × grant / share) of its cords with a share, if that is less.
-pub fn usable_of(
-    shares: &[u32],
-    servers: &[u16],
-    needs: &[u32],
-    grants: &[u32],
-    usable: &mut [u32],
-    scale: u32,
-)
-    requires { ⌜ ServerLists scale (now shares) (now servers) (now needs) (length (now grants)) × (length (now usable) ≡ length (now needs)) ⌝ }
-    ensures { λ _. ⌜ now (usable .exit) ≡ usableFrom scale (now (shares .entry)) (now (servers .entry)) (now (needs .entry)) (now (grants .entry)) ⌝ }
+pub fn usable_of(cords: &[[u32; 4]], needs: &[u32], grants: &[u32], usable: &mut [u32], scale: u32)
+    requires { ⌜ ServerLists scale (now cords) (now needs) (length (now grants)) × (length (now usable) ≡ length (now needs)) ⌝ }
+    ensures { λ _. ⌜ now (usable .exit) ≡ usableFrom scale (column shareColumn (now (cords .entry))) (column serverColumn (now (cords .entry))) (now (needs .entry)) (now (grants .entry)) ⌝ }
 {
     words::copy(needs, usable);
-    for c in 0..shares.len() {
-        let share = wide(shares[c]);
+    for c in 0..cords.len() {
+        let cord = cords[c];
+        let share = wide(cord[SHARE]);
         if share != 0 {
-            let v = index(servers[c]);
-            usable[v] = narrow(least(wide(usable[v]), scale as u64 * wide(grants[c]) / share));
+            let v = word_index(cord[SERVER]);
+            usable[v] = narrow(least(wide(usable[v]), wide(scale) * wide(grants[c]) / share));
         }
     }
 }
@@ -46,44 +44,29 @@ fn next_want(stranded: u64, used: u32, want: u32) -> u32
     narrow(some * wide(used) + (1 - some) * wide(want))
 }
 
-// After the first deal: the cords that have stranded watts want their used watts from now on; gives the watts freed.
-fn reclaim(
-    shares: &[u32],
-    servers: &[u16],
+// After the first deal: the next one starts from each cord's used watts, and the cords that have stranded watts want no more than
+// those; gives the watts freed.
+pub fn reclaim(
+    cords: &[[u32; 4]],
     usable: &[u32],
     grants: &[u32],
+    starts: &mut [u32],
     wants: &mut [u32],
     scale: u32,
 ) -> u64
-    requires { ⌜ ServerLists scale (now shares) (now servers) (now usable) (length (now grants)) × (length (now wants) ≡ length (now shares)) ⌝ }
-    ensures { λ freed. ⌜ freed ≡ freedFrom scale (now (shares .entry)) (now (servers .entry)) (now (usable .entry)) (now (grants .entry)) ⌝ }
-    ensures { λ _. ⌜ now (wants .exit) ≡ wantsFrom (usedFrom scale (now (shares .entry)) (now (servers .entry)) (now (usable .entry))) (now (grants .entry)) (now (wants .entry)) ⌝ }
+    requires { ⌜ ServerLists scale (now cords) (now usable) (length (now grants)) × (length (now starts) ≡ length (now cords)) × (length (now wants) ≡ length (now cords)) ⌝ }
+    ensures { λ freed. ⌜ freed ≡ freedFrom scale (column shareColumn (now (cords .entry))) (column serverColumn (now (cords .entry))) (now (usable .entry)) (now (grants .entry)) ⌝ }
+    ensures { λ _. ⌜ now (starts .exit) ≡ usedFrom scale (column shareColumn (now (cords .entry))) (column serverColumn (now (cords .entry))) (now (usable .entry)) ⌝ }
+    ensures { λ _. ⌜ now (wants .exit) ≡ wantsFrom (usedFrom scale (column shareColumn (now (cords .entry))) (column serverColumn (now (cords .entry))) (now (usable .entry))) (now (grants .entry)) (now (wants .entry)) ⌝ }
 {
     let mut freed: u64 = 0;
-    for c in 0..shares.len() {
-        let used = carried_by(shares[c], usable[index(servers[c])], scale);
+    for c in 0..cords.len() {
+        let cord = cords[c];
+        let used = carried_by(cord[SHARE], usable[word_index(cord[SERVER])], scale);
         let stranded = over(wide(grants[c]), wide(used));
         freed += stranded;
+        starts[c] = used;
         wants[c] = next_want(stranded, used, wants[c]);
     }
     freed
-}
-
-// `reclaim`, after so many deals: before the first it changes nothing and gives 0.
-pub fn reclaim_after(
-    deals: usize,
-    shares: &[u32],
-    servers: &[u16],
-    usable: &[u32],
-    grants: &[u32],
-    wants: &mut [u32],
-    scale: u32,
-) -> u64
-    requires { ⌜ (0 < deals → ServerLists scale (now shares) (now servers) (now usable) (length (now grants)) × (length (now wants) ≡ length (now shares))) ⌝ }
-    ensures { λ freed. ⌜ ReclaimedAfter scale deals (now (shares .entry)) (now (servers .entry)) (now (usable .entry)) (now (grants .entry)) (now (wants .entry)) freed (now (wants .exit)) ⌝ }
-{
-    if deals == 0 {
-        return 0;
-    }
-    reclaim(shares, servers, usable, grants, wants, scale)
 }

@@ -2,14 +2,14 @@
 use mathlib.Core.Path.{_≡_, refl, sym, ap, _∙_}
 use mathlib.Core.Bool.{Bool, true, false}
 use mathlib.Core.List.{List, [], _∷_}
-use Prim.Native.Nat.{ℕ, zero, suc, _+_, _-_, _*_, _≤_, _<_}
+use Prim.Native.Nat.{ℕ, _+_, _-_, _*_, _≤_, _<_}
 use native.Mathlib.Omega.{arith}
-use lib.ListN.{length, getD, set}
+use lib.ListN.{length, getD, set, length-set}
 use lib.Seq.{getD-set-same, getD-set-other}
 use lib.Dec.{eqb}
 use borrow.Author.Tests.{eqb-true, eqb-false}
 use Rattle.figures.specs.Figures.{at, column}
-use Rattle.figures.proofs.Columns.{column-length, column-set, column-kept}
+use Rattle.figures.proofs.Columns.{column-length, column-set}
 use Rattle.figures.proofs.Filled.{Filled, filled-none, filled-one, filled-all}
 use Rattle.rooms.specs.Part.{good, Good}
 use Rattle.rooms.specs.Table.{Room, mostServers, mostCords, cordCount, roomCords}
@@ -17,8 +17,8 @@ use Rattle.rooms.specs.Limits.{checked}
 use Rattle.rooms.specs.Cords.{RoomCord, cordAt, serverAt, rankOf}
 use Rattle.rooms.specs.Lists.{nodesOf, levelsOf}
 use Rattle.rooms.proofs.Accepted.{accepted}
-use Rattle.room_lists.specs.Lists.{ServersFit, CordsFit, rankColumn, leastColumn, greatestColumn, countColumn, nodeColumn, serverColumn, levelColumn, shareColumn, ServerRows, CordRows}
-use Rattle.room_lists.specs.Walk.{serversIndex, CordRow}
+use Rattle.room_lists.specs.Lists.{ServersFit, CordsFit, rankColumn, leastColumn, greatestColumn, countColumn, nodeColumn, serverColumn, levelColumn, shareColumn, rowWidth, ServerRows, CordRows}
+use Rattle.room_lists.specs.Walk.{serversIndex}
 use Rattle.room_lists.proofs.Walk.{begun, Walk, CordHere, ServerHere, walk-start, walk-server, walk-end}
 
 -- A row that is stored, with a figure of one of its columns, fills that column by one more.
@@ -26,44 +26,21 @@ column-filled : {g : ℕ → ℕ} {size c : ℕ} (rows : List (List ℕ)) (k : �
     → Filled g size (c + 1) (column k (set rows c row))
 column-filled rows k row f h e = rw (column-set k rows _ row) (filled-one (at row k) f h e)
 
--- A row of eight with its first four figures stored.
-pub row-filled : (row : List ℕ) (node server level share : ℕ) → length row ≡ 8 → CordRow row node server level share (set (set (set (set row 0 node) 1 server) 2 level) 3 share)
-row-filled [] node server level share e = absurd (omega arith)
-row-filled (a ∷ []) node server level share e = absurd (omega arith)
-row-filled (a ∷ b ∷ []) node server level share e = absurd (omega arith)
-row-filled (a ∷ b ∷ c ∷ []) node server level share e = absurd (omega arith)
-row-filled (a ∷ b ∷ c ∷ d ∷ rest) node server level share e =
-    record { node-is = refl; server-is = refl; level-is = refl; share-is = refl; others = others; width = refl }
+-- The rows before place c have their width.
+abbrev Wide : ℕ → List (List ℕ) → Type 0
+Wide c rows = (h : ℕ) → h < c → length (getD rows h []) ≡ rowWidth
+
+-- One more row of that width.
+wide-one : (rows : List (List ℕ)) (c : ℕ) (row : List ℕ) → Wide c rows → c < length rows → length row ≡ rowWidth → Wide (c + 1) (set rows c row)
+wide-one rows c row wide here e h l = go (eqb c h) refl
   where
-    others : (k : ℕ) → shareColumn < k → at (node ∷ server ∷ level ∷ share ∷ rest) k ≡ at (a ∷ b ∷ c ∷ d ∷ rest) k
-    others zero h = absurd (omega arith)
-    others (suc zero) h = absurd (omega arith)
-    others (suc (suc zero)) h = absurd (omega arith)
-    others (suc (suc (suc zero))) h = absurd (omega arith)
-    others (suc (suc (suc (suc k)))) h = refl
-
--- Rows that have, past their shares, what others had, and are as long as those.
-pub record Kept (before rows : List (List ℕ)) : Type 0 where
-  pub others : (k : ℕ) → shareColumn < k → column k rows ≡ column k before
-  pub widths : (h : ℕ) → length (getD rows h []) ≡ length (getD before h [])
-
-pub kept-all : (rows : List (List ℕ)) → Kept rows rows
-kept-all rows = record { others = λ _ _. refl; widths = λ _. refl }
-
-pub kept-on : {first mid last : List (List ℕ)} → Kept first mid → Kept mid last → Kept first last
-kept-on a b = record { others = λ k h. b .others k h ∙ a .others k h; widths = λ h. b .widths h ∙ a .widths h }
-
--- A cord's row is stored.
-pub kept-one : {before rows : List (List ℕ)} (c : ℕ) {node place level share : ℕ} {row : List ℕ} → Kept before rows → c < length rows
-    → CordRow (getD rows c []) node place level share row → Kept before (set rows c row)
-kept-one {before} {rows} c {row = row} kept here filled =
-    record { others = λ k h. column-kept k rows c row (filled .others k h) ∙ kept .others k h; widths = λ h. go h (eqb c h) refl }
-  where
-    go : (h : ℕ) (t : Bool) → eqb c h ≡ t → length (getD (set rows c row) h []) ≡ length (getD before h [])
-    go h true e =
-        let q : c ≡ h = eqb-true c h e in
-        rw (← q) (ap length (getD-set-same rows c row [] here) ∙ filled .width ∙ kept .widths c)
-    go h false e = ap length (getD-set-other rows c h row [] (λ q. eqb-false c h e (sym q))) ∙ kept .widths h
+    go : (t : Bool) → eqb c h ≡ t → length (getD (set rows c row) h []) ≡ rowWidth
+    go true q =
+        let same : c ≡ h = eqb-true c h q in
+        rw (← same) (ap length (getD-set-same rows c row [] here) ∙ e)
+    go false q =
+        let other : c ≡ h → ⊥ = eqb-false c h q in
+        ap length (getD-set-other rows c h row [] (λ z. other (sym z))) ∙ wide h (omega arith)
 
 -- The walk stands before the server at place v, whose cords stand from place `first` on; the rows of the servers before it and of the
 -- cords before place c are laid out.
@@ -76,10 +53,12 @@ pub record Laying (table : List ℕ) (v start first c : ℕ) (servers cords : Li
   pub leasts : Filled (λ h. serverAt room h .least) (length (room .servers)) v (column leastColumn servers)
   pub greatests : Filled (λ h. serverAt room h .greatest) (length (room .servers)) v (column greatestColumn servers)
   pub counts : Filled (λ h. cordCount (serverAt room h)) (length (room .servers)) v (column countColumn servers)
+  pub servers-wide : Wide v servers
   pub nodes : Filled (λ h. cordAt room h .node) (roomCords room) c (column nodeColumn cords)
   pub places : Filled (λ h. cordAt room h .server) (roomCords room) c (column serverColumn cords)
   pub levels : Filled (λ h. rankOf room h - 1) (roomCords room) c (column levelColumn cords)
   pub shares : Filled (λ h. cordAt room h .share) (roomCords room) c (column shareColumn cords)
+  pub cords-wide : Wide c cords
 
 -- Within that server: the words of the cord at place c start at index `word`.
 pub record LayingServer (table : List ℕ) (v start first count c word : ℕ) (servers cords : List (List ℕ)) : Type 0 where
@@ -108,10 +87,12 @@ laying-start {servers = servers} {cords = cords} g sf cf e =
       leasts = none-filled _ leastColumn servers s;
       greatests = none-filled _ greatestColumn servers s;
       counts = none-filled _ countColumn servers s;
+      servers-wide = λ h l. absurd (omega arith);
       nodes = none-filled _ nodeColumn cords k;
       places = none-filled _ serverColumn cords k;
       levels = none-filled _ levelColumn cords k;
       shares = none-filled _ shareColumn cords k;
+      cords-wide = λ h l. absurd (omega arith);
     })
 
 module _ {table : List ℕ} {v start first c : ℕ} {servers cords : List (List ℕ)}
@@ -122,9 +103,9 @@ module _ {table : List ℕ} {v start first c : ℕ} {servers cords : List (List 
   pub corded : length cords ≡ roomCords (laying .room)
   corded = sym (column-length nodeColumn cords) ∙ laying .nodes .size-is
 
-  pub laying-end : {before : List (List ℕ)} → Kept before cords → length servers ≤ v → first ≤ c → (r : Room) (end : ℕ) → checked table 0 ≡ good r end → ServerRows r servers × CordRows r before cords
+  pub laying-end : length servers ≤ v → first ≤ c → (r : Room) (end : ℕ) → checked table 0 ≡ good r end → ServerRows r servers × CordRows r cords
   unfolding nodesOf levelsOf
-  laying-end kept h f r end e =
+  laying-end h f r end e =
       let read = laying .read in
       let same : laying .room ≡ r = cc in
       let s : length (laying .room .servers) ≤ v = omega (arith, served) in
@@ -135,14 +116,14 @@ module _ {table : List ℕ} {v start first c : ℕ} {servers cords : List (List 
           leasts = filled-all _ _ (laying .leasts) refl s (λ i l. refl);
           greatests = filled-all _ _ (laying .greatests) refl s (λ i l. refl);
           counts = filled-all _ _ (laying .counts) refl s (λ i l. refl);
+          widths = λ i l. laying .servers-wide i (omega arith);
         },
         record {
           nodes = filled-all _ _ (laying .nodes) refl n (λ i l. refl);
           servers = filled-all _ _ (laying .places) refl n (λ i l. refl);
           levels = filled-all _ _ (laying .levels) refl n (λ i l. refl);
           shares = filled-all _ _ (laying .shares) refl n (λ i l. refl);
-          others = kept .others;
-          widths = kept .widths;
+          widths = λ i l. laying .cords-wide i (omega (arith, corded));
         },
       )
 
@@ -212,10 +193,10 @@ module _ {table : List ℕ} {v start first count c word : ℕ} {servers cords : 
         }
 
     -- One cord more.
-    pub server-cord : {node place level share : ℕ} {row : List ℕ} → CordRow (getD cords c []) node place level share row
-        → node ≡ at table word → place ≡ v → level ≡ at table start - 1 → share ≡ at table (word + 1)
-        → LayingServer table v start first count (c + 1) (word + 2) servers (set cords c row)
-    server-cord {row = row} filled en ep el es =
+    pub server-cord : {place : ℕ} → place ≡ v
+        → LayingServer table v start first count (c + 1) (word + 2) servers (set cords c (at table word ∷ place ∷ (at table start - 1) ∷ at table (word + 1) ∷ []))
+    server-cord {place} ep =
+        let row : List ℕ = at table word ∷ place ∷ (at table start - 1) ∷ at table (word + 1) ∷ [] in
         let standing = laying-server laying (server .more) in
         record {
           laying = record {
@@ -227,12 +208,14 @@ module _ {table : List ℕ} {v start first count c word : ℕ} {servers cords : 
             leasts = laying .leasts;
             greatests = laying .greatests;
             counts = laying .counts;
-            nodes = column-filled cords nodeColumn row (laying .nodes) within (filled .node-is ∙ en ∙ ap (λ (x : RoomCord). x .node) is);
-            places = column-filled cords serverColumn row (laying .places) within (filled .server-is ∙ ep ∙ ap (λ (x : RoomCord). x .server) is);
+            servers-wide = laying .servers-wide;
+            nodes = column-filled cords nodeColumn row (laying .nodes) within (ap (λ (x : RoomCord). x .node) is);
+            places = column-filled cords serverColumn row (laying .places) within (ep ∙ ap (λ (x : RoomCord). x .server) is);
             levels =
                 column-filled cords levelColumn row (laying .levels) within
-                (filled .level-is ∙ el ∙ ap (λ (x : ℕ). x - 1) (sym (standing .rank)) ∙ ap (λ (x : RoomCord). serverAt r (x .server) .rank - 1) is);
-            shares = column-filled cords shareColumn row (laying .shares) within (filled .share-is ∙ es ∙ ap (λ (x : RoomCord). x .share) is);
+                (ap (λ (x : ℕ). x - 1) (sym (standing .rank)) ∙ ap (λ (x : RoomCord). serverAt r (x .server) .rank - 1) is);
+            shares = column-filled cords shareColumn row (laying .shares) within (ap (λ (x : RoomCord). x .share) is);
+            cords-wide = wide-one cords c row (laying .cords-wide) (omega (arith, within, corded laying)) refl;
           };
           more = server .more;
           counted = server .counted;
@@ -241,26 +224,31 @@ module _ {table : List ℕ} {v start first count c word : ℕ} {servers cords : 
           next = omega (arith, server .next);
         }
 
-  -- The server is passed, after its cords.
-  pub server-end : {a b d e : ℕ} → first + count ≤ c → a ≡ at table start → b ≡ at table (start + 1) → d ≡ at table (start + 2) → e ≡ at table (start + 3)
-      → Laying table (v + 1) word (first + count) (first + count) (set servers v (a ∷ b ∷ d ∷ e ∷ [])) cords
-  server-end {a} {b} {d} {e} h ea eb ed ee =
+  -- The server is passed, after its cords: its row is stored.
+  abbrev row : List ℕ
+  row = at table start ∷ at table (start + 1) ∷ at table (start + 2) ∷ at table (start + 3) ∷ []
+
+  pub server-end : first + count ≤ c → (length (set servers v row) ≡ length servers) × Laying table (v + 1) word (first + count) (first + count) (set servers v row) cords
+  server-end h =
       let all : first + count ≡ c = omega (arith, server .to) in
       let w : word ≡ start + (4 + 2 * at table (start + 3)) = omega (arith, server .counted, server .next) in
       let standing = laying-server laying (server .more) in
-      let place = here laying (server .more) in
-      let row : List ℕ = a ∷ b ∷ d ∷ e ∷ [] in
-      record {
-        room = r;
-        end = laying .end;
-        read = laying .read;
-        walk = walk-to w (ap (λ (k : ℕ). first + k) (server .counted)) (standing .next);
-        ranks = column-filled servers rankColumn row (laying .ranks) place (ea ∙ sym (standing .rank));
-        leasts = column-filled servers leastColumn row (laying .leasts) place (eb ∙ sym (standing .least));
-        greatests = column-filled servers greatestColumn row (laying .greatests) place (ed ∙ sym (standing .greatest));
-        counts = column-filled servers countColumn row (laying .counts) place (ee ∙ sym (standing .count));
-        nodes = rw all (laying .nodes);
-        places = rw all (laying .places);
-        levels = rw all (laying .levels);
-        shares = rw all (laying .shares);
-      }
+      let place = here laying (server .more) in (
+        length-set servers v row,
+        record {
+          room = r;
+          end = laying .end;
+          read = laying .read;
+          walk = walk-to w (ap (λ (k : ℕ). first + k) (server .counted)) (standing .next);
+          ranks = column-filled servers rankColumn row (laying .ranks) place (sym (standing .rank));
+          leasts = column-filled servers leastColumn row (laying .leasts) place (sym (standing .least));
+          greatests = column-filled servers greatestColumn row (laying .greatests) place (sym (standing .greatest));
+          counts = column-filled servers countColumn row (laying .counts) place (sym (standing .count));
+          servers-wide = wide-one servers v row (laying .servers-wide) (server .more) refl;
+          nodes = rw all (laying .nodes);
+          places = rw all (laying .places);
+          levels = rw all (laying .levels);
+          shares = rw all (laying .shares);
+          cords-wide = rw all (laying .cords-wide);
+        },
+      )

@@ -2,3 +2,4 @@
 pub mod Counts
 pub mod Walk
 pub mod Laying
+pub mod Lent

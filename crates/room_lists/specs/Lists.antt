@@ -3,10 +3,10 @@ use mathlib.Core.Path.{_≡_}
 use mathlib.Core.List.{List, []}
 use Prim.Native.Nat.{ℕ, _<_}
 use lib.ListN.{length, getD}
-use Rattle.figures.specs.Figures.{figures, column}
+use Rattle.figures.specs.Figures.{figures, at, column}
 use Rattle.rooms.specs.Part.{good}
 use Rattle.rooms.specs.Table.{Room, cordCount, roomCords}
-use Rattle.rooms.specs.Limits.{checked}
+use Rattle.rooms.specs.Limits.{checked, carried}
 use Rattle.rooms.specs.Cords.{serverAt}
 use Rattle.rooms.specs.Lists.{nodesOf, levelsOf, sharesOf, serversOf}
 
@@ -40,8 +40,7 @@ greatestColumn = 2
 abbrev pub countColumn : ℕ
 countColumn = 3
 
--- The columns of a cord's row that a table fills: the number of its node, the place of its server, its level and its share. Four
--- more are its room's plan's.
+-- The columns of a cord's row: the number of its node, the place of its server, its level and its share.
 abbrev pub nodeColumn : ℕ
 nodeColumn = 0
 
@@ -54,18 +53,27 @@ levelColumn = 2
 abbrev pub shareColumn : ℕ
 shareColumn = 3
 
+-- How many figures a server's row and a cord's row have.
+abbrev pub rowWidth : ℕ
+rowWidth = 4
+
+-- What each cord carries where each server has the load given, by the cords' shares and the places of their servers:
+-- ceil(share × load / scale).
+abbrev pub carriedFrom : ℕ → List ℕ → List ℕ → List ℕ → List ℕ
+carriedFrom scale shares servers loads = figures (length shares) (λ c. carried scale (at shares c) (at loads (at servers c)))
+
 -- The rows are those of the room's servers, in table order.
 pub record ServerRows (r : Room) (rows : List (List ℕ)) : Type 0 where
   pub ranks : column rankColumn rows ≡ figures (length (r .servers)) (λ v. serverAt r v .rank)
   pub leasts : column leastColumn rows ≡ figures (length (r .servers)) (λ v. serverAt r v .least)
   pub greatests : column greatestColumn rows ≡ figures (length (r .servers)) (λ v. serverAt r v .greatest)
   pub counts : column countColumn rows ≡ figures (length (r .servers)) (λ v. cordCount (serverAt r v))
+  pub widths : (v : ℕ) → v < length rows → length (getD rows v []) ≡ rowWidth
 
--- The rows, filled from others, are those of the room's cords, in table order; the other columns stand, and each row is as long as it was.
-pub record CordRows (r : Room) (before rows : List (List ℕ)) : Type 0 where
+-- The rows are those of the room's cords, in table order.
+pub record CordRows (r : Room) (rows : List (List ℕ)) : Type 0 where
   pub nodes : column nodeColumn rows ≡ nodesOf r
   pub servers : column serverColumn rows ≡ serversOf r
   pub levels : column levelColumn rows ≡ levelsOf r
   pub shares : column shareColumn rows ≡ sharesOf r
-  pub others : (k : ℕ) → shareColumn < k → column k rows ≡ column k before
-  pub widths : (c : ℕ) → length (getD rows c []) ≡ length (getD before c [])
+  pub widths : (c : ℕ) → c < length rows → length (getD rows c []) ≡ rowWidth

@@ -8,7 +8,7 @@ ghost use Rattle.rooms.specs.Part.{Good};
 ghost use Rattle.rooms.specs.Limits.{checked};
 ghost use Rattle.rooms.specs.Lists.{parentsOf, limitsOf};
 ghost use Rattle.room_lists.specs.Lists.{OfRoom, NodesFit, ServersFit, CordsFit, ScaleIs, ServerRows, CordRows};
-ghost use Rattle.room_lists.specs.Walk.{serversIndex, CordRow};
+ghost use Rattle.room_lists.specs.Walk.{serversIndex};
 use figures::index_word;
 use figures::short;
 use figures::word_index;
@@ -17,8 +17,7 @@ use rooms::form::limit_at;
 use rooms::form::node_index;
 use rooms::form::scale_of;
 
-// The columns of a cord's row that `lay_out_servers` fills, and those that Plan does: the cord's low and want, and the next cord of its
-// level. One is free.
+// The columns of a cord's row.
 pub const NODE: usize = 0;
 
 pub const SERVER: usize = 1;
@@ -26,12 +25,6 @@ pub const SERVER: usize = 1;
 pub const LEVEL: usize = 2;
 
 pub const SHARE: usize = 3;
-
-pub const LOW: usize = 4;
-
-pub const WANT: usize = 5;
-
-pub const NEXT: usize = 6;
 
 // The columns of a server's row.
 pub const RANK: usize = 0;
@@ -80,7 +73,7 @@ pub fn server_count(table: &[u32]) -> usize
 }
 
 // The index of a table's first server, where it has one.
-pub fn first_server(table: &[u32]) -> usize
+fn first_server(table: &[u32]) -> usize
     ensures { λ r. ⌜ (r ≡ serversIndex (now (table .entry)) + 1) × (r < 2 ^ 35) ⌝ }
 {
     servers_index(table) + 1
@@ -111,23 +104,11 @@ pub fn lay_out_nodes(table: &[u32], parents: &mut [u16], limits: &mut [u32])
     }
 }
 
-// A cord's row, of which the entries after its share stand.
-fn cord_row(row: [u32; 8], node: u32, server: u32, level: u32, share: u32) -> [u32; 8]
-    ensures { λ r. ⌜ CordRow row node server level share r ⌝ }
-{
-    let mut filled = row;
-    filled[NODE] = node;
-    filled[SERVER] = server;
-    filled[LEVEL] = level;
-    filled[SHARE] = share;
-    filled
-}
-
 // A row for each server and each cord of a good table.
-pub fn lay_out_servers(table: &[u32], servers: &mut [[u32; 4]], cords: &mut [[u32; 8]])
+pub fn lay_out_servers(table: &[u32], servers: &mut [[u32; 4]], cords: &mut [[u32; 4]])
     requires { ⌜ Good (checked (now table) 0) ⌝ }
     requires { ⌜ ServersFit (now table) (length (now servers)) × CordsFit (now table) (length (now cords)) ⌝ }
-    ensures { λ _. ⌜ OfRoom (now (table .entry)) (λ r. ServerRows r (now (servers .exit)) × CordRows r (now (cords .entry)) (now (cords .exit))) ⌝ }
+    ensures { λ _. ⌜ OfRoom (now (table .entry)) (λ r. ServerRows r (now (servers .exit)) × CordRows r (now (cords .exit))) ⌝ }
 {
     let mut start = first_server(table);
     let mut first = 0;
@@ -136,14 +117,9 @@ pub fn lay_out_servers(table: &[u32], servers: &mut [[u32; 4]], cords: &mut [[u3
         let count = word_index(table[start + 3]);
         let mut word = start + 4;
         for c in first..first + count {
-            let row = cord_row(
-                cords[c],
-                table[word],
-                index_word(v),
-                rank - 1,
-                table[word + 1],
-            );
-            cords[c] = row;
+            let node = table[word];
+            let share = table[word + 1];
+            cords[c] = [node, index_word(v), rank - 1, share];
             word += 2;
         }
         servers[v] = [rank, table[start + 1], table[start + 2], table[start + 3]];

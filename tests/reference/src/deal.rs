@@ -4,11 +4,22 @@ use crate::room::{Breaker, Child, Cord, Room};
 use crate::Watts;
 use std::collections::BTreeMap;
 
-/// One deal by these wants, one for each cord in table order: the grants.
-pub fn deal(room: &Room, wants: &[Watts]) -> Vec<Watts> {
+/// The first deal by these wants, one for each cord in table order: the grants.
+pub fn first_deal(room: &Room, wants: &[Watts]) -> Vec<Watts> {
+    let lows: Vec<Watts> = room.cords.iter().map(|cord| cord.low).collect();
+    deal(room, wants, &lows)
+}
+
+/// The second deal, in which every breaker first passes on the watts in use over the lows beneath
+/// each of its children.
+pub fn second_deal(room: &Room, wants: &[Watts], used: &[Watts]) -> Vec<Watts> {
+    deal(room, wants, used)
+}
+
+fn deal(room: &Room, wants: &[Watts], used: &[Watts]) -> Vec<Watts> {
     let mut grants: Vec<Watts> = room.cords.iter().map(|cord| cord.low).collect();
     for root in &room.trees {
-        let part = weighed(root, wants);
+        let part = weighed(root, wants, used);
         for rank in part.ranks() {
             part.hand_down(rank, part.excess(rank), &mut grants);
         }
@@ -20,6 +31,8 @@ pub fn deal(room: &Room, wants: &[Watts]) -> Vec<Watts> {
 struct Metrics {
     pcapmin: Watts,
     request: Watts,
+    /// What is passed on first: the watts in use less the lows.
+    passed: Watts,
 }
 
 /// The metrics at each rank that has cords beneath; at every other rank all of them are 0.
@@ -31,19 +44,20 @@ enum Part {
     Breaker(Row, Vec<Part>),
 }
 
-fn weighed(breaker: &Breaker, wants: &[Watts]) -> Part {
+fn weighed(breaker: &Breaker, wants: &[Watts], used: &[Watts]) -> Part {
     let part = |child: &Child| match child {
-        Child::Breaker(breaker) => weighed(breaker, wants),
-        Child::Cord(cord) => weighed_cord(cord, wants[cord.index]),
+        Child::Breaker(breaker) => weighed(breaker, wants, used),
+        Child::Cord(cord) => weighed_cord(cord, wants[cord.index], used[cord.index]),
     };
     let children: Vec<Part> = breaker.children.iter().map(part).collect();
     Part::Breaker(held(&summed(&children), breaker.limit), children)
 }
 
-fn weighed_cord(cord: &Cord, want: Watts) -> Part {
+fn weighed_cord(cord: &Cord, want: Watts, used: Watts) -> Part {
     let metrics = Metrics {
         pcapmin: cord.low,
         request: want,
+        passed: used - cord.low,
     };
     Part::Cord(cord.index, cord.rank, metrics)
 }
@@ -55,6 +69,7 @@ fn summed(children: &[Part]) -> Row {
         let sum = sums.entry(rank).or_default();
         sum.pcapmin += metrics.pcapmin;
         sum.request += metrics.request;
+        sum.passed += metrics.passed;
     };
     for child in children {
         match child {
@@ -73,8 +88,7 @@ fn held(sums: &Row, limit: Watts) -> Row {
         lower_pcapmin -= sum.pcapmin;
         let request = sum.request.min(limit - higher_requests - lower_pcapmin);
         higher_requests += request;
-        let pcapmin = sum.pcapmin;
-        (rank, Metrics { pcapmin, request })
+        (rank, Metrics { request, ..*sum })
     };
     sums.iter().rev().map(hold).collect()
 }
@@ -100,16 +114,27 @@ impl Part {
         metrics.request - metrics.pcapmin
     }
 
-    /// Deals the amount among the children; what reaches a cord joins its grant.
+    fn passed(&self, rank: u32) -> Watts {
+        self.metrics(rank).passed
+    }
+
+    /// Gives the amount to the children: to each first what is passed on to it, and then its part of
+    /// the rest, weighted by its excess less that. What reaches a cord joins its grant.
     fn hand_down(&self, rank: u32, amount: Watts, grants: &mut [Watts]) {
         match self {
             Part::Cord(index, ..) => grants[*index] += amount,
             Part::Breaker(_, children) => {
-                let excesses: Vec<_> = children.iter().map(|child| child.excess(rank)).collect();
-                for (child, amount) in children.iter().zip(split(amount, &excesses)) {
+                let passed: Vec<_> = children.iter().map(|child| child.passed(rank)).collect();
+                let weight = |child: &Part| child.excess(rank) - child.passed(rank);
+                let weights: Vec<_> = children.iter().map(weight).collect();
+                let rest = amount - passed.iter().sum::<Watts>();
+                assert!(rest >= 0 && weights.iter().all(|&weight| weight >= 0));
+                for ((child, passed), part) in
+                    children.iter().zip(passed).zip(split(rest, &weights))
+                {
                     // An amount of 0 gives nothing to anyone beneath.
-                    if amount > 0 {
-                        child.hand_down(rank, amount, grants);
+                    if passed + part > 0 {
+                        child.hand_down(rank, passed + part, grants);
                     }
                 }
             }
@@ -117,20 +142,20 @@ impl Part {
     }
 }
 
-/// The amount split over the excesses as weights. Each part is the step between two floored
-/// running parts, so that no watt is lost.
-pub fn split(amount: Watts, excesses: &[Watts]) -> Vec<Watts> {
-    let total: Watts = excesses.iter().sum();
+/// The amount split by the weights. Each part is the step between two floored running parts, so
+/// that no watt is lost.
+pub fn split(amount: Watts, weights: &[Watts]) -> Vec<Watts> {
+    let total: Watts = weights.iter().sum();
     if total == 0 {
-        return vec![0; excesses.len()];
+        return vec![0; weights.len()];
     }
     let mut running = 0;
     let mut dealt = 0;
-    let part = |excess: &Watts| {
-        running += excess;
+    let part = |weight: &Watts| {
+        running += weight;
         let before = dealt;
         dealt = amount * running / total;
         dealt - before
     };
-    excesses.iter().map(part).collect()
+    weights.iter().map(part).collect()
 }

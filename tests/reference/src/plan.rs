@@ -1,6 +1,6 @@
 //! Demands, the two deals and what they answer.
 
-use crate::deal::deal;
+use crate::deal::{first_deal, second_deal};
 use crate::room::{carried, Room, Server};
 use crate::{Plan, Refusal, Watts};
 
@@ -38,12 +38,12 @@ pub fn deals(room: &Room, demands: &[u32]) -> Deals {
         Watts::from(demand).max(server.least).min(server.greatest)
     });
     let first_wants = carried_by_cords(room, &needs);
-    let first_grants = deal(room, &first_wants);
+    let first_grants = first_deal(room, &first_wants);
     let usable = usable(room, &needs, &first_grants);
     let used = carried_by_cords(room, &usable);
     let stranded = pairs(&first_grants, &used, |grant, used| grant - used);
     let second_wants = second_wants(&first_wants, &used, &stranded);
-    let second_grants = deal(room, &second_wants);
+    let second_grants = second_deal(room, &second_wants, &used);
     let caps = self::usable(room, &needs, &second_grants);
     Deals {
         needs,

@@ -71,8 +71,8 @@ fn plan_fills_the_front_of_both_lists() {
         let demands = padded(&[400, 400], over);
         let done = call::plan(&table, &demands, &mut grants, &mut caps, &mut answer);
         assert_eq!(done, 1);
-        assert_eq!(grants, padded(&[120, 97, 303], over));
-        assert_eq!(caps, padded(&[194, 303], over));
+        assert_eq!(grants, padded(&[120, 120, 280], over));
+        assert_eq!(caps, padded(&[240, 280], over));
         assert_eq!(answer[..16], answer_of(0, 13));
         assert_eq!(answer[16], 0xAA);
     }

@@ -6,11 +6,11 @@ use common::{room_h, table, Server};
 use reference::{print, write};
 
 const PRINT_H: &str = "freed 13
-server 1 cap 194
+server 1 cap 240
 cord 1 node 1 grant 120
-cord 2 node 2 grant 97
-server 2 cap 303
-cord 1 node 2 grant 303
+cord 2 node 2 grant 120
+server 2 cap 280
+cord 1 node 2 grant 280
 ";
 
 fn sheet(words: &[u32]) -> Vec<u8> {

@@ -31,11 +31,49 @@ fn room_h_is_dealt_twice() {
     assert_eq!(deals.second_wants, [200, 120, 400]);
     let answer = Plan {
         freed: 13,
-        grants: vec![120, 97, 303],
-        caps: vec![194, 303],
+        grants: vec![120, 120, 280],
+        caps: vec![240, 280],
     };
     assert_eq!(deals.answer(), answer);
     assert_eq!(plan(&room_h(500), &[400, 400], 3, 2), Ok(answer));
+}
+
+/// Node 2 has 250 W beyond its lows in the second deal, as in the first. It passes on 120 − 50 = 70
+/// and 267 − 100 = 167; its 13 W left all go to server 2, since cord 2 wants no more than it uses.
+/// By whole excesses, 70 and 300, cord 2 would get floor(13 × 70 / 370) = 2 of them, over its want.
+#[test]
+fn watts_in_use_are_passed_on_first() {
+    let deals = dealt(&room_h(500), &[400, 400]);
+    assert_eq!(deals.second_grants, [120, 50 + 70, 100 + 167 + 13]);
+    assert_eq!(deals.caps, [240, 280]);
+}
+
+/// Under a root with limit 120: node 2 (limit 80), with a cord of server 1 and all of server 2, beside
+/// server 3. Node 3 (limit 20) holds server 1 to 40 W. All lows are 0.
+///
+/// First deal: wants 50, 50, 100 and 60. Node 2 requests 80, the root 120, which it splits over 80 and
+/// 60: 68 and 52. Node 2 splits 68 over 50 and 100: 22 and 46. Server 1 can use 40, 20 on each cord,
+/// so 2 W are stranded.
+///
+/// Second deal: wants 20 for cord 2. Node 2 still requests 80 and the root 120; 66 and 52 are passed on
+/// and 2 remain, split by 80 − 66 = 14 and 60 − 52 = 8: floor(28 / 22) = 1 and 1. Node 2 passes on 20
+/// and 46, and its 1 W left goes to server 2.
+#[test]
+fn watts_in_use_are_passed_on_through_nodes() {
+    let room = table(
+        &[(0, 150), (1, 100), (0, 25)],
+        &[
+            (1, 0, 100, &[(3, 500), (2, 500)]),
+            (1, 0, 100, &[(2, 1000)]),
+            (1, 0, 60, &[(1, 1000)]),
+        ],
+    );
+    let deals = dealt(&room, &[100, 100, 60]);
+    assert_eq!(deals.first_grants, [20, 22, 46, 52]);
+    assert_eq!(deals.used, [20, 20, 46, 52]);
+    assert_eq!(deals.second_wants, [50, 20, 100, 60]);
+    assert_eq!(deals.second_grants, [20, 20, 47, 53]);
+    assert_eq!(deals.caps, [40, 47, 53]);
 }
 
 /// Both limits met by the lows on node 2: cord 1 gets 120 at first, of which 70 are stranded.
@@ -160,12 +198,12 @@ fn lows_are_rounded_up() {
     assert_eq!(plan.caps, [3]);
 }
 
-/// In room H server 2's cord has nothing stranded: wanting only its 267 it could not reach 303.
+/// In room H server 2's cord has nothing stranded: wanting only its 267 it could not reach 280.
 #[test]
 fn only_a_cord_with_stranded_watts_wants_less() {
     let deals = dealt(&room_h(500), &[400, 400]);
     assert_eq!(deals.second_wants[2], 400);
-    assert_eq!(deals.second_grants[2], 303);
+    assert_eq!(deals.second_grants[2], 280);
 }
 
 #[test]

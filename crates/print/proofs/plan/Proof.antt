@@ -1,6 +1,6 @@
 -- `plan` meets its contract: it lends as many rows as the room has servers and cords.
 use lib.ListN.{replicate}
-use Rattle.print.proofs.Lent.{servers-few, servers-front, servers-lent, cords-few, cords-front, cords-lent}
+use Rattle.room_lists.proofs.Lent.{servers-few, servers-front, servers-lent, cords-few, cords-front, cords-lent}
 use borrow.Author.Needs.{needs}
 use Rattle.print.proofs.plan.Statement.{statement}
 use Rattle.print.proofs.plan.Tie as tie
@@ -21,11 +21,11 @@ array-borrow-prefix-cords : tie.Need-array-borrow-prefix-cords
 array-borrow-prefix-cords c = cords-few _ (c .before .before .before .before .before .before .before .pre) (c .before .cord-count .ensures)
 
 slice-aggregate-plan-by-2 : tie.Need-slice-aggregate-plan-by-2
-slice-aggregate-plan-by-2 c = cords-front _ (c .before .before .before .before .before .before .before .before .pre) (c .before .before .cord-count .ensures) (replicate 8 0)
+slice-aggregate-plan-by-2 c = cords-front _ (c .before .before .before .before .before .before .before .before .pre) (c .before .before .cord-count .ensures) (replicate 4 0)
 
 plan-by-requires : tie.Need-plan-by-requires
 plan-by-requires c κs =
-    (c .before .before .before .before .before .before .before .before .before .pre, (servers-lent _ (c .before .before .before .before .before .before .before .before .before .pre) (c .before .before .before .before .server-count .ensures .0) (replicate 4 0), cords-lent _ (c .before .before .before .before .before .before .before .before .before .pre) (c .before .before .before .cord-count .ensures) (replicate 8 0)))
+    (c .before .before .before .before .before .before .before .before .before .pre, (servers-lent _ (c .before .before .before .before .before .before .before .before .before .pre) (c .before .before .before .before .server-count .ensures .0) (replicate 4 0), cords-lent _ (c .before .before .before .before .before .before .before .before .before .pre) (c .before .before .before .cord-count .ensures) (replicate 4 0)))
 
 same-length : tie.Need-same-length
 same-length c = c .before .before .before .before .plan-by .kept .1 .1 .1 .1 .1 .1 .0

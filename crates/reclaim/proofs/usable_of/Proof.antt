@@ -1,7 +1,7 @@
 -- `usable_of` meets its contract: before each turn each figure is the least over the server's cords passed.
 use mathlib.Core.Path.{sym, _∙_}
 use mathlib.Core.Logic.{⊎-elim}
-use Prim.Native.Nat.{_-_, _≤_}
+use Prim.Native.Nat.{_-_, _≤_, _<_}
 use native.Mathlib.Omega.{arith}
 use lib.ListN.{length}
 use borrow.Author.Needs.{needs}
@@ -11,55 +11,72 @@ use Rattle.reclaim.proofs.usable_of.Statement.{statement}
 use Rattle.reclaim.proofs.usable_of.Tie as tie
 
 abbrev Inv-loop : tie.InvT-loop
-Inv-loop shares servers needs grants usable₀ scale c₀ c-end usable c = (c ≤ length shares) × UsableBy scale shares servers needs grants c usable
+Inv-loop cords needs grants usable₀ scale c₀ c-end usable c = (c ≤ length cords) × UsableBy scale cords needs grants c usable
 
 abbrev μ-loop : tie.MeasureT-loop
-μ-loop shares servers needs grants usable₀ scale c₀ c-end usable c = c-end - c
+μ-loop cords needs grants usable₀ scale c₀ c-end usable c = c-end - c
+
+-- ---- What is known at a turn whose cord has a share, once the place of its server is read
+
+abbrev Placed : Type 0
+Placed = tie.After-word-index Inv-loop μ-loop
+
+abbrev start : Placed → tie.Start Inv-loop μ-loop
+start p = p .before .before .before .before .before .before .before .before .before .before .before .before .before
+
+abbrev turn : Placed → tie.In-loop Inv-loop μ-loop
+turn p = p .before .before .before .before
+
+placed : (p : Placed) → p .word-index .result < length (turn p .before .loop .usable)
+placed p = omega (arith, start p .pre .0 .within _ (turn p .loop-test .taken), p .word-index .ensures .0, turn p .before .loop .inv .1 .size-is)
 
 copy-requires : tie.Need-copy-requires Inv-loop μ-loop
 copy-requires c κs = search needs
 
 loop-holds : tie.Need-loop-holds Inv-loop μ-loop
-loop-holds c = (search needs, usable-none (c .before .before .copy .ensures ∙ sets-all _ _ (c .before .before .before .before .before .before .before .before .before .pre .1)))
+loop-holds c = (omega arith, usable-none (c .before .before .copy .ensures ∙ sets-all _ _ (c .before .before .before .before .before .before .before .pre .1)))
 
-mul-wide : tie.Need-mul-wide Inv-loop μ-loop
-mul-wide c = search needs
+mul-cord : tie.Need-mul-cord Inv-loop μ-loop
+mul-cord c = search needs
 
-shared-slice-read-wide : tie.Need-shared-slice-read-wide Inv-loop μ-loop
-shared-slice-read-wide c = search needs
+shared-slice-copy-out-cord : tie.Need-shared-slice-copy-out-cord Inv-loop μ-loop
+shared-slice-copy-out-cord c = search needs
+
+array-read-wide : tie.Need-array-read-wide Inv-loop μ-loop
+array-read-wide c = search needs
 
 wide-requires : tie.Need-wide-requires Inv-loop μ-loop
 wide-requires c κs = search needs
 
-mul-index : tie.Need-mul-index Inv-loop μ-loop
-mul-index c = search needs
+array-read-word-index : tie.Need-array-read-word-index Inv-loop μ-loop
+array-read-word-index c = search needs
 
-shared-slice-read-index : tie.Need-shared-slice-read-index Inv-loop μ-loop
-shared-slice-read-index c = search needs
+word-index-requires : tie.Need-word-index-requires Inv-loop μ-loop
+word-index-requires c κs = search needs
 
-index-requires : tie.Need-index-requires Inv-loop μ-loop
-index-requires c κs = search needs
-
-mul-wide-2 : tie.Need-mul-wide-2 Inv-loop μ-loop
-mul-wide-2 c = search needs
+mul-wide : tie.Need-mul-wide Inv-loop μ-loop
+mul-wide c = search needs
 
 slice-read-wide : tie.Need-slice-read-wide Inv-loop μ-loop
-slice-read-wide c = let loop = c .before .before .before .before .before .before .before .loop in omega (arith, c .before .before .before .before .before .before .before .before .before .before .before .before .before .before .before .before .before .pre .0 .within (loop .c) (search needs), c .before .index .ensures .0, loop .inv .1 .size-is)
+slice-read-wide c = placed (c .before)
 
 wide-requires-2 : tie.Need-wide-requires-2 Inv-loop μ-loop
 wide-requires-2 c κs = search needs
 
-mul-wide-3 : tie.Need-mul-wide-3 Inv-loop μ-loop
-mul-wide-3 c = search needs
-
-shared-slice-read-wide-2 : tie.Need-shared-slice-read-wide-2 Inv-loop μ-loop
-shared-slice-read-wide-2 c = search needs
-
 wide-requires-3 : tie.Need-wide-requires-3 Inv-loop μ-loop
 wide-requires-3 c κs = search needs
 
+mul-wide-2 : tie.Need-mul-wide-2 Inv-loop μ-loop
+mul-wide-2 c = search needs
+
+shared-slice-read-wide : tie.Need-shared-slice-read-wide Inv-loop μ-loop
+shared-slice-read-wide c = let p = c .before .before .before .before in omega (arith, start p .pre .0 .grants-size, turn p .loop-test .taken)
+
+wide-requires-4 : tie.Need-wide-requires-4 Inv-loop μ-loop
+wide-requires-4 c κs = search needs
+
 mul-least : tie.Need-mul-least Inv-loop μ-loop
-mul-least c = omega (arith, grant-product (c .before .before .before .before .before .before .before .before .before .before .before .before .before .before .before .before .before .before .before .before .pre .0 .scaled) (c .wide3 .ensures .1))
+mul-least c = omega (arith, grant-product (start (c .before .before .before .before .before) .pre .0 .scaled) (c .before .before .wide3 .ensures .0) (c .wide4 .ensures .1))
 
 div-least : tie.Need-div-least Inv-loop μ-loop
 div-least c = search needs
@@ -74,28 +91,30 @@ mul-usable : tie.Need-mul-usable Inv-loop μ-loop
 mul-usable c = search needs
 
 slice-write-usable : tie.Need-slice-write-usable Inv-loop μ-loop
-slice-write-usable c = let loop = c .before .before .before .before .before .before .before .before .before .before .before .before .loop in omega (arith, c .before .before .before .before .before .before .before .before .before .before .before .before .before .before .before .before .before .before .before .before .before .before .pre .0 .within (loop .c) (search needs), c .before .before .before .before .before .before .index .ensures .0, loop .inv .1 .size-is)
+slice-write-usable c = placed (c .before .before .before .before .before .before .before)
 
 add-c : tie.Need-add-c Inv-loop μ-loop
-add-c c = search needs
+add-c c = omega (arith, c .before .before .before .loop-test .taken)
 
 loop-less : tie.Need-loop-less Inv-loop μ-loop
-loop-less c = search needs
+loop-less c = omega (arith, c .before .before .before .loop-test .taken)
 
 loop-again : tie.Need-loop-again Inv-loop μ-loop
 loop-again c =
-    let loop = c .before .before .before .before .loop in
+    let less = c .before .before .before .loop-test .taken in
+    let inv = c .before .before .before .before .loop .inv .1 in
+    let lists = c .before .before .before .before .before .before .before .before .before .before .before .before .pre .0 in
     let share = c .before .wide .ensures .0 in
     ⊎-elim
-    (λ w. (search needs, rw (w .9) (usable-lowered (loop .inv .1) (w .2 .ensures .0) (omega (arith, c .before .before .before .before .before .before .before .before .before .before .before .before .before .before .pre .0 .within (loop .c) (search needs), w .2 .ensures .0)) share (w .0 .taken) (w .6 .ensures .0) (w .4 .ensures .0) (w .8 .ensures ∙ w .7 .ensures))))
-    (λ w. (search needs, rw (w .1) (usable-kept (loop .inv .1) (sym share ∙ w .0 .left))))
+    (λ w. (omega arith, rw (w .9) (usable-lowered inv (w .1 .ensures .0) (omega (arith, lists .within _ less, w .1 .ensures .0)) share (w .0 .taken) (w .4 .ensures .0) (w .6 .ensures .0) (w .3 .ensures .0) (w .8 .ensures ∙ w .7 .ensures))))
+    (λ w. (omega arith, rw (w .1) (usable-kept inv (sym share ∙ w .0 .left))))
     (c .if1 .came)
 
 same-length : tie.Need-same-length Inv-loop μ-loop
 same-length c = search needs
 
 returns : tie.Need-returns Inv-loop μ-loop
-returns c = usable-all (c .before .loop .inv .1) (omega arith)
+returns c = usable-all (c .before .loop .inv .1) (omega (arith, c .before .loop .inv .0, c .loop-test .left))
 
 pub usable-of-spec : {M : Type 1} → statement M
 usable-of-spec =
@@ -105,18 +124,19 @@ usable-of-spec =
     μ-loop
     copy-requires
     loop-holds
-    mul-wide
-    shared-slice-read-wide
+    mul-cord
+    shared-slice-copy-out-cord
+    array-read-wide
     wide-requires
-    mul-index
-    shared-slice-read-index
-    index-requires
-    mul-wide-2
+    array-read-word-index
+    word-index-requires
+    mul-wide
     slice-read-wide
     wide-requires-2
-    mul-wide-3
-    shared-slice-read-wide-2
     wide-requires-3
+    mul-wide-2
+    shared-slice-read-wide
+    wide-requires-4
     mul-least
     div-least
     least-requires

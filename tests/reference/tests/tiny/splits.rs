@@ -3,34 +3,43 @@
 
 use crate::family::{drawn, listed};
 use crate::room::{Cord, Room};
-use reference::deal::deal;
+use reference::plan::deals;
 use reference::Watts;
 
 #[test]
 fn every_amount_is_the_step_between_floors() {
     let cases = [listed(), drawn(0x5851_F42D_4C95_7F2D, 5_000)].concat();
-    let mut uneven = 0;
+    let mut uneven = [0, 0];
     for (room, demands) in cases {
         let Ok(grown) = reference::room::Room::of_words(&room.table()) else {
             continue;
         };
-        let wants = room.wants(&room.needs(&demands));
-        let grants = deal(&grown, &wants);
-        let deal = Deal {
+        let ours = deals(&grown, &demands);
+        let first = Deal {
             room: &room,
-            wants: &wants,
-            grants: &grants,
+            wants: &ours.first_wants,
+            starts: &room.lows(),
+            grants: &ours.first_grants,
+        };
+        let second = Deal {
+            room: &room,
+            wants: &ours.second_wants,
+            starts: &ours.used,
+            grants: &ours.second_grants,
         };
         for rank in [1, 2, 16] {
-            uneven += deal.check(rank);
+            uneven[0] += first.check(rank);
+            uneven[1] += second.check(rank);
         }
     }
-    assert!(uneven > 2_000, "{uneven}");
+    assert!(uneven[0] > 2_000 && uneven[1] > 200, "{uneven:?}");
 }
 
 struct Deal<'a> {
     room: &'a Room,
     wants: &'a [Watts],
+    /// What each cord has before anything is split: its low, or its used watts.
+    starts: &'a [Watts],
     grants: &'a [Watts],
 }
 
@@ -51,18 +60,26 @@ impl Deal<'_> {
     }
 
     fn check_split(&self, node: u32, rank: u32) -> bool {
-        let amount = self.amount(&Child::Node(node), rank);
         let children = self.children(node);
-        let excesses: Vec<_> = children.iter().map(|c| self.excess(c, rank)).collect();
-        let total: Watts = excesses.iter().sum();
-        let running = |count: usize| excesses[..count].iter().sum::<Watts>();
+        let passed = |child: &Child| self.above_low(child, rank, self.starts);
+        let amount =
+            self.amount(&Child::Node(node), rank) - children.iter().map(passed).sum::<Watts>();
+        let weight = |child: &Child| self.excess(child, rank) - passed(child);
+        let weights: Vec<_> = children.iter().map(weight).collect();
+        let total: Watts = weights.iter().sum();
+        let running = |count: usize| weights[..count].iter().sum::<Watts>();
         let mut uneven = false;
         for (before, child) in children.iter().enumerate() {
             let expected = match total {
                 0 => 0,
                 _ => amount * running(before + 1) / total - amount * running(before) / total,
             };
-            assert_eq!(self.amount(child, rank), expected, "{:?}", self.room);
+            assert_eq!(
+                self.amount(child, rank),
+                passed(child) + expected,
+                "{:?}",
+                self.room
+            );
             uneven |= total > 0 && amount * running(before + 1) % total > 0;
         }
         uneven
@@ -84,6 +101,11 @@ impl Deal<'_> {
 
     /// What reached the child: all above the lows that its cords of the rank were granted.
     fn amount(&self, child: &Child, rank: u32) -> Watts {
+        self.above_low(child, rank, self.grants)
+    }
+
+    /// What the child's cords of the rank have above their lows, of these figures.
+    fn above_low(&self, child: &Child, rank: u32, figures: &[Watts]) -> Watts {
         let mut cords = match child {
             Child::Node(node) => self.room.beneath(*node),
             Child::Cord(cord) => vec![*cord],
@@ -91,7 +113,7 @@ impl Deal<'_> {
         cords.retain(|cord| cord.rank == rank);
         cords
             .iter()
-            .map(|cord| self.grants[cord.index] - cord.low)
+            .map(|cord| figures[cord.index] - cord.low)
             .sum()
     }
 

@@ -70,6 +70,16 @@ fn check(room: &Room, demands: &[u32], seen: &mut Seen) {
     for (server, &cap) in room.servers.iter().zip(&ours.caps) {
         assert!(cap >= server.least.into(), "{room:?} {ours:?}");
     }
+    // Reclaimed watts come from stranded ones alone.
+    let kept = |(before, after): (&Watts, &Watts)| before <= after;
+    assert!(
+        ours.usable.iter().zip(&ours.caps).all(kept),
+        "{room:?} {ours:?}"
+    );
+    assert!(
+        ours.used.iter().zip(&ours.second_grants).all(kept),
+        "{room:?} {ours:?}"
+    );
     for root in room.roots() {
         seen.ways += check_tree(room, root, &wants, &ours.first_grants);
         seen.ways += check_tree(room, root, &second_wants, &ours.second_grants);

@@ -1,33 +1,61 @@
--- `gather` meets its contract: an active node's Pcapmin, and its children's excesses, are whole when its turn comes, since all active
--- nodes beneath it had their turns before, and the others have nothing.
-use Prim.Native.Nat.{_-_}
+-- `gather` meets its contract: an active node's Pcapmin and starts, and its children's weights, are whole when its turn comes, since all
+-- active nodes beneath it had their turns before, and the others have nothing.
+use Prim.Native.Nat.{_+_, _≤_}
 use native.Mathlib.Omega.{arith}
 use borrow.Author.Needs.{needs}
-use Rattle.ranks.proofs.Gathering.{GatherTurn, gather-start, gather-end, gather-node, gather-whole, gather-most, gather-size, gather-turn}
+use Rattle.rooms.specs.Table.{mostWatts}
+use Rattle.figures.specs.Figures.{at}
+use Rattle.ranks.proofs.Gathering.{GatherTurn, gather-start, gather-end, gather-node, gather-sizes, gather-bounds, pcapmin-fits, base-fits, gather-turn}
 use Rattle.ranks.proofs.metrics.gather.Statement.{statement}
 use Rattle.ranks.proofs.metrics.gather.Tie as tie
 
 abbrev Inv-loop : tie.InvT-loop
-Inv-loop parents active count level left₀ pcapmins₀ wholes₀ requests₀ i₀ left pcapmins wholes requests i =
-    GatherTurn parents active count level left₀ pcapmins₀ wholes₀ requests₀ i left pcapmins wholes requests
+Inv-loop parents active count level left₀ pcapmins₀ bases₀ wholes₀ requests₀ i₀ left pcapmins bases wholes requests i =
+    GatherTurn parents active count level left₀ pcapmins₀ bases₀ wholes₀ requests₀ i left pcapmins bases wholes requests
 
 abbrev μ-loop : tie.MeasureT-loop
-μ-loop parents active count level left₀ pcapmins₀ wholes₀ requests₀ i₀ left pcapmins wholes requests i = i
+μ-loop parents active count level left₀ pcapmins₀ bases₀ wholes₀ requests₀ i₀ left pcapmins bases wholes requests i = i
+
+-- The steps of a turn that the needs cite: its test, the node's place, what is left of its limit, its weight, its Request, its parent.
+abbrev turn : tie.After-index Inv-loop μ-loop → tie.In-loop Inv-loop μ-loop
+turn c = c .before .before
+
+abbrev node : tie.After-wide Inv-loop μ-loop → tie.After-index Inv-loop μ-loop
+node c = c .before .before .before .before
+
+abbrev rest : tie.After-least Inv-loop μ-loop → tie.After-wide Inv-loop μ-loop
+rest c = c .before .before
+
+abbrev weight : tie.After-narrow2 Inv-loop μ-loop → tie.After-least Inv-loop μ-loop
+weight c = c .before .before
+
+abbrev request : tie.After-index2 Inv-loop μ-loop → tie.After-narrow2 Inv-loop μ-loop
+request c = c .before .before
+
+-- What is left of the limit and the Pcapmin together fit, and the starts are within them.
+rest-fits : (c : tie.After-wide Inv-loop μ-loop)
+    → (c .wide .result + at (turn (node c) .before .loop .pcapmins) (node c .index .result) ≤ mostWatts)
+    × (at (turn (node c) .before .loop .bases) (node c .index .result) ≤ c .wide .result + at (turn (node c) .before .loop .pcapmins) (node c .index .result))
+rest-fits c =
+    let bounds = gather-bounds (turn (node c) .before .loop .inv) (turn (node c) .loop-test .taken) (node c .index .ensures .0) in
+    (omega (arith, bounds .0, c .wide .ensures .0), omega (arith, bounds .1, c .wide .ensures .0))
 
 loop-holds : tie.Need-loop-holds Inv-loop μ-loop
 loop-holds c =
-    let pre = c .before .before .before .before .before .pre in
-    gather-start (pre .1 .1 .1 .1 .0) (pre .1 .0 .1) (pre .1 .1 .1 .1 .1 .0)
+    let pre = c .before .before .before .before .before .before .pre in
+    let sizes = pre .1 .0 in
+    let sums = pre .1 .1 .0 in
+    let nodes = pre .1 .1 .1 .1 in
+    gather-start (nodes .0) (sizes .1, sums .0) (sizes .2, sums .1) (nodes .1 .0)
     (record {
       few = pre .0 .0;
       ranked = pre .0 .1;
       rises = pre .0 .2;
-      left-size = pre .1 .0 .0;
-      excesses-size = pre .1 .0 .2;
-      excesses-most = pre .1 .1 .0 .1;
-      fits = pre .1 .1 .1 .0;
+      left-size = sizes .0;
+      weights-fit = (sizes .3, sums .2);
+      bounds = pre .1 .1 .1 .0;
     })
-    (pre .1 .1 .1 .1 .1 .1)
+    (nodes .1 .1)
 
 sub-i : tie.Need-sub-i Inv-loop μ-loop
 sub-i c = search needs
@@ -45,64 +73,64 @@ mul-pcapmin : tie.Need-mul-pcapmin Inv-loop μ-loop
 mul-pcapmin c = search needs
 
 slice-read-pcapmin : tie.Need-slice-read-pcapmin Inv-loop μ-loop
-slice-read-pcapmin c =
-    let t = c .before .before .before .before .loop .inv in
-    let more = c .before .before .before .loop-test .taken in
-    let is = c .before .index .ensures .0 in
-    omega (arith, gather-node t more is .in-parents, gather-size t more is)
+slice-read-pcapmin c = gather-sizes (turn (c .before) .before .loop .inv) (turn (c .before) .loop-test .taken) (c .before .index .ensures .0) .0
+
+mul-start : tie.Need-mul-start Inv-loop μ-loop
+mul-start c = search needs
+
+slice-read-start : tie.Need-slice-read-start Inv-loop μ-loop
+slice-read-start c = gather-sizes (turn (c .before .before) .before .loop .inv) (turn (c .before .before) .loop-test .taken) (c .before .before .index .ensures .0) .1
 
 mul-wide : tie.Need-mul-wide Inv-loop μ-loop
 mul-wide c = search needs
 
 slice-read-wide : tie.Need-slice-read-wide Inv-loop μ-loop
-slice-read-wide c = gather-node (c .before .before .before .before .before .loop .inv) (c .before .before .before .before .loop-test .taken) (c .before .before .index .ensures .0) .in-left
+slice-read-wide c = gather-node (turn (c .before .before .before) .before .loop .inv) (turn (c .before .before .before) .loop-test .taken) (c .before .before .before .index .ensures .0) .in-left
 
 wide-requires : tie.Need-wide-requires Inv-loop μ-loop
 wide-requires c κs = search needs
+
+add-rest : tie.Need-add-rest Inv-loop μ-loop
+add-rest c = omega (arith, rest-fits c .0)
+
+sub-rest : tie.Need-sub-rest Inv-loop μ-loop
+sub-rest c = rest-fits c .1
 
 mul-least : tie.Need-mul-least Inv-loop μ-loop
 mul-least c = search needs
 
 slice-read-least : tie.Need-slice-read-least Inv-loop μ-loop
-slice-read-least c = gather-node (c .before .before .before .before .before .before .before .loop .inv) (c .before .before .before .before .before .before .loop-test .taken) (c .before .before .before .before .index .ensures .0) .in-wholes
+slice-read-least c = gather-node (turn (node (c .before)) .before .loop .inv) (turn (node (c .before)) .loop-test .taken) (node (c .before) .index .ensures .0) .in-wholes
 
 least-requires : tie.Need-least-requires Inv-loop μ-loop
 least-requires c κs = search needs
 
 sub-narrow : tie.Need-sub-narrow Inv-loop μ-loop
-sub-narrow c = search needs
+sub-narrow c = omega (arith, c .least .ensures)
 
 narrow-requires : tie.Need-narrow-requires Inv-loop μ-loop
-narrow-requires c κs = omega (arith, c .before .before .wide .ensures .1)
+narrow-requires c κs = omega (arith, rest-fits (rest c) .0)
 
 mul-left : tie.Need-mul-left Inv-loop μ-loop
 mul-left c = search needs
 
 slice-write-left : tie.Need-slice-write-left Inv-loop μ-loop
-slice-write-left c = gather-node (c .before .before .before .before .before .before .before .before .before .loop .inv) (c .before .before .before .before .before .before .before .before .loop-test .taken) (c .before .before .before .before .before .before .index .ensures .0) .in-left
+slice-write-left c = gather-node (turn (node (rest (c .before))) .before .loop .inv) (turn (node (rest (c .before))) .loop-test .taken) (node (rest (c .before)) .index .ensures .0) .in-left
 
 add-narrow : tie.Need-add-narrow Inv-loop μ-loop
-add-narrow c =
-    let t = c .before .before .before .before .before .before .before .before .before .loop .inv in
-    let more = c .before .before .before .before .before .before .before .before .loop-test .taken in
-    let is = c .before .before .before .before .before .before .index .ensures .0 in
-    omega (arith, gather-node t more is .fits, gather-whole t more is, c .before .before .before .wide .ensures .0, c .before .least .ensures)
+add-narrow c = omega (arith, rest-fits (rest (c .before)), c .before .least .ensures)
 
 narrow-requires-2 : tie.Need-narrow-requires-2 Inv-loop μ-loop
-narrow-requires-2 c κs =
-    let t = c .before .before .before .before .before .before .before .before .before .loop .inv in
-    let more = c .before .before .before .before .before .before .before .before .loop-test .taken in
-    let is = c .before .before .before .before .before .before .index .ensures .0 in
-    omega (arith, gather-node t more is .fits, gather-whole t more is, c .before .before .before .wide .ensures .0, c .before .least .ensures)
+narrow-requires-2 c κs = omega (arith, rest-fits (rest (c .before)), c .before .least .ensures)
 
 mul-requests : tie.Need-mul-requests Inv-loop μ-loop
-mul-requests c = omega (arith, gather-node (c .before .before .before .before .before .before .before .before .before .before .loop .inv) (c .before .before .before .before .before .before .before .before .before .loop-test .taken) (c .before .before .before .before .before .before .before .index .ensures .0) .in-rows)
+mul-requests c = omega (arith, gather-node (turn (node (rest (weight c))) .before .loop .inv) (turn (node (rest (weight c))) .loop-test .taken) (node (rest (weight c)) .index .ensures .0) .in-rows)
 
 mul-requests-2 : tie.Need-mul-requests-2 Inv-loop μ-loop
-mul-requests-2 c = omega (arith, gather-node (c .before .before .before .before .before .before .before .before .before .before .loop .inv) (c .before .before .before .before .before .before .before .before .before .loop-test .taken) (c .before .before .before .before .before .before .before .index .ensures .0) .in-rows)
+mul-requests-2 c = omega (arith, gather-node (turn (node (rest (weight c))) .before .loop .inv) (turn (node (rest (weight c))) .loop-test .taken) (node (rest (weight c)) .index .ensures .0) .in-rows)
 
 index-1-requests : tie.Need-index-1-requests Inv-loop μ-loop
-index-1-requests c = gather-node (c .before .before .before .before .before .before .before .before .before .before .loop .inv) (c .before .before .before .before .before .before .before .before .before .loop-test .taken) (c .before .before .before .before .before .before .before .index .ensures .0) .in-rows
+index-1-requests c = gather-node (turn (node (rest (weight c))) .before .loop .inv) (turn (node (rest (weight c))) .loop-test .taken) (node (rest (weight c)) .index .ensures .0) .in-rows
 
 index-2-requests : tie.Need-index-2-requests Inv-loop μ-loop
 index-2-requests c = search needs
@@ -111,45 +139,54 @@ mul-index-2 : tie.Need-mul-index-2 Inv-loop μ-loop
 mul-index-2 c = search needs
 
 shared-slice-read-index-2 : tie.Need-shared-slice-read-index-2 Inv-loop μ-loop
-shared-slice-read-index-2 c = gather-node (c .before .before .before .before .before .before .before .before .before .before .before .loop .inv) (c .before .before .before .before .before .before .before .before .before .before .loop-test .taken) (c .before .before .before .before .before .before .before .before .index .ensures .0) .in-parents
+shared-slice-read-index-2 c = gather-node (turn (node (rest (weight (c .before)))) .before .loop .inv) (turn (node (rest (weight (c .before)))) .loop-test .taken) (node (rest (weight (c .before))) .index .ensures .0) .in-parents
 
 index-requires-2 : tie.Need-index-requires-2 Inv-loop μ-loop
 index-requires-2 c κs = search needs
 
 credit-requires : tie.Need-credit-requires Inv-loop μ-loop
 credit-requires c κs =
-    let t = c .before .before .before .before .before .before .before .before .before .before .before .before .before .loop .inv in
-    let more = c .before .before .before .before .before .before .before .before .before .before .before .before .loop-test .taken in
-    let is = c .before .before .before .before .before .before .before .before .before .before .index .ensures .0 in
-    let pre = c .before .before .before .before .before .before .before .before .before .before .before .before .before .before .before .before .before .before .before .pre in
-    let here = gather-node t more is .in-parents in
-    let rise = pre .0 .2 (c .before .before .before .before .before .before .before .before .before .before .index .result) here in
-    let most = gather-most t more is in (
-      omega (arith, c .before .index2 .ensures .0, gather-size t more is),
-      omega (arith, c .before .index2 .ensures .0, most (c .before .before .before .before .before .before .before .before .before .before .index .result) here, most (c .before .index2 .result - 1) (omega (arith, c .before .index2 .ensures .0)), pre .1 .1 .0),
-    )
+    let parent = c .before in
+    let at-node = node (rest (weight (request parent))) in
+    pcapmin-fits (turn at-node .before .loop .inv) (turn at-node .loop-test .taken) (at-node .index .ensures .0) (parent .index2 .ensures .0)
 
 credit-requires-2 : tie.Need-credit-requires-2 Inv-loop μ-loop
 credit-requires-2 c κs =
-    gather-node (c .before .before .before .before .before .before .before .before .before .before .before .before .before .before .before .before .before .loop .inv) (c .before .before .before .before .before .before .before .before .before .before .before .before .before .before .before .before .loop-test .taken) (c .before .before .before .before .before .before .before .before .before .before .before .before .before .before .index .ensures .0) .credit-fits (c .before .before .before .before .before .index2 .ensures .0)
-    (omega (arith, c .before .before .before .before .before .before .before .before .before .before .before .wide .ensures .0, c .before .before .before .before .before .before .before .before .before .least .ensures))
+    let parent = c .before .before .before .before .before in
+    let at-node = node (rest (weight (request parent))) in
+    base-fits (turn at-node .before .loop .inv) (turn at-node .loop-test .taken) (at-node .index .ensures .0) (parent .index2 .ensures .0)
+
+credit-requires-3 : tie.Need-credit-requires-3 Inv-loop μ-loop
+credit-requires-3 c κs =
+    let parent = c .before .before .before .before .before .before .before .before .before in
+    let weighed = weight (request parent) in
+    let at-node = node (rest weighed) in
+    gather-node (turn at-node .before .loop .inv) (turn at-node .loop-test .taken) (at-node .index .ensures .0) .credit-fits (parent .index2 .ensures .0) (omega (arith, weighed .least .ensures))
 
 loop-less : tie.Need-loop-less Inv-loop μ-loop
 loop-less c = search needs
 
 loop-again : tie.Need-loop-again Inv-loop μ-loop
 loop-again c =
-    gather-turn (c .before .before .before .before .before .before .before .before .before .before .before .before .before .before .before .before .before .before .before .before .loop .inv) (c .before .before .before .before .before .before .before .before .before .before .before .before .before .before .before .before .before .before .before .loop-test .taken) (c .before .before .before .before .before .before .before .before .before .before .before .before .before .before .before .before .before .index .ensures .0) (c .before .before .before .before .before .before .before .before .before .before .before .before .before .before .wide .ensures .0) (c .before .before .before .before .before .before .before .before .before .before .before .before .least .ensures) (c .before .before .before .before .before .before .before .before .before .before .before .narrow .ensures) (c .before .before .before .before .before .before .before .before .before .before .narrow2 .ensures) (c .before .before .before .before .before .before .before .before .index2 .ensures .0)
-    (c .before .before .before .before .before .before .credit .ensures) (c .before .before .credit2 .ensures)
+    let parent = c .before .before .before .before .before .before .before .before .before .before .before .before in
+    let asked = request parent in
+    let weighed = weight asked in
+    let at-node = node (rest weighed) in
+    gather-turn (turn at-node .before .loop .inv) (turn at-node .loop-test .taken) (at-node .index .ensures .0)
+    (rest weighed .wide .ensures .0) (weighed .least .ensures) (asked .before .narrow .ensures) (asked .narrow2 .ensures) (parent .index2 .ensures .0)
+    (c .before .before .before .before .before .before .before .before .before .before .credit .ensures) (c .before .before .before .before .before .before .credit2 .ensures) (c .before .before .credit3 .ensures)
 
 same-length : tie.Need-same-length Inv-loop μ-loop
 same-length c = c .before .loop .inv .requesting .left-size
 
 same-length-2 : tie.Need-same-length-2 Inv-loop μ-loop
-same-length-2 c = c .before .loop .inv .summing .size
+same-length-2 c = c .before .loop .inv .pcapmins-sum .size
 
 same-length-3 : tie.Need-same-length-3 Inv-loop μ-loop
-same-length-3 c = c .before .loop .inv .requesting .wholes-size
+same-length-3 c = c .before .loop .inv .bases-sum .size
+
+same-length-4 : tie.Need-same-length-4 Inv-loop μ-loop
+same-length-4 c = c .before .loop .inv .requesting .wholes-size
 
 returns : tie.Need-returns Inv-loop μ-loop
 returns c = gather-end (c .before .loop .inv) (c .loop-test .left)
@@ -167,9 +204,13 @@ gather-spec =
     index-requires
     mul-pcapmin
     slice-read-pcapmin
+    mul-start
+    slice-read-start
     mul-wide
     slice-read-wide
     wide-requires
+    add-rest
+    sub-rest
     mul-least
     slice-read-least
     least-requires
@@ -188,9 +229,11 @@ gather-spec =
     index-requires-2
     credit-requires
     credit-requires-2
+    credit-requires-3
     loop-less
     loop-again
     same-length
     same-length-2
     same-length-3
+    same-length-4
     returns)

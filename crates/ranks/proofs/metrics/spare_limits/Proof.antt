@@ -15,6 +15,13 @@ Inv-loop limits beneath spare₀ n₀ n-end spare n = SpareTurn limits beneath n
 abbrev μ-loop : tie.MeasureT-loop
 μ-loop limits beneath spare₀ n₀ n-end spare n = length limits - n
 
+-- The steps that the needs cite: the start, and of a turn its test.
+abbrev start : tie.At-loop Inv-loop μ-loop → tie.Start Inv-loop μ-loop
+start c = c .before .before .before .before
+
+abbrev turn : tie.After-wide Inv-loop μ-loop → tie.In-loop Inv-loop μ-loop
+turn c = c .before .before
+
 loop-holds : tie.Need-loop-holds Inv-loop μ-loop
 loop-holds c = spare-start (c .before .before .before .pre .0)
 
@@ -31,10 +38,10 @@ mul-narrow : tie.Need-mul-narrow Inv-loop μ-loop
 mul-narrow c = search needs
 
 shared-slice-read-narrow : tie.Need-shared-slice-read-narrow Inv-loop μ-loop
-shared-slice-read-narrow c = omega (arith, c .before .before .before .before .before .before .before .before .pre .1, c .before .before .before .loop-test .taken)
+shared-slice-read-narrow c = omega (arith, start (turn (c .before) .before) .pre .1, turn (c .before) .loop-test .taken)
 
 sub-narrow : tie.Need-sub-narrow Inv-loop μ-loop
-sub-narrow c = omega (arith, c .before .before .before .before .before .before .before .before .pre .2 _ (c .before .before .before .loop-test .taken), c .before .wide .ensures .0)
+sub-narrow c = omega (arith, start (turn (c .before) .before) .pre .2 _ (turn (c .before) .loop-test .taken), c .before .wide .ensures .0)
 
 narrow-requires : tie.Need-narrow-requires Inv-loop μ-loop
 narrow-requires c κs = omega (arith, c .before .wide .ensures .1)
@@ -43,7 +50,7 @@ mul-spare : tie.Need-mul-spare Inv-loop μ-loop
 mul-spare c = search needs
 
 slice-write-spare : tie.Need-slice-write-spare Inv-loop μ-loop
-slice-write-spare c = omega (arith, c .before .before .before .before .before .loop .inv .size, c .before .before .before .before .loop-test .taken)
+slice-write-spare c = omega (arith, turn (c .before .before) .before .loop .inv .size, turn (c .before .before) .loop-test .taken)
 
 add-n : tie.Need-add-n Inv-loop μ-loop
 add-n c = search needs
@@ -53,11 +60,13 @@ loop-less c = search needs
 
 loop-again : tie.Need-loop-again Inv-loop μ-loop
 loop-again c =
-    let more = c .before .before .before .before .loop-test .taken in
-    spare-turn (c .before .before .before .before .before .loop .inv) more (c .before .before .before .before .before .before .before .before .before .pre .2 _ more) (c .narrow .ensures ∙ ap (λ (x : ℕ). x - at (c .before .before .before .before .before .before .before .before .before .args .beneath .now) (c .before .before .before .before .before .loop .n)) (c .before .before .wide .ensures .0))
+    let at-turn = turn (c .before .before) in
+    let begun = start (at-turn .before) in
+    let more = at-turn .loop-test .taken in
+    spare-turn (at-turn .before .loop .inv) more (begun .pre .2 _ more) (c .narrow .ensures ∙ ap (λ (x : ℕ). x - at (begun .args .beneath .now) (at-turn .before .loop .n)) (c .before .before .wide .ensures .0))
 
 same-length : tie.Need-same-length Inv-loop μ-loop
-same-length c = c .before .loop .inv .size ∙ sym (c .before .before .before .before .before .pre .0)
+same-length c = c .before .loop .inv .size ∙ sym (start (c .before) .pre .0)
 
 returns : tie.Need-returns Inv-loop μ-loop
 returns c = λ n l. c .before .loop .inv .done n (omega (arith, c .loop-test .left))

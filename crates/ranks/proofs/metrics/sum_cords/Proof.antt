@@ -1,26 +1,55 @@
--- `sum_cords` meets its contract: before each turn the cords of the level before it are summed on their nodes; those of other levels
--- add 0.
-use mathlib.Core.Path.{_≡_, _∙_}
-use Prim.Native.Nat.{_-_, _≤_, _<_}
+-- `sum_cords` meets its contract: before each turn the cords of the entries passed are summed on their nodes.
+use mathlib.Core.Path.{ap, _∙_}
+use Prim.Native.Nat.{ℕ, _-_, _<_}
 use native.Mathlib.Omega.{arith}
 use borrow.Author.Needs.{needs}
-use lib.ListN.{length}
-use Rattle.rooms.proofs.Trees.{own}
-use Rattle.figures.specs.Figures.{at}
-use Rattle.levels.proofs.Links.{chain-next}
-use Rattle.ranks.proofs.NodeSums.{Hangs, Credited, ofLevel, ofLevel-most, ofLevel-yes, credited-start, credited-more, credited-skip, credited-fits, credited-end}
+use lib.ListN.{length, replicate}
+use Rattle.ranks.proofs.CordSums.{cord-within, cord-ordered, SumTurn, sums-start, sums-end, low-fits, start-fits, weight-fits, sums-next}
 use Rattle.ranks.proofs.metrics.sum_cords.Statement.{statement}
 use Rattle.ranks.proofs.metrics.sum_cords.Tie as tie
 
 abbrev Inv-loop : tie.InvT-loop
-Inv-loop nodes levels lows wants next level from pcapmins₀ wholes₀ c₀ pcapmins wholes c =
-    (c ≤ length nodes)
-    × (c < length nodes → at levels c ≡ level)
-    × (Hangs (length pcapmins₀) (length nodes) (at nodes) (at lows) × Credited (length pcapmins₀) (at nodes) (ofLevel levels (at lows) level) c pcapmins)
-    × (Hangs (length wholes₀) (length nodes) (at nodes) (λ h. at wants h - at lows h) × Credited (length wholes₀) (at nodes) (ofLevel levels (λ h. at wants h - at lows h) level) c wholes)
+Inv-loop listed nodes lows starts wants pcapmins₀ bases₀ wholes₀ i₀ i-end pcapmins bases wholes i =
+    SumTurn (length pcapmins₀) listed nodes lows starts wants i pcapmins bases wholes
 
 abbrev μ-loop : tie.MeasureT-loop
-μ-loop nodes levels lows wants next level from pcapmins₀ wholes₀ c₀ pcapmins wholes c = length nodes - c
+μ-loop listed nodes lows starts wants pcapmins₀ bases₀ wholes₀ i₀ i-end pcapmins bases wholes i = length listed - i
+
+-- The steps that the needs cite: the lists cleared, from the last to the first, and the start before them.
+abbrev wholes-cleared : tie.At-loop Inv-loop μ-loop → tie.After-clear3 Inv-loop μ-loop
+wholes-cleared c = c .before .before .before
+
+abbrev bases-cleared : tie.After-clear3 Inv-loop μ-loop → tie.After-clear2 Inv-loop μ-loop
+bases-cleared c = c .before .before .before .before
+
+abbrev pcapmins-cleared : tie.After-clear2 Inv-loop μ-loop → tie.After-clear Inv-loop μ-loop
+pcapmins-cleared c = c .before .before .before .before
+
+abbrev cleared : tie.At-loop Inv-loop μ-loop → tie.After-clear Inv-loop μ-loop
+cleared c = pcapmins-cleared (bases-cleared (wholes-cleared c))
+
+abbrev start : tie.At-loop Inv-loop μ-loop → tie.Start Inv-loop μ-loop
+start c = cleared c .before .before .before .before .before .before .before .before .before .before
+
+-- Of a turn: its test, the cord's place, its node's number, its low, its start and its weight.
+abbrev turn : tie.After-index Inv-loop μ-loop → tie.In-loop Inv-loop μ-loop
+turn c = c .before .before
+
+abbrev cord : tie.After-index2 Inv-loop μ-loop → tie.After-index Inv-loop μ-loop
+cord c = c .before .before
+
+abbrev node : tie.After-wide Inv-loop μ-loop → tie.After-index2 Inv-loop μ-loop
+node c = c .before .before .before .before
+
+abbrev low : tie.After-wide2 Inv-loop μ-loop → tie.After-wide Inv-loop μ-loop
+low c = c .before .before .before .before .before
+
+abbrev begun : tie.After-shared-slice-known10 Inv-loop μ-loop → tie.After-wide2 Inv-loop μ-loop
+begun c = c .before .before .before .before .before
+
+-- The cord stands in the lists of cords.
+cord-there : (c : tie.After-index Inv-loop μ-loop) → c .index .result < length (start (turn c .before) .args .nodes .now)
+cord-there c = cord-within (start (turn c .before) .pre .0) (turn c .loop-test .taken) (c .index .ensures .0)
 
 clear-requires : tie.Need-clear-requires Inv-loop μ-loop
 clear-requires c κs = search needs
@@ -28,25 +57,16 @@ clear-requires c κs = search needs
 clear-requires-2 : tie.Need-clear-requires-2 Inv-loop μ-loop
 clear-requires-2 c κs = search needs
 
+clear-requires-3 : tie.Need-clear-requires-3 Inv-loop μ-loop
+clear-requires-3 c κs = search needs
+
 loop-holds : tie.Need-loop-holds Inv-loop μ-loop
 loop-holds c =
-    let first = c .before .before .before .before .before .before .clear in
-    let second = c .before .before .clear2 in
-    let pre = c .before .before .before .before .before .before .before .before .before .before .before .before .before .before .before .pre in
-    let start = c .before .before .before .before .before .before .before .before .before .before .before .before .before .before .before .args in
-    let cords = pre .0 in
-    let chain = pre .1 .1 in (
-      omega (arith, chain .start .within, cords .levels-size),
-      λ l. chain .start .here (omega (arith, cords .levels-size)),
-      (
-        λ i l. omega (arith, first .kept .0, cords .hangs i l, cords .within i l, cords .ordered i l, cords .most i l),
-        credited-skip _ (chain .start) (credited-start _ _ (start .pcapmins .now) (first .ensures)),
-      ),
-      (
-        λ i l. omega (arith, second .kept .0, pre .1 .0, cords .hangs i l, cords .within i l, cords .most i l),
-        credited-skip _ (chain .start) (credited-start _ _ (start .wholes .now) (second .ensures)),
-      ),
-    )
+    let third = c .before .before in
+    let second = bases-cleared third in
+    let first = pcapmins-cleared second in
+    let pre = first .before .before .before .before .before .before .before .before .before .before .pre in
+    sums-start (pre .0) (first .clear .ensures) (second .clear2 .ensures ∙ ap (λ (k : ℕ). replicate {A = ℕ} k 0) (pre .1 .0)) (third .clear3 .ensures ∙ ap (λ (k : ℕ). replicate {A = ℕ} k 0) (pre .1 .1))
 
 mul-index : tie.Need-mul-index Inv-loop μ-loop
 mul-index c = search needs
@@ -57,87 +77,101 @@ shared-slice-read-index c = search needs
 index-requires : tie.Need-index-requires Inv-loop μ-loop
 index-requires c κs = search needs
 
-mul-low : tie.Need-mul-low Inv-loop μ-loop
-mul-low c = search needs
+mul-index-2 : tie.Need-mul-index-2 Inv-loop μ-loop
+mul-index-2 c = search needs
 
-shared-slice-read-low : tie.Need-shared-slice-read-low Inv-loop μ-loop
-shared-slice-read-low c = search needs
+shared-slice-read-index-2 : tie.Need-shared-slice-read-index-2 Inv-loop μ-loop
+shared-slice-read-index-2 c = cord-there (c .before)
+
+index-requires-2 : tie.Need-index-requires-2 Inv-loop μ-loop
+index-requires-2 c κs = search needs
+
+mul-start : tie.Need-mul-start Inv-loop μ-loop
+mul-start c = search needs
+
+shared-slice-read-start : tie.Need-shared-slice-read-start Inv-loop μ-loop
+shared-slice-read-start c = omega (arith, cord-there (cord (c .before)), start (turn (cord (c .before)) .before) .pre .0 .starts-size)
+
+mul-wide : tie.Need-mul-wide Inv-loop μ-loop
+mul-wide c = search needs
+
+shared-slice-read-wide : tie.Need-shared-slice-read-wide Inv-loop μ-loop
+shared-slice-read-wide c =
+    let at-cord = cord (c .before .before .before) in
+    omega (arith, cord-there at-cord, start (turn at-cord .before) .pre .0 .lows-size)
 
 wide-requires : tie.Need-wide-requires Inv-loop μ-loop
 wide-requires c κs = search needs
 
 credit-requires : tie.Need-credit-requires Inv-loop μ-loop
 credit-requires c κs =
-    let inv = c .before .before .before .before .before .before .loop .inv .2 in
-    credited-fits (inv .1) (c .before .before .before .before .before .before .before .before .before .before .before .before .before .before .before .before .before .before .before .before .before .before .pre .0 .few) (inv .0) (ofLevel-most _ _ _) (search needs) (c .before .before .before .index .ensures .0) (c .wide .ensures .0)
-
-mul-wide : tie.Need-mul-wide Inv-loop μ-loop
-mul-wide c = search needs
-
-shared-slice-read-wide : tie.Need-shared-slice-read-wide Inv-loop μ-loop
-shared-slice-read-wide c = search needs
-
-sub-wide : tie.Need-sub-wide Inv-loop μ-loop
-sub-wide c = c .before .before .before .before .before .before .before .before .before .before .before .before .before .before .before .before .before .before .before .before .before .before .before .before .before .before .before .pre .0 .ordered _ (c .before .before .before .before .before .before .before .before .before .before .loop-test .taken)
+    let at-cord = cord (node c) in
+    low-fits (turn at-cord .before .loop .inv) (turn at-cord .loop-test .taken) (at-cord .index .ensures .0) (node c .index2 .ensures .0) (c .wide .ensures .0)
 
 wide-requires-2 : tie.Need-wide-requires-2 Inv-loop μ-loop
 wide-requires-2 c κs = search needs
 
 credit-requires-2 : tie.Need-credit-requires-2 Inv-loop μ-loop
 credit-requires-2 c κs =
-    let inv = c .before .before .before .before .before .before .before .before .before .before .before .before .loop .inv .3 in
-    credited-fits (inv .1) (c .before .before .before .before .before .before .before .before .before .before .before .before .before .before .before .before .before .before .before .before .before .before .before .before .before .before .before .before .pre .0 .few) (inv .0) (ofLevel-most _ _ _) (search needs) (c .before .before .before .before .before .before .before .before .before .index .ensures .0) (c .wide2 .ensures .0)
+    let at-node = node (low c) in
+    let at-cord = cord at-node in
+    start-fits (turn at-cord .before .loop .inv) (turn at-cord .loop-test .taken) (at-cord .index .ensures .0) (at-node .index2 .ensures .0) (c .wide2 .ensures .0)
 
-mul-index-2 : tie.Need-mul-index-2 Inv-loop μ-loop
-mul-index-2 c = search needs
+mul-wide-2 : tie.Need-mul-wide-2 Inv-loop μ-loop
+mul-wide-2 c = search needs
 
-shared-slice-read-index-2 : tie.Need-shared-slice-read-index-2 Inv-loop μ-loop
-shared-slice-read-index-2 c = omega (arith, c .before .before .before .before .before .before .before .before .before .before .before .before .before .before .before .before .before .before .before .before .before .before .before .before .before .before .before .before .before .before .before .before .pre .1 .1 .next-size, c .before .before .before .before .before .before .before .before .before .before .before .before .before .before .before .before .before .before .before .before .before .before .before .before .before .before .before .before .before .before .before .before .pre .0 .levels-size, c .before .before .before .before .before .before .before .before .before .before .before .before .before .before .before .loop-test .taken)
+shared-slice-read-wide-2 : tie.Need-shared-slice-read-wide-2 Inv-loop μ-loop
+shared-slice-read-wide-2 c =
+    let at-cord = cord (node (low (begun c))) in
+    omega (arith, cord-there at-cord, start (turn at-cord .before) .pre .0 .wants-size)
 
-index-requires-2 : tie.Need-index-requires-2 Inv-loop μ-loop
-index-requires-2 c κs = search needs
+sub-wide : tie.Need-sub-wide Inv-loop μ-loop
+sub-wide c =
+    let at-cord = cord (node (low (begun c))) in
+    cord-ordered (start (turn at-cord .before) .pre .0) (turn at-cord .loop-test .taken) (at-cord .index .ensures .0)
+
+wide-requires-3 : tie.Need-wide-requires-3 Inv-loop μ-loop
+wide-requires-3 c κs = search needs
+
+credit-requires-3 : tie.Need-credit-requires-3 Inv-loop μ-loop
+credit-requires-3 c κs =
+    let at-node = node (low (begun (c .before))) in
+    let at-cord = cord at-node in
+    weight-fits (turn at-cord .before .loop .inv) (turn at-cord .loop-test .taken) (at-cord .index .ensures .0) (at-node .index2 .ensures .0) (c .wide3 .ensures .0)
+
+add-i : tie.Need-add-i Inv-loop μ-loop
+add-i c = search needs
 
 loop-less : tie.Need-loop-less Inv-loop μ-loop
-loop-less c =
-    let ahead = chain-next (c .before .before .before .before .before .before .before .before .before .before .before .before .before .before .before .before .before .before .before .before .before .before .before .before .before .before .before .before .before .before .before .before .before .pre .1 .1) (omega (arith, c .before .before .before .before .before .before .before .before .before .before .before .before .before .before .before .before .before .before .before .before .before .before .before .before .before .before .before .before .before .before .before .before .before .pre .0 .levels-size, c .before .before .before .before .before .before .before .before .before .before .before .before .before .before .before .before .loop-test .taken)) (c .before .before .before .before .before .before .before .before .before .before .before .before .before .before .before .before .before .loop .inv .1 (c .before .before .before .before .before .before .before .before .before .before .before .before .before .before .before .before .loop-test .taken)) (c .index2 .ensures .0) in
-    omega (arith, ahead .after, c .before .before .before .before .before .before .before .before .before .before .before .before .before .before .before .before .loop-test .taken)
+loop-less c = search needs
 
 loop-again : tie.Need-loop-again Inv-loop μ-loop
 loop-again c =
-    let inv = c .before .before .before .before .before .before .before .before .before .before .before .before .before .before .before .before .before .loop .inv in
-    let cord = c .before .before .before .before .before .before .before .before .before .before .before .before .before .before .before .before .before .loop .c in
-    let more = c .before .before .before .before .before .before .before .before .before .before .before .before .before .before .before .before .loop-test .taken in
-    let here = inv .1 more in
-    let node = c .before .before .before .before .before .before .before .before .before .before .before .before .before .before .index .ensures .0 in
-    let cords = c .before .before .before .before .before .before .before .before .before .before .before .before .before .before .before .before .before .before .before .before .before .before .before .before .before .before .before .before .before .before .before .before .before .pre .0 in
-    let ahead = chain-next (c .before .before .before .before .before .before .before .before .before .before .before .before .before .before .before .before .before .before .before .before .before .before .before .before .before .before .before .before .before .before .before .before .before .pre .1 .1) (omega (arith, cords .levels-size)) here (c .index2 .ensures .0) in (
-      omega (arith, ahead .within, cords .levels-size),
-      λ l. ahead .here (omega (arith, cords .levels-size)),
-      (
-        inv .2 .0,
-        credited-skip _ ahead
-            (credited-more (inv .2 .1) (inv .2 .0 cord more .1) node (c .before .before .before .before .before .before .before .before .before .before .before .wide .ensures .0 ∙ ofLevel-yes _ _ _ _ here) (c .before .before .before .before .before .before .before .before .before .before .credit .ensures)),
-      ),
-      (
-        inv .3 .0,
-        credited-skip _ ahead
-            (credited-more (inv .3 .1) (inv .3 .0 cord more .1) node (c .before .before .before .before .before .wide2 .ensures .0 ∙ ofLevel-yes _ _ _ _ here) (c .before .before .before .before .credit2 .ensures)),
-      ),
-    )
+    let weighed = c .before .before .before in
+    let at-start = begun (weighed .before) in
+    let at-low = low at-start in
+    let at-node = node at-low in
+    let at-cord = cord at-node in
+    sums-next (turn at-cord .before .loop .inv) (turn at-cord .loop-test .taken) (at-cord .index .ensures .0) (at-node .index2 .ensures .0)
+    (at-low .wide .ensures .0) (at-start .wide2 .ensures .0) (weighed .wide3 .ensures .0)
+    (at-start .before .before .before .before .credit .ensures) (weighed .before .before .before .before .before .credit2 .ensures) (c .before .before .credit3 .ensures)
 
 same-length : tie.Need-same-length Inv-loop μ-loop
-same-length c = c .before .loop .inv .2 .1 .size ∙ c .before .before .before .before .before .before .before .before .clear .kept .0
+same-length c = c .before .loop .inv .pcapmins-are .size ∙ cleared (c .before) .clear .kept .0
 
 same-length-2 : tie.Need-same-length-2 Inv-loop μ-loop
-same-length-2 c = c .before .loop .inv .3 .1 .size ∙ c .before .before .before .before .clear2 .kept .0
+same-length-2 c = omega (arith, c .before .loop .inv .bases-are .size, cleared (c .before) .clear .kept .0, start (c .before) .pre .1 .0)
+
+same-length-3 : tie.Need-same-length-3 Inv-loop μ-loop
+same-length-3 c = omega (arith, c .before .loop .inv .wholes-are .size, cleared (c .before) .clear .kept .0, start (c .before) .pre .1 .1)
 
 returns : tie.Need-returns Inv-loop μ-loop
-unfolding own ofLevel
 returns c =
     let inv = c .before .loop .inv in
-    let same = c .before .before .before .before .before .before .before .before .before .before .before .before .before .before .before .before .before .pre .1 .0 in (
-      λ n l. credited-end (inv .2 .1) _ (search needs) n (omega (arith, c .before .before .before .before .before .before .before .before .clear .kept .0)),
-      λ n l. credited-end (inv .3 .1) _ (search needs) n (omega (arith, c .before .before .before .before .clear2 .kept .0)),
+    let all = sums-end inv (c .loop-test .left) in
+    let kept = cleared (c .before) .clear .kept .0 in (
+      λ n l. all n (omega (arith, kept)) .0,
+      (λ n l. all n (omega (arith, kept)) .1, λ n l. all n (omega (arith, kept)) .2),
     )
 
 pub sum-cords-spec : {M : Type 1} → statement M
@@ -148,24 +182,31 @@ sum-cords-spec =
     μ-loop
     clear-requires
     clear-requires-2
+    clear-requires-3
     loop-holds
     mul-index
     shared-slice-read-index
     index-requires
-    mul-low
-    shared-slice-read-low
-    wide-requires
-    credit-requires
-    mul-wide
-    shared-slice-read-wide
-    sub-wide
-    wide-requires-2
-    credit-requires-2
     mul-index-2
     shared-slice-read-index-2
     index-requires-2
+    mul-start
+    shared-slice-read-start
+    mul-wide
+    shared-slice-read-wide
+    wide-requires
+    credit-requires
+    wide-requires-2
+    credit-requires-2
+    mul-wide-2
+    shared-slice-read-wide-2
+    sub-wide
+    wide-requires-3
+    credit-requires-3
+    add-i
     loop-less
     loop-again
     same-length
     same-length-2
+    same-length-3
     returns)

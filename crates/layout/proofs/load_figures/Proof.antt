@@ -1,0 +1,156 @@
+-- `load_figures` meets its contract: before each turn the lists have the figures of the cords passed.
+use Prim.Native.Nat.{_-_, _≤_, _<_}
+use native.Mathlib.Omega.{arith}
+use lib.ListN.{length}
+use borrow.Author.Needs.{needs}
+use Rattle.layout.proofs.Loading.{Loaded, loaded-none, loaded-one, loaded-all}
+use Rattle.layout.proofs.load_figures.Statement.{statement}
+use Rattle.layout.proofs.load_figures.Tie as tie
+
+abbrev Inv-loop : tie.InvT-loop
+Inv-loop servers cords needs nodes₀ lows₀ wants₀ scale c₀ c-end nodes lows wants c = (c ≤ length cords) × Loaded scale servers cords needs c nodes lows wants
+
+abbrev μ-loop : tie.MeasureT-loop
+μ-loop servers cords needs nodes₀ lows₀ wants₀ scale c₀ c-end nodes lows wants c = c-end - c
+
+-- ---- What is known at a turn, once the place of the cord's server is read
+
+abbrev Placed : Type 0
+Placed = tie.After-word-index Inv-loop μ-loop
+
+abbrev start : Placed → tie.Start Inv-loop μ-loop
+start p = p .before .before .before .before .before .before .before .before
+
+abbrev turn : Placed → tie.In-loop Inv-loop μ-loop
+turn p = p .before .before
+
+placed : (p : Placed) → p .word-index .result < length (start p .args .servers .now)
+placed p = omega (arith, start p .pre .0 .within _ (turn p .loop-test .taken), p .word-index .ensures .0)
+
+loop-holds : tie.Need-loop-holds Inv-loop μ-loop
+loop-holds c = let sizes = c .before .before .before .before .pre .1 in (omega arith, loaded-none (sizes .0) (sizes .1) (sizes .2))
+
+mul-cord : tie.Need-mul-cord Inv-loop μ-loop
+mul-cord c = search needs
+
+shared-slice-copy-out-cord : tie.Need-shared-slice-copy-out-cord Inv-loop μ-loop
+shared-slice-copy-out-cord c = search needs
+
+array-read-share : tie.Need-array-read-share Inv-loop μ-loop
+array-read-share c = search needs
+
+array-read-word-index : tie.Need-array-read-word-index Inv-loop μ-loop
+array-read-word-index c = search needs
+
+word-index-requires : tie.Need-word-index-requires Inv-loop μ-loop
+word-index-requires c κs = search needs
+
+array-read-short : tie.Need-array-read-short Inv-loop μ-loop
+array-read-short c = search needs
+
+short-requires : tie.Need-short-requires Inv-loop μ-loop
+short-requires c κs = omega (arith, start c .pre .0 .hangs _ (turn c .loop-test .taken))
+
+mul-nodes : tie.Need-mul-nodes Inv-loop μ-loop
+mul-nodes c = search needs
+
+slice-write-nodes : tie.Need-slice-write-nodes Inv-loop μ-loop
+slice-write-nodes c = omega (arith, turn (c .before) .before .loop .inv .1 .nodes-done .size-is, turn (c .before) .loop-test .taken)
+
+mul-carried-by : tie.Need-mul-carried-by Inv-loop μ-loop
+mul-carried-by c = search needs
+
+index-1-carried-by : tie.Need-index-1-carried-by Inv-loop μ-loop
+index-1-carried-by c = placed (c .before)
+
+index-2-carried-by : tie.Need-index-2-carried-by Inv-loop μ-loop
+index-2-carried-by c = search needs
+
+carried-by-requires : tie.Need-carried-by-requires Inv-loop μ-loop
+carried-by-requires c κs =
+    let p = c .before .before in
+    let asked = start p .pre .0 in
+    (asked .scaled, asked .parts _ (turn p .loop-test .taken), asked .least-most _ (placed p))
+
+mul-lows : tie.Need-mul-lows Inv-loop μ-loop
+mul-lows c = search needs
+
+slice-write-lows : tie.Need-slice-write-lows Inv-loop μ-loop
+slice-write-lows c = omega (arith, turn (c .before .before .before) .before .loop .inv .1 .lows-done .size-is, turn (c .before .before .before) .loop-test .taken)
+
+mul-carried-by-2 : tie.Need-mul-carried-by-2 Inv-loop μ-loop
+mul-carried-by-2 c = search needs
+
+shared-slice-read-carried-by : tie.Need-shared-slice-read-carried-by Inv-loop μ-loop
+shared-slice-read-carried-by c = let p = c .before .before .before .before in omega (arith, placed p, start p .pre .0 .needs-size)
+
+carried-by-requires-2 : tie.Need-carried-by-requires-2 Inv-loop μ-loop
+carried-by-requires-2 c κs =
+    let p = c .before .before .before .before in
+    let asked = start p .pre .0 in
+    (asked .scaled, asked .parts _ (turn p .loop-test .taken), asked .need-most _ (placed p))
+
+mul-wants : tie.Need-mul-wants Inv-loop μ-loop
+mul-wants c = search needs
+
+slice-write-wants : tie.Need-slice-write-wants Inv-loop μ-loop
+slice-write-wants c = omega (arith, turn (c .before .before .before .before .before) .before .loop .inv .1 .wants-done .size-is, turn (c .before .before .before .before .before) .loop-test .taken)
+
+add-c : tie.Need-add-c Inv-loop μ-loop
+add-c c = omega (arith, turn (c .before .before .before .before .before) .loop-test .taken)
+
+loop-less : tie.Need-loop-less Inv-loop μ-loop
+loop-less c = omega (arith, turn (c .before .before .before .before .before) .loop-test .taken)
+
+loop-again : tie.Need-loop-again Inv-loop μ-loop
+loop-again c =
+    let p = c .before .before .before .before .before in
+    let less = turn p .loop-test .taken in
+    (omega (arith, less), loaded-one (turn p .before .loop .inv .1) less (p .word-index .ensures .0) (c .before .before .before .before .short .ensures) (c .before .before .carried-by .ensures) (c .carried-by2 .ensures))
+
+same-length : tie.Need-same-length Inv-loop μ-loop
+same-length c = let size = c .before .before .before .before .before .before .pre .1 .0 in omega (arith, c .before .loop .inv .1 .nodes-done .size-is)
+
+same-length-2 : tie.Need-same-length-2 Inv-loop μ-loop
+same-length-2 c = let size = c .before .before .before .before .before .before .pre .1 .1 in omega (arith, c .before .loop .inv .1 .lows-done .size-is)
+
+same-length-3 : tie.Need-same-length-3 Inv-loop μ-loop
+same-length-3 c = let size = c .before .before .before .before .before .before .pre .1 .2 in omega (arith, c .before .loop .inv .1 .wants-done .size-is)
+
+returns : tie.Need-returns Inv-loop μ-loop
+returns c = loaded-all (c .before .loop .inv .1) (omega (arith, c .loop-test .left))
+
+pub load-figures-spec : {M : Type 1} → statement M
+load-figures-spec =
+    tie.close
+    (tie.spec
+    Inv-loop
+    μ-loop
+    loop-holds
+    mul-cord
+    shared-slice-copy-out-cord
+    array-read-share
+    array-read-word-index
+    word-index-requires
+    array-read-short
+    short-requires
+    mul-nodes
+    slice-write-nodes
+    mul-carried-by
+    index-1-carried-by
+    index-2-carried-by
+    carried-by-requires
+    mul-lows
+    slice-write-lows
+    mul-carried-by-2
+    shared-slice-read-carried-by
+    carried-by-requires-2
+    mul-wants
+    slice-write-wants
+    add-c
+    loop-less
+    loop-again
+    same-length
+    same-length-2
+    same-length-3
+    returns)

@@ -1,0 +1,66 @@
+-- `load_rows` meets its contract: the rows are the room's, and so are the figures of them.
+use borrow.Author.Needs.{needs}
+use Rattle.layout.proofs.Loading.{needs-asked, figures-asked, all-laid-out}
+use Rattle.layout.proofs.load_rows.Statement.{statement}
+use Rattle.layout.proofs.load_rows.Tie as tie
+
+-- From the scale back: the start, the rows and the needs.
+abbrev start : tie.After-table-scale → tie.Start
+start t = t .before .before .before .before .before .before .before .before .before .before .before .before .before .before .before .before .before .before .before .before .before .before .before
+
+abbrev rows : tie.After-table-scale → tie.After-lay-out-servers
+rows t = t .before .before .before .before .before .before .before .before .before .before .before .before .before .before
+
+abbrev needed : tie.After-table-scale → tie.After-load-needs
+needed t = t .before .before .before .before .before .before .before .before .before
+
+lay-out-servers-requires : tie.Need-lay-out-servers-requires
+lay-out-servers-requires c κs = let lent = c .before .before .before .before .before .before .before .before .pre .0 in (lent .good-table, (c .before .before .before .before .before .before .before .before .pre .1, lent .cords-fit))
+
+load-needs-requires : tie.Need-load-needs-requires
+load-needs-requires c κs = needs-asked (c .before .before .before .before .before .before .before .before .before .before .before .before .before .pre .0) (c .before .before .before .before .lay-out-servers .ensures)
+
+table-scale-requires : tie.Need-table-scale-requires
+table-scale-requires c κs = search needs
+
+load-figures-requires : tie.Need-load-figures-requires
+load-figures-requires c κs = figures-asked (start c .pre .0) (rows c .lay-out-servers .ensures) (needed c .load-needs .ensures) (c .table-scale .ensures)
+
+same-length : tie.Need-same-length
+same-length c = search needs
+
+same-length-2 : tie.Need-same-length-2
+same-length-2 c = search needs
+
+same-length-3 : tie.Need-same-length-3
+same-length-3 c = search needs
+
+same-length-4 : tie.Need-same-length-4
+same-length-4 c = search needs
+
+same-length-5 : tie.Need-same-length-5
+same-length-5 c = search needs
+
+same-length-6 : tie.Need-same-length-6
+same-length-6 c = search needs
+
+returns : tie.Need-returns
+returns c =
+    let t = c .before .before .before .before .before .before .before in
+    all-laid-out (start t .pre .0) (rows t .lay-out-servers .ensures) (needed t .load-needs .ensures) (t .table-scale .ensures) (c .before .before .before .before .before .before .load-figures .ensures)
+
+pub load-rows-spec : {M : Type 1} → statement M
+load-rows-spec =
+    tie.close
+    (tie.spec
+    lay-out-servers-requires
+    load-needs-requires
+    table-scale-requires
+    load-figures-requires
+    same-length
+    same-length-2
+    same-length-3
+    same-length-4
+    same-length-5
+    same-length-6
+    returns)

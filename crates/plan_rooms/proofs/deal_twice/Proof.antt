@@ -1,76 +1,127 @@
--- `deal_twice` meets its contract: before each turn so many deals are made.
-use mathlib.Core.Path.{refl, sym, _∙_}
-use Prim.Native.Nat.{_-_}
-use native.Mathlib.Omega.{arith}
 use borrow.Author.Needs.{needs}
-use lib.ListN.{length}
-use Rattle.deal_by_rank.specs.Ranks.{BlankRows}
-use Rattle.reclaim.proofs.Reclaiming.{grants-kept}
-use Rattle.plan_rooms.proofs.TwoDeals.{DealsMade, deals-start, reclaimable, dealable, deals-next}
 use Rattle.plan_rooms.proofs.deal_twice.Statement.{statement}
 use Rattle.plan_rooms.proofs.deal_twice.Tie as tie
 
-abbrev Inv-loop : tie.InvT-loop
-Inv-loop parents limits nodes levels lows wants₀ first next actives counts spare requests₀ shares servers needed grants₀ usable₀ scale made₀ made-end wants requests grants usable freed made =
-    DealsMade scale parents limits nodes levels lows wants₀ shares servers needed (length grants₀) made freed wants grants usable × BlankRows (length parents) actives counts requests
+array-borrow-prefix-order : tie.Need-array-borrow-prefix-order
+array-borrow-prefix-order c = ?
 
-abbrev μ-loop : tie.MeasureT-loop
-μ-loop parents limits nodes levels lows wants₀ first next actives counts spare requests₀ shares servers needed grants₀ usable₀ scale made₀ made-end wants requests grants usable freed made =
-    2 - made
+slice-aggregate-list-levels : tie.Need-slice-aggregate-list-levels
+slice-aggregate-list-levels c = ?
 
-loop-holds : tie.Need-loop-holds Inv-loop μ-loop
-loop-holds c =
-    let pre = c .before .before .before .before .before .before .before .before .before .before .before .before .before .before .before .pre in
-    (deals-start (pre .0) (pre .1 .1 .0 .0) (pre .1 .1 .1 .0) refl (pre .1 .1 .0 .1), pre .1 .1 .1 .1)
+list-levels-requires : tie.Need-list-levels-requires
+list-levels-requires c κs = ?
 
-reclaim-after-requires : tie.Need-reclaim-after-requires Inv-loop μ-loop
-reclaim-after-requires c κs =
-    let pre = c .before .before .before .before .before .before .before .before .before .before .before .before .before .before .before .before .before .before .before .before .pre in
-    reclaimable (pre .0) (pre .1 .1 .0 .0) (pre .1 .1 .1 .0) (c .before .before .before .before .loop .inv .0) (omega (arith, c .before .before .before .loop-test .taken))
+array-borrow-prefix-left : tie.Need-array-borrow-prefix-left
+array-borrow-prefix-left c = ?
 
-make-deal-requires : tie.Need-make-deal-requires Inv-loop μ-loop
-make-deal-requires c κs =
-    let pre = c .before .before .before .before .before .before .before .before .before .before .before .before .before .before .before .before .before .before .before .before .before .before .before .before .before .before .before .pre in
-    let inv = c .before .before .before .before .before .before .before .before .before .before .before .loop .inv .0 in
-    let lists = dealable (pre .0) (pre .1 .1 .0 .0) (pre .1 .1 .1 .0) inv (omega (arith, c .before .before .before .before .before .before .before .before .before .before .loop-test .taken)) (c .before .before .before .before .before .before .reclaim-after .ensures) in
-    (lists, (pre .1 .0, ((grants-kept (pre .1 .1 .0 .0) (inv .grants-size), inv .usable-size), c .before .before .before .before .before .before .before .before .before .before .before .loop .inv .1)))
+slice-aggregate-copy : tie.Need-slice-aggregate-copy
+slice-aggregate-copy c = ?
 
-add-made : tie.Need-add-made Inv-loop μ-loop
-add-made c = search needs
+copy-requires : tie.Need-copy-requires
+copy-requires c κs = search needs
 
-loop-less : tie.Need-loop-less Inv-loop μ-loop
-loop-less c = omega (arith, c .before .before .before .before .before .before .before .before .before .before .before .before .before .before .before .loop-test .taken)
+array-share-prefix-order : tie.Need-array-share-prefix-order
+array-share-prefix-order c = ?
 
-loop-again : tie.Need-loop-again Inv-loop μ-loop
-loop-again c =
-    let pre = c .before .before .before .before .before .before .before .before .before .before .before .before .before .before .before .before .before .before .before .before .before .before .before .before .before .before .before .before .before .before .before .before .pre in
-    let deal = c .before .before .before .before .make-deal in
-    (deals-next (pre .0) (pre .1 .1 .0 .0) (pre .1 .1 .1 .0) (c .before .before .before .before .before .before .before .before .before .before .before .before .before .before .before .before .loop .inv .0) (omega (arith, c .before .before .before .before .before .before .before .before .before .before .before .before .before .before .before .loop-test .taken)) (c .before .before .before .before .before .before .before .before .before .before .before .reclaim-after .ensures) (c .before .before .before .before .before .before .before .before .before .before .before .reclaim-after .kept .1 .1 .1 .1 .1 .0) (deal .kept .1 .1 .1 .1 .1 .1 .1 .1 .1 .1 .1 .1 .1 .1 .1 .0) (deal .kept .1 .1 .1 .1 .1 .1 .1 .1 .1 .1 .1 .1 .1 .1 .1 .1 .0) (deal .ensures .0) (deal .ensures .1 .0), deal .ensures .1 .1)
+slice-aggregate-deal : tie.Need-slice-aggregate-deal
+slice-aggregate-deal c = ?
 
-same-length : tie.Need-same-length Inv-loop μ-loop
-same-length c = c .before .loop .inv .0 .wants-size
+array-borrow-prefix-left-2 : tie.Need-array-borrow-prefix-left-2
+array-borrow-prefix-left-2 c = ?
 
-same-length-2 : tie.Need-same-length-2 Inv-loop μ-loop
-same-length-2 c = c .before .loop .inv .0 .grants-size
+slice-aggregate-deal-2 : tie.Need-slice-aggregate-deal-2
+slice-aggregate-deal-2 c = ?
 
-same-length-3 : tie.Need-same-length-3 Inv-loop μ-loop
-same-length-3 c = c .before .loop .inv .0 .usable-size ∙ sym (c .before .before .before .before .before .before .before .before .before .before .before .before .before .before .before .before .before .pre .1 .1 .0 .1)
+deal-requires : tie.Need-deal-requires
+deal-requires c κs = ?
 
-returns : tie.Need-returns Inv-loop μ-loop
-returns c = let inv = c .before .loop .inv .0 in inv .both (omega (arith, inv .few, c .loop-test .left))
+usable-of-requires : tie.Need-usable-of-requires
+usable-of-requires c κs = ?
+
+array-borrow-prefix-used : tie.Need-array-borrow-prefix-used
+array-borrow-prefix-used c = ?
+
+slice-aggregate-reclaim : tie.Need-slice-aggregate-reclaim
+slice-aggregate-reclaim c = ?
+
+reclaim-requires : tie.Need-reclaim-requires
+reclaim-requires c κs = ?
+
+array-borrow-prefix-left-3 : tie.Need-array-borrow-prefix-left-3
+array-borrow-prefix-left-3 c = ?
+
+slice-aggregate-copy-2 : tie.Need-slice-aggregate-copy-2
+slice-aggregate-copy-2 c = ?
+
+copy-requires-2 : tie.Need-copy-requires-2
+copy-requires-2 c κs = search needs
+
+array-share-prefix-order-2 : tie.Need-array-share-prefix-order-2
+array-share-prefix-order-2 c = ?
+
+slice-aggregate-deal-3 : tie.Need-slice-aggregate-deal-3
+slice-aggregate-deal-3 c = ?
+
+array-share-prefix-used : tie.Need-array-share-prefix-used
+array-share-prefix-used c = ?
+
+slice-aggregate-deal-4 : tie.Need-slice-aggregate-deal-4
+slice-aggregate-deal-4 c = ?
+
+array-borrow-prefix-left-4 : tie.Need-array-borrow-prefix-left-4
+array-borrow-prefix-left-4 c = ?
+
+slice-aggregate-deal-5 : tie.Need-slice-aggregate-deal-5
+slice-aggregate-deal-5 c = ?
+
+deal-requires-2 : tie.Need-deal-requires-2
+deal-requires-2 c κs = ?
+
+usable-of-requires-2 : tie.Need-usable-of-requires-2
+usable-of-requires-2 c κs = ?
+
+same-length : tie.Need-same-length
+same-length c = search needs
+
+same-length-2 : tie.Need-same-length-2
+same-length-2 c = ?
+
+same-length-3 : tie.Need-same-length-3
+same-length-3 c = ?
+
+returns : tie.Need-returns
+returns c = ?
 
 pub deal-twice-spec : {M : Type 1} → statement M
 deal-twice-spec =
     tie.close
     (tie.spec
-    Inv-loop
-    μ-loop
-    loop-holds
-    reclaim-after-requires
-    make-deal-requires
-    add-made
-    loop-less
-    loop-again
+    array-borrow-prefix-order
+    slice-aggregate-list-levels
+    list-levels-requires
+    array-borrow-prefix-left
+    slice-aggregate-copy
+    copy-requires
+    array-share-prefix-order
+    slice-aggregate-deal
+    array-borrow-prefix-left-2
+    slice-aggregate-deal-2
+    deal-requires
+    usable-of-requires
+    array-borrow-prefix-used
+    slice-aggregate-reclaim
+    reclaim-requires
+    array-borrow-prefix-left-3
+    slice-aggregate-copy-2
+    copy-requires-2
+    array-share-prefix-order-2
+    slice-aggregate-deal-3
+    array-share-prefix-used
+    slice-aggregate-deal-4
+    array-borrow-prefix-left-4
+    slice-aggregate-deal-5
+    deal-requires-2
+    usable-of-requires-2
     same-length
     same-length-2
     same-length-3

@@ -1,10 +1,7 @@
 -- Both deals of a room: what the contracts of `plan_rooms` cite.
 use mathlib.Core.Path.{_≡_}
 use mathlib.Core.List.{List}
-use Prim.Native.Nat.{ℕ, _<_}
-use lib.ListN.{length}
-use Rattle.rooms.specs.Limits.{lowsBeneath}
-use Rattle.figures.specs.Figures.{at}
+use Prim.Native.Nat.{ℕ}
 use Rattle.deals.specs.Metrics.{dealFrom}
 use Rattle.deals.specs.Wants.{needs}
 use Rattle.deals.specs.Dealing.{granted}
@@ -12,10 +9,6 @@ use Rattle.deals.specs.SecondDeal.{freed, secondGrants}
 use Rattle.deals.specs.SecondDeal as second
 use Rattle.room_lists.specs.Lists.{OfRoom}
 use Rattle.reclaim.specs.Reclaimed.{usableFrom, freedFrom, wantsNext}
-
--- A list has at each node's place the lows of all cords beneath the node.
-abbrev pub HasLowsBeneath : List ℕ → List ℕ → Type 0
-HasLowsBeneath table list = OfRoom table (λ r. (n : ℕ) → n < length (r .nodes) → at list n ≡ lowsBeneath r n)
 
 -- What both deals leave, by the wants of the first: the watts freed by its grants, the grants of the second, and what each server can
 -- use of these.

@@ -100,6 +100,10 @@ module _ {r : Room} (ok : Accepted r) {demands parents spare : List ℕ} {cords 
   pub cord-count : length cords ≡ length nodes
   cord-count = cords-count rows ∙ sym (ap length (of .cords-are .nodes-are) ∙ nodesOf-length r)
 
+  pub wants-count : length wants ≡ length nodes
+  unfolding firstWants
+  wants-count = ap length (of .cords-are .wants-are) ∙ carriedBy-length r (needs r demands) ∙ sym (ap length (of .cords-are .nodes-are) ∙ nodesOf-length r)
+
   pub lists-first : DealLists (parentsOf r) (limitsOf r) (nodesOf r) (levelsOf r) (lowsOf r) (lowsOf r) (firstWants r demands)
   unfolding firstDeal firstWants
   lists-first =

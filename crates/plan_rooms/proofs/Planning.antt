@@ -7,7 +7,9 @@ use native.Mathlib.Omega.{arith}
 use lib.Dec.{eqb, ltb}
 use lib.ListN.{length, getD}
 use Rattle.rooms.specs.Table.{Room, roomCords, mostWatts, mostNodes, mostCords, highestRank}
-use Rattle.rooms.proofs.Accepted.{Accepted}
+use Rattle.rooms.specs.Part.{Good}
+use Rattle.rooms.specs.Limits.{checked}
+use Rattle.rooms.proofs.Accepted.{Accepted, accepted}
 use Rattle.rooms.proofs.Trees.{under}
 use Rattle.figures.specs.Figures.{figures, at, cell, column, sumOf}
 use Rattle.figures.proofs.Columns.{column-length, column-at}
@@ -28,11 +30,15 @@ use Rattle.levels.specs.Levels.{LevelLists, RoomCords}
 use Rattle.deal_by_rank.specs.Ranks.{NodeLists, CordLists, DealLists, Spare, DealGiven, SomeDeal, DealMade, lowsUnder}
 use Rattle.reclaim.specs.Reclaimed.{ServerLists, usableFrom, usedFrom, strandedFrom, wantsFrom, freedFrom}
 use Rattle.reclaim.proofs.Reclaiming.{usable-lists}
-use Rattle.room_lists.specs.Lists.{CordRows, nodeColumn, serverColumn, levelColumn, shareColumn}
+use Rattle.room_lists.specs.Lists.{NodesFit, CordRows, nodeColumn, serverColumn, levelColumn, shareColumn}
 use Rattle.layout.specs.Lists.{CordsLaidOut}
 use Rattle.layout.proofs.Rows.{cords-count, node-at, server-at, share-at}
 use Rattle.layout.proofs.Loading.{carried-is}
 use Rattle.plan_rooms.specs.Planning.{RoomLists, PlanMade}
+
+-- A good table has no more nodes than a room may have.
+pub nodes-few : (table : List ℕ) → Good (checked table 0) → {n : ℕ} → NodesFit table n → n ≤ mostNodes
+nodes-few table g fit = omega (arith, fit (g .value) (g .next) (g .is), accepted table (g .value) (g .next) (g .is) .fewNodes)
 
 -- ---- A deal of a room, in lists
 

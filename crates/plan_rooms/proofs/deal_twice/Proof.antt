@@ -338,7 +338,7 @@ same-length-3 : tie.Need-same-length-3
 same-length-3 c = (c .before .before) .usable-of2 .kept .1 .1 .1 .0 ∙ used-r (reclaimed-a (again-s (second-c (c .before .before)))) .usable-of .kept .1 .1 .1 .0
 
 returns : tie.Need-returns
-returns c = 
+returns c =
     λ table demands r end is of.
     let ok : Accepted r = accepted table r end is in
     record {

@@ -1,3 +1,4 @@
 -- The laws of `layout`.
+pub mod Spare
 pub mod Rows
 pub mod Loading

@@ -1,14 +1,19 @@
--- A room's lists: what the contract of `load_cords` cites.
+-- A room's lists: what the contracts of `load_nodes` and `load_cords` cite.
 use mathlib.Core.Path.{_≡_}
 use mathlib.Core.List.{List}
-use Prim.Native.Nat.{ℕ}
+use Prim.Native.Nat.{ℕ, _<_}
 use lib.ListN.{length}
+use Rattle.figures.specs.Figures.{at}
 use Rattle.rooms.specs.Part.{Good}
 use Rattle.rooms.specs.Table.{Room}
-use Rattle.rooms.specs.Limits.{checked}
+use Rattle.rooms.specs.Limits.{lowsBeneath, checked}
 use Rattle.rooms.specs.Lists.{nodesOf, lowsOf}
-use Rattle.room_lists.specs.Lists.{ServersFit, CordsFit, CordRows}
+use Rattle.room_lists.specs.Lists.{OfRoom, ServersFit, CordsFit, CordRows}
 use Rattle.deals.specs.Wants.{needs, firstWants}
+
+-- A list has at each node's place the lows of all cords beneath the node.
+abbrev pub HasLowsBeneath : List ℕ → List ℕ → Type 0
+HasLowsBeneath table list = OfRoom table (λ r. (n : ℕ) → n < length (r .nodes) → at list n ≡ lowsBeneath r n)
 
 -- The lists that are lent for a good table's cords and servers are as long as these are many: for each cord its row, its node's number,
 -- its low and its want; for each server its need. There is a demand for each server.

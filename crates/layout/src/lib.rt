@@ -1,24 +1,51 @@
-// A room's lists, laid out from its table: a row and figures a cord in table order, and a figure a server.
+// A room's lists, laid out from its table: figures a node, a row and figures a cord in table order, and a figure a server.
 // Private to Plan: no operation stands here.
 ghost use mathlib.Core.Path.{_≡_};
-ghost use Prim.Native.Nat.{min, max};
+ghost use Prim.Native.Nat.{ℕ, _+_, _≤_, _<_, min, max};
 ghost use lib.ListN.{length};
-ghost use Rattle.room_lists.specs.Lists.{OfRoom, ServersFit};
-ghost use Rattle.layout.specs.Lists.{CordsLent, CordsLaidOut};
+ghost use Rattle.figures.specs.Figures.{at};
+ghost use Rattle.rooms.specs.Part.{Good};
+ghost use Rattle.rooms.specs.Limits.{lowsBeneath, checked};
+ghost use Rattle.rooms.specs.Lists.{parentsOf, limitsOf};
+ghost use Rattle.room_lists.specs.Lists.{OfRoom, NodesFit, ServersFit};
+ghost use Rattle.layout.specs.Lists.{HasLowsBeneath, CordsLent, CordsLaidOut};
 ghost use Rattle.layout.specs.Loading.{needsFrom, CordsLoadable, CordsLoaded};
+use figures::narrow;
 use figures::short;
+use figures::wide;
 use figures::word_index;
 use room_lists::GREATEST;
 use room_lists::LEAST;
 use room_lists::NODE;
 use room_lists::SERVER;
 use room_lists::SHARE;
+use room_lists::lay_out_nodes;
 use room_lists::lay_out_servers;
 use room_lists::table_scale;
 use rooms::limits::carried_by;
 
 // The most servers of a room.
 const MOST_SERVERS: usize = 512;
+
+// What each node's limit has over all lows beneath it, in the place of the limit.
+fn spare_limits(beneath: &[u64], limits: &mut [u32])
+    requires { ⌜ (length (now beneath) ≡ length (now limits)) × ((n : ℕ) → n < length (now limits) → at (now beneath) n ≤ at (now limits) n) ⌝ }
+    ensures { λ _. ⌜ ((n : ℕ) → n < length (now (limits .entry)) → at (now (limits .exit)) n + at (now (beneath .entry)) n ≡ at (now (limits .entry)) n) ⌝ }
+{
+    for n in 0..limits.len() {
+        limits[n] = narrow(wide(limits[n]) - beneath[n]);
+    }
+}
+
+// The parents of a good table's nodes, and what each limit has over the lows beneath it, which `beneath` has.
+pub fn load_nodes(table: &[u32], beneath: &[u64], parents: &mut [u16], spare: &mut [u32])
+    requires { ⌜ Good (checked (now table) 0) ⌝ }
+    requires { ⌜ NodesFit (now table) (length (now beneath)) × NodesFit (now table) (length (now parents)) × NodesFit (now table) (length (now spare)) × HasLowsBeneath (now table) (now beneath) ⌝ }
+    ensures { λ _. ⌜ OfRoom (now (table .entry)) (λ r. (now (parents .exit) ≡ parentsOf r) × ((n : ℕ) → n < length (r .nodes) → at (now (spare .exit)) n + lowsBeneath r n ≡ at (limitsOf r) n)) ⌝ }
+{
+    lay_out_nodes(table, parents, spare);
+    spare_limits(beneath, spare);
+}
 
 // The need of a server: its demand, brought into the range from least to greatest.
 fn need_of(demand: u32, least: u32, greatest: u32) -> u32

@@ -1,3 +1,2 @@
 -- The laws of `plan_rooms`.
-pub mod TwoDeals
 pub mod Planning

@@ -1,124 +1,77 @@
--- Both deals in the room's lists: what each call asks, and that what it leaves is what the plan's definition says.
+-- Both deals in a room's lists: what each call asks, and that what it leaves is what the plan's definition says.
 use mathlib.Core.Path.{_≡_, refl, sym, ap, _∙_}
 use mathlib.Core.Bool.{cond, _&&_}
-use mathlib.Core.List.{List}
+use mathlib.Core.List.{List, []}
 use Prim.Native.Nat.{ℕ, _+_, _-_, _*_, _/_, _≤_, _<_}
 use native.Mathlib.Omega.{arith}
 use lib.Dec.{eqb, ltb}
-use lib.ListN.{length, take, replicate}
-use lib.Seq.{length-take-le, getD-take}
-use Rattle.rooms.specs.Part.{good, Good}
-use Rattle.rooms.specs.Table.{Room, roomCords, mostWatts, mostNodes, mostServers, mostCords}
-use Rattle.rooms.specs.Limits.{checked, carried}
+use lib.ListN.{length, getD}
+use Rattle.rooms.specs.Table.{Room, roomCords, mostWatts, mostNodes, mostCords, highestRank}
+use Rattle.rooms.specs.Part.{Good}
+use Rattle.rooms.specs.Limits.{checked}
 use Rattle.rooms.proofs.Accepted.{Accepted, accepted}
 use Rattle.rooms.proofs.Trees.{under}
-use Rattle.figures.specs.Figures.{figures, at, sumOf}
-use Rattle.rooms.specs.Cords.{cordAt}
-use Rattle.deals.specs.Wants.{needs, firstWants}
-use Rattle.rooms.specs.Lists.{carriedBy, lowsOf, parentsOf, limitsOf, nodesOf, levelsOf, sharesOf, serversOf}
-use Rattle.deals.specs.Metrics.{dealFrom, dealOf}
-use Rattle.deals.specs.Dealing.{granted, grantsBy}
-use Rattle.deals.specs.SecondDeal.{leastOver, usable, stranded, wantsAfter, firstGrants, firstUsable, firstUsed, secondWants, secondGrants}
-use Rattle.deals.specs.SecondDeal as second
-use Rattle.plan_rooms.specs.Planning.{DealtTwice, Planning, HasLowsBeneath}
-use Rattle.deal_by_rank.specs.Ranks.{NodeLists, LowsWithin, Spare, DealLists, lowsUnder}
-use Rattle.ranks.specs.Passes.{CordLists}
-use Rattle.reclaim.specs.Reclaimed.{ServerLists, usableFrom, usedFrom, strandedFrom, wantsFrom}
-use Rattle.room_lists.specs.Lists.{OfRoom, NodesFit, ServersFit, CordsFit}
-use Rattle.layout.specs.Lists.{CordsLaidOut}
+use Rattle.figures.specs.Figures.{figures, at, cell, column, sumOf}
+use Rattle.figures.proofs.Columns.{column-length, column-at}
 use Rattle.figures.proofs.Lists.{figures-length}
+use Rattle.rooms.specs.Cords.{cordAt}
+use Rattle.rooms.specs.Lists.{carriedBy, lowsOf, parentsOf, limitsOf, nodesOf, levelsOf, sharesOf, serversOf}
+use Rattle.deals.specs.Wants.{needs, firstWants}
+use Rattle.deals.specs.Metrics.{Deal, dealFrom, dealOf}
+use Rattle.deals.specs.Dealing.{granted}
+use Rattle.deals.specs.Properties.{DealBounded}
+use Rattle.deals.specs.SecondDeal.{leastOver, usable, stranded, wantsAfter, firstDeal, firstGrants, firstUsable, firstUsed, secondDeal, secondWants, secondGrants}
+use Rattle.deals.specs.SecondDeal as second
+use Rattle.deals.proofs.Requests.{Dealable}
 use Rattle.deals.proofs.RoomDeals.{parentsOf-length, limitsOf-length, nodesOf-length, levelsOf-length, sharesOf-at, serversOf-at}
-use Rattle.deals.proofs.BothDeals.{cord-facts, lowsOf-length, carriedBy-length, lows-under, dealable, firstWants-lows, secondWants-lows}
+use Rattle.deals.proofs.BothDeals.{cord-facts, lowsOf-length, carriedBy-length, lows-under, first-dealable, second-dealable}
 use Rattle.deals.proofs.Bounds.{bounded}
-use Rattle.deal_by_rank.proofs.RankLoop.{zeros-front}
-use Rattle.room_lists.proofs.Walk.{begun}
+use Rattle.levels.specs.Levels.{LevelLists, RoomCords}
+use Rattle.deal_by_rank.specs.Ranks.{NodeLists, CordLists, DealLists, Spare, DealGiven, SomeDeal, DealMade, lowsUnder}
+use Rattle.reclaim.specs.Reclaimed.{ServerLists, usableFrom, usedFrom, strandedFrom, wantsFrom, freedFrom}
+use Rattle.reclaim.proofs.Reclaiming.{usable-lists}
+use Rattle.room_lists.specs.Lists.{NodesFit, CordRows, nodeColumn, serverColumn, levelColumn, shareColumn}
+use Rattle.layout.specs.Lists.{CordsLaidOut}
+use Rattle.layout.proofs.Rows.{cords-count, node-at, server-at, share-at}
+use Rattle.layout.proofs.Loading.{carried-is}
+use Rattle.plan_rooms.specs.Planning.{RoomLists, PlanMade}
 
--- A list as long as another one that fits.
-pub cords-fit : (table : List ℕ) {m n : ℕ} → m ≡ n → CordsFit table n → CordsFit table m
-cords-fit table e h r end is = e ∙ h r end is
+-- A good table has no more nodes than a room may have.
+pub nodes-few : (table : List ℕ) → Good (checked table 0) → {n : ℕ} → NodesFit table n → n ≤ mostNodes
+nodes-few table g fit = omega (arith, fit (g .value) (g .next) (g .is), accepted table (g .value) (g .next) (g .is) .fewNodes)
 
--- Two lists that fit the room's nodes, or its cords, are as long as each other.
-module _ (table : List ℕ) (g : Good (checked table 0)) where
-  pub nodes-alike : {a b c : ℕ} → NodesFit table a → b ≡ c → NodesFit table c → a ≡ b
-  nodes-alike x e y = x (g .value) (g .next) (g .is) ∙ sym (e ∙ y (g .value) (g .next) (g .is))
+-- ---- A deal of a room, in lists
 
-  pub nodes-few : {a : ℕ} → NodesFit table a → a ≤ mostNodes
-  nodes-few x = omega (arith, x (g .value) (g .next) (g .is), begun (g .is) .most)
-
-  pub cords-alike : {a b : ℕ} → CordsFit table a → CordsFit table b → a ≡ b
-  cords-alike x y = x (g .value) (g .next) (g .is) ∙ sym (y (g .value) (g .next) (g .is))
-
-pub servers-fit : (table : List ℕ) {m n : ℕ} → m ≡ n → ServersFit table n → ServersFit table m
-servers-fit table e h r end is = e ∙ h r end is
-
--- ---- What a deal asks
-
--- Wants that a room can be dealt by: one a cord, from its low to the most watts.
-pub record Wanted (r : Room) (wants : List ℕ) : Type 0 where
-  pub ok : Accepted r
-  pub size : length wants ≡ roomCords r
-  pub least : (c : ℕ) → c < roomCords r → at (lowsOf r) c ≤ at wants c
-  pub most : (c : ℕ) → c < roomCords r → at wants c ≤ mostWatts
-
-module _ (r : Room) {wants : List ℕ} (wanted : Wanted r wants) where
-  room-nodes : NodeLists (parentsOf r) (limitsOf r)
-  unfolding dealOf dealFrom
-  room-nodes =
-      let d = dealable r (wanted .ok) wants (wanted .least) in
-      let b = bounded r (wanted .ok) wants .first in
-      record {
-        few = omega (arith, parentsOf-length r, wanted .ok .fewNodes);
-        limits-size = limitsOf-length r ∙ sym (parentsOf-length r);
-        rises = d .rises;
-        most = b .limits;
-      }
-
-  room-cords : CordLists (length (parentsOf r)) (nodesOf r) (levelsOf r) (lowsOf r) wants
-  unfolding dealOf dealFrom
-  room-cords =
-      let d = dealable r (wanted .ok) wants (wanted .least) in
+-- What a deal asks of a room's lists, with starts and wants by which it is dealable and its figures fit.
+module _ (r : Room) (ok : Accepted r) (starts wants : List ℕ) (starts-size : length starts ≡ roomCords r) (wants-size : length wants ≡ roomCords r)
+    (d : Dealable (dealOf r starts wants)) (b : DealBounded (dealOf r starts wants)) where
+  pub room-lists : DealLists (parentsOf r) (limitsOf r) (nodesOf r) (levelsOf r) (lowsOf r) starts wants
+  unfolding dealOf dealFrom under
+  room-lists =
       let n = nodesOf-length r in
       record {
-        few = omega (arith, n, wanted .ok .fewCords);
-        levels-size = levelsOf-length r ∙ sym n;
-        lows-size = lowsOf-length r ∙ sym n;
-        wants-size = wanted .size ∙ sym n;
-        hangs = λ c l. omega (arith, d .hangs c l);
-        within = d .here;
-        ranked = d .ranks;
-        ordered = d .wants;
-        most = λ c l. wanted .most c (omega arith);
+        of-nodes = record {
+          few = omega (arith, parentsOf-length r, ok .fewNodes);
+          limits-size = limitsOf-length r ∙ sym (parentsOf-length r);
+          rises = d .rises;
+          most = b .limits;
+        };
+        of-cords = record {
+          few = omega (arith, n, ok .fewCords);
+          levels-size = levelsOf-length r ∙ sym n;
+          lows-size = lowsOf-length r ∙ sym n;
+          starts-size = starts-size ∙ sym n;
+          wants-size = wants-size ∙ sym n;
+          hangs = λ c l. omega (arith, d .hangs c l);
+          within = d .here;
+          ranked = d .ranks;
+          least = b .lows;
+          ordered = b .starts;
+          most = b .wants;
+        };
+        lows-within = d .lows;
+        starts-within = b .beneath;
       }
-
-  room-lows : LowsWithin (parentsOf r) (limitsOf r) (nodesOf r) (lowsOf r)
-  unfolding dealOf dealFrom under
-  room-lows = dealable r (wanted .ok) wants (wanted .least) .lows
-
--- The wants of each deal are such.
-module _ (table demands : List ℕ) {wants : List ℕ} where
-  pub first-wanted : OfRoom table (λ r. wants ≡ firstWants r demands) → OfRoom table (λ r. Wanted r wants)
-  unfolding firstWants dealOf dealFrom
-  first-wanted e r end is =
-      let ok = accepted table r end is in
-      rw (e r end is)
-      (record {
-        ok = ok;
-        size = carriedBy-length r (needs r demands);
-        least = firstWants-lows r ok demands;
-        most = λ c l. bounded r ok demands .first .wants c (omega (arith, nodesOf-length r));
-      })
-
-  pub second-wanted : OfRoom table (λ r. wants ≡ secondWants r demands) → OfRoom table (λ r. Wanted r wants)
-  unfolding secondWants wantsAfter dealOf dealFrom
-  second-wanted e r end is =
-      let ok = accepted table r end is in
-      rw (e r end is)
-      (record {
-        ok = ok;
-        size = figures-length (roomCords r) _;
-        least = secondWants-lows r ok demands;
-        most = λ c l. bounded r ok demands .second .wants c (omega (arith, nodesOf-length r));
-      })
 
 -- ---- After a deal, the lists' figures are the room's
 
@@ -130,10 +83,6 @@ module _ (r : Room) where
       leastOver (figures-length (roomCords r) (λ c. cordAt r c .share) i) (λ c. eqb (serversOf-at r c i) v && ltb 0 (sharesOf-at r c i))
       (λ c. r .scale * at grants c / sharesOf-at r c i) (at needed v))
 
-  used-is : (loads : List ℕ) → usedFrom (r .scale) (sharesOf r) (serversOf r) loads ≡ carriedBy r loads
-  unfolding carriedBy
-  used-is loads = λ i. figures (figures-length (roomCords r) (λ c. cordAt r c .share) i) (λ c. carried (r .scale) (sharesOf-at r c i) (at loads (serversOf-at r c i)))
-
   module _ (used grants : List ℕ) (e : length used ≡ roomCords r) where
     stranded-is : strandedFrom used grants ≡ stranded r grants used
     unfolding stranded
@@ -143,175 +92,130 @@ module _ (r : Room) where
     unfolding wantsAfter stranded
     wants-is wants = ap (λ (n : ℕ). figures n (λ c. cond (ltb 0 (at (figures n (λ c. at grants c - at used c)) c)) (at used c) (at wants c))) e
 
--- ---- What the calls ask of the room's lists, and what they leave in them
+-- ---- Both deals
 
-module _ (table demands : List ℕ) {parents limits nodes levels lows wants shares servers needed : List ℕ} {scale : ℕ}
-    (of-nodes : OfRoom table (λ r. (parents ≡ parentsOf r) × (limits ≡ limitsOf r)))
-    (of-cords : OfRoom table (λ r. CordsLaidOut r demands nodes levels lows wants shares servers needed scale)) where
-  module _ (r : Room) (end : ℕ) (is : checked table 0 ≡ good r end) where
-    needs-size : length needed ≡ length (r .servers)
-    unfolding needs
-    needs-size = ap length (of-cords r end is .needs-are) ∙ figures-length (length (r .servers)) _
+module _ {r : Room} (ok : Accepted r) {demands parents spare : List ℕ} {cords : List (List ℕ)} {nodes lows wants needed : List ℕ} {scale : ℕ}
+    (of : RoomLists r demands parents spare cords nodes lows wants needed scale) where
+  abbrev rows : CordRows r cords
+  rows = of .cords-are .rows-are
 
-    deal-lists : {given : List ℕ} {grantCount : ℕ} → Wanted r given → grantCount ≡ roomCords r → DealLists parents limits nodes levels lows given grantCount
-    deal-lists wanted g =
-        let l = of-cords r end is in
-        rw (of-nodes r end is .0, of-nodes r end is .1, l .nodes-are, l .levels-are, l .lows-are)
-        (record { of-nodes = room-nodes r wanted; of-cords = room-cords r wanted; lows-within = room-lows r wanted; grants-size = g ∙ sym (nodesOf-length r) })
+  needs-size : length needed ≡ length (r .servers)
+  unfolding needs
+  needs-size = ap length (of .cords-are .needs-are) ∙ figures-length (length (r .servers)) _
 
-    server-lists : {grantCount : ℕ} → grantCount ≡ roomCords r → ServerLists scale shares servers needed grantCount
-    server-lists g =
-        let l = of-cords r end is in
-        let ok = accepted table r end is in
-        let n = figures-length (roomCords r) (λ c. cordAt r c .share) in
-        rw (l .scale-is, l .shares-are, l .servers-are)
+  pub cord-count : length cords ≡ length nodes
+  cord-count = cords-count rows ∙ sym (ap length (of .cords-are .nodes-are) ∙ nodesOf-length r)
+
+  pub wants-count : length wants ≡ length nodes
+  unfolding firstWants
+  wants-count = ap length (of .cords-are .wants-are) ∙ carriedBy-length r (needs r demands) ∙ sym (ap length (of .cords-are .nodes-are) ∙ nodesOf-length r)
+
+  pub lists-first : DealLists (parentsOf r) (limitsOf r) (nodesOf r) (levelsOf r) (lowsOf r) (lowsOf r) (firstWants r demands)
+  unfolding firstDeal firstWants
+  lists-first =
+      room-lists r ok (lowsOf r) (firstWants r demands) (lowsOf-length r) (carriedBy-length r (needs r demands)) (first-dealable r ok demands) (bounded r ok demands .first)
+
+  used-size : length (firstUsed r demands) ≡ roomCords r
+  unfolding firstUsed
+  used-size = carriedBy-length r (firstUsable r demands)
+
+  pub lists-second : DealLists (parentsOf r) (limitsOf r) (nodesOf r) (levelsOf r) (lowsOf r) (firstUsed r demands) (secondWants r demands)
+  unfolding secondDeal secondWants wantsAfter
+  lists-second =
+      room-lists r ok (firstUsed r demands) (secondWants r demands) used-size (figures-length (roomCords r) _) (second-dealable r ok demands) (bounded r ok demands .second)
+
+  -- What is asked of the levels, and what they leave.
+  pub levels-nodes : (length parents ≤ mostNodes) × ((m : ℕ) → m < length parents → at parents m ≤ m)
+  levels-nodes = rw (of .parents-are) (lists-first .of-nodes .few, lists-first .of-nodes .rises)
+
+  pub levels-cords : RoomCords (length parents) cords
+  levels-cords =
+      let n = nodesOf-length r in
+      let count : (c : ℕ) → c < length cords → c < length (nodesOf r) = λ c l. omega (arith, cords-count rows) in
+      rw (of .parents-are)
+      (record {
+        few = omega (arith, cords-count rows, ok .fewCords);
+        within = λ c l.
+            omega (arith, column-at nodeColumn cords c, ap (λ (l : List ℕ). at l c) (rows .nodes), lists-first .of-cords .within c (count c l));
+        ranked = λ c l.
+            omega (arith, column-at levelColumn cords c, ap (λ (l : List ℕ). at l c) (rows .levels), lists-first .of-cords .ranked c (count c l));
+      })
+
+  module _ {bounds : List (List ℕ)} {order : List ℕ} {actives : List (List ℕ)} (listed : LevelLists parents (column nodeColumn cords) (column levelColumn cords) bounds order actives) where
+    spared : {left : List ℕ} → left ≡ spare → Spare (parentsOf r) (limitsOf r) (nodesOf r) (lowsOf r) left
+    spared e = rw e
         (record {
-          scaled = ok .scaled;
-          few = omega (arith, n, ok .fewCords);
-          servers-size = figures-length (roomCords r) _ ∙ sym n;
-          grants-size = g ∙ sym n;
-          within = λ c h. omega (arith, serversOf-at r c, cord-facts r ok c (omega arith) .0, needs-size);
-          parts = λ c h. omega (arith, sharesOf-at r c, cord-facts r ok c (omega arith) .3);
-          most = λ v h. rw (l .needs-are) (bounded r ok demands .needs v (omega (arith, needs-size)));
+          size = of .spare-size ∙ ap length (of .parents-are);
+          over = λ n l. omega (arith, of .spare-is n (omega (arith, parentsOf-length r)), lows-under r ok n);
         })
 
-    grants-are : (given : List ℕ) {grants : List ℕ} → grants ≡ granted (dealFrom parents limits nodes levels lows given) → grants ≡ grantsBy r given
-    unfolding grantsBy dealOf
-    grants-are given e =
-        let l = of-cords r end is in
-        e ∙ rw (of-nodes r end is .0, of-nodes r end is .1, l .nodes-are, l .levels-are, l .lows-are)
+    by-level : LevelLists (parentsOf r) (nodesOf r) (levelsOf r) bounds order actives
+    by-level = rw (sym (of .parents-are), sym (rows .nodes), sym (rows .levels)) listed
 
-    usable-are : (grants : List ℕ) {watts : List ℕ} → watts ≡ usableFrom scale shares servers needed grants → watts ≡ usable r (needs r demands) grants
-    usable-are grants e =
-        let l = of-cords r end is in
-        e ∙ rw (l .scale-is, l .shares-are, l .servers-are) (usable-is r needed grants needs-size) ∙ ap (λ (n : List ℕ). usable r n grants) (l .needs-are)
+    -- What the first deal asks, and what it leaves; likewise the second.
+    pub first-given : {left : List ℕ} → left ≡ spare → DealGiven parents bounds order actives nodes lows lows wants left (limitsOf r) (levelsOf r)
+    first-given e =
+        let l = of .cords-are in
+        rw (of .parents-are, l .nodes-are, l .lows-are, l .wants-are) (record { lists = lists-first; by-level = by-level; spared = spared e })
 
-  module _ (g : Good (checked table 0)) where
-    -- The limits against the lows beneath the nodes, and what they have over them.
-    module _ (sums : List ℕ) (fit : NodesFit table (length sums)) (has : HasLowsBeneath table sums) where
-      node-count : length parents ≡ length (g .value .nodes)
-      node-count = ap length (of-nodes (g .value) (g .next) (g .is) .0) ∙ parentsOf-length (g .value)
+    pub first-made : {requests : List (List ℕ)} {grants : List ℕ} → DealMade (dealFrom parents (limitsOf r) nodes (levelsOf r) lows lows wants) requests grants
+        → grants ≡ firstGrants r demands
+    unfolding firstGrants firstDeal dealOf
+    first-made made =
+        let l = of .cords-are in
+        made .grants-are ∙ rw (of .parents-are, l .nodes-are, l .lows-are, l .wants-are)
 
-      lows-there : (n : ℕ) → n < length parents → at sums n ≡ lowsUnder parents nodes lows n
-      lows-there n l =
-          let r = g .value in
-          let c = of-cords r (g .next) (g .is) in
-          has r (g .next) (g .is) n (omega (arith, node-count))
-          ∙ sym (rw (of-nodes r (g .next) (g .is) .0, c .nodes-are, c .lows-are) (lows-under r (accepted table r (g .next) (g .is)) n))
+    pub second-given : {left starts given : List ℕ} → left ≡ spare → starts ≡ firstUsed r demands → given ≡ secondWants r demands
+        → DealGiven parents bounds order actives nodes lows starts given left (limitsOf r) (levelsOf r)
+    second-given e es ew =
+        let l = of .cords-are in
+        rw (of .parents-are, l .nodes-are, l .lows-are, es, ew) (record { lists = lists-second; by-level = by-level; spared = spared e })
 
-      pub spare-asks : {size : ℕ} → NodesFit table size → NodeLists parents limits → LowsWithin parents limits nodes lows
-          → (size ≡ length limits) × (length sums ≡ length limits) × ((n : ℕ) → n < length limits → at sums n ≤ at limits n)
-      spare-asks spare ns within =
-          let count = ns .limits-size ∙ node-count in (
-            spare (g .value) (g .next) (g .is) ∙ sym count,
-            fit (g .value) (g .next) (g .is) ∙ sym count,
-            λ n l. omega (arith, lows-there n (omega (arith, ns .limits-size)), within n (omega (arith, ns .limits-size))),
-          )
+    pub second-made : {starts given : List ℕ} {requests : List (List ℕ)} {grants : List ℕ} → starts ≡ firstUsed r demands → given ≡ secondWants r demands
+        → DealMade (dealFrom parents (limitsOf r) nodes (levelsOf r) lows starts given) requests grants → grants ≡ secondGrants r demands
+    unfolding secondGrants secondDeal dealOf
+    second-made es ew made =
+        let l = of .cords-are in
+        made .grants-are ∙ rw (of .parents-are, l .nodes-are, l .lows-are, es, ew)
 
-      pub spare-is : {size : ℕ} {spare : List ℕ} → NodesFit table size → NodeLists parents limits → length spare ≡ size
-          → ((n : ℕ) → n < length limits → at spare n + at sums n ≡ at limits n) → Spare parents limits nodes lows spare
-      spare-is lent ns size over = record {
-        size = size ∙ lent (g .value) (g .next) (g .is) ∙ sym node-count;
-        over = λ n l. omega (arith, over n (omega (arith, ns .limits-size)), lows-there n l);
+  -- What is asked after a deal, and what the servers can use of its grants.
+  pub server-lists : {grantCount : ℕ} → grantCount ≡ length nodes → ServerLists scale cords needed grantCount
+  server-lists g =
+      let n = cords-count rows in
+      record {
+        scaled = rw (of .scale-is) (ok .scaled);
+        few = omega (arith, n, ok .fewCords);
+        grants-size = g ∙ sym cord-count;
+        within = λ c h. omega (arith, server-at rows c, cord-facts r ok c (omega arith) .0, needs-size);
+        parts = λ c h. omega (arith, of .scale-is, share-at rows c, cord-facts r ok c (omega arith) .3);
+        most = λ v h. rw (of .cords-are .needs-are) (bounded r ok demands .needs v (omega (arith, needs-size)));
       }
 
-    -- A deal by wants that the room can be dealt by.
-    pub deal-asks : {given : List ℕ} {grantCount usableCount : ℕ} → OfRoom table (λ r. Wanted r given) → CordsFit table grantCount → ServersFit table usableCount
-        → DealLists parents limits nodes levels lows given grantCount × (ServerLists scale shares servers needed grantCount × (usableCount ≡ length needed))
-    deal-asks wanted cords caps =
-        let r = g .value in
-        let fit = cords r (g .next) (g .is) in (
-          deal-lists r (g .next) (g .is) (wanted r (g .next) (g .is)) fit,
-          (server-lists r (g .next) (g .is) fit, caps r (g .next) (g .is) ∙ sym (needs-size r (g .next) (g .is))),
-        )
+  pub usable-are : (grants : List ℕ) {watts : List ℕ} → watts ≡ usableFrom scale (column shareColumn cords) (column serverColumn cords) needed grants → watts ≡ usable r (needs r demands) grants
+  usable-are grants e =
+      e ∙ rw (of .scale-is, rows .shares, rows .servers) (usable-is r needed grants needs-size) ∙ ap (λ (n : List ℕ). usable r n grants) (of .cords-are .needs-are)
 
   -- After the first deal, with its grants and what the servers can use of them.
-  module _ {grants watts : List ℕ} (dealt : grants ≡ granted (dealFrom parents limits nodes levels lows wants)) (by : watts ≡ usableFrom scale shares servers needed grants) where
-    module _ (r : Room) (end : ℕ) (is : checked table 0 ≡ good r end) where
-      first-grants : grants ≡ firstGrants r demands
-      unfolding firstGrants
-      first-grants = grants-are r end is wants dealt ∙ ap (grantsBy r) (of-cords r end is .wants-are)
+  module _ {grants watts : List ℕ} (dealt : grants ≡ firstGrants r demands) (by : watts ≡ usableFrom scale (column shareColumn cords) (column serverColumn cords) needed grants) where
+    pub reclaim-asks : {grantCount : ℕ} → grantCount ≡ length nodes → ServerLists scale cords watts grantCount
+    reclaim-asks g = rw by (usable-lists grants (server-lists g))
 
-      first-used : usedFrom scale shares servers watts ≡ firstUsed r demands
-      unfolding firstUsed firstUsable
-      first-used =
-          let l = of-cords r end is in
-          rw (l .scale-is, l .shares-are, l .servers-are) (used-is r watts)
-          ∙ ap (carriedBy r) (usable-are r end is grants by ∙ ap (usable r (needs r demands)) first-grants)
+    pub first-used : {used : List ℕ} → used ≡ usedFrom scale (column shareColumn cords) (column serverColumn cords) watts → used ≡ firstUsed r demands
+    unfolding firstUsed firstUsable
+    first-used e =
+        e ∙ rw (of .scale-is, rows .shares, rows .servers) (carried-is r watts) ∙ ap (carriedBy r) (usable-are grants by ∙ ap (usable r (needs r demands)) dealt)
 
-      used-size : length (firstUsed r demands) ≡ roomCords r
-      unfolding firstUsed
-      used-size = carriedBy-length r (firstUsable r demands)
-
-    freed-is : {freed : ℕ} → freed ≡ sumOf (strandedFrom (usedFrom scale shares servers watts) grants) → OfRoom table (λ r. freed ≡ second.freed r demands)
+    pub freed-is : {freed : ℕ} → freed ≡ freedFrom scale (column shareColumn cords) (column serverColumn cords) watts grants → freed ≡ second.freed r demands
     unfolding second.freed
-    freed-is e r end is = e ∙ rw (first-used r end is, first-grants r end is) (ap sumOf (stranded-is r (firstUsed r demands) (firstGrants r demands) (used-size r end is)))
+    freed-is e = e ∙ rw (first-used refl, dealt) (ap sumOf (stranded-is r (firstUsed r demands) (firstGrants r demands) used-size))
 
-    pub second-wants : {given : List ℕ} → given ≡ wantsFrom (usedFrom scale shares servers watts) grants wants → OfRoom table (λ r. given ≡ secondWants r demands)
+    pub second-wants : {given : List ℕ} → given ≡ wantsFrom (usedFrom scale (column shareColumn cords) (column serverColumn cords) watts) grants wants → given ≡ secondWants r demands
     unfolding secondWants
-    second-wants e r end is =
-        e
-        ∙ rw (first-used r end is, first-grants r end is, of-cords r end is .wants-are)
-        (wants-is r (firstUsed r demands) (firstGrants r demands) (used-size r end is) (firstWants r demands))
+    second-wants e =
+        e ∙ rw (first-used refl, dealt, of .cords-are .wants-are) (wants-is r (firstUsed r demands) (firstGrants r demands) used-size (firstWants r demands))
 
-  -- After the second.
-  module _ {given grants : List ℕ} (wanted : OfRoom table (λ r. given ≡ secondWants r demands)) (dealt : grants ≡ granted (dealFrom parents limits nodes levels lows given)) where
-    second-grants : OfRoom table (λ r. grants ≡ secondGrants r demands)
-    unfolding secondGrants
-    second-grants r end is = grants-are r end is given dealt ∙ ap (grantsBy r) (wanted r end is)
-
-    caps-are : {caps : List ℕ} → caps ≡ usableFrom scale shares servers needed grants → OfRoom table (λ r. caps ≡ second.caps r demands)
-    unfolding second.caps
-    caps-are e r end is = usable-are r end is grants e ∙ ap (usable r (needs r demands)) (second-grants r end is)
-
-  -- After both: the plan.
-  pub planned : {freed : ℕ} {grants caps : List ℕ} → DealtTwice scale parents limits nodes levels lows wants shares servers needed freed grants caps → Planning table demands freed grants caps
-  planned made =
-      let second = second-wants refl refl refl in
-      record {
-        freed-is = freed-is refl refl (made .freed-is);
-        grants-are = second-grants second (made .grants-are);
-        caps-are = caps-are second (made .grants-are) (made .usable-are);
-      }
-
--- ---- The lists that are lent
-
-module _ (table : List ℕ) (g : Good (checked table 0)) where
-  pub nodes-most : (n : ℕ) → NodesFit table n → n ≤ mostNodes
-  nodes-most n e = omega (arith, begun (g .is) .most, e (g .value) (g .next) (g .is))
-
-  pub cords-most : (k : ℕ) → CordsFit table k → k ≤ mostCords
-  cords-most k h = omega (arith, h (g .value) (g .next) (g .is), accepted table (g .value) (g .next) (g .is) .fewCords)
-
-  pub servers-most : (k : ℕ) → ServersFit table k → k ≤ mostServers
-  servers-most k h = omega (arith, h (g .value) (g .next) (g .is), accepted table (g .value) (g .next) (g .is) .fewServers)
-
-  -- Lists of zeros are lent to that length.
-  pub nodes-front : (n : ℕ) → NodesFit table n → n ≡ length {A = ℕ} (take n (replicate mostNodes 0))
-  nodes-front n e = sym (zeros-front mostNodes n (nodes-most n e))
-
-  pub cords-front : (k : ℕ) → CordsFit table k → k ≡ length {A = ℕ} (take k (replicate mostCords 0))
-  cords-front k h = sym (zeros-front mostCords k (cords-most k h))
-
-  pub servers-front : (k : ℕ) → ServersFit table k → k ≡ length {A = ℕ} (take k (replicate mostServers 0))
-  servers-front k h = sym (zeros-front mostServers k (servers-most k h))
-
-  pub nodes-lent : (n : ℕ) → NodesFit table n → NodesFit table (length {A = ℕ} (take n (replicate mostNodes 0)))
-  nodes-lent n e r end is = sym (nodes-front n e) ∙ e r end is
-
-  pub cords-lent : (k : ℕ) → CordsFit table k → CordsFit table (length {A = ℕ} (take k (replicate mostCords 0)))
-  cords-lent k h = cords-fit table (sym (cords-front k h)) h
-
-  pub servers-lent : (k : ℕ) → ServersFit table k → ServersFit table (length {A = ℕ} (take k (replicate mostServers 0)))
-  servers-lent k h = servers-fit table (sym (servers-front k h)) h
-
-  -- The list with the lows beneath each node is lent to that length too.
-  module _ (n : ℕ) (e : NodesFit table n) (list : List ℕ) (long : mostNodes ≤ length list) where
-    pub lows-front : n ≡ length (take n list)
-    lows-front = sym (length-take-le n list (omega (arith, nodes-most n e)))
-
-    pub lows-lent : NodesFit table (length (take n list))
-    lows-lent r end is = sym lows-front ∙ e r end is
-
-    pub lows-still : HasLowsBeneath table list → HasLowsBeneath table (take n list)
-    lows-still has r end is i l = getD-take n list i 0 (omega (arith, e r end is)) ∙ has r end is i l
+  -- After the second: the caps.
+  pub caps-are : {grants caps : List ℕ} → grants ≡ secondGrants r demands → caps ≡ usableFrom scale (column shareColumn cords) (column serverColumn cords) needed grants
+      → caps ≡ second.caps r demands
+  unfolding second.caps
+  caps-are {grants} dealt e = usable-are grants e ∙ ap (usable r (needs r demands)) dealt

@@ -1,34 +1,42 @@
 -- Both deals of a room: what the contracts of `plan_rooms` cite.
 use mathlib.Core.Path.{_≡_}
 use mathlib.Core.List.{List}
-use Prim.Native.Nat.{ℕ, _<_}
+use Prim.Native.Nat.{ℕ, _+_, _<_}
 use lib.ListN.{length}
-use Rattle.rooms.specs.Limits.{lowsBeneath}
+use Rattle.rooms.specs.Part.{good}
+use Rattle.rooms.specs.Table.{Room}
+use Rattle.rooms.specs.Limits.{checked, lowsBeneath}
+use Rattle.rooms.specs.Lists.{parentsOf, limitsOf}
 use Rattle.figures.specs.Figures.{at}
-use Rattle.deals.specs.Metrics.{dealFrom}
-use Rattle.deals.specs.Wants.{needs}
-use Rattle.deals.specs.Dealing.{granted}
 use Rattle.deals.specs.SecondDeal.{freed, secondGrants}
 use Rattle.deals.specs.SecondDeal as second
 use Rattle.room_lists.specs.Lists.{OfRoom}
-use Rattle.reclaim.specs.Reclaimed.{usableFrom, freedFrom, wantsNext}
+use Rattle.layout.specs.Lists.{CordsLaidOut}
 
--- A list has at each node's place the lows of all cords beneath the node.
-abbrev pub HasLowsBeneath : List ℕ → List ℕ → Type 0
-HasLowsBeneath table list = OfRoom table (λ r. (n : ℕ) → n < length (r .nodes) → at list n ≡ lowsBeneath r n)
+-- The lists are those of a room, with given demands: its nodes' parents and what their limits have over the lows beneath, its cords
+-- and its servers' needs, with the wants of the first deal, and its scale.
+pub record RoomLists (r : Room) (demands parents spare : List ℕ) (cords : List (List ℕ)) (nodes lows wants needed : List ℕ) (scale : ℕ) : Type 0 where
+  pub parents-are : parents ≡ parentsOf r
+  pub spare-size : length spare ≡ length parents
+  pub spare-is : (n : ℕ) → n < length (r .nodes) → at spare n + lowsBeneath r n ≡ at (limitsOf r) n
+  pub cords-are : CordsLaidOut r demands cords nodes lows wants needed
+  pub scale-is : scale ≡ r .scale
 
--- What both deals leave, by the wants of the first: the watts freed by its grants, the grants of the second, and what each server can
--- use of these.
-pub record DealtTwice (scale : ℕ) (parents limits nodes levels lows wants shares servers needs : List ℕ) (freed : ℕ) (grants usable : List ℕ) : Type 0 where
-  pub freed-is :
-      freed
-      ≡ freedFrom scale shares servers (usableFrom scale shares servers needs (granted (dealFrom parents limits nodes levels lows wants))) (granted (dealFrom parents limits nodes levels lows wants))
-  pub grants-are :
-      grants ≡ granted (dealFrom parents limits nodes levels lows (wantsNext scale shares servers needs (granted (dealFrom parents limits nodes levels lows wants)) wants))
-  pub usable-are : usable ≡ usableFrom scale shares servers needs grants
+-- They are those of the room of some good table with some demands.
+pub record SomeRoom (parents spare : List ℕ) (cords : List (List ℕ)) (nodes lows wants needed : List ℕ) (scale : ℕ) : Type 0 where
+  pub table : List ℕ
+  pub demands : List ℕ
+  pub room : Room
+  pub end : ℕ
+  pub is : checked table 0 ≡ good room end
+  pub lists : RoomLists room demands parents spare cords nodes lows wants needed scale
 
--- The freed watts, the grants and the caps of a good table with given demands.
-pub record Planning (table demands : List ℕ) (watts : ℕ) (grants caps : List ℕ) : Type 0 where
-  pub freed-is : OfRoom table (λ r. watts ≡ freed r demands)
-  pub grants-are : OfRoom table (λ r. grants ≡ secondGrants r demands)
-  pub caps-are : OfRoom table (λ r. caps ≡ second.caps r demands)
+-- The freed watts, the grants and the caps of a room with given demands.
+pub record PlanMade (r : Room) (demands : List ℕ) (watts : ℕ) (grants caps : List ℕ) : Type 0 where
+  pub freed-is : watts ≡ freed r demands
+  pub grants-are : grants ≡ secondGrants r demands
+  pub caps-are : caps ≡ second.caps r demands
+
+-- Those of a good table.
+abbrev pub Planning : List ℕ → List ℕ → ℕ → List ℕ → List ℕ → Type 0
+Planning table demands watts grants caps = OfRoom table (λ r. PlanMade r demands watts grants caps)

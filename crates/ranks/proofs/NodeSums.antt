@@ -1,5 +1,4 @@
--- Laws of figures summed on nodes: of the pass from the last node to the first that sums over all nodes beneath each, and of what the
--- limits have over such sums.
+-- Laws of figures summed on nodes: of the pass from the last node to the first that sums over all nodes beneath each.
 use mathlib.Core.Path.{_≡_, refl, sym, ap, _∙_}
 use mathlib.Core.Bool.{Bool, true, false}
 use mathlib.Core.List.{List}
@@ -7,9 +6,8 @@ use Prim.Native.Nat.{ℕ, zero, suc, _+_, _-_, _*_, _^_, _≤_, _<_}
 use native.Mathlib.Nat.{add-zero, mul-le-mul, lt-of-le-of-lt}
 use native.Mathlib.Omega.{arith}
 use lib.Dec.{eqb, lit<}
-use lib.ListN.{length, set, length-set}
-use lib.Seq.{set-getD, getD-set-same, getD-set-other}
-use borrow.Author.Count.{below-more}
+use lib.ListN.{length, set}
+use lib.Seq.{set-getD}
 use borrow.Author.Tests.{eqb-true}
 use Rattle.figures.specs.Sums.{on, sum}
 use Rattle.rooms.specs.Table.{mostCords, mostWatts}
@@ -119,28 +117,6 @@ module _ {parents start : List ℕ} (rises : Rises parents) where
   pub summing-idle : {m : ℕ} {sums : List ℕ} → length start ≡ length parents → beneathAll parents start m ≡ 0 → Summing parents start (suc m) sums → Summing parents start m sums
   summing-idle {m} {sums} h none inv =
       summing-at h inv refl (sym (ap (λ (x : ℕ). credited (at parents m) x sums) (whole-at inv ∙ none) ∙ credited-nothing (at parents m) sums))
-
--- ---- What the limits have over the lows beneath
-
--- Before the turn of the node at place n: the nodes before it have what their limits have over the lows beneath them.
-pub record SpareTurn (limits beneath : List ℕ) (n : ℕ) (spare : List ℕ) : Type 0 where
-  pub reached : n ≤ length limits
-  pub size : length spare ≡ length limits
-  pub done : (m : ℕ) → m < n → at spare m + at beneath m ≡ at limits m
-
-module _ {limits beneath : List ℕ} where
-  pub spare-start : {spare : List ℕ} → length spare ≡ length limits → SpareTurn limits beneath 0 spare
-  spare-start size = record { reached = omega arith; size = size; done = λ m l. absurd (omega arith) }
-
-  pub spare-turn : {n over : ℕ} {spare : List ℕ} → SpareTurn limits beneath n spare → n < length limits → at beneath n ≤ at limits n → over ≡ at limits n - at beneath n
-      → SpareTurn limits beneath (n + 1) (set spare n over)
-  spare-turn {n} {over} {spare} t more within is = record {
-    reached = omega arith;
-    size = length-set spare n over ∙ t .size;
-    done = below-more (λ m. at (set spare n over) m + at beneath m ≡ at limits m) n
-        (λ m l. omega (arith, getD-set-other spare n m over 0 (λ e. omega arith), t .done m l))
-        (omega (arith, getD-set-same spare n over 0 (omega (arith, t .size))));
-  }
 
 -- One more figure is within a sum over more places.
 pub sum-within : (k m : ℕ) (g : ℕ → ℕ) → k < m → sum k g + g k ≤ sum m g

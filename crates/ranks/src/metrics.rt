@@ -1,4 +1,4 @@
-// What the limits have over all lows; and one rank's Pcapmin and Requests, summed on the nodes from the cords up to the roots.
+// One rank's Pcapmin and Requests, summed on the nodes from the cords up to the roots.
 ghost use mathlib.Core.Path.{_≡_};
 ghost use Prim.Native.Nat.{ℕ, _+_, _-_, _*_, _^_, _≤_, _<_};
 ghost use lib.ListN.{length, replicate};
@@ -63,16 +63,6 @@ pub fn sum_cords(
         credit(pcapmins, node, wide(lows[c]));
         credit(bases, node, wide(start));
         credit(wholes, node, wide(wants[c] - start));
-    }
-}
-
-// What each node's limit has over all lows beneath it.
-pub fn spare_limits(limits: &[u32], beneath: &[u64], spare: &mut [u32])
-    requires { ⌜ (length (now spare) ≡ length (now limits)) × (length (now beneath) ≡ length (now limits)) × ((n : ℕ) → n < length (now limits) → at (now beneath) n ≤ at (now limits) n) ⌝ }
-    ensures { λ _. ⌜ ((n : ℕ) → n < length (now (limits .entry)) → at (now (spare .exit)) n + at (now (beneath .entry)) n ≡ at (now (limits .entry)) n) ⌝ }
-{
-    for n in 0..limits.len() {
-        spare[n] = narrow(wide(limits[n]) - beneath[n]);
     }
 }
 

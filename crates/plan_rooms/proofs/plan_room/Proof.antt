@@ -1,121 +1,338 @@
--- `plan_room` meets its contract: it lends lists of zeros as long as the room's nodes, cords and servers are many, and as much of the
--- list of the lows.
-use Rattle.plan_rooms.proofs.Planning.{nodes-most, cords-most, servers-most, nodes-front, cords-front, servers-front, nodes-lent, cords-lent, servers-lent, lows-front, lows-lent, lows-still}
-use Rattle.deal_by_rank.proofs.RankLoop.{zeros-rows, zeros-cells}
+-- `plan_room` meets its contract: the room's lists are loaded, and both deals are made of them.
+use mathlib.Core.Path.{_≡_, sym, _∙_}
+use mathlib.Core.List.{List, _++_}
+use Prim.Native.Nat.{ℕ, _≤_}
+use native.Mathlib.Omega.{arith}
+use lib.ListN.{length, take, drop, replicate, length-replicate}
+use lib.Seq.{getD-take, length-take-le, length-front, take-at}
+use Rattle.rooms.specs.Part.{Good, good}
+use Rattle.rooms.specs.Table.{Room, mostNodes, mostServers, mostCords}
+use Rattle.rooms.specs.Limits.{checked}
+use Rattle.room_lists.specs.Lists.{ScaleIs}
+use Rattle.room_lists.proofs.Lent.{servers-few, cords-few, cords-front, cords-lent}
+use Rattle.levels.proofs.Cells.{zeros-front}
+use Rattle.deal_by_rank.proofs.RankLoop.{front-length, front-again, front-size, zeros-length}
+use Rattle.plan_rooms.specs.Planning.{RoomLists}
+use Rattle.plan_rooms.proofs.Planning.{nodes-few}
 use borrow.Author.Needs.{needs}
 use Rattle.plan_rooms.proofs.plan_room.Statement.{statement}
 use Rattle.plan_rooms.proofs.plan_room.Tie as tie
 
+abbrev Start : Type 0
+Start = tie.Start
+
+abbrev table-of : Start → List ℕ
+table-of s = s .args .table .now
+
+abbrev good-of : (s : Start) → Good (checked (table-of s) 0)
+good-of s = s .pre .0
+
+abbrev cords-k : Start → ℕ
+cords-k s = length (s .args .grants .now)
+
+abbrev servers-v : Start → ℕ
+servers-v s = length (s .args .demands .now)
+
+cords-fit : (s : Start) → cords-k s ≤ mostCords
+cords-fit s = cords-few (table-of s) (good-of s) (s .pre .1 .1)
+
+servers-fit : (s : Start) → servers-v s ≤ mostServers
+servers-fit s = servers-few (table-of s) (good-of s) (s .pre .1 .0)
+
+-- After the count of nodes.
+abbrev Counted : Type 0
+Counted = tie.After-node-count
+
+abbrev start-n : Counted → Start
+start-n n = n .before .before .before .before .before .before
+
+nodes-fit : (n : Counted) → n .node-count .result ≤ mostNodes
+nodes-fit n = nodes-few (table-of (start-n n)) (good-of (start-n n)) (n .node-count .ensures .0)
+
+beneath-long : (n : Counted) → n .node-count .result ≤ length (start-n n .args .beneath .now)
+beneath-long n = omega (arith, nodes-fit n, start-n n .pre .1 .3)
+
+-- After `load_nodes`.
+abbrev Nodes : Type 0
+Nodes = tie.After-load-nodes
+
+abbrev counted-n : Nodes → Counted
+counted-n x = x .before .before .before .before
+
+abbrev count-n : Nodes → ℕ
+count-n x = counted-n x .node-count .result
+
+abbrev parents-of : Nodes → List ℕ
+parents-of x = x .load-nodes .last .1 .1 .0
+
+abbrev parents-after : Nodes → List ℕ
+parents-after x = parents-of x ++ drop (count-n x) (replicate mostNodes 0)
+
+parents-back : (x : Nodes) → length (parents-of x) ≡ count-n x
+parents-back x = x .load-nodes .kept .1 .1 .0 ∙ zeros-front mostNodes _ (nodes-fit (counted-n x))
+
+parents-long : (x : Nodes) → count-n x ≤ length (parents-after x)
+parents-long x =
+    omega (arith, nodes-fit (counted-n x), zeros-length mostNodes, front-size (count-n x) (parents-of x) (replicate mostNodes 0) (parents-back x) (omega (arith, nodes-fit (counted-n x), zeros-length mostNodes)))
+
+parents-again : (x : Nodes) → take (count-n x) (parents-after x) ≡ parents-of x
+parents-again x = front-again (count-n x) (parents-of x) (drop (count-n x) (replicate mostNodes 0)) (parents-back x)
+
+abbrev spare-of : Nodes → List ℕ
+spare-of x = x .load-nodes .last .1 .1 .1 .0
+
+abbrev spare-after : Nodes → List ℕ
+spare-after x = spare-of x ++ drop (count-n x) (replicate mostNodes 0)
+
+spare-back : (x : Nodes) → length (spare-of x) ≡ count-n x
+spare-back x = x .load-nodes .kept .1 .1 .1 .0 ∙ zeros-front mostNodes _ (nodes-fit (counted-n x))
+
+spare-long : (x : Nodes) → count-n x ≤ length (spare-after x)
+spare-long x =
+    omega (arith, nodes-fit (counted-n x), zeros-length mostNodes, front-size (count-n x) (spare-of x) (replicate mostNodes 0) (spare-back x) (omega (arith, nodes-fit (counted-n x), zeros-length mostNodes)))
+
+spare-again : (x : Nodes) → take (count-n x) (spare-after x) ≡ spare-of x
+spare-again x = front-again (count-n x) (spare-of x) (drop (count-n x) (replicate mostNodes 0)) (spare-back x)
+
+-- After `load_cords`.
+abbrev Cords : Type 0
+Cords = tie.After-load-cords
+
+abbrev nodes-c : Cords → Nodes
+nodes-c y = y .before .before .before .before .before .before .before .before
+
+abbrev start-c : Cords → Start
+start-c y = start-n (counted-n (nodes-c y))
+
+abbrev nodes-of : Cords → List ℕ
+nodes-of y = y .load-cords .last .1 .1 .1 .0
+
+abbrev nodes-after : Cords → List ℕ
+nodes-after y = nodes-of y ++ drop (cords-k (start-c y)) (replicate mostCords 0)
+
+nodes-back : (y : Cords) → length (nodes-of y) ≡ cords-k (start-c y)
+nodes-back y = y .load-cords .kept .1 .1 .1 .0 ∙ zeros-front mostCords _ (cords-fit (start-c y))
+
+nodes-long : (y : Cords) → cords-k (start-c y) ≤ length (nodes-after y)
+nodes-long y =
+    omega (arith, cords-fit (start-c y), zeros-length mostCords, front-size (cords-k (start-c y)) (nodes-of y) (replicate mostCords 0) (nodes-back y) (omega (arith, cords-fit (start-c y), zeros-length mostCords)))
+
+nodes-again : (y : Cords) → take (cords-k (start-c y)) (nodes-after y) ≡ nodes-of y
+nodes-again y = front-again (cords-k (start-c y)) (nodes-of y) (drop (cords-k (start-c y)) (replicate mostCords 0)) (nodes-back y)
+
+abbrev lows-of : Cords → List ℕ
+lows-of y = y .load-cords .last .1 .1 .1 .1 .0
+
+abbrev lows-after : Cords → List ℕ
+lows-after y = lows-of y ++ drop (cords-k (start-c y)) (replicate mostCords 0)
+
+lows-back : (y : Cords) → length (lows-of y) ≡ cords-k (start-c y)
+lows-back y = y .load-cords .kept .1 .1 .1 .1 .0 ∙ zeros-front mostCords _ (cords-fit (start-c y))
+
+lows-long : (y : Cords) → cords-k (start-c y) ≤ length (lows-after y)
+lows-long y =
+    omega (arith, cords-fit (start-c y), zeros-length mostCords, front-size (cords-k (start-c y)) (lows-of y) (replicate mostCords 0) (lows-back y) (omega (arith, cords-fit (start-c y), zeros-length mostCords)))
+
+lows-again : (y : Cords) → take (cords-k (start-c y)) (lows-after y) ≡ lows-of y
+lows-again y = front-again (cords-k (start-c y)) (lows-of y) (drop (cords-k (start-c y)) (replicate mostCords 0)) (lows-back y)
+
+abbrev wants-of : Cords → List ℕ
+wants-of y = y .load-cords .last .1 .1 .1 .1 .1 .0
+
+abbrev wants-after : Cords → List ℕ
+wants-after y = wants-of y ++ drop (cords-k (start-c y)) (replicate mostCords 0)
+
+wants-back : (y : Cords) → length (wants-of y) ≡ cords-k (start-c y)
+wants-back y = y .load-cords .kept .1 .1 .1 .1 .1 .0 ∙ zeros-front mostCords _ (cords-fit (start-c y))
+
+wants-long : (y : Cords) → cords-k (start-c y) ≤ length (wants-after y)
+wants-long y =
+    omega (arith, cords-fit (start-c y), zeros-length mostCords, front-size (cords-k (start-c y)) (wants-of y) (replicate mostCords 0) (wants-back y) (omega (arith, cords-fit (start-c y), zeros-length mostCords)))
+
+wants-again : (y : Cords) → take (cords-k (start-c y)) (wants-after y) ≡ wants-of y
+wants-again y = front-again (cords-k (start-c y)) (wants-of y) (drop (cords-k (start-c y)) (replicate mostCords 0)) (wants-back y)
+
+abbrev needs-of : Cords → List ℕ
+needs-of y = y .load-cords .last .1 .1 .1 .1 .1 .1 .0
+
+abbrev needs-after : Cords → List ℕ
+needs-after y = needs-of y ++ drop (servers-v (start-c y)) (replicate mostServers 0)
+
+needs-back : (y : Cords) → length (needs-of y) ≡ servers-v (start-c y)
+needs-back y = y .load-cords .kept .1 .1 .1 .1 .1 .1 .0 ∙ zeros-front mostServers _ (servers-fit (start-c y))
+
+needs-long : (y : Cords) → servers-v (start-c y) ≤ length (needs-after y)
+needs-long y =
+    omega (arith, servers-fit (start-c y), zeros-length mostServers, front-size (servers-v (start-c y)) (needs-of y) (replicate mostServers 0) (needs-back y) (omega (arith, servers-fit (start-c y), zeros-length mostServers)))
+
+needs-again : (y : Cords) → take (servers-v (start-c y)) (needs-after y) ≡ needs-of y
+needs-again y = front-again (servers-v (start-c y)) (needs-of y) (drop (servers-v (start-c y)) (replicate mostServers 0)) (needs-back y)
+
+abbrev blank-rows : List (List ℕ)
+blank-rows = replicate mostCords (replicate 4 0)
+
+abbrev cords-of : Cords → List (List ℕ)
+cords-of y = y .load-cords .last .1 .1 .0
+
+abbrev cords-after : Cords → List (List ℕ)
+cords-after y = cords-of y ++ drop (cords-k (start-c y)) blank-rows
+
+cords-back : (y : Cords) → length (cords-of y) ≡ length (take (cords-k (start-c y)) blank-rows)
+cords-back y = y .load-cords .kept .1 .1 .0
+
+cords-long : (y : Cords) → cords-k (start-c y) ≤ length (cords-after y)
+cords-long y = omega (arith, cords-fit (start-c y), length-replicate mostCords (replicate {A = ℕ} 4 0), length-front blank-rows (cords-of y) (cords-k (start-c y)) (cords-back y))
+
+cords-again : (y : Cords) → take (cords-k (start-c y)) (cords-after y) ≡ cords-of y
+cords-again y = take-at (cords-of y) (drop (cords-k (start-c y)) blank-rows) (cords-k (start-c y)) (cords-back y ∙ sym (cords-front (table-of (start-c y)) (good-of (start-c y)) (start-c y .pre .1 .1) (replicate 4 0)))
+
+-- The room's lists, as they are lent to both deals.
+lists-at : (y : Cords) (scale : ℕ) → ScaleIs (table-of (start-c y)) scale → (r : Room) (end : ℕ) → checked (table-of (start-c y)) 0 ≡ good r end
+    → RoomLists r (start-c y .args .demands .now) (take (count-n (nodes-c y)) (parents-after (nodes-c y))) (take (count-n (nodes-c y)) (spare-after (nodes-c y)))
+    (take (cords-k (start-c y)) (cords-after y)) (take (cords-k (start-c y)) (nodes-after y)) (take (cords-k (start-c y)) (lows-after y)) (take (cords-k (start-c y)) (wants-after y)) (take (servers-v (start-c y)) (needs-after y)) scale
+lists-at y scale scaled r end is =
+    let loaded = nodes-c y .load-nodes .ensures r end is in
+    rw (parents-again (nodes-c y), spare-again (nodes-c y), cords-again y, nodes-again y, lows-again y, wants-again y, needs-again y)
+    (record {
+      parents-are = loaded .0;
+      spare-size = spare-back (nodes-c y) ∙ sym (parents-back (nodes-c y));
+      spare-is = loaded .1;
+      cords-are = y .load-cords .ensures r end is;
+      scale-is = scaled r end is;
+    })
+
 node-count-requires : tie.Need-node-count-requires
 node-count-requires c κs = search needs
+
+slice-aggregate-load-nodes : tie.Need-slice-aggregate-load-nodes
+slice-aggregate-load-nodes c = front-length _ _ (beneath-long (c .before))
+
+array-borrow-prefix-parents : tie.Need-array-borrow-prefix-parents
+array-borrow-prefix-parents c = omega (arith, nodes-fit (c .before), zeros-length mostNodes)
+
+slice-aggregate-load-nodes-2 : tie.Need-slice-aggregate-load-nodes-2
+slice-aggregate-load-nodes-2 c = sym (zeros-front mostNodes _ (nodes-fit (c .before .before)))
+
+array-borrow-prefix-spare : tie.Need-array-borrow-prefix-spare
+array-borrow-prefix-spare c = omega (arith, nodes-fit (c .before .before), zeros-length mostNodes)
+
+slice-aggregate-load-nodes-3 : tie.Need-slice-aggregate-load-nodes-3
+slice-aggregate-load-nodes-3 c = sym (zeros-front mostNodes _ (nodes-fit (c .before .before .before)))
+
+load-nodes-requires : tie.Need-load-nodes-requires
+load-nodes-requires c κs =
+    let fit = (c .before .before .before) .node-count .ensures .0 in
+    let few = nodes-fit (c .before .before .before) in
+    let s = start-n (c .before .before .before) in (
+      good-of s,
+      (
+        λ r end is. sym (front-length _ _ (beneath-long (c .before .before .before))) ∙ fit r end is,
+        λ r end is. zeros-front mostNodes _ few ∙ fit r end is,
+        λ r end is. zeros-front mostNodes _ few ∙ fit r end is,
+        λ r end is i l. getD-take ((c .before .before .before) .node-count .result) (s .args .beneath .now) i 0 (omega (arith, fit r end is)) ∙ s .pre .1 .4 r end is i l,
+      ),
+    )
+
+array-borrow-prefix-cords : tie.Need-array-borrow-prefix-cords
+array-borrow-prefix-cords c = omega (arith, cords-fit (c .before .before .before .before .before .before .before .before .before .before .before .before), length-replicate mostCords (replicate {A = ℕ} 4 0))
+
+slice-aggregate-load-cords : tie.Need-slice-aggregate-load-cords
+slice-aggregate-load-cords c = cords-front (table-of (c .before .before .before .before .before .before .before .before .before .before .before .before .before)) (good-of (c .before .before .before .before .before .before .before .before .before .before .before .before .before)) ((c .before .before .before .before .before .before .before .before .before .before .before .before .before) .pre .1 .1) (replicate 4 0)
+
+array-borrow-prefix-nodes : tie.Need-array-borrow-prefix-nodes
+array-borrow-prefix-nodes c = omega (arith, cords-fit (c .before .before .before .before .before .before .before .before .before .before .before .before .before), zeros-length mostCords)
+
+slice-aggregate-load-cords-2 : tie.Need-slice-aggregate-load-cords-2
+slice-aggregate-load-cords-2 c = sym (zeros-front mostCords _ (cords-fit (c .before .before .before .before .before .before .before .before .before .before .before .before .before .before)))
+
+array-borrow-prefix-lows : tie.Need-array-borrow-prefix-lows
+array-borrow-prefix-lows c = omega (arith, cords-fit (c .before .before .before .before .before .before .before .before .before .before .before .before .before .before), zeros-length mostCords)
+
+slice-aggregate-load-cords-3 : tie.Need-slice-aggregate-load-cords-3
+slice-aggregate-load-cords-3 c = sym (zeros-front mostCords _ (cords-fit (c .before .before .before .before .before .before .before .before .before .before .before .before .before .before .before)))
+
+array-borrow-prefix-wants : tie.Need-array-borrow-prefix-wants
+array-borrow-prefix-wants c = omega (arith, cords-fit (c .before .before .before .before .before .before .before .before .before .before .before .before .before .before .before), zeros-length mostCords)
+
+slice-aggregate-load-cords-4 : tie.Need-slice-aggregate-load-cords-4
+slice-aggregate-load-cords-4 c = sym (zeros-front mostCords _ (cords-fit (c .before .before .before .before .before .before .before .before .before .before .before .before .before .before .before .before)))
+
+array-borrow-prefix-needs : tie.Need-array-borrow-prefix-needs
+array-borrow-prefix-needs c = omega (arith, servers-fit (c .before .before .before .before .before .before .before .before .before .before .before .before .before .before .before .before), zeros-length mostServers)
+
+slice-aggregate-load-cords-5 : tie.Need-slice-aggregate-load-cords-5
+slice-aggregate-load-cords-5 c = sym (zeros-front mostServers _ (servers-fit (c .before .before .before .before .before .before .before .before .before .before .before .before .before .before .before .before .before)))
+
+load-cords-requires : tie.Need-load-cords-requires
+load-cords-requires c κs =
+    record {
+      good-table = good-of (c .before .before .before .before .before .before .before .before .before .before .before .before .before .before .before .before .before);
+      demands-fit = (c .before .before .before .before .before .before .before .before .before .before .before .before .before .before .before .before .before) .pre .1 .0;
+      cords-fit = cords-lent (table-of (c .before .before .before .before .before .before .before .before .before .before .before .before .before .before .before .before .before)) (good-of (c .before .before .before .before .before .before .before .before .before .before .before .before .before .before .before .before .before)) ((c .before .before .before .before .before .before .before .before .before .before .before .before .before .before .before .before .before) .pre .1 .1) (replicate 4 0);
+      nodes-fit = λ r end is. zeros-front mostCords _ (cords-fit (c .before .before .before .before .before .before .before .before .before .before .before .before .before .before .before .before .before)) ∙ (c .before .before .before .before .before .before .before .before .before .before .before .before .before .before .before .before .before) .pre .1 .1 r end is;
+      lows-fit = λ r end is. zeros-front mostCords _ (cords-fit (c .before .before .before .before .before .before .before .before .before .before .before .before .before .before .before .before .before)) ∙ (c .before .before .before .before .before .before .before .before .before .before .before .before .before .before .before .before .before) .pre .1 .1 r end is;
+      wants-fit = λ r end is. zeros-front mostCords _ (cords-fit (c .before .before .before .before .before .before .before .before .before .before .before .before .before .before .before .before .before)) ∙ (c .before .before .before .before .before .before .before .before .before .before .before .before .before .before .before .before .before) .pre .1 .1 r end is;
+      needs-fit = λ r end is. zeros-front mostServers _ (servers-fit (c .before .before .before .before .before .before .before .before .before .before .before .before .before .before .before .before .before)) ∙ (c .before .before .before .before .before .before .before .before .before .before .before .before .before .before .before .before .before) .pre .1 .0 r end is;
+    }
+
+array-share-prefix-parents : tie.Need-array-share-prefix-parents
+array-share-prefix-parents c = parents-long (c .before .before .before .before .before .before .before .before .before .before .before .before .before)
+
+slice-aggregate-deal-twice : tie.Need-slice-aggregate-deal-twice
+slice-aggregate-deal-twice c = front-length (count-n (c .before .before .before .before .before .before .before .before .before .before .before .before .before .before)) (parents-after (c .before .before .before .before .before .before .before .before .before .before .before .before .before .before)) (parents-long (c .before .before .before .before .before .before .before .before .before .before .before .before .before .before))
+
+array-share-prefix-spare : tie.Need-array-share-prefix-spare
+array-share-prefix-spare c = spare-long (c .before .before .before .before .before .before .before .before .before .before .before .before .before .before)
+
+slice-aggregate-deal-twice-2 : tie.Need-slice-aggregate-deal-twice-2
+slice-aggregate-deal-twice-2 c = front-length (count-n (c .before .before .before .before .before .before .before .before .before .before .before .before .before .before .before)) (spare-after (c .before .before .before .before .before .before .before .before .before .before .before .before .before .before .before)) (spare-long (c .before .before .before .before .before .before .before .before .before .before .before .before .before .before .before))
+
+array-share-prefix-cords : tie.Need-array-share-prefix-cords
+array-share-prefix-cords c = cords-long (c .before .before .before .before .before .before .before)
+
+slice-aggregate-deal-twice-3 : tie.Need-slice-aggregate-deal-twice-3
+slice-aggregate-deal-twice-3 c = sym (length-take-le (cords-k (start-c (c .before .before .before .before .before .before .before .before))) (cords-after (c .before .before .before .before .before .before .before .before)) (cords-long (c .before .before .before .before .before .before .before .before)))
+
+array-share-prefix-nodes : tie.Need-array-share-prefix-nodes
+array-share-prefix-nodes c = nodes-long (c .before .before .before .before .before .before .before .before)
+
+slice-aggregate-deal-twice-4 : tie.Need-slice-aggregate-deal-twice-4
+slice-aggregate-deal-twice-4 c = front-length (cords-k (start-c (c .before .before .before .before .before .before .before .before .before))) (nodes-after (c .before .before .before .before .before .before .before .before .before)) (nodes-long (c .before .before .before .before .before .before .before .before .before))
+
+array-share-prefix-lows : tie.Need-array-share-prefix-lows
+array-share-prefix-lows c = lows-long (c .before .before .before .before .before .before .before .before .before)
+
+slice-aggregate-deal-twice-5 : tie.Need-slice-aggregate-deal-twice-5
+slice-aggregate-deal-twice-5 c = front-length (cords-k (start-c (c .before .before .before .before .before .before .before .before .before .before))) (lows-after (c .before .before .before .before .before .before .before .before .before .before)) (lows-long (c .before .before .before .before .before .before .before .before .before .before))
+
+array-borrow-prefix-wants-2 : tie.Need-array-borrow-prefix-wants-2
+array-borrow-prefix-wants-2 c = wants-long (c .before .before .before .before .before .before .before .before .before .before)
+
+slice-aggregate-deal-twice-6 : tie.Need-slice-aggregate-deal-twice-6
+slice-aggregate-deal-twice-6 c = front-length (cords-k (start-c (c .before .before .before .before .before .before .before .before .before .before .before))) (wants-after (c .before .before .before .before .before .before .before .before .before .before .before)) (wants-long (c .before .before .before .before .before .before .before .before .before .before .before))
+
+array-share-prefix-needs : tie.Need-array-share-prefix-needs
+array-share-prefix-needs c = needs-long (c .before .before .before .before .before .before .before .before .before .before .before)
+
+slice-aggregate-deal-twice-7 : tie.Need-slice-aggregate-deal-twice-7
+slice-aggregate-deal-twice-7 c = front-length (servers-v (start-c (c .before .before .before .before .before .before .before .before .before .before .before .before))) (needs-after (c .before .before .before .before .before .before .before .before .before .before .before .before)) (needs-long (c .before .before .before .before .before .before .before .before .before .before .before .before))
 
 table-scale-requires : tie.Need-table-scale-requires
 table-scale-requires c κs = search needs
 
-slice-aggregate-plan-lists : tie.Need-slice-aggregate-plan-lists
-slice-aggregate-plan-lists c = lows-front _ (c .before .before .before .before .before .before .before .before .pre .0) _ (c .before .before .node-count .ensures .0) (c .before .before .before .before .before .before .before .before .args .beneath .now) (c .before .before .before .before .before .before .before .before .pre .1 .3)
-
-array-borrow-prefix-parents : tie.Need-array-borrow-prefix-parents
-array-borrow-prefix-parents c = nodes-most _ (c .before .before .before .before .before .before .before .before .pre .0) _ (c .before .before .node-count .ensures .0)
-
-slice-aggregate-plan-lists-2 : tie.Need-slice-aggregate-plan-lists-2
-slice-aggregate-plan-lists-2 c = nodes-front _ (c .before .before .before .before .before .before .before .before .before .pre .0) _ (c .before .before .before .node-count .ensures .0)
-
-array-borrow-prefix-limits : tie.Need-array-borrow-prefix-limits
-array-borrow-prefix-limits c = nodes-most _ (c .before .before .before .before .before .before .before .before .before .pre .0) _ (c .before .before .before .node-count .ensures .0)
-
-slice-aggregate-plan-lists-3 : tie.Need-slice-aggregate-plan-lists-3
-slice-aggregate-plan-lists-3 c = nodes-front _ (c .before .before .before .before .before .before .before .before .before .before .pre .0) _ (c .before .before .before .before .node-count .ensures .0)
-
-array-borrow-prefix-nodes : tie.Need-array-borrow-prefix-nodes
-array-borrow-prefix-nodes c = cords-most _ (c .before .before .before .before .before .before .before .before .before .before .pre .0) _ (c .before .before .before .before .before .before .before .before .before .before .pre .1 .1)
-
-slice-aggregate-plan-lists-4 : tie.Need-slice-aggregate-plan-lists-4
-slice-aggregate-plan-lists-4 c = cords-front _ (c .before .before .before .before .before .before .before .before .before .before .before .pre .0) _ (c .before .before .before .before .before .before .before .before .before .before .before .pre .1 .1)
-
-array-borrow-prefix-levels : tie.Need-array-borrow-prefix-levels
-array-borrow-prefix-levels c = cords-most _ (c .before .before .before .before .before .before .before .before .before .before .before .pre .0) _ (c .before .before .before .before .before .before .before .before .before .before .before .pre .1 .1)
-
-slice-aggregate-plan-lists-5 : tie.Need-slice-aggregate-plan-lists-5
-slice-aggregate-plan-lists-5 c = cords-front _ (c .before .before .before .before .before .before .before .before .before .before .before .before .pre .0) _ (c .before .before .before .before .before .before .before .before .before .before .before .before .pre .1 .1)
-
-array-borrow-prefix-lows : tie.Need-array-borrow-prefix-lows
-array-borrow-prefix-lows c = cords-most _ (c .before .before .before .before .before .before .before .before .before .before .before .before .pre .0) _ (c .before .before .before .before .before .before .before .before .before .before .before .before .pre .1 .1)
-
-slice-aggregate-plan-lists-6 : tie.Need-slice-aggregate-plan-lists-6
-slice-aggregate-plan-lists-6 c = cords-front _ (c .before .before .before .before .before .before .before .before .before .before .before .before .before .pre .0) _ (c .before .before .before .before .before .before .before .before .before .before .before .before .before .pre .1 .1)
-
-array-borrow-prefix-wants : tie.Need-array-borrow-prefix-wants
-array-borrow-prefix-wants c = cords-most _ (c .before .before .before .before .before .before .before .before .before .before .before .before .before .pre .0) _ (c .before .before .before .before .before .before .before .before .before .before .before .before .before .pre .1 .1)
-
-slice-aggregate-plan-lists-7 : tie.Need-slice-aggregate-plan-lists-7
-slice-aggregate-plan-lists-7 c = cords-front _ (c .before .before .before .before .before .before .before .before .before .before .before .before .before .before .pre .0) _ (c .before .before .before .before .before .before .before .before .before .before .before .before .before .before .pre .1 .1)
-
-array-borrow-prefix-shares : tie.Need-array-borrow-prefix-shares
-array-borrow-prefix-shares c = cords-most _ (c .before .before .before .before .before .before .before .before .before .before .before .before .before .before .pre .0) _ (c .before .before .before .before .before .before .before .before .before .before .before .before .before .before .pre .1 .1)
-
-slice-aggregate-plan-lists-8 : tie.Need-slice-aggregate-plan-lists-8
-slice-aggregate-plan-lists-8 c = cords-front _ (c .before .before .before .before .before .before .before .before .before .before .before .before .before .before .before .pre .0) _ (c .before .before .before .before .before .before .before .before .before .before .before .before .before .before .before .pre .1 .1)
-
-array-borrow-prefix-servers : tie.Need-array-borrow-prefix-servers
-array-borrow-prefix-servers c = cords-most _ (c .before .before .before .before .before .before .before .before .before .before .before .before .before .before .before .pre .0) _ (c .before .before .before .before .before .before .before .before .before .before .before .before .before .before .before .pre .1 .1)
-
-slice-aggregate-plan-lists-9 : tie.Need-slice-aggregate-plan-lists-9
-slice-aggregate-plan-lists-9 c = cords-front _ (c .before .before .before .before .before .before .before .before .before .before .before .before .before .before .before .before .pre .0) _ (c .before .before .before .before .before .before .before .before .before .before .before .before .before .before .before .before .pre .1 .1)
-
-array-borrow-prefix-needs : tie.Need-array-borrow-prefix-needs
-array-borrow-prefix-needs c = servers-most _ (c .before .before .before .before .before .before .before .before .before .before .before .before .before .before .before .before .pre .0) _ (c .before .before .before .before .before .before .before .before .before .before .before .before .before .before .before .before .pre .1 .0)
-
-slice-aggregate-plan-lists-10 : tie.Need-slice-aggregate-plan-lists-10
-slice-aggregate-plan-lists-10 c = servers-front _ (c .before .before .before .before .before .before .before .before .before .before .before .before .before .before .before .before .before .pre .0) _ (c .before .before .before .before .before .before .before .before .before .before .before .before .before .before .before .before .before .pre .1 .0)
-
-slice-aggregate-plan-lists-11 : tie.Need-slice-aggregate-plan-lists-11
-slice-aggregate-plan-lists-11 c = search needs
-
-array-borrow-prefix-next : tie.Need-array-borrow-prefix-next
-array-borrow-prefix-next c = cords-most _ (c .before .before .before .before .before .before .before .before .before .before .before .before .before .before .before .before .before .before .pre .0) _ (c .before .before .before .before .before .before .before .before .before .before .before .before .before .before .before .before .before .before .pre .1 .1)
-
-slice-aggregate-plan-lists-12 : tie.Need-slice-aggregate-plan-lists-12
-slice-aggregate-plan-lists-12 c = cords-front _ (c .before .before .before .before .before .before .before .before .before .before .before .before .before .before .before .before .before .before .before .pre .0) _ (c .before .before .before .before .before .before .before .before .before .before .before .before .before .before .before .before .before .before .before .pre .1 .1)
-
-array-borrow-prefix-marks : tie.Need-array-borrow-prefix-marks
-array-borrow-prefix-marks c = nodes-most _ (c .before .before .before .before .before .before .before .before .before .before .before .before .before .before .before .before .before .before .before .pre .0) _ (c .before .before .before .before .before .before .before .before .before .before .before .before .before .node-count .ensures .0)
-
-slice-aggregate-plan-lists-13 : tie.Need-slice-aggregate-plan-lists-13
-slice-aggregate-plan-lists-13 c = nodes-front _ (c .before .before .before .before .before .before .before .before .before .before .before .before .before .before .before .before .before .before .before .before .pre .0) _ (c .before .before .before .before .before .before .before .before .before .before .before .before .before .before .node-count .ensures .0)
-
-slice-aggregate-plan-lists-14 : tie.Need-slice-aggregate-plan-lists-14
-slice-aggregate-plan-lists-14 c = search needs
-
-array-borrow-prefix-spare : tie.Need-array-borrow-prefix-spare
-array-borrow-prefix-spare c = nodes-most _ (c .before .before .before .before .before .before .before .before .before .before .before .before .before .before .before .before .before .before .before .before .before .before .pre .0) _ (c .before .before .before .before .before .before .before .before .before .before .before .before .before .before .before .before .node-count .ensures .0)
-
-slice-aggregate-plan-lists-15 : tie.Need-slice-aggregate-plan-lists-15
-slice-aggregate-plan-lists-15 c = nodes-front _ (c .before .before .before .before .before .before .before .before .before .before .before .before .before .before .before .before .before .before .before .before .before .before .before .pre .0) _ (c .before .before .before .before .before .before .before .before .before .before .before .before .before .before .before .before .before .node-count .ensures .0)
-
-plan-lists-requires : tie.Need-plan-lists-requires
-plan-lists-requires c κs =
-    let table = c .before .before .before .before .before .before .before .before .before .before .before .before .before .before .before .before .before .before .before .before .before .before .before .before .before .before .args .table .now in
-    let good = c .before .before .before .before .before .before .before .before .before .before .before .before .before .before .before .before .before .before .before .before .before .before .before .before .before .before .pre .0 in
-    let fits = c .before .before .before .before .before .before .before .before .before .before .before .before .before .before .before .before .before .before .before .before .before .before .before .before .before .before .pre .1 in
-    let beneath = c .before .before .before .before .before .before .before .before .before .before .before .before .before .before .before .before .before .before .before .before .before .before .before .before .before .before .args .beneath .now in
-    let count = c .before .before .before .before .before .before .before .before .before .before .before .before .before .before .before .before .before .before .before .before .node-count .ensures .0 in
-    let scale = c .before .before .before .before .before .before .before .before .before .before .before .before .before .before .before .before .before .before .before .table-scale .ensures in
-    let nodes = nodes-lent table good _ count in
-    let cords = cords-lent table good _ (fits .1) in (
+deal-twice-requires : tie.Need-deal-twice-requires
+deal-twice-requires c κs =
+    let g = good-of (start-c (c .before .before .before .before .before .before .before .before .before .before .before .before .before .before .before)) in (
       record {
-        good-table = good;
-        demands-fit = fits .0;
-        nodes-fit = cords;
-        levels-fit = cords;
-        lows-fit = cords;
-        wants-fit = cords;
-        shares-fit = cords;
-        servers-fit = cords;
-        needs-fit = servers-lent table good _ (fits .0);
-        scale-fit = scale;
+        table = table-of (start-c (c .before .before .before .before .before .before .before .before .before .before .before .before .before .before .before));
+        demands = (start-c (c .before .before .before .before .before .before .before .before .before .before .before .before .before .before .before)) .args .demands .now;
+        room = g .value;
+        end = g .next;
+        is = g .is;
+        lists = lists-at (c .before .before .before .before .before .before .before .before .before .before .before .before .before .before .before) (c .table-scale .result) (c .table-scale .ensures) (g .value) (g .next) (g .is);
       },
-      ((nodes, nodes), ((search needs, cords, nodes, nodes, lows-lent table good _ count beneath (fits .3), lows-still table good _ count beneath (fits .3) (fits .4)), ((zeros-rows 16 512, search needs), ((zeros-rows 512 16, zeros-cells), (fits .1, fits .2))))),
+      front-length (cords-k (start-c (c .before .before .before .before .before .before .before .before .before .before .before .before .before .before .before))) (nodes-after (c .before .before .before .before .before .before .before .before .before .before .before .before .before .before .before)) (nodes-long (c .before .before .before .before .before .before .before .before .before .before .before .before .before .before .before)),
+      (start-c (c .before .before .before .before .before .before .before .before .before .before .before .before .before .before .before)) .pre .1 .2 (g .value) (g .next) (g .is) ∙ sym ((start-c (c .before .before .before .before .before .before .before .before .before .before .before .before .before .before .before)) .pre .1 .0 (g .value) (g .next) (g .is)) ∙ front-length (servers-v (start-c (c .before .before .before .before .before .before .before .before .before .before .before .before .before .before .before))) (needs-after (c .before .before .before .before .before .before .before .before .before .before .before .before .before .before .before)) (needs-long (c .before .before .before .before .before .before .before .before .before .before .before .before .before .before .before)),
     )
 
 same-length : tie.Need-same-length
@@ -125,42 +342,46 @@ same-length-2 : tie.Need-same-length-2
 same-length-2 c = search needs
 
 returns : tie.Need-returns
-returns c = search needs
+returns c = λ r end is. (c .before .before .before .before .before) .deal-twice .ensures (table-of (start-c (c .before .before .before .before .before .before .before .before .before .before .before .before .before .before .before .before .before .before .before .before .before))) (start-c (c .before .before .before .before .before .before .before .before .before .before .before .before .before .before .before .before .before .before .before .before .before) .args .demands .now) r end is (lists-at (c .before .before .before .before .before .before .before .before .before .before .before .before .before .before .before .before .before .before .before .before .before) ((c .before .before .before .before .before .before) .table-scale .result) ((c .before .before .before .before .before .before) .table-scale .ensures) r end is)
 
 pub plan-room-spec : {M : Type 1} → statement M
 plan-room-spec =
     tie.close
     (tie.spec
     node-count-requires
-    table-scale-requires
-    slice-aggregate-plan-lists
+    slice-aggregate-load-nodes
     array-borrow-prefix-parents
-    slice-aggregate-plan-lists-2
-    array-borrow-prefix-limits
-    slice-aggregate-plan-lists-3
-    array-borrow-prefix-nodes
-    slice-aggregate-plan-lists-4
-    array-borrow-prefix-levels
-    slice-aggregate-plan-lists-5
-    array-borrow-prefix-lows
-    slice-aggregate-plan-lists-6
-    array-borrow-prefix-wants
-    slice-aggregate-plan-lists-7
-    array-borrow-prefix-shares
-    slice-aggregate-plan-lists-8
-    array-borrow-prefix-servers
-    slice-aggregate-plan-lists-9
-    array-borrow-prefix-needs
-    slice-aggregate-plan-lists-10
-    slice-aggregate-plan-lists-11
-    array-borrow-prefix-next
-    slice-aggregate-plan-lists-12
-    array-borrow-prefix-marks
-    slice-aggregate-plan-lists-13
-    slice-aggregate-plan-lists-14
+    slice-aggregate-load-nodes-2
     array-borrow-prefix-spare
-    slice-aggregate-plan-lists-15
-    plan-lists-requires
+    slice-aggregate-load-nodes-3
+    load-nodes-requires
+    array-borrow-prefix-cords
+    slice-aggregate-load-cords
+    array-borrow-prefix-nodes
+    slice-aggregate-load-cords-2
+    array-borrow-prefix-lows
+    slice-aggregate-load-cords-3
+    array-borrow-prefix-wants
+    slice-aggregate-load-cords-4
+    array-borrow-prefix-needs
+    slice-aggregate-load-cords-5
+    load-cords-requires
+    array-share-prefix-parents
+    slice-aggregate-deal-twice
+    array-share-prefix-spare
+    slice-aggregate-deal-twice-2
+    array-share-prefix-cords
+    slice-aggregate-deal-twice-3
+    array-share-prefix-nodes
+    slice-aggregate-deal-twice-4
+    array-share-prefix-lows
+    slice-aggregate-deal-twice-5
+    array-borrow-prefix-wants-2
+    slice-aggregate-deal-twice-6
+    array-share-prefix-needs
+    slice-aggregate-deal-twice-7
+    table-scale-requires
+    deal-twice-requires
     same-length
     same-length-2
     returns)

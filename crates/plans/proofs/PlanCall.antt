@@ -22,7 +22,7 @@ use Rattle.rooms.proofs.Outcomes.{refused-so}
 use Rattle.figures.specs.Figures.{at}
 use Rattle.deals.specs.Plan.{Plan, planOf, Outcome, accepted, refused, firstTooLarge, Reason, countDiffers, demandTooLarge, tooShort, reasons, unless, plan, answerOf, after}
 use Rattle.room_lists.specs.Lists.{ServersFit, CordsFit}
-use Rattle.plan_rooms.specs.Planning.{HasLowsBeneath}
+use Rattle.layout.specs.Lists.{HasLowsBeneath}
 use Rattle.deals.specs.declared.Lengths.{Lengths}
 use Rattle.deals.specs.declared.PlanList.{PlanList}
 use Rattle.deals.specs.declared.PlanRefusal.{PlanRefusal}
@@ -51,6 +51,13 @@ pub lows-told : (table list : List ℕ) → list ≡ lowsTold (checked table 0) 
 unfolding lowsTold
 lows-told table list e r end is n l =
     ap (λ (x : List ℕ). at x n) (e ∙ ap lowsTold is) ∙ nodeLows-at r n (omega (arith, rooms.accepted table r end is .fewNodes))
+
+-- A list as long as another one that fits.
+pub cords-fit : (table : List ℕ) {m n : ℕ} → m ≡ n → CordsFit table n → CordsFit table m
+cords-fit table e h r end is = e ∙ h r end is
+
+pub servers-fit : (table : List ℕ) {m n : ℕ} → m ≡ n → ServersFit table n → ServersFit table m
+servers-fit table e h r end is = e ∙ h r end is
 
 -- ---- The checks, in their order
 

@@ -6,8 +6,7 @@ use native.Mathlib.Nat.{le-of-eq}
 use lib.Seq.{length-take-le}
 use Rattle.deals.specs.Plan.{plan, lent}
 use Rattle.deals.specs.declared.Lengths.{Lengths}
-use Rattle.plan_rooms.proofs.Planning.{cords-fit, servers-fit}
-use Rattle.plans.proofs.PlanCall.{lows-long, lows-told, Admitted, admitted-good, admitted-refused, refusal-told, unwritten, freed-told, written}
+use Rattle.plans.proofs.PlanCall.{lows-long, lows-told, cords-fit, servers-fit, Admitted, admitted-good, admitted-refused, refusal-told, unwritten, freed-told, written}
 use borrow.Author.Needs.{needs}
 use Rattle.plans.proofs.plan.Statement.{statement}
 use Rattle.plans.proofs.plan.Tie as tie
@@ -89,15 +88,12 @@ returns c =
     let room = c .before .before .before .before in
     let known = room .before .before .before .before in
     let a = admitted known in
-    let dealt = room .plan-room .ensures in
-    let lists = room .plan-room .kept .1 .1 .1 in
-    let r = a .room .value in
-    let end = a .room .next in
-    let is = a .room .is in (
-      freed-told _ (a .is) (dealt .freed-is r end is),
+    let dealt = room .plan-room .ensures (a .room .value) (a .room .next) (a .room .is) in
+    let lists = room .plan-room .kept .1 .1 .1 in (
+      freed-told _ (a .is) (dealt .freed-is),
       (
-        written _ (a .is) (λ p. p .grants) _ _ _ (dealt .grants-are r end is) (lists .0 ∙ length-take-le _ _ (a .grantsLong)) (a .grantsLong),
-        written _ (a .is) (λ p. p .caps) _ _ _ (dealt .caps-are r end is) (lists .1 .0 ∙ length-take-le _ _ (a .capsLong)) (a .capsLong),
+        written _ (a .is) (λ p. p .grants) _ _ _ (dealt .grants-are) (lists .0 ∙ length-take-le _ _ (a .grantsLong)) (a .grantsLong),
+        written _ (a .is) (λ p. p .caps) _ _ _ (dealt .caps-are) (lists .1 .0 ∙ length-take-le _ _ (a .capsLong)) (a .capsLong),
       ),
     )
 

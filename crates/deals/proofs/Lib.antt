@@ -7,6 +7,7 @@ pub mod Rows
 pub mod Children
 -- One deal: what follows from its equations, and that the computed figures meet them.
 pub mod Requests
+pub mod Amounts
 pub mod Equations
 pub mod Computed
 pub mod Starts

@@ -11,12 +11,11 @@ use Rattle.rooms.specs.Table.{Room, mostWatts, mostCords, roomCords}
 use Rattle.rooms.specs.Limits.{checked}
 use Rattle.figures.specs.Figures.{total, at, cell, sumOf}
 use Rattle.figures.specs.Sums.{on, sum}
-use Rattle.splits.specs.Split.{split}
 use Rattle.rooms.specs.Cords.{serverAt}
 use Rattle.deals.specs.Wants.{needs, firstWants}
 use Rattle.rooms.specs.Lists.{carriedBy, lowsOf}
 use Rattle.deals.specs.Metrics.{Deal, atLevel, metrics, excess, cordExcess, overNodes, overCords, childSums}
-use Rattle.deals.specs.Dealing.{Child, node, cord, children, nodeOver, cordOver, weightSum, beside, amount, reached, granted}
+use Rattle.deals.specs.Dealing.{Child, node, cord, children, nodeOver, cordOver, weightSum, partOf, amount, reached, granted}
 use Rattle.deals.specs.SecondDeal.{firstDeal, firstGrants, firstUsed, freed, secondDeal, secondWants}
 use Rattle.deals.specs.Promises.{AcceptedPlan}
 
@@ -72,11 +71,10 @@ childExcess d j (cord c) = atLevel d j (cordExcess d) c
 -- What a child gets of the watts in hand of the node at place n: what is passed to it first, and its part of what then remains,
 -- split among the children by their excesses less what is passed to each.
 unfoldable pub given : Deal → ℕ → ℕ → ℕ → Child → ℕ
-unfolding children beside split total
+unfolding children partOf total
 given d n j watts child =
-    passed d j child
-    + beside child (children d n)
-    (split (watts - sumOf (map (passed d j) (children d n))) (map (λ other. childExcess d j other - passed d j other) (children d n)))
+    let rest = watts - sumOf (map (passed d j) (children d n)) in
+    passed d j child + partOf d (λ other. childExcess d j other - passed d j other) n rest child
 
 -- A deal in which each node has watts in hand at each rank, beyond the lows: a root all of its excess, any other what its parent
 -- gives it so; and in which each cord is granted its low and what its node gives it so.

@@ -20,6 +20,9 @@ pub mod RoomDeals
 pub mod BothDeals
 pub mod LowerRanks
 pub mod Bounds
+-- Headroom over the second deal.
+pub mod Headroom
+pub mod RoomHeadroom
 -- The whole plan, and the promises.
 pub mod Plans
 pub mod Lent

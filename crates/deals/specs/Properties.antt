@@ -15,8 +15,9 @@ use Rattle.rooms.specs.Cords.{serverAt}
 use Rattle.deals.specs.Wants.{needs, firstWants}
 use Rattle.rooms.specs.Lists.{carriedBy, lowsOf}
 use Rattle.deals.specs.Metrics.{Deal, atLevel, metrics, excess, cordExcess, overNodes, overCords, childSums}
-use Rattle.deals.specs.Dealing.{Child, node, cord, children, nodeOver, cordOver, weightSum, partOf, amount, reached, granted}
+use Rattle.deals.specs.Dealing.{Child, node, cord, children, nodeOver, cordOver, weightSum, partOf, nodeAmount, amount, reached, granted}
 use Rattle.deals.specs.SecondDeal.{firstDeal, firstGrants, firstUsed, freed, secondDeal, secondWants}
+use Rattle.deals.specs.Headroom.{ceilingsOf, nodeCeiling, requestsAt, headroomWeight}
 use Rattle.deals.specs.Promises.{AcceptedPlan}
 
 -- ---- Caps, used watts, the second deal's wants, and what a node gives
@@ -157,3 +158,33 @@ pub record Bounded (r : Room) (demands : List ℕ) : Type 0 where
 abbrev pub FiguresFit : Type 0
 FiguresFit =
     (table : List ℕ) (r : Room) (end : ℕ) → checked table 0 ≡ good r end → (demands : List ℕ) → Bounded r demands
+
+-- The weights of the children of the node at place n, summed, and what that node has to lend.
+unfoldable pub headroomWeights : Deal → (ℕ → ℕ) → ℕ → ℕ
+unfolding children total metrics nodeCeiling
+headroomWeights d ceiling n = sumOf (map (headroomWeight d (metrics d) ceiling) (children d n))
+
+unfoldable pub headroomAt : Deal → (ℕ → ℕ) → ℕ → ℕ
+unfolding nodeAmount metrics nodeCeiling total
+headroomAt d ceiling n = nodeAmount d (headroomWeight d (metrics d) ceiling) (suc n) n
+
+-- The figures of the headroom over a deal, where each cord has a ceiling. A ceiling, of a cord or of a node, and so each headroom, fits in
+-- 24 bits; the children's ceilings and their weights sum to no more than 34 bits, and headroom times any running sum of weights fits
+-- in 58. No difference is below 0, and no node weighs more than its children.
+pub record HeadroomBounded (d : Deal) (ceiling : ℕ → ℕ) : Type 0 where
+  pub ceilings : (c : ℕ) → c < d .cords → ceiling c ≤ mostWatts
+  pub wants : (c : ℕ) → c < d .cords → d .want c ≤ ceiling c
+  pub limits : (n : ℕ) → n < d .nodes → nodeCeiling d ceiling n ≤ d .limit n
+  pub requests : (n : ℕ) → n < d .nodes → requestsAt (metrics d) n ≤ nodeCeiling d ceiling n
+  pub children : (n : ℕ) → n < d .nodes
+      → overNodes d n (nodeCeiling d ceiling) + sum (d .cords) (λ c. on (eqb (d .node c) (suc n)) (ceiling c)) ≤ mostSum
+  pub enough : (n : ℕ) → n < d .nodes → headroomWeight d (metrics d) ceiling (node n) ≤ headroomWeights d ceiling n
+  pub weights : (n : ℕ) → n < d .nodes → headroomWeights d ceiling n ≤ mostSum
+  pub amounts : (n : ℕ) → n < d .nodes → headroomAt d ceiling n ≤ headroomWeight d (metrics d) ceiling (node n)
+  pub products : (n : ℕ) → n < d .nodes → headroomAt d ceiling n * headroomWeights d ceiling n < 2 ^ 58
+
+-- Where the table is accepted, they fit, whatever the demands.
+abbrev pub HeadroomFits : Type 0
+HeadroomFits =
+    (table : List ℕ) (r : Room) (end : ℕ) → checked table 0 ≡ good r end → (demands : List ℕ)
+    → HeadroomBounded (secondDeal r demands) (at (ceilingsOf r))

@@ -148,5 +148,6 @@ abbrev pub HeadroomAllLent : Type 0
 HeadroomAllLent =
     (p : AcceptedPlan) (root : ℕ) → Root (p .room) root
     → sumBeneath (p .room) root (at (headroom (p .room) (p .demands))) ≡ rootHeadroom (p .room) (p .demands) root
+
 -- (1 to 5 speak of grants, usable watts and caps alone, and stand as they are: no definition of these has headroom in it. So it
 -- may follow the demands of lower ranks, and they still may not.)

@@ -2,6 +2,7 @@
 -- what a node has over them is no more than its children have together. So all of it is lent, and no ceiling is passed.
 use mathlib.Core.Path.{_≡_, refl, sym, ap, ap₂, _∙_}
 use mathlib.Core.Bool.{Bool}
+use mathlib.Core.List.{[], _∷_}
 use Prim.Native.Nat.{ℕ, zero, suc, _+_, _*_, _-_, _^_, _≤_, _<_, min}
 use native.Mathlib.Nat.{le-trans, le-of-eq, zero-add, add-le-add, mul-le-mul}
 use native.Mathlib.Omega.{arith}
@@ -13,7 +14,7 @@ use Rattle.figures.proofs.Lists.{figures-at}
 use Rattle.rooms.specs.Table.{mostWatts, mostCords}
 use Rattle.rooms.specs.Limits.{beneath}
 use Rattle.rooms.proofs.Trees.{kids, own, under, kids-add, kids-cong, kids-le, down}
-use Rattle.deals.specs.Metrics.{Deal, metrics, atLevel}
+use Rattle.deals.specs.Metrics.{Deal, dealFrom, metrics, atLevel}
 use Rattle.deals.specs.Dealing.{cordAmount, granted}
 use Rattle.deals.specs.Headroom.{ceilingWithin, nodeCeiling, requestsAt, headroomWeight, headroomOver}
 use Rattle.deals.specs.Properties.{mostSum, headroomWeights, headroomAt, HeadroomBounded}
@@ -23,6 +24,27 @@ use Rattle.deals.proofs.Amounts.{whole, ByWeights, amount-most, reached
 use Rattle.deals.proofs.Computed.{pcapmin, request, measured, by-weights, Startable, granted-way, granted-asked}
 use Rattle.deals.proofs.Totals.{requestTotal-is}
 use Rattle.deals.proofs.Bounds.{beneath-most}
+
+-- ---- Worked by hand
+
+-- A root with 100 W over a node with 50 W, whose cord wants 10 of 90, and a cord that wants 20 of 60.
+abbrev dealC : Deal
+dealC = dealFrom (0 ∷ 1 ∷ []) (100 ∷ 50 ∷ []) (2 ∷ 1 ∷ []) (0 ∷ 0 ∷ []) (0 ∷ 0 ∷ []) (0 ∷ 0 ∷ []) (10 ∷ 20 ∷ [])
+
+abbrev ceilingC : ℕ → ℕ
+ceilingC = at (90 ∷ 60 ∷ [])
+
+-- The ceilings are cut to the limits, so that the root's 100 − 30 are split by 50 − 10 and 60 − 20. By 90 − 10 the node would be lent 46,
+-- and pass its limit.
+by-hand : (nodeCeiling dealC ceilingC 1 ≡ 50)
+    × (nodeCeiling dealC ceilingC 0 ≡ 100)
+    × (headroomWeights dealC ceilingC 0 ≡ 80)
+    × (headroomAt dealC ceilingC 0 ≡ 70)
+    × (headroomOver dealC ceilingC ≡ 35 ∷ 35 ∷ [])
+unfolding nodeCeiling headroomWeights headroomAt headroomOver dealFrom
+by-hand = (refl, refl, refl, refl, refl)
+
+-- ---- Sums and cuts
 
 -- A figure in two parts, summed over the places that pass a test.
 sum-parted : (k : ℕ) (t : ℕ → Bool) (f g h : ℕ → ℕ) → ((c : ℕ) → c < k → h c ≡ f c + g c)

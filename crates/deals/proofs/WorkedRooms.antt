@@ -76,20 +76,15 @@ abbrev lentBy : Step Room → List ℕ → List ℕ
 lentBy (good r end) demands = headroom r demands
 lentBy (bad refusal) demands = []
 
--- A root with 100 W over a node with 50 W, on which a cord has the ceiling 90, and a cord with the ceiling 60.
-abbrev tableC : List ℕ
-tableC = 1 ∷ 2 ∷ 0 ∷ 125 ∷ 1 ∷ 63 ∷ 2 ∷ 1 ∷ 0 ∷ 90 ∷ 1 ∷ 2 ∷ 1000 ∷ 1 ∷ 0 ∷ 60 ∷ 1 ∷ 1 ∷ 1000 ∷ []
-
 -- None where all limits are granted; what is left, split by ceilings less Requests; by the second wants, of which cord 2's is less;
--- through the nodes of room S; none to its first node where that is granted its whole limit; and by the node's own ceiling, not its cord's.
+-- through the nodes of room S; and none to its first node where that is granted its whole limit.
 lends : (lentBy (checked tableH 0) (400 ∷ 400 ∷ []) ≡ 0 ∷ 0 ∷ 0 ∷ [])
     × (lentBy (checked tableH 0) (100 ∷ 100 ∷ []) ≡ 70 ∷ 83 ∷ 167 ∷ [])
     × (lentBy (checked (tableHWith 1000) 0) (400 ∷ 400 ∷ []) ≡ 0 ∷ 80 ∷ 0 ∷ [])
     × (lentBy (checked tableS 0) (430 ∷ 430 ∷ 430 ∷ 430 ∷ []) ≡ 0 ∷ 0 ∷ 0 ∷ 0 ∷ [])
     × (lentBy (checked (tableSWith 1750) 0) (430 ∷ 270 ∷ 300 ∷ 330 ∷ []) ≡ 4 ∷ 16 ∷ 27 ∷ 23 ∷ [])
     × (lentBy (checked (tableSWith 2000) 0) (430 ∷ 430 ∷ 300 ∷ 330 ∷ []) ≡ 0 ∷ 0 ∷ 64 ∷ 56 ∷ [])
-    × (lentBy (checked tableC 0) (10 ∷ 20 ∷ []) ≡ 35 ∷ 35 ∷ [])
 unfolding checked headroom
     follow word ensure end many total formOf percent node cord range load server table
     beneath serverLows lows firstNode overloaded
-lends = (refl, refl, refl, refl, refl, refl, refl)
+lends = (refl, refl, refl, refl, refl, refl)

@@ -38,14 +38,19 @@ on-most false a most h = omega arith
 
 -- ---- A deal
 
+-- A figure of the cords that fits in a word of watts, summed over those beneath a node.
+pub beneath-most : (d : Deal) → d .cords ≤ mostCords → (n : ℕ) (figure : ℕ → ℕ) → ((c : ℕ) → c < d .cords → figure c ≤ mostWatts)
+    → sumBelow d n figure ≤ mostSum
+unfolding under
+beneath-most d few n figure most =
+    le-trans
+    (sum-most (d .cords) mostWatts _ (λ c l. on-most (beneath (d .parent) (d .nodes) n (d .node c)) (figure c) mostWatts (most c l)))
+    (mul-le-mul-right mostWatts few)
+
 module _ (d : Deal) (ok : Dealable d) (few : d .cords ≤ mostCords) (limits : (n : ℕ) → n < d .nodes → d .limit n ≤ mostWatts)
     (wants : (c : ℕ) → c < d .cords → d .want c ≤ mostWatts) where
   wants-most : (n j : ℕ) → sumBelow d n (atLevel d j (d .want)) ≤ mostSum
-  unfolding under
-  wants-most n j =
-      le-trans
-      (sum-most (d .cords) mostWatts _ (λ c l. on-most (beneath (d .parent) (d .nodes) n (d .node c)) _ mostWatts (on-most (eqb (d .level c) j) (d .want c) mostWatts (wants c l))))
-      (mul-le-mul-right mostWatts few)
+  wants-most n j = beneath-most d few n (atLevel d j (d .want)) (λ c l. on-most (eqb (d .level c) j) (d .want c) mostWatts (wants c l))
 
   pub asked-most : (n j : ℕ) → n < d .nodes → j < d .levels → asked d (request d) n j ≤ mostSum
   asked-most n j l h = le-trans (asked-wants d ok (pcapmin d) (request d) (measured d ok) n j l h) (wants-most n j)
@@ -121,7 +126,7 @@ module _ (d : Deal) (ok : Dealable d) (few : d .cords ≤ mostCords) (limits : (
 -- ---- A plan
 
 module _ (r : Room) (ok : Accepted r) (demands : List ℕ) where
-  limit-most : (n : ℕ) → n < length (r .nodes) → limit (nodeAt r n) ≤ mostWatts
+  pub limit-most : (n : ℕ) → n < length (r .nodes) → limit (nodeAt r n) ≤ mostWatts
   limit-most n l = le-trans (limit-le (nodeAt r n) (ok .nodes n l .percentTo)) (ok .nodes n l .ratingTo)
 
   needs-most : (v : ℕ) → v < length (r .servers) → at (needs r demands) v ≤ mostWatts

@@ -9,10 +9,10 @@ use lib.Dec.{eqb}
 use borrow.Author.Tests.{eq-eqb, ne-eqb}
 use Rattle.figures.specs.Sums.{on, sum}
 use Rattle.figures.specs.Figures.{total, sumOf}
-use Rattle.figures.proofs.Sums.{on-yes, sum-up, sum-none, up}
+use Rattle.figures.proofs.Sums.{sum-up, sum-none, up}
 use Rattle.figures.proofs.Lists.{total-append}
 use Rattle.splits.specs.Split.{part, partsAfter, split}
-use Rattle.deals.specs.Metrics.{Deal, Metrics, dealFrom, metrics, atLevel, overNodes, overCords}
+use Rattle.deals.specs.Metrics.{Deal, Metrics, dealFrom, metrics, overNodes, overCords}
 use Rattle.deals.specs.Dealing.{Child, node, cord, same, placesFrom, children, nodeOver, cordOver, weight, weightsOf, weightSum, beside, partOf, amount}
 
 -- ---- Worked by hand
@@ -111,7 +111,7 @@ module _ (w : Child → ℕ) where
 
 -- ---- The children of a node
 
-module _ (d : Deal) (f : Metrics) (n j : ℕ) where
+module _ (d : Deal) (n : ℕ) where
   nodesAt : List Child
   nodesAt = map node (placesFrom (d .nodes) 0 (λ m. eqb (d .parent m) (suc n)))
 
@@ -123,7 +123,11 @@ module _ (d : Deal) (f : Metrics) (n j : ℕ) where
   unfolding nodesAt
   nodes-total w = total-places w node (λ m. eqb (d .parent m) (suc n)) (d .nodes) 0 ∙ up-first (d .nodes) _
 
-  pub children-sum : (w : Child → ℕ) → sumOf (map w (children d n)) ≡ overNodes d n (λ m. w (node m)) + sum (d .cords) (λ c. on (eqb (d .node c) (suc n)) (w (cord c)))
+  -- All of a figure: that of the child nodes, and of the cords on the node.
+  abbrev pub overAll : (Child → ℕ) → ℕ
+  overAll w = overNodes d n (λ m. w (node m)) + sum (d .cords) (λ c. on (eqb (d .node c) (suc n)) (w (cord c)))
+
+  pub children-sum : (w : Child → ℕ) → sumOf (map w (children d n)) ≡ overAll w
   unfolding children nodesAt cordsAt
   children-sum w =
       sumOf-map w (children d n)
@@ -141,32 +145,29 @@ module _ (d : Deal) (f : Metrics) (n j : ℕ) where
       (map-places w v cord (λ c. eqb (d .node c) (suc n)) (d .cords) 0 (λ c h. b c (omega arith)))
       ∙ sym (map-append v nodesAt cordsAt)
 
-  -- All weights: those of the child nodes, and of the cords on the node.
-  abbrev pub allWeights : ℕ
-  allWeights = overNodes d n (λ m. nodeOver f m j) + overCords d n j (cordOver d)
-
-  pub weightSum-is : weightSum d f n j ≡ allWeights
-  unfolding weightSum weightsOf
-  weightSum-is = children-sum (weight d f j)
-
   -- A child node gets its part after the child nodes before it.
-  pub partOf-node : (x m : ℕ) → m < d .nodes → d .parent m ≡ suc n
-      → partOf d f n j x (node m) ≡ part x allWeights (sum m (λ h. on (eqb (d .parent h) (suc n)) (nodeOver f h j))) (nodeOver f m j)
-  unfolding partOf split weightSum weightsOf children parted cordsAt
-  partOf-node x m l e =
-      beside-places (weight d f j) node x (weightSum d f n j) cordsAt (λ i h. refl) (λ h. eqb (d .parent h) (suc n))
+  pub partOf-node : (w : Child → ℕ) (x m : ℕ) → m < d .nodes → d .parent m ≡ suc n
+      → partOf d w n x (node m) ≡ part x (overAll w) (sum m (λ h. on (eqb (d .parent h) (suc n)) (w (node h)))) (w (node m))
+  unfolding partOf split children parted cordsAt
+  partOf-node w x m l e =
+      beside-places w node x (sumOf (map w (children d n))) cordsAt (λ i h. refl) (λ h. eqb (d .parent h) (suc n))
       (d .nodes) 0 m m 0 (zero-add m) l (eq-eqb (d .parent m) (suc n) e)
-      ∙ ap₂ (λ (w z : ℕ). part x w z (nodeOver f m j)) weightSum-is (zero-add _ ∙ up-first m _)
+      ∙ ap₂ (λ (all z : ℕ). part x all z (w (node m))) (children-sum w) (zero-add _ ∙ up-first m _)
 
-  -- A cord of the level gets its part after all child nodes and the cords before it.
-  pub partOf-cord : (x c : ℕ) → c < d .cords → d .node c ≡ suc n → d .level c ≡ j
-      → partOf d f n j x (cord c)
-      ≡ part x allWeights (overNodes d n (λ m. nodeOver f m j) + sum c (λ h. on (eqb (d .node h) (suc n)) (atLevel d j (cordOver d) h))) (cordOver d c)
-  unfolding partOf split weightSum weightsOf children parted nodesAt cordsAt
-  partOf-cord x c l e same-level =
-      beside-others (weight d f j) node x (weightSum d f n j) cordsAt (cord c) (λ i. refl) (placesFrom (d .nodes) 0 (λ m. eqb (d .parent m) (suc n))) 0
-      ∙ ap₂ (λ (z : ℕ) (l : List Child). beside (cord c) l (partsAfter x (weightSum d f n j) z (map (weight d f j) l))) (zero-add _ ∙ nodes-total (weight d f j)) (sym (append-nil cordsAt))
-      ∙ beside-places (weight d f j) cord x (weightSum d f n j) [] (λ i h. refl) (λ h. eqb (d .node h) (suc n))
-      (d .cords) 0 c c (overNodes d n (λ m. nodeOver f m j)) (zero-add c) l (eq-eqb (d .node c) (suc n) e)
-      ∙ ap₂ (λ (w z : ℕ). part x w (overNodes d n (λ m. nodeOver f m j) + z) (atLevel d j (cordOver d) c)) weightSum-is (up-first c _)
-      ∙ ap (part x allWeights _) (on-yes (eqb (d .level c) j) (cordOver d c) (eq-eqb (d .level c) j same-level))
+  -- A cord gets its part after all child nodes and the cords before it.
+  pub partOf-cord : (w : Child → ℕ) (x c : ℕ) → c < d .cords → d .node c ≡ suc n
+      → partOf d w n x (cord c)
+      ≡ part x (overAll w) (overNodes d n (λ m. w (node m)) + sum c (λ h. on (eqb (d .node h) (suc n)) (w (cord h)))) (w (cord c))
+  unfolding partOf split children parted nodesAt cordsAt
+  partOf-cord w x c l e =
+      let all : ℕ = sumOf (map w (children d n)) in
+      beside-others w node x all cordsAt (cord c) (λ i. refl) (placesFrom (d .nodes) 0 (λ m. eqb (d .parent m) (suc n))) 0
+      ∙ ap₂ (λ (z : ℕ) (l : List Child). beside (cord c) l (partsAfter x all z (map w l))) (zero-add _ ∙ nodes-total w) (sym (append-nil cordsAt))
+      ∙ beside-places w cord x all [] (λ i h. refl) (λ h. eqb (d .node h) (suc n))
+      (d .cords) 0 c c (overNodes d n (λ m. w (node m))) (zero-add c) l (eq-eqb (d .node c) (suc n) e)
+      ∙ ap₂ (λ (a z : ℕ). part x a (overNodes d n (λ m. w (node m)) + z) (w (cord c))) (children-sum w) (up-first c _)
+
+-- The weights at a level, summed.
+pub weightSum-is : (d : Deal) (f : Metrics) (n j : ℕ) → weightSum d f n j ≡ overNodes d n (λ m. nodeOver f m j) + overCords d n j (cordOver d)
+unfolding weightSum weightsOf
+weightSum-is d f n j = children-sum d n (weight d f j)

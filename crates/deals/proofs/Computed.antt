@@ -7,18 +7,20 @@ use native.Mathlib.Omega.{arith}
 use lib.Dec.{eqb, leb}
 use lib.ListN.{length, getD, drop, drop-of-length-le}
 use lib.Seq.{drop-cons, drop-drop}
-use borrow.Author.Tests.{ne-eqb}
+use borrow.Author.Tests.{eq-eqb, ne-eqb}
 use Rattle.figures.specs.Sums.{on, sum}
-use Rattle.figures.proofs.Sums.{on-no, sum-cong, sum-zero, sum-up, up}
+use Rattle.figures.proofs.Sums.{on-yes, on-no, sum-cong, sum-zero, sum-up, up}
 use Rattle.rooms.proofs.Trees.{kids, own}
 use Rattle.figures.specs.Figures.{at, cell, sumOf}
 use Rattle.deals.specs.Metrics.{Deal, atLevel, overRows, childSums, sumsFrom, requestsAbove, requestsFrom, metrics, overCords}
-use Rattle.deals.specs.Dealing.{node, byNumber, partOf, amount, reached, granted}
+use Rattle.deals.specs.Dealing.{Child, node, cord, weight, cordOver, byNumber, partOf, nodeAmount, cordAmount, amount, reached, granted}
+use Rattle.splits.specs.Split.{part}
 use Rattle.deals.specs.Properties.{GivesAll, fromLevel}
 use Rattle.figures.proofs.Lists.{figures-at, figures-length, total-drop}
 use Rattle.deals.proofs.Rows.{IsRow}
 use Rattle.deals.proofs.Children.{partOf-node, partOf-cord}
-use Rattle.deals.proofs.Requests.{Dealable, WholeWay, TreeWay, Measured, asked, sumBelow, sumBelow-cong, pcapmin-request}
+use Rattle.deals.proofs.Requests.{Dealable, WholeWay, TreeWay, Measured, asked, later, sumBelow, sumBelow-cong, pcapmin-request}
+use Rattle.deals.proofs.Amounts.{whole, ByWeights}
 use Rattle.deals.proofs.Equations.{Starting, Dealt, weights, grant, amount-weight, gives-all, granted-request, reached-over, ours, most-above}
 
 -- ---- The rows of the nodes, from the last to the first
@@ -167,36 +169,48 @@ module _ (d : Deal) (ok : Dealable d) where
         (row-is (d .levels) (d .limit n) (pcapmin d n) (at sums)));
   }
 
-  -- What the node at place m has of its parent's amount z.
-  nodePart : ℕ → ℕ → ℕ → ℕ → ℕ
-  nodePart m n j z = partOf d (metrics d) n j z (node m)
+  -- The amounts by any weights meet their equations.
+  module _ (w : Child → ℕ) where
+    -- What the node at place m has of its parent's amount z.
+    nodePart : ℕ → ℕ → ℕ → ℕ
+    nodePart m n z = partOf d w n z (node m)
 
-  -- Steps beyond the node's place change nothing.
-  amount-steps : (j k l m : ℕ) → m < d .nodes → m < k → m < l → amount d (metrics d) k m j ≡ amount d (metrics d) l m j
-  unfolding amount nodePart
-  amount-steps j zero l m h a b = absurd (not-suc-le-zero a)
-  amount-steps j (suc k) zero m h a b = absurd (not-suc-le-zero b)
-  amount-steps j (suc k) (suc l) m h a b = go (d .parent m) refl (λ n. amount-steps j k l n)
-    where
-      go : (v : ℕ) → d .parent m ≡ v
-          → ((n : ℕ) → n < d .nodes → n < k → n < l → amount d (metrics d) k n j ≡ amount d (metrics d) l n j)
-          → amount d (metrics d) (suc k) m j ≡ amount d (metrics d) (suc l) m j
-      go zero e ih = byNumber-zero (d .parent m) _ _ e ∙ sym (byNumber-zero (d .parent m) _ _ e)
-      go (suc n) e ih =
-          let u : n < m = subst (λ (z : ℕ). z ≤ m) e (ok .rises m h) in
-          byNumber-suc (d .parent m) _ _ n e ∙ ap (nodePart m n j) (ih n (omega arith) (omega arith) (omega arith))
-          ∙ sym (byNumber-suc (d .parent m) _ _ n e)
+    -- Steps beyond the node's place change nothing.
+    amount-steps : (k l m : ℕ) → m < d .nodes → m < k → m < l → nodeAmount d w k m ≡ nodeAmount d w l m
+    unfolding nodeAmount nodePart
+    amount-steps zero l m h a b = absurd (not-suc-le-zero a)
+    amount-steps (suc k) zero m h a b = absurd (not-suc-le-zero b)
+    amount-steps (suc k) (suc l) m h a b = go (d .parent m) refl (λ n. amount-steps k l n)
+      where
+        go : (v : ℕ) → d .parent m ≡ v
+            → ((n : ℕ) → n < d .nodes → n < k → n < l → nodeAmount d w k n ≡ nodeAmount d w l n)
+            → nodeAmount d w (suc k) m ≡ nodeAmount d w (suc l) m
+        go zero e ih = byNumber-zero (d .parent m) _ _ e ∙ sym (byNumber-zero (d .parent m) _ _ e)
+        go (suc n) e ih =
+            let u : n < m = later d ok m n h e in
+            byNumber-suc (d .parent m) _ _ n e ∙ ap (nodePart m n) (ih n (omega arith) (omega arith) (omega arith))
+            ∙ sym (byNumber-suc (d .parent m) _ _ n e)
+
+    pub by-weights : ByWeights d (λ m. w (node m)) (λ c. w (cord c)) (λ m. nodeAmount d w (suc m) m) (cordAmount d w)
+    unfolding nodeAmount cordAmount nodePart whole kids own
+    by-weights = record {
+      root = λ m l e. byNumber-zero (d .parent m) _ _ e;
+      inner = λ m n l e.
+          let u : n < m = later d ok m n l e in
+          byNumber-suc (d .parent m) _ _ n e ∙ ap (nodePart m n) (amount-steps m (suc n) n (omega arith) u (le-refl (suc n)))
+          ∙ partOf-node d n w (nodeAmount d w (suc n) n) m l e;
+      leaf = λ c n l e. byNumber-suc (d .node c) _ _ n e ∙ partOf-cord d n w (nodeAmount d w (suc n) n) c l e;
+    }
 
   pub dealt : Dealt d (startsOf d) (request d) (amountOf d) (reached d (metrics d))
-  unfolding amountOf amount reached nodePart weights kids own startsOf request metrics
+  unfolding amountOf amount reached weights whole kids own startsOf request metrics
   dealt = record {
     starts = sums-at d (ok .rises) (d .start);
-    root = λ m j l e. byNumber-zero (d .parent m) _ _ e;
-    inner = λ m n j l e.
-        let u : n < m = subst (λ (z : ℕ). z ≤ m) e (ok .rises m l) in
-        byNumber-suc (d .parent m) _ _ n e ∙ ap (nodePart m n j) (amount-steps j m (suc n) n (omega arith) u (le-refl (suc n)))
-        ∙ partOf-node d (metrics d) n j (amountOf d n j) m l e;
-    leaf = λ c n l e. byNumber-suc (d .node c) _ _ n e ∙ partOf-cord d (metrics d) n (d .level c) (amountOf d n (d .level c)) c l e refl;
+    root = λ m j l e. by-weights (weight d (metrics d) j) .root m l e;
+    inner = λ m n j l e. by-weights (weight d (metrics d) j) .inner m n l e;
+    leaf = λ c n l e.
+        by-weights (weight d (metrics d) (d .level c)) .leaf c n l e
+        ∙ ap (part _ _ _) (on-yes (eqb (d .level c) (d .level c)) (cordOver d c) (eq-eqb (d .level c) (d .level c) refl));
   }
 
   pub granted-at : (c : ℕ) → c < d .cords → at (granted d) c ≡ d .start c + reached d (metrics d) c

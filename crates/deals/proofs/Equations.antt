@@ -2,18 +2,19 @@
 -- and no other way gives the cords of a tree, of any rank and above, more.
 use mathlib.Core.Path.{_≡_, refl, sym, ap, _∙_, subst}
 use mathlib.Core.Bool.{Bool, true, false}
-use Prim.Native.Nat.{ℕ, zero, suc, _+_, _*_, _-_, _/_, _≤_, _<_}
+use Prim.Native.Nat.{ℕ, suc, _+_, _-_, _≤_, _<_}
 use native.Mathlib.Nat.{le-trans, le-of-eq, add-comm}
 use native.Mathlib.Omega.{arith}
 use lib.Dec.{eqb}
-use borrow.Author.Tests.{eqb-true}
+use borrow.Author.Tests.{eqb-true, eq-eqb}
 use Rattle.figures.specs.Sums.{on, sum}
-use Rattle.figures.proofs.Sums.{on-le, on-cong, sum-cong, sum-le, up, up-cong}
-use Rattle.rooms.proofs.Trees.{kids, own, kids-add, kids-cong, rise}
+use Rattle.figures.proofs.Sums.{on-le, on-yes, sum-le, up, up-cong}
+use Rattle.rooms.proofs.Trees.{kids, own, kids-add, kids-cong}
 use Rattle.deals.specs.Metrics.{Deal, atLevel}
 use Rattle.deals.specs.Properties.{fromLevel}
 use Rattle.splits.specs.Split.{part}
-use Rattle.splits.proofs.Splits.{part-le, part-none, part-whole, telescope, telescope-all}
+use Rattle.splits.proofs.Splits.{part-none}
+use Rattle.deals.proofs.Amounts.{whole, ByWeights, amount-most, reached-most, all-given}
 use Rattle.deals.proofs.Requests.{Dealable, WholeWay, TreeWay, sumBelow, asked, Measured, sumBelow-unique, sumBelow-from, sumBelow-all, sumBelow-le, own-add, pcapmin-is, requests-fit, request-asked, way-total}
 
 module _ (d : Deal) where
@@ -72,20 +73,36 @@ module _ (d : Deal) (ok : Dealable d) where
       unfolding nodeOver
       over-weights n j l h = omega (arith, weights-starts n j l h, request-asked d ok p r me n l j h, st .within n j l h)
 
-      -- No node gets more than its weight.
-      amount-over : (n : ℕ) → n < nodes → (j : ℕ) → j < levels → x n j ≤ nodeOver n j
-      unfolding nodeOver weigh
-      amount-over = rise nodes (λ n. (j : ℕ) → j < levels → x n j ≤ nodeOver n j) (λ n l ih j h. go n l ih j h (parent n) refl)
+      -- A cord of another level has no part; one of this level has its own.
+      cord-part : (n j : ℕ) (c : ℕ) → c < cords → node c ≡ suc n
+          → atLevel d j y c ≡ part (x n j) (weigh n j) (kids nodes parent n (λ m. nodeOver m j) + sum c (λ h. on (eqb (node h) (suc n)) (atLevel d j cordOver h))) (atLevel d j cordOver c)
+      unfolding nodeOver weigh cordOver
+      cord-part n j c l e = go (eqb (level c) j) refl
         where
-          go : (n : ℕ) → n < nodes → ((m : ℕ) → m < n → (j : ℕ) → j < levels → x m j ≤ nodeOver m j) → (j : ℕ) → j < levels → (q : ℕ) → parent n ≡ q → x n j ≤ nodeOver n j
-          go n l ih j h zero e = le-of-eq (de .root n j l e)
-          go n l ih j h (suc q) e =
-              let u : q < n = subst (λ (z : ℕ). z ≤ n) e (ok .rises n l) in
-              le-trans (le-of-eq (de .inner n q j l e)) (part-le (x q j) (weigh q j) _ (nodeOver n j) (le-trans (ih q u j h) (over-weights q j (le-trans u (omega arith)) h)))
+          go : (t : Bool) → eqb (level c) j ≡ t
+              → on t (y c) ≡ part (x n j) (weigh n j) (kids nodes parent n (λ m. nodeOver m j) + sum c (λ h. on (eqb (node h) (suc n)) (atLevel d j cordOver h))) (on t (cordOver c))
+          go true q = subst
+              (λ (z : ℕ). y c ≡ part (x n z) (weigh n z) (kids nodes parent n (λ m. nodeOver m z) + sum c (λ h. on (eqb (node h) (suc n)) (atLevel d z cordOver h))) (cordOver c))
+              (eqb-true (level c) j q) (de .leaf c n l e)
+          go false q = sym (part-none (x n j) (weigh n j) _)
 
+      -- At a level it is a dealing by weights, in which no node weighs more than its children.
+      level-weights : (j : ℕ) → ByWeights d (λ n. nodeOver n j) (atLevel d j cordOver) (λ n. x n j) (atLevel d j y)
+      unfolding nodeOver weigh weights whole cordOver
+      level-weights j = record {
+        root = λ m l e. de .root m j l e;
+        inner = λ m n l e. de .inner m n j l e;
+        leaf = λ c n l e. cord-part n j c l e;
+      }
+
+      level-enough : (j : ℕ) → j < levels → (n : ℕ) → n < nodes → nodeOver n j ≤ whole d (λ m. nodeOver m j) (atLevel d j cordOver) n
+      unfolding nodeOver weigh weights whole cordOver
+      level-enough j h n l = over-weights n j l h
+
+      -- No node gets more than its weight.
       pub amount-weight : (n : ℕ) → n < nodes → (j : ℕ) → j < levels → x n j ≤ r n j - s n j
       unfolding nodeOver
-      amount-weight = amount-over
+      amount-weight n l j h = amount-most d ok _ _ _ _ (level-weights j) (level-enough j h) n l
 
       -- So none gets more than its excess: the starts are no less than the lows.
       pub pcapmin-starts : (n j : ℕ) → n < nodes → j < levels → p n j ≤ s n j
@@ -105,47 +122,9 @@ module _ (d : Deal) (ok : Dealable d) where
       unfolding weigh
       weights-asked n j l h = omega (arith, weights-starts n j l h)
 
-      -- A cord of another level has no part; one of this level has its own.
-      cord-part : (n j : ℕ) (c : ℕ) → c < cords → node c ≡ suc n
-          → atLevel d j y c ≡ part (x n j) (weigh n j) (kids nodes parent n (λ m. nodeOver m j) + sum c (λ h. on (eqb (node h) (suc n)) (atLevel d j cordOver h))) (atLevel d j cordOver c)
-      unfolding nodeOver weigh cordOver
-      cord-part n j c l e = go (eqb (level c) j) refl
-        where
-          go : (t : Bool) → eqb (level c) j ≡ t
-              → on t (y c) ≡ part (x n j) (weigh n j) (kids nodes parent n (λ m. nodeOver m j) + sum c (λ h. on (eqb (node h) (suc n)) (atLevel d j cordOver h))) (on t (cordOver c))
-          go true q = subst
-              (λ (z : ℕ). y c ≡ part (x n z) (weigh n z) (kids nodes parent n (λ m. nodeOver m z) + sum c (λ h. on (eqb (node h) (suc n)) (atLevel d z cordOver h))) (cordOver c))
-              (eqb-true (level c) j q) (de .leaf c n l e)
-          go false q = sym (part-none (x n j) (weigh n j) _)
-
-      weights-two : (n j : ℕ) → kids nodes parent n (λ m. nodeOver m j) + own cords node n (atLevel d j cordOver) ≡ weigh n j
-      unfolding nodeOver weigh weights cordOver
-      weights-two n j = refl
-
-      to-kids : (n j : ℕ) → kids nodes parent n (λ m. x m j) ≡ x n j * kids nodes parent n (λ m. nodeOver m j) / weigh n j
-      unfolding kids nodeOver weigh
-      to-kids n j =
-          kids-cong nodes parent n _ _ (λ m lm q. de .inner m n j lm q)
-          ∙ telescope-all (x n j) (weigh n j) (λ m. eqb (parent m) (suc n)) (λ m. nodeOver m j) nodes
-
-      to-cords : (n j : ℕ) → x n j * kids nodes parent n (λ m. nodeOver m j) / weigh n j + own cords node n (atLevel d j y)
-          ≡ x n j * (kids nodes parent n (λ m. nodeOver m j) + own cords node n (atLevel d j cordOver)) / weigh n j
-      unfolding own
-      to-cords n j =
-          ap (λ (z : ℕ). x n j * kids nodes parent n (λ m. nodeOver m j) / weigh n j + z)
-          (sum-cong cords _ _ (λ c l. on-cong (eqb (node c) (suc n)) _ _ (λ t. cord-part n j c l (eqb-true (node c) (suc n) t))))
-          ∙ telescope (x n j) (weigh n j) (kids nodes parent n (λ m. nodeOver m j)) (λ c. eqb (node c) (suc n)) (λ c. atLevel d j cordOver c) cords
-
       -- What a node gets it gives.
       pub gives-all : (n j : ℕ) → n < nodes → j < levels → own cords node n (atLevel d j y) + kids nodes parent n (λ m. x m j) ≡ x n j
-      gives-all n j l h =
-          omega (
-            arith,
-            part-whole (x n j) (weigh n j) (le-trans (amount-over n l j h) (over-weights n j l h)),
-            to-kids n j,
-            to-cords n j,
-            ap (λ (z : ℕ). x n j * z / weigh n j) (weights-two n j),
-          )
+      gives-all n j l h = all-given d ok _ _ _ _ (level-weights j) (level-enough j h) n l
 
       unfoldable pub grant : ℕ → ℕ
       grant c = start c + y c
@@ -166,16 +145,15 @@ module _ (d : Deal) (ok : Dealable d) where
       granted-request j h n l = omega (arith, granted-beneath j h n l, amount-weight n l j h, st .within n j l h)
 
       pub reached-over : (c : ℕ) → c < cords → y c ≤ want c - start c
-      unfolding weigh
-      reached-over c l = go (node c) refl
-        where
-          go : (v : ℕ) → node c ≡ v → y c ≤ want c - start c
-          go zero e = absurd (omega (arith, ok .hangs c l))
-          go (suc n) e =
-              let q : n < nodes = subst (λ (z : ℕ). z ≤ nodes) e (ok .here c l) in
-              le-trans (le-of-eq (de .leaf c n l e))
-              (part-le (x n (level c)) (weigh n (level c)) _ (want c - start c)
-              (le-trans (amount-over n q (level c) (ok .ranks c l)) (over-weights n (level c) q (ok .ranks c l))))
+      unfolding cordOver
+      reached-over c l =
+          let own-level : eqb (level c) (level c) ≡ true = eq-eqb (level c) (level c) refl in
+          omega (
+            arith,
+            reached-most d ok _ _ _ _ (level-weights (level c)) (level-enough (level c) (ok .ranks c l)) c l,
+            on-yes (eqb (level c) (level c)) (y c) own-level,
+            on-yes (eqb (level c) (level c)) (cordOver c) own-level,
+          )
 
       -- Ours is a way of dealing.
       pub ours : WholeWay d grant

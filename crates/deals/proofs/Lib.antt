@@ -7,6 +7,7 @@ pub mod Rows
 pub mod Children
 -- One deal: what follows from its equations, and that the computed figures meet them.
 pub mod Requests
+pub mod Amounts
 pub mod Equations
 pub mod Computed
 pub mod Starts
@@ -19,6 +20,9 @@ pub mod RoomDeals
 pub mod BothDeals
 pub mod LowerRanks
 pub mod Bounds
+-- Headroom over the second deal.
+pub mod Headroom
+pub mod RoomHeadroom
 -- The whole plan, and the promises.
 pub mod Plans
 pub mod Lent

@@ -13,12 +13,13 @@ use Rattle.figures.proofs.Sums.{on-yes}
 use Rattle.rooms.proofs.Trees.{kids, own, kids-add, kids-cong}
 use Rattle.splits.specs.Split.{split}
 use Rattle.deals.specs.Metrics.{Deal, metrics}
-use Rattle.deals.specs.Dealing.{Child, node, cord, children, weightsOf, beside, partOf, reached}
+use Rattle.deals.specs.Dealing.{Child, node, cord, children, weight, weightsOf, beside, partOf, amount, reached}
 use Rattle.deals.specs.Properties.{passed, childExcess, given, PassedFirst}
 use Rattle.deals.proofs.Children.{children-sum, children-cong, partOf-node, partOf-cord}
 use Rattle.deals.proofs.Requests.{Dealable, later, own-add}
 use Rattle.deals.proofs.Equations.{weights, pcapmin-starts}
-use Rattle.deals.proofs.Computed.{pcapmin, request, startsOf, amountOf, measured, dealt, granted-at, Startable}
+use Rattle.deals.proofs.Computed.{pcapmin, request, startsOf, amountOf, measured, by-weights, dealt, granted-at, Startable}
+use Rattle.deals.proofs.Amounts.{whole}
 
 -- An excess less what is passed first is what is over the start, of a node and of a cord at a level.
 over-start : (r p s : ℕ) → p ≤ s → r - p - (s - p) ≡ r - s
@@ -41,38 +42,39 @@ module _ (d : Deal) (ok : Dealable d) (st : Startable d) where
       = kids-cong (d .nodes) (d .parent) n _ _ (λ m lm q. let z : pcapmin d m j ≤ startsOf d m j = lows-starts m j lm h in omega arith)
       ∙ kids-add (d .nodes) (d .parent) n (λ m. startsOf d m j - pcapmin d m j) (λ m. pcapmin d m j) in
       let o = own-add d ok n j (λ c. d .start c - d .low c) (d .low) (d .start) (λ c lc. let z : d .low c ≤ d .start c = st .least c lc in omega arith) in
-      omega (arith, children-sum d (metrics d) n j (passed d j), k, o, dealt d ok .starts n j l h, measured d ok .lowest n j l h)
+      omega (arith, children-sum d n (passed d j), k, o, dealt d ok .starts n j l h, measured d ok .lowest n j l h)
 
   -- The weights are the excesses less what is passed first.
   weights-less : (n j : ℕ) → j < d .levels → weightsOf d (metrics d) n j ≡ map (λ other. childExcess d j other - passed d j other) (children d n)
   unfolding weightsOf pcapmin startsOf
   weights-less n j h =
-      sym (children-cong d (metrics d) n j _ _
+      sym (children-cong d n _ _
       (λ m l. over-start _ _ _ (lows-starts m j l h)) (λ c l. over-start-on (eqb (d .level c) j) (d .want c) (d .low c) (d .start c) (st .least c l)))
 
   inHand : ℕ → ℕ → ℕ
   inHand m j = startsOf d m j - pcapmin d m j + amountOf d m j
 
   -- So a child is given what is passed to it first, and its part of the node's amount.
-  given-is : (n j : ℕ) → n < d .nodes → j < d .levels → (child : Child) → given d n j (inHand n j) child ≡ passed d j child + partOf d (metrics d) n j (amountOf d n j) child
-  unfolding given partOf inHand
+  given-is : (n j : ℕ) → n < d .nodes → j < d .levels → (child : Child) → given d n j (inHand n j) child ≡ passed d j child + partOf d (weight d (metrics d) j) n (amountOf d n j) child
+  unfolding given partOf inHand weightsOf
   given-is n j l h child =
       let rest : inHand n j - sumOf (map (passed d j) (children d n)) ≡ amountOf d n j = omega (arith, passed-sum n j l h) in
       ap₂ (λ (x : ℕ) (w : List ℕ). passed d j child + beside child (children d n) (split x w)) rest (sym (weights-less n j h))
 
   pub passed-first : PassedFirst d
-  unfolding inHand pcapmin startsOf request weights kids own
+  unfolding inHand pcapmin startsOf request weights kids own whole amountOf amount reached
   passed-first = record {
     inHand = inHand;
     root = λ m j l h e. omega (arith, dealt d ok .root m j l e, lows-starts m j l h, st .within m j l h);
     toNode = λ m n j l h e.
         let k : n < m = later d ok m n l e in
-        ap (λ (x : ℕ). startsOf d m j - pcapmin d m j + x) (dealt d ok .inner m n j l e ∙ sym (partOf-node d (metrics d) n j (amountOf d n j) m l e))
+        ap (λ (x : ℕ). startsOf d m j - pcapmin d m j + x) (dealt d ok .inner m n j l e ∙ sym (partOf-node d n (weight d (metrics d) j) (amountOf d n j) m l e))
         ∙ sym (given-is n j (omega arith) h (node m));
     toCord = λ c n l e.
         let q : n < d .nodes = subst (λ (i : ℕ). i ≤ d .nodes) e (ok .here c l) in
-        let y : reached d (metrics d) c ≡ partOf d (metrics d) n (d .level c) (amountOf d n (d .level c)) (cord c)
-        = dealt d ok .leaf c n l e ∙ sym (partOf-cord d (metrics d) n (d .level c) (amountOf d n (d .level c)) c l e refl) in
+        let y : reached d (metrics d) c ≡ partOf d (weight d (metrics d) (d .level c)) n (amountOf d n (d .level c)) (cord c)
+        = by-weights d ok (weight d (metrics d) (d .level c)) .leaf c n l e
+        ∙ sym (partOf-cord d n (weight d (metrics d) (d .level c)) (amountOf d n (d .level c)) c l e) in
         omega (
           arith,
           granted-at d ok c l,

@@ -2,7 +2,7 @@
 use mathlib.Core.Path.{_≡_, refl, sym, ap, _∙_, subst}
 use mathlib.Core.Bool.{Bool, true, false}
 use mathlib.Core.List.{List}
-use Prim.Native.Nat.{ℕ, _-_, _≤_, _<_, min}
+use Prim.Native.Nat.{ℕ, _+_, _-_, _≤_, _<_, min}
 use native.Mathlib.Nat.{le-trans, le-of-eq}
 use native.Mathlib.Omega.{arith}
 use lib.Dec.{leb}
@@ -11,7 +11,7 @@ use borrow.Author.Tests.{leb-true, leb-false, le-leb, lt-leb}
 use Rattle.rooms.specs.Part.{good}
 use Rattle.figures.specs.Sums.{on}
 use Rattle.rooms.specs.Table.{Room, highestRank, roomCords}
-use Rattle.rooms.specs.Limits.{parentOf, checked}
+use Rattle.rooms.specs.Limits.{limit, nodeAt, parentOf, checked}
 use Rattle.rooms.proofs.Accepted.{Accepted, accepted}
 use Rattle.figures.proofs.Sums.{sum-cong}
 use Rattle.rooms.proofs.Trees.{under}
@@ -22,9 +22,10 @@ use Rattle.deals.specs.Metrics.{Deal, dealOf}
 use Rattle.deals.specs.Dealing.{granted}
 use Rattle.deals.specs.SecondDeal.{firstDeal, firstGrants, firstUsable, firstUsed, secondDeal, secondWants, secondGrants, caps}
 use Rattle.deals.specs.Plan.{Plan}
+use Rattle.deals.specs.Headroom.{ceilingsOf, headroom}
 use Rattle.deals.specs.Ways.{cordBeneath, sumBeneath, fromRank}
-use Rattle.deals.specs.Promises.{AcceptedPlan, AcceptedHasRoom, Answered, AnswerOfBothDeals, Kept, FirstKept, SecondKept, Greatest, FirstGreatest, SecondGreatest, SettledFromRank, RefusalNine, CapsKeepUsable, GrantsKeepUsed}
-use Rattle.deals.specs.Properties.{CapsInRange, UsedGranted, SecondWantsInRange, FirstGivesAll, SecondGivesAll, SecondPassesFirst, fromLevel, Totals, FiguresFit}
+use Rattle.deals.specs.Promises.{AcceptedPlan, AcceptedHasRoom, Answered, AnswerOfBothDeals, Kept, FirstKept, SecondKept, Greatest, FirstGreatest, SecondGreatest, SettledFromRank, RefusalNine, CapsKeepUsable, GrantsKeepUsed, HeadroomWithinLimits, HeadroomWithinCeilings, HeadroomAllLent}
+use Rattle.deals.specs.Properties.{CapsInRange, UsedGranted, SecondWantsInRange, FirstGivesAll, SecondGivesAll, SecondPassesFirst, fromLevel, Totals, FiguresFit, HeadroomFits}
 use Rattle.deals.proofs.Requests.{WholeWay}
 use Rattle.deals.proofs.Computed.{Startable, granted-most, deal-gives-all}
 use Rattle.deals.proofs.Passed.{passed-first}
@@ -33,6 +34,7 @@ use Rattle.deals.proofs.RoomDeals.{levelsOf-at, roomDeal, dealOf-is}
 use Rattle.deals.proofs.BothDeals.{server-facts, cord-facts, room-dealable, grants-way, first-dealable, first-starts, first-startable, second-dealable, second-starts, second-startable, firstWants-lows, secondWants-lows, firstUsed-granted, secondGrants-used, capsUsed-granted, secondWants-wants, caps-least, caps-usable, caps-need}
 use Rattle.deals.proofs.LowerRanks.{firstGrants-same, firstUsable-same, secondGrants-same, caps-same}
 use Rattle.deals.proofs.Bounds.{bounded}
+use Rattle.deals.proofs.RoomHeadroom.{headroom-limits, headroom-ceilings, headroom-lent, headroom-figures}
 use Rattle.deals.proofs.Plans.{plan-nine, plan-good, plan-good-table, planRoom-accepted}
 
 -- The levels from that of a rank on are the ranks from it on.
@@ -180,6 +182,20 @@ pub grants-keep-used : GrantsKeepUsed
 grants-keep-used p c l =
     le-trans (secondGrants-used (p .room) (accepted-room p) (p .demands) c l) (le-of-eq (ap (λ (z : List ℕ). at z c) (sym (answered p .grants))))
 
+-- ---- 6
+
+pub headroom-within-limits : HeadroomWithinLimits
+headroom-within-limits p =
+    of-grants p (λ r demands grants. (n : ℕ) → n < length (r .nodes) → sumBeneath r n (λ c. at grants c + at (headroom r demands) c) ≤ limit (nodeAt r n))
+    headroom-limits
+
+pub headroom-within-ceilings : HeadroomWithinCeilings
+headroom-within-ceilings p =
+    of-grants p (λ r demands grants. (c : ℕ) → c < roomCords r → at grants c + at (headroom r demands) c ≤ at (ceilingsOf r) c) headroom-ceilings
+
+pub headroom-all-lent : HeadroomAllLent
+headroom-all-lent p = headroom-lent (p .room) (accepted-room p) (p .demands)
+
 -- ---- What else is proved of every plan
 
 pub caps-in-range : CapsInRange
@@ -218,3 +234,6 @@ totals table r end e demands =
 
 pub figures-fit : FiguresFit
 figures-fit table r end e demands = bounded r (accepted table r end e) demands
+
+pub headroom-fits : HeadroomFits
+headroom-fits table r end e demands = headroom-figures r (accepted table r end e) demands

@@ -100,7 +100,7 @@ module _ (d : Deal) (ok : Dealable d) where
   pub later : (m n : ℕ) → m < nodes → parent m ≡ suc n → n < m
   later m n l e = subst (λ (z : ℕ). z ≤ m) e (ok .rises m l)
 
-  sumBelow-step : (n : ℕ) (w : ℕ → ℕ) → sumBelow d n w ≡ own cords node n w + kids nodes parent n (λ m. sumBelow d m w)
+  pub sumBelow-step : (n : ℕ) (w : ℕ → ℕ) → sumBelow d n w ≡ own cords node n w + kids nodes parent n (λ m. sumBelow d m w)
   sumBelow-step n w =
       whole n ∙ below-step nodes parent (ok .rises) cords node (ok .here) n w
       ∙ ap (λ (z : ℕ). own cords node n w + z) (kids-cong nodes parent n _ _ (λ m l e. sym (whole m)))

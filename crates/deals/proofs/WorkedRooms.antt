@@ -3,10 +3,11 @@
 use mathlib.Core.Path.{_≡_, refl}
 use mathlib.Core.List.{List, [], _∷_}
 use Prim.Native.Nat.{ℕ}
-use Rattle.rooms.specs.Part.{follow, word, ensure, end, many}
+use Rattle.rooms.specs.Part.{Step, good, bad, follow, word, ensure, end, many}
 use Rattle.figures.specs.Figures.{total}
-use Rattle.rooms.specs.Table.{formOf, percent, node, cord, range, load, server, table}
-use Rattle.rooms.specs.Limits.{beneath, serverLows, lows, firstNode, overloaded}
+use Rattle.rooms.specs.Table.{Room, formOf, percent, node, cord, range, load, server, table}
+use Rattle.rooms.specs.Limits.{beneath, serverLows, lows, firstNode, overloaded, checked}
+use Rattle.deals.specs.Headroom.{headroom}
 use Rattle.deals.specs.Plan.{Outcome, accepted, refused, plan}
 use Rattle.deals.specs.declared.Lengths.{Lengths}
 use Rattle.deals.specs.declared.PlanList.the-variants.{Grants, Caps}
@@ -20,9 +21,12 @@ lengths grants caps = record { grants = grants; caps = caps }
 abbrev planned : ℕ → List ℕ → List ℕ → Outcome
 planned freed grants caps = accepted (record { freed = freed; grants = grants; caps = caps })
 
--- Room H.
+-- Room H, by the rating of its second node.
+abbrev tableHWith : ℕ → List ℕ
+tableHWith rating = 1 ∷ 2 ∷ 0 ∷ 150 ∷ 0 ∷ rating ∷ 2 ∷ 1 ∷ 100 ∷ 400 ∷ 2 ∷ 1 ∷ 500 ∷ 2 ∷ 500 ∷ 1 ∷ 100 ∷ 400 ∷ 1 ∷ 2 ∷ 1000 ∷ []
+
 abbrev tableH : List ℕ
-tableH = 1 ∷ 2 ∷ 0 ∷ 150 ∷ 0 ∷ 500 ∷ 2 ∷ 1 ∷ 100 ∷ 400 ∷ 2 ∷ 1 ∷ 500 ∷ 2 ∷ 500 ∷ 1 ∷ 100 ∷ 400 ∷ 1 ∷ 2 ∷ 1000 ∷ []
+tableH = tableHWith 500
 
 -- Its plan whole, and room H turned back by 10, 11, 12 and 13.
 room-h : (plan tableH (400 ∷ 400 ∷ []) (lengths 3 2) ≡ planned 13 (120 ∷ 120 ∷ 280 ∷ []) (240 ∷ 280 ∷ []))
@@ -43,11 +47,14 @@ tableN = 1 ∷ 2 ∷ 0 ∷ 188 ∷ 1 ∷ 125 ∷ 2 ∷ 1 ∷ 0 ∷ 1000 ∷ 1 �
 abbrev tableO : List ℕ
 tableO = 1 ∷ 2 ∷ 0 ∷ 2 ∷ 1 ∷ 2 ∷ 2 ∷ 1 ∷ 0 ∷ 1 ∷ 1 ∷ 2 ∷ 1000 ∷ 1 ∷ 0 ∷ 1 ∷ 1 ∷ 1 ∷ 1000 ∷ []
 
--- Room S.
-abbrev tableS : List ℕ
-tableS =
-    1 ∷ 3 ∷ 0 ∷ 1550 ∷ 1 ∷ 938 ∷ 1 ∷ 938 ∷ 4 ∷ 2 ∷ 270 ∷ 500 ∷ 1 ∷ 2 ∷ 1000 ∷ 1 ∷ 270 ∷ 500 ∷ 1 ∷ 2 ∷ 1000
+-- Room S, by the rating of its root.
+abbrev tableSWith : ℕ → List ℕ
+tableSWith rating =
+    1 ∷ 3 ∷ 0 ∷ rating ∷ 1 ∷ 938 ∷ 1 ∷ 938 ∷ 4 ∷ 2 ∷ 270 ∷ 500 ∷ 1 ∷ 2 ∷ 1000 ∷ 1 ∷ 270 ∷ 500 ∷ 1 ∷ 2 ∷ 1000
     ∷ 1 ∷ 270 ∷ 500 ∷ 1 ∷ 3 ∷ 1000 ∷ 1 ∷ 270 ∷ 500 ∷ 1 ∷ 3 ∷ 1000 ∷ []
+
+abbrev tableS : List ℕ
+tableS = tableSWith 1550
 
 -- A root with 120 W over a node with 80 W and a cord, and a root with 20 W that holds one of a server's two cords down.
 abbrev tableP : List ℕ
@@ -71,3 +78,23 @@ unfolding plan
     follow word ensure end many total formOf percent node cord range load server table
     beneath serverLows lows firstNode overloaded
 near-misses = (refl, refl, refl)
+
+-- ---- Headroom
+
+-- The headroom of a table's room.
+abbrev lentBy : Step Room → List ℕ → List ℕ
+lentBy (good r end) demands = headroom r demands
+lentBy (bad refusal) demands = []
+
+-- None where all limits are granted; what is left, split by ceilings less Requests; by the second wants, of which cord 2's is less;
+-- through the nodes of room S; and none to its first node where that is granted its whole limit.
+lends : (lentBy (checked tableH 0) (400 ∷ 400 ∷ []) ≡ 0 ∷ 0 ∷ 0 ∷ [])
+    × (lentBy (checked tableH 0) (100 ∷ 100 ∷ []) ≡ 70 ∷ 83 ∷ 167 ∷ [])
+    × (lentBy (checked (tableHWith 1000) 0) (400 ∷ 400 ∷ []) ≡ 0 ∷ 80 ∷ 0 ∷ [])
+    × (lentBy (checked tableS 0) (430 ∷ 430 ∷ 430 ∷ 430 ∷ []) ≡ 0 ∷ 0 ∷ 0 ∷ 0 ∷ [])
+    × (lentBy (checked (tableSWith 1750) 0) (430 ∷ 270 ∷ 300 ∷ 330 ∷ []) ≡ 4 ∷ 16 ∷ 27 ∷ 23 ∷ [])
+    × (lentBy (checked (tableSWith 2000) 0) (430 ∷ 430 ∷ 300 ∷ 330 ∷ []) ≡ 0 ∷ 0 ∷ 64 ∷ 56 ∷ [])
+unfolding checked headroom
+    follow word ensure end many total formOf percent node cord range load server table
+    beneath serverLows lows firstNode overloaded
+lends = (refl, refl, refl, refl, refl, refl)

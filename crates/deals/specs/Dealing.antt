@@ -74,30 +74,37 @@ beside child [] figures = 0
 beside child (other ∷ others) [] = 0
 beside child (other ∷ others) (figure ∷ figures) = cond (same child other) figure (beside child others figures)
 
--- What a child gets at level j of the amount of its node, which is at place n: the part beside it in the split among all
--- children by their weights.
-unfoldable pub partOf : Deal → Metrics → ℕ → ℕ → ℕ → Child → ℕ
-unfolding beside children split weightsOf
-partOf d f n j amount child = beside child (children d n) (split amount (weightsOf d f n j))
+-- What a child gets of an amount of its node, which is at place n: the part beside it in the split among all children by their
+-- weights.
+unfoldable pub partOf : Deal → (Child → ℕ) → ℕ → ℕ → Child → ℕ
+unfolding beside children split
+partOf d weight n amount child = beside child (children d n) (split amount (map weight (children d n)))
 
 -- By the number of a node: `none` for number 0, else the figure at its place.
 abbrev pub byNumber : ℕ → ℕ → (ℕ → ℕ) → ℕ
 byNumber zero none figure = none
 byNumber (suc n) none figure = figure n
 
--- The amount at level j of the node at place m: a root's is all of its weight, any other's what its parent gives it.
+-- The amount of the node at place m, by given weights: a root's is all of its weight, any other's what its parent gives it.
 -- (`steps` bounds the way to the root; a parent's number is below its child's, so that m + 1 is enough.)
-unfoldable pub amount : Deal → Metrics → ℕ → ℕ → ℕ → ℕ
+unfoldable pub nodeAmount : Deal → (Child → ℕ) → ℕ → ℕ → ℕ
 unfolding partOf
-amount d f zero m j = 0
-amount d f (suc steps) m j = byNumber (d .parent m) (nodeOver f m j) (λ n. partOf d f n j (amount d f steps n j) (node m))
+nodeAmount d weight zero m = 0
+nodeAmount d weight (suc steps) m = byNumber (d .parent m) (weight (node m)) (λ n. partOf d weight n (nodeAmount d weight steps n) (node m))
 
--- The amount that reaches the cord at place c: what its node gives it at its rank.
+-- The amount that reaches the cord at place c, by given weights: what its node gives it.
+unfoldable pub cordAmount : Deal → (Child → ℕ) → ℕ → ℕ
+unfolding partOf nodeAmount
+cordAmount d weight c = byNumber (d .node c) 0 (λ n. partOf d weight n (nodeAmount d weight (suc n) n) (cord c))
+
+-- The amount at level j of the node at place m, and what reaches the cord at place c at its own level.
+unfoldable pub amount : Deal → Metrics → ℕ → ℕ → ℕ → ℕ
+unfolding nodeAmount
+amount d f steps m j = nodeAmount d (weight d f j) steps m
+
 unfoldable pub reached : Deal → Metrics → ℕ → ℕ
-unfolding partOf amount
-reached d f c =
-    let j = d .level c in
-    byNumber (d .node c) 0 (λ n. partOf d f n j (amount d f (suc n) n j) (cord c))
+unfolding cordAmount
+reached d f c = cordAmount d (weight d f (d .level c)) c
 
 -- The grants of a deal: each cord's start plus the amount that reached it.
 unfoldable pub granted : Deal → List ℕ

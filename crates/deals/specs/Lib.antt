@@ -8,6 +8,8 @@ pub mod Dealing
 -- Both deals, and the whole plan with its refusals.
 pub mod SecondDeal
 pub mod Plan
+-- Headroom over the second deal (request A.1).
+pub mod Headroom
 -- What is promised (demand 3): trees and other ways of dealing them, and the statements.
 pub mod Ways
 pub mod Promises

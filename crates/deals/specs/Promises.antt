@@ -1,9 +1,9 @@
--- Demand 3, and what request A.2 asks for: what Plan promises, whatever the table and the demands. Statements only;
+-- Demand 3, and what requests A.1 and A.2 ask for: what Plan promises, whatever the table and the demands. Statements only;
 -- proofs/Promises.antt proves each: `FirstKept` as `first-kept`, and so on.
 use mathlib.Core.Path.{_≡_}
 use mathlib.Core.List.{List}
 use mathlib.Core.Logic.{_↔_}
-use Prim.Native.Nat.{ℕ, _≤_, _<_}
+use Prim.Native.Nat.{ℕ, _+_, _≤_, _<_}
 use lib.ListN.{length}
 use Rattle.rooms.specs.Part.{good, Good}
 use Rattle.rooms.specs.Table.{Room, roomCords}
@@ -14,6 +14,7 @@ use Rattle.rooms.specs.Cords.{serverAt, rankOf}
 use Rattle.deals.specs.Wants.{firstWants}
 use Rattle.rooms.specs.Lists.{lowsOf}
 use Rattle.deals.specs.SecondDeal.{firstGrants, firstUsable, firstUsed, freed, secondWants, secondGrants, caps}
+use Rattle.deals.specs.Headroom.{ceilingsOf, headroom, rootHeadroom}
 use Rattle.deals.specs.Plan.{Plan, accepted, plan, answerOf, planNumber, planFigure}
 use Rattle.deals.specs.Ways.{Root, Way, sumBeneath, fromRank}
 use Rattle.deals.specs.declared.Lengths.{Lengths}
@@ -125,3 +126,26 @@ CapsKeepUsable =
 abbrev pub GrantsKeepUsed : Type 0
 GrantsKeepUsed =
     (p : AcceptedPlan) (c : ℕ) → c < roomCords (p .room) → at (firstUsed (p .room) (p .demands)) c ≤ at (p .answer .grants) c
+
+-- ---- 6. Headroom (request A.1)
+
+-- Grants and headroom of all cords beneath a node sum to no more than its limit.
+abbrev pub HeadroomWithinLimits : Type 0
+HeadroomWithinLimits =
+    (p : AcceptedPlan) (n : ℕ) → n < length (p .room .nodes)
+    → sumBeneath (p .room) n (λ c. at (p .answer .grants) c + at (headroom (p .room) (p .demands)) c) ≤ limit (nodeAt (p .room) n)
+
+-- No cord's grant and headroom pass its ceiling.
+abbrev pub HeadroomWithinCeilings : Type 0
+HeadroomWithinCeilings =
+    (p : AcceptedPlan) (c : ℕ) → c < roomCords (p .room)
+    → at (p .answer .grants) c + at (headroom (p .room) (p .demands)) c ≤ at (ceilingsOf (p .room)) c
+
+-- All of a root's headroom is lent: the cords of its tree have it together.
+abbrev pub HeadroomAllLent : Type 0
+HeadroomAllLent =
+    (p : AcceptedPlan) (root : ℕ) → Root (p .room) root
+    → sumBeneath (p .room) root (at (headroom (p .room) (p .demands))) ≡ rootHeadroom (p .room) (p .demands) root
+
+-- (1 to 5 speak of grants, usable watts and caps alone, and stand as they are: no definition of these has headroom in it. So it
+-- may follow the demands of lower ranks, and they still may not.)

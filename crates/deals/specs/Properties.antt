@@ -11,13 +11,13 @@ use Rattle.rooms.specs.Table.{Room, mostWatts, mostCords, roomCords}
 use Rattle.rooms.specs.Limits.{checked}
 use Rattle.figures.specs.Figures.{total, at, cell, sumOf}
 use Rattle.figures.specs.Sums.{on, sum}
-use Rattle.splits.specs.Split.{split}
 use Rattle.rooms.specs.Cords.{serverAt}
 use Rattle.deals.specs.Wants.{needs, firstWants}
 use Rattle.rooms.specs.Lists.{carriedBy, lowsOf}
 use Rattle.deals.specs.Metrics.{Deal, atLevel, metrics, excess, cordExcess, overNodes, overCords, childSums}
-use Rattle.deals.specs.Dealing.{Child, node, cord, children, nodeOver, cordOver, weightSum, beside, amount, reached, granted}
+use Rattle.deals.specs.Dealing.{Child, node, cord, children, nodeOver, cordOver, weightSum, partOf, nodeAmount, amount, reached, granted}
 use Rattle.deals.specs.SecondDeal.{firstDeal, firstGrants, firstUsed, freed, secondDeal, secondWants}
+use Rattle.deals.specs.Headroom.{ceilingsOf, nodeCeiling, requestsAt, headroomWeight}
 use Rattle.deals.specs.Promises.{AcceptedPlan}
 
 -- ---- Caps, used watts, the second deal's wants, and what a node gives
@@ -72,11 +72,10 @@ childExcess d j (cord c) = atLevel d j (cordExcess d) c
 -- What a child gets of the watts in hand of the node at place n: what is passed to it first, and its part of what then remains,
 -- split among the children by their excesses less what is passed to each.
 unfoldable pub given : Deal → ℕ → ℕ → ℕ → Child → ℕ
-unfolding children beside split total
+unfolding children partOf total
 given d n j watts child =
-    passed d j child
-    + beside child (children d n)
-    (split (watts - sumOf (map (passed d j) (children d n))) (map (λ other. childExcess d j other - passed d j other) (children d n)))
+    let rest = watts - sumOf (map (passed d j) (children d n)) in
+    passed d j child + partOf d (λ other. childExcess d j other - passed d j other) n rest child
 
 -- A deal in which each node has watts in hand at each rank, beyond the lows: a root all of its excess, any other what its parent
 -- gives it so; and in which each cord is granted its low and what its node gives it so.
@@ -159,3 +158,33 @@ pub record Bounded (r : Room) (demands : List ℕ) : Type 0 where
 abbrev pub FiguresFit : Type 0
 FiguresFit =
     (table : List ℕ) (r : Room) (end : ℕ) → checked table 0 ≡ good r end → (demands : List ℕ) → Bounded r demands
+
+-- The weights of the children of the node at place n, summed, and what that node has to lend.
+unfoldable pub headroomWeights : Deal → (ℕ → ℕ) → ℕ → ℕ
+unfolding children total metrics nodeCeiling
+headroomWeights d ceiling n = sumOf (map (headroomWeight d (metrics d) ceiling) (children d n))
+
+unfoldable pub headroomAt : Deal → (ℕ → ℕ) → ℕ → ℕ
+unfolding nodeAmount metrics nodeCeiling total
+headroomAt d ceiling n = nodeAmount d (headroomWeight d (metrics d) ceiling) (suc n) n
+
+-- The figures of the headroom over a deal, where each cord has a ceiling. A ceiling, of a cord or of a node, and so each headroom, fits in
+-- 24 bits; the children's ceilings and their weights sum to no more than 34 bits, and headroom times any running sum of weights fits
+-- in 58. No difference is below 0, and no node weighs more than its children.
+pub record HeadroomBounded (d : Deal) (ceiling : ℕ → ℕ) : Type 0 where
+  pub ceilings : (c : ℕ) → c < d .cords → ceiling c ≤ mostWatts
+  pub wants : (c : ℕ) → c < d .cords → d .want c ≤ ceiling c
+  pub limits : (n : ℕ) → n < d .nodes → nodeCeiling d ceiling n ≤ d .limit n
+  pub requests : (n : ℕ) → n < d .nodes → requestsAt (metrics d) n ≤ nodeCeiling d ceiling n
+  pub children : (n : ℕ) → n < d .nodes
+      → overNodes d n (nodeCeiling d ceiling) + sum (d .cords) (λ c. on (eqb (d .node c) (suc n)) (ceiling c)) ≤ mostSum
+  pub enough : (n : ℕ) → n < d .nodes → headroomWeight d (metrics d) ceiling (node n) ≤ headroomWeights d ceiling n
+  pub weights : (n : ℕ) → n < d .nodes → headroomWeights d ceiling n ≤ mostSum
+  pub amounts : (n : ℕ) → n < d .nodes → headroomAt d ceiling n ≤ headroomWeight d (metrics d) ceiling (node n)
+  pub products : (n : ℕ) → n < d .nodes → headroomAt d ceiling n * headroomWeights d ceiling n < 2 ^ 58
+
+-- Where the table is accepted, they fit, whatever the demands.
+abbrev pub HeadroomFits : Type 0
+HeadroomFits =
+    (table : List ℕ) (r : Room) (end : ℕ) → checked table 0 ≡ good r end → (demands : List ℕ)
+    → HeadroomBounded (secondDeal r demands) (at (ceilingsOf r))

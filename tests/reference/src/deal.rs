@@ -27,8 +27,13 @@ fn deal(room: &Room, wants: &[Watts], used: &[Watts]) -> Vec<Watts> {
     grants
 }
 
+/// The second deal's metrics in a root's tree.
+pub(crate) fn second_metrics(root: &Breaker, wants: &[Watts], used: &[Watts]) -> Part {
+    weighed(root, wants, used)
+}
+
 #[derive(Clone, Copy, Debug, Default)]
-struct Metrics {
+pub(crate) struct Metrics {
     pcapmin: Watts,
     request: Watts,
     /// What is passed on first: the watts in use less the lows.
@@ -36,10 +41,10 @@ struct Metrics {
 }
 
 /// The metrics at each rank that has cords beneath; at every other rank all of them are 0.
-type Row = BTreeMap<u32, Metrics>;
+pub(crate) type Row = BTreeMap<u32, Metrics>;
 
 /// A child of a breaker, or a root, with its metrics.
-enum Part {
+pub(crate) enum Part {
     Cord(usize, u32, Metrics),
     Breaker(Row, Vec<Part>),
 }
@@ -107,6 +112,12 @@ impl Part {
             Part::Cord(..) => Metrics::default(),
             Part::Breaker(row, _) => row.get(&rank).copied().unwrap_or_default(),
         }
+    }
+
+    /// The sum of its Requests, over all ranks.
+    pub(crate) fn requests(&self) -> Watts {
+        let request = |&rank: &u32| self.metrics(rank).request;
+        self.ranks().iter().map(request).sum()
     }
 
     fn excess(&self, rank: u32) -> Watts {

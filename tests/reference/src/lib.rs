@@ -8,6 +8,7 @@
 pub mod call;
 pub mod control;
 pub mod deal;
+pub mod headroom;
 pub mod number;
 pub mod plan;
 mod program;

@@ -1,6 +1,7 @@
 //! Demands, the two deals and what they answer.
 
 use crate::deal::{first_deal, second_deal};
+use crate::headroom::headroom;
 use crate::room::{carried, Room, Server};
 use crate::{Plan, Refusal, Watts};
 
@@ -19,6 +20,7 @@ pub struct Deals {
     pub second_wants: Vec<Watts>,
     pub second_grants: Vec<Watts>,
     pub caps: Vec<Watts>,
+    pub headroom: Vec<Watts>,
 }
 
 /// Refusals 10 and 11.
@@ -45,6 +47,7 @@ pub fn deals(room: &Room, demands: &[u32]) -> Deals {
     let second_wants = second_wants(&first_wants, &used, &stranded);
     let second_grants = second_deal(room, &second_wants, &used);
     let caps = self::usable(room, &needs, &second_grants);
+    let headroom = headroom(room, &second_wants, &used);
     Deals {
         needs,
         first_wants,
@@ -55,6 +58,7 @@ pub fn deals(room: &Room, demands: &[u32]) -> Deals {
         second_wants,
         second_grants,
         caps,
+        headroom,
     }
 }
 

@@ -45,6 +45,8 @@ pub struct Cord {
     pub rank: u32,
     pub share: Watts,
     pub low: Watts,
+    /// What it carries of its server's greatest.
+    pub ceiling: Watts,
 }
 
 impl Room {
@@ -121,6 +123,7 @@ impl Cord {
             rank: server.rank,
             share,
             low: carried(share, server.least.into()),
+            ceiling: carried(share, server.greatest.into()),
         }
     }
 }

@@ -122,6 +122,81 @@ fn room_s_with_a_greater_root_loses_no_watt() {
     assert_eq!(plan.caps, [430, 281, 294, 295]);
 }
 
+fn lent(table: &[u32], demands: &[u32]) -> Vec<i128> {
+    dealt(table, demands).headroom
+}
+
+/// Both nodes of room H are granted all of their limits: nothing is left to lend. With demands of
+/// 100 each cord wants its low. Node 1 lends 120 − 50 = 70, and node 2 lends 400 − 150 = 250 by
+/// 200 − 50 = 150 and 400 − 100 = 300: floor(250 × 150 / 450) = 83 and 167.
+#[test]
+fn room_h_lends_what_no_cord_requests() {
+    assert_eq!(lent(&room_h(500), &[400, 400]), [0, 0, 0]);
+    assert_eq!(lent(&room_h(500), &[100, 100]), [70, 83, 167]);
+}
+
+/// Node 2, with limit 800, has ceiling 200 + 400 = 600. Cord 2 wants 200 at first and gets them, but
+/// its server can use only 240, 120 on each cord. So its second want is 120, and the Requests there
+/// are 520. By first wants no child would have a weight.
+#[test]
+fn headroom_goes_by_second_wants() {
+    let deals = dealt(&room_h(1_000), &[400, 400]);
+    assert_eq!(deals.second_wants, [200, 120, 400]);
+    assert_eq!(deals.headroom, [0, 80, 0]);
+}
+
+/// Room S, all ceilings 500, the two nodes' 750. With demands of 430 nobody lends. With a root of
+/// 1,750 (limit 1,400) and demands 430, 270, 300, 330 all wants are met: Requests 700 and 630, and
+/// 1,330 at the root, which lends 70 by 50 and 120: floor(70 × 50 / 170) = 20 and 50. The left node
+/// splits 20 by 70 and 230, the right 50 by 200 and 170.
+#[test]
+fn room_s_lends_through_its_nodes() {
+    assert_eq!(lent(&room_s(1_550), &[430; 4]), [0; 4]);
+    assert_eq!(lent(&room_s(1_625), &[430; 4]), [0; 4]);
+    assert_eq!(lent(&room_s(1_750), &[430, 270, 300, 330]), [4, 16, 27, 23]);
+}
+
+/// Room S with a root of 2,000 (limit 1,600; ceiling 750 + 750). The left node's Requests, 430 and
+/// 320, are cut to its limit: its cords are 110 W short of their wants, and it gets no headroom. The
+/// root's 1,500 − 750 − 630 = 120 all go to the right, by 200 and 170.
+#[test]
+fn a_full_breaker_is_lent_nothing() {
+    let deals = dealt(&room_s(2_000), &[430, 430, 300, 330]);
+    assert_eq!(deals.second_grants, [430, 320, 300, 330]);
+    assert_eq!(deals.headroom, [0, 0, 64, 56]);
+}
+
+/// A root with limit 100 over a node with limit 50, whose cord wants 10 of 90, and a cord that wants
+/// 20 of 60. The weights are 50 − 10 and 60 − 20; 100 − 30 = 70 are split evenly. By the cords' own
+/// ceilings, 80 and 40, the node would be lent 46 and pass its limit.
+#[test]
+fn a_breaker_weighs_by_its_own_ceiling() {
+    let room = table(
+        &[(0, 125), (1, 63)],
+        &[(1, 0, 90, &[(2, 1000)]), (1, 0, 60, &[(1, 1000)])],
+    );
+    assert_eq!(lent(&room, &[10, 20]), [35, 35]);
+}
+
+/// One watt over a node and a cord of equal weights, and then over two cords: the last has it.
+#[test]
+fn headroom_is_split_in_the_order_of_the_children() {
+    let beneath: Server = (1, 0, 1, &[(2, 1000)]);
+    let own: Server = (1, 0, 1, &[(1, 1000)]);
+    let nodes = [(0, 2), (1, 9)];
+    assert_eq!(lent(&table(&nodes, &[own, beneath]), &[0, 0]), [1, 0]);
+    assert_eq!(lent(&table(&nodes, &[beneath, own]), &[0, 0]), [0, 1]);
+    assert_eq!(lent(&table(&nodes, &[own, own]), &[0, 0]), [0, 1]);
+}
+
+/// Three cords of 333, 333 and 334 thousandths of 100 W have ceilings 34, 34 and 34.
+#[test]
+fn ceilings_are_rounded_up() {
+    let cords = [(1, 333), (1, 333), (1, 334)];
+    let room = table(&[(0, 1_000)], &[(1, 0, 100, &cords)]);
+    assert_eq!(lent(&room, &[0]), [34, 34, 34]);
+}
+
 #[test]
 fn a_room_without_servers_frees_nothing() {
     let empty = Plan {

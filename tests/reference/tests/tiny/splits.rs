@@ -35,15 +35,15 @@ fn every_amount_is_the_step_between_floors() {
     assert!(uneven[0] > 2_000 && uneven[1] > 200, "{uneven:?}");
 }
 
-struct Deal<'a> {
-    room: &'a Room,
-    wants: &'a [Watts],
+pub struct Deal<'a> {
+    pub room: &'a Room,
+    pub wants: &'a [Watts],
     /// What each cord has before anything is split: its low, or its used watts.
-    starts: &'a [Watts],
-    grants: &'a [Watts],
+    pub starts: &'a [Watts],
+    pub grants: &'a [Watts],
 }
 
-enum Child {
+pub enum Child {
     Node(u32),
     Cord(Cord),
 }
@@ -85,7 +85,7 @@ impl Deal<'_> {
         uneven
     }
 
-    fn children(&self, node: u32) -> Vec<Child> {
+    pub fn children(&self, node: u32) -> Vec<Child> {
         let numbers = self.room.numbers();
         let nodes = numbers.filter(|&number| self.room.parent(number) == node);
         let cords = self
@@ -132,7 +132,7 @@ impl Deal<'_> {
         }
     }
 
-    fn request(&self, child: &Child, rank: u32) -> Watts {
+    pub fn request(&self, child: &Child, rank: u32) -> Watts {
         match child {
             Child::Cord(cord) if cord.rank == rank => self.wants[cord.index],
             Child::Cord(_) => 0,

@@ -1,0 +1,75 @@
+-- Amounts dealt by weights, by their equations: where no node weighs more than its children, each gives all that it gets, and none
+-- gets more than its weight. (A rank's dealing is one such, and that of the headroom another.)
+use mathlib.Core.Path.{_≡_, refl, sym, ap, _∙_, subst}
+use Prim.Native.Nat.{ℕ, zero, suc, _+_, _*_, _/_, _≤_, _<_}
+use native.Mathlib.Nat.{le-trans, le-of-eq, add-comm}
+use native.Mathlib.Omega.{arith}
+use lib.Dec.{eqb}
+use borrow.Author.Tests.{eqb-true}
+use Rattle.figures.specs.Sums.{on, sum}
+use Rattle.figures.proofs.Sums.{on-cong, sum-cong}
+use Rattle.rooms.proofs.Trees.{kids, own, kids-cong, rise}
+use Rattle.splits.specs.Split.{part}
+use Rattle.splits.proofs.Splits.{part-le, part-whole, telescope, telescope-all}
+use Rattle.deals.specs.Metrics.{Deal}
+use Rattle.deals.proofs.Requests.{Dealable, later, sumBelow, sumBelow-unique}
+
+module _ (d : Deal) where
+  open Deal d using (nodes, parent, cords, node)
+
+  -- The weights of the children of the node at place n, summed: w are those of the nodes and v those of the cords.
+  unfoldable pub whole : (ℕ → ℕ) → (ℕ → ℕ) → ℕ → ℕ
+  whole w v n = kids nodes parent n w + own cords node n v
+
+  -- x is what each node has to give, and y what reaches each cord.
+  pub record ByWeights (w v x y : ℕ → ℕ) : Type 0 where
+    pub root : (m : ℕ) → m < nodes → parent m ≡ 0 → x m ≡ w m
+    pub inner : (m n : ℕ) → m < nodes → parent m ≡ suc n
+        → x m ≡ part (x n) (whole w v n) (sum m (λ h. on (eqb (parent h) (suc n)) (w h))) (w m)
+    pub leaf : (c n : ℕ) → c < cords → node c ≡ suc n
+        → y c ≡ part (x n) (whole w v n) (kids nodes parent n w + sum c (λ h. on (eqb (node h) (suc n)) (v h))) (v c)
+
+module _ (d : Deal) (ok : Dealable d) (w v x y : ℕ → ℕ) (by : ByWeights d w v x y)
+    (enough : (n : ℕ) → n < d .nodes → w n ≤ whole d w v n) where
+  open Deal d using (nodes, parent, cords, node)
+
+  -- No node gets more than its weight.
+  pub amount-most : (n : ℕ) → n < nodes → x n ≤ w n
+  amount-most = rise nodes (λ n. x n ≤ w n) (λ n l ih. go n l ih (parent n) refl)
+    where
+      go : (n : ℕ) → n < nodes → ((m : ℕ) → m < n → x m ≤ w m) → (q : ℕ) → parent n ≡ q → x n ≤ w n
+      go n l ih zero e = le-of-eq (by .root n l e)
+      go n l ih (suc q) e =
+          let u : q < n = later d ok n q l e in
+          le-trans (le-of-eq (by .inner n q l e)) (part-le (x q) (whole d w v q) _ (w n) (le-trans (ih q u) (enough q (omega arith))))
+
+  -- Nor does a cord.
+  pub reached-most : (c : ℕ) → c < cords → y c ≤ v c
+  reached-most c l = go (node c) refl
+    where
+      go : (q : ℕ) → node c ≡ q → y c ≤ v c
+      go zero e = absurd (omega (arith, ok .hangs c l))
+      go (suc n) e =
+          let q : n < nodes = subst (λ (z : ℕ). z ≤ nodes) e (ok .here c l) in
+          le-trans (le-of-eq (by .leaf c n l e)) (part-le (x n) (whole d w v n) _ (v c) (le-trans (amount-most n q) (enough n q)))
+
+  to-kids : (n : ℕ) → kids nodes parent n x ≡ x n * kids nodes parent n w / whole d w v n
+  unfolding kids
+  to-kids n =
+      kids-cong nodes parent n _ _ (λ m lm q. by .inner m n lm q)
+      ∙ telescope-all (x n) (whole d w v n) (λ m. eqb (parent m) (suc n)) w nodes
+
+  to-cords : (n : ℕ) → x n * kids nodes parent n w / whole d w v n + own cords node n y ≡ x n * whole d w v n / whole d w v n
+  unfolding own whole
+  to-cords n =
+      ap (λ (z : ℕ). x n * kids nodes parent n w / whole d w v n + z)
+      (sum-cong cords _ _ (λ c l. on-cong (eqb (node c) (suc n)) _ _ (λ t. by .leaf c n l (eqb-true (node c) (suc n) t))))
+      ∙ telescope (x n) (whole d w v n) (kids nodes parent n w) (λ c. eqb (node c) (suc n)) v cords
+
+  -- What a node gets it gives.
+  pub all-given : (n : ℕ) → n < nodes → own cords node n y + kids nodes parent n x ≡ x n
+  all-given n l = omega (arith, part-whole (x n) (whole d w v n) (le-trans (amount-most n l) (enough n l)), to-kids n, to-cords n)
+
+  -- So all of it reaches the cords beneath.
+  pub all-beneath : (n : ℕ) → n < nodes → x n ≡ sumBelow d n y
+  all-beneath = sumBelow-unique d ok y x (λ n l. sym (all-given n l))

@@ -13,7 +13,7 @@
 //                           uint8_t *caps, size_t caps_len,
 //                           uint8_t *answer, size_t answer_len);
 ghost use mathlib.Core.Path.{_≡_};
-ghost use Prim.Native.Nat.{suc, _≤_, min};
+ghost use Prim.Native.Nat.{suc, _≤_};
 ghost use lib.ListN.{length};
 ghost use Rattle.words.specs.Bytes.{wordsOf, answered};
 ghost use Rattle.rooms.specs.Table.{mostServers, mostCords, mostWords};
@@ -25,6 +25,7 @@ use demands::DECIDING_DEMANDS;
 use room_lists::cord_count;
 use rooms::Answer;
 use rooms::DECIDING_WORDS;
+use words::least;
 
 pub mod schedule;
 pub mod send;
@@ -217,11 +218,4 @@ fn planned_count(planned: Planned, count: usize) -> usize
         Planned::Accepted(_) => count,
         Planned::Refused(_) => 0,
     }
-}
-
-// The lesser of two counts.
-fn least(a: usize, b: usize) -> usize
-    ensures { λ r. ⌜ r ≡ min a b ⌝ }
-{
-    if a < b { a } else { b }
 }

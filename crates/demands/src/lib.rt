@@ -1,7 +1,8 @@
 // Demands in decimal, one a line: a text, read in pieces of any size, turned into words.
 ghost use mathlib.Core.Path.{_≡_};
-ghost use Prim.Native.Nat.{min};
+ghost use Prim.Native.Nat.{};
 ghost use Rattle.demands.specs.Reading.{emptyLine, extended, hasByte, lineDemand, held, with, closed, fedByte, fed, finished, countIn, isFull};
+use words::least;
 
 // One demand more than a room may have servers: so many decide every demand list, and no more lines are read.
 pub const DECIDING_DEMANDS: usize = 513;
@@ -147,11 +148,4 @@ impl Reading {
             line: Line::Digits(0, 0),
         }
     }
-}
-
-// The lesser of two counts.
-fn least(a: usize, b: usize) -> usize
-    ensures { λ r. ⌜ r ≡ min a b ⌝ }
-{
-    if a < b { a } else { b }
 }

@@ -1,6 +1,6 @@
 // What `hutplan` prints, in bytes.
 ghost use mathlib.Core.Path.{_≡_};
-ghost use Prim.Native.Nat.{_^_, _≤_, _<_, min};
+ghost use Prim.Native.Nat.{_^_, _≤_, _<_};
 ghost use lib.ListN.{length};
 ghost use Rattle.io.specs.Counts.{Counts};
 ghost use Rattle.print.specs.Line.{decimal, freedLine, serverLine, cordLine, refusedLine, Put};
@@ -13,6 +13,7 @@ ghost use Rattle.room_lists.specs.Lists.{OfRoom, ServersFit, CordsFit, nodeColu
 use figures::word_index;
 use room_lists::COUNT;
 use room_lists::NODE;
+use words::least;
 
 // The most servers and cords of a room, and the most cords of a server.
 const MOST_SERVERS: usize = 512;
@@ -223,11 +224,4 @@ fn word(list: &[u32], place: usize) -> usize
     } else {
         0
     }
-}
-
-// The lesser of two counts.
-fn least(a: usize, b: usize) -> usize
-    ensures { λ r. ⌜ r ≡ min a b ⌝ }
-{
-    if a < b { a } else { b }
 }

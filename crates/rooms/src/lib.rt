@@ -1,6 +1,6 @@
 // The room table and its rules: the check of a table, Read and Write.
 ghost use mathlib.Core.Path.{_≡_};
-ghost use Prim.Native.Nat.{ℕ, suc, _≤_, min};
+ghost use Prim.Native.Nat.{ℕ, suc, _≤_};
 ghost use lib.ListN.{length, replicate};
 ghost use lib.Seq.{sets};
 ghost use Rattle.numbers.specs.Number.{faultNumber};
@@ -164,13 +164,6 @@ pub fn check(table: &[u32]) -> Checked
     check_lows(table, &mut lows)
 }
 
-// The lesser of two lengths.
-fn lesser(a: usize, b: usize) -> usize
-    ensures { λ r. ⌜ r ≡ min a b ⌝ }
-{
-    if a < b { a } else { b }
-}
-
 // The answer on a table whose words are to go to an output of `space` words.
 fn answer_for(table: &[u32], space: usize) -> Answer
     ensures { λ r. ⌜ r ≡ answerOf (unlessRefused (checked (now (table .entry)) 0) (fitting (now (table .entry)) space)) ⌝ }
@@ -200,7 +193,7 @@ pub fn read_words(sheet: &[u8], words: &mut [u32], space: usize) -> Answer
             return Answer::Refused(Refusal::BadNumber(fault, place));
         }
     };
-    let front = lesser(count, words.len());
+    let front = words::least(count, words.len());
     answer_for(&words[..front], space)
 }
 

@@ -109,7 +109,7 @@ fn put(number: u64, count: usize, bytes: &mut [u8], at: usize)
 }
 
 // The lesser of two counts.
-fn least(a: usize, b: usize) -> usize
+pub fn least(a: usize, b: usize) -> usize
     ensures { λ r. ⌜ r ≡ min a b ⌝ }
 {
     if a < b { a } else { b }

@@ -23,14 +23,14 @@ returns c =
     let sheet = call .decode-sheet .ensures in
     (first-bad-number (args .sheet .now) (args .words .now) (args .space) (sheet .0) (c .before .judged2 .given .1), sheet .1)
 
-lesser-requires : tie.Need-lesser-requires
-lesser-requires c κs = search needs
+least-requires : tie.Need-least-requires
+least-requires c κs = search needs
 
 slice-reshare-prefix-answer-for : tie.Need-slice-reshare-prefix-answer-for
 slice-reshare-prefix-answer-for c = search needs
 
 slice-aggregate-answer-for : tie.Need-slice-aggregate-answer-for
-slice-aggregate-answer-for c = front-length _ _ (c .before .lesser .ensures)
+slice-aggregate-answer-for c = front-length _ _ (c .before .least .ensures)
 
 answer-for-requires : tie.Need-answer-for-requires
 answer-for-requires c κs = search needs
@@ -45,7 +45,7 @@ returns-2 c =
     let call = judged .before .before .before .before in
     let args = call .before .before .before .before .args in
     let sheet = call .decode-sheet .ensures in
-    (first-answered (args .sheet .now) (args .words .now) (args .space) (whole-so _ (sheet .0) (judged .judged .given .1)) (sheet .1) (front .lesser .ensures) (c .answer-for .ensures), sheet .1)
+    (first-answered (args .sheet .now) (args .words .now) (args .space) (whole-so _ (sheet .0) (judged .judged .given .1)) (sheet .1) (front .least .ensures) (c .answer-for .ensures), sheet .1)
 
 pub read-words-spec : {M : Type 1} → statement M
 read-words-spec =
@@ -56,7 +56,7 @@ read-words-spec =
     enum-known-judged-2
     same-length
     returns
-    lesser-requires
+    least-requires
     slice-reshare-prefix-answer-for
     slice-aggregate-answer-for
     answer-for-requires

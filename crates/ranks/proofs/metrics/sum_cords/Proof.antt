@@ -86,19 +86,19 @@ shared-slice-read-index-2 c = cord-there (c .before)
 index-requires-2 : tie.Need-index-requires-2 Inv-loop μ-loop
 index-requires-2 c κs = search needs
 
+mul-low : tie.Need-mul-low Inv-loop μ-loop
+mul-low c = search needs
+
+shared-slice-read-low : tie.Need-shared-slice-read-low Inv-loop μ-loop
+shared-slice-read-low c = omega (arith, cord-there (cord (c .before)), start (turn (cord (c .before)) .before) .pre .0 .lows-size)
+
 mul-start : tie.Need-mul-start Inv-loop μ-loop
 mul-start c = search needs
 
 shared-slice-read-start : tie.Need-shared-slice-read-start Inv-loop μ-loop
-shared-slice-read-start c = omega (arith, cord-there (cord (c .before)), start (turn (cord (c .before)) .before) .pre .0 .starts-size)
-
-mul-wide : tie.Need-mul-wide Inv-loop μ-loop
-mul-wide c = search needs
-
-shared-slice-read-wide : tie.Need-shared-slice-read-wide Inv-loop μ-loop
-shared-slice-read-wide c =
-    let at-cord = cord (c .before .before .before) in
-    omega (arith, cord-there at-cord, start (turn at-cord .before) .pre .0 .lows-size)
+shared-slice-read-start c =
+    let at-cord = cord (c .before .before) in
+    omega (arith, cord-there at-cord, start (turn at-cord .before) .pre .0 .starts-size)
 
 wide-requires : tie.Need-wide-requires Inv-loop μ-loop
 wide-requires c κs = search needs
@@ -117,11 +117,11 @@ credit-requires-2 c κs =
     let at-cord = cord at-node in
     start-fits (turn at-cord .before .loop .inv) (turn at-cord .loop-test .taken) (at-cord .index .ensures .0) (at-node .index2 .ensures .0) (c .wide2 .ensures .0)
 
-mul-wide-2 : tie.Need-mul-wide-2 Inv-loop μ-loop
-mul-wide-2 c = search needs
+mul-wide : tie.Need-mul-wide Inv-loop μ-loop
+mul-wide c = search needs
 
-shared-slice-read-wide-2 : tie.Need-shared-slice-read-wide-2 Inv-loop μ-loop
-shared-slice-read-wide-2 c =
+shared-slice-read-wide : tie.Need-shared-slice-read-wide Inv-loop μ-loop
+shared-slice-read-wide c =
     let at-cord = cord (node (low (begun c))) in
     omega (arith, cord-there at-cord, start (turn at-cord .before) .pre .0 .wants-size)
 
@@ -190,16 +190,16 @@ sum-cords-spec =
     mul-index-2
     shared-slice-read-index-2
     index-requires-2
+    mul-low
+    shared-slice-read-low
     mul-start
     shared-slice-read-start
-    mul-wide
-    shared-slice-read-wide
     wide-requires
     credit-requires
     wide-requires-2
     credit-requires-2
-    mul-wide-2
-    shared-slice-read-wide-2
+    mul-wide
+    shared-slice-read-wide
     sub-wide
     wide-requires-3
     credit-requires-3

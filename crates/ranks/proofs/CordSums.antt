@@ -26,11 +26,12 @@ module _ {count : ℕ} {listed nodes lows starts wants : List ℕ} (cords : Leve
   pub cord-hangs : (1 ≤ at nodes c) × (at nodes c ≤ count)
   cord-hangs = (omega (arith, ap (at nodes) c-is, cords .hangs i more), omega (arith, ap (at nodes) c-is, cords .there i more))
 
-  pub cord-ordered : at starts c ≤ at wants c
-  cord-ordered = omega (arith, ap (at starts) c-is, ap (at wants) c-is, cords .ordered i more .1)
-
-  pub cord-most : at wants c ≤ mostWatts
-  cord-most = omega (arith, ap (at wants) c-is, cords .most i more)
+  pub cord-bounds : (at lows c ≤ at starts c) × (at starts c ≤ at wants c) × (at wants c ≤ mostWatts)
+  cord-bounds = (
+    omega (arith, ap (at lows) c-is, ap (at starts) c-is, cords .ordered i more .0),
+    omega (arith, ap (at starts) c-is, ap (at wants) c-is, cords .ordered i more .1),
+    omega (arith, ap (at wants) c-is, cords .most i more),
+  )
 
 -- ---- One figure of the cords, summed on their nodes
 
@@ -56,10 +57,10 @@ credited-start listed nodes figure count e =
     }
 
 module _ {count : ℕ} {listed nodes lows starts wants : List ℕ} (cords : LevelCords count listed nodes lows starts wants) {i : ℕ} (more : i < length listed) {c : ℕ} (c-is : c ≡ at listed i)
-    {figure : ℕ → ℕ} {sums : List ℕ} (inv : Credited count listed nodes figure i sums) {x a : ℕ} (x-is : x ≡ at nodes c) (a-is : a ≡ figure c) where
+    {figure : ℕ → ℕ} {sums : List ℕ} (inv : Credited count listed nodes figure i sums) {x a : ℕ} (x-is : x ≡ at nodes c) where
   -- The figure of the cord of entry i is credited to its node.
-  credited-more : {sums′ : List ℕ} → sums′ ≡ credited x a sums → Credited count listed nodes figure (i + 1) sums′
-  credited-more {sums′} e =
+  credited-more : {sums′ : List ℕ} → a ≡ figure c → sums′ ≡ credited x a sums → Credited count listed nodes figure (i + 1) sums′
+  credited-more {sums′} a-is e =
       let node : ℕ = at nodes (at listed i) in
       let added : ℕ = figure (at listed i) in
       let r : sums′ ≡ credited node added sums = e ∙ ap₂ (λ (y b : ℕ). credited y b sums) (x-is ∙ ap (at nodes) c-is) (a-is ∙ ap figure c-is) in
@@ -71,14 +72,14 @@ module _ {count : ℕ} {listed nodes lows starts wants : List ℕ} (cords : Leve
             ∙ sym (sum-suc i (λ h. on (eqb (at nodes (at listed h)) (suc n)) (figure (at listed h))));
       })
 
-  -- This credit has a place and does not overflow: no sum passes the most that so many cords have.
-  credited-fits : ((h : ℕ) → h < length listed → figure (at listed h) ≤ mostWatts) → (x ≤ length sums) × (at sums (x - 1) + a < 2 ^ 64)
-  credited-fits most =
+  -- A credit has a place and does not overflow: no sum passes the most that so many cords have.
+  credited-fits : ((h : ℕ) → h < length listed → figure (at listed h) ≤ mostWatts) → a ≤ mostWatts → (x ≤ length sums) × (at sums (x - 1) + a < 2 ^ 64)
+  credited-fits most little =
       let hangs = cord-hangs cords more c-is in
       let own : listedBefore listed nodes figure (x - 1) i ≤ i * mostWatts
       = omega (arith, listed-most listed nodes figure (x - 1) i, sum-most i mostWatts (λ h. figure (at listed h)) (λ h l. most h (omega arith))) in (
         omega (arith, inv .size, hangs .1),
-        omega (arith, cords .few, hangs .0, hangs .1, most i more, ap figure c-is, inv .sums-are (x - 1) (omega (arith, hangs .0, hangs .1))),
+        omega (arith, cords .few, hangs .0, hangs .1, inv .sums-are (x - 1) (omega (arith, hangs .0, hangs .1))),
       )
 
 -- ---- Their lows, starts and weights
@@ -118,14 +119,14 @@ module _ {listed nodes lows starts wants : List ℕ} where
         )
 
     module _ (more : i < length listed) {c : ℕ} (c-is : c ≡ at listed i) {node : ℕ} (node-is : node ≡ at nodes c) where
-      pub low-fits : {low : ℕ} → low ≡ at lows c → (node ≤ length pcapmins) × (at pcapmins (node - 1) + low < 2 ^ 64)
-      low-fits e = credited-fits (turn .cords) more c-is (turn .pcapmins-are) node-is e (λ h l. omega (arith, turn .cords .ordered h l, turn .cords .most h l))
+      pub low-fits : {low : ℕ} → low ≤ mostWatts → (node ≤ length pcapmins) × (at pcapmins (node - 1) + low < 2 ^ 64)
+      low-fits = credited-fits (turn .cords) more c-is (turn .pcapmins-are) node-is (λ h l. omega (arith, turn .cords .ordered h l, turn .cords .most h l))
 
-      pub start-fits : {start : ℕ} → start ≡ at starts c → (node ≤ length bases) × (at bases (node - 1) + start < 2 ^ 64)
-      start-fits e = credited-fits (turn .cords) more c-is (turn .bases-are) node-is e (λ h l. omega (arith, turn .cords .ordered h l, turn .cords .most h l))
+      pub start-fits : {start : ℕ} → start ≤ mostWatts → (node ≤ length bases) × (at bases (node - 1) + start < 2 ^ 64)
+      start-fits = credited-fits (turn .cords) more c-is (turn .bases-are) node-is (λ h l. omega (arith, turn .cords .ordered h l, turn .cords .most h l))
 
-      pub weight-fits : {weight : ℕ} → weight ≡ cordWeight starts wants c → (node ≤ length wholes) × (at wholes (node - 1) + weight < 2 ^ 64)
-      weight-fits e = credited-fits (turn .cords) more c-is (turn .wholes-are) node-is e (λ h l. omega (arith, turn .cords .most h l))
+      pub weight-fits : {weight : ℕ} → weight ≤ mostWatts → (node ≤ length wholes) × (at wholes (node - 1) + weight < 2 ^ 64)
+      weight-fits = credited-fits (turn .cords) more c-is (turn .wholes-are) node-is (λ h l. omega (arith, turn .cords .most h l))
 
       pub sums-next : {low start weight : ℕ} {pcapmins′ bases′ wholes′ : List ℕ} → low ≡ at lows c → start ≡ at starts c → weight ≡ cordWeight starts wants c
           → pcapmins′ ≡ credited node low pcapmins → bases′ ≡ credited node start bases → wholes′ ≡ credited node weight wholes

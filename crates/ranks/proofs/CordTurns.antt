@@ -18,7 +18,7 @@ use Rattle.splits.specs.Split.{part}
 use Rattle.levels.specs.Levels.{Absent}
 use Rattle.ranks.specs.Passes.{LevelCords, listedBefore, overListed, cordWeight, CordsDealt}
 use Rattle.ranks.proofs.NodeSums.{sum-within, product-fits}
-use Rattle.ranks.proofs.CordSums.{cord-within, cord-hangs, cord-ordered, cord-most}
+use Rattle.ranks.proofs.CordSums.{cord-within, cord-hangs, cord-bounds}
 use Rattle.splits.proofs.Splits.{part-le}
 use Rattle.splits.specs.Serving.{MayServe, HasServed}
 use Rattle.splits.proofs.Serving.{Served, served-part, served-next, may-serve}
@@ -142,8 +142,7 @@ module _ {listed nodes starts wants wholes amounts before₀ grants₀ : List �
                 watts-are,
                 part-le (at amounts (node - 1)) (at wholes (node - 1)) (weightsBefore listed nodes starts wants before₀ i (node - 1)) w (turn .ready .amount-inside (node - 1) here),
                 w-is,
-                cord-ordered (turn .ready .cords) more c-is,
-                cord-most (turn .ready .cords) more c-is,
+                cord-bounds (turn .ready .cords) more c-is,
               )
 
           pub cord-next : {grants′ : List ℕ} → grants′ ≡ set grants c (at starts c + watts)

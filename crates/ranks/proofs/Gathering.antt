@@ -1,7 +1,6 @@
 -- Laws of a rank's Requests, gathered from the last node to the first: each node's Request is stored in its row and taken from what
 -- is left of its limit, and its weight is credited to its parent.
 use mathlib.Core.Path.{_≡_, refl, sym, ap, ap₂, _∙_}
-use mathlib.Core.Bool.{Bool, true, false}
 use mathlib.Core.List.{List, []}
 use mathlib.Core.Logic.{_⊎_, inl, inr}
 use Prim.Native.Nat.{ℕ, zero, suc, _+_, _-_, _^_, _≤_, _<_, min}
@@ -10,7 +9,7 @@ use native.Mathlib.Omega.{arith}
 use lib.Dec.{eqb}
 use lib.ListN.{length, getD, set, length-set}
 use lib.Seq.{set-getD, getD-set-same, getD-set-other}
-use borrow.Author.Tests.{ne-eqb, eqb-true, eqb-false}
+use borrow.Author.Tests.{ne-eqb}
 use Rattle.figures.specs.Sums.{on, sum}
 use Rattle.rooms.specs.Table.{mostNodes, mostWatts, highestRank}
 use Rattle.rooms.specs.Credits.{credited}
@@ -22,45 +21,9 @@ use Rattle.figures.specs.Figures.{at, cell}
 use Rattle.ranks.specs.Passes.{FullRows, Gathered}
 use Rattle.levels.specs.Levels.{Absent, ActiveNodes}
 use Rattle.figures.proofs.Lists.{passed-down}
+use Rattle.levels.proofs.Cells.{stored, cell-here, cell-elsewhere, cell-others, stored-full}
 use Rattle.levels.proofs.Active.{Parted, parted-none, parted-all, parted-at, parted-after, between}
 use Rattle.ranks.proofs.NodeSums.{Rises, Fits, beneathAll, credited-nothing, kids-none, Summing, summing-start, whole-at, summing-fits, summing-at, summing-idle, summing-end}
-
--- ---- A figure stored in a row
-
--- The rows after a figure is stored at a level of the row at place k.
-module _ (rows : List (List ℕ)) (k level v : ℕ) where
-  abbrev pub stored : List (List ℕ)
-  stored = set rows k (set (getD rows k []) level v)
-
-  module _ (there : k < length rows) where
-    cell-here : level < length (getD rows k []) → cell stored k level ≡ v
-    cell-here h = ap (λ (r : List ℕ). at r level) (getD-set-same rows k (set (getD rows k []) level v) [] there) ∙ getD-set-same (getD rows k []) level v 0 h
-
-    cell-elsewhere : (m j : ℕ) → (m ≡ k → ⊥) → cell stored m j ≡ cell rows m j
-    cell-elsewhere m j d = ap (λ (r : List ℕ). at r j) (getD-set-other rows k m (set (getD rows k []) level v) [] d)
-
-    cell-others : (m j : ℕ) → (j ≡ level → ⊥) → cell stored m j ≡ cell rows m j
-    cell-others m j d = go (eqb m k) refl
-      where
-        go : (t : Bool) → eqb m k ≡ t → cell stored m j ≡ cell rows m j
-        go false e = cell-elsewhere m j (eqb-false m k e)
-        go true e =
-            let q : m ≡ k = eqb-true m k e in
-            rw q
-            (ap (λ (r : List ℕ). at r j) (getD-set-same rows k (set (getD rows k []) level v) [] there) ∙ getD-set-other (getD rows k []) level j v 0 d)
-
-    stored-full : FullRows rows → FullRows stored
-    stored-full full = (
-      length-set rows k (set (getD rows k []) level v) ∙ full .0,
-      λ m l. go m l (eqb m k) refl,
-    )
-      where
-        go : (m : ℕ) → m < mostNodes → (t : Bool) → eqb m k ≡ t → length (getD stored m []) ≡ highestRank
-        go m l false e = ap length (getD-set-other rows k m (set (getD rows k []) level v) [] (eqb-false m k e)) ∙ full .1 m l
-        go m l true e =
-            let q : m ≡ k = eqb-true m k e in
-            rw q
-            (ap length (getD-set-same rows k (set (getD rows k []) level v) [] there) ∙ length-set (getD rows k []) level v ∙ full .1 k (omega arith))
 
 -- ---- The Requests of a rank
 

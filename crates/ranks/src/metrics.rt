@@ -59,8 +59,9 @@ pub fn sum_cords(
     for i in 0..listed.len() {
         let c = index(listed[i]);
         let node = index(nodes[c]);
+        let low = lows[c];
         let start = starts[c];
-        credit(pcapmins, node, wide(lows[c]));
+        credit(pcapmins, node, wide(low));
         credit(bases, node, wide(start));
         credit(wholes, node, wide(wants[c] - start));
     }

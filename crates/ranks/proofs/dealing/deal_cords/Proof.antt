@@ -5,7 +5,7 @@ use native.Mathlib.Omega.{arith}
 use lib.ListN.{length}
 use borrow.Author.Needs.{needs}
 use Rattle.ranks.proofs.CordTurns.{CordTurn, cords-start, cords-end, cord-may-serve, grant-most, cord-next}
-use Rattle.ranks.proofs.CordSums.{cord-within, cord-hangs, cord-ordered}
+use Rattle.ranks.proofs.CordSums.{cord-within, cord-hangs, cord-bounds}
 use Rattle.ranks.proofs.dealing.deal_cords.Statement.{statement}
 use Rattle.ranks.proofs.dealing.deal_cords.Tie as tie
 
@@ -107,7 +107,7 @@ shared-slice-read-wide c = omega (arith, cord-there (cord (c .before .before .be
 sub-wide : tie.Need-sub-wide Inv-loop μ-loop
 sub-wide c =
     let at-cord = cord (c .before .before .before .before) in
-    cord-ordered (start (turn at-cord .before) .pre .0) (turn at-cord .loop-test .taken) (at-cord .index .ensures .0)
+    cord-bounds (start (turn at-cord .before) .pre .0) (turn at-cord .loop-test .taken) (at-cord .index .ensures .0) .1
 
 wide-requires : tie.Need-wide-requires Inv-loop μ-loop
 wide-requires c κs = search needs

@@ -1,10 +1,12 @@
 -- `sum_cords` meets its contract: before each turn the cords of the entries passed are summed on their nodes.
 use mathlib.Core.Path.{ap, _∙_}
-use Prim.Native.Nat.{ℕ, _-_, _<_}
+use Prim.Native.Nat.{ℕ, _-_, _≤_, _<_}
 use native.Mathlib.Omega.{arith}
 use borrow.Author.Needs.{needs}
 use lib.ListN.{length, replicate}
-use Rattle.ranks.proofs.CordSums.{cord-within, cord-ordered, SumTurn, sums-start, sums-end, low-fits, start-fits, weight-fits, sums-next}
+use Rattle.figures.specs.Figures.{at}
+use Rattle.rooms.specs.Table.{mostWatts}
+use Rattle.ranks.proofs.CordSums.{cord-within, cord-bounds, SumTurn, sums-start, sums-end, low-fits, start-fits, weight-fits, sums-next}
 use Rattle.ranks.proofs.metrics.sum_cords.Statement.{statement}
 use Rattle.ranks.proofs.metrics.sum_cords.Tie as tie
 
@@ -48,8 +50,26 @@ abbrev begun : tie.After-shared-slice-known10 Inv-loop μ-loop → tie.After-wid
 begun c = c .before .before .before .before .before
 
 -- The cord stands in the lists of cords.
-cord-there : (c : tie.After-index Inv-loop μ-loop) → c .index .result < length (start (turn c .before) .args .nodes .now)
-cord-there c = cord-within (start (turn c .before) .pre .0) (turn c .loop-test .taken) (c .index .ensures .0)
+cord-there : (c : tie.After-index Inv-loop μ-loop)
+    → (c .index .result < length (start (turn c .before) .args .nodes .now))
+    × (c .index .result < length (start (turn c .before) .args .lows .now))
+    × (c .index .result < length (start (turn c .before) .args .starts .now))
+    × (c .index .result < length (start (turn c .before) .args .wants .now))
+cord-there c =
+    let cords = start (turn c .before) .pre .0 in
+    let here = cord-within cords (turn c .loop-test .taken) (c .index .ensures .0) in (
+      here,
+      omega (arith, here, cords .lows-size),
+      omega (arith, here, cords .starts-size),
+      omega (arith, here, cords .wants-size),
+    )
+
+-- Its low, start and want stand in order.
+bounds : (c : tie.After-index Inv-loop μ-loop)
+    → (at (start (turn c .before) .args .lows .now) (c .index .result) ≤ at (start (turn c .before) .args .starts .now) (c .index .result))
+    × (at (start (turn c .before) .args .starts .now) (c .index .result) ≤ at (start (turn c .before) .args .wants .now) (c .index .result))
+    × (at (start (turn c .before) .args .wants .now) (c .index .result) ≤ mostWatts)
+bounds c = cord-bounds (start (turn c .before) .pre .0) (turn c .loop-test .taken) (c .index .ensures .0)
 
 clear-requires : tie.Need-clear-requires Inv-loop μ-loop
 clear-requires c κs = search needs
@@ -81,24 +101,22 @@ mul-index-2 : tie.Need-mul-index-2 Inv-loop μ-loop
 mul-index-2 c = search needs
 
 shared-slice-read-index-2 : tie.Need-shared-slice-read-index-2 Inv-loop μ-loop
-shared-slice-read-index-2 c = cord-there (c .before)
+shared-slice-read-index-2 c = cord-there (c .before) .0
 
 index-requires-2 : tie.Need-index-requires-2 Inv-loop μ-loop
 index-requires-2 c κs = search needs
+
+mul-low : tie.Need-mul-low Inv-loop μ-loop
+mul-low c = search needs
+
+shared-slice-read-low : tie.Need-shared-slice-read-low Inv-loop μ-loop
+shared-slice-read-low c = omega (arith, cord-there (cord (c .before)))
 
 mul-start : tie.Need-mul-start Inv-loop μ-loop
 mul-start c = search needs
 
 shared-slice-read-start : tie.Need-shared-slice-read-start Inv-loop μ-loop
-shared-slice-read-start c = omega (arith, cord-there (cord (c .before)), start (turn (cord (c .before)) .before) .pre .0 .starts-size)
-
-mul-wide : tie.Need-mul-wide Inv-loop μ-loop
-mul-wide c = search needs
-
-shared-slice-read-wide : tie.Need-shared-slice-read-wide Inv-loop μ-loop
-shared-slice-read-wide c =
-    let at-cord = cord (c .before .before .before) in
-    omega (arith, cord-there at-cord, start (turn at-cord .before) .pre .0 .lows-size)
+shared-slice-read-start c = omega (arith, cord-there (cord (c .before .before)))
 
 wide-requires : tie.Need-wide-requires Inv-loop μ-loop
 wide-requires c κs = search needs
@@ -106,7 +124,8 @@ wide-requires c κs = search needs
 credit-requires : tie.Need-credit-requires Inv-loop μ-loop
 credit-requires c κs =
     let at-cord = cord (node c) in
-    low-fits (turn at-cord .before .loop .inv) (turn at-cord .loop-test .taken) (at-cord .index .ensures .0) (node c .index2 .ensures .0) (c .wide .ensures .0)
+    low-fits (turn at-cord .before .loop .inv) (turn at-cord .loop-test .taken) (at-cord .index .ensures .0) (node c .index2 .ensures .0)
+    (omega (arith, c .wide .ensures .0, bounds at-cord))
 
 wide-requires-2 : tie.Need-wide-requires-2 Inv-loop μ-loop
 wide-requires-2 c κs = search needs
@@ -115,20 +134,17 @@ credit-requires-2 : tie.Need-credit-requires-2 Inv-loop μ-loop
 credit-requires-2 c κs =
     let at-node = node (low c) in
     let at-cord = cord at-node in
-    start-fits (turn at-cord .before .loop .inv) (turn at-cord .loop-test .taken) (at-cord .index .ensures .0) (at-node .index2 .ensures .0) (c .wide2 .ensures .0)
+    start-fits (turn at-cord .before .loop .inv) (turn at-cord .loop-test .taken) (at-cord .index .ensures .0) (at-node .index2 .ensures .0)
+    (omega (arith, c .wide2 .ensures .0, bounds at-cord))
 
-mul-wide-2 : tie.Need-mul-wide-2 Inv-loop μ-loop
-mul-wide-2 c = search needs
+mul-wide : tie.Need-mul-wide Inv-loop μ-loop
+mul-wide c = search needs
 
-shared-slice-read-wide-2 : tie.Need-shared-slice-read-wide-2 Inv-loop μ-loop
-shared-slice-read-wide-2 c =
-    let at-cord = cord (node (low (begun c))) in
-    omega (arith, cord-there at-cord, start (turn at-cord .before) .pre .0 .wants-size)
+shared-slice-read-wide : tie.Need-shared-slice-read-wide Inv-loop μ-loop
+shared-slice-read-wide c = omega (arith, cord-there (cord (node (low (begun c)))))
 
 sub-wide : tie.Need-sub-wide Inv-loop μ-loop
-sub-wide c =
-    let at-cord = cord (node (low (begun c))) in
-    cord-ordered (start (turn at-cord .before) .pre .0) (turn at-cord .loop-test .taken) (at-cord .index .ensures .0)
+sub-wide c = omega (arith, bounds (cord (node (low (begun c)))))
 
 wide-requires-3 : tie.Need-wide-requires-3 Inv-loop μ-loop
 wide-requires-3 c κs = search needs
@@ -137,7 +153,8 @@ credit-requires-3 : tie.Need-credit-requires-3 Inv-loop μ-loop
 credit-requires-3 c κs =
     let at-node = node (low (begun (c .before))) in
     let at-cord = cord at-node in
-    weight-fits (turn at-cord .before .loop .inv) (turn at-cord .loop-test .taken) (at-cord .index .ensures .0) (at-node .index2 .ensures .0) (c .wide3 .ensures .0)
+    weight-fits (turn at-cord .before .loop .inv) (turn at-cord .loop-test .taken) (at-cord .index .ensures .0) (at-node .index2 .ensures .0)
+    (omega (arith, c .wide3 .ensures .0, bounds at-cord))
 
 add-i : tie.Need-add-i Inv-loop μ-loop
 add-i c = search needs
@@ -190,16 +207,16 @@ sum-cords-spec =
     mul-index-2
     shared-slice-read-index-2
     index-requires-2
+    mul-low
+    shared-slice-read-low
     mul-start
     shared-slice-read-start
-    mul-wide
-    shared-slice-read-wide
     wide-requires
     credit-requires
     wide-requires-2
     credit-requires-2
-    mul-wide-2
-    shared-slice-read-wide-2
+    mul-wide
+    shared-slice-read-wide
     sub-wide
     wide-requires-3
     credit-requires-3

@@ -4,7 +4,7 @@ ghost use Prim.Native.Nat.{ℕ, _+_, _-_, _*_, _^_, _≤_, _<_};
 ghost use lib.ListN.{length, replicate};
 ghost use Rattle.figures.specs.Sums.{sum};
 ghost use Rattle.rooms.specs.Table.{mostNodes, mostWatts, mostCords, highestRank};
-ghost use Rattle.rooms.specs.Credits.{sumBeneath, credited};
+ghost use Rattle.rooms.specs.Credits.{sumBeneath};
 ghost use Rattle.figures.specs.Figures.{at, cell};
 ghost use Rattle.ranks.specs.Passes.{LevelCords, overListed, cordWeight, FullRows, Gathered};
 ghost use Rattle.levels.specs.Levels.{Absent, ActiveNodes};
@@ -12,6 +12,7 @@ use figures::index;
 use figures::least;
 use figures::narrow;
 use figures::wide;
+use rooms::lows::credit;
 
 // Sets every entry to 0.
 fn clear(list: &mut [u64])
@@ -20,20 +21,6 @@ fn clear(list: &mut [u64])
     for i in 0..list.len() {
         list[i] = 0;
     }
-}
-
-// A figure added to the one that stands on a node, by the node's number; 0 is no node.
-fn credit(sums: &mut [u64], node: usize, figure: u64)
-    requires { ⌜ node ≤ length (now sums) ⌝ }
-    requires { ⌜ at (now sums) (node - 1) + figure < 2 ^ 64 ⌝ }
-    ensures { λ _. ⌜ now (sums .exit) ≡ credited node figure (now (sums .entry)) ⌝ }
-{
-    if node == 0 {
-        return;
-    }
-    let place = node - 1;
-    let sum = sums[place];
-    sums[place] = sum + figure;
 }
 
 // The lows, the starts (in `bases`) and the weights of the listed cords, each summed on its cord's node.

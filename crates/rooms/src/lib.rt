@@ -16,7 +16,7 @@ use numbers::Written;
 
 pub mod form;
 pub mod limits;
-mod lows;
+pub mod lows;
 mod table;
 
 // Why an input is turned back, and where: a byte or a word by its place, a node by its number, or a length.

@@ -16,8 +16,8 @@ use crate::form::node_index;
 use figures::wide;
 use figures::word_index;
 
-// A figure added to the one that stands on a node; 0 is no node.
-pub(crate) fn credit(sums: &mut [u64], node: usize, figure: u64)
+// A figure added to the one that stands on a node, by the node's number; 0 is no node.
+pub fn credit(sums: &mut [u64], node: usize, figure: u64)
     requires { ⌜ node ≤ length (now sums) ⌝ }
     requires { ⌜ getD (now sums) (node - 1) 0 + figure < 2 ^ 64 ⌝ }
     ensures { λ _. ⌜ now (sums .exit) ≡ credited node figure (now (sums .entry)) ⌝ }

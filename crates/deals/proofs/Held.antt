@@ -20,6 +20,7 @@ use Rattle.rooms.proofs.Trees.{kids, own, under, rise}
 use Rattle.deals.specs.Metrics.{Deal, metrics, atLevel}
 use Rattle.deals.specs.Dealing.{weight, cordOver, amount, reached, granted}
 use Rattle.deals.specs.Held.{cutAt, someFrom, cutFrom, nearestRoot, holder, heldOver}
+use Rattle.deals.specs.Properties.{NearestCut}
 use Rattle.deals.proofs.Rows.{sum-tight}
 use Rattle.deals.proofs.Requests.{Dealable, later, or-right, sumBelow, sumBelow-all, asked, pcapmin-is, request-asked, cut-full, cut-lows}
 use Rattle.deals.proofs.Amounts.{whole, whole-node, whole-cord}
@@ -94,6 +95,20 @@ module _ (nodes : ℕ) (parent : ℕ → ℕ) (rises : (m : ℕ) → m < nodes �
       go (inl q) = (not-named (test m) m (q .1), record { steps = k; enough = omega (arith, rises m l); none = q .0 })
       go (inr q) = absurd (q .0 (q .1))
 
+  -- Nor of any node on the way.
+  none-met : (k l v : ℕ) → v ≤ k → v ≤ nodes → nearestRoot parent test k v ≡ 0 → (m : ℕ) → beneath parent l m v ≡ true → test m ≡ false
+  unfolding beneath
+  none-met k zero v h g e m b = absurd (false≢true b)
+  none-met k (suc l) zero h g e m b = absurd (false≢true b)
+  none-met k (suc l) (suc x) h g e m b =
+      let s = none-named k x h g e in
+      go (s .0) (eqb x m) refl b (none-met (s .1 .steps) l (parent x) (s .1 .enough) (omega (arith, rises x g)) (s .1 .none) m)
+    where
+      go : test x ≡ false → (t : Bool) → eqb x m ≡ t → t || beneath parent l m (parent x) ≡ true → (beneath parent l m (parent x) ≡ true → test m ≡ false)
+          → test m ≡ false
+      go u true q b ih = ap test (sym (eqb-true x m q)) ∙ u
+      go u false q b ih = ih b
+
   -- The node at place n is met on the way from number v, the test holds of it, and of none above it.
   pub record Nearest (k v n : ℕ) : Type 0 where
     pub place : n < nodes
@@ -165,7 +180,8 @@ module _ (d : Deal) (ok : Dealable d) (st : Startable d) where
 
   -- A node above which none is cut gets its whole weight.
   gets-whole : (i j : ℕ) → i ≤ j → j < levels → (n : ℕ) → n < nodes → ClearAbove parent (cut i) n → amountOf d n j ≡ request d n j - startsOf d n j
-  gets-whole i j a h = rise nodes (λ n. ClearAbove parent (cut i) n → amountOf d n j ≡ request d n j - startsOf d n j) (λ n l ih clear. go n l ih clear (parent n) refl)
+  gets-whole i j a h =
+      rise nodes (λ n. ClearAbove parent (cut i) n → amountOf d n j ≡ request d n j - startsOf d n j) (λ n l ih clear. go n l ih clear (parent n) refl)
     where
       go : (n : ℕ) → n < nodes → ((m : ℕ) → m < n → ClearAbove parent (cut i) m → amountOf d m j ≡ request d m j - startsOf d m j)
           → ClearAbove parent (cut i) n → (v : ℕ) → parent n ≡ v → amountOf d n j ≡ request d n j - startsOf d n j
@@ -272,4 +288,16 @@ module _ (d : Deal) (ok : Dealable d) (st : Startable d) where
         place = n;
         is = held-short c l h ∙ e;
         nearest = nearest nodes parent (ok .rises) (cut (level c)) nodes (node c) n (ok .here c l) (ok .here c l) e;
+      }
+
+  pub holder-nearest : (c : ℕ) → (x : Holder c) → NearestCut d c (x .place)
+  holder-nearest c x =
+      let n = x .nearest in
+      let clear = n .clear in
+      record {
+        above = n .above;
+        cut = n .holds;
+        nearest =
+            none-met nodes parent (ok .rises) (cut (level c)) (clear .steps) nodes (parent (x .place)) (clear .enough)
+            (omega (arith, ok .rises (x .place) (n .place), n .place)) (clear .none);
       }

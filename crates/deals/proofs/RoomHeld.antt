@@ -13,13 +13,14 @@ use Rattle.rooms.specs.Lists.{lowsOf, levelsOf}
 use Rattle.rooms.proofs.Accepted.{Accepted}
 use Rattle.rooms.proofs.Trees.{under}
 use Rattle.deals.specs.Dealing.{granted}
-use Rattle.deals.specs.SecondDeal.{secondWants, secondGrants}
+use Rattle.deals.specs.SecondDeal.{secondDeal, secondWants, secondGrants}
 use Rattle.deals.specs.Held.{heldOver, held}
 use Rattle.deals.specs.Ways.{cordBeneath, sumBeneath}
 use Rattle.deals.specs.Promises.{HoldsDown}
+use Rattle.deals.specs.Properties.{NearestCut}
 use Rattle.deals.proofs.RoomDeals.{levelsOf-at}
 use Rattle.deals.proofs.BothDeals.{server-facts, cord-facts, second-starts, secondRoomDeal, secondRoomDeal-dealable, of-secondRoomDeal}
-use Rattle.deals.proofs.Held.{holder-full, holder-lows, held-none, held-named}
+use Rattle.deals.proofs.Held.{holder-full, holder-lows, held-none, held-named, holder-nearest}
 
 module _ (r : Room) (ok : Accepted r) (demands : List ℕ) where
   -- A cord of a lower rank is one of a lower level.
@@ -28,7 +29,8 @@ module _ (r : Room) (ok : Accepted r) (demands : List ℕ) where
       omega (arith, levelsOf-at r h lh, levelsOf-at r c lc, server-facts r ok (cordAt r h .server) (cord-facts r ok h lh .0) .rankFrom)
 
   -- What is said of a node by its number, from the same by its place.
-  by-number : (grants : List ℕ) (c n m : ℕ) → n ≡ suc m → m < length (r .nodes) → cordBeneath r m c ≡ true → sumBeneath r m (at grants) ≡ limit (nodeAt r m)
+  by-number : (grants : List ℕ) (c n m : ℕ) → n ≡ suc m → m < length (r .nodes) → cordBeneath r m c ≡ true
+      → sumBeneath r m (at grants) ≡ limit (nodeAt r m)
       → ((h : ℕ) → h < roomCords r → cordBeneath r m h ≡ true → rankOf r h < rankOf r c → at grants h ≡ at (lowsOf r) h) → HoldsDown r grants c n
   by-number grants c n m e l above full lower =
       let q : m ≡ n - 1 = omega arith in
@@ -58,3 +60,15 @@ module _ (r : Room) (ok : Accepted r) (demands : List ℕ) where
   room-held-none c l =
       of-secondRoomDeal r ok demands (λ d. at (granted d) c ≡ at (secondWants r demands) c → at (heldOver d) c ≡ 0)
       (held-none (secondRoomDeal r ok demands) (secondRoomDeal-dealable r ok demands) (second-starts r ok demands) c l)
+
+  pub room-held-nearest : (c : ℕ) → c < roomCords r → at (secondGrants r demands) c < at (secondWants r demands) c
+      → NearestCut (secondDeal r demands) c (at (held r demands) c - 1)
+  unfolding secondGrants held
+  room-held-nearest c l =
+      of-secondRoomDeal r ok demands (λ d. at (granted d) c < at (secondWants r demands) c → NearestCut d c (at (heldOver d) c - 1)) (λ short.
+      let d = secondRoomDeal r ok demands in
+      let dealable = secondRoomDeal-dealable r ok demands in
+      let starts = second-starts r ok demands in
+      let x = held-named d dealable starts c l short in
+      let q : x .place ≡ at (heldOver d) c - 1 = omega (arith, x .is) in
+      subst (NearestCut d c) q (holder-nearest d dealable starts c x))

@@ -1,6 +1,7 @@
 //! Held cords, document 02's request A.5: for a cord with less than its second want, the breaker above
 //! it that is nearest the root and cut at the cord's rank or a higher one. Made from that text and
-//! document 01's metrics alone.
+//! document 01's metrics, but by the same hand as the definition in `deals`, and after it: no second
+//! reading of the text. (The test over tiny rooms, of the same hand too, looks from the root down.)
 
 use crate::deal::{second_metrics, Part};
 use crate::room::{Breaker, Child, Cord, Room};

@@ -1,16 +1,18 @@
 -- Amounts dealt by weights, by their equations: where no node weighs more than its children, each gives all that it gets, and none
 -- gets more than its weight. (A rank's dealing is one such, and that of the headroom another.)
 use mathlib.Core.Path.{_≡_, refl, sym, ap, _∙_, subst}
+use mathlib.Core.Logic.{_⊎_, inl, inr}
 use Prim.Native.Nat.{ℕ, zero, suc, _+_, _*_, _/_, _≤_, _<_}
-use native.Mathlib.Nat.{le-trans, le-of-eq, add-comm}
+use native.Mathlib.Nat.{le-trans, le-of-eq, mul-comm, mul-div-cancel, eq-zero-or-pos}
 use native.Mathlib.Omega.{arith}
 use lib.Dec.{eqb}
-use borrow.Author.Tests.{eqb-true}
+use borrow.Author.Tests.{eqb-true, eq-eqb}
 use Rattle.figures.specs.Sums.{on, sum}
-use Rattle.figures.proofs.Sums.{on-cong, sum-cong}
+use Rattle.figures.proofs.Sums.{on-yes, on-cong, sum-cong}
+use Rattle.figures.proofs.Lists.{sum-one-le}
 use Rattle.rooms.proofs.Trees.{kids, own, kids-cong, rise}
 use Rattle.splits.specs.Split.{part}
-use Rattle.splits.proofs.Splits.{part-le, part-whole, telescope, telescope-all}
+use Rattle.splits.proofs.Splits.{part-le, part-none, part-whole, telescope, telescope-all}
 use Rattle.deals.specs.Metrics.{Deal}
 use Rattle.deals.proofs.Requests.{Dealable, later, sumBelow, sumBelow-unique}
 
@@ -73,3 +75,36 @@ module _ (d : Deal) (ok : Dealable d) (w v x y : ℕ → ℕ) (by : ByWeights d 
   -- So all of it reaches the cords beneath.
   pub all-beneath : (n : ℕ) → n < nodes → x n ≡ sumBelow d n y
   all-beneath = sumBelow-unique d ok y x (λ n l. sym (all-given n l))
+
+-- ---- A node that has as much as its children weigh together
+
+-- Of the whole weight each child gets its own.
+part-all : (e c d : ℕ) → d ≤ e → part e e c d ≡ d
+unfolding part
+part-all e c d h = go (eq-zero-or-pos e)
+  where
+    exact : (z : ℕ) → 0 < e → e * z / e ≡ z
+    exact z q = ap (λ (y : ℕ). y / e) (mul-comm e z) ∙ mul-div-cancel z q
+
+    go : (e ≡ 0) ⊎ (0 < e) → part e e c d ≡ d
+    go (inl z) = let y : d ≡ 0 = omega arith in ap (part e e c) y ∙ part-none e e c ∙ sym y
+    go (inr q) = omega (arith, exact (c + d) q, exact c q)
+
+module _ (d : Deal) (w v x y : ℕ → ℕ) (by : ByWeights d w v x y) where
+  open Deal d using (nodes, parent, cords, node)
+
+  pub whole-node : (m n : ℕ) → m < nodes → parent m ≡ suc n → x n ≡ whole d w v n → x m ≡ w m
+  unfolding whole kids
+  whole-node m n l e q =
+      by .inner m n l e
+      ∙ ap (λ (z : ℕ). part z (whole d w v n) (sum m (λ h. on (eqb (parent h) (suc n)) (w h))) (w m)) q
+      ∙ part-all (whole d w v n) _ (w m)
+      (omega (arith, sum-one-le nodes m (λ h. on (eqb (parent h) (suc n)) (w h)) l, on-yes (eqb (parent m) (suc n)) (w m) (eq-eqb (parent m) (suc n) e)))
+
+  pub whole-cord : (c n : ℕ) → c < cords → node c ≡ suc n → x n ≡ whole d w v n → y c ≡ v c
+  unfolding whole own
+  whole-cord c n l e q =
+      by .leaf c n l e
+      ∙ ap (λ (z : ℕ). part z (whole d w v n) (kids nodes parent n w + sum c (λ h. on (eqb (node h) (suc n)) (v h))) (v c)) q
+      ∙ part-all (whole d w v n) _ (v c)
+      (omega (arith, sum-one-le cords c (λ h. on (eqb (node h) (suc n)) (v h)) l, on-yes (eqb (node c) (suc n)) (v c) (eq-eqb (node c) (suc n) e)))

@@ -293,6 +293,18 @@ module _ (r : Room) (ok : Accepted r) where
     unfolding secondDeal
     second-startable = subst Startable (sym (dealOf-is r (firstUsed r demands) (secondWants r demands))) second-starts
 
+    -- The second deal, by functions of place.
+    abbrev pub secondRoomDeal : Deal
+    secondRoomDeal = roomDeal r (firstUsed r demands) (secondWants r demands)
+
+    pub secondRoomDeal-dealable : Dealable secondRoomDeal
+    secondRoomDeal-dealable = room-dealable (firstUsed r demands) (secondWants r demands) secondWants-lows
+
+    -- What holds of it holds of the second deal.
+    pub of-secondRoomDeal : (P : Deal → Type 0) → P secondRoomDeal → P (secondDeal r demands)
+    unfolding secondDeal
+    of-secondRoomDeal P = subst P (sym (dealOf-is r (firstUsed r demands) (secondWants r demands)))
+
     second-way : WholeWay (roomDeal r (firstUsed r demands) (secondWants r demands)) (at (secondGrants r demands))
     unfolding secondGrants secondDeal
     second-way = grants-way (firstUsed r demands) (secondWants r demands) secondWants-lows second-starts

@@ -21,7 +21,7 @@ use Rattle.deals.proofs.Rows.{IsRow}
 use Rattle.deals.proofs.Children.{partOf-node, partOf-cord}
 use Rattle.deals.proofs.Requests.{Dealable, WholeWay, TreeWay, Measured, asked, later, sumBelow, sumBelow-cong, pcapmin-request}
 use Rattle.deals.proofs.Amounts.{whole, ByWeights}
-use Rattle.deals.proofs.Equations.{Starting, Dealt, weights, grant, amount-weight, gives-all, granted-request, reached-over, ours, most-above}
+use Rattle.deals.proofs.Equations.{Starting, Dealt, weights, grant, amount-weight, gives-all, granted-beneath, granted-request, reached-over, ours, most-above}
 
 -- ---- The rows of the nodes, from the last to the first
 
@@ -245,6 +245,13 @@ module _ (d : Deal) (ok : Dealable d) (st : Startable d) where
   -- No cord is granted less than its start.
   pub granted-start : (c : ℕ) → c < d .cords → d .start c ≤ at (granted d) c
   granted-start c l = omega (arith, granted-at d ok c l)
+
+  -- What is granted beneath a node at a level is the starts and the amount.
+  pub granted-level : (n j : ℕ) → n < d .nodes → j < d .levels → startsOf d n j + amountOf d n j ≡ sumBelow d n (atLevel d j (at (granted d)))
+  unfolding grant
+  granted-level n j l h =
+      granted-beneath d ok (pcapmin d) (request d) (measured d ok) (startsOf d) (amountOf d) (reached d (metrics d)) st (dealt d ok) j h n l
+      ∙ sumBelow-cong d n _ _ (λ c lc. ap (λ (z : ℕ). on (eqb (d .level c) j) z) (sym (granted-at d ok c lc)))
 
   -- A node's cords of a level are granted no more than its Request there.
   pub granted-asked : (n j : ℕ) → n < d .nodes → j < d .levels → sumBelow d n (atLevel d j (at (granted d))) ≤ request d n j

@@ -130,7 +130,7 @@ module _ (d : Deal) (ok : Dealable d) where
       grant c = start c + y c
 
       -- What is granted beneath a node at a level is the starts and the amount.
-      granted-beneath : (j : ℕ) → j < levels → (n : ℕ) → n < nodes → s n j + x n j ≡ sumBelow d n (atLevel d j grant)
+      pub granted-beneath : (j : ℕ) → j < levels → (n : ℕ) → n < nodes → s n j + x n j ≡ sumBelow d n (atLevel d j grant)
       granted-beneath j h = sumBelow-unique d ok (atLevel d j grant) (λ n. s n j + x n j) (λ n l.
           omega (
             arith,

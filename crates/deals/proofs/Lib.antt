@@ -23,6 +23,9 @@ pub mod Bounds
 -- Headroom over the second deal.
 pub mod Headroom
 pub mod RoomHeadroom
+-- The nodes that hold cords down.
+pub mod Held
+pub mod RoomHeld
 -- The whole plan, and the promises.
 pub mod Plans
 pub mod Lent

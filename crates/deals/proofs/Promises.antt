@@ -23,9 +23,10 @@ use Rattle.deals.specs.Dealing.{granted}
 use Rattle.deals.specs.SecondDeal.{firstDeal, firstGrants, firstUsable, firstUsed, secondDeal, secondWants, secondGrants, caps}
 use Rattle.deals.specs.Plan.{Plan}
 use Rattle.deals.specs.Headroom.{ceilingsOf, headroom}
+use Rattle.deals.specs.Held.{held}
 use Rattle.deals.specs.Ways.{cordBeneath, sumBeneath, fromRank}
-use Rattle.deals.specs.Promises.{AcceptedPlan, AcceptedHasRoom, Answered, AnswerOfBothDeals, Kept, FirstKept, SecondKept, Greatest, FirstGreatest, SecondGreatest, SettledFromRank, RefusalNine, CapsKeepUsable, GrantsKeepUsed, HeadroomWithinLimits, HeadroomWithinCeilings, HeadroomAllLent}
-use Rattle.deals.specs.Properties.{CapsInRange, UsedGranted, SecondWantsInRange, FirstGivesAll, SecondGivesAll, SecondPassesFirst, fromLevel, Totals, FiguresFit, HeadroomFits}
+use Rattle.deals.specs.Promises.{AcceptedPlan, AcceptedHasRoom, Answered, AnswerOfBothDeals, Kept, FirstKept, SecondKept, Greatest, FirstGreatest, SecondGreatest, SettledFromRank, RefusalNine, CapsKeepUsable, GrantsKeepUsed, HeadroomWithinLimits, HeadroomWithinCeilings, HeadroomAllLent, HoldsDown, HeldNamed, HeldNone}
+use Rattle.deals.specs.Properties.{CapsInRange, UsedGranted, SecondWantsInRange, FirstGivesAll, SecondGivesAll, SecondPassesFirst, NearestCut, HeldNearest, fromLevel, Totals, FiguresFit, HeadroomFits}
 use Rattle.deals.proofs.Requests.{WholeWay}
 use Rattle.deals.proofs.Computed.{Startable, granted-most, deal-gives-all}
 use Rattle.deals.proofs.Passed.{passed-first}
@@ -35,6 +36,7 @@ use Rattle.deals.proofs.BothDeals.{server-facts, cord-facts, room-deala
 use Rattle.deals.proofs.LowerRanks.{firstGrants-same, firstUsable-same, secondGrants-same, caps-same}
 use Rattle.deals.proofs.Bounds.{bounded}
 use Rattle.deals.proofs.RoomHeadroom.{headroom-limits, headroom-ceilings, headroom-lent, headroom-figures}
+use Rattle.deals.proofs.RoomHeld.{room-held-named, room-held-none, room-held-nearest}
 use Rattle.deals.proofs.Plans.{plan-nine, plan-good, plan-good-table, planRoom-accepted}
 
 -- The levels from that of a rank on are the ranks from it on.
@@ -196,6 +198,18 @@ headroom-within-ceilings p =
 pub headroom-all-lent : HeadroomAllLent
 headroom-all-lent p = headroom-lent (p .room) (accepted-room p) (p .demands)
 
+-- ---- 7
+
+pub held-named : HeldNamed
+held-named p c l =
+    of-grants p (λ r demands grants. c < roomCords r → at grants c < at (secondWants r demands) c → HoldsDown r grants c (at (held r demands) c))
+    (λ r ok demands. room-held-named r ok demands c) l
+
+pub held-none : HeldNone
+held-none p c l =
+    of-grants p (λ r demands grants. c < roomCords r → at grants c ≡ at (secondWants r demands) c → at (held r demands) c ≡ 0)
+    (λ r ok demands. room-held-none r ok demands c) l
+
 -- ---- What else is proved of every plan
 
 pub caps-in-range : CapsInRange
@@ -226,6 +240,12 @@ second-gives-all p = deal-gives-all _ (second-dealable (p .room) (accepted-room 
 
 pub second-passes-first : SecondPassesFirst
 second-passes-first p = passed-first _ (second-dealable (p .room) (accepted-room p) (p .demands)) (second-startable (p .room) (accepted-room p) (p .demands))
+
+pub held-nearest : HeldNearest
+held-nearest p c l =
+    of-grants p (λ r demands grants.
+    c < roomCords r → at grants c < at (secondWants r demands) c → NearestCut (secondDeal r demands) c (at (held r demands) c - 1))
+    (λ r ok demands. room-held-nearest r ok demands c) l
 
 pub totals : Totals
 totals table r end e demands =

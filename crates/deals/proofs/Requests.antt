@@ -14,7 +14,7 @@ use Rattle.rooms.specs.Limits.{beneath}
 use Rattle.rooms.proofs.Trees.{kids, own, below, below-step, under, under-is, kids-cong, kids-le, down}
 use Rattle.deals.specs.Metrics.{Deal, atLevel}
 use Rattle.deals.specs.Properties.{fromLevel}
-use Rattle.deals.proofs.Rows.{IsRow, row-total, row-fits, row-low, row-high}
+use Rattle.deals.proofs.Rows.{IsRow, row-total, row-fits, row-low, row-high, row-full, row-lows}
 
 up-on : (k j : ℕ) (t : Bool) (g : ℕ → ℕ) → up k j (λ i. on t (g i)) ≡ on t (up k j g)
 unfolding up
@@ -24,7 +24,7 @@ up-on (suc k) j t g = ap (λ (x : ℕ). on t (g j) + x) (up-on k (suc j) t g) �
 
 -- ---- What is beneath a node
 
-or-right : (a b : Bool) → b ≡ true → a || b ≡ true
+pub or-right : (a b : Bool) → b ≡ true → a || b ≡ true
 or-right true b e = refl
 or-right false b e = e
 
@@ -213,6 +213,15 @@ module _ (d : Deal) (ok : Dealable d) where
 
     pub request-asked : (n : ℕ) → n < nodes → (j : ℕ) → j < levels → r n j ≤ asked d r n j
     request-asked n l j h = row-high levels (limit n) (p n) (asked d r n) (r n) (me .request n l) (levels - suc j) j (omega arith)
+
+    -- Where a node is cut at a level, its Requests sum to its limit, and those of the lower levels are their Pcapmin.
+    pub cut-full : (n : ℕ) → n < nodes → (j : ℕ) → j < levels → r n j < asked d r n j → sum levels (r n) ≡ limit n
+    cut-full n l j h =
+        row-full levels (limit n) (p n) (asked d r n) (r n) (me .request n l) (pcapmin-asked n l) (pcapmin-fits n l) (levels - suc j) j (omega arith)
+
+    pub cut-lows : (n : ℕ) → n < nodes → (j : ℕ) → j < levels → r n j < asked d r n j → (i : ℕ) → i < j → r n i ≡ p n i
+    cut-lows n l j h =
+        row-lows levels (limit n) (p n) (asked d r n) (r n) (me .request n l) (pcapmin-asked n l) (pcapmin-fits n l) (levels - suc j) j (omega arith)
 
     -- The children ask no more than the wants beneath.
     asked-beneath : (j n : ℕ) → j < levels → ((m : ℕ) → m < nodes → n < m → r m j ≤ sumBelow d m (atLevel d j want)) → asked d r n j ≤ sumBelow d n (atLevel d j want)

@@ -1,6 +1,6 @@
 -- The headroom of a room whose table is accepted: no second want is above its cord's ceiling, so that what holds of headroom over every
 -- such deal holds of the room's.
-use mathlib.Core.Path.{_≡_, sym, subst}
+use mathlib.Core.Path.{_≡_, sym}
 use mathlib.Core.List.{List}
 use Prim.Native.Nat.{ℕ, _+_, _-_, _≤_, _<_}
 use native.Mathlib.Nat.{le-trans, le-of-eq}
@@ -13,16 +13,14 @@ use Rattle.rooms.specs.Cords.{cordAt, serverAt}
 use Rattle.rooms.proofs.Accepted.{Accepted}
 use Rattle.rooms.proofs.Carried.{carried-most}
 use Rattle.rooms.proofs.Trees.{under}
-use Rattle.deals.specs.Metrics.{Deal, metrics}
+use Rattle.deals.specs.Metrics.{metrics}
 use Rattle.deals.specs.Dealing.{granted}
 use Rattle.deals.specs.Wants.{needs, firstWants}
-use Rattle.deals.specs.SecondDeal.{firstUsed, secondDeal, secondWants, secondGrants}
+use Rattle.deals.specs.SecondDeal.{secondDeal, secondWants, secondGrants}
 use Rattle.deals.specs.Headroom.{ceilingsOf, nodeCeiling, requestsAt, headroomOver, headroom, rootHeadroom}
 use Rattle.deals.specs.Ways.{Root, sumBeneath}
 use Rattle.deals.specs.Properties.{HeadroomBounded}
-use Rattle.deals.proofs.Requests.{Dealable}
-use Rattle.deals.proofs.RoomDeals.{roomDeal, dealOf-is}
-use Rattle.deals.proofs.BothDeals.{server-facts, cord-facts, carriedBy-at, carriedBy-mono, need-le, secondWants-lows, secondWants-wants, room-dealable, second-starts}
+use Rattle.deals.proofs.BothDeals.{server-facts, cord-facts, carriedBy-at, carriedBy-mono, need-le, secondWants-wants, second-starts, secondRoomDeal, secondRoomDeal-dealable, of-secondRoomDeal}
 use Rattle.deals.proofs.Bounds.{limit-most}
 use Rattle.deals.proofs.Headroom.{root-lends, within-limit, within-ceiling, headroom-bounded}
 
@@ -48,38 +46,26 @@ module _ (r : Room) (ok : Accepted r) (demands : List ℕ) where
       le-trans (secondWants-wants r ok demands c l)
       (carriedBy-mono r ok (needs r demands) greatests (λ v lv. le-trans (need-le r ok demands v lv) (le-of-eq (sym (greatests-at v lv)))) c l)
 
-  -- The second deal, by functions of place.
-  abbrev deal : Deal
-  deal = roomDeal r (firstUsed r demands) (secondWants r demands)
-
-  dealable : Dealable deal
-  dealable = room-dealable r ok (firstUsed r demands) (secondWants r demands) (secondWants-lows r ok demands)
-
-  -- What holds of it holds of the second deal.
-  of-deal : (P : Deal → Type 0) → P deal → P (secondDeal r demands)
-  unfolding secondDeal
-  of-deal P = subst P (sym (dealOf-is r (firstUsed r demands) (secondWants r demands)))
-
   pub headroom-limits : (n : ℕ) → n < length (r .nodes)
       → sumBeneath r n (λ c. at (secondGrants r demands) c + at (headroom r demands) c) ≤ limit (nodeAt r n)
   unfolding sumBeneath under secondGrants headroom
   headroom-limits n l =
-      of-deal (λ d. sumBeneath r n (λ c. at (granted d) c + at (headroomOver d (at (ceilingsOf r))) c) ≤ limit (nodeAt r n))
-      (within-limit deal dealable (at (ceilingsOf r)) wants-ceilings (second-starts r ok demands) n l)
+      of-secondRoomDeal r ok demands (λ d. sumBeneath r n (λ c. at (granted d) c + at (headroomOver d (at (ceilingsOf r))) c) ≤ limit (nodeAt r n))
+      (within-limit (secondRoomDeal r ok demands) (secondRoomDeal-dealable r ok demands) (at (ceilingsOf r)) wants-ceilings (second-starts r ok demands) n l)
 
   pub headroom-ceilings : (c : ℕ) → c < roomCords r → at (secondGrants r demands) c + at (headroom r demands) c ≤ at (ceilingsOf r) c
   unfolding secondGrants headroom
   headroom-ceilings c l =
-      of-deal (λ d. at (granted d) c + at (headroomOver d (at (ceilingsOf r))) c ≤ at (ceilingsOf r) c)
-      (within-ceiling deal dealable (at (ceilingsOf r)) wants-ceilings (second-starts r ok demands) c l)
+      of-secondRoomDeal r ok demands (λ d. at (granted d) c + at (headroomOver d (at (ceilingsOf r))) c ≤ at (ceilingsOf r) c)
+      (within-ceiling (secondRoomDeal r ok demands) (secondRoomDeal-dealable r ok demands) (at (ceilingsOf r)) wants-ceilings (second-starts r ok demands) c l)
 
   pub headroom-lent : (root : ℕ) → Root r root → sumBeneath r root (at (headroom r demands)) ≡ rootHeadroom r demands root
   unfolding sumBeneath under headroom rootHeadroom
   headroom-lent root top =
-      of-deal (λ d. sumBeneath r root (at (headroomOver d (at (ceilingsOf r)))) ≡ nodeCeiling d (at (ceilingsOf r)) root - requestsAt (metrics d) root)
-      (root-lends deal dealable (at (ceilingsOf r)) wants-ceilings root (top .node) (top .top))
+      of-secondRoomDeal r ok demands (λ d. sumBeneath r root (at (headroomOver d (at (ceilingsOf r)))) ≡ nodeCeiling d (at (ceilingsOf r)) root - requestsAt (metrics d) root)
+      (root-lends (secondRoomDeal r ok demands) (secondRoomDeal-dealable r ok demands) (at (ceilingsOf r)) wants-ceilings root (top .node) (top .top))
 
   pub headroom-figures : HeadroomBounded (secondDeal r demands) (at (ceilingsOf r))
   headroom-figures =
-      of-deal (λ d. HeadroomBounded d (at (ceilingsOf r)))
-      (headroom-bounded deal dealable (at (ceilingsOf r)) wants-ceilings (ok .fewCords) (limit-most r ok demands) ceilings-most)
+      of-secondRoomDeal r ok demands (λ d. HeadroomBounded d (at (ceilingsOf r)))
+      (headroom-bounded (secondRoomDeal r ok demands) (secondRoomDeal-dealable r ok demands) (at (ceilingsOf r)) wants-ceilings (ok .fewCords) (limit-most r ok demands) ceilings-most)

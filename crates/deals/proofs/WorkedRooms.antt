@@ -8,6 +8,7 @@ use Rattle.figures.specs.Figures.{total}
 use Rattle.rooms.specs.Table.{Room, formOf, percent, node, cord, range, load, server, table}
 use Rattle.rooms.specs.Limits.{beneath, serverLows, lows, firstNode, overloaded, checked}
 use Rattle.deals.specs.Headroom.{headroom}
+use Rattle.deals.specs.Held.{held}
 use Rattle.deals.specs.Plan.{Outcome, accepted, refused, plan}
 use Rattle.deals.specs.declared.Lengths.{Lengths}
 use Rattle.deals.specs.declared.PlanList.the-variants.{Grants, Caps}
@@ -98,3 +99,32 @@ unfolding checked headroom
     follow word ensure end many total formOf percent node cord range load server table
     beneath serverLows lows firstNode overloaded
 lends = (refl, refl, refl, refl, refl, refl)
+
+-- ---- Held cords
+
+-- The nodes that hold the cords of a table's room down.
+abbrev heldBy : Step Room → List ℕ → List ℕ
+heldBy (good r end) demands = held r demands
+heldBy (bad refusal) demands = []
+
+-- A root with 100 W over a node with 50 W. On the node hang a cord of rank 3, which wants 60 W, and one of rank 1, which wants 10 and has
+-- the low 5; on the root one of rank 2, which wants 80, and one of rank 3, which wants 5.
+abbrev tableB : List ℕ
+tableB =
+    1 ∷ 2 ∷ 0 ∷ 125 ∷ 1 ∷ 63 ∷ 4 ∷ 3 ∷ 0 ∷ 60 ∷ 1 ∷ 2 ∷ 1000 ∷ 1 ∷ 5 ∷ 10 ∷ 1 ∷ 2 ∷ 1000
+    ∷ 2 ∷ 0 ∷ 80 ∷ 1 ∷ 1 ∷ 1000 ∷ 3 ∷ 0 ∷ 5 ∷ 1 ∷ 1 ∷ 1000 ∷ []
+
+-- Room H, where each root holds a cord, and the cord that wants no more than it uses has its want; room S, where the root comes before
+-- the nodes that are cut too, unless it is not cut itself. In the last room the node is cut at rank 3, where the root is not, and at
+-- rank 1; the root at rank 2 alone. So the cord of rank 3 is held by the node, which the root's cut at a lower rank does not
+-- change, and that of rank 1 by the root, though its own rank is cut at the node alone.
+holds : (heldBy (checked tableH 0) (400 ∷ 400 ∷ []) ≡ 1 ∷ 0 ∷ 2 ∷ [])
+    × (heldBy (checked tableS 0) (430 ∷ 430 ∷ 430 ∷ 430 ∷ []) ≡ 0 ∷ 1 ∷ 1 ∷ 1 ∷ [])
+    × (heldBy (checked (tableSWith 1625) 0) (430 ∷ 430 ∷ 430 ∷ 430 ∷ []) ≡ 0 ∷ 1 ∷ 1 ∷ 1 ∷ [])
+    × (heldBy (checked (tableSWith 2000) 0) (430 ∷ 430 ∷ 430 ∷ 430 ∷ []) ≡ 0 ∷ 2 ∷ 3 ∷ 3 ∷ [])
+    × (plan tableB (60 ∷ 10 ∷ 80 ∷ 5 ∷ []) (lengths 4 4) ≡ planned 0 (45 ∷ 5 ∷ 45 ∷ 5 ∷ []) (45 ∷ 5 ∷ 45 ∷ 5 ∷ []))
+    × (heldBy (checked tableB 0) (60 ∷ 10 ∷ 80 ∷ 5 ∷ []) ≡ 2 ∷ 1 ∷ 1 ∷ 0 ∷ [])
+unfolding checked held plan
+    follow word ensure end many total formOf percent node cord range load server table
+    beneath serverLows lows firstNode overloaded
+holds = (refl, refl, refl, refl, refl, refl)

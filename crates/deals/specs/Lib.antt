@@ -10,6 +10,8 @@ pub mod SecondDeal
 pub mod Plan
 -- Headroom over the second deal (request A.1).
 pub mod Headroom
+-- The nodes that hold cords down (request A.5).
+pub mod Held
 -- What is promised (demand 3): trees and other ways of dealing them, and the statements.
 pub mod Ways
 pub mod Promises

@@ -1,22 +1,24 @@
--- Demand 3, and what requests A.1 and A.2 ask for: what Plan promises, whatever the table and the demands. Statements only;
+-- Demand 3, and what requests A.1, A.2 and A.5 ask for: what Plan promises, whatever the table and the demands. Statements only;
 -- proofs/Promises.antt proves each: `FirstKept` as `first-kept`, and so on.
 use mathlib.Core.Path.{_≡_}
+use mathlib.Core.Bool.{true}
 use mathlib.Core.List.{List}
 use mathlib.Core.Logic.{_↔_}
-use Prim.Native.Nat.{ℕ, _+_, _≤_, _<_}
+use Prim.Native.Nat.{ℕ, _+_, _-_, _≤_, _<_}
 use lib.ListN.{length}
 use Rattle.rooms.specs.Part.{good, Good}
 use Rattle.rooms.specs.Table.{Room, roomCords}
 use Rattle.rooms.specs.Limits.{limit, nodeAt, checked}
-use Rattle.rooms.specs.Promises.{Overloaded}
+use Rattle.rooms.specs.Promises.{IsNode, Overloaded}
 use Rattle.figures.specs.Figures.{at}
 use Rattle.rooms.specs.Cords.{serverAt, rankOf}
 use Rattle.deals.specs.Wants.{firstWants}
 use Rattle.rooms.specs.Lists.{lowsOf}
 use Rattle.deals.specs.SecondDeal.{firstGrants, firstUsable, firstUsed, freed, secondWants, secondGrants, caps}
 use Rattle.deals.specs.Headroom.{ceilingsOf, headroom, rootHeadroom}
+use Rattle.deals.specs.Held.{held}
 use Rattle.deals.specs.Plan.{Plan, accepted, plan, answerOf, planNumber, planFigure}
-use Rattle.deals.specs.Ways.{Root, Way, sumBeneath, fromRank}
+use Rattle.deals.specs.Ways.{Root, Way, cordBeneath, sumBeneath, fromRank}
 use Rattle.deals.specs.declared.Lengths.{Lengths}
 use Rattle.deals.specs.declared.Planned.{Planned}
 
@@ -149,3 +151,25 @@ HeadroomAllLent =
 
 -- (1 to 5 speak of grants, usable watts and caps alone, and stand as they are: no definition of these has headroom in it. So it
 -- may follow the demands of lower ranks, and they still may not.)
+
+-- ---- 7. The breaker that holds a cord down (request A.5)
+
+-- Node n, by its number, holds the cord at place c down, where these are the grants: it is a node above the cord, the grants of all cords
+-- beneath it sum to its limit, and every cord beneath it of a lower rank than the held one's has just its low.
+pub record HoldsDown (r : Room) (grants : List ℕ) (c n : ℕ) : Type 0 where
+  pub node : IsNode r n
+  pub above : cordBeneath r (n - 1) c ≡ true
+  pub full : sumBeneath r (n - 1) (at grants) ≡ limit (nodeAt r (n - 1))
+  pub lower : (h : ℕ) → h < roomCords r → cordBeneath r (n - 1) h ≡ true → rankOf r h < rankOf r c → at grants h ≡ at (lowsOf r) h
+
+-- Every cord with less than its second want has a node named, and that node holds it down.
+abbrev pub HeldNamed : Type 0
+HeldNamed =
+    (p : AcceptedPlan) (c : ℕ) → c < roomCords (p .room) → at (p .answer .grants) c < at (secondWants (p .room) (p .demands)) c
+    → HoldsDown (p .room) (p .answer .grants) c (at (held (p .room) (p .demands)) c)
+
+-- A cord with its second want has none: 0 stands for it. (No cord has more than its want: `SecondKept`.)
+abbrev pub HeldNone : Type 0
+HeldNone =
+    (p : AcceptedPlan) (c : ℕ) → c < roomCords (p .room) → at (p .answer .grants) c ≡ at (secondWants (p .room) (p .demands)) c
+    → at (held (p .room) (p .demands)) c ≡ 0

@@ -1,14 +1,15 @@
 -- What else is proved of every plan: that caps, wants and amounts lie in their ranges, that the second deal is the one that
--- request A.2 tells of, what a node's Requests of a rank and above sum to, and that the figures fit their words. Demand 3 does not
+-- request A.2 tells of, that of the cut nodes above a cord the nearest to the root is named (request A.5), what a node's Requests of a rank and above sum to, and that the figures fit their words. Demand 3 does not
 -- ask for these. Statements only; proofs/Promises.antt proves each: `CapsInRange` as `caps-in-range`, and so on.
 use mathlib.Core.Path.{_≡_}
+use mathlib.Core.Bool.{true, false}
 use mathlib.Core.List.{List, [], map}
 use Prim.Native.Nat.{ℕ, suc, _+_, _*_, _-_, _≤_, _<_, _^_, min}
 use lib.Dec.{eqb, leb}
 use lib.ListN.{length, getD, take, drop}
 use Rattle.rooms.specs.Part.{good}
 use Rattle.rooms.specs.Table.{Room, mostWatts, mostCords, roomCords}
-use Rattle.rooms.specs.Limits.{checked}
+use Rattle.rooms.specs.Limits.{beneath, checked}
 use Rattle.figures.specs.Figures.{total, at, cell, sumOf}
 use Rattle.figures.specs.Sums.{on, sum}
 use Rattle.rooms.specs.Cords.{serverAt}
@@ -17,6 +18,7 @@ use Rattle.rooms.specs.Lists.{carriedBy, lowsOf}
 use Rattle.deals.specs.Metrics.{Deal, atLevel, metrics, excess, cordExcess, overNodes, overCords, childSums}
 use Rattle.deals.specs.Dealing.{Child, node, cord, children, nodeOver, cordOver, weightSum, partOf, nodeAmount, amount, reached, granted}
 use Rattle.deals.specs.SecondDeal.{firstDeal, firstGrants, firstUsed, freed, secondDeal, secondWants}
+use Rattle.deals.specs.Held.{cutFrom, held}
 use Rattle.deals.specs.Headroom.{ceilingsOf, nodeCeiling, requestsAt, headroomWeight}
 use Rattle.deals.specs.Promises.{AcceptedPlan}
 
@@ -89,6 +91,20 @@ pub record PassedFirst (d : Deal) : Type 0 where
 -- The second deal is such; what is passed first there is used − low.
 abbrev pub SecondPassesFirst : Type 0
 SecondPassesFirst = (p : AcceptedPlan) → PassedFirst (secondDeal (p .room) (p .demands))
+
+-- ---- The node that is named for a cord
+
+-- The node at place n is above the cord at place c and cut at the cord's level or a higher one, and no node above it is so cut.
+pub record NearestCut (d : Deal) (c n : ℕ) : Type 0 where
+  pub above : beneath (d .parent) (d .nodes) n (d .node c) ≡ true
+  pub cut : cutFrom d (metrics d) (d .level c) n ≡ true
+  pub nearest : (m : ℕ) → beneath (d .parent) (d .nodes) m (d .parent n) ≡ true → cutFrom d (metrics d) (d .level c) m ≡ false
+
+-- Such is the node that is named for every cord with less than its second want.
+abbrev pub HeldNearest : Type 0
+HeldNearest =
+    (p : AcceptedPlan) (c : ℕ) → c < roomCords (p .room) → at (p .answer .grants) c < at (secondWants (p .room) (p .demands)) c
+    → NearestCut (secondDeal (p .room) (p .demands)) c (at (held (p .room) (p .demands)) c - 1)
 
 -- ---- The law of totals
 

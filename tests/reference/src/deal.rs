@@ -120,6 +120,16 @@ impl Part {
         self.ranks().iter().map(request).sum()
     }
 
+    /// The ranks at which a breaker asks for less than its children together; none of a cord.
+    pub(crate) fn cut_ranks(&self) -> Vec<u32> {
+        let Part::Breaker(row, children) = self else {
+            return Vec::new();
+        };
+        let sums = summed(children).into_iter();
+        let cut = sums.filter(|(rank, sum)| row[rank].request < sum.request);
+        cut.map(|(rank, _)| rank).collect()
+    }
+
     fn excess(&self, rank: u32) -> Watts {
         let metrics = self.metrics(rank);
         metrics.request - metrics.pcapmin

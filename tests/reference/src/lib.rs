@@ -9,6 +9,7 @@ pub mod call;
 pub mod control;
 pub mod deal;
 pub mod headroom;
+pub mod held;
 pub mod number;
 pub mod plan;
 mod program;

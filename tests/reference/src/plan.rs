@@ -2,6 +2,7 @@
 
 use crate::deal::{first_deal, second_deal};
 use crate::headroom::headroom;
+use crate::held::held;
 use crate::room::{carried, Room, Server};
 use crate::{Plan, Refusal, Watts};
 
@@ -21,6 +22,8 @@ pub struct Deals {
     pub second_grants: Vec<Watts>,
     pub caps: Vec<Watts>,
     pub headroom: Vec<Watts>,
+    /// Node numbers, or 0.
+    pub held: Vec<u32>,
 }
 
 /// Refusals 10 and 11.
@@ -48,6 +51,7 @@ pub fn deals(room: &Room, demands: &[u32]) -> Deals {
     let second_grants = second_deal(room, &second_wants, &used);
     let caps = self::usable(room, &needs, &second_grants);
     let headroom = headroom(room, &second_wants, &used);
+    let held = held(room, &second_wants, &used, &second_grants);
     Deals {
         needs,
         first_wants,
@@ -59,6 +63,7 @@ pub fn deals(room: &Room, demands: &[u32]) -> Deals {
         second_grants,
         caps,
         headroom,
+        held,
     }
 }
 

@@ -197,6 +197,53 @@ fn ceilings_are_rounded_up() {
     assert_eq!(lent(&room, &[0]), [34, 34, 34]);
 }
 
+fn held(table: &[u32], demands: &[u32]) -> Vec<u32> {
+    dealt(table, demands).held
+}
+
+/// Each node asks for its whole limit, 120 of 200 and 400 of 120 + 400. Cord 2 has the 120 W that it
+/// wants in the second deal.
+#[test]
+fn room_h_is_held_by_both_roots() {
+    assert_eq!(held(&room_h(500), &[400, 400]), [1, 0, 2]);
+    // Node 2 with 800 W is not cut; and with needs of 200 the cords want 100, 100 and 200, which all get.
+    assert_eq!(held(&room_h(1_000), &[400, 400]), [1, 0, 0]);
+    assert_eq!(held(&room_h(500), &[200, 200]), [0; 3]);
+}
+
+/// At rank 1 node 2 asks for 750 − 430 = 320 of 430 and node 3 for 750 of 860, so that both are cut. So
+/// is the root where it has 1,240 − 430 = 810, or 1,300 − 430 = 870, for 1,070; it comes before them. At
+/// 1,600 it asks for all 1,070.
+#[test]
+fn room_s_is_held_nearest_the_root() {
+    assert_eq!(held(&room_s(1_550), &[430; 4]), [0, 1, 1, 1]);
+    assert_eq!(held(&room_s(1_625), &[430; 4]), [0, 1, 1, 1]);
+    assert_eq!(held(&room_s(2_000), &[430; 4]), [0, 2, 3, 3]);
+    assert_eq!(held(&room_s(2_000), &[430, 320, 375, 375]), [0; 4]);
+}
+
+/// A root with limit 100 over a node with limit 50. On the node: rank 3 wanting 60, and rank 1 wanting
+/// 10 with low 5. On the root: rank 2 wanting 80, and rank 3 wanting 5. All other lows are 0.
+///
+/// The node asks for 50 − 5 = 45 of 60 at rank 3 and for 5 of 10 at rank 1. The root asks for all of
+/// 45 + 5 at rank 3, for 100 − 50 − 5 = 45 of 80 at rank 2, and for all of 5 at rank 1: it is cut at
+/// rank 2 alone. That holds the cord of rank 1 beneath the node, and not the one of rank 3.
+#[test]
+fn a_cut_at_a_higher_rank_holds_and_one_at_a_lower_does_not() {
+    let room = table(
+        &[(0, 125), (1, 63)],
+        &[
+            (3, 0, 60, &[(2, 1000)]),
+            (1, 5, 10, &[(2, 1000)]),
+            (2, 0, 80, &[(1, 1000)]),
+            (3, 0, 5, &[(1, 1000)]),
+        ],
+    );
+    let deals = dealt(&room, &[60, 10, 80, 5]);
+    assert_eq!(deals.second_grants, [45, 5, 45, 5]);
+    assert_eq!(deals.held, [2, 1, 1, 0]);
+}
+
 #[test]
 fn a_room_without_servers_frees_nothing() {
     let empty = Plan {

@@ -34,7 +34,7 @@ sheetOf percent = 2 ∷ 1 ∷ 0 ∷ 100 ∷ percent ∷ 1 ∷ 1 ∷ 81 ∷ 90 �
 
 -- In version 1 the word after the rating is the count of servers, so that 100 stands for the rank of one of 80, and is out of range.
 pub percents-read : (numbered (reading (sheetOf 100) 12) ≡ (0, 12)) × (numbered (reading (sheetOf 80) 12) ≡ (9, 1)) × (numbered (reading (sheetOf 90) 12) ≡ (5, 4))
-    × (numbered (reading (1 ∷ 1 ∷ 0 ∷ 100 ∷ 80 ∷ 100 ∷ []) 12) ≡ (5, 5)) × (numbered (reading (2 ∷ 1 ∷ 0 ∷ 100 ∷ []) 12) ≡ (4, 4)) × (numbered (reading (3 ∷ []) 12) ≡ (5, 0))
+    × (numbered (reading (1 ∷ 1 ∷ 0 ∷ 100 ∷ 80 ∷ 100 ∷ []) 12) ≡ (5, 5)) × (numbered (reading (2 ∷ 1 ∷ 0 ∷ 100 ∷ []) 12) ≡ (4, 4)) × (numbered (reading (4 ∷ []) 12) ≡ (5, 0))
 unfolding reading number later sheetFrom
     checked table formOf percent node cord range load server follow word ensure end many total
     overloaded firstNode beneath serverLows lows

@@ -71,8 +71,8 @@ enum hutplan_refusal {
     HUTPLAN_WORD_MISSING = 4,          /* place: the table's length in words */
     HUTPLAN_WORD_OUT_OF_RANGE = 5,     /* place: the word's index */
     HUTPLAN_GREATEST_BELOW_LEAST = 6,  /* place: the index of the word `greatest` */
-    HUTPLAN_SHARES_NOT_WHOLE = 7,      /* a server's shares do not sum to 1,000;
-                                          place: the index of the server's rank */
+    HUTPLAN_SHARES_NOT_WHOLE = 7,      /* a server's shares do not sum to 1,000, in version 3
+                                          to 10,000; place: the index of the server's rank */
     HUTPLAN_WORDS_LEFT_OVER = 8,       /* place: the index of the first word left over */
     HUTPLAN_LOWS_ABOVE_LIMIT = 9,      /* the lows of the cords beneath a node, at any depth, exceed
                                           its limit; place: the lowest number of such a node */

@@ -39,7 +39,7 @@ fn main() {
 /// Rooms of a kind, on which both sides have given equal answers.
 fn compared_rooms(kind: Kind) -> Vec<Inputs> {
     let mut chance = Chance(0x9E37_79B9_7F4A_7C15);
-    let rooms: Vec<Inputs> = (0..ROOMS).map(|i| room(kind, 1 + i as u32 % 2, &mut chance)).collect();
+    let rooms: Vec<Inputs> = (0..ROOMS).map(|i| room(kind, 1 + i as u32 % 3, &mut chance)).collect();
     for given in &rooms {
         compare::good(given);
         compare::damaged(given, &mut chance);

@@ -55,12 +55,13 @@ impl Shape {
     }
 }
 
-/// A room of the kind, in one of the versions: its table, its demands and the sheet that Write makes of the table. In
-/// version 2 every second node may carry all of its rating.
+/// A room of the kind, in one of the versions: its table, its demands and the sheet that Write makes of the table. From
+/// version 2 on every second node may carry all of its rating, and in version 3 shares are of 10,000.
 pub fn room(kind: Kind, version: u32, chance: &mut Chance) -> Inputs {
-    let servers = servers(kind, chance);
+    let whole = if version > 2 { 10_000 } else { 1_000 };
+    let servers = servers(kind, whole, chance);
     let mut words = vec![version, kind.nodes as u32];
-    for (i, limit) in limits(kind, &servers, chance).into_iter().enumerate() {
+    for (i, limit) in limits(kind, &servers, whole, chance).into_iter().enumerate() {
         let percent = if version > 1 && i % 2 == 1 { 100 } else { 80 };
         words.extend([kind.shape.parent(i as u32 + 1), (limit * 100).div_ceil(percent)]);
         words.extend((version > 1).then_some(percent));
@@ -88,19 +89,19 @@ fn bytes(words: &[u32]) -> Vec<u8> {
 }
 
 /// Servers by pairs, of one to three cords each and four together.
-fn servers(kind: Kind, chance: &mut Chance) -> Vec<Server> {
+fn servers(kind: Kind, whole: u32, chance: &mut Chance) -> Vec<Server> {
     let mut servers = Vec::new();
     for _ in 0..kind.cords / 4 {
         let cords = 1 + chance.below(3);
-        servers.push(server(kind, cords, chance));
-        servers.push(server(kind, 4 - cords, chance));
+        servers.push(server(kind, cords, whole, chance));
+        servers.push(server(kind, 4 - cords, whole, chance));
     }
     servers
 }
 
-fn server(kind: Kind, cords: u32, chance: &mut Chance) -> Server {
+fn server(kind: Kind, cords: u32, whole: u32, chance: &mut Chance) -> Server {
     let least = 50 + chance.below(250);
-    let mut left = 1000;
+    let mut left = whole;
     let mut shares = Vec::new();
     for _ in 1..cords {
         shares.push(chance.below(left + 1));
@@ -117,16 +118,21 @@ fn server(kind: Kind, cords: u32, chance: &mut Chance) -> Server {
     }
 }
 
+/// What a share of the whole carries of a load.
+fn part(share: u32, load: u32, whole: u32) -> u32 {
+    (u64::from(share) * u64::from(load)).div_ceil(u64::from(whole)) as u32
+}
+
 /// Limits between what the lows beneath a node need and a little more than what the wants there ask, cut to what 80 percent
 /// of the greatest rating are.
-fn limits(kind: Kind, servers: &[Server], chance: &mut Chance) -> Vec<u32> {
+fn limits(kind: Kind, servers: &[Server], whole: u32, chance: &mut Chance) -> Vec<u32> {
     let mut lows = vec![0; kind.nodes + 1];
     let mut wants = vec![0; kind.nodes + 1];
     for server in servers {
         let need = server.demand.max(server.least).min(server.greatest);
         for &(node, share) in &server.cords {
-            lows[node as usize] += (share * server.least).div_ceil(1000);
-            wants[node as usize] += (share * need).div_ceil(1000);
+            lows[node as usize] += part(share, server.least, whole);
+            wants[node as usize] += part(share, need, whole);
         }
     }
     for node in (1..=kind.nodes).rev() {

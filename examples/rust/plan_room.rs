@@ -69,7 +69,7 @@ mod hutplan {
     }
 
     /// The index of an accepted table's count of servers: after the nodes, which have two words each
-    /// in version 1 and three in version 2.
+    /// in version 1 and three after it.
     pub fn servers_index(table: &[u32]) -> usize {
         let node_words = if table[0] == 1 { 2 } else { 3 };
         2 + node_words * table[1] as usize

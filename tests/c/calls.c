@@ -157,8 +157,8 @@ static const struct bytes_case bytes_cases[] = {
     {"four bytes with the top bit and a fifth", "01 02 FF FF FF FF 07", 1, 2},
     {"three bytes with the top bit", "01 FF FF FF", 3, 1},
     {"the last number cut", "01 02 00 96 01 00 F4 03 02 01 64 90 03 02 01 F4 03 02 F4 03 01 64 90 03 01 02 E8", 3, 26},
-    {"a bad version, then a cut number", "03 80", 3, 1},
-    {"a bad version, then a number too long", "03 80 80 80 80", 1, 1},
+    {"a bad version, then a cut number", "04 80", 3, 1},
+    {"a bad version, then a number too long", "04 80 80 80 80", 1, 1},
     {"words left over, then a number not shortest", "01 01 00 64 00 00 81 00", 2, 6},
     {"the first bad number wins", "80 00 80", 2, 0},
 };
@@ -187,7 +187,7 @@ static const struct table_case table_cases[] = {
 
     {"no words", "", 4, 0},
     {"version 0", "0 1 0 150 0", 5, 0},
-    {"version 3", "3", 5, 0},
+    {"version 4", "4", 5, 0},
     {"version 4,294,967,295", "4294967295", 5, 0},
     {"no nodes", "1 0 0", 5, 1},
     {"513 nodes", "1 513", 5, 1},
@@ -241,6 +241,20 @@ static const struct table_case table_cases[] = {
     {"version 2, percent of the second node", "2 2 0 150 100 1 150 90 3 0", 5, 7},
     {"version 2, a bad rating before a bad percent", "2 1 0 16777216 90 0", 5, 3},
     {"version 2, a word left over", "2 1 0 150 100 0 7", 8, 6},
+
+    /* Version 3: version 2 with shares of 10,000. */
+    {"version 3, room H", "3 2 0 150 80 0 500 80 2 1 100 400 2 1 5000 2 5000 1 100 400 1 2 10000", 0, 0},
+    {"version 3, H, node 2 rated 150 at 100", "3 2 0 150 80 0 150 100 2 1 100 400 2 1 5000 2 5000 1 100 400 1 2 10000", 0, 0},
+    {"version 3, H, node 2 rated 149 at 100", "3 2 0 150 80 0 149 100 2 1 100 400 2 1 5000 2 5000 1 100 400 1 2 10000", 9, 2},
+    {"version 3, watts at their greatest", "3 1 0 16777215 100 1 16 16777215 16777215 1 1 10000", 0, 0},
+    {"version 3, and no more", "3", 4, 1},
+    {"version 3, a percent missing", "3 1 0 150", 4, 4},
+    {"version 3, percent 90", "3 1 0 150 90 0", 5, 4},
+    {"version 3, share 10,001", "3 1 0 1000 80 1 3 100 400 1 1 10001", 5, 11},
+    {"version 3, shares of 9,999", "3 1 0 1000 80 1 3 100 400 2 1 4000 1 5999", 7, 6},
+    {"version 3, shares of 1,000", "3 1 0 1000 80 1 3 100 400 1 1 1000", 7, 6},
+    {"version 3, shares of 20,000", "3 1 0 1000 80 1 3 100 400 2 1 10000 1 10000", 7, 6},
+    {"version 2, share 10,000", "2 1 0 1000 80 1 3 100 400 1 1 10000", 5, 11},
 };
 
 #define COUNT(array) (sizeof(array) / sizeof(array)[0])
@@ -367,8 +381,8 @@ static void test_null(void)
     expect_call(hutplan_read, 0, 0, NULL, 0, "Read, answer NULL");
 }
 
-/* A room of so many nodes, each the child of the one before, and servers of so many cords each. In
-   version 2 each node has its percent: 80, as in version 1. */
+/* A room of so many nodes, each the child of the one before, and servers of so many cords each. From
+   version 2 on each node has its percent: 80, as in version 1. Each last share is the whole. */
 static size_t make_room(uint32_t version, uint32_t nodes, uint32_t servers, uint32_t cords)
 {
     size_t count = 0;
@@ -390,7 +404,7 @@ static size_t make_room(uint32_t version, uint32_t nodes, uint32_t servers, uint
         words[count++] = cords;
         for (k = 1; k <= cords; k++) {
             words[count++] = 1 + (i + k) % nodes;
-            words[count++] = k < cords ? 0 : 1000;
+            words[count++] = k < cords ? 0 : version > 2 ? 10000 : 1000;
         }
     }
     return count;
@@ -404,6 +418,7 @@ static void test_sizes(void)
     expect(count == HUTPLAN_TABLE_WORDS, "as many words as the header says", "the largest room");
     expect(count == 5635, "5,635 words", "the largest room");
     expect_table(make_room(1, 512, 512, 2), 0, 0, "the largest room of version 1");
+    expect_table(make_room(3, 512, 512, 2), 0, 0, "the largest room of version 3");
     make_room(2, 512, 512, 2);
     expect_table(count, 0, 0, "the largest room");
     words[3] = 1000;
@@ -479,6 +494,9 @@ static const struct plan_case plan_cases[] = {
     {"S, root rated 1,625", larger_s_words, "430 430 430 430", 16, 16, 0, 0, "430 281 294 295", "430 281 294 295"},
     {"S in version 2", second_s_words, "430 430 430 430", 16, 16, 0, 0, "430 270 270 270", "430 270 270 270"},
     {"S, root at 100", full_s_words, "430 430 430 430", 16, 16, 0, 0, "430 281 294 295", "430 281 294 295"},
+    {"H in version 3", "3 2 0 150 80 0 500 80 2 1 100 400 2 1 5000 2 5000 1 100 400 1 2 10000", "400 400", 12, 8, 0, 13, "120 120 280", "240 280"},
+    {"shares of 3,333 and 6,667", "3 2 0 125 80 0 125 80 1 1 100 400 2 1 3333 2 6667", "400", 8, 4, 0, 50, "50 100", "149"},
+    {"shares of 3,334 and 6,666", "3 2 0 125 80 0 125 80 1 1 100 400 2 1 3334 2 6666", "400", 8, 4, 0, 49, "51 100", "150"},
     {"a percent of 90", "2 1 0 150 90 0", "", 0, 0, 5, 4, "", ""},
     {"weights are excesses", "1 2 0 188 1 125 2 1 0 1000 1 2 1000 1 0 100 1 1 1000", "1000 100", 8, 8, 0, 0, "75 75", "75 75"},
     {"60 W over 50 and 210", "1 1 0 75 2 1 0 50 1 1 1000 1 0 210 1 1 1000", "50 210", 8, 8, 0, 0, "11 49", "11 49"},

@@ -41,7 +41,7 @@ fn plan_room(room: &Room, demands: Table, grants: &mut [u8], caps: &mut [u8]) ->
     let mut wants = [0; MOST_CORDS];
     for c in 0..room.cord_count {
         let need = needs[usize::from(room.servers[c])];
-        wants[c] = carried(room.shares[c].into(), need);
+        wants[c] = carried(room.shares[c].into(), need, room.whole);
     }
     let deals = Deals::of(room);
     let mut granted = [0; MOST_CORDS];
@@ -60,7 +60,7 @@ fn usable(room: &Room, needs: &[u32; MOST_SERVERS], granted: &[u32; MOST_CORDS])
         let share = u64::from(room.shares[c]);
         let server = usize::from(room.servers[c]);
         if share != 0 {
-            let most = 1000 * u64::from(granted[c]) / share;
+            let most = u64::from(room.whole) * u64::from(granted[c]) / share;
             usable[server] = u64::from(usable[server]).min(most) as u32;
         }
     }
@@ -77,7 +77,7 @@ fn reclaim(
     let mut freed = 0;
     let mut used = [0; MOST_CORDS];
     for c in 0..room.cord_count {
-        used[c] = carried(room.shares[c].into(), usable[usize::from(room.servers[c])]);
+        used[c] = carried(room.shares[c].into(), usable[usize::from(room.servers[c])], room.whole);
         let stranded = granted[c] - used[c];
         freed += u64::from(stranded);
         wants[c] = if stranded > 0 { used[c] } else { wants[c] };

@@ -4,7 +4,7 @@ use std::array::from_fn;
 
 use super::{Outcome, Refusal, MOST_CORDS, MOST_NODES, MOST_SERVERS, MOST_WATTS};
 
-const NEWEST_VERSION: u32 = 2;
+const NEWEST_VERSION: u32 = 3;
 
 /// The bytes of a longest server: four words, and two for each of four cords.
 const SERVER_BYTES: usize = 48;
@@ -15,6 +15,8 @@ pub struct Table<'a>(pub &'a [u8]);
 
 /// A checked room, by node (entry 0 stands for no node), by server and by cord.
 pub struct Room {
+    /// What a server's shares sum to.
+    pub whole: u32,
     pub node_count: usize,
     pub server_count: usize,
     pub cord_count: usize,
@@ -34,9 +36,10 @@ fn is_percent(word: u32) -> bool {
     (word == 80) | (word == 100)
 }
 
-/// What a share carries of a load, rounded up.
-pub fn carried(share: u32, load: u32) -> u32 {
-    ((u64::from(share) * u64::from(load) + 999) / 1000) as u32
+/// What a share of a whole carries of a load, rounded up. Both wholes are divisors that the compiler knows.
+pub fn carried(share: u32, load: u32, whole: u32) -> u32 {
+    let product = u64::from(share) * u64::from(load);
+    if whole == 1000 { product.div_ceil(1000) as u32 } else { product.div_ceil(10_000) as u32 }
 }
 
 impl<'a> Table<'a> {
@@ -58,6 +61,11 @@ impl<'a> Table<'a> {
         2 + usize::from(self.word(0) != Some(1))
     }
 
+    /// What a server's shares sum to, by the version.
+    fn whole(self) -> u32 {
+        if self.word(0) == Some(3) { 10_000 } else { 1_000 }
+    }
+
     /// Refusals 4 to 9.
     pub fn check(self) -> Outcome<()> {
         self.scan(&mut Room::empty())
@@ -76,6 +84,7 @@ impl<'a> Table<'a> {
         room.node_count = (self.word(1)? as usize).min(MOST_NODES + 1);
         let at_servers = 2 + self.node_words() * room.node_count;
         room.server_count = self.word(at_servers)? as usize;
+        room.whole = self.whole();
         let version = self.word(0)?;
         let bad = version.wrapping_sub(1) >= NEWEST_VERSION
             || room.node_count.wrapping_sub(1) >= MOST_NODES
@@ -126,10 +135,10 @@ impl<'a> Table<'a> {
             at += 4;
             for _ in 0..cords {
                 self.ranged(at, 1, nodes)?;
-                sum += self.ranged(at + 1, 0, 1000)?;
+                sum += self.ranged(at + 1, 0, self.whole())?;
                 at += 2;
             }
-            if sum != 1000 {
+            if sum != self.whole() {
                 return Err(Refusal(7, start as u64));
             }
         }
@@ -158,6 +167,7 @@ fn four<T>(list: &mut [T], from: usize) -> &mut [T; 4] {
 impl Room {
     pub fn empty() -> Room {
         Room {
+            whole: 1_000,
             node_count: 0,
             server_count: 0,
             cord_count: 0,
@@ -199,21 +209,21 @@ impl Room {
         self.ranges[server] = (least, greatest);
         let nodes: [u32; 4] = from_fn(|k| word(4 + 2 * k));
         let shares: [u32; 4] = from_fn(|k| word(5 + 2 * k));
-        let mut sum = 0;
+        let (whole, mut sum) = (self.whole, 0);
         for k in 0..4 {
             let has = if (k as u32) < cords { u32::MAX } else { 0 };
             let share = shares[k] & has;
-            bad |= (nodes[k].wrapping_sub(1) & has >= self.node_count as u32) | (share > 1000);
+            bad |= (nodes[k].wrapping_sub(1) & has >= self.node_count as u32) | (share > whole);
             sum += u64::from(share);
         }
         let from = self.cord_count;
         *four(&mut self.nodes, from) = nodes.map(|node| node as u16);
         *four(&mut self.shares, from) = shares.map(|share| share as u16);
-        *four(&mut self.lows, from) = shares.map(|share| carried(share, least));
+        *four(&mut self.lows, from) = shares.map(|share| carried(share, least, whole));
         *four(&mut self.servers, from) = [server as u16; 4];
         *four(&mut self.ranks, from) = [rank as u8; 4];
         self.cord_count += cords as usize;
-        (!bad & (sum == 1000)).then_some(cords as usize)
+        (!bad & (sum == u64::from(whole))).then_some(cords as usize)
     }
 
     /// The lows beneath each node, taken from its limit; refusal 9 where they exceed it.

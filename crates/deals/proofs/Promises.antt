@@ -20,19 +20,20 @@ use Rattle.rooms.specs.Cords.{cordAt, rankOf}
 use Rattle.rooms.specs.Lists.{carriedBy, lowsOf}
 use Rattle.deals.specs.Metrics.{Deal, dealOf}
 use Rattle.deals.specs.Dealing.{granted}
+use Rattle.deals.specs.Wants.{needs}
 use Rattle.deals.specs.SecondDeal.{firstDeal, firstGrants, firstUsable, firstUsed, secondDeal, secondWants, secondGrants, caps}
 use Rattle.deals.specs.Plan.{Plan}
 use Rattle.deals.specs.Headroom.{ceilingsOf, headroom}
 use Rattle.deals.specs.Held.{held}
 use Rattle.deals.specs.Ways.{cordBeneath, sumBeneath, fromRank}
 use Rattle.deals.specs.Promises.{AcceptedPlan, AcceptedHasRoom, Answered, AnswerOfBothDeals, Kept, FirstKept, SecondKept, Greatest, FirstGreatest, SecondGreatest, SettledFromRank, RefusalNine, CapsKeepUsable, GrantsKeepUsed, HeadroomWithinLimits, HeadroomWithinCeilings, HeadroomAllLent, HoldsDown, HeldNamed, HeldNone}
-use Rattle.deals.specs.Properties.{CapsInRange, UsedGranted, SecondWantsInRange, FirstGivesAll, SecondGivesAll, SecondPassesFirst, NearestCut, HeldNearest, fromLevel, Totals, FiguresFit, HeadroomFits}
+use Rattle.deals.specs.Properties.{CapsInRange, UsableInRange, UsedGranted, SecondWantsInRange, FirstGivesAll, SecondGivesAll, SecondPassesFirst, NearestCut, HeldNearest, fromLevel, Totals, FiguresFit, HeadroomFits}
 use Rattle.deals.proofs.Requests.{WholeWay}
 use Rattle.deals.proofs.Computed.{Startable, granted-most, deal-gives-all}
 use Rattle.deals.proofs.Passed.{passed-first}
 use Rattle.deals.proofs.Totals.{deal-totals}
 use Rattle.deals.proofs.RoomDeals.{levelsOf-at, roomDeal, dealOf-is}
-use Rattle.deals.proofs.BothDeals.{server-facts, cord-facts, room-dealable, grants-way, first-dealable, first-starts, first-startable, second-dealable, second-starts, second-startable, firstWants-lows, secondWants-lows, firstUsed-granted, secondGrants-used, capsUsed-granted, secondWants-wants, caps-least, caps-usable, caps-need}
+use Rattle.deals.proofs.BothDeals.{server-facts, cord-facts, room-dealable, grants-way, first-dealable, first-starts, first-startable, second-dealable, second-starts, second-startable, firstWants-lows, secondWants-lows, firstUsed-granted, secondGrants-used, capsUsed-granted, secondWants-wants, caps-least, caps-usable, caps-need, usable-least, usable-need, need-ge}
 use Rattle.deals.proofs.LowerRanks.{firstGrants-same, firstUsable-same, secondGrants-same, caps-same}
 use Rattle.deals.proofs.Bounds.{bounded}
 use Rattle.deals.proofs.RoomHeadroom.{headroom-limits, headroom-ceilings, headroom-lent, headroom-figures}
@@ -217,6 +218,15 @@ caps-in-range p v l =
     let e : at (p .answer .caps) v ≡ at (caps (p .room) (p .demands)) v = ap (λ (z : List ℕ). at z v) (answered p .caps) in (
       le-trans (caps-least (p .room) (accepted-room p) (p .demands) v l) (le-of-eq (sym e)),
       le-trans (le-of-eq e) (caps-need (p .room) (accepted-room p) (p .demands) v l),
+    )
+
+pub usable-in-range : UsableInRange
+unfolding firstUsable
+usable-in-range p v l =
+    let r = p .room in
+    let ok = accepted-room p in (
+      usable-least r ok (needs r (p .demands)) (firstGrants r (p .demands)) (need-ge r ok (p .demands)) (first-kept p .least) v l,
+      usable-need r ok (needs r (p .demands)) (firstGrants r (p .demands)) v l,
     )
 
 pub used-granted : UsedGranted

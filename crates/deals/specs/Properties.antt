@@ -17,18 +17,26 @@ use Rattle.deals.specs.Wants.{needs, firstWants}
 use Rattle.rooms.specs.Lists.{carriedBy, lowsOf}
 use Rattle.deals.specs.Metrics.{Deal, atLevel, metrics, excess, cordExcess, overNodes, overCords, childSums}
 use Rattle.deals.specs.Dealing.{Child, node, cord, children, nodeOver, cordOver, weightSum, partOf, nodeAmount, amount, reached, granted}
-use Rattle.deals.specs.SecondDeal.{firstDeal, firstGrants, firstUsed, freed, secondDeal, secondWants}
+use Rattle.deals.specs.SecondDeal.{firstDeal, firstGrants, firstUsable, firstUsed, freed, secondDeal, secondWants}
 use Rattle.deals.specs.Held.{cutFrom, held}
 use Rattle.deals.specs.Headroom.{ceilingsOf, nodeCeiling, requestsAt, headroomWeight}
 use Rattle.deals.specs.Promises.{AcceptedPlan}
 
--- ---- Caps, used watts, the second deal's wants, and what a node gives
+-- ---- Caps, usable and used watts, the second deal's wants, and what a node gives
+-- (Over the room's scale, whatever the version: nothing here names a figure of it.)
 
 -- A cap is never below its server's least nor above its need.
 abbrev pub CapsInRange : Type 0
 CapsInRange =
     (p : AcceptedPlan) (v : ℕ) → v < length (p .room .servers)
     → (serverAt (p .room) v .least ≤ at (p .answer .caps) v) × (at (p .answer .caps) v ≤ at (needs (p .room) (p .demands)) v)
+
+-- So are the usable watts after the first deal.
+abbrev pub UsableInRange : Type 0
+UsableInRange =
+    (p : AcceptedPlan) (v : ℕ) → v < length (p .room .servers)
+    → (serverAt (p .room) v .least ≤ at (firstUsable (p .room) (p .demands)) v)
+    × (at (firstUsable (p .room) (p .demands)) v ≤ at (needs (p .room) (p .demands)) v)
 
 -- Used never exceeds grant: after the first deal, and of the caps after the second.
 abbrev pub UsedGranted : Type 0

@@ -1,5 +1,5 @@
 -- What a good table is: its rows of nodes and servers, and nothing after them; and what the whole check adds.
-use mathlib.Core.Bool.{Bool, true, false}
+use mathlib.Core.Bool.{Bool, true, false, cond}
 use mathlib.Core.Path.{_≡_, refl, sym, ap, _∙_}
 use Prim.Native.Nat.{ℕ, suc, _≤_, _<_}
 use mathlib.Core.List.{List}
@@ -15,7 +15,11 @@ use Rattle.rooms.proofs.Inversion.{took, passed, ended, word-is, many-l
 -- What holds of every version.
 pub form-scale : (version : ℕ) → IsScale (formOf version .scale)
 unfolding formOf
-form-scale version = (omega arith, omega arith)
+form-scale version = fits (ltb 2 version)
+  where
+    fits : (fine : Bool) → IsScale (cond fine 10000 1000)
+    fits true = (omega arith, omega arith)
+    fits false = (omega arith, omega arith)
 
 pub form-words : (version : ℕ) → nodeWords (formOf version .percents) ≤ mostNodeWords
 unfolding formOf

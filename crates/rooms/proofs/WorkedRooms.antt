@@ -1,5 +1,5 @@
--- Near document 01's rooms: Read of room H into a list of one word less than it has, and of no bytes; and of small sheets of both
--- versions and of a third.
+-- Near document 01's rooms: Read of room H into a list of one word less than it has, and of no bytes; and of small sheets of all
+-- versions and of a fourth.
 -- (The starred rooms are proved as a group in hutplan/proofs/WorkedRooms.antt.)
 use mathlib.Core.Path.{_≡_, refl}
 use mathlib.Core.List.{List, [], _∷_}
@@ -34,8 +34,20 @@ sheetOf percent = 2 ∷ 1 ∷ 0 ∷ 100 ∷ percent ∷ 1 ∷ 1 ∷ 81 ∷ 90 �
 
 -- In version 1 the word after the rating is the count of servers, so that 100 stands for the rank of one of 80, and is out of range.
 pub percents-read : (numbered (reading (sheetOf 100) 12) ≡ (0, 12)) × (numbered (reading (sheetOf 80) 12) ≡ (9, 1)) × (numbered (reading (sheetOf 90) 12) ≡ (5, 4))
-    × (numbered (reading (1 ∷ 1 ∷ 0 ∷ 100 ∷ 80 ∷ 100 ∷ []) 12) ≡ (5, 5)) × (numbered (reading (2 ∷ 1 ∷ 0 ∷ 100 ∷ []) 12) ≡ (4, 4)) × (numbered (reading (3 ∷ []) 12) ≡ (5, 0))
+    × (numbered (reading (1 ∷ 1 ∷ 0 ∷ 100 ∷ 80 ∷ 100 ∷ []) 12) ≡ (5, 5)) × (numbered (reading (2 ∷ 1 ∷ 0 ∷ 100 ∷ []) 12) ≡ (4, 4)) × (numbered (reading (4 ∷ []) 12) ≡ (5, 0))
 unfolding reading number later sheetFrom
     checked table formOf percent node cord range load server follow word ensure end many total
     overloaded firstNode beneath serverLows lows
 percents-read = (refl, refl, refl, refl, refl, refl)
+
+-- A version 3 room of one node, limited to 80 W, with a server of 80 W at least and two cords; its shares are 1 and 9,999. The lows are
+-- ceil(0.008) = 1 and ceil(79.992) = 80, which exceed the limit by 1; with 0 and 10,000 they do not. And sums that are not 10,000.
+abbrev fineOf : ℕ → ℕ → List ℕ → List ℕ
+fineOf first second rest = 3 ∷ 1 ∷ 0 ∷ 100 ∷ 80 ∷ 1 ∷ 1 ∷ 80 ∷ 90 ∷ 2 ∷ 1 ∷ first ∷ 1 ∷ second ∷ rest
+
+pub fine-shares : (numbered (reading (fineOf 0 0x90 (0x4E ∷ [])) 14) ≡ (0, 14)) × (numbered (reading (fineOf 1 0x8F (0x4E ∷ [])) 14) ≡ (9, 1))
+    × (numbered (reading (fineOf 0 0xE8 (0x07 ∷ [])) 14) ≡ (7, 6)) × (numbered (reading (fineOf 0 0x91 (0x4E ∷ [])) 14) ≡ (5, 13))
+unfolding reading number later sheetFrom
+    checked table formOf percent node cord range load server follow word ensure end many total
+    overloaded firstNode beneath serverLows lows
+fine-shares = (refl, refl, refl, refl)

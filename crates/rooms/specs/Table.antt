@@ -43,11 +43,11 @@ pub record Form : Type 0 where
 
 -- The good versions are 1 to this one.
 abbrev pub newestVersion : ℕ
-newestVersion = 2
+newestVersion = 3
 
--- From version 2 on a node has its percent.
+-- From version 2 on a node has its percent, and from version 3 on shares are finer: 10,000 of them are the whole, where 1,000 were.
 unfoldable pub formOf : ℕ → Form
-formOf version = record { percents = ltb 1 version; scale = 1000 }
+formOf version = record { percents = ltb 1 version; scale = cond (ltb 2 version) 10000 1000 }
 
 -- The words of a node: parent and rating, and its percent where it has a word.
 abbrev pub nodeWords : Bool → ℕ

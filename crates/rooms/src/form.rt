@@ -21,7 +21,7 @@ pub fn has_percents(version: u32) -> bool
 pub fn scale_of(version: u32) -> u32
     ensures { λ r. ⌜ r ≡ formOf version .scale ⌝ }
 {
-    1000
+    if 2 < version { 10000 } else { 1000 }
 }
 
 // The index of the node at a place, or of what follows the last node.

@@ -24,5 +24,8 @@ pub fn carried_by(share: u32, load: u32, scale: u32) -> u32
     if scale == 1000 {
         return narrow(parts / 1000);
     }
+    if scale == 10000 {
+        return narrow(parts / 10000);
+    }
     narrow(parts / wide(scale))
 }

@@ -129,7 +129,7 @@ fn read_bad_numbers() {
         b"\x01\x01\x00\xFF\xFF\xFF\x00\x00",
         3,
     );
-    read(b"version 3, then a number cut short", b"\x03\x80", 3);
+    read(b"version 4, then a number cut short", b"\x04\x80", 3);
 }
 
 // Refusals 4 and 5 of sheets: words that are missing or out of range.
@@ -139,7 +139,7 @@ fn read_bad_words() {
         b"\x01\x02\x00\x96\x01\x00\xF4\x03\x02\x01\x64\x90\x03\x02\x01\xF4\x03\x02\xF4\x03\x01\x64\x90\x03\x01\x02",
         22,
     );
-    read(b"version 3, and no more", b"\x03", 3);
+    read(b"version 4, and no more", b"\x04", 3);
     read(b"node 1 its own parent", b"\x01\x01\x01\x64\x00", 6);
     read(b"rating 16,777,215", b"\x01\x01\x00\xFF\xFF\xFF\x07\x00", 6);
     read(b"rating 16,777,216", b"\x01\x01\x00\x80\x80\x80\x08\x00", 6);
@@ -193,6 +193,21 @@ fn read_second_version() {
     read(b"percent 79", b"\x02\x01\x00\x64\x4F\x00", 6);
     read(b"percent 90", b"\x02\x01\x00\x64\x5A\x00", 6);
     read(b"percent 101", b"\x02\x01\x00\x64\x65\x00", 6);
+}
+
+// Version 3: room H, with shares of ten thousand; then with those of version 2.
+fn read_third_version() {
+    read(
+        b"H in version 3",
+        b"\x03\x02\x00\x96\x01\x50\x00\xF4\x03\x50\x02\x01\x64\x90\x03\x02\x01\x88\x27\x02\x88\x27\x01\x64\x90\x03\x01\x02\x90\x4E",
+        23,
+    );
+    read(
+        b"H in version 3, shares of version 2",
+        b"\x03\x02\x00\x96\x01\x50\x00\xF4\x03\x50\x02\x01\x64\x90\x03\x02\x01\xF4\x03\x02\xF4\x03\x01\x64\x90\x03\x01\x02\xE8\x07",
+        23,
+    );
+    read(b"version 3, and no more", b"\x03", 3);
 }
 
 // Write, on room H with another rating of node 2.
@@ -262,13 +277,34 @@ fn write_second_version() {
     );
 }
 
+// Version 3: one server, with a share that is the scale, one above it, and that of version 2.
+fn write_third_version() {
+    write(
+        b"share 10,000",
+        &[3, 1, 0, 100, 80, 1, 1, 10, 10, 1, 1, 10000],
+        14,
+    );
+    write(
+        b"share 10,001",
+        &[3, 1, 0, 100, 80, 1, 1, 10, 10, 1, 1, 10001],
+        14,
+    );
+    write(
+        b"share 1,000 in version 3",
+        &[3, 1, 0, 100, 80, 1, 1, 10, 10, 1, 1, 1000],
+        14,
+    );
+}
+
 fn main() {
     read_rooms();
     read_bad_numbers();
     read_bad_words();
     read_bad_tables();
     read_second_version();
+    read_third_version();
     write_rooms();
     write_bad_tables();
     write_second_version();
+    write_third_version();
 }

@@ -30,7 +30,7 @@ fn room(dice: &mut Dice, room: &mut Room) {
         return;
     }
     if dice.one_in(16) {
-        room.version = dice.pick(&[0, 1, 2, 3]);
+        room.version = dice.pick(&[0, 1, 2, 3, 4]);
         return;
     }
     if dice.one_in(2) {
@@ -39,6 +39,7 @@ fn room(dice: &mut Dice, room: &mut Room) {
     if room.servers.is_empty() {
         return;
     }
+    let whole = room.whole();
     let which = dice.below(room.servers.len());
     let server = &mut room.servers[which];
     if dice.one_in(2) {
@@ -47,7 +48,7 @@ fn room(dice: &mut Dice, room: &mut Room) {
     } else {
         let which = dice.below(server.cords.len());
         let share = &mut server.cords[which].share;
-        *share = dice.pick(&[*share + 1, share.saturating_sub(1), 0, 500, 1000]);
+        *share = dice.pick(&[*share + 1, share.saturating_sub(1), 0, whole / 2, whole, 1_000]);
     }
 }
 
@@ -78,7 +79,7 @@ fn words(dice: &mut Dice, words: &mut Vec<u32>) {
         5 => words[at] ^= 1 << dice.below(32),
         _ => {
             let (more, less) = (words[at].wrapping_add(1), words[at].wrapping_sub(1));
-            let ends = [0, 1, 2, 4, 5, 16, 17, 512, 513, 1000, 1001, MOST, MOST + 1];
+            let ends = [0, 1, 2, 4, 5, 16, 17, 512, 513, 1000, 1001, 10_000, 10_001, MOST, MOST + 1];
             let end = dice.pick(&ends);
             words[at] = dice.pick(&[more, less, u32::MAX, end]);
         }

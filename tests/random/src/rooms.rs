@@ -9,7 +9,7 @@ pub const MOST: u32 = 16_777_215;
 pub struct Node {
     pub parent: u32,
     pub rating: u32,
-    /// Written in version 2 alone; in version 1 it is 80.
+    /// Written from version 2 on; in version 1 it is 80.
     pub percent: u32,
 }
 
@@ -35,6 +35,11 @@ pub struct Room {
 }
 
 impl Room {
+    /// What the shares of a server sum to.
+    pub fn whole(&self) -> u32 {
+        if self.version > 2 { 10_000 } else { 1_000 }
+    }
+
     pub fn words(&self) -> Vec<u32> {
         let mut words = vec![self.version, self.nodes.len() as u32];
         for node in &self.nodes {
@@ -54,7 +59,7 @@ impl Room {
     pub fn parse(words: &[u32]) -> Option<Room> {
         let mut left = words.iter().copied();
         let mut room = Room {
-            version: left.next().filter(|version| matches!(version, 1 | 2))?,
+            version: left.next().filter(|version| matches!(version, 1..=3))?,
             nodes: Vec::new(),
             servers: Vec::new(),
         };
@@ -93,7 +98,7 @@ impl Room {
             for cord in &server.cords {
                 let part = u64::from(cord.share) * u64::from(figure(server));
                 if let Some(sum) = at_node(&mut sums, cord.node) {
-                    *sum += part.div_ceil(1000);
+                    *sum += part.div_ceil(u64::from(self.whole()));
                 }
             }
         }
@@ -147,7 +152,7 @@ pub fn rating(dice: &mut Dice, limit: u64, percent: u32) -> u32 {
 /// can carry (rare).
 pub fn room(dice: &mut Dice) -> Room {
     let (nodes, servers, cords) = sizes(dice);
-    let version = dice.within(1, 2);
+    let version = dice.within(1, 3);
     let mut room = Room {
         version,
         nodes: tree(dice, nodes, version),
@@ -176,7 +181,7 @@ fn sizes(dice: &mut Dice) -> (usize, usize, usize) {
     }
 }
 
-/// A forest of one of several shapes, without ratings. Nodes of version 2 are all at 80, all at 100 or mixed.
+/// A forest of one of several shapes, without ratings. From version 2 on nodes are all at 80, all at 100 or mixed.
 fn tree(dice: &mut Dice, count: usize, version: u32) -> Vec<Node> {
     let shape = dice.below(8);
     let percents = match (version, dice.below(4)) {
@@ -218,7 +223,7 @@ fn add_servers(dice: &mut Dice, room: &mut Room, count: usize, mut cords_left: u
         // Each server still to come keeps a cord, so that the room's count can be reached exactly.
         let most = (cords_left.saturating_sub(count - k - 1)).clamp(1, 4);
         let cords = [1, 2, 4].get(cords).map_or(1 + dice.below(4), |c| *c);
-        let cords = cord_list(dice, room.nodes.len(), cords.min(most));
+        let cords = cord_list(dice, room, cords.min(most));
         cords_left -= cords.len().min(cords_left);
         room.servers.push(Server {
             rank,
@@ -244,20 +249,21 @@ fn range(dice: &mut Dice, style: usize) -> (u32, u32) {
     }
 }
 
-/// Cords whose shares sum to 1,000: equal, all on one, or cut anywhere, and often 0.
-fn cord_list(dice: &mut Dice, nodes: usize, count: usize) -> Vec<Cord> {
+/// Cords whose shares sum to the room's whole: equal, all on one, or cut anywhere, and often 0.
+fn cord_list(dice: &mut Dice, room: &Room, count: usize) -> Vec<Cord> {
+    let (whole, parts) = (room.whole(), count as u32);
     let mut cuts: Vec<u32> = match dice.below(4) {
-        0 => (1..count).map(|k| (1000 * k / count) as u32).collect(),
-        1 => vec![dice.pick(&[0, 1000]); count - 1],
-        _ => (1..count).map(|_| dice.within(0, 1000)).collect(),
+        0 => (1..parts).map(|k| whole * k / parts).collect(),
+        1 => vec![dice.pick(&[0, whole]); count - 1],
+        _ => (1..count).map(|_| dice.within(0, whole)).collect(),
     };
     cuts.sort_unstable();
-    cuts.push(1000);
+    cuts.push(whole);
     let mut before = 0;
     let mut cord = |cut| {
         let share = cut - before;
         before = cut;
-        let node = 1 + dice.below(nodes) as u32;
+        let node = 1 + dice.below(room.nodes.len()) as u32;
         Cord { node, share }
     };
     cuts.into_iter().map(&mut cord).collect()
@@ -309,11 +315,12 @@ fn at_border(dice: &mut Dice, room: &mut Room) {
     cuts.extend([0, asked]);
     cuts.sort_unstable();
     for cut in cuts.windows(2) {
+        let cords = cord_list(dice, room, 1);
         room.servers.push(Server {
             rank,
             least: 0,
             greatest: cut[1] - cut[0],
-            cords: cord_list(dice, room.nodes.len(), 1),
+            cords,
         });
     }
 }

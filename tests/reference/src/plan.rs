@@ -81,7 +81,7 @@ impl Deals {
 fn carried_by_cords(room: &Room, loads: &[Watts]) -> Vec<Watts> {
     let of_server = |(server, &load): (&Server, &Watts)| -> Vec<Watts> {
         let cords = room.cords[server.cords.clone()].iter();
-        cords.map(|cord| carried(cord.share, load)).collect()
+        cords.map(|cord| carried(cord.share, load, room.whole)).collect()
     };
     room.servers.iter().zip(loads).flat_map(of_server).collect()
 }
@@ -91,7 +91,7 @@ fn usable(room: &Room, needs: &[Watts], grants: &[Watts]) -> Vec<Watts> {
     pairs(&room.servers, needs, |server, &need| {
         let cords = room.cords[server.cords.clone()].iter();
         let loaded = cords.filter(|cord| cord.share > 0);
-        let borne = loaded.map(|cord| 1_000 * grants[cord.index] / cord.share);
+        let borne = loaded.map(|cord| room.whole * grants[cord.index] / cord.share);
         borne.fold(need, Watts::min)
     })
 }

@@ -7,6 +7,8 @@ use std::ops::Range;
 /// An accepted room.
 #[derive(Clone, Debug)]
 pub struct Room {
+    /// What the shares of each server sum to.
+    pub whole: Watts,
     /// The roots, in number order.
     pub trees: Vec<Breaker>,
     /// In table order, as are the cords.
@@ -61,16 +63,18 @@ impl Room {
     }
 
     fn of_table(table: &Table) -> Room {
+        let whole = table.whole.into();
         let mut servers = Vec::new();
         let mut cords = Vec::new();
         for entry in &table.servers {
             let first = cords.len();
             for &cord in &entry.cords {
-                cords.push(Cord::of_entry(cords.len(), entry, cord));
+                cords.push(Cord::of_entry(cords.len(), entry, cord, whole));
             }
             servers.push(Server::of_entry(entry, first..cords.len()));
         }
         Room {
+            whole,
             trees: Hangings::new(table, &cords).trees(),
             servers,
             cords,
@@ -115,22 +119,22 @@ impl Server {
 }
 
 impl Cord {
-    fn of_entry(index: usize, server: &ServerEntry, cord: CordEntry) -> Cord {
+    fn of_entry(index: usize, server: &ServerEntry, cord: CordEntry, whole: Watts) -> Cord {
         let share = cord.share.into();
         Cord {
             index,
             node: cord.node,
             rank: server.rank,
             share,
-            low: carried(share, server.least.into()),
-            ceiling: carried(share, server.greatest.into()),
+            low: carried(share, server.least.into(), whole),
+            ceiling: carried(share, server.greatest.into(), whole),
         }
     }
 }
 
-/// What a cord of this share must carry of a load: ceil(share × load / 1000).
-pub fn carried(share: Watts, load: Watts) -> Watts {
-    (share * load + 999) / 1_000
+/// What a cord of this share of a whole must carry of a load: ceil(share × load / whole).
+pub fn carried(share: Watts, load: Watts, whole: Watts) -> Watts {
+    (share * load + whole - 1) / whole
 }
 
 fn limit(node: &NodeEntry) -> Watts {

@@ -1,4 +1,5 @@
-//! The room table, word by word: refusals 4 to 8. Version 2 (request A.3) has a percent for each node.
+//! The room table, word by word: refusals 4 to 8. Version 2 (request A.3) has a percent for each node, and version 3
+//! (request A.11) shares of ten thousand.
 
 use crate::Refusal;
 
@@ -6,11 +7,12 @@ const MOST_WATTS: u32 = 16_777_215;
 const MOST_NODES: u32 = 512;
 const MOST_SERVERS: u32 = 512;
 const MOST_CORDS: u32 = 1_024;
-const WHOLE: u32 = 1_000;
 
 /// A table as it is written, entry by entry.
 #[derive(Clone, Debug, PartialEq, Eq)]
 pub struct Table {
+    /// What a server's shares sum to.
+    pub whole: u32,
     pub nodes: Vec<NodeEntry>,
     pub servers: Vec<ServerEntry>,
 }
@@ -40,11 +42,19 @@ pub struct CordEntry {
 impl Table {
     pub fn of_words(words: &[u32]) -> Result<Table, Refusal> {
         let mut reader = Reader { words, index: 0 };
-        let version = reader.next(1, 2)?;
+        let version = reader.next(1, 3)?;
+        let whole = match version {
+            3 => 10_000,
+            _ => 1_000,
+        };
         let nodes = reader.nodes(version)?;
-        let servers = reader.servers(nodes.len() as u32)?;
+        let servers = reader.servers(nodes.len() as u32, whole)?;
         reader.end()?;
-        Ok(Table { nodes, servers })
+        Ok(Table {
+            whole,
+            nodes,
+            servers,
+        })
     }
 }
 
@@ -91,19 +101,24 @@ impl Reader<'_> {
         }
     }
 
-    fn servers(&mut self, nodes: u32) -> Result<Vec<ServerEntry>, Refusal> {
+    fn servers(&mut self, nodes: u32, whole: u32) -> Result<Vec<ServerEntry>, Refusal> {
         let count = self.next(0, MOST_SERVERS)?;
         let mut cords_left = MOST_CORDS;
         let mut servers = Vec::new();
         for _ in 0..count {
-            let server = self.server(nodes, cords_left)?;
+            let server = self.server(nodes, whole, cords_left)?;
             cords_left -= server.cords.len() as u32;
             servers.push(server);
         }
         Ok(servers)
     }
 
-    fn server(&mut self, nodes: u32, cords_left: u32) -> Result<ServerEntry, Refusal> {
+    fn server(
+        &mut self,
+        nodes: u32,
+        whole: u32,
+        cords_left: u32,
+    ) -> Result<ServerEntry, Refusal> {
         let start = self.index;
         let rank = self.next(1, 16)?;
         let least = self.next(0, MOST_WATTS)?;
@@ -113,9 +128,9 @@ impl Reader<'_> {
         }
         let count = self.next(1, cords_left.min(4))?;
         let cords = (0..count)
-            .map(|_| self.cord(nodes))
+            .map(|_| self.cord(nodes, whole))
             .collect::<Result<Vec<_>, _>>()?;
-        if cords.iter().map(|cord| cord.share).sum::<u32>() != WHOLE {
+        if cords.iter().map(|cord| cord.share).sum::<u32>() != whole {
             return Err(Refusal::new(7, start));
         }
         Ok(ServerEntry {
@@ -126,10 +141,10 @@ impl Reader<'_> {
         })
     }
 
-    fn cord(&mut self, nodes: u32) -> Result<CordEntry, Refusal> {
+    fn cord(&mut self, nodes: u32, whole: u32) -> Result<CordEntry, Refusal> {
         Ok(CordEntry {
             node: self.next(1, nodes)?,
-            share: self.next(0, WHOLE)?,
+            share: self.next(0, whole)?,
         })
     }
 

@@ -43,7 +43,7 @@ fn a_missing_word_is_4_at_the_length() {
 #[test]
 fn a_word_out_of_range_is_5_at_its_index() {
     let bad: [(usize, &[u32]); 20] = [
-        (0, &[0, 3, 128, u32::MAX]),
+        (0, &[0, 4, 128, u32::MAX]),
         (1, &[0, 513, u32::MAX]),
         (2, &[1, 2]),
         (3, &[MOST + 1, u32::MAX]),
@@ -224,7 +224,7 @@ fn all_bytes_are_judged_before_any_word() {
 #[test]
 fn words_are_judged_one_by_one() {
     // An earlier word out of range, before the missing one.
-    assert_eq!(refused(&[3]), (5, 0));
+    assert_eq!(refused(&[4]), (5, 0));
     assert_eq!(refused(&[1, 2, 0, 5, 2]), (5, 4));
     // Greatest below least, before the count of cords is looked at, or missed.
     assert_eq!(refused(&[1, 1, 0, 500, 1, 1, 5, 4, 9]), (6, 7));

@@ -1,4 +1,4 @@
-//! Version 2 of the table (request A.3): a percent for each node.
+//! Version 2 of the table (request A.3): a percent for each node. Version 3 (request A.11): shares of ten thousand.
 
 mod common;
 
@@ -17,6 +17,21 @@ fn second(table: &[u32], percents: &[u32]) -> Vec<u32> {
         .chain(nodes)
         .chain(servers.iter().copied())
         .collect()
+}
+
+/// The words of the version 3 table with every share tenfold: those of version 2, server by server.
+fn third(words: &[u32]) -> Vec<u32> {
+    let mut made = words.to_vec();
+    made[0] = 3;
+    let mut rank = 2 + 3 * words[1] as usize + 1;
+    while rank < words.len() {
+        let cords = words[rank + 3] as usize;
+        for cord in 0..cords {
+            made[rank + 5 + 2 * cord] *= 10;
+        }
+        rank += 4 + 2 * cords;
+    }
+    made
 }
 
 fn planned(table: &[u32], demands: &[u32]) -> Plan {
@@ -117,11 +132,57 @@ fn words_are_judged_one_by_one() {
 }
 
 #[test]
-fn a_version_is_1_or_2() {
-    for version in [0, 3, 4, 128, MOST] {
+fn a_version_is_1_2_or_3() {
+    for version in [0, 4, 5, 128, MOST] {
         assert_eq!(refused(&[version]), (5, 0));
     }
     assert_eq!(refused(&[2]), (4, 1));
+    assert_eq!(refused(&[3]), (4, 1));
+}
+
+#[test]
+fn shares_tenfold_are_version_2() {
+    for percents in [[80, 80], [80, 100]] {
+        let two = second(&room_h(500), &percents);
+        assert_eq!(
+            planned(&two, &[400, 300]),
+            planned(&third(&two), &[400, 300])
+        );
+    }
+    assert_eq!(refused(&third(&second(&room_h(187), &[80, 80]))), (9, 2));
+    accepted(&third(&second(&room_h(150), &[80, 100])));
+}
+
+/// One server of 100 to 400 W with cords on two nodes of 125 W: their limits are 100 W.
+fn fine(first: u32, last: u32) -> Vec<u32> {
+    vec![
+        3, 2, 0, 125, 80, 0, 125, 80, 1, 1, 100, 400, 2, 1, first, 2, last,
+    ]
+}
+
+/// Of a load of 400 W a share of 3,333 carries 133.32, and one of 6,667 carries 266.68; of 100 W, 33.33 and 66.67. With 100 W for
+/// each cord the second bears floor(10,000 × 100 / 6,667) = 149 W, of which the first carries 49.66: 50 W, and 50 are stranded.
+#[test]
+fn shares_are_of_ten_thousand() {
+    let plan = planned(&fine(3_333, 6_667), &[400]);
+    assert_eq!((plan.freed, plan.grants, plan.caps), (50, vec![50, 100], vec![149]));
+    // A ten-thousandth less on the second: it bears 150 W.
+    assert_eq!(planned(&fine(3_334, 6_666), &[400]).caps, [150]);
+}
+
+#[test]
+fn shares_of_version_3_sum_to_ten_thousand() {
+    accepted(&fine(0, 10_000));
+    assert_eq!(refused(&fine(500, 500)), (7, 9));
+    assert_eq!(refused(&fine(3_333, 6_666)), (7, 9));
+    assert_eq!(refused(&fine(10_000, 10_000)), (7, 9));
+    assert_eq!(refused(&fine(10_001, 0)), (5, 14));
+    assert_eq!(refused(&fine(0, 10_001)), (5, 16));
+    let two = second(&room_h(500), &[80, 80]);
+    let coarse = [&[3], &two[1..]].concat();
+    assert_eq!(refused(&coarse), (7, 9));
+    let fine = [&[2], &third(&two)[1..]].concat();
+    assert_eq!(refused(&fine), (5, 14));
 }
 
 /// The longest table: 512 nodes of three words, 512 servers and 1,024 cords.

@@ -1,4 +1,4 @@
--- `carried_by` meets its contract, by either divisor: a share of a load, within their ranges, stays far below 2^64.
+-- `carried_by` meets its contract, by each divisor: a share of a load, within their ranges, stays far below 2^64.
 use mathlib.Core.Path.{sym}
 use native.Mathlib.Omega.{arith}
 use Rattle.rooms.proofs.Carried.{product-most, quotient-most, carried-is}
@@ -32,19 +32,27 @@ returns : tie.Need-returns
 returns c =
     carried-is (c .before .before .before .before .wide .ensures .0) (c .before .before .before .wide2 .ensures .0) (c .before .before .wide3 .ensures .0) (sym (c .before .if1 .taken)) (c .narrow .ensures)
 
+narrow-requires-2 : tie.Need-narrow-requires-2
+narrow-requires-2 c κs =
+    omega (arith, quotient-most (c .before .before .before .before .wide .ensures .0) (c .before .before .before .wide2 .ensures .0) (c .before .before .wide3 .ensures .0) (c .before .before .before .before .before .pre) 10000 (sym (c .if2 .taken)))
+
+returns-2 : tie.Need-returns-2
+returns-2 c =
+    carried-is (c .before .before .before .before .before .wide .ensures .0) (c .before .before .before .before .wide2 .ensures .0) (c .before .before .before .wide3 .ensures .0) (sym (c .before .if2 .taken)) (c .narrow2 .ensures)
+
 wide-requires-4 : tie.Need-wide-requires-4
 wide-requires-4 c κs = search needs
 
 div-narrow : tie.Need-div-narrow
-div-narrow c = omega (arith, c .wide4 .ensures .0, c .before .before .before .before .before .pre .0 .0)
+div-narrow c = omega (arith, c .wide4 .ensures .0, c .before .before .before .before .before .before .pre .0 .0)
 
-narrow-requires-2 : tie.Need-narrow-requires-2
-narrow-requires-2 c κs =
-    omega (arith, quotient-most (c .before .before .before .before .wide .ensures .0) (c .before .before .before .wide2 .ensures .0) (c .before .before .wide3 .ensures .0) (c .before .before .before .before .before .pre) _ (c .wide4 .ensures .0))
+narrow-requires-3 : tie.Need-narrow-requires-3
+narrow-requires-3 c κs =
+    omega (arith, quotient-most (c .before .before .before .before .before .wide .ensures .0) (c .before .before .before .before .wide2 .ensures .0) (c .before .before .before .wide3 .ensures .0) (c .before .before .before .before .before .before .pre) _ (c .wide4 .ensures .0))
 
-returns-2 : tie.Need-returns-2
-returns-2 c =
-    carried-is (c .before .before .before .before .before .wide .ensures .0) (c .before .before .before .before .wide2 .ensures .0) (c .before .before .before .wide3 .ensures .0) (c .before .wide4 .ensures .0) (c .narrow2 .ensures)
+returns-3 : tie.Need-returns-3
+returns-3 c =
+    carried-is (c .before .before .before .before .before .before .wide .ensures .0) (c .before .before .before .before .before .wide2 .ensures .0) (c .before .before .before .before .wide3 .ensures .0) (c .before .wide4 .ensures .0) (c .narrow3 .ensures)
 
 pub carried-by-spec : {M : Type 1} → statement M
 carried-by-spec =
@@ -58,7 +66,9 @@ carried-by-spec =
     add-parts
     narrow-requires
     returns
+    narrow-requires-2
+    returns-2
     wide-requires-4
     div-narrow
-    narrow-requires-2
-    returns-2)
+    narrow-requires-3
+    returns-3)

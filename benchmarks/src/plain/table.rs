@@ -39,7 +39,11 @@ fn is_percent(word: u32) -> bool {
 /// What a share of a whole carries of a load, rounded up. Both wholes are divisors that the compiler knows.
 pub fn carried(share: u32, load: u32, whole: u32) -> u32 {
     let product = u64::from(share) * u64::from(load);
-    if whole == 1000 { product.div_ceil(1000) as u32 } else { product.div_ceil(10_000) as u32 }
+    if whole == 1000 {
+        product.div_ceil(1000) as u32
+    } else {
+        product.div_ceil(10_000) as u32
+    }
 }
 
 impl<'a> Table<'a> {
@@ -63,7 +67,11 @@ impl<'a> Table<'a> {
 
     /// What a server's shares sum to, by the version.
     fn whole(self) -> u32 {
-        if self.word(0) == Some(3) { 10_000 } else { 1_000 }
+        if self.word(0) == Some(3) {
+            10_000
+        } else {
+            1_000
+        }
     }
 
     /// Refusals 4 to 9.

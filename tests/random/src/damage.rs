@@ -48,7 +48,8 @@ fn room(dice: &mut Dice, room: &mut Room) {
     } else {
         let which = dice.below(server.cords.len());
         let share = &mut server.cords[which].share;
-        *share = dice.pick(&[*share + 1, share.saturating_sub(1), 0, whole / 2, whole, 1_000]);
+        let (less, more) = (share.saturating_sub(1), *share + 1);
+        *share = dice.pick(&[less, more, 0, whole / 2, whole, 1_000]);
     }
 }
 
@@ -79,8 +80,9 @@ fn words(dice: &mut Dice, words: &mut Vec<u32>) {
         5 => words[at] ^= 1 << dice.below(32),
         _ => {
             let (more, less) = (words[at].wrapping_add(1), words[at].wrapping_sub(1));
-            let ends = [0, 1, 2, 4, 5, 16, 17, 512, 513, 1000, 1001, 10_000, 10_001, MOST, MOST + 1];
-            let end = dice.pick(&ends);
+            let counts = [0, 1, 2, 4, 5, 16, 17, 512, 513];
+            let figures = [1000, 1001, 10_000, 10_001, MOST, MOST + 1];
+            let end = dice.pick(&[&counts[..], &figures].concat());
             words[at] = dice.pick(&[more, less, u32::MAX, end]);
         }
     }

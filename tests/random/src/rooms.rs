@@ -37,7 +37,11 @@ pub struct Room {
 impl Room {
     /// What the shares of a server sum to.
     pub fn whole(&self) -> u32 {
-        if self.version > 2 { 10_000 } else { 1_000 }
+        if self.version > 2 {
+            10_000
+        } else {
+            1_000
+        }
     }
 
     pub fn words(&self) -> Vec<u32> {

@@ -81,7 +81,9 @@ impl Deals {
 fn carried_by_cords(room: &Room, loads: &[Watts]) -> Vec<Watts> {
     let of_server = |(server, &load): (&Server, &Watts)| -> Vec<Watts> {
         let cords = room.cords[server.cords.clone()].iter();
-        cords.map(|cord| carried(cord.share, load, room.whole)).collect()
+        cords
+            .map(|cord| carried(cord.share, load, room.whole))
+            .collect()
     };
     room.servers.iter().zip(loads).flat_map(of_server).collect()
 }

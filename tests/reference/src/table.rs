@@ -113,12 +113,7 @@ impl Reader<'_> {
         Ok(servers)
     }
 
-    fn server(
-        &mut self,
-        nodes: u32,
-        whole: u32,
-        cords_left: u32,
-    ) -> Result<ServerEntry, Refusal> {
+    fn server(&mut self, nodes: u32, whole: u32, cords_left: u32) -> Result<ServerEntry, Refusal> {
         let start = self.index;
         let rank = self.next(1, 16)?;
         let least = self.next(0, MOST_WATTS)?;

@@ -165,7 +165,10 @@ fn fine(first: u32, last: u32) -> Vec<u32> {
 #[test]
 fn shares_are_of_ten_thousand() {
     let plan = planned(&fine(3_333, 6_667), &[400]);
-    assert_eq!((plan.freed, plan.grants, plan.caps), (50, vec![50, 100], vec![149]));
+    assert_eq!(
+        (plan.freed, plan.grants, plan.caps),
+        (50, vec![50, 100], vec![149])
+    );
     // A ten-thousandth less on the second: it bears 150 W.
     assert_eq!(planned(&fine(3_334, 6_666), &[400]).caps, [150]);
 }

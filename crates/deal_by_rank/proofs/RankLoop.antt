@@ -1,13 +1,12 @@
 -- The loop over the ranks: what each pass of a rank asks, and what they leave together.
 use mathlib.Core.Path.{_≡_, refl, sym, ap, _∙_, subst}
 use mathlib.Core.Bool.{Bool, true, false}
-use mathlib.Core.List.{List, [], _++_}
+use mathlib.Core.List.{List, []}
 use Prim.Native.Nat.{ℕ, suc, _+_, _-_, _*_, _/_, _≤_, _<_}
 use native.Mathlib.Nat.{le-refl}
 use native.Mathlib.Omega.{arith}
 use lib.Dec.{eqb}
-use lib.ListN.{length, getD, take, drop, replicate, length-replicate}
-use lib.Seq.{length-take-le, length-front, take-at}
+use lib.ListN.{length, getD}
 use borrow.Author.Tests.{eqb-true, eqb-false}
 use Rattle.figures.specs.Sums.{on, sum}
 use Rattle.figures.proofs.Sums.{sum-cong, sum-zero}
@@ -25,24 +24,9 @@ use Rattle.ranks.proofs.Gathering.{Idle, beneath-none}
 use Rattle.deal_by_rank.specs.Ranks.{NodeLists, CordLists, DealLists, DealGiven, SomeDeal, BlankRows, DealMade}
 use Rattle.deal_by_rank.proofs.Ranks.{State, state-start, state-end, state-skip, sums-most, gather-asks, nodes-ask, cords-ask, state-turn}
 
--- ---- The front of a list
-
-pub front-length : (n : ℕ) (l : List ℕ) → n ≤ length l → n ≡ length (take n l)
-front-length n l h = sym (length-take-le n l h)
-
--- The front is lent, and what comes back is put before the rest: the front again, and a list of the same length.
-pub front-again : (n : ℕ) (l rest : List ℕ) → length l ≡ n → take n (l ++ rest) ≡ l
-front-again n l rest e = take-at l rest n e
-
-pub front-size : (n : ℕ) (l rest : List ℕ) → length l ≡ n → n ≤ length rest → length (l ++ drop n rest) ≡ length rest
-front-size n l rest e h = length-front rest l n (e ∙ front-length n rest h)
-
 -- The length of the lists with a rank's figure of each node.
 abbrev pub figuresLength : ℕ
 figuresLength = 520
-
-pub zeros-length : (k : ℕ) → length {A = ℕ} (replicate k 0) ≡ k
-zeros-length k = length-replicate {A = ℕ} k 0
 
 -- ---- The loop
 

@@ -1,4 +1,5 @@
 -- The laws of `levels`.
 pub mod Cells
+pub mod Fronts
 pub mod Ordering
 pub mod Active

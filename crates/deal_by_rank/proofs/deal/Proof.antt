@@ -1,16 +1,17 @@
 -- `deal` meets its contract: before each turn the ranks passed are dealt.
 use mathlib.Core.Path.{_≡_, sym, _∙_}
-use mathlib.Core.List.{List, [], _++_}
+use mathlib.Core.List.{List, []}
 use Prim.Native.Nat.{ℕ, _-_, _≤_, _<_}
 use native.Mathlib.Omega.{arith}
-use lib.ListN.{length, getD, take, drop}
+use lib.ListN.{length, getD, take}
 use borrow.Author.Needs.{needs}
 use borrow.Author.Count.{falls-down}
 use Rattle.rooms.specs.Table.{highestRank}
 use Rattle.levels.specs.Levels.{entries}
+use Rattle.levels.proofs.Fronts.{equal-length, front-length, Lent, lent, rejoined, lent-length, lent-again, lent-few, lent-front}
 use Rattle.ranks.specs.Passes.{NodesDealt, CordsDealt}
 use Rattle.deal_by_rank.specs.Ranks.{SomeDeal}
-use Rattle.deal_by_rank.proofs.RankLoop.{front-length, front-again, front-size, figuresLength, zeros-length, RankLoop, few-nodes, loop-start, loop-end, level-fits, loop-skip, part-end, sum-cords-asks, Summed, summed, summed-again, gather-nodes, gather-sizes, gather-sums, gather-room, gather-idle, gather-active, deal-nodes-asks, deal-cords-asks, nodes-again, cords-again, loop-turn}
+use Rattle.deal_by_rank.proofs.RankLoop.{figuresLength, RankLoop, few-nodes, loop-start, loop-end, level-fits, loop-skip, part-end, sum-cords-asks, Summed, summed, summed-again, gather-nodes, gather-sizes, gather-sums, gather-room, gather-idle, gather-active, deal-nodes-asks, deal-cords-asks, nodes-again, cords-again, loop-turn}
 use Rattle.deal_by_rank.proofs.deal.Statement.{statement}
 use Rattle.deal_by_rank.proofs.deal.Tie as tie
 
@@ -57,66 +58,38 @@ turn-end t = part-end (deal-of t) (loop-of t .loop .inv) (more-of t) (t .before 
 few : (t : Turn) {length-of : ℕ} → length-of ≡ figuresLength → size t ≤ length-of
 few t e = omega (arith, few-nodes (deal-of t))
 
--- After `sum_cords`: what came back, and the lists with it.
+-- After `sum_cords`: each list whose front was lent, with what came back.
 abbrev Sums : Type 0
 Sums = tie.After-sum-cords Inv-loop μ-loop
 
 abbrev turn-s : Sums → Turn
 turn-s s = s .before .before .before .before .before
 
-abbrev pcapmins-of : Sums → List ℕ
-pcapmins-of s = s .sum-cords .last .1 .1 .1 .1 .1 .0
-
-pcapmins-back : (s : Sums) → length (pcapmins-of s) ≡ size (turn-s s)
-pcapmins-back s = s .sum-cords .kept .1 .1 .1 .1 .1 .0 ∙ sym (front-length _ _ (few (turn-s s) (loop-of (turn-s s) .loop .inv .pcapmins-size)))
+pcapmins-lent : (s : Sums) → Lent (size (turn-s s)) (loop-of (turn-s s) .loop .pcapmins) (s .sum-cords .last .1 .1 .1 .1 .1 .0)
+pcapmins-lent s = lent (few (turn-s s) (loop-of (turn-s s) .loop .inv .pcapmins-size)) (s .sum-cords .kept .1 .1 .1 .1 .1 .0)
 
 abbrev pcapmins-after : Sums → List ℕ
-pcapmins-after s = pcapmins-of s ++ drop (size (turn-s s)) (loop-of (turn-s s) .loop .pcapmins)
+pcapmins-after s = rejoined (size (turn-s s)) (loop-of (turn-s s) .loop .pcapmins) (s .sum-cords .last .1 .1 .1 .1 .1 .0)
 
-pcapmins-put : (s : Sums) → length (pcapmins-after s) ≡ figuresLength
-pcapmins-put s =
-    front-size (size (turn-s s)) (pcapmins-of s) (loop-of (turn-s s) .loop .pcapmins) (pcapmins-back s) (few (turn-s s) (loop-of (turn-s s) .loop .inv .pcapmins-size))
-    ∙ loop-of (turn-s s) .loop .inv .pcapmins-size
-
-abbrev bases-of : Sums → List ℕ
-bases-of s = s .sum-cords .last .1 .1 .1 .1 .1 .1 .0
-
-bases-back : (s : Sums) → length (bases-of s) ≡ size (turn-s s)
-bases-back s = s .sum-cords .kept .1 .1 .1 .1 .1 .1 .0 ∙ sym (front-length _ _ (few (turn-s s) (loop-of (turn-s s) .loop .inv .bases-size)))
+bases-lent : (s : Sums) → Lent (size (turn-s s)) (loop-of (turn-s s) .loop .bases) (s .sum-cords .last .1 .1 .1 .1 .1 .1 .0)
+bases-lent s = lent (few (turn-s s) (loop-of (turn-s s) .loop .inv .bases-size)) (s .sum-cords .kept .1 .1 .1 .1 .1 .1 .0)
 
 abbrev bases-after : Sums → List ℕ
-bases-after s = bases-of s ++ drop (size (turn-s s)) (loop-of (turn-s s) .loop .bases)
+bases-after s = rejoined (size (turn-s s)) (loop-of (turn-s s) .loop .bases) (s .sum-cords .last .1 .1 .1 .1 .1 .1 .0)
 
-bases-put : (s : Sums) → length (bases-after s) ≡ figuresLength
-bases-put s =
-    front-size (size (turn-s s)) (bases-of s) (loop-of (turn-s s) .loop .bases) (bases-back s) (few (turn-s s) (loop-of (turn-s s) .loop .inv .bases-size))
-    ∙ loop-of (turn-s s) .loop .inv .bases-size
-
-abbrev wholes-of : Sums → List ℕ
-wholes-of s = s .sum-cords .last .1 .1 .1 .1 .1 .1 .1 .0
-
-wholes-back : (s : Sums) → length (wholes-of s) ≡ size (turn-s s)
-wholes-back s = s .sum-cords .kept .1 .1 .1 .1 .1 .1 .1 .0 ∙ sym (front-length _ _ (few (turn-s s) (loop-of (turn-s s) .loop .inv .wholes-size)))
+wholes-lent : (s : Sums) → Lent (size (turn-s s)) (loop-of (turn-s s) .loop .wholes) (s .sum-cords .last .1 .1 .1 .1 .1 .1 .1 .0)
+wholes-lent s = lent (few (turn-s s) (loop-of (turn-s s) .loop .inv .wholes-size)) (s .sum-cords .kept .1 .1 .1 .1 .1 .1 .1 .0)
 
 abbrev wholes-after : Sums → List ℕ
-wholes-after s = wholes-of s ++ drop (size (turn-s s)) (loop-of (turn-s s) .loop .wholes)
-
-wholes-put : (s : Sums) → length (wholes-after s) ≡ figuresLength
-wholes-put s =
-    front-size (size (turn-s s)) (wholes-of s) (loop-of (turn-s s) .loop .wholes) (wholes-back s) (few (turn-s s) (loop-of (turn-s s) .loop .inv .wholes-size))
-    ∙ loop-of (turn-s s) .loop .inv .wholes-size
+wholes-after s = rejoined (size (turn-s s)) (loop-of (turn-s s) .loop .wholes) (s .sum-cords .last .1 .1 .1 .1 .1 .1 .1 .0)
 
 sums-at : (s : Sums) → Summed (deal-of (turn-s s)) (loop-of (turn-s s) .loop .inv) (more-of (turn-s s)) ((turn-s s) .before .before .before .before .before .index .ensures .0) ((turn-s s) .before .before .before .index2 .ensures .0) ((turn-s s) .index3 .ensures .0) (has-cords (turn-s s)) (take (size (turn-s s)) (pcapmins-after s)) (take (size (turn-s s)) (bases-after s)) (take (size (turn-s s)) (wholes-after s))
 sums-at s =
     summed-again (deal-of (turn-s s)) (loop-of (turn-s s) .loop .inv) (more-of (turn-s s)) ((turn-s s) .before .before .before .before .before .index .ensures .0) ((turn-s s) .before .before .before .index2 .ensures .0) ((turn-s s) .index3 .ensures .0) (has-cords (turn-s s))
-    {p = pcapmins-of s} {b = bases-of s} {w = wholes-of s}
     (summed (deal-of (turn-s s)) (loop-of (turn-s s) .loop .inv) (more-of (turn-s s)) ((turn-s s) .before .before .before .before .before .index .ensures .0) ((turn-s s) .before .before .before .index2 .ensures .0) ((turn-s s) .index3 .ensures .0) (has-cords (turn-s s))
-    (sym (front-length (size (turn-s s)) (loop-of (turn-s s) .loop .pcapmins) (few (turn-s s) (loop-of (turn-s s) .loop .inv .pcapmins-size)))) (pcapmins-back s) (bases-back s) (wholes-back s)
+    (sym (front-length (size (turn-s s)) (loop-of (turn-s s) .loop .pcapmins) (pcapmins-lent s .few))) (pcapmins-lent s .size) (bases-lent s .size) (wholes-lent s .size)
     (s .sum-cords .ensures .0) (s .sum-cords .ensures .1 .0) (s .sum-cords .ensures .1 .1))
-    (take (size (turn-s s)) (pcapmins-after s)) (take (size (turn-s s)) (bases-after s)) (take (size (turn-s s)) (wholes-after s))
-    (front-again (size (turn-s s)) (pcapmins-of s) (drop (size (turn-s s)) (loop-of (turn-s s) .loop .pcapmins)) (pcapmins-back s))
-    (front-again (size (turn-s s)) (bases-of s) (drop (size (turn-s s)) (loop-of (turn-s s) .loop .bases)) (bases-back s))
-    (front-again (size (turn-s s)) (wholes-of s) (drop (size (turn-s s)) (loop-of (turn-s s) .loop .wholes)) (wholes-back s))
+    (take (size (turn-s s)) (pcapmins-after s)) (take (size (turn-s s)) (bases-after s)) (take (size (turn-s s)) (wholes-after s)) (lent-again (pcapmins-lent s)) (lent-again (bases-lent s)) (lent-again (wholes-lent s))
 
 -- After `gather`.
 abbrev Gathers : Type 0
@@ -128,50 +101,14 @@ sums-g g = g .before .before .before .before .before .before .before .before .be
 abbrev turn-g : Gathers → Turn
 turn-g g = turn-s (sums-g g)
 
-abbrev pcapmins-of-2 : Gathers → List ℕ
-pcapmins-of-2 g = g .gather .last .1 .1 .1 .1 .1 .0
+pcapmins-lent-2 : (g : Gathers) → Lent (size (turn-g g)) (pcapmins-after (sums-g g)) (g .gather .last .1 .1 .1 .1 .1 .0)
+pcapmins-lent-2 g = lent (lent-few (pcapmins-lent (sums-g g))) (g .gather .kept .1 .1 .1 .1 .1 .0)
 
-pcapmins-back-2 : (g : Gathers) → length (pcapmins-of-2 g) ≡ size (turn-g g)
-pcapmins-back-2 g = g .gather .kept .1 .1 .1 .1 .1 .0 ∙ sym (front-length (size (turn-g g)) (pcapmins-after (sums-g g)) (few (turn-g g) (pcapmins-put (sums-g g))))
+bases-lent-2 : (g : Gathers) → Lent (size (turn-g g)) (bases-after (sums-g g)) (g .gather .last .1 .1 .1 .1 .1 .1 .0)
+bases-lent-2 g = lent (lent-few (bases-lent (sums-g g))) (g .gather .kept .1 .1 .1 .1 .1 .1 .0)
 
-abbrev pcapmins-after-2 : Gathers → List ℕ
-pcapmins-after-2 g = pcapmins-of-2 g ++ drop (size (turn-g g)) (pcapmins-after (sums-g g))
-
-pcapmins-put-2 : (g : Gathers) → length (pcapmins-after-2 g) ≡ figuresLength
-pcapmins-put-2 g = front-size (size (turn-g g)) (pcapmins-of-2 g) (pcapmins-after (sums-g g)) (pcapmins-back-2 g) (few (turn-g g) (pcapmins-put (sums-g g))) ∙ pcapmins-put (sums-g g)
-
-pcapmins-again-2 : (g : Gathers) → take (size (turn-g g)) (pcapmins-after-2 g) ≡ pcapmins-of-2 g
-pcapmins-again-2 g = front-again (size (turn-g g)) (pcapmins-of-2 g) (drop (size (turn-g g)) (pcapmins-after (sums-g g))) (pcapmins-back-2 g)
-
-abbrev bases-of-2 : Gathers → List ℕ
-bases-of-2 g = g .gather .last .1 .1 .1 .1 .1 .1 .0
-
-bases-back-2 : (g : Gathers) → length (bases-of-2 g) ≡ size (turn-g g)
-bases-back-2 g = g .gather .kept .1 .1 .1 .1 .1 .1 .0 ∙ sym (front-length (size (turn-g g)) (bases-after (sums-g g)) (few (turn-g g) (bases-put (sums-g g))))
-
-abbrev bases-after-2 : Gathers → List ℕ
-bases-after-2 g = bases-of-2 g ++ drop (size (turn-g g)) (bases-after (sums-g g))
-
-bases-put-2 : (g : Gathers) → length (bases-after-2 g) ≡ figuresLength
-bases-put-2 g = front-size (size (turn-g g)) (bases-of-2 g) (bases-after (sums-g g)) (bases-back-2 g) (few (turn-g g) (bases-put (sums-g g))) ∙ bases-put (sums-g g)
-
-bases-again-2 : (g : Gathers) → take (size (turn-g g)) (bases-after-2 g) ≡ bases-of-2 g
-bases-again-2 g = front-again (size (turn-g g)) (bases-of-2 g) (drop (size (turn-g g)) (bases-after (sums-g g))) (bases-back-2 g)
-
-abbrev wholes-of-2 : Gathers → List ℕ
-wholes-of-2 g = g .gather .last .1 .1 .1 .1 .1 .1 .1 .0
-
-wholes-back-2 : (g : Gathers) → length (wholes-of-2 g) ≡ size (turn-g g)
-wholes-back-2 g = g .gather .kept .1 .1 .1 .1 .1 .1 .1 .0 ∙ sym (front-length (size (turn-g g)) (wholes-after (sums-g g)) (few (turn-g g) (wholes-put (sums-g g))))
-
-abbrev wholes-after-2 : Gathers → List ℕ
-wholes-after-2 g = wholes-of-2 g ++ drop (size (turn-g g)) (wholes-after (sums-g g))
-
-wholes-put-2 : (g : Gathers) → length (wholes-after-2 g) ≡ figuresLength
-wholes-put-2 g = front-size (size (turn-g g)) (wholes-of-2 g) (wholes-after (sums-g g)) (wholes-back-2 g) (few (turn-g g) (wholes-put (sums-g g))) ∙ wholes-put (sums-g g)
-
-wholes-again-2 : (g : Gathers) → take (size (turn-g g)) (wholes-after-2 g) ≡ wholes-of-2 g
-wholes-again-2 g = front-again (size (turn-g g)) (wholes-of-2 g) (drop (size (turn-g g)) (wholes-after (sums-g g))) (wholes-back-2 g)
+wholes-lent-2 : (g : Gathers) → Lent (size (turn-g g)) (wholes-after (sums-g g)) (g .gather .last .1 .1 .1 .1 .1 .1 .1 .0)
+wholes-lent-2 g = lent (lent-few (wholes-lent (sums-g g))) (g .gather .kept .1 .1 .1 .1 .1 .1 .1 .0)
 
 -- After `deal_nodes`.
 abbrev Nodes : Type 0
@@ -183,61 +120,19 @@ gathers-n n = n .before .before .before .before .before .before .before .before 
 abbrev turn-n : Nodes → Turn
 turn-n n = turn-g (gathers-n n)
 
-abbrev amounts-of : Nodes → List ℕ
-amounts-of n = n .deal-nodes .last .1 .1 .1 .1 .1 .1 .1 .0
+amounts-lent : (n : Nodes) → Lent (size (turn-n n)) (loop-of (turn-n n) .loop .amounts) (n .deal-nodes .last .1 .1 .1 .1 .1 .1 .1 .0)
+amounts-lent n = lent (few (turn-n n) (loop-of (turn-n n) .loop .inv .amounts-size)) (n .deal-nodes .kept .1 .1 .1 .1 .1 .1 .1 .0)
 
-amounts-back : (n : Nodes) → length (amounts-of n) ≡ size (turn-n n)
-amounts-back n = n .deal-nodes .kept .1 .1 .1 .1 .1 .1 .1 .0 ∙ sym (front-length (size (turn-n n)) (loop-of (turn-n n) .loop .amounts) (few (turn-n n) (loop-of (turn-n n) .loop .inv .amounts-size)))
+before-lent : (n : Nodes) → Lent (size (turn-n n)) (loop-of (turn-n n) .loop .before) (n .deal-nodes .last .1 .1 .1 .1 .1 .1 .1 .1 .0)
+before-lent n = lent (few (turn-n n) (loop-of (turn-n n) .loop .inv .before-size)) (n .deal-nodes .kept .1 .1 .1 .1 .1 .1 .1 .1 .0)
 
-abbrev amounts-after : Nodes → List ℕ
-amounts-after n = amounts-of n ++ drop (size (turn-n n)) (loop-of (turn-n n) .loop .amounts)
-
-amounts-put : (n : Nodes) → length (amounts-after n) ≡ figuresLength
-amounts-put n =
-    front-size (size (turn-n n)) (amounts-of n) (loop-of (turn-n n) .loop .amounts) (amounts-back n) (few (turn-n n) (loop-of (turn-n n) .loop .inv .amounts-size))
-    ∙ loop-of (turn-n n) .loop .inv .amounts-size
-
-amounts-again : (n : Nodes) → take (size (turn-n n)) (amounts-after n) ≡ amounts-of n
-amounts-again n = front-again (size (turn-n n)) (amounts-of n) (drop (size (turn-n n)) (loop-of (turn-n n) .loop .amounts)) (amounts-back n)
-
-abbrev before-of : Nodes → List ℕ
-before-of n = n .deal-nodes .last .1 .1 .1 .1 .1 .1 .1 .1 .0
-
-before-back : (n : Nodes) → length (before-of n) ≡ size (turn-n n)
-before-back n = n .deal-nodes .kept .1 .1 .1 .1 .1 .1 .1 .1 .0 ∙ sym (front-length (size (turn-n n)) (loop-of (turn-n n) .loop .before) (few (turn-n n) (loop-of (turn-n n) .loop .inv .before-size)))
-
-abbrev before-after : Nodes → List ℕ
-before-after n = before-of n ++ drop (size (turn-n n)) (loop-of (turn-n n) .loop .before)
-
-before-put : (n : Nodes) → length (before-after n) ≡ figuresLength
-before-put n =
-    front-size (size (turn-n n)) (before-of n) (loop-of (turn-n n) .loop .before) (before-back n) (few (turn-n n) (loop-of (turn-n n) .loop .inv .before-size))
-    ∙ loop-of (turn-n n) .loop .inv .before-size
-
-before-again : (n : Nodes) → take (size (turn-n n)) (before-after n) ≡ before-of n
-before-again n = front-again (size (turn-n n)) (before-of n) (drop (size (turn-n n)) (loop-of (turn-n n) .loop .before)) (before-back n)
-
-abbrev dealt-of : Nodes → List ℕ
-dealt-of n = n .deal-nodes .last .1 .1 .1 .1 .1 .1 .1 .1 .1 .0
-
-dealt-back : (n : Nodes) → length (dealt-of n) ≡ size (turn-n n)
-dealt-back n = n .deal-nodes .kept .1 .1 .1 .1 .1 .1 .1 .1 .1 .0 ∙ sym (front-length (size (turn-n n)) (loop-of (turn-n n) .loop .dealt) (few (turn-n n) (loop-of (turn-n n) .loop .inv .dealt-size)))
-
-abbrev dealt-after : Nodes → List ℕ
-dealt-after n = dealt-of n ++ drop (size (turn-n n)) (loop-of (turn-n n) .loop .dealt)
-
-dealt-put : (n : Nodes) → length (dealt-after n) ≡ figuresLength
-dealt-put n =
-    front-size (size (turn-n n)) (dealt-of n) (loop-of (turn-n n) .loop .dealt) (dealt-back n) (few (turn-n n) (loop-of (turn-n n) .loop .inv .dealt-size))
-    ∙ loop-of (turn-n n) .loop .inv .dealt-size
-
-dealt-again : (n : Nodes) → take (size (turn-n n)) (dealt-after n) ≡ dealt-of n
-dealt-again n = front-again (size (turn-n n)) (dealt-of n) (drop (size (turn-n n)) (loop-of (turn-n n) .loop .dealt)) (dealt-back n)
+dealt-lent : (n : Nodes) → Lent (size (turn-n n)) (loop-of (turn-n n) .loop .dealt) (n .deal-nodes .last .1 .1 .1 .1 .1 .1 .1 .1 .1 .0)
+dealt-lent n = lent (few (turn-n n) (loop-of (turn-n n) .loop .inv .dealt-size)) (n .deal-nodes .kept .1 .1 .1 .1 .1 .1 .1 .1 .1 .0)
 
 nodes-at : (n : Nodes)
     → NodesDealt (start (turn-n n) .args .parents .now) (getD (start (turn-n n) .args .actives .now) (loop-of (turn-n n) .loop .level - 1) []) ((turn-n n) .index3 .result) (loop-of (turn-n n) .loop .level - 1)
-    ((gathers-n n) .gather .last .1 .1 .1 .1 .1 .1 .1 .1 .0) (bases-of-2 (gathers-n n)) (wholes-of-2 (gathers-n n)) (amounts-of n) (before-of n) (dealt-of n)
-nodes-at n = nodes-again (n .deal-nodes .ensures) (bases-again-2 (gathers-n n)) (wholes-again-2 (gathers-n n))
+    ((gathers-n n) .gather .last .1 .1 .1 .1 .1 .1 .1 .1 .0) ((gathers-n n) .gather .last .1 .1 .1 .1 .1 .1 .0) ((gathers-n n) .gather .last .1 .1 .1 .1 .1 .1 .1 .0) (n .deal-nodes .last .1 .1 .1 .1 .1 .1 .1 .0) (n .deal-nodes .last .1 .1 .1 .1 .1 .1 .1 .1 .0) (n .deal-nodes .last .1 .1 .1 .1 .1 .1 .1 .1 .1 .0)
+nodes-at n = nodes-again (n .deal-nodes .ensures) (lent-again (bases-lent-2 (gathers-n n))) (lent-again (wholes-lent-2 (gathers-n n)))
 
 -- After `deal_cords`.
 abbrev Cords : Type 0
@@ -249,25 +144,19 @@ nodes-c k = k .before .before .before .before .before .before .before .before .b
 abbrev turn-c : Cords → Turn
 turn-c k = turn-n (nodes-c k)
 
-before-put-2 : (k : Cords) → length (k .deal-cords .last .1 .1 .1 .1 .1 .1 .0 ++ drop (size (turn-c k)) (before-after (nodes-c k))) ≡ figuresLength
-before-put-2 k =
-    front-size (size (turn-c k)) (k .deal-cords .last .1 .1 .1 .1 .1 .1 .0) (before-after (nodes-c k))
-    (k .deal-cords .kept .1 .1 .1 .1 .1 .1 .0 ∙ sym (front-length (size (turn-c k)) (before-after (nodes-c k)) (few (turn-c k) (before-put (nodes-c k))))) (few (turn-c k) (before-put (nodes-c k)))
-    ∙ before-put (nodes-c k)
+before-lent-2 : (k : Cords) → Lent (size (turn-c k)) (rejoined (size (turn-c k)) (loop-of (turn-c k) .loop .before) (nodes-c k .deal-nodes .last .1 .1 .1 .1 .1 .1 .1 .1 .0)) (k .deal-cords .last .1 .1 .1 .1 .1 .1 .0)
+before-lent-2 k = lent (lent-few (before-lent (nodes-c k))) (k .deal-cords .kept .1 .1 .1 .1 .1 .1 .0)
 
-dealt-put-2 : (k : Cords) → length (k .deal-cords .last .1 .1 .1 .1 .1 .1 .1 .0 ++ drop (size (turn-c k)) (dealt-after (nodes-c k))) ≡ figuresLength
-dealt-put-2 k =
-    front-size (size (turn-c k)) (k .deal-cords .last .1 .1 .1 .1 .1 .1 .1 .0) (dealt-after (nodes-c k))
-    (k .deal-cords .kept .1 .1 .1 .1 .1 .1 .1 .0 ∙ sym (front-length (size (turn-c k)) (dealt-after (nodes-c k)) (few (turn-c k) (dealt-put (nodes-c k))))) (few (turn-c k) (dealt-put (nodes-c k)))
-    ∙ dealt-put (nodes-c k)
+dealt-lent-2 : (k : Cords) → Lent (size (turn-c k)) (rejoined (size (turn-c k)) (loop-of (turn-c k) .loop .dealt) (nodes-c k .deal-nodes .last .1 .1 .1 .1 .1 .1 .1 .1 .1 .0)) (k .deal-cords .last .1 .1 .1 .1 .1 .1 .1 .0)
+dealt-lent-2 k = lent (lent-few (dealt-lent (nodes-c k))) (k .deal-cords .kept .1 .1 .1 .1 .1 .1 .1 .0)
 
 cords-at : (k : Cords)
     → CordsDealt (entries (start (turn-c k) .args .order .now) ((turn-c k) .before .before .before .before .before .index .result) ((turn-c k) .before .before .before .index2 .result)) (start (turn-c k) .args .nodes .now) (start (turn-c k) .args .starts .now) (start (turn-c k) .args .wants .now)
-    (wholes-of-2 (gathers-n (nodes-c k))) (amounts-of (nodes-c k)) (before-of (nodes-c k)) (loop-of (turn-c k) .loop .grants) (k .deal-cords .last .1 .1 .1 .1 .1 .1 .1 .1 .0)
-cords-at k = cords-again (k .deal-cords .ensures) (wholes-again-2 (gathers-n (nodes-c k))) (amounts-again (nodes-c k)) (before-again (nodes-c k))
+    ((gathers-n (nodes-c k)) .gather .last .1 .1 .1 .1 .1 .1 .1 .0) (nodes-c k .deal-nodes .last .1 .1 .1 .1 .1 .1 .1 .0) (nodes-c k .deal-nodes .last .1 .1 .1 .1 .1 .1 .1 .1 .0) (loop-of (turn-c k) .loop .grants) (k .deal-cords .last .1 .1 .1 .1 .1 .1 .1 .1 .0)
+cords-at k = cords-again (k .deal-cords .ensures) (lent-again (wholes-lent-2 (gathers-n (nodes-c k)))) (lent-again (amounts-lent (nodes-c k))) (lent-again (before-lent (nodes-c k)))
 
 loop-holds : tie.Need-loop-holds Inv-loop μ-loop
-loop-holds c = let given = (c .before .before .before .before .before .before .before .before) .pre in loop-start (given .0 .0) (given .0 .1) (given .1) (zeros-length figuresLength) (zeros-length figuresLength) (zeros-length figuresLength) (zeros-length figuresLength) (zeros-length figuresLength) (zeros-length figuresLength)
+loop-holds c = let given = (c .before .before .before .before .before .before .before .before) .pre in loop-start (given .0 .0) (given .0 .1) (given .1) (equal-length {A = ℕ} figuresLength 0) (equal-length {A = ℕ} figuresLength 0) (equal-length {A = ℕ} figuresLength 0) (equal-length {A = ℕ} figuresLength 0) (equal-length {A = ℕ} figuresLength 0) (equal-length {A = ℕ} figuresLength 0)
 
 sub-level : tie.Need-sub-level Inv-loop μ-loop
 sub-level c = search needs
@@ -348,22 +237,22 @@ index-1-gather : tie.Need-index-1-gather Inv-loop μ-loop
 index-1-gather c = fits (c .before .before .before .before .before .before .before .before .before .before .before .before .before .before .before)
 
 array-borrow-prefix-pcapmins-2 : tie.Need-array-borrow-prefix-pcapmins-2 Inv-loop μ-loop
-array-borrow-prefix-pcapmins-2 c = few (c .before .before .before .before .before .before .before .before .before .before .before) (pcapmins-put (c .before .before .before .before .before .before))
+array-borrow-prefix-pcapmins-2 c = lent-few (pcapmins-lent (c .before .before .before .before .before .before))
 
 slice-aggregate-gather : tie.Need-slice-aggregate-gather Inv-loop μ-loop
-slice-aggregate-gather c = front-length _ _ (few (c .before .before .before .before .before .before .before .before .before .before .before .before) (pcapmins-put (c .before .before .before .before .before .before .before)))
+slice-aggregate-gather c = lent-front (pcapmins-lent (c .before .before .before .before .before .before .before))
 
 array-borrow-prefix-bases-2 : tie.Need-array-borrow-prefix-bases-2 Inv-loop μ-loop
-array-borrow-prefix-bases-2 c = few (c .before .before .before .before .before .before .before .before .before .before .before .before) (bases-put (c .before .before .before .before .before .before .before))
+array-borrow-prefix-bases-2 c = lent-few (bases-lent (c .before .before .before .before .before .before .before))
 
 slice-aggregate-gather-2 : tie.Need-slice-aggregate-gather-2 Inv-loop μ-loop
-slice-aggregate-gather-2 c = front-length _ _ (few (c .before .before .before .before .before .before .before .before .before .before .before .before .before) (bases-put (c .before .before .before .before .before .before .before .before)))
+slice-aggregate-gather-2 c = lent-front (bases-lent (c .before .before .before .before .before .before .before .before))
 
 array-borrow-prefix-wholes-2 : tie.Need-array-borrow-prefix-wholes-2 Inv-loop μ-loop
-array-borrow-prefix-wholes-2 c = few (c .before .before .before .before .before .before .before .before .before .before .before .before .before) (wholes-put (c .before .before .before .before .before .before .before .before))
+array-borrow-prefix-wholes-2 c = lent-few (wholes-lent (c .before .before .before .before .before .before .before .before))
 
 slice-aggregate-gather-3 : tie.Need-slice-aggregate-gather-3 Inv-loop μ-loop
-slice-aggregate-gather-3 c = front-length _ _ (few (c .before .before .before .before .before .before .before .before .before .before .before .before .before .before) (wholes-put (c .before .before .before .before .before .before .before .before .before)))
+slice-aggregate-gather-3 c = lent-front (wholes-lent (c .before .before .before .before .before .before .before .before .before))
 
 gather-requires : tie.Need-gather-requires Inv-loop μ-loop
 gather-requires c κs =
@@ -377,16 +266,16 @@ index-1-deal-nodes : tie.Need-index-1-deal-nodes Inv-loop μ-loop
 index-1-deal-nodes c = fits (c .before .before .before .before .before .before .before .before .before .before .before .before .before .before .before .before .before .before .before .before .before .before .before .before .before .before .before .before)
 
 array-share-prefix-bases : tie.Need-array-share-prefix-bases Inv-loop μ-loop
-array-share-prefix-bases c = few (c .before .before .before .before .before .before .before .before .before .before .before .before .before .before .before .before .before .before .before .before .before .before .before .before) (bases-put-2 (c .before .before .before .before .before .before .before .before))
+array-share-prefix-bases c = lent-few (bases-lent-2 (c .before .before .before .before .before .before .before .before))
 
 slice-aggregate-deal-nodes : tie.Need-slice-aggregate-deal-nodes Inv-loop μ-loop
-slice-aggregate-deal-nodes c = front-length _ _ (few (c .before .before .before .before .before .before .before .before .before .before .before .before .before .before .before .before .before .before .before .before .before .before .before .before .before) (bases-put-2 (c .before .before .before .before .before .before .before .before .before)))
+slice-aggregate-deal-nodes c = lent-front (bases-lent-2 (c .before .before .before .before .before .before .before .before .before))
 
 array-share-prefix-wholes : tie.Need-array-share-prefix-wholes Inv-loop μ-loop
-array-share-prefix-wholes c = few (c .before .before .before .before .before .before .before .before .before .before .before .before .before .before .before .before .before .before .before .before .before .before .before .before .before) (wholes-put-2 (c .before .before .before .before .before .before .before .before .before))
+array-share-prefix-wholes c = lent-few (wholes-lent-2 (c .before .before .before .before .before .before .before .before .before))
 
 slice-aggregate-deal-nodes-2 : tie.Need-slice-aggregate-deal-nodes-2 Inv-loop μ-loop
-slice-aggregate-deal-nodes-2 c = front-length _ _ (few (c .before .before .before .before .before .before .before .before .before .before .before .before .before .before .before .before .before .before .before .before .before .before .before .before .before .before) (wholes-put-2 (c .before .before .before .before .before .before .before .before .before .before)))
+slice-aggregate-deal-nodes-2 c = lent-front (wholes-lent-2 (c .before .before .before .before .before .before .before .before .before .before))
 
 array-borrow-prefix-amounts : tie.Need-array-borrow-prefix-amounts Inv-loop μ-loop
 array-borrow-prefix-amounts c = few (c .before .before .before .before .before .before .before .before .before .before .before .before .before .before .before .before .before .before .before .before .before .before .before .before .before .before) ((c .before .before .before .before .before .before .before .before .before .before .before .before .before .before .before .before .before .before .before .before .before .before .before .before .before .before .before .before .before .before .before .before .before .before) .loop .inv .amounts-size)
@@ -408,7 +297,7 @@ slice-aggregate-deal-nodes-5 c = front-length _ _ (few (c .before .before .befor
 
 deal-nodes-requires : tie.Need-deal-nodes-requires Inv-loop μ-loop
 deal-nodes-requires c κs =
-    deal-nodes-asks (deal-of (c .before .before .before .before .before .before .before .before .before .before .before .before .before .before .before .before .before .before .before .before .before .before .before .before .before .before .before .before .before)) (loop-of (c .before .before .before .before .before .before .before .before .before .before .before .before .before .before .before .before .before .before .before .before .before .before .before .before .before .before .before .before .before) .loop .inv) (more-of (c .before .before .before .before .before .before .before .before .before .before .before .before .before .before .before .before .before .before .before .before .before .before .before .before .before .before .before .before .before)) ((c .before .before .before .before .before .before .before .before .before .before .before .before .before .before .before .before .before .before .before .before .before .before .before .before .before .before .before .before .before) .before .before .before .before .before .index .ensures .0) ((c .before .before .before .before .before .before .before .before .before .before .before .before .before .before .before .before .before .before .before .before .before .before .before .before .before .before .before .before .before) .before .before .before .index2 .ensures .0) ((c .before .before .before .before .before .before .before .before .before .before .before .before .before .before .before .before .before .before .before .before .before .before .before .before .before .before .before .before .before) .index3 .ensures .0) (has-cords (c .before .before .before .before .before .before .before .before .before .before .before .before .before .before .before .before .before .before .before .before .before .before .before .before .before .before .before .before .before)) (sums-at (sums-g (c .before .before .before .before .before .before .before .before .before .before .before .before .before))) ((c .before .before .before .before .before .before .before .before .before .before .before .before .before) .gather .ensures) _ _ (bases-again-2 (c .before .before .before .before .before .before .before .before .before .before .before .before .before)) (wholes-again-2 (c .before .before .before .before .before .before .before .before .before .before .before .before .before)) (bases-back-2 (c .before .before .before .before .before .before .before .before .before .before .before .before .before)) (wholes-back-2 (c .before .before .before .before .before .before .before .before .before .before .before .before .before))
+    deal-nodes-asks (deal-of (c .before .before .before .before .before .before .before .before .before .before .before .before .before .before .before .before .before .before .before .before .before .before .before .before .before .before .before .before .before)) (loop-of (c .before .before .before .before .before .before .before .before .before .before .before .before .before .before .before .before .before .before .before .before .before .before .before .before .before .before .before .before .before) .loop .inv) (more-of (c .before .before .before .before .before .before .before .before .before .before .before .before .before .before .before .before .before .before .before .before .before .before .before .before .before .before .before .before .before)) ((c .before .before .before .before .before .before .before .before .before .before .before .before .before .before .before .before .before .before .before .before .before .before .before .before .before .before .before .before .before) .before .before .before .before .before .index .ensures .0) ((c .before .before .before .before .before .before .before .before .before .before .before .before .before .before .before .before .before .before .before .before .before .before .before .before .before .before .before .before .before) .before .before .before .index2 .ensures .0) ((c .before .before .before .before .before .before .before .before .before .before .before .before .before .before .before .before .before .before .before .before .before .before .before .before .before .before .before .before .before) .index3 .ensures .0) (has-cords (c .before .before .before .before .before .before .before .before .before .before .before .before .before .before .before .before .before .before .before .before .before .before .before .before .before .before .before .before .before)) (sums-at (sums-g (c .before .before .before .before .before .before .before .before .before .before .before .before .before))) ((c .before .before .before .before .before .before .before .before .before .before .before .before .before) .gather .ensures) _ _ (lent-again (bases-lent-2 (c .before .before .before .before .before .before .before .before .before .before .before .before .before))) (lent-again (wholes-lent-2 (c .before .before .before .before .before .before .before .before .before .before .before .before .before))) (bases-lent-2 (c .before .before .before .before .before .before .before .before .before .before .before .before .before) .size) (wholes-lent-2 (c .before .before .before .before .before .before .before .before .before .before .before .before .before) .size)
     (sym (front-length _ _ (few (c .before .before .before .before .before .before .before .before .before .before .before .before .before .before .before .before .before .before .before .before .before .before .before .before .before .before .before .before .before) (loop-of (c .before .before .before .before .before .before .before .before .before .before .before .before .before .before .before .before .before .before .before .before .before .before .before .before .before .before .before .before .before) .loop .inv .amounts-size)))) (sym (front-length _ _ (few (c .before .before .before .before .before .before .before .before .before .before .before .before .before .before .before .before .before .before .before .before .before .before .before .before .before .before .before .before .before) (loop-of (c .before .before .before .before .before .before .before .before .before .before .before .before .before .before .before .before .before .before .before .before .before .before .before .before .before .before .before .before .before) .loop .inv .before-size)))) (sym (front-length _ _ (few (c .before .before .before .before .before .before .before .before .before .before .before .before .before .before .before .before .before .before .before .before .before .before .before .before .before .before .before .before .before) (loop-of (c .before .before .before .before .before .before .before .before .before .before .before .before .before .before .before .before .before .before .before .before .before .before .before .before .before .before .before .before .before) .loop .inv .dealt-size))))
 
 mul-deal-cords : tie.Need-mul-deal-cords Inv-loop μ-loop
@@ -424,33 +313,33 @@ part-deal-cords-end : tie.Need-part-deal-cords-end Inv-loop μ-loop
 part-deal-cords-end c = omega (arith, (c .before .before .before .before .before .before .before .before .before .before .before .before .before .before .before .before .before .before .before .before .before .before .before .before .before .before .before .before .before .before .before .before .before .before .before) .if1 .taken, turn-end (c .before .before .before .before .before .before .before .before .before .before .before .before .before .before .before .before .before .before .before .before .before .before .before .before .before .before .before .before .before .before .before .before .before))
 
 array-share-prefix-wholes-2 : tie.Need-array-share-prefix-wholes-2 Inv-loop μ-loop
-array-share-prefix-wholes-2 c = few (c .before .before .before .before .before .before .before .before .before .before .before .before .before .before .before .before .before .before .before .before .before .before .before .before .before .before .before .before .before .before .before .before .before .before) (wholes-put-2 (c .before .before .before .before .before .before .before .before .before .before .before .before .before .before .before .before .before .before))
+array-share-prefix-wholes-2 c = lent-few (wholes-lent-2 (c .before .before .before .before .before .before .before .before .before .before .before .before .before .before .before .before .before .before))
 
 slice-aggregate-deal-cords : tie.Need-slice-aggregate-deal-cords Inv-loop μ-loop
-slice-aggregate-deal-cords c = front-length _ _ (few (c .before .before .before .before .before .before .before .before .before .before .before .before .before .before .before .before .before .before .before .before .before .before .before .before .before .before .before .before .before .before .before .before .before .before .before) (wholes-put-2 (c .before .before .before .before .before .before .before .before .before .before .before .before .before .before .before .before .before .before .before)))
+slice-aggregate-deal-cords c = lent-front (wholes-lent-2 (c .before .before .before .before .before .before .before .before .before .before .before .before .before .before .before .before .before .before .before))
 
 array-share-prefix-amounts : tie.Need-array-share-prefix-amounts Inv-loop μ-loop
-array-share-prefix-amounts c = few (c .before .before .before .before .before .before .before .before .before .before .before .before .before .before .before .before .before .before .before .before .before .before .before .before .before .before .before .before .before .before .before .before .before .before .before) (amounts-put (c .before .before .before .before .before))
+array-share-prefix-amounts c = lent-few (amounts-lent (c .before .before .before .before .before))
 
 slice-aggregate-deal-cords-2 : tie.Need-slice-aggregate-deal-cords-2 Inv-loop μ-loop
-slice-aggregate-deal-cords-2 c = front-length _ _ (few (c .before .before .before .before .before .before .before .before .before .before .before .before .before .before .before .before .before .before .before .before .before .before .before .before .before .before .before .before .before .before .before .before .before .before .before .before) (amounts-put (c .before .before .before .before .before .before)))
+slice-aggregate-deal-cords-2 c = lent-front (amounts-lent (c .before .before .before .before .before .before))
 
 array-borrow-prefix-before-2 : tie.Need-array-borrow-prefix-before-2 Inv-loop μ-loop
-array-borrow-prefix-before-2 c = few (c .before .before .before .before .before .before .before .before .before .before .before .before .before .before .before .before .before .before .before .before .before .before .before .before .before .before .before .before .before .before .before .before .before .before .before .before) (before-put (c .before .before .before .before .before .before))
+array-borrow-prefix-before-2 c = lent-few (before-lent (c .before .before .before .before .before .before))
 
 slice-aggregate-deal-cords-3 : tie.Need-slice-aggregate-deal-cords-3 Inv-loop μ-loop
-slice-aggregate-deal-cords-3 c = front-length _ _ (few (c .before .before .before .before .before .before .before .before .before .before .before .before .before .before .before .before .before .before .before .before .before .before .before .before .before .before .before .before .before .before .before .before .before .before .before .before .before) (before-put (c .before .before .before .before .before .before .before)))
+slice-aggregate-deal-cords-3 c = lent-front (before-lent (c .before .before .before .before .before .before .before))
 
 array-borrow-prefix-dealt-2 : tie.Need-array-borrow-prefix-dealt-2 Inv-loop μ-loop
-array-borrow-prefix-dealt-2 c = few (c .before .before .before .before .before .before .before .before .before .before .before .before .before .before .before .before .before .before .before .before .before .before .before .before .before .before .before .before .before .before .before .before .before .before .before .before .before) (dealt-put (c .before .before .before .before .before .before .before))
+array-borrow-prefix-dealt-2 c = lent-few (dealt-lent (c .before .before .before .before .before .before .before))
 
 slice-aggregate-deal-cords-4 : tie.Need-slice-aggregate-deal-cords-4 Inv-loop μ-loop
-slice-aggregate-deal-cords-4 c = front-length _ _ (few (c .before .before .before .before .before .before .before .before .before .before .before .before .before .before .before .before .before .before .before .before .before .before .before .before .before .before .before .before .before .before .before .before .before .before .before .before .before .before) (dealt-put (c .before .before .before .before .before .before .before .before)))
+slice-aggregate-deal-cords-4 c = lent-front (dealt-lent (c .before .before .before .before .before .before .before .before))
 
 deal-cords-requires : tie.Need-deal-cords-requires Inv-loop μ-loop
 deal-cords-requires c κs =
-    deal-cords-asks (deal-of (c .before .before .before .before .before .before .before .before .before .before .before .before .before .before .before .before .before .before .before .before .before .before .before .before .before .before .before .before .before .before .before .before .before .before .before .before .before .before .before)) (loop-of (c .before .before .before .before .before .before .before .before .before .before .before .before .before .before .before .before .before .before .before .before .before .before .before .before .before .before .before .before .before .before .before .before .before .before .before .before .before .before .before) .loop .inv) (more-of (c .before .before .before .before .before .before .before .before .before .before .before .before .before .before .before .before .before .before .before .before .before .before .before .before .before .before .before .before .before .before .before .before .before .before .before .before .before .before .before)) ((c .before .before .before .before .before .before .before .before .before .before .before .before .before .before .before .before .before .before .before .before .before .before .before .before .before .before .before .before .before .before .before .before .before .before .before .before .before .before .before) .before .before .before .before .before .index .ensures .0) ((c .before .before .before .before .before .before .before .before .before .before .before .before .before .before .before .before .before .before .before .before .before .before .before .before .before .before .before .before .before .before .before .before .before .before .before .before .before .before .before) .before .before .before .index2 .ensures .0) ((c .before .before .before .before .before .before .before .before .before .before .before .before .before .before .before .before .before .before .before .before .before .before .before .before .before .before .before .before .before .before .before .before .before .before .before .before .before .before .before) .index3 .ensures .0) (has-cords (c .before .before .before .before .before .before .before .before .before .before .before .before .before .before .before .before .before .before .before .before .before .before .before .before .before .before .before .before .before .before .before .before .before .before .before .before .before .before .before)) (sums-at (sums-g (gathers-n (c .before .before .before .before .before .before .before .before .before)))) ((gathers-n (c .before .before .before .before .before .before .before .before .before)) .gather .ensures) (nodes-at (c .before .before .before .before .before .before .before .before .before)) _ _ _ _ (wholes-again-2 (gathers-n (c .before .before .before .before .before .before .before .before .before))) (amounts-again (c .before .before .before .before .before .before .before .before .before)) (before-again (c .before .before .before .before .before .before .before .before .before)) (dealt-again (c .before .before .before .before .before .before .before .before .before))
-    (wholes-back-2 (gathers-n (c .before .before .before .before .before .before .before .before .before))) (amounts-back (c .before .before .before .before .before .before .before .before .before)) (before-back (c .before .before .before .before .before .before .before .before .before)) (dealt-back (c .before .before .before .before .before .before .before .before .before))
+    deal-cords-asks (deal-of (c .before .before .before .before .before .before .before .before .before .before .before .before .before .before .before .before .before .before .before .before .before .before .before .before .before .before .before .before .before .before .before .before .before .before .before .before .before .before .before)) (loop-of (c .before .before .before .before .before .before .before .before .before .before .before .before .before .before .before .before .before .before .before .before .before .before .before .before .before .before .before .before .before .before .before .before .before .before .before .before .before .before .before) .loop .inv) (more-of (c .before .before .before .before .before .before .before .before .before .before .before .before .before .before .before .before .before .before .before .before .before .before .before .before .before .before .before .before .before .before .before .before .before .before .before .before .before .before .before)) ((c .before .before .before .before .before .before .before .before .before .before .before .before .before .before .before .before .before .before .before .before .before .before .before .before .before .before .before .before .before .before .before .before .before .before .before .before .before .before .before) .before .before .before .before .before .index .ensures .0) ((c .before .before .before .before .before .before .before .before .before .before .before .before .before .before .before .before .before .before .before .before .before .before .before .before .before .before .before .before .before .before .before .before .before .before .before .before .before .before .before) .before .before .before .index2 .ensures .0) ((c .before .before .before .before .before .before .before .before .before .before .before .before .before .before .before .before .before .before .before .before .before .before .before .before .before .before .before .before .before .before .before .before .before .before .before .before .before .before .before) .index3 .ensures .0) (has-cords (c .before .before .before .before .before .before .before .before .before .before .before .before .before .before .before .before .before .before .before .before .before .before .before .before .before .before .before .before .before .before .before .before .before .before .before .before .before .before .before)) (sums-at (sums-g (gathers-n (c .before .before .before .before .before .before .before .before .before)))) ((gathers-n (c .before .before .before .before .before .before .before .before .before)) .gather .ensures) (nodes-at (c .before .before .before .before .before .before .before .before .before)) _ _ _ _ (lent-again (wholes-lent-2 (gathers-n (c .before .before .before .before .before .before .before .before .before)))) (lent-again (amounts-lent (c .before .before .before .before .before .before .before .before .before))) (lent-again (before-lent (c .before .before .before .before .before .before .before .before .before))) (lent-again (dealt-lent (c .before .before .before .before .before .before .before .before .before)))
+    (wholes-lent-2 (gathers-n (c .before .before .before .before .before .before .before .before .before)) .size) (amounts-lent (c .before .before .before .before .before .before .before .before .before) .size) (before-lent (c .before .before .before .before .before .before .before .before .before) .size) (dealt-lent (c .before .before .before .before .before .before .before .before .before) .size)
 
 loop-less : tie.Need-loop-less Inv-loop μ-loop
 loop-less c = falls-down _ (more-of (c .before .before .before .before .before .before .before .before .before .before .before .before .before .before .before .before .before .before .before .before .before .before .before .before .before .before .before .before .before .before .before .before .before .before .before .before .before .before .before .before .before .before .before .before))
@@ -458,7 +347,12 @@ loop-less c = falls-down _ (more-of (c .before .before .before .before .before .
 loop-again : tie.Need-loop-again Inv-loop μ-loop
 loop-again c =
     loop-turn (deal-of (c .before .before .before .before .before .before .before .before .before .before .before .before .before .before .before .before .before .before .before .before .before .before .before .before .before .before .before .before .before .before .before .before .before .before .before .before .before .before .before .before .before .before .before .before)) (loop-of (c .before .before .before .before .before .before .before .before .before .before .before .before .before .before .before .before .before .before .before .before .before .before .before .before .before .before .before .before .before .before .before .before .before .before .before .before .before .before .before .before .before .before .before .before) .loop .inv) (more-of (c .before .before .before .before .before .before .before .before .before .before .before .before .before .before .before .before .before .before .before .before .before .before .before .before .before .before .before .before .before .before .before .before .before .before .before .before .before .before .before .before .before .before .before .before)) ((c .before .before .before .before .before .before .before .before .before .before .before .before .before .before .before .before .before .before .before .before .before .before .before .before .before .before .before .before .before .before .before .before .before .before .before .before .before .before .before .before .before .before .before .before) .before .before .before .before .before .index .ensures .0) ((c .before .before .before .before .before .before .before .before .before .before .before .before .before .before .before .before .before .before .before .before .before .before .before .before .before .before .before .before .before .before .before .before .before .before .before .before .before .before .before .before .before .before .before .before) .before .before .before .index2 .ensures .0) ((c .before .before .before .before .before .before .before .before .before .before .before .before .before .before .before .before .before .before .before .before .before .before .before .before .before .before .before .before .before .before .before .before .before .before .before .before .before .before .before .before .before .before .before .before) .index3 .ensures .0) (has-cords (c .before .before .before .before .before .before .before .before .before .before .before .before .before .before .before .before .before .before .before .before .before .before .before .before .before .before .before .before .before .before .before .before .before .before .before .before .before .before .before .before .before .before .before .before)) (sums-at (sums-g (gathers-n (nodes-c (c .before .before .before .before))))) ((gathers-n (nodes-c (c .before .before .before .before))) .gather .ensures) (nodes-at (nodes-c (c .before .before .before .before))) (cords-at (c .before .before .before .before)) ((gathers-n (nodes-c (c .before .before .before .before))) .gather .kept .1 .1 .1 .1 .0) ((c .before .before .before .before) .deal-cords .kept .1 .1 .1 .1 .1 .1 .1 .1 .0)
-    (pcapmins-put-2 (gathers-n (nodes-c (c .before .before .before .before)))) (bases-put-2 (gathers-n (nodes-c (c .before .before .before .before)))) (wholes-put-2 (gathers-n (nodes-c (c .before .before .before .before)))) (amounts-put (nodes-c (c .before .before .before .before))) (before-put-2 (c .before .before .before .before)) (dealt-put-2 (c .before .before .before .before))
+    (lent-length (pcapmins-lent-2 (gathers-n (nodes-c (c .before .before .before .before)))) ∙ lent-length (pcapmins-lent (sums-g (gathers-n (nodes-c (c .before .before .before .before))))) ∙ loop-of (turn-g (gathers-n (nodes-c (c .before .before .before .before)))) .loop .inv .pcapmins-size)
+    (lent-length (bases-lent-2 (gathers-n (nodes-c (c .before .before .before .before)))) ∙ lent-length (bases-lent (sums-g (gathers-n (nodes-c (c .before .before .before .before))))) ∙ loop-of (turn-g (gathers-n (nodes-c (c .before .before .before .before)))) .loop .inv .bases-size)
+    (lent-length (wholes-lent-2 (gathers-n (nodes-c (c .before .before .before .before)))) ∙ lent-length (wholes-lent (sums-g (gathers-n (nodes-c (c .before .before .before .before))))) ∙ loop-of (turn-g (gathers-n (nodes-c (c .before .before .before .before)))) .loop .inv .wholes-size)
+    (lent-length (amounts-lent (nodes-c (c .before .before .before .before))) ∙ loop-of (turn-n (nodes-c (c .before .before .before .before))) .loop .inv .amounts-size)
+    (lent-length (before-lent-2 (c .before .before .before .before)) ∙ lent-length (before-lent (nodes-c (c .before .before .before .before))) ∙ loop-of (turn-n (nodes-c (c .before .before .before .before))) .loop .inv .before-size)
+    (lent-length (dealt-lent-2 (c .before .before .before .before)) ∙ lent-length (dealt-lent (nodes-c (c .before .before .before .before))) ∙ loop-of (turn-n (nodes-c (c .before .before .before .before))) .loop .inv .dealt-size)
 
 loop-less-2 : tie.Need-loop-less-2 Inv-loop μ-loop
 loop-less-2 c = falls-down _ ((c .before .before .before .before .before) .loop-test .taken)

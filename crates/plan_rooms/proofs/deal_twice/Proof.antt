@@ -1,9 +1,9 @@
 -- `deal_twice` meets its contract: what each call leaves is what the next one asks.
 use mathlib.Core.Path.{_≡_, sym, ap, _∙_}
-use mathlib.Core.List.{List, _++_}
+use mathlib.Core.List.{List}
 use Prim.Native.Nat.{ℕ, _≤_, _<_}
 use native.Mathlib.Omega.{arith}
-use lib.ListN.{length, take, drop, replicate}
+use lib.ListN.{length, take, replicate}
 use Rattle.figures.specs.Figures.{column}
 use Rattle.words.proofs.Lists.{sets-all}
 use Rattle.rooms.specs.Table.{Room, mostNodes, mostCords, highestRank}
@@ -15,7 +15,7 @@ use Rattle.deals.specs.SecondDeal as second
 use Rattle.levels.specs.Levels.{LevelLists, toColumn}
 use Rattle.deal_by_rank.specs.Ranks.{DealGiven}
 use Rattle.levels.proofs.Cells.{zeros-front, zeros-rows, zeros-cells}
-use Rattle.deal_by_rank.proofs.RankLoop.{front-length, front-again, front-size, zeros-length}
+use Rattle.levels.proofs.Fronts.{equal-length, Lent, lent, lent-zeros, rejoined, lent-again, lent-few, lent-front}
 use Rattle.plan_rooms.specs.Planning.{RoomLists}
 use Rattle.plan_rooms.proofs.Planning.{cord-count, wants-count, levels-nodes, levels-cords, first-given, first-made, second-given, second-made, server-lists, usable-are, reclaim-asks, first-used, freed-is, second-wants, caps-are}
 use borrow.Author.Needs.{needs}
@@ -47,21 +47,14 @@ start-l l = l .before .before .before .before .before .before .before .before .b
 abbrev cords-l : Listed → ℕ
 cords-l l = length (start-l l .args .nodes .now)
 
-abbrev order-of : Listed → List ℕ
-order-of l = l .list-levels .last .1 .1 .1 .0
-
 abbrev order-after : Listed → List ℕ
-order-after l = order-of l ++ drop (cords-l l) (replicate mostCords 0)
+order-after l = rejoined (cords-l l) (replicate mostCords 0) (l .list-levels .last .1 .1 .1 .0)
 
-order-back : (l : Listed) → length (order-of l) ≡ cords-l l
-order-back l = l .list-levels .kept .1 .1 .1 .0 ∙ zeros-front mostCords _ (cords-few (start-l l))
-
-order-few : (l : Listed) → cords-l l ≤ length (order-after l)
-order-few l =
-    omega (arith, cords-few (start-l l), zeros-length mostCords, front-size (cords-l l) (order-of l) (replicate mostCords 0) (order-back l) (omega (arith, cords-few (start-l l), zeros-length mostCords)))
+order-lent : (l : Listed) → Lent (cords-l l) (replicate mostCords 0) (l .list-levels .last .1 .1 .1 .0)
+order-lent l = lent-zeros mostCords (cords-few (start-l l)) (l .list-levels .kept .1 .1 .1 .0)
 
 listed-at : (l : Listed) → LevelLists (start-l l .args .parents .now) (column nodeColumn (start-l l .args .cords .now)) (column levelColumn (start-l l .args .cords .now)) (l .list-levels .last .1 .1 .0) (take (cords-l l) (order-after l)) (l .list-levels .last .1 .1 .1 .1 .0)
-listed-at l = rw (front-again (cords-l l) (order-of l) (drop (cords-l l) (replicate mostCords 0)) (order-back l)) (l .list-levels .ensures)
+listed-at l = rw (lent-again (order-lent l)) (l .list-levels .ensures)
 
 -- After the first copy.
 abbrev Copied : Type 0
@@ -76,25 +69,14 @@ start-k k = start-l (listed-k k)
 abbrev nodes-k : Copied → ℕ
 nodes-k k = length (start-k k .args .parents .now)
 
-abbrev left-of : Copied → List ℕ
-left-of k = k .copy .last .1 .0
-
 abbrev left-after : Copied → List ℕ
-left-after k = left-of k ++ drop (nodes-k k) (replicate mostNodes 0)
+left-after k = rejoined (nodes-k k) (replicate mostNodes 0) (k .copy .last .1 .0)
 
-zeros-few : (s : Start) → length (s .args .parents .now) ≤ length {A = ℕ} (replicate mostNodes 0)
-zeros-few s = omega (arith, nodes-few s, zeros-length mostNodes)
-
-left-back : (k : Copied) → length (left-of k) ≡ nodes-k k
-left-back k = k .copy .kept .1 .0 ∙ zeros-front mostNodes _ (nodes-few (start-k k))
-
-left-size : (k : Copied) → length (left-after k) ≡ mostNodes
-left-size k = front-size (nodes-k k) (left-of k) (replicate mostNodes 0) (left-back k) (zeros-few (start-k k)) ∙ zeros-length mostNodes
+left-lent : (k : Copied) → Lent (nodes-k k) (replicate mostNodes 0) (k .copy .last .1 .0)
+left-lent k = lent-zeros mostNodes (nodes-few (start-k k)) (k .copy .kept .1 .0)
 
 left-is : (k : Copied) → take (nodes-k k) (left-after k) ≡ start-k k .args .spare .now
-left-is k =
-    front-again (nodes-k k) (left-of k) (drop (nodes-k k) (replicate mostNodes 0)) (left-back k)
-    ∙ k .copy .ensures ∙ sets-all _ _ (zeros-front mostNodes _ (nodes-few (start-k k)) ∙ sym (lists (start-k k) .spare-size))
+left-is k = lent-again (left-lent k) ∙ k .copy .ensures ∙ sets-all _ _ (zeros-front mostNodes _ (nodes-few (start-k k)) ∙ sym (lists (start-k k) .spare-size))
 
 -- After the first deal.
 abbrev First : Type 0
@@ -143,27 +125,18 @@ start-r q = start-u (used-r q)
 abbrev cords-r : Reclaimed → ℕ
 cords-r q = length (start-r q .args .nodes .now)
 
-abbrev starts-of : Reclaimed → List ℕ
-starts-of q = q .reclaim .last .1 .1 .1 .0
-
 abbrev starts-after : Reclaimed → List ℕ
-starts-after q = starts-of q ++ drop (cords-r q) (replicate mostCords 0)
+starts-after q = rejoined (cords-r q) (replicate mostCords 0) (q .reclaim .last .1 .1 .1 .0)
 
-starts-back : (q : Reclaimed) → length (starts-of q) ≡ cords-r q
-starts-back q = q .reclaim .kept .1 .1 .1 .0 ∙ zeros-front mostCords _ (cords-few (start-r q))
-
-starts-few : (q : Reclaimed) → cords-r q ≤ length (starts-after q)
-starts-few q =
-    omega (arith, cords-few (start-r q), zeros-length mostCords, front-size (cords-r q) (starts-of q) (replicate mostCords 0) (starts-back q) (omega (arith, cords-few (start-r q), zeros-length mostCords)))
+starts-lent : (q : Reclaimed) → Lent (cords-r q) (replicate mostCords 0) (q .reclaim .last .1 .1 .1 .0)
+starts-lent q = lent-zeros mostCords (cords-few (start-r q)) (q .reclaim .kept .1 .1 .1 .0)
 
 module _ (q : Reclaimed) {r : Room} (ok : Accepted r) {demands : List ℕ} (of : RoomLists r demands (start-r q .args .parents .now) (start-r q .args .spare .now) (start-r q .args .cords .now) (start-r q .args .nodes .now) (start-r q .args .lows .now) (start-r q .args .wants .now) (start-r q .args .needs .now) (start-r q .args .scale)) where
   first-q : grants-f (first-u (used-r q)) ≡ firstGrants r demands
   first-q = first-grants (first-u (used-r q)) ok of
 
   starts-are : take (cords-r q) (starts-after q) ≡ firstUsed r demands
-  starts-are =
-      front-again (cords-r q) (starts-of q) (drop (cords-r q) (replicate mostCords 0)) (starts-back q)
-      ∙ first-used ok of first-q (used-r q .usable-of .ensures) (q .reclaim .ensures .1 .0)
+  starts-are = lent-again (starts-lent q) ∙ first-used ok of first-q (used-r q .usable-of .ensures) (q .reclaim .ensures .1 .0)
 
   wants-are : q .reclaim .last .1 .1 .1 .1 .0 ≡ secondWants r demands
   wants-are = second-wants ok of first-q (used-r q .usable-of .ensures) (q .reclaim .ensures .1 .1)
@@ -173,14 +146,10 @@ module _ (q : Reclaimed) {r : Room} (ok : Accepted r) {demands : List ℕ} (of :
 
 -- The list of what is left, after the first deal; and after the second copy.
 abbrev left-after-f : First → List ℕ
-left-after-f f = f .deal .last .1 .1 .1 .1 .1 .1 .1 .1 .0 ++ drop (nodes-k (copied-f f)) (left-after (copied-f f))
+left-after-f f = rejoined (nodes-k (copied-f f)) (left-after (copied-f f)) (f .deal .last .1 .1 .1 .1 .1 .1 .1 .1 .0)
 
-left-size-f : (f : First) → length (left-after-f f) ≡ mostNodes
-left-size-f f =
-    front-size (nodes-k (copied-f f)) (f .deal .last .1 .1 .1 .1 .1 .1 .1 .1 .0) (left-after (copied-f f))
-    (f .deal .kept .1 .1 .1 .1 .1 .1 .1 .1 .0 ∙ sym (front-length (nodes-k (copied-f f)) (left-after (copied-f f)) (omega (arith, left-size (copied-f f), nodes-few (start-f f)))))
-    (omega (arith, left-size (copied-f f), nodes-few (start-f f)))
-    ∙ left-size (copied-f f)
+left-lent-f : (f : First) → Lent (nodes-k (copied-f f)) (left-after (copied-f f)) (f .deal .last .1 .1 .1 .1 .1 .1 .1 .1 .0)
+left-lent-f f = lent (lent-few (left-lent (copied-f f))) (f .deal .kept .1 .1 .1 .1 .1 .1 .1 .1 .0)
 
 abbrev Again : Type 0
 Again = tie.After-copy2
@@ -198,22 +167,13 @@ abbrev nodes-a : Again → ℕ
 nodes-a a = length (start-a a .args .parents .now)
 
 abbrev left-after-a : Again → List ℕ
-left-after-a a = a .copy2 .last .1 .0 ++ drop (nodes-a a) (left-after-f (first-a a))
+left-after-a a = rejoined (nodes-a a) (left-after-f (first-a a)) (a .copy2 .last .1 .0)
 
-left-front : (a : Again) → length (take (nodes-a a) (left-after-f (first-a a))) ≡ nodes-a a
-left-front a = sym (front-length (nodes-a a) (left-after-f (first-a a)) (omega (arith, left-size-f (first-a a), nodes-few (start-a a))))
-
-left-back-a : (a : Again) → length (a .copy2 .last .1 .0) ≡ nodes-a a
-left-back-a a = a .copy2 .kept .1 .0 ∙ left-front a
-
-left-size-a : (a : Again) → length (left-after-a a) ≡ mostNodes
-left-size-a a =
-    front-size (nodes-a a) (a .copy2 .last .1 .0) (left-after-f (first-a a)) (left-back-a a) (omega (arith, left-size-f (first-a a), nodes-few (start-a a))) ∙ left-size-f (first-a a)
+left-lent-a : (a : Again) → Lent (nodes-a a) (left-after-f (first-a a)) (a .copy2 .last .1 .0)
+left-lent-a a = lent (lent-few (left-lent-f (first-a a))) (a .copy2 .kept .1 .0)
 
 left-is-a : (a : Again) → take (nodes-a a) (left-after-a a) ≡ start-a a .args .spare .now
-left-is-a a =
-    front-again (nodes-a a) (a .copy2 .last .1 .0) (drop (nodes-a a) (left-after-f (first-a a))) (left-back-a a)
-    ∙ a .copy2 .ensures ∙ sets-all _ _ (left-front a ∙ sym (lists (start-a a) .spare-size))
+left-is-a a = lent-again (left-lent-a a) ∙ a .copy2 .ensures ∙ sets-all _ _ (sym (lent-front (left-lent-f (first-a a))) ∙ sym (lists (start-a a) .spare-size))
 
 second-lent : (a : Again) {r : Room} → Accepted r → {demands : List ℕ} → RoomLists r demands (start-a a .args .parents .now) (start-a a .args .spare .now) (start-a a .args .cords .now) (start-a a .args .nodes .now) (start-a a .args .lows .now) (start-a a .args .wants .now) (start-a a .args .needs .now) (start-a a .args .scale)
     → DealGiven (start-a a .args .parents .now) (listed-k (copied-f (first-a a)) .list-levels .last .1 .1 .0) (take (cords-l (listed-k (copied-f (first-a a)))) (order-after (listed-k (copied-f (first-a a))))) (listed-k (copied-f (first-a a)) .list-levels .last .1 .1 .1 .1 .0)
@@ -251,7 +211,7 @@ wants-size : (s : Start) → length (s .args .wants .now) ≡ length (s .args .n
 wants-size s = wants-count (room s) (lists s)
 
 array-borrow-prefix-order : tie.Need-array-borrow-prefix-order
-array-borrow-prefix-order c = omega (arith, cords-few (c .before .before .before .before .before .before .before .before .before), zeros-length mostCords)
+array-borrow-prefix-order c = omega (arith, cords-few (c .before .before .before .before .before .before .before .before .before), equal-length {A = ℕ} mostCords 0)
 
 slice-aggregate-list-levels : tie.Need-slice-aggregate-list-levels
 slice-aggregate-list-levels c = sym (zeros-front mostCords _ (cords-few (c .before .before .before .before .before .before .before .before .before .before)))
@@ -260,7 +220,7 @@ list-levels-requires : tie.Need-list-levels-requires
 list-levels-requires c κs = (levels-nodes (room (c .before .before .before .before .before .before .before .before .before .before .before)) (lists (c .before .before .before .before .before .before .before .before .before .before .before)), ((levels-cords (room (c .before .before .before .before .before .before .before .before .before .before .before)) (lists (c .before .before .before .before .before .before .before .before .before .before .before)), zeros-front mostCords _ (cords-few (c .before .before .before .before .before .before .before .before .before .before .before)) ∙ sym (cord-count (room (c .before .before .before .before .before .before .before .before .before .before .before)) (lists (c .before .before .before .before .before .before .before .before .before .before .before))), zeros-rows highestRank mostNodes), (zeros-rows highestRank 4, λ j. zeros-cells highestRank 4 j toColumn)))
 
 array-borrow-prefix-left : tie.Need-array-borrow-prefix-left
-array-borrow-prefix-left c = omega (arith, nodes-few (c .before .before .before .before .before .before .before .before .before .before .before .before .before), zeros-length mostNodes)
+array-borrow-prefix-left c = omega (arith, nodes-few (c .before .before .before .before .before .before .before .before .before .before .before .before .before), equal-length {A = ℕ} mostNodes 0)
 
 slice-aggregate-copy : tie.Need-slice-aggregate-copy
 slice-aggregate-copy c = sym (zeros-front mostNodes _ (nodes-few (c .before .before .before .before .before .before .before .before .before .before .before .before .before .before)))
@@ -269,16 +229,16 @@ copy-requires : tie.Need-copy-requires
 copy-requires c κs = search needs
 
 array-share-prefix-order : tie.Need-array-share-prefix-order
-array-share-prefix-order c = order-few (c .before .before .before .before .before)
+array-share-prefix-order c = lent-few (order-lent (c .before .before .before .before .before))
 
 slice-aggregate-deal : tie.Need-slice-aggregate-deal
-slice-aggregate-deal c = front-length (cords-l (c .before .before .before .before .before .before)) (order-after (c .before .before .before .before .before .before)) (order-few (c .before .before .before .before .before .before))
+slice-aggregate-deal c = lent-front (order-lent (c .before .before .before .before .before .before))
 
 array-borrow-prefix-left-2 : tie.Need-array-borrow-prefix-left-2
-array-borrow-prefix-left-2 c = omega (arith, left-size (c .before .before .before .before .before), nodes-few (start-k (c .before .before .before .before .before)))
+array-borrow-prefix-left-2 c = lent-few (left-lent (c .before .before .before .before .before))
 
 slice-aggregate-deal-2 : tie.Need-slice-aggregate-deal-2
-slice-aggregate-deal-2 c = front-length (nodes-k (c .before .before .before .before .before .before)) (left-after (c .before .before .before .before .before .before)) (omega (arith, left-size (c .before .before .before .before .before .before), nodes-few (start-k (c .before .before .before .before .before .before))))
+slice-aggregate-deal-2 c = lent-front (left-lent (c .before .before .before .before .before .before))
 
 deal-requires : tie.Need-deal-requires
 deal-requires c κs = ((record { limits = limitsOf (start-k (c .before .before .before .before .before .before .before .before) .pre .0 .room); levels = levelsOf (start-k (c .before .before .before .before .before .before .before .before) .pre .0 .room); given = first-given (room (start-k (c .before .before .before .before .before .before .before .before))) (lists (start-k (c .before .before .before .before .before .before .before .before))) (listed-at (listed-k (c .before .before .before .before .before .before .before .before))) (left-is (c .before .before .before .before .before .before .before .before)) }, start-k (c .before .before .before .before .before .before .before .before) .pre .1), record { full = zeros-rows mostNodes highestRank; blank = λ n j l b none. zeros-cells mostNodes highestRank n j })
@@ -287,7 +247,7 @@ usable-of-requires : tie.Need-usable-of-requires
 usable-of-requires c κs = (server-lists (room (start-f (c .before .before .before .before .before))) (lists (start-f (c .before .before .before .before .before))) (grants-size (c .before .before .before .before .before)), start-f (c .before .before .before .before .before) .pre .2)
 
 array-borrow-prefix-used : tie.Need-array-borrow-prefix-used
-array-borrow-prefix-used c = omega (arith, cords-few (c .before .before .before .before .before .before .before .before .before .before .before .before .before .before .before .before .before .before .before .before .before .before .before .before .before .before .before .before .before .before .before .before .before .before), zeros-length mostCords)
+array-borrow-prefix-used c = omega (arith, cords-few (c .before .before .before .before .before .before .before .before .before .before .before .before .before .before .before .before .before .before .before .before .before .before .before .before .before .before .before .before .before .before .before .before .before .before), equal-length {A = ℕ} mostCords 0)
 
 slice-aggregate-reclaim : tie.Need-slice-aggregate-reclaim
 slice-aggregate-reclaim c = sym (zeros-front mostCords _ (cords-few (c .before .before .before .before .before .before .before .before .before .before .before .before .before .before .before .before .before .before .before .before .before .before .before .before .before .before .before .before .before .before .before .before .before .before .before)))
@@ -296,31 +256,31 @@ reclaim-requires : tie.Need-reclaim-requires
 reclaim-requires c κs = (reclaim-asks (room (start-u (c .before .before .before .before .before .before))) (lists (start-u (c .before .before .before .before .before .before))) (first-grants (first-u (c .before .before .before .before .before .before)) (room (start-u (c .before .before .before .before .before .before))) (lists (start-u (c .before .before .before .before .before .before)))) ((c .before .before .before .before .before .before) .usable-of .ensures) (grants-size (first-u (c .before .before .before .before .before .before))), zeros-front mostCords _ (cords-few (start-u (c .before .before .before .before .before .before))) ∙ sym (cord-count (room (start-u (c .before .before .before .before .before .before))) (lists (start-u (c .before .before .before .before .before .before)))), wants-size (start-u (c .before .before .before .before .before .before)) ∙ sym (cord-count (room (start-u (c .before .before .before .before .before .before))) (lists (start-u (c .before .before .before .before .before .before)))))
 
 array-borrow-prefix-left-3 : tie.Need-array-borrow-prefix-left-3
-array-borrow-prefix-left-3 c = omega (arith, left-size-f (c .before .before .before .before .before .before .before .before .before .before .before .before .before .before .before .before), nodes-few (start-f (c .before .before .before .before .before .before .before .before .before .before .before .before .before .before .before .before)))
+array-borrow-prefix-left-3 c = lent-few (left-lent-f (c .before .before .before .before .before .before .before .before .before .before .before .before .before .before .before .before))
 
 slice-aggregate-copy-2 : tie.Need-slice-aggregate-copy-2
-slice-aggregate-copy-2 c = front-length (nodes-k (copied-f (c .before .before .before .before .before .before .before .before .before .before .before .before .before .before .before .before .before))) (left-after-f (c .before .before .before .before .before .before .before .before .before .before .before .before .before .before .before .before .before)) (omega (arith, left-size-f (c .before .before .before .before .before .before .before .before .before .before .before .before .before .before .before .before .before), nodes-few (start-f (c .before .before .before .before .before .before .before .before .before .before .before .before .before .before .before .before .before))))
+slice-aggregate-copy-2 c = lent-front (left-lent-f (c .before .before .before .before .before .before .before .before .before .before .before .before .before .before .before .before .before))
 
 copy-requires-2 : tie.Need-copy-requires-2
 copy-requires-2 c κs = search needs
 
 array-share-prefix-order-2 : tie.Need-array-share-prefix-order-2
-array-share-prefix-order-2 c = order-few (c .before .before .before .before .before .before .before .before .before .before .before .before .before .before .before .before .before .before .before .before .before .before .before .before .before .before .before .before .before .before .before .before)
+array-share-prefix-order-2 c = lent-few (order-lent (c .before .before .before .before .before .before .before .before .before .before .before .before .before .before .before .before .before .before .before .before .before .before .before .before .before .before .before .before .before .before .before .before))
 
 slice-aggregate-deal-3 : tie.Need-slice-aggregate-deal-3
-slice-aggregate-deal-3 c = front-length (cords-l (c .before .before .before .before .before .before .before .before .before .before .before .before .before .before .before .before .before .before .before .before .before .before .before .before .before .before .before .before .before .before .before .before .before)) (order-after (c .before .before .before .before .before .before .before .before .before .before .before .before .before .before .before .before .before .before .before .before .before .before .before .before .before .before .before .before .before .before .before .before .before)) (order-few (c .before .before .before .before .before .before .before .before .before .before .before .before .before .before .before .before .before .before .before .before .before .before .before .before .before .before .before .before .before .before .before .before .before))
+slice-aggregate-deal-3 c = lent-front (order-lent (c .before .before .before .before .before .before .before .before .before .before .before .before .before .before .before .before .before .before .before .before .before .before .before .before .before .before .before .before .before .before .before .before .before))
 
 array-share-prefix-used : tie.Need-array-share-prefix-used
-array-share-prefix-used c = starts-few (c .before .before .before .before .before .before .before .before .before)
+array-share-prefix-used c = lent-few (starts-lent (c .before .before .before .before .before .before .before .before .before))
 
 slice-aggregate-deal-4 : tie.Need-slice-aggregate-deal-4
-slice-aggregate-deal-4 c = front-length (cords-r (c .before .before .before .before .before .before .before .before .before .before)) (starts-after (c .before .before .before .before .before .before .before .before .before .before)) (starts-few (c .before .before .before .before .before .before .before .before .before .before))
+slice-aggregate-deal-4 c = lent-front (starts-lent (c .before .before .before .before .before .before .before .before .before .before))
 
 array-borrow-prefix-left-4 : tie.Need-array-borrow-prefix-left-4
-array-borrow-prefix-left-4 c = omega (arith, left-size-a (c .before .before .before .before .before .before), nodes-few (start-a (c .before .before .before .before .before .before)))
+array-borrow-prefix-left-4 c = lent-few (left-lent-a (c .before .before .before .before .before .before))
 
 slice-aggregate-deal-5 : tie.Need-slice-aggregate-deal-5
-slice-aggregate-deal-5 c = front-length (nodes-a (c .before .before .before .before .before .before .before)) (left-after-a (c .before .before .before .before .before .before .before)) (omega (arith, left-size-a (c .before .before .before .before .before .before .before), nodes-few (start-a (c .before .before .before .before .before .before .before))))
+slice-aggregate-deal-5 c = lent-front (left-lent-a (c .before .before .before .before .before .before .before))
 
 deal-requires-2 : tie.Need-deal-requires-2
 deal-requires-2 c κs = ((record { limits = limitsOf (start-a (c .before .before .before .before .before .before .before .before .before) .pre .0 .room); levels = levelsOf (start-a (c .before .before .before .before .before .before .before .before .before) .pre .0 .room); given = second-lent (c .before .before .before .before .before .before .before .before .before) (room (start-a (c .before .before .before .before .before .before .before .before .before))) (lists (start-a (c .before .before .before .before .before .before .before .before .before))) }, grants-size (first-a (c .before .before .before .before .before .before .before .before .before))), first-a (c .before .before .before .before .before .before .before .before .before) .deal .ensures .1)

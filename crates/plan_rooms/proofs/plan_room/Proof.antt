@@ -1,17 +1,17 @@
 -- `plan_room` meets its contract: the room's lists are loaded, and both deals are made of them.
 use mathlib.Core.Path.{_≡_, sym, _∙_}
-use mathlib.Core.List.{List, _++_}
+use mathlib.Core.List.{List}
 use Prim.Native.Nat.{ℕ, _≤_}
 use native.Mathlib.Omega.{arith}
-use lib.ListN.{length, take, drop, replicate, length-replicate}
-use lib.Seq.{getD-take, length-take-le, length-front, take-at}
+use lib.ListN.{length, take, replicate}
+use lib.Seq.{getD-take}
 use Rattle.rooms.specs.Part.{Good, good}
 use Rattle.rooms.specs.Table.{Room, mostNodes, mostServers, mostCords}
 use Rattle.rooms.specs.Limits.{checked}
 use Rattle.room_lists.specs.Lists.{ScaleIs}
 use Rattle.room_lists.proofs.Lent.{servers-few, cords-few, cords-front, cords-lent}
 use Rattle.levels.proofs.Cells.{zeros-front}
-use Rattle.deal_by_rank.proofs.RankLoop.{front-length, front-again, front-size, zeros-length}
+use Rattle.levels.proofs.Fronts.{equal-length, front-length, Lent, lent, lent-zeros, rejoined, lent-again, lent-few, lent-front}
 use Rattle.plan_rooms.specs.Planning.{RoomLists}
 use Rattle.plan_rooms.proofs.Planning.{nodes-few}
 use borrow.Author.Needs.{needs}
@@ -62,37 +62,17 @@ counted-n x = x .before .before .before .before
 abbrev count-n : Nodes → ℕ
 count-n x = counted-n x .node-count .result
 
-abbrev parents-of : Nodes → List ℕ
-parents-of x = x .load-nodes .last .1 .1 .0
-
 abbrev parents-after : Nodes → List ℕ
-parents-after x = parents-of x ++ drop (count-n x) (replicate mostNodes 0)
+parents-after x = rejoined (count-n x) (replicate mostNodes 0) (x .load-nodes .last .1 .1 .0)
 
-parents-back : (x : Nodes) → length (parents-of x) ≡ count-n x
-parents-back x = x .load-nodes .kept .1 .1 .0 ∙ zeros-front mostNodes _ (nodes-fit (counted-n x))
-
-parents-long : (x : Nodes) → count-n x ≤ length (parents-after x)
-parents-long x =
-    omega (arith, nodes-fit (counted-n x), zeros-length mostNodes, front-size (count-n x) (parents-of x) (replicate mostNodes 0) (parents-back x) (omega (arith, nodes-fit (counted-n x), zeros-length mostNodes)))
-
-parents-again : (x : Nodes) → take (count-n x) (parents-after x) ≡ parents-of x
-parents-again x = front-again (count-n x) (parents-of x) (drop (count-n x) (replicate mostNodes 0)) (parents-back x)
-
-abbrev spare-of : Nodes → List ℕ
-spare-of x = x .load-nodes .last .1 .1 .1 .0
+parents-lent : (x : Nodes) → Lent (count-n x) (replicate mostNodes 0) (x .load-nodes .last .1 .1 .0)
+parents-lent x = lent-zeros mostNodes (nodes-fit (counted-n x)) (x .load-nodes .kept .1 .1 .0)
 
 abbrev spare-after : Nodes → List ℕ
-spare-after x = spare-of x ++ drop (count-n x) (replicate mostNodes 0)
+spare-after x = rejoined (count-n x) (replicate mostNodes 0) (x .load-nodes .last .1 .1 .1 .0)
 
-spare-back : (x : Nodes) → length (spare-of x) ≡ count-n x
-spare-back x = x .load-nodes .kept .1 .1 .1 .0 ∙ zeros-front mostNodes _ (nodes-fit (counted-n x))
-
-spare-long : (x : Nodes) → count-n x ≤ length (spare-after x)
-spare-long x =
-    omega (arith, nodes-fit (counted-n x), zeros-length mostNodes, front-size (count-n x) (spare-of x) (replicate mostNodes 0) (spare-back x) (omega (arith, nodes-fit (counted-n x), zeros-length mostNodes)))
-
-spare-again : (x : Nodes) → take (count-n x) (spare-after x) ≡ spare-of x
-spare-again x = front-again (count-n x) (spare-of x) (drop (count-n x) (replicate mostNodes 0)) (spare-back x)
+spare-lent : (x : Nodes) → Lent (count-n x) (replicate mostNodes 0) (x .load-nodes .last .1 .1 .1 .0)
+spare-lent x = lent-zeros mostNodes (nodes-fit (counted-n x)) (x .load-nodes .kept .1 .1 .1 .0)
 
 -- After `load_cords`.
 abbrev Cords : Type 0
@@ -104,87 +84,38 @@ nodes-c y = y .before .before .before .before .before .before .before .before
 abbrev start-c : Cords → Start
 start-c y = start-n (counted-n (nodes-c y))
 
-abbrev nodes-of : Cords → List ℕ
-nodes-of y = y .load-cords .last .1 .1 .1 .0
-
 abbrev nodes-after : Cords → List ℕ
-nodes-after y = nodes-of y ++ drop (cords-k (start-c y)) (replicate mostCords 0)
+nodes-after y = rejoined (cords-k (start-c y)) (replicate mostCords 0) (y .load-cords .last .1 .1 .1 .0)
 
-nodes-back : (y : Cords) → length (nodes-of y) ≡ cords-k (start-c y)
-nodes-back y = y .load-cords .kept .1 .1 .1 .0 ∙ zeros-front mostCords _ (cords-fit (start-c y))
-
-nodes-long : (y : Cords) → cords-k (start-c y) ≤ length (nodes-after y)
-nodes-long y =
-    omega (arith, cords-fit (start-c y), zeros-length mostCords, front-size (cords-k (start-c y)) (nodes-of y) (replicate mostCords 0) (nodes-back y) (omega (arith, cords-fit (start-c y), zeros-length mostCords)))
-
-nodes-again : (y : Cords) → take (cords-k (start-c y)) (nodes-after y) ≡ nodes-of y
-nodes-again y = front-again (cords-k (start-c y)) (nodes-of y) (drop (cords-k (start-c y)) (replicate mostCords 0)) (nodes-back y)
-
-abbrev lows-of : Cords → List ℕ
-lows-of y = y .load-cords .last .1 .1 .1 .1 .0
+nodes-lent : (y : Cords) → Lent (cords-k (start-c y)) (replicate mostCords 0) (y .load-cords .last .1 .1 .1 .0)
+nodes-lent y = lent-zeros mostCords (cords-fit (start-c y)) (y .load-cords .kept .1 .1 .1 .0)
 
 abbrev lows-after : Cords → List ℕ
-lows-after y = lows-of y ++ drop (cords-k (start-c y)) (replicate mostCords 0)
+lows-after y = rejoined (cords-k (start-c y)) (replicate mostCords 0) (y .load-cords .last .1 .1 .1 .1 .0)
 
-lows-back : (y : Cords) → length (lows-of y) ≡ cords-k (start-c y)
-lows-back y = y .load-cords .kept .1 .1 .1 .1 .0 ∙ zeros-front mostCords _ (cords-fit (start-c y))
-
-lows-long : (y : Cords) → cords-k (start-c y) ≤ length (lows-after y)
-lows-long y =
-    omega (arith, cords-fit (start-c y), zeros-length mostCords, front-size (cords-k (start-c y)) (lows-of y) (replicate mostCords 0) (lows-back y) (omega (arith, cords-fit (start-c y), zeros-length mostCords)))
-
-lows-again : (y : Cords) → take (cords-k (start-c y)) (lows-after y) ≡ lows-of y
-lows-again y = front-again (cords-k (start-c y)) (lows-of y) (drop (cords-k (start-c y)) (replicate mostCords 0)) (lows-back y)
-
-abbrev wants-of : Cords → List ℕ
-wants-of y = y .load-cords .last .1 .1 .1 .1 .1 .0
+lows-lent : (y : Cords) → Lent (cords-k (start-c y)) (replicate mostCords 0) (y .load-cords .last .1 .1 .1 .1 .0)
+lows-lent y = lent-zeros mostCords (cords-fit (start-c y)) (y .load-cords .kept .1 .1 .1 .1 .0)
 
 abbrev wants-after : Cords → List ℕ
-wants-after y = wants-of y ++ drop (cords-k (start-c y)) (replicate mostCords 0)
+wants-after y = rejoined (cords-k (start-c y)) (replicate mostCords 0) (y .load-cords .last .1 .1 .1 .1 .1 .0)
 
-wants-back : (y : Cords) → length (wants-of y) ≡ cords-k (start-c y)
-wants-back y = y .load-cords .kept .1 .1 .1 .1 .1 .0 ∙ zeros-front mostCords _ (cords-fit (start-c y))
-
-wants-long : (y : Cords) → cords-k (start-c y) ≤ length (wants-after y)
-wants-long y =
-    omega (arith, cords-fit (start-c y), zeros-length mostCords, front-size (cords-k (start-c y)) (wants-of y) (replicate mostCords 0) (wants-back y) (omega (arith, cords-fit (start-c y), zeros-length mostCords)))
-
-wants-again : (y : Cords) → take (cords-k (start-c y)) (wants-after y) ≡ wants-of y
-wants-again y = front-again (cords-k (start-c y)) (wants-of y) (drop (cords-k (start-c y)) (replicate mostCords 0)) (wants-back y)
-
-abbrev needs-of : Cords → List ℕ
-needs-of y = y .load-cords .last .1 .1 .1 .1 .1 .1 .0
+wants-lent : (y : Cords) → Lent (cords-k (start-c y)) (replicate mostCords 0) (y .load-cords .last .1 .1 .1 .1 .1 .0)
+wants-lent y = lent-zeros mostCords (cords-fit (start-c y)) (y .load-cords .kept .1 .1 .1 .1 .1 .0)
 
 abbrev needs-after : Cords → List ℕ
-needs-after y = needs-of y ++ drop (servers-v (start-c y)) (replicate mostServers 0)
+needs-after y = rejoined (servers-v (start-c y)) (replicate mostServers 0) (y .load-cords .last .1 .1 .1 .1 .1 .1 .0)
 
-needs-back : (y : Cords) → length (needs-of y) ≡ servers-v (start-c y)
-needs-back y = y .load-cords .kept .1 .1 .1 .1 .1 .1 .0 ∙ zeros-front mostServers _ (servers-fit (start-c y))
-
-needs-long : (y : Cords) → servers-v (start-c y) ≤ length (needs-after y)
-needs-long y =
-    omega (arith, servers-fit (start-c y), zeros-length mostServers, front-size (servers-v (start-c y)) (needs-of y) (replicate mostServers 0) (needs-back y) (omega (arith, servers-fit (start-c y), zeros-length mostServers)))
-
-needs-again : (y : Cords) → take (servers-v (start-c y)) (needs-after y) ≡ needs-of y
-needs-again y = front-again (servers-v (start-c y)) (needs-of y) (drop (servers-v (start-c y)) (replicate mostServers 0)) (needs-back y)
+needs-lent : (y : Cords) → Lent (servers-v (start-c y)) (replicate mostServers 0) (y .load-cords .last .1 .1 .1 .1 .1 .1 .0)
+needs-lent y = lent-zeros mostServers (servers-fit (start-c y)) (y .load-cords .kept .1 .1 .1 .1 .1 .1 .0)
 
 abbrev blank-rows : List (List ℕ)
 blank-rows = replicate mostCords (replicate 4 0)
 
-abbrev cords-of : Cords → List (List ℕ)
-cords-of y = y .load-cords .last .1 .1 .0
-
 abbrev cords-after : Cords → List (List ℕ)
-cords-after y = cords-of y ++ drop (cords-k (start-c y)) blank-rows
+cords-after y = rejoined (cords-k (start-c y)) blank-rows (y .load-cords .last .1 .1 .0)
 
-cords-back : (y : Cords) → length (cords-of y) ≡ length (take (cords-k (start-c y)) blank-rows)
-cords-back y = y .load-cords .kept .1 .1 .0
-
-cords-long : (y : Cords) → cords-k (start-c y) ≤ length (cords-after y)
-cords-long y = omega (arith, cords-fit (start-c y), length-replicate mostCords (replicate {A = ℕ} 4 0), length-front blank-rows (cords-of y) (cords-k (start-c y)) (cords-back y))
-
-cords-again : (y : Cords) → take (cords-k (start-c y)) (cords-after y) ≡ cords-of y
-cords-again y = take-at (cords-of y) (drop (cords-k (start-c y)) blank-rows) (cords-k (start-c y)) (cords-back y ∙ sym (cords-front (table-of (start-c y)) (good-of (start-c y)) (start-c y .pre .1 .1) (replicate 4 0)))
+cords-lent-out : (y : Cords) → Lent (cords-k (start-c y)) blank-rows (y .load-cords .last .1 .1 .0)
+cords-lent-out y = lent (omega (arith, cords-fit (start-c y), equal-length mostCords (replicate {A = ℕ} 4 0))) (y .load-cords .kept .1 .1 .0)
 
 -- The room's lists, as they are lent to both deals.
 lists-at : (y : Cords) (scale : ℕ) → ScaleIs (table-of (start-c y)) scale → (r : Room) (end : ℕ) → checked (table-of (start-c y)) 0 ≡ good r end
@@ -192,10 +123,10 @@ lists-at : (y : Cords) (scale : ℕ) → ScaleIs (table-of (start-c y)) scale �
     (take (cords-k (start-c y)) (cords-after y)) (take (cords-k (start-c y)) (nodes-after y)) (take (cords-k (start-c y)) (lows-after y)) (take (cords-k (start-c y)) (wants-after y)) (take (servers-v (start-c y)) (needs-after y)) scale
 lists-at y scale scaled r end is =
     let loaded = nodes-c y .load-nodes .ensures r end is in
-    rw (parents-again (nodes-c y), spare-again (nodes-c y), cords-again y, nodes-again y, lows-again y, wants-again y, needs-again y)
+    rw (lent-again (parents-lent (nodes-c y)), lent-again (spare-lent (nodes-c y)), lent-again (cords-lent-out y), lent-again (nodes-lent y), lent-again (lows-lent y), lent-again (wants-lent y), lent-again (needs-lent y))
     (record {
       parents-are = loaded .0;
-      spare-size = spare-back (nodes-c y) ∙ sym (parents-back (nodes-c y));
+      spare-size = spare-lent (nodes-c y) .size ∙ sym (parents-lent (nodes-c y) .size);
       spare-is = loaded .1;
       cords-are = y .load-cords .ensures r end is;
       scale-is = scaled r end is;
@@ -208,13 +139,13 @@ slice-aggregate-load-nodes : tie.Need-slice-aggregate-load-nodes
 slice-aggregate-load-nodes c = front-length _ _ (beneath-long (c .before))
 
 array-borrow-prefix-parents : tie.Need-array-borrow-prefix-parents
-array-borrow-prefix-parents c = omega (arith, nodes-fit (c .before), zeros-length mostNodes)
+array-borrow-prefix-parents c = omega (arith, nodes-fit (c .before), equal-length {A = ℕ} mostNodes 0)
 
 slice-aggregate-load-nodes-2 : tie.Need-slice-aggregate-load-nodes-2
 slice-aggregate-load-nodes-2 c = sym (zeros-front mostNodes _ (nodes-fit (c .before .before)))
 
 array-borrow-prefix-spare : tie.Need-array-borrow-prefix-spare
-array-borrow-prefix-spare c = omega (arith, nodes-fit (c .before .before), zeros-length mostNodes)
+array-borrow-prefix-spare c = omega (arith, nodes-fit (c .before .before), equal-length {A = ℕ} mostNodes 0)
 
 slice-aggregate-load-nodes-3 : tie.Need-slice-aggregate-load-nodes-3
 slice-aggregate-load-nodes-3 c = sym (zeros-front mostNodes _ (nodes-fit (c .before .before .before)))
@@ -234,31 +165,31 @@ load-nodes-requires c κs =
     )
 
 array-borrow-prefix-cords : tie.Need-array-borrow-prefix-cords
-array-borrow-prefix-cords c = omega (arith, cords-fit (c .before .before .before .before .before .before .before .before .before .before .before .before), length-replicate mostCords (replicate {A = ℕ} 4 0))
+array-borrow-prefix-cords c = omega (arith, cords-fit (c .before .before .before .before .before .before .before .before .before .before .before .before), equal-length mostCords (replicate {A = ℕ} 4 0))
 
 slice-aggregate-load-cords : tie.Need-slice-aggregate-load-cords
 slice-aggregate-load-cords c = cords-front (table-of (c .before .before .before .before .before .before .before .before .before .before .before .before .before)) (good-of (c .before .before .before .before .before .before .before .before .before .before .before .before .before)) ((c .before .before .before .before .before .before .before .before .before .before .before .before .before) .pre .1 .1) (replicate 4 0)
 
 array-borrow-prefix-nodes : tie.Need-array-borrow-prefix-nodes
-array-borrow-prefix-nodes c = omega (arith, cords-fit (c .before .before .before .before .before .before .before .before .before .before .before .before .before), zeros-length mostCords)
+array-borrow-prefix-nodes c = omega (arith, cords-fit (c .before .before .before .before .before .before .before .before .before .before .before .before .before), equal-length {A = ℕ} mostCords 0)
 
 slice-aggregate-load-cords-2 : tie.Need-slice-aggregate-load-cords-2
 slice-aggregate-load-cords-2 c = sym (zeros-front mostCords _ (cords-fit (c .before .before .before .before .before .before .before .before .before .before .before .before .before .before)))
 
 array-borrow-prefix-lows : tie.Need-array-borrow-prefix-lows
-array-borrow-prefix-lows c = omega (arith, cords-fit (c .before .before .before .before .before .before .before .before .before .before .before .before .before .before), zeros-length mostCords)
+array-borrow-prefix-lows c = omega (arith, cords-fit (c .before .before .before .before .before .before .before .before .before .before .before .before .before .before), equal-length {A = ℕ} mostCords 0)
 
 slice-aggregate-load-cords-3 : tie.Need-slice-aggregate-load-cords-3
 slice-aggregate-load-cords-3 c = sym (zeros-front mostCords _ (cords-fit (c .before .before .before .before .before .before .before .before .before .before .before .before .before .before .before)))
 
 array-borrow-prefix-wants : tie.Need-array-borrow-prefix-wants
-array-borrow-prefix-wants c = omega (arith, cords-fit (c .before .before .before .before .before .before .before .before .before .before .before .before .before .before .before), zeros-length mostCords)
+array-borrow-prefix-wants c = omega (arith, cords-fit (c .before .before .before .before .before .before .before .before .before .before .before .before .before .before .before), equal-length {A = ℕ} mostCords 0)
 
 slice-aggregate-load-cords-4 : tie.Need-slice-aggregate-load-cords-4
 slice-aggregate-load-cords-4 c = sym (zeros-front mostCords _ (cords-fit (c .before .before .before .before .before .before .before .before .before .before .before .before .before .before .before .before)))
 
 array-borrow-prefix-needs : tie.Need-array-borrow-prefix-needs
-array-borrow-prefix-needs c = omega (arith, servers-fit (c .before .before .before .before .before .before .before .before .before .before .before .before .before .before .before .before), zeros-length mostServers)
+array-borrow-prefix-needs c = omega (arith, servers-fit (c .before .before .before .before .before .before .before .before .before .before .before .before .before .before .before .before), equal-length {A = ℕ} mostServers 0)
 
 slice-aggregate-load-cords-5 : tie.Need-slice-aggregate-load-cords-5
 slice-aggregate-load-cords-5 c = sym (zeros-front mostServers _ (servers-fit (c .before .before .before .before .before .before .before .before .before .before .before .before .before .before .before .before .before)))
@@ -276,46 +207,46 @@ load-cords-requires c κs =
     }
 
 array-share-prefix-parents : tie.Need-array-share-prefix-parents
-array-share-prefix-parents c = parents-long (c .before .before .before .before .before .before .before .before .before .before .before .before .before)
+array-share-prefix-parents c = lent-few (parents-lent (c .before .before .before .before .before .before .before .before .before .before .before .before .before))
 
 slice-aggregate-deal-twice : tie.Need-slice-aggregate-deal-twice
-slice-aggregate-deal-twice c = front-length (count-n (c .before .before .before .before .before .before .before .before .before .before .before .before .before .before)) (parents-after (c .before .before .before .before .before .before .before .before .before .before .before .before .before .before)) (parents-long (c .before .before .before .before .before .before .before .before .before .before .before .before .before .before))
+slice-aggregate-deal-twice c = lent-front (parents-lent (c .before .before .before .before .before .before .before .before .before .before .before .before .before .before))
 
 array-share-prefix-spare : tie.Need-array-share-prefix-spare
-array-share-prefix-spare c = spare-long (c .before .before .before .before .before .before .before .before .before .before .before .before .before .before)
+array-share-prefix-spare c = lent-few (spare-lent (c .before .before .before .before .before .before .before .before .before .before .before .before .before .before))
 
 slice-aggregate-deal-twice-2 : tie.Need-slice-aggregate-deal-twice-2
-slice-aggregate-deal-twice-2 c = front-length (count-n (c .before .before .before .before .before .before .before .before .before .before .before .before .before .before .before)) (spare-after (c .before .before .before .before .before .before .before .before .before .before .before .before .before .before .before)) (spare-long (c .before .before .before .before .before .before .before .before .before .before .before .before .before .before .before))
+slice-aggregate-deal-twice-2 c = lent-front (spare-lent (c .before .before .before .before .before .before .before .before .before .before .before .before .before .before .before))
 
 array-share-prefix-cords : tie.Need-array-share-prefix-cords
-array-share-prefix-cords c = cords-long (c .before .before .before .before .before .before .before)
+array-share-prefix-cords c = lent-few (cords-lent-out (c .before .before .before .before .before .before .before))
 
 slice-aggregate-deal-twice-3 : tie.Need-slice-aggregate-deal-twice-3
-slice-aggregate-deal-twice-3 c = sym (length-take-le (cords-k (start-c (c .before .before .before .before .before .before .before .before))) (cords-after (c .before .before .before .before .before .before .before .before)) (cords-long (c .before .before .before .before .before .before .before .before)))
+slice-aggregate-deal-twice-3 c = lent-front (cords-lent-out (c .before .before .before .before .before .before .before .before))
 
 array-share-prefix-nodes : tie.Need-array-share-prefix-nodes
-array-share-prefix-nodes c = nodes-long (c .before .before .before .before .before .before .before .before)
+array-share-prefix-nodes c = lent-few (nodes-lent (c .before .before .before .before .before .before .before .before))
 
 slice-aggregate-deal-twice-4 : tie.Need-slice-aggregate-deal-twice-4
-slice-aggregate-deal-twice-4 c = front-length (cords-k (start-c (c .before .before .before .before .before .before .before .before .before))) (nodes-after (c .before .before .before .before .before .before .before .before .before)) (nodes-long (c .before .before .before .before .before .before .before .before .before))
+slice-aggregate-deal-twice-4 c = lent-front (nodes-lent (c .before .before .before .before .before .before .before .before .before))
 
 array-share-prefix-lows : tie.Need-array-share-prefix-lows
-array-share-prefix-lows c = lows-long (c .before .before .before .before .before .before .before .before .before)
+array-share-prefix-lows c = lent-few (lows-lent (c .before .before .before .before .before .before .before .before .before))
 
 slice-aggregate-deal-twice-5 : tie.Need-slice-aggregate-deal-twice-5
-slice-aggregate-deal-twice-5 c = front-length (cords-k (start-c (c .before .before .before .before .before .before .before .before .before .before))) (lows-after (c .before .before .before .before .before .before .before .before .before .before)) (lows-long (c .before .before .before .before .before .before .before .before .before .before))
+slice-aggregate-deal-twice-5 c = lent-front (lows-lent (c .before .before .before .before .before .before .before .before .before .before))
 
 array-borrow-prefix-wants-2 : tie.Need-array-borrow-prefix-wants-2
-array-borrow-prefix-wants-2 c = wants-long (c .before .before .before .before .before .before .before .before .before .before)
+array-borrow-prefix-wants-2 c = lent-few (wants-lent (c .before .before .before .before .before .before .before .before .before .before))
 
 slice-aggregate-deal-twice-6 : tie.Need-slice-aggregate-deal-twice-6
-slice-aggregate-deal-twice-6 c = front-length (cords-k (start-c (c .before .before .before .before .before .before .before .before .before .before .before))) (wants-after (c .before .before .before .before .before .before .before .before .before .before .before)) (wants-long (c .before .before .before .before .before .before .before .before .before .before .before))
+slice-aggregate-deal-twice-6 c = lent-front (wants-lent (c .before .before .before .before .before .before .before .before .before .before .before))
 
 array-share-prefix-needs : tie.Need-array-share-prefix-needs
-array-share-prefix-needs c = needs-long (c .before .before .before .before .before .before .before .before .before .before .before)
+array-share-prefix-needs c = lent-few (needs-lent (c .before .before .before .before .before .before .before .before .before .before .before))
 
 slice-aggregate-deal-twice-7 : tie.Need-slice-aggregate-deal-twice-7
-slice-aggregate-deal-twice-7 c = front-length (servers-v (start-c (c .before .before .before .before .before .before .before .before .before .before .before .before))) (needs-after (c .before .before .before .before .before .before .before .before .before .before .before .before)) (needs-long (c .before .before .before .before .before .before .before .before .before .before .before .before))
+slice-aggregate-deal-twice-7 c = lent-front (needs-lent (c .before .before .before .before .before .before .before .before .before .before .before .before))
 
 table-scale-requires : tie.Need-table-scale-requires
 table-scale-requires c κs = search needs
@@ -331,8 +262,8 @@ deal-twice-requires c κs =
         is = g .is;
         lists = lists-at (c .before .before .before .before .before .before .before .before .before .before .before .before .before .before .before) (c .table-scale .result) (c .table-scale .ensures) (g .value) (g .next) (g .is);
       },
-      front-length (cords-k (start-c (c .before .before .before .before .before .before .before .before .before .before .before .before .before .before .before))) (nodes-after (c .before .before .before .before .before .before .before .before .before .before .before .before .before .before .before)) (nodes-long (c .before .before .before .before .before .before .before .before .before .before .before .before .before .before .before)),
-      (start-c (c .before .before .before .before .before .before .before .before .before .before .before .before .before .before .before)) .pre .1 .2 (g .value) (g .next) (g .is) ∙ sym ((start-c (c .before .before .before .before .before .before .before .before .before .before .before .before .before .before .before)) .pre .1 .0 (g .value) (g .next) (g .is)) ∙ front-length (servers-v (start-c (c .before .before .before .before .before .before .before .before .before .before .before .before .before .before .before))) (needs-after (c .before .before .before .before .before .before .before .before .before .before .before .before .before .before .before)) (needs-long (c .before .before .before .before .before .before .before .before .before .before .before .before .before .before .before)),
+      lent-front (nodes-lent (c .before .before .before .before .before .before .before .before .before .before .before .before .before .before .before)),
+      (start-c (c .before .before .before .before .before .before .before .before .before .before .before .before .before .before .before)) .pre .1 .2 (g .value) (g .next) (g .is) ∙ sym ((start-c (c .before .before .before .before .before .before .before .before .before .before .before .before .before .before .before)) .pre .1 .0 (g .value) (g .next) (g .is)) ∙ lent-front (needs-lent (c .before .before .before .before .before .before .before .before .before .before .before .before .before .before .before)),
     )
 
 same-length : tie.Need-same-length

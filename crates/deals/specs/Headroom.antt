@@ -17,7 +17,7 @@ unfoldable pub ceilingsOf : Room → List ℕ
 unfolding figuresFrom carriedBy
 ceilingsOf r = carriedBy r (figures (length (r .servers)) (λ v. serverAt r v .greatest))
 
--- The ceiling of the node at place n, by those of the cords: the lesser of its limit and its children's ceilings, summed.
+-- The ceiling of the node at place n, by those of the cords: its limit, or the sum of its children's ceilings where that is less.
 -- (`steps` bounds the way down; a child node stands after its parent, so that the count of nodes is enough.)
 unfoldable pub ceilingWithin : Deal → (ℕ → ℕ) → ℕ → ℕ → ℕ
 unfolding sum

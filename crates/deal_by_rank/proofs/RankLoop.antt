@@ -1,5 +1,5 @@
 -- The loop over the ranks: what each pass of a rank asks, and what they leave together.
-use mathlib.Core.Path.{_≡_, refl, sym, ap, _∙_, subst}
+use mathlib.Core.Path.{_≡_, refl, sym, _∙_, subst}
 use mathlib.Core.Bool.{Bool, true, false}
 use mathlib.Core.List.{List, []}
 use Prim.Native.Nat.{ℕ, suc, _+_, _-_, _*_, _/_, _≤_, _<_}
@@ -14,11 +14,11 @@ use Rattle.rooms.specs.Table.{mostNodes, mostCords, mostWatts, highestRank}
 use Rattle.rooms.specs.Credits.{sumBeneath}
 use Rattle.rooms.proofs.Trees.{kids, down}
 use Rattle.figures.specs.Figures.{at, cell}
-use Rattle.deals.specs.Metrics.{dealFrom, metrics}
+use Rattle.deals.specs.Metrics.{dealFrom}
 use Rattle.deals.proofs.Computed.{request}
 use Rattle.levels.specs.Levels.{Absent, ActiveNodes, CordsActive, CordsOf, LevelLists, entries, fromColumn, toColumn, countColumn}
 use Rattle.levels.proofs.Ordering.{entries-length}
-use Rattle.ranks.specs.Passes.{LevelCords, overListed, cordWeight, weightOf, overChildren, FullRows, Gathered, NodesDealt, CordsDealt}
+use Rattle.ranks.specs.Passes.{LevelCords, overListed, cordWeight, weightOf, overChildren, Gathered, NodesDealt, CordsDealt}
 use Rattle.ranks.proofs.NodeSums.{kids-none}
 use Rattle.ranks.proofs.Gathering.{Idle, beneath-none}
 use Rattle.deal_by_rank.specs.Ranks.{NodeLists, CordLists, DealLists, DealGiven, SomeDeal, BlankRows, DealMade}

@@ -14,7 +14,7 @@ use Rattle.figures.specs.Sums.{on, sum}
 use Rattle.rooms.specs.Table.{mostWatts, mostCords, highestRank}
 use Rattle.rooms.specs.Limits.{beneath}
 use Rattle.rooms.specs.Credits.{sumBeneath}
-use Rattle.figures.proofs.Sums.{on-no, sum-cong, sum-zero, sum-swap, sum-one, sum-suc, sum-up, up, up-suc}
+use Rattle.figures.proofs.Sums.{on-no, sum-cong, sum-zero, sum-swap, sum-one, sum-suc, up, up-suc}
 use Rattle.rooms.proofs.Trees.{kids, own, under, kids-cong, down, rise}
 use Rattle.rooms.proofs.Credits.{sumBeneath-step}
 use Rattle.figures.specs.Figures.{at, cell}
@@ -22,12 +22,12 @@ use Rattle.deals.specs.Metrics.{Deal, dealFrom, metrics, atLevel}
 use Rattle.splits.specs.Split.{part}
 use Rattle.deals.specs.Dealing.{granted, reached}
 use Rattle.deal_by_rank.specs.Ranks.{NodeLists, CordLists, DealLists, Spare, lowsUnder}
-use Rattle.ranks.specs.Passes.{listedBefore, overListed, cordWeight, childrenBefore, overChildren, weightOf, Gathered, NodesDealt, CordsDealt, FullRows}
+use Rattle.ranks.specs.Passes.{listedBefore, overListed, cordWeight, childrenBefore, overChildren, weightOf, Gathered, NodesDealt, CordsDealt}
 use Rattle.levels.specs.Levels.{Present, ActiveNodes, CordsActive, CordsOf}
 use Rattle.levels.proofs.Ordering.{listed-before, listed-all}
 use Rattle.figures.proofs.Lists.{sum-most, figures-length}
 use Rattle.deals.proofs.Requests.{Dealable, asked, request-asked, pcapmin-all}
-use Rattle.deals.proofs.Equations.{Starting, Dealt, weights, weights-are}
+use Rattle.deals.proofs.Equations.{Dealt, weights, weights-are}
 use Rattle.deals.proofs.Computed.{pcapmin, request, startsOf, amountOf, measured, dealt, granted-at, Startable}
 use Rattle.deals.proofs.Bounds.{asked-most, request-most}
 use Rattle.ranks.proofs.NodeSums.{on-zero, kids-none}

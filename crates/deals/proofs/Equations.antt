@@ -1,6 +1,6 @@
 -- A deal's dealing by its equations, over functions of the places, and what follows from them: the grants are a way of dealing,
 -- and no other way gives the cords of a tree, of any rank and above, more.
-use mathlib.Core.Path.{_≡_, refl, sym, ap, _∙_, subst}
+use mathlib.Core.Path.{_≡_, refl, sym, _∙_, subst}
 use mathlib.Core.Bool.{Bool, true, false}
 use Prim.Native.Nat.{ℕ, suc, _+_, _-_, _≤_, _<_}
 use native.Mathlib.Nat.{le-trans, le-of-eq, add-comm}

@@ -7,7 +7,7 @@ use Prim.Native.Nat.{ℕ, _+_, _-_, _≤_, _<_}
 use native.Mathlib.Omega.{arith}
 use lib.Dec.{eqb}
 use borrow.Author.Tests.{eq-eqb}
-use Rattle.figures.specs.Figures.{at, sumOf}
+use Rattle.figures.specs.Figures.{sumOf}
 use Rattle.figures.specs.Sums.{on}
 use Rattle.figures.proofs.Sums.{on-yes}
 use Rattle.rooms.proofs.Trees.{kids, own, kids-add, kids-cong}

@@ -12,10 +12,10 @@ use Rattle.rooms.specs.declared.Refusal.the-variants.{LowsAboveLimit}
 use Rattle.rooms.specs.Table.{Server, Room, roomCords, table}
 use Rattle.rooms.specs.Limits.{overloaded, checked}
 use Rattle.rooms.specs.Cords.{RoomCord, cordAt, serverAt}
-use Rattle.rooms.specs.Lists.{parentsOf, limitsOf, nodesOf, levelsOf, carriedBy, lowsOf}
+use Rattle.rooms.specs.Lists.{parentsOf, limitsOf, carriedBy, lowsOf}
 use Rattle.rooms.proofs.Versions.{second-version-reads, third-version-reads, scale-from, tenfoldRoom, figures-same, load-tenfold, some-tenfold, servers-tenfold, roomCords-tenfold, serverAt-tenfold, cordAt-tenfold, overloaded-tenfold, nodesOf-tenfold, levelsOf-tenfold, carriedBy-tenfold, lowsOf-tenfold}
 use Rattle.deals.specs.Wants.{need, needs, firstWants}
-use Rattle.deals.specs.Metrics.{Deal, dealFrom, dealOf}
+use Rattle.deals.specs.Metrics.{Deal, dealOf}
 use Rattle.deals.specs.Dealing.{granted}
 use Rattle.deals.specs.SecondDeal.{leastOver, loaded, loadOf, usable, stranded, wantsAfter, firstDeal, firstGrants, firstUsable, firstUsed, freed, secondDeal, secondWants, secondGrants, caps}
 use Rattle.deals.specs.Headroom.{ceilingsOf, headroomOver, headroom}

@@ -1,24 +1,23 @@
 -- Both deals in a room's lists: what each call asks, and that what it leaves is what the plan's definition says.
 use mathlib.Core.Path.{_≡_, refl, sym, ap, _∙_}
 use mathlib.Core.Bool.{cond, _&&_}
-use mathlib.Core.List.{List, []}
-use Prim.Native.Nat.{ℕ, _+_, _-_, _*_, _/_, _≤_, _<_}
+use mathlib.Core.List.{List}
+use Prim.Native.Nat.{ℕ, _-_, _*_, _/_, _≤_, _<_}
 use native.Mathlib.Omega.{arith}
 use lib.Dec.{eqb, ltb}
-use lib.ListN.{length, getD}
-use Rattle.rooms.specs.Table.{Room, roomCords, mostWatts, mostNodes, mostCords, highestRank}
+use lib.ListN.{length}
+use Rattle.rooms.specs.Table.{Room, roomCords, mostNodes}
 use Rattle.rooms.specs.Part.{Good}
 use Rattle.rooms.specs.Limits.{checked}
 use Rattle.rooms.proofs.Accepted.{Accepted, accepted}
 use Rattle.rooms.proofs.Trees.{under}
-use Rattle.figures.specs.Figures.{figures, at, cell, column, sumOf}
-use Rattle.figures.proofs.Columns.{column-length, column-at}
+use Rattle.figures.specs.Figures.{figures, at, column, sumOf}
+use Rattle.figures.proofs.Columns.{column-at}
 use Rattle.figures.proofs.Lists.{figures-length}
 use Rattle.rooms.specs.Cords.{cordAt}
 use Rattle.rooms.specs.Lists.{carriedBy, lowsOf, parentsOf, limitsOf, nodesOf, levelsOf, sharesOf, serversOf}
 use Rattle.deals.specs.Wants.{needs, firstWants}
-use Rattle.deals.specs.Metrics.{Deal, dealFrom, dealOf}
-use Rattle.deals.specs.Dealing.{granted}
+use Rattle.deals.specs.Metrics.{dealFrom, dealOf}
 use Rattle.deals.specs.Properties.{DealBounded}
 use Rattle.deals.specs.SecondDeal.{leastOver, usable, stranded, wantsAfter, firstDeal, firstGrants, firstUsable, firstUsed, secondDeal, secondWants, secondGrants}
 use Rattle.deals.specs.SecondDeal as second
@@ -27,14 +26,13 @@ use Rattle.deals.proofs.RoomDeals.{parentsOf-length, limitsOf-length, nodesOf-l
 use Rattle.deals.proofs.BothDeals.{cord-facts, lowsOf-length, carriedBy-length, lows-under, first-dealable, second-dealable}
 use Rattle.deals.proofs.Bounds.{bounded}
 use Rattle.levels.specs.Levels.{LevelLists, RoomCords}
-use Rattle.deal_by_rank.specs.Ranks.{NodeLists, CordLists, DealLists, Spare, DealGiven, SomeDeal, DealMade, lowsUnder}
+use Rattle.deal_by_rank.specs.Ranks.{DealLists, Spare, DealGiven, DealMade}
 use Rattle.reclaim.specs.Reclaimed.{ServerLists, usableFrom, usedFrom, strandedFrom, wantsFrom, freedFrom}
 use Rattle.reclaim.proofs.Reclaiming.{usable-lists}
 use Rattle.room_lists.specs.Lists.{NodesFit, CordRows, nodeColumn, serverColumn, levelColumn, shareColumn}
-use Rattle.layout.specs.Lists.{CordsLaidOut}
-use Rattle.layout.proofs.Rows.{cords-count, node-at, server-at, share-at}
+use Rattle.layout.proofs.Rows.{cords-count, server-at, share-at}
 use Rattle.layout.proofs.Loading.{carried-is}
-use Rattle.plan_rooms.specs.Planning.{RoomLists, PlanMade}
+use Rattle.plan_rooms.specs.Planning.{RoomLists}
 
 -- A good table has no more nodes than a room may have.
 pub nodes-few : (table : List ℕ) → Good (checked table 0) → {n : ℕ} → NodesFit table n → n ≤ mostNodes

@@ -1,5 +1,4 @@
 -- What the checks of Plan come to. Only the private function `admit` cites this: the contract of `plan` rests on deals/specs/Plan.antt.
-use Prim.Native.Nat.{ℕ}
 use lib.ListN.{length}
 use Rattle.deals.specs.Plan.{Outcome, accepted, refused}
 use Rattle.plans.specs.declared.Admission.{Admission}

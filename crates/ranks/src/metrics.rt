@@ -1,6 +1,6 @@
 // One rank's Pcapmin and Requests, summed on the nodes from the cords up to the roots.
 ghost use mathlib.Core.Path.{_≡_};
-ghost use Prim.Native.Nat.{ℕ, _+_, _-_, _*_, _^_, _≤_, _<_};
+ghost use Prim.Native.Nat.{ℕ, _+_, _-_, _*_, _≤_, _<_};
 ghost use lib.ListN.{length, replicate};
 ghost use Rattle.figures.specs.Sums.{sum};
 ghost use Rattle.rooms.specs.Table.{mostNodes, mostWatts, mostCords, highestRank};

@@ -3,7 +3,6 @@ use mathlib.Core.Path.{ap, _∙_}
 use Prim.Native.Nat.{ℕ, _-_}
 use native.Mathlib.Omega.{arith}
 use borrow.Author.Needs.{needs}
-use lib.ListN.{length}
 use Rattle.figures.specs.Figures.{at}
 use Rattle.layout.proofs.Spare.{SpareTurn, spare-start, spare-turn}
 use Rattle.layout.proofs.spare_limits.Statement.{statement}

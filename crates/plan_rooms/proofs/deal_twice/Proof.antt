@@ -1,7 +1,7 @@
 -- `deal_twice` meets its contract: what each call leaves is what the next one asks.
-use mathlib.Core.Path.{_≡_, sym, ap, _∙_}
+use mathlib.Core.Path.{_≡_, sym, _∙_}
 use mathlib.Core.List.{List}
-use Prim.Native.Nat.{ℕ, _≤_, _<_}
+use Prim.Native.Nat.{ℕ, _≤_}
 use native.Mathlib.Omega.{arith}
 use lib.ListN.{length, take, replicate}
 use Rattle.figures.specs.Figures.{column}
@@ -17,7 +17,7 @@ use Rattle.deal_by_rank.specs.Ranks.{DealGiven}
 use Rattle.levels.proofs.Cells.{zeros-front, zeros-rows, zeros-cells}
 use Rattle.levels.proofs.Fronts.{equal-length, Lent, lent, lent-zeros, rejoined, lent-again, lent-few, lent-front}
 use Rattle.plan_rooms.specs.Planning.{RoomLists}
-use Rattle.plan_rooms.proofs.Planning.{cord-count, wants-count, levels-nodes, levels-cords, first-given, first-made, second-given, second-made, server-lists, usable-are, reclaim-asks, first-used, freed-is, second-wants, caps-are}
+use Rattle.plan_rooms.proofs.Planning.{cord-count, wants-count, levels-nodes, levels-cords, first-given, first-made, second-given, second-made, server-lists, reclaim-asks, first-used, freed-is, second-wants, caps-are}
 use borrow.Author.Needs.{needs}
 use Rattle.plan_rooms.proofs.deal_twice.Statement.{statement}
 use Rattle.plan_rooms.proofs.deal_twice.Tie as tie

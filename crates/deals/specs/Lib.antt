@@ -8,9 +8,9 @@ pub mod Dealing
 -- Both deals, and the whole plan with its refusals.
 pub mod SecondDeal
 pub mod Plan
--- Headroom over the second deal (request A.1).
+-- Headroom over the second deal (request A.1). No operation gives it yet.
 pub mod Headroom
--- The nodes that hold cords down (request A.5).
+-- The nodes that hold cords down (request A.5). No operation gives them yet.
 pub mod Held
 -- What is promised (demand 3): trees and other ways of dealing them, and the statements.
 pub mod Ways

@@ -6,10 +6,10 @@
  * on x86-64. The calls keep no state, take no memory from the heap and call nothing of the C
  * library but memcpy and memset, so threads may call them at the same time on buffers of their own.
  *
- * A sheet is bytes. A table is a list of words (unsigned, 32 bits). So are demands, grants and
- * caps, which are watts. Every list of words passes as bytes, at any alignment: four for each word,
- * the lowest first. Its length is given in bytes. Where that is no multiple of four, the last one to
- * three bytes are not looked at and not changed. Figures of the cap loop (hutplan_step,
+ * A sheet is bytes. A table is a list of words (unsigned, 32 bits). So are demands, grants, caps and
+ * headroom, which are watts. Every list of words passes as bytes, at any alignment: four for each
+ * word, the lowest first. Its length is given in bytes. Where that is no multiple of four, the last
+ * one to three bytes are not looked at and not changed. Figures of the cap loop (hutplan_step,
  * hutplan_step_all) are doubles; the length of a list of them is their count.
  *
  * The answer is sixteen bytes, two numbers of eight bytes each, low byte first:
@@ -86,6 +86,7 @@ enum hutplan_refusal {
                                           hutplan_schedule), bytes (hutplan_write), grants
                                           (hutplan_plan) or servers named (hutplan_send) */
     HUTPLAN_CAPS_TOO_SHORT = 13,       /* the cap list; place: the count of servers */
+    HUTPLAN_HEADROOM_TOO_SHORT = 14,   /* the headroom list; place: the count of cords */
 
     /* A step of the DC cap loop (hutplan_step; in the results of hutplan_step_all). */
     HUTPLAN_CONTROLLER_OUT_OF_RANGE = 16, /* not 0 < k <= 1, or not
@@ -118,8 +119,9 @@ enum hutplan_refusal {
  * (2,048) and two for each of at most 1,024 cords (2,048). A word takes four bytes of a word list,
  * and one to four bytes of a sheet, so a table's list and its sheet both have at most 22,540 bytes.
  *
- * A plan takes one demand a server, at most 512, and gives one grant a cord, at most 1,024, and one
- * cap a server. A period of a slow bus names each of at most 512 servers once.
+ * A plan takes one demand a server, at most 512, and gives one grant a cord, at most 1,024, one cap a
+ * server, and one figure of headroom a cord. A period of a slow bus names each of at most 512 servers
+ * once.
  */
 #define HUTPLAN_TABLE_WORDS (2 + 3 * 512 + 1 + 4 * 512 + 2 * 1024)
 #define HUTPLAN_TABLE_BYTES (4 * HUTPLAN_TABLE_WORDS)
@@ -127,6 +129,7 @@ enum hutplan_refusal {
 #define HUTPLAN_DEMANDS_BYTES 2048
 #define HUTPLAN_GRANTS_BYTES 4096
 #define HUTPLAN_CAPS_BYTES 2048
+#define HUTPLAN_HEADROOM_BYTES 4096
 #define HUTPLAN_SEND_LIST_BYTES 2048
 #define HUTPLAN_ANSWER_BYTES 16
 #define HUTPLAN_SEND_ANSWER_BYTES 24
@@ -168,8 +171,13 @@ uint32_t hutplan_write(const uint8_t *table, size_t table_len,
  * Plan: deals a room's power, from the words of its table and a demand in watts for each server.
  *
  * Refusals: 4 to 9 of the table; 10 and 11 of the demands; then 12 if grants_len / 4 is less than
- * the count of cords, and 13 if caps_len / 4 is less than the count of servers.
- * Accepted, the grants stand in the table's order of cords and the caps in its order of servers.
+ * the count of cords, 13 if caps_len / 4 is less than the count of servers, and 14 if
+ * headroom_len / 4 is less than the count of cords.
+ * Accepted, the grants and the headroom stand in the table's order of cords and the caps in its order
+ * of servers. A cord's headroom is watts for bursts, beyond its grant, lent out of what is not
+ * requested at its root. At every node the grants and the headroom of all cords beneath it, at any
+ * depth, sum to no more than its limit. A cord's headroom may follow the demands of servers of lower
+ * ranks; its grant and its server's cap do not.
  * The answer's figure is the freed watts: the watts that the first deal granted and the servers
  * cannot use, summed over all cords.
  */
@@ -177,6 +185,7 @@ uint32_t hutplan_plan(const uint8_t *table, size_t table_len,
                       const uint8_t *demands, size_t demands_len,
                       uint8_t *grants, size_t grants_len,
                       uint8_t *caps, size_t caps_len,
+                      uint8_t *headroom, size_t headroom_len,
                       uint8_t *answer, size_t answer_len);
 
 /*
@@ -272,6 +281,7 @@ uint32_t hutplan_send(uint64_t count, uint64_t position, uint64_t m,
  *     static uint8_t table[HUTPLAN_TABLE_BYTES];
  *     static uint8_t grants[HUTPLAN_GRANTS_BYTES];
  *     static uint8_t caps[HUTPLAN_CAPS_BYTES];
+ *     static uint8_t headroom[HUTPLAN_HEADROOM_BYTES];
  *
  *     static uint64_t number_at(const uint8_t *bytes, size_t count)
  *     {
@@ -292,12 +302,14 @@ uint32_t hutplan_send(uint64_t count, uint64_t position, uint64_t m,
  *             return number_at(answer, 8);
  *         words = (size_t)number_at(answer + 8, 8);
  *         hutplan_plan(table, 4 * words, demands, demands_len,
- *                      grants, sizeof grants, caps, sizeof caps, answer, sizeof answer);
+ *                      grants, sizeof grants, caps, sizeof caps, headroom, sizeof headroom,
+ *                      answer, sizeof answer);
  *         return number_at(answer, 8);
  *     }
  *
  * If the result is 0, the server at place i (from 0) has the cap number_at(caps + 4 * i, 4), and
- * the cord at place c, in the table's order, has the grant number_at(grants + 4 * c, 4).
+ * the cord at place c, in the table's order, has the grant number_at(grants + 4 * c, 4) and the
+ * headroom number_at(headroom + 4 * c, 4).
  */
 
 #ifdef __cplusplus

@@ -11,7 +11,8 @@ extern "C" {
     fn hutplan_write(table: In, table_len: usize, sheet: Out, sheet_len: usize, answer: Out, answer_len: usize) -> u32;
     fn hutplan_plan(
         table: In, table_len: usize, demands: In, demands_len: usize,
-        grants: Out, grants_len: usize, caps: Out, caps_len: usize, answer: Out, answer_len: usize,
+        grants: Out, grants_len: usize, caps: Out, caps_len: usize, headroom: Out, headroom_len: usize,
+        answer: Out, answer_len: usize,
     ) -> u32;
 }
 
@@ -23,11 +24,12 @@ pub struct Inputs {
     pub demands: Vec<u8>,
 }
 
-/// What a call may write: two outputs, of which Read and Write take the first, and the answer.
+/// What a call may write: the table, the sheet or the grants, Plan's other lists, and the answer.
 #[derive(Clone, PartialEq)]
 pub struct Outputs {
     pub first: Vec<u8>,
-    pub second: Vec<u8>,
+    pub caps: Vec<u8>,
+    pub headroom: Vec<u8>,
     pub answer: Vec<u8>,
 }
 
@@ -41,13 +43,14 @@ pub const CALLS: [(&str, Call, Call); 3] = [
 ];
 
 impl Outputs {
-    pub fn of_lengths(first: usize, second: usize, answer: usize) -> Outputs {
-        Outputs { first: vec![0xA5; first], second: vec![0xA5; second], answer: vec![0xA5; answer] }
+    pub fn of_lengths(first: usize, caps: usize, headroom: usize, answer: usize) -> Outputs {
+        let filled = |length| vec![0xA5; length];
+        Outputs { first: filled(first), caps: filled(caps), headroom: filled(headroom), answer: filled(answer) }
     }
 
     /// Buffers a little longer than any accepted input needs.
     pub fn lent() -> Outputs {
-        Outputs::of_lengths(4 * plain::DECIDING_WORDS, 2_052, 24)
+        Outputs::of_lengths(4 * plain::DECIDING_WORDS, 2_052, 4_100, 24)
     }
 
     /// The answer's two numbers.
@@ -79,12 +82,14 @@ fn product_plan(given: &Inputs, out: &mut Outputs) -> u32 {
             given.table.as_ptr(), given.table.len(),
             given.demands.as_ptr(), given.demands.len(),
             out.first.as_mut_ptr(), out.first.len(),
-            out.second.as_mut_ptr(), out.second.len(),
+            out.caps.as_mut_ptr(), out.caps.len(),
+            out.headroom.as_mut_ptr(), out.headroom.len(),
             out.answer.as_mut_ptr(), out.answer.len(),
         )
     }
 }
 
 fn plain_plan(given: &Inputs, out: &mut Outputs) -> u32 {
-    plain::plan(&given.table, &given.demands, &mut out.first, &mut out.second, &mut out.answer)
+    let lists = plain::Lists { grants: &mut out.first, caps: &mut out.caps, headroom: &mut out.headroom };
+    plain::plan(&given.table, &given.demands, lists, &mut out.answer)
 }

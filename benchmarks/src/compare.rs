@@ -73,5 +73,6 @@ fn shorten(given: &mut Inputs, chance: &mut Chance) {
 
 fn short_outputs(chance: &mut Chance) -> Outputs {
     let answer = 14 + chance.below(4);
-    Outputs::of_lengths(chance.below(4 * DECIDING_WORDS as u32) as usize, chance.below(2_100) as usize, answer as usize)
+    let first = chance.below(4 * DECIDING_WORDS as u32) as usize;
+    Outputs::of_lengths(first, chance.below(2_100) as usize, chance.below(4_200) as usize, answer as usize)
 }

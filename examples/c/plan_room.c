@@ -6,9 +6,9 @@
  * There is one DEMAND for each server, in the table's order: watts in decimal.
  *
  * Prints the plan as hutplan does: a line `freed F`, and for each server a line `server N cap W`
- * with a line `cord K node M grant G` for each cord; or `refused R at P`, of which hutplan.h lists
- * the numbers and places. Exit status: 0 if all was accepted, 1 if the sheet or the demands were
- * refused, 2 if no FILE is given or it cannot be read.
+ * with a line `cord K node M grant G headroom W` for each cord; or `refused R at P`, of which
+ * hutplan.h lists the numbers and places. Exit status: 0 if all was accepted, 1 if the sheet or the
+ * demands were refused, 2 if no FILE is given or it cannot be read.
  */
 #include <inttypes.h>
 #include <stdio.h>
@@ -28,6 +28,7 @@ static uint8_t table[HUTPLAN_TABLE_BYTES];
 static uint8_t demands[HUTPLAN_DEMANDS_BYTES + 4];
 static uint8_t grants[HUTPLAN_GRANTS_BYTES];
 static uint8_t caps[HUTPLAN_CAPS_BYTES];
+static uint8_t headroom[HUTPLAN_HEADROOM_BYTES];
 static uint8_t answer[HUTPLAN_ANSWER_BYTES];
 
 /* A number of `count` bytes, low byte first, whatever the byte order of the machine. */
@@ -82,7 +83,7 @@ static void print_plan(uint64_t freed)
     uint32_t nodes = word_at(table, 1), servers, server, cords, cord;
     size_t node_words = word_at(table, 0) == 1 ? 2 : 3; /* by the version */
     size_t at = 2 + node_words * nodes;                 /* the place of the table's next word */
-    size_t grant = 0;                                   /* the place of the next cord's grant */
+    size_t place = 0;                                   /* the place of the next cord's figures */
 
     printf("freed %" PRIu64 "\n", freed);
     servers = word_at(table, at);
@@ -92,10 +93,10 @@ static void print_plan(uint64_t freed)
         cords = word_at(table, at + 3); /* after rank, least and greatest */
         at += 4;
         for (cord = 1; cord <= cords; cord++) {
-            printf("cord %" PRIu32 " node %" PRIu32 " grant %" PRIu32 "\n",
-                   cord, word_at(table, at), word_at(grants, grant));
+            printf("cord %" PRIu32 " node %" PRIu32 " grant %" PRIu32 " headroom %" PRIu32 "\n",
+                   cord, word_at(table, at), word_at(grants, place), word_at(headroom, place));
             at += 2; /* node and share */
-            grant += 1;
+            place += 1;
         }
     }
 }
@@ -132,7 +133,8 @@ int main(int argc, char **argv)
 
     /* Of the table, only the words that Read wrote: any more would be words left over. */
     hutplan_plan(table, 4 * words, demands, 4 * count,
-                 grants, sizeof grants, caps, sizeof caps, answer, sizeof answer);
+                 grants, sizeof grants, caps, sizeof caps, headroom, sizeof headroom,
+                 answer, sizeof answer);
     if (!accepted())
         return 1;
     print_plan(number_at(answer + 8, 8));

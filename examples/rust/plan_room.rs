@@ -5,9 +5,9 @@
 //! There is one DEMAND for each server, in the table's order: watts in decimal.
 //!
 //! Prints the plan as hutplan does: a line `freed F`, and for each server a line `server N cap W`
-//! with a line `cord K node M grant G` for each cord; or `refused R at P`, of which hutplan.h lists
-//! the numbers and places. Exit status: 0 if all was accepted, 1 if the sheet or the demands were
-//! refused, 2 if no FILE is given or it cannot be read.
+//! with a line `cord K node M grant G headroom W` for each cord; or `refused R at P`, of which
+//! hutplan.h lists the numbers and places. Exit status: 0 if all was accepted, 1 if the sheet or the
+//! demands were refused, 2 if no FILE is given or it cannot be read.
 
 /// Read and Plan of `include/hutplan.h`, in safe Rust.
 mod hutplan {
@@ -22,6 +22,7 @@ mod hutplan {
             demands: *const u8, demands_len: usize,
             grants: *mut u8, grants_len: usize,
             caps: *mut u8, caps_len: usize,
+            headroom: *mut u8, headroom_len: usize,
             answer: *mut u8, answer_len: usize,
         ) -> u32;
     }
@@ -30,6 +31,7 @@ mod hutplan {
     const TABLE_BYTES: usize = 22540;
     const GRANTS_BYTES: usize = 4096;
     const CAPS_BYTES: usize = 2048;
+    const HEADROOM_BYTES: usize = 4096;
     const ANSWER_BYTES: usize = 16;
 
     /// Why an input was turned back, and where; `hutplan.h` lists the numbers and their places.
@@ -39,12 +41,14 @@ mod hutplan {
         pub place: u64,
     }
 
-    /// The watts of a room: one grant a cord and one cap a server, in the table's order.
+    /// The watts of a room: one grant and one figure of headroom a cord and one cap a server, in the
+    /// table's order.
     #[derive(Debug, PartialEq)]
     pub struct Plan {
         pub freed: u64,
         pub grants: Vec<u32>,
         pub caps: Vec<u32>,
+        pub headroom: Vec<u32>,
     }
 
     /// What an answer says: the figure of accepted input, or the refusal.
@@ -98,6 +102,7 @@ mod hutplan {
         let demands_bytes = to_bytes(demands);
         let mut grants = vec![0; GRANTS_BYTES];
         let mut caps = vec![0; CAPS_BYTES];
+        let mut headroom = vec![0; HEADROOM_BYTES];
         let mut answer = [0; ANSWER_BYTES];
         // SAFETY: as in `read`.
         unsafe {
@@ -106,6 +111,7 @@ mod hutplan {
                 demands_bytes.as_ptr(), demands_bytes.len(),
                 grants.as_mut_ptr(), grants.len(),
                 caps.as_mut_ptr(), caps.len(),
+                headroom.as_mut_ptr(), headroom.len(),
                 answer.as_mut_ptr(), answer.len(),
             );
         }
@@ -114,7 +120,12 @@ mod hutplan {
         // four words a server and two a cord.
         let servers = demands.len();
         let cords = (table.len() - servers_index(table) - 1 - 4 * servers) / 2;
-        Ok(Plan { freed, grants: to_words(&grants, cords), caps: to_words(&caps, servers) })
+        Ok(Plan {
+            freed,
+            grants: to_words(&grants, cords),
+            caps: to_words(&caps, servers),
+            headroom: to_words(&headroom, cords),
+        })
     }
 }
 
@@ -143,15 +154,16 @@ fn accepted<T>(result: Result<T, hutplan::Refusal>) -> T {
 fn print(table: &[u32], plan: &hutplan::Plan) {
     println!("freed {}", plan.freed);
     let mut at = hutplan::servers_index(table) + 1;
-    let mut grant = 0; // the place of the next cord's grant
+    let mut place = 0; // of the next cord's figures
     for (server, cap) in (1..).zip(&plan.caps) {
         println!("server {server} cap {cap}");
         let cords = table[at + 3]; // after rank, least and greatest
         at += 4;
         for cord in 1..=cords {
-            println!("cord {cord} node {} grant {}", table[at], plan.grants[grant]);
+            let (grant, headroom) = (plan.grants[place], plan.headroom[place]);
+            println!("cord {cord} node {} grant {grant} headroom {headroom}", table[at]);
             at += 2; // node and share
-            grant += 1;
+            place += 1;
         }
     }
 }

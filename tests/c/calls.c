@@ -1,7 +1,7 @@
 /*
  * Tests of hutplan_read, hutplan_write and hutplan_plan by running, through the archive that firmware links.
  *
- * Every expected number, place and figure here is worked out from document 01. Each call is made on
+ * Every expected number, place and figure here is worked out from documents 01 and 02. Each call is made on
  * buffers that end at a page that may not be touched and begin after guard bytes; after it every byte
  * of every buffer is compared. Prints one line; exit status 1 and a line for each difference.
  */
@@ -9,7 +9,11 @@
 #include "hutplan.h"
 
 static struct buffer input, output, answer;
-static struct buffer demands, caps; /* of Plan, whose input is the table and whose output the grants */
+
+/* Of Plan, whose input is the table: the demands, and the lists that it fills. */
+enum { GRANTS, CAPS, HEADROOM, LISTS };
+static struct buffer demands, lists[LISTS];
+static const char *const list_names[LISTS] = {"grants", "caps", "headroom"};
 
 /* ---- Sheets and tables in text */
 
@@ -443,35 +447,35 @@ static void test_sizes(void)
 
 /* ---- Plan */
 
-/* Makes the call on the buffers lent, and compares all of them. `grants_bytes` and `caps_bytes` are
-   what is to stand at the fronts of their lists if `number` is 0. */
-static void expect_plan_call(uint64_t number, uint64_t figure, const uint8_t *grants_bytes, size_t grants_size,
-                             const uint8_t *caps_bytes, size_t caps_size, const char *name)
+/* Makes the call on the buffers lent, and compares all of them. `figures` are what is to stand at the
+   fronts of the lists if `number` is 0. */
+static void expect_plan_call(uint64_t number, uint64_t figure, const char *const figures[LISTS], const char *name)
 {
-    uint32_t returned = hutplan_plan(input.bytes, input.length, demands.bytes, demands.length, output.bytes, output.length,
-                                     caps.bytes, caps.length, answer.bytes, answer.length);
+    uint32_t returned = hutplan_plan(input.bytes, input.length, demands.bytes, demands.length,
+                                     lists[GRANTS].bytes, lists[GRANTS].length, lists[CAPS].bytes, lists[CAPS].length,
+                                     lists[HEADROOM].bytes, lists[HEADROOM].length, answer.bytes, answer.length);
+    int list;
 
     if (answer.length >= HUTPLAN_ANSWER_BYTES) {
         put(answer.expected, number, 8);
         put(answer.expected + 8, figure, 8);
-        if (number == 0) {
-            memcpy(output.expected, grants_bytes, grants_size);
-            memcpy(caps.expected, caps_bytes, caps_size);
-        }
+        for (list = 0; number == 0 && list < LISTS; list++)
+            list_of(words, parse_words(figures[list], words), lists[list].expected);
     }
     expect(returned == (answer.length >= HUTPLAN_ANSWER_BYTES), "returned", name);
     expect_buffer(&answer, "answer", name);
-    expect_buffer(&output, "grants", name);
-    expect_buffer(&caps, "caps", name);
+    for (list = 0; list < LISTS; list++)
+        expect_buffer(&lists[list], list_names[list], name);
     expect_buffer(&input, "table", name);
     expect_buffer(&demands, "demands", name);
 }
 
+/* The lists in the order of the call: the bytes lent for each, and what it is to hold. */
 struct plan_case {
     const char *name, *table, *demands;
-    size_t grants_len, caps_len;
+    size_t lengths[LISTS];
     uint64_t number, figure;
-    const char *grants, *caps;
+    const char *figures[LISTS];
 };
 
 static const char room_s_words[] =
@@ -479,43 +483,72 @@ static const char room_s_words[] =
 static const char larger_s_words[] =
     "1 3 0 1625 1 938 1 938 4 2 270 500 1 2 1000 1 270 500 1 2 1000 1 270 500 1 3 1000 1 270 500 1 3 1000";
 
+/* The root rated 1,750: with the demands below it has 70 W to lend, by weights of 50 and 120; the left node splits its
+   20 W by 70 and 230, the right its 50 W by 200 and 170. */
+static const char lending_s_words[] =
+    "1 3 0 1750 1 938 1 938 4 2 270 500 1 2 1000 1 270 500 1 2 1000 1 270 500 1 3 1000 1 270 500 1 3 1000";
+
 /* Room S in version 2, at 80 throughout; and with the limits of the larger one at percents of 100, 80 and 100. */
 static const char second_s_words[] =
     "2 3 0 1550 80 1 938 80 1 938 80 4 2 270 500 1 2 1000 1 270 500 1 2 1000 1 270 500 1 3 1000 1 270 500 1 3 1000";
 static const char full_s_words[] =
     "2 3 0 1300 100 1 938 80 1 750 100 4 2 270 500 1 2 1000 1 270 500 1 2 1000 1 270 500 1 3 1000 1 270 500 1 3 1000";
 
-/* The rooms of document 01, those of its near misses with the right figures, and one refusal before the next. */
+/* The rooms of documents 01 and 02, those of the near misses with the right figures, and one refusal before the next. */
 static const struct plan_case plan_cases[] = {
-    {"H", room_h_words, "400 400", 12, 8, 0, 13, "120 120 280", "240 280"},
-    {"H, longer lists", room_h_words, "400 400", 19, 30, 0, 13, "120 120 280", "240 280"},
-    {"H, lists longer than any room's", room_h_words, "400 400", 100001, 50002, 0, 13, "120 120 280", "240 280"},
-    {"S", room_s_words, "430 430 430 430", 16, 16, 0, 0, "430 270 270 270", "430 270 270 270"},
-    {"S, root rated 1,625", larger_s_words, "430 430 430 430", 16, 16, 0, 0, "430 281 294 295", "430 281 294 295"},
-    {"S in version 2", second_s_words, "430 430 430 430", 16, 16, 0, 0, "430 270 270 270", "430 270 270 270"},
-    {"S, root at 100", full_s_words, "430 430 430 430", 16, 16, 0, 0, "430 281 294 295", "430 281 294 295"},
-    {"H in version 3", "3 2 0 150 80 0 500 80 2 1 100 400 2 1 5000 2 5000 1 100 400 1 2 10000", "400 400", 12, 8, 0, 13, "120 120 280", "240 280"},
-    {"shares of 3,333 and 6,667", "3 2 0 125 80 0 125 80 1 1 100 400 2 1 3333 2 6667", "400", 8, 4, 0, 50, "50 100", "149"},
-    {"shares of 3,334 and 6,666", "3 2 0 125 80 0 125 80 1 1 100 400 2 1 3334 2 6666", "400", 8, 4, 0, 49, "51 100", "150"},
-    {"a percent of 90", "2 1 0 150 90 0", "", 0, 0, 5, 4, "", ""},
-    {"weights are excesses", "1 2 0 188 1 125 2 1 0 1000 1 2 1000 1 0 100 1 1 1000", "1000 100", 8, 8, 0, 0, "75 75", "75 75"},
-    {"60 W over 50 and 210", "1 1 0 75 2 1 0 50 1 1 1000 1 0 210 1 1 1000", "50 210", 8, 8, 0, 0, "11 49", "11 49"},
-    {"a child node before a cord", "1 2 0 2 1 2 2 1 0 1 1 2 1000 1 0 1 1 1 1000", "1 1", 8, 8, 0, 0, "0 1", "0 1"},
+    {"H", room_h_words, "400 400", {12, 8, 12}, 0, 13, {"120 120 280", "240 280", "0 0 0"}},
+    {"H, longer lists", room_h_words, "400 400", {19, 30, 21}, 0, 13, {"120 120 280", "240 280", "0 0 0"}},
+    {"H, lists longer than any room's", room_h_words, "400 400", {100001, 50002, 100003}, 0, 13,
+     {"120 120 280", "240 280", "0 0 0"}},
+    {"H, demands of 100", room_h_words, "100 100", {12, 8, 12}, 0, 0, {"50 50 100", "100 100", "70 83 167"}},
+    {"H, demands of 100, longer lists", room_h_words, "100 100", {13, 11, 30}, 0, 0,
+     {"50 50 100", "100 100", "70 83 167"}},
+    {"S", room_s_words, "430 430 430 430", {16, 16, 16}, 0, 0, {"430 270 270 270", "430 270 270 270", "0 0 0 0"}},
+    {"S, root rated 1,625", larger_s_words, "430 430 430 430", {16, 16, 16}, 0, 0,
+     {"430 281 294 295", "430 281 294 295", "0 0 0 0"}},
+    {"S, root rated 1,750", lending_s_words, "430 270 300 330", {16, 16, 16}, 0, 0,
+     {"430 270 300 330", "430 270 300 330", "4 16 27 23"}},
+    {"S in version 2", second_s_words, "430 430 430 430", {16, 16, 16}, 0, 0,
+     {"430 270 270 270", "430 270 270 270", "0 0 0 0"}},
+    {"S, root at 100", full_s_words, "430 430 430 430", {16, 16, 16}, 0, 0,
+     {"430 281 294 295", "430 281 294 295", "0 0 0 0"}},
+    {"H in version 3", "3 2 0 150 80 0 500 80 2 1 100 400 2 1 5000 2 5000 1 100 400 1 2 10000", "400 400", {12, 8, 12},
+     0, 13, {"120 120 280", "240 280", "0 0 0"}},
+    {"shares of 3,333 and 6,667", "3 2 0 125 80 0 125 80 1 1 100 400 2 1 3333 2 6667", "400", {8, 4, 8}, 0, 50,
+     {"50 100", "149", "50 0"}},
+    {"shares of 3,334 and 6,666", "3 2 0 125 80 0 125 80 1 1 100 400 2 1 3334 2 6666", "400", {8, 4, 8}, 0, 49,
+     {"51 100", "150", "49 0"}},
+    {"ceilings of 3,333 and 6,667", "3 1 0 1000 80 1 1 100 400 2 1 3333 1 6667", "0", {8, 4, 8}, 0, 0,
+     {"34 67", "100", "100 200"}},
+    {"a percent of 90", "2 1 0 150 90 0", "", {0, 0, 0}, 5, 4, {"", "", ""}},
+    {"weights are excesses", "1 2 0 188 1 125 2 1 0 1000 1 2 1000 1 0 100 1 1 1000", "1000 100", {8, 8, 8}, 0, 0,
+     {"75 75", "75 75", "0 0"}},
+    {"60 W over 50 and 210", "1 1 0 75 2 1 0 50 1 1 1000 1 0 210 1 1 1000", "50 210", {8, 8, 8}, 0, 0,
+     {"11 49", "11 49", "0 0"}},
+    {"a child node before a cord", "1 2 0 2 1 2 2 1 0 1 1 2 1000 1 0 1 1 1 1000", "1 1", {8, 8, 8}, 0, 0,
+     {"0 1", "0 1", "0 0"}},
+    {"headroom, a child node before a cord", "1 2 0 2 1 2 2 1 0 1 1 2 1000 1 0 1 1 1 1000", "0 0", {8, 8, 8}, 0, 0,
+     {"0 0", "0 0", "0 1"}},
     {"watts in use go first, through a node", "1 3 0 150 1 100 0 25 3 1 0 100 2 3 500 2 500 1 0 100 1 2 1000 1 0 60 1 1 1000",
-     "100 100 60", 16, 12, 0, 2, "20 20 47 53", "40 47 53"},
-    {"lows rounded up", "1 1 0 127 1 1 100 100 2 1 333 1 667", "100", 8, 4, 0, 0, "34 67", "100"},
-    {"no servers, no demands", "1 1 0 150 0", "", 9, 9, 0, 0, "", ""},
-    {"no servers, no lists", "1 1 0 150 0", "", 0, 0, 0, 0, "", ""},
-    {"a bad table before all else", "1 2", "", 0, 0, 4, 2, "", ""},
-    {"lows above a limit", "1 2 0 150 0 187 2 1 100 400 2 1 500 2 500 1 100 400 1 2 1000", "400 400", 12, 8, 9, 2, "", ""},
-    {"no demands", room_h_words, "", 0, 0, 10, 2, "", ""},
-    {"a demand missing", room_h_words, "16777216", 0, 0, 10, 2, "", ""},
-    {"a demand over", room_h_words, "400 400 400", 12, 8, 10, 2, "", ""},
-    {"a demand too large", room_h_words, "400 16777216", 0, 0, 11, 1, "", ""},
-    {"two demands too large", room_h_words, "4294967295 16777216", 12, 8, 11, 0, "", ""},
-    {"the largest demands", room_h_words, "16777215 16777215", 12, 8, 0, 13, "120 120 280", "240 280"},
-    {"grants too short", room_h_words, "400 400", 11, 0, 12, 3, "", ""},
-    {"caps too short", room_h_words, "400 400", 12, 7, 13, 2, "", ""},
+     "100 100 60", {16, 12, 16}, 0, 2, {"20 20 47 53", "40 47 53", "0 0 0 0"}},
+    {"lows rounded up", "1 1 0 127 1 1 100 100 2 1 333 1 667", "100", {8, 4, 8}, 0, 0, {"34 67", "100", "0 0"}},
+    {"ceilings rounded up", "1 1 0 1000 1 1 0 100 3 1 333 1 333 1 334", "0", {12, 4, 12}, 0, 0,
+     {"0 0 0", "0", "34 34 34"}},
+    {"no servers, no demands", "1 1 0 150 0", "", {9, 9, 9}, 0, 0, {"", "", ""}},
+    {"no servers, no lists", "1 1 0 150 0", "", {0, 0, 0}, 0, 0, {"", "", ""}},
+    {"a bad table before all else", "1 2", "", {0, 0, 0}, 4, 2, {"", "", ""}},
+    {"lows above a limit", "1 2 0 150 0 187 2 1 100 400 2 1 500 2 500 1 100 400 1 2 1000", "400 400", {12, 8, 12}, 9, 2,
+     {"", "", ""}},
+    {"no demands", room_h_words, "", {0, 0, 0}, 10, 2, {"", "", ""}},
+    {"a demand missing", room_h_words, "16777216", {0, 0, 0}, 10, 2, {"", "", ""}},
+    {"a demand over", room_h_words, "400 400 400", {12, 8, 12}, 10, 2, {"", "", ""}},
+    {"a demand too large", room_h_words, "400 16777216", {0, 0, 0}, 11, 1, {"", "", ""}},
+    {"two demands too large", room_h_words, "4294967295 16777216", {12, 8, 12}, 11, 0, {"", "", ""}},
+    {"the largest demands", room_h_words, "16777215 16777215", {12, 8, 12}, 0, 13, {"120 120 280", "240 280", "0 0 0"}},
+    {"grants too short", room_h_words, "400 400", {11, 0, 0}, 12, 3, {"", "", ""}},
+    {"caps too short", room_h_words, "400 400", {12, 7, 0}, 13, 2, {"", "", ""}},
+    {"headroom too short", room_h_words, "400 400", {12, 8, 11}, 14, 3, {"", "", ""}},
+    {"no headroom list", room_h_words, "400 400", {12, 8, 0}, 14, 3, {"", "", ""}},
 };
 
 static void lend_words(struct buffer *buffer, const char *text)
@@ -527,21 +560,33 @@ static void lend_words(struct buffer *buffer, const char *text)
 
 static void expect_plan(const struct plan_case *c, size_t answer_len)
 {
-    static uint8_t grants_list[64], caps_list[64];
-    size_t grants_size = list_of(words, parse_words(c->grants, words), grants_list);
-    size_t caps_size = list_of(words, parse_words(c->caps, words), caps_list);
+    int list;
 
     lend_words(&input, c->table);
     lend_words(&demands, c->demands);
-    lend(&output, c->grants_len);
-    lend(&caps, c->caps_len);
+    for (list = 0; list < LISTS; list++)
+        lend(&lists[list], c->lengths[list]);
     lend(&answer, answer_len);
-    expect_plan_call(c->number, c->figure, grants_list, grants_size, caps_list, caps_size, c->name);
+    expect_plan_call(c->number, c->figure, c->figures, c->name);
+}
+
+/* The largest room and the demands, refused for a list: those before it have the sizes of the header, it has a byte less,
+   and those after it have none. */
+static void expect_short_list(int list, uint64_t number, uint64_t place)
+{
+    static const size_t sizes[LISTS] = {HUTPLAN_GRANTS_BYTES, HUTPLAN_CAPS_BYTES, HUTPLAN_HEADROOM_BYTES};
+    int k;
+
+    for (k = 0; k < LISTS; k++)
+        lend(&lists[k], k < list ? sizes[k] : k == list ? sizes[k] - 1 : 0);
+    lend(&answer, 16);
+    expect_plan_call(number, place, NULL, "the largest room, a list too short");
 }
 
 static void test_plan(void)
 {
     size_t i, length;
+    int list;
 
     for (i = 0; i < COUNT(plan_cases); i++)
         for (length = 0; length <= 24; length++)
@@ -549,27 +594,34 @@ static void test_plan(void)
 
     /* The largest room, with as many demands as it has servers, and with more than any room has. */
     lend_bytes(&input, list_bytes, list_of(words, make_room(2, 512, 512, 2), list_bytes));
-    lend(&output, 0);
-    lend(&caps, 0);
+    for (list = 0; list < LISTS; list++)
+        lend(&lists[list], 0);
     memset(list_bytes, 0, 4 * 100000);
     for (length = 511; length < 516; length++) {
         lend_bytes(&demands, list_bytes, 4 * length);
         lend(&answer, 16);
-        expect_plan_call(length == 512 ? 12 : 10, length == 512 ? 1024 : 512, NULL, 0, NULL, 0, "the largest room");
+        expect_plan_call(length == 512 ? 12 : 10, length == 512 ? 1024 : 512, NULL, "the largest room");
     }
     lend_bytes(&demands, list_bytes, 4 * 100000);
     lend(&answer, 16);
-    expect_plan_call(10, 512, NULL, 0, NULL, 0, "a hundred thousand demands");
+    expect_plan_call(10, 512, NULL, "a hundred thousand demands");
+    lend_bytes(&demands, list_bytes, 4 * 512);
+    expect_short_list(GRANTS, 12, 1024);
+    expect_short_list(CAPS, 13, 512);
+    expect_short_list(HEADROOM, 14, 1024);
 }
 
 int main(void)
 {
+    int list;
+
     setvbuf(stdout, NULL, _IOLBF, 0);
     make(&input);
     make(&output);
     make(&answer);
     make(&demands);
-    make(&caps);
+    for (list = 0; list < LISTS; list++)
+        make(&lists[list]);
     make_room_h();
     test_cases();
     test_prefixes();

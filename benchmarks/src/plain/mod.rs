@@ -1,4 +1,4 @@
-//! The baseline: Read, Write and Plan of document 01 with document 02's A.3, and the pass of its A.7, in plain Rust,
+//! The baseline: Read, Write and Plan of document 01 with the requests of document 02, and the pass of its A.7, in plain Rust,
 //! over what a C caller lends.
 
 mod deal;
@@ -7,7 +7,7 @@ mod plan;
 mod steps;
 mod table;
 
-pub use plan::plan;
+pub use plan::{plan, Lists};
 pub use steps::step_all;
 
 use table::Table;

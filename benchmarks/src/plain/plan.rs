@@ -1,21 +1,28 @@
 //! Plan: the demands, both deals and what servers can use of them.
 
-use super::deal::{Deals, Starts};
+use super::deal::{lend, Deals, Starts};
 use super::table::{carried, Room, Table};
 use super::{tell, Outcome, Refusal, MOST_CORDS, MOST_SERVERS, MOST_WATTS};
 
-/// Plan: a grant for each cord and a cap for each server, at the fronts of their lists.
-pub fn plan(table: &[u8], demands: &[u8], grants: &mut [u8], caps: &mut [u8], answer: &mut [u8]) -> u32 {
+/// The lists that a plan is written to.
+pub struct Lists<'a> {
+    pub grants: &'a mut [u8],
+    pub caps: &'a mut [u8],
+    pub headroom: &'a mut [u8],
+}
+
+/// Plan: a grant and its headroom for each cord and a cap for each server, at the fronts of their lists.
+pub fn plan(table: &[u8], demands: &[u8], lists: Lists, answer: &mut [u8]) -> u32 {
     tell(answer, || {
         let mut room = Room::empty();
         Table(table).scan(&mut room)?;
-        check_lists(&room, Table(demands), grants, caps)?;
-        Ok(plan_room(&room, Table(demands), grants, caps))
+        check_lists(&room, Table(demands), &lists)?;
+        Ok(plan_room(&room, Table(demands), lists))
     })
 }
 
-/// Refusals 10 to 13.
-fn check_lists(room: &Room, demands: Table, grants: &[u8], caps: &[u8]) -> Outcome<()> {
+/// Refusals 10 to 14.
+fn check_lists(room: &Room, demands: Table, lists: &Lists) -> Outcome<()> {
     let (cords, servers) = (room.cord_count, room.server_count);
     if demands.len() != servers {
         return Err(Refusal(10, servers as u64));
@@ -23,33 +30,36 @@ fn check_lists(room: &Room, demands: Table, grants: &[u8], caps: &[u8]) -> Outco
     if let Some(large) = demands.words().position(|demand| demand > MOST_WATTS) {
         return Err(Refusal(11, large as u64));
     }
-    if grants.len() / 4 < cords {
-        return Err(Refusal(12, cords as u64));
-    }
-    if caps.len() / 4 < servers {
-        return Err(Refusal(13, servers as u64));
+    for (number, list, needed) in [(12, &lists.grants, cords), (13, &lists.caps, servers), (14, &lists.headroom, cords)]
+    {
+        if list.len() / 4 < needed {
+            return Err(Refusal(number, needed as u64));
+        }
     }
     Ok(())
 }
 
-/// Grants and caps, into lists long enough; the freed watts.
-fn plan_room(room: &Room, demands: Table, grants: &mut [u8], caps: &mut [u8]) -> u64 {
+/// The plan, into lists long enough; the freed watts.
+fn plan_room(room: &Room, demands: Table, lists: Lists) -> u64 {
     let mut needs = [0; MOST_SERVERS];
     for ((need, demand), (least, greatest)) in needs.iter_mut().zip(demands.words()).zip(room.ranges) {
         *need = demand.max(least).min(greatest);
     }
     let mut wants = [0; MOST_CORDS];
+    let mut ceilings = [0; MOST_CORDS];
     for c in 0..room.cord_count {
-        let need = needs[usize::from(room.servers[c])];
-        wants[c] = carried(room.shares[c].into(), need, room.whole);
+        let server = usize::from(room.servers[c]);
+        wants[c] = carried(room.shares[c].into(), needs[server], room.whole);
+        ceilings[c] = carried(room.shares[c].into(), room.ranges[server].1, room.whole);
     }
     let deals = Deals::of(room);
     let mut granted = [0; MOST_CORDS];
     deals.deal(room, &Starts::lows(room), &wants, &mut granted);
     let (freed, used) = reclaim(room, &usable(room, &needs, &granted), &granted, &mut wants);
-    deals.deal(room, &Starts::used(room, used), &wants, &mut granted);
-    put(&granted[..room.cord_count], grants);
-    put(&usable(room, &needs, &granted)[..room.server_count], caps);
+    let slack = deals.deal(room, &Starts::used(room, used), &wants, &mut granted);
+    put(&granted[..room.cord_count], lists.grants);
+    put(&usable(room, &needs, &granted)[..room.server_count], lists.caps);
+    put(&lend(room, &slack, &wants, &ceilings)[..room.cord_count], lists.headroom);
     freed
 }
 

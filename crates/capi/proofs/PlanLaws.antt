@@ -4,19 +4,19 @@ use mathlib.Core.List.{List, [], _++_}
 use Prim.Native.Nat.{ℕ, suc, _/_, _≤_, _<_, min}
 use native.Mathlib.Omega.{arith}
 use lib.ListN.{length, take, drop}
-use lib.Seq.{sets}
+use lib.Seq.{sets, length-take-le}
 use Rattle.words.specs.Bytes.{wordsOf, bytesOf, answered}
 use Rattle.words.proofs.Bytes.{holdsAnswer-short, holdsAnswer-long, answered-short, take-loaded}
 use Rattle.words.proofs.Calls.{answer-told}
-use Rattle.rooms.specs.Table.{mostWords, mostServers}
+use Rattle.rooms.specs.Table.{mostWords, mostServers, roomCords}
 use Rattle.rooms.proofs.Outcomes.{front-length}
 use Rattle.room_lists.specs.Lists.{CordsFit}
 use Rattle.deals.specs.Plan.{Plan, Outcome, accepted, refused, plan, lent, answerOf, after, planNumber, planFigure}
 use Rattle.deals.specs.declared.Lengths.{Lengths}
 use Rattle.deals.specs.declared.Planned.{Planned}
 use Rattle.deals.proofs.Plans.{Fits}
-use Rattle.deals.proofs.Lent.{plan-inputs-cut, Ample, plan-lists-cut, plan-written}
-use Rattle.capi.specs.Calls.{lentBytes, PlannedCall, PlanCall}
+use Rattle.deals.proofs.Lent.{plan-inputs-cut, Ample, plan-lists-cut, Written, plan-written}
+use Rattle.capi.specs.Calls.{lentBytes, PlannedCall}
 use Rattle.capi.specs.Counts.{plannedCount}
 use Rattle.capi.proofs.CallLaws.{count-fits, written-stored}
 
@@ -27,7 +27,7 @@ abbrev writtenBy : (Plan → List ℕ) → Outcome → List ℕ
 writtenBy output (accepted plan) = output plan
 writtenBy output (refused refusal) = []
 
-words-after : (output : Plan → List ℕ) (o : Outcome) (list : List ℕ) → after output o list ≡ sets list 0 (writtenBy output o)
+pub words-after : (output : Plan → List ℕ) (o : Outcome) (list : List ℕ) → after output o list ≡ sets list 0 (writtenBy output o)
 words-after output (accepted plan) list = refl
 words-after output (refused refusal) list = refl
 
@@ -45,67 +45,116 @@ counted : (output : Plan → List ℕ) (count entries : ℕ) (o : Outcome) → (
 counted output count entries (accepted plan) h = let f = h plan refl in record { counts = f .count; fits = omega (arith, f .count, f .within) }
 counted output count entries (refused q) h = record { counts = refl; fits = omega arith }
 
--- So it is with each list of Plan: as many grants as cords, and as many caps as demands.
+-- So it is with each list of Plan: an entry for each cord, or for each demand.
 module _ (table demands : List ℕ) (lengths : Lengths) where
+  cords-counted : (output : Plan → List ℕ) (entries : ℕ) → ((p : Plan) (w : Written table demands lengths p) → Fits (output p) (roomCords (w .room)) entries)
+      → (cords : ℕ) → CordsFit table cords → Counted output (plan table demands lengths) cords entries
+  cords-counted output entries fits cords fit =
+      counted output cords entries (plan table demands lengths)
+      (λ p e. let w = plan-written table demands lengths e in rw (fit (w .room) (w .end) (w .isRoom)) (fits p w))
+
   pub grants-counted : (cords : ℕ) → CordsFit table cords → Counted (λ p. p .grants) (plan table demands lengths) cords (lengths .grants)
-  grants-counted cords fit =
-      counted (λ p. p .grants) cords (lengths .grants) (plan table demands lengths)
-      (λ p e. let w = plan-written table demands lengths e in rw (fit (w .room) (w .end) (w .isRoom)) (w .planning .grants))
+  grants-counted = cords-counted (λ p. p .grants) (lengths .grants) (λ p w. w .planning .grants)
 
   pub caps-counted : Counted (λ p. p .caps) (plan table demands lengths) (length demands) (lengths .caps)
   caps-counted =
       counted (λ p. p .caps) (length demands) (lengths .caps) (plan table demands lengths)
       (λ p e. let w = plan-written table demands lengths e in rw (w .planning .demandCount) (w .planning .caps))
 
--- A list of which the front is lent to Plan, and becomes `front′`: just what was written is stored.
-module _ {output : Plan → List ℕ} {o : Outcome} {count : ℕ} (list : List ℕ) (space : ℕ) (c : Counted output o count (length (take space list)))
-    {planned : Planned} {front′ : List ℕ} {stored : ℕ} (is : planned ≡ answerOf o) (f : front′ ≡ after output o (take space list)) (n : stored ≡ plannedCount planned count) where
-  stored-count : stored ≡ length (writtenBy output o)
-  stored-count = n ∙ ap (λ (p : Planned). plannedCount p count) is ∙ sym (c .counts)
+  pub headroom-counted : (cords : ℕ) → CordsFit table cords → Counted (λ p. p .headroom) (plan table demands lengths) cords (lengths .headroom)
+  headroom-counted = cords-counted (λ p. p .headroom) (lengths .headroom) (λ p w. w .planning .headroom)
 
-  pub list-fits : stored ≤ length (front′ ++ drop space list)
-  list-fits = count-fits list space (writtenBy output o) (c .fits) (f ∙ words-after output o _) stored-count
+-- ---- A list by way of words
 
-  pub list-stored : (bytes : List ℕ) {bytes′ : List ℕ} → space ≡ min (length bytes / 4) (length list)
-      → bytes′ ≡ sets bytes 0 (bytesOf (take (length bytes / 4) (take stored (front′ ++ drop space list)))) → bytes′ ≡ after (λ p. bytesOf (output p)) o bytes
-  list-stored bytes r b =
-      written-stored list space (writtenBy output o) (c .fits) (f ∙ words-after output o _) stored-count bytes r b ∙ bytes-after output o bytes
+-- As much of a list of words is lent as there is space in the bytes that it stands for.
+abbrev pub Space : (bytes list : List ℕ) (space : ℕ) → Type 0
+Space bytes list space = space ≡ min (length bytes / 4) (length list)
+
+-- What Plan does with a list of words, of which the front is lent and becomes `front′`, and how much of it is stored as bytes.
+pub record Listed (output : Plan → List ℕ) (o : Outcome) (bytes list : List ℕ) : Type 0 where
+  pub space : ℕ
+  pub front′ : List ℕ
+  pub stored : ℕ
+  pub spaceIs : Space bytes list space
+  pub frontIs : front′ ≡ sets (take space list) 0 (writtenBy output o)
+  pub fits : length (writtenBy output o) ≤ length (take space list)
+  pub storedIs : stored ≡ length (writtenBy output o)
+
+abbrev pub listed : {output : Plan → List ℕ} {o : Outcome} {bytes list : List ℕ} {space count stored : ℕ} {planned : Planned} {front′ : List ℕ}
+    → Space bytes list space → Counted output o count (length (take space list)) → planned ≡ answerOf o → front′ ≡ after output o (take space list) → stored ≡ plannedCount planned count
+    → Listed output o bytes list
+listed {output} {o} {bytes} {list} {space} {count} {stored} {planned} {front′} r c is f n = record {
+  space = space;
+  front′ = front′;
+  stored = stored;
+  spaceIs = r;
+  frontIs = f ∙ words-after output o (take space list);
+  fits = c .fits;
+  storedIs = n ∙ ap (λ (p : Planned). plannedCount p count) is ∙ sym (c .counts);
+}
+
+-- Just what was written is stored.
+module _ {output : Plan → List ℕ} {o : Outcome} {bytes list : List ℕ} (l : Listed output o bytes list) where
+  pub list-fits : l .stored ≤ length (l .front′ ++ drop (l .space) list)
+  list-fits = count-fits list (l .space) (writtenBy output o) (l .fits) (l .frontIs) (l .storedIs)
+
+  pub list-counted : l .stored ≡ length (take (l .stored) (l .front′ ++ drop (l .space) list))
+  list-counted = sym (length-take-le (l .stored) (l .front′ ++ drop (l .space) list) list-fits)
+
+  pub list-stored : {bytes′ : List ℕ} → bytes′ ≡ sets bytes 0 (bytesOf (take (length bytes / 4) (take (l .stored) (l .front′ ++ drop (l .space) list))))
+      → bytes′ ≡ after (λ p. bytesOf (output p)) o bytes
+  list-stored b =
+      written-stored list (l .space) (writtenBy output o) (l .fits) (l .frontIs) (l .storedIs) bytes (l .spaceIs) b ∙ bytes-after output o bytes
 
 -- ---- The call
 
 -- Where the answer's buffer is too short, nothing is changed.
-pub plan-short : (outcome : Outcome) (grants caps answer : List ℕ) → length answer < 16 → PlannedCall outcome grants caps answer 0 grants caps answer
-plan-short outcome grants caps answer h =
+pub plan-short : (outcome : Outcome) (grants caps headroom answer : List ℕ) → length answer < 16
+    → PlannedCall outcome grants caps headroom answer 0 grants caps headroom answer
+plan-short outcome grants caps headroom answer h =
     let short = holdsAnswer-short answer h in
-    record { returned = rw short; grants-after = rw short; caps-after = rw short; answer-after = sym (answered-short _ _ answer h) }
-
--- A call of the same outcome.
-pub call-same : {own outcome : Outcome} {grants caps answer grants′ caps′ answer′ : List ℕ} {r : ℕ} → own ≡ outcome
-    → PlannedCall own grants caps answer r grants′ caps′ answer′ → PlannedCall outcome grants caps answer r grants′ caps′ answer′
-call-same same call = rw same at call
+    record {
+      returned = rw short;
+      grants-after = rw short;
+      caps-after = rw short;
+      headroom-after = rw short;
+      answer-after = sym (answered-short _ _ answer h);
+    }
 
 -- Where it is long enough, it has the answer, and the lists are those after the outcome.
-pub plan-done : (outcome : Outcome) (grants caps answer : List ℕ) {planned : Planned} {grants′ caps′ answer′ : List ℕ} {number figure : ℕ}
-    → 16 ≤ length answer → planned ≡ answerOf outcome → grants′ ≡ after (λ p. bytesOf (p .grants)) outcome grants → caps′ ≡ after (λ p. bytesOf (p .caps)) outcome caps
+pub plan-done : (outcome : Outcome) (grants caps headroom answer : List ℕ) {planned : Planned} {grants′ caps′ headroom′ answer′ : List ℕ} {number figure : ℕ}
+    → 16 ≤ length answer → planned ≡ answerOf outcome
+    → grants′ ≡ after (λ p. bytesOf (p .grants)) outcome grants
+    → caps′ ≡ after (λ p. bytesOf (p .caps)) outcome caps
+    → headroom′ ≡ after (λ p. bytesOf (p .headroom)) outcome headroom
     → number ≡ planNumber planned → figure ≡ planFigure planned → answer′ ≡ answered number figure answer
-    → PlannedCall outcome grants caps answer 1 grants′ caps′ answer′
-plan-done outcome grants caps answer h is g c k v a =
-    let long = holdsAnswer-long answer h in
+    → PlannedCall outcome grants caps headroom answer 1 grants′ caps′ headroom′ answer′
+plan-done outcome grants caps headroom answer long is g c h k v a =
+    let holds = holdsAnswer-long answer long in
     record {
-      returned = rw long;
-      grants-after = rw long g;
-      caps-after = rw long c;
+      returned = rw holds;
+      grants-after = rw holds g;
+      caps-after = rw holds c;
+      headroom-after = rw holds h;
       answer-after = answer-told answer (k ∙ ap planNumber is) (v ∙ ap planFigure is) a;
     }
 
--- Plan in lists of its own, which take every answer, comes to the same.
-pub same-plan : (table demands granted capped grants caps : List ℕ) (grantsSpace capsSpace : ℕ) → Ample (lent granted capped)
-    → grantsSpace ≡ min (length grants / 4) (length granted) → capsSpace ≡ min (length caps / 4) (length capped)
-    → plan table demands (lent (take grantsSpace granted) (take capsSpace capped)) ≡ plan table demands (lentBytes grants caps)
-same-plan table demands granted capped grants caps grantsSpace capsSpace ample rg rc =
-    let grantsAre : length (take grantsSpace granted) ≡ min (length grants / 4) (length granted) = sym (front-length (length grants / 4) granted rg) ∙ rg in
-    let capsAre : length (take capsSpace capped) ≡ min (length caps / 4) (length capped) = sym (front-length (length caps / 4) capped rc) ∙ rc in
-    rw (grantsAre, capsAre) (plan-lists-cut table demands (lentBytes grants caps) (lent granted capped) ample)
+-- A call of the same outcome.
+pub call-same : {own outcome : Outcome} {grants caps headroom answer grants′ caps′ headroom′ answer′ : List ℕ} {r : ℕ} → own ≡ outcome
+    → PlannedCall own grants caps headroom answer r grants′ caps′ headroom′ answer′ → PlannedCall outcome grants caps headroom answer r grants′ caps′ headroom′ answer′
+call-same same call = rw same at call
+
+-- What is lent of a list of words is as long as the list, cut to the space in its bytes.
+space-length : (bytes list : List ℕ) {space : ℕ} → Space bytes list space → length (take space list) ≡ min (length bytes / 4) (length list)
+space-length bytes list r = sym (front-length (length bytes / 4) list r) ∙ r
+
+-- Plan in lists of words that take every answer comes to the same as in the bytes.
+pub same-plan : (table demands grants granted caps capped headroom spare : List ℕ) {grantsSpace capsSpace headroomSpace : ℕ} → Ample (lent granted capped spare)
+    → Space grants granted grantsSpace → Space caps capped capsSpace → Space headroom spare headroomSpace
+    → plan table demands (lent (take grantsSpace granted) (take capsSpace capped) (take headroomSpace spare)) ≡ plan table demands (lentBytes grants caps headroom)
+same-plan table demands grants granted caps capped headroom spare ample g c h =
+    rw (space-length grants granted g, space-length caps capped c, space-length headroom spare h)
+    (plan-lists-cut table demands (lentBytes grants caps headroom) (lent granted capped spare) ample)
 
 -- ---- Its table and demands
 

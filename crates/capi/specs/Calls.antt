@@ -37,9 +37,9 @@ WriteCall table sheet answer r sheet′ answer′ = OutcomeCall (writing (wordsO
 
 -- ---- Plan
 
--- A grant list and a cap list of so many bytes hold one figure for every four.
-abbrev pub lentBytes : (grants caps : List ℕ) → Lengths
-lentBytes grants caps = record { grants = length grants / 4; caps = length caps / 4 }
+-- Each list holds one figure for every four of its bytes.
+abbrev pub lentBytes : (grants caps headroom : List ℕ) → Lengths
+lentBytes grants caps headroom = record { grants = length grants / 4; caps = length caps / 4; headroom = length headroom / 4 }
 
 -- The bytes of a list after the call of a plan that comes to an outcome, by what a plan has for the list: as after the outcome, its
 -- words as bytes; unchanged where the answer's buffer is too short.
@@ -47,13 +47,14 @@ abbrev pub bytesPlanned : (Plan → List ℕ) → plan.Outcome → (answer bytes
 bytesPlanned output outcome answer bytes = cond (holdsAnswer answer) (plan.after (λ p. bytesOf (output p)) outcome bytes) bytes
 
 -- The call of a plan that comes to an outcome: as any call, with more than one list for its output.
-pub record PlannedCall (outcome : plan.Outcome) (grants caps answer : List ℕ) (r : ℕ) (grants′ caps′ answer′ : List ℕ) : Type 0 where
+pub record PlannedCall (outcome : plan.Outcome) (grants caps headroom answer : List ℕ) (r : ℕ) (grants′ caps′ headroom′ answer′ : List ℕ) : Type 0 where
   pub returned : r ≡ cond (holdsAnswer answer) 1 0
   pub grants-after : grants′ ≡ bytesPlanned (λ p. p .grants) outcome answer grants
   pub caps-after : caps′ ≡ bytesPlanned (λ p. p .caps) outcome answer caps
+  pub headroom-after : headroom′ ≡ bytesPlanned (λ p. p .headroom) outcome answer headroom
   pub answer-after : answer′ ≡ answered (planNumber (plan.answerOf outcome)) (planFigure (plan.answerOf outcome)) answer
 
 -- Plan, called from C, of a table and demands in words.
-abbrev pub PlanCall : (table demands grants caps answer : List ℕ) (r : ℕ) (grants′ caps′ answer′ : List ℕ) → Type 0
-PlanCall table demands grants caps answer r grants′ caps′ answer′ =
-    PlannedCall (plan table demands (lentBytes grants caps)) grants caps answer r grants′ caps′ answer′
+abbrev pub PlanCall : (table demands grants caps headroom answer : List ℕ) (r : ℕ) (grants′ caps′ headroom′ answer′ : List ℕ) → Type 0
+PlanCall table demands grants caps headroom answer r grants′ caps′ headroom′ answer′ =
+    PlannedCall (plan table demands (lentBytes grants caps headroom)) grants caps headroom answer r grants′ caps′ headroom′ answer′

@@ -11,6 +11,7 @@
 //                           const uint8_t *demands, size_t demands_len,
 //                           uint8_t *grants, size_t grants_len,
 //                           uint8_t *caps, size_t caps_len,
+//                           uint8_t *headroom, size_t headroom_len,
 //                           uint8_t *answer, size_t answer_len);
 ghost use mathlib.Core.Path.{_≡_};
 ghost use Prim.Native.Nat.{suc, _≤_};
@@ -34,10 +35,10 @@ pub mod steps;
 // An answer is two numbers of eight bytes each.
 const ANSWER_BYTES: usize = 16;
 
-// A plan writes at most 1,024 grants and 512 caps.
-const MOST_GRANTS: usize = 1024;
+// A plan writes at most one entry a cord, or one a server, to each list.
+const MOST_CORDS: usize = 1024;
 
-const MOST_CAPS: usize = 512;
+const MOST_SERVERS: usize = 512;
 
 // Read: the words of the sheet, at the front of the table.
 #[no_mangle]
@@ -57,16 +58,17 @@ pub extern "C" fn hutplan_write(table: &[u8], sheet: &mut [u8], answer: &mut [u8
     write_by(table, &mut words, sheet, answer)
 }
 
-// Plan: a grant for each cord and a cap for each server, at the fronts of their lists.
+// Plan: a grant and its headroom for each cord and a cap for each server, at the fronts of their lists.
 #[no_mangle]
 pub extern "C" fn hutplan_plan(
     table: &[u8],
     demands: &[u8],
     grants: &mut [u8],
     caps: &mut [u8],
+    headroom: &mut [u8],
     answer: &mut [u8],
 ) -> u32
-    ensures { λ r. ⌜ PlanCall (wordsOf (now (table .entry))) (wordsOf (now (demands .entry))) (now (grants .entry)) (now (caps .entry)) (now (answer .entry)) r (now (grants .exit)) (now (caps .exit)) (now (answer .exit)) ⌝ }
+    ensures { λ r. ⌜ PlanCall (wordsOf (now (table .entry))) (wordsOf (now (demands .entry))) (now (grants .entry)) (now (caps .entry)) (now (headroom .entry)) (now (answer .entry)) r (now (grants .exit)) (now (caps .exit)) (now (headroom .exit)) (now (answer .exit)) ⌝ }
 {
     let mut words = [0u32; DECIDING_WORDS];
     let mut figures = [0u32; DECIDING_DEMANDS];
@@ -77,6 +79,7 @@ pub extern "C" fn hutplan_plan(
         &mut figures,
         grants,
         caps,
+        headroom,
         answer,
     )
 }
@@ -89,7 +92,7 @@ fn read_by(sheet: &[u8], words: &mut [u32], table: &mut [u8], answer: &mut [u8])
     if answer.len() < ANSWER_BYTES {
         return 0;
     }
-    let read = rooms::read_words(sheet, words, table.len() / 4);
+    let read = rooms::parts::read_words(sheet, words, table.len() / 4);
     let count = written_count(read);
     words::store(&words[..count], table);
     tell(read, answer);
@@ -118,11 +121,12 @@ fn plan_loaded(
     figures: &mut [u32],
     grants: &mut [u8],
     caps: &mut [u8],
+    headroom: &mut [u8],
     answer: &mut [u8],
 ) -> u32
     requires { ⌜ suc mostWords ≤ length (now words) ⌝ }
     requires { ⌜ suc mostServers ≤ length (now figures) ⌝ }
-    ensures { λ r. ⌜ PlanCall (wordsOf (now (table .entry))) (wordsOf (now (demands .entry))) (now (grants .entry)) (now (caps .entry)) (now (answer .entry)) r (now (grants .exit)) (now (caps .exit)) (now (answer .exit)) ⌝ }
+    ensures { λ r. ⌜ PlanCall (wordsOf (now (table .entry))) (wordsOf (now (demands .entry))) (now (grants .entry)) (now (caps .entry)) (now (headroom .entry)) (now (answer .entry)) r (now (grants .exit)) (now (caps .exit)) (now (headroom .exit)) (now (answer .exit)) ⌝ }
 {
     let word_count = words::load(table, words);
     let figure_count = words::load(demands, figures);
@@ -131,6 +135,7 @@ fn plan_loaded(
         &figures[..figure_count],
         grants,
         caps,
+        headroom,
         answer,
     )
 }
@@ -141,12 +146,14 @@ fn plan_words(
     demands: &[u32],
     grants: &mut [u8],
     caps: &mut [u8],
+    headroom: &mut [u8],
     answer: &mut [u8],
 ) -> u32
-    ensures { λ r. ⌜ PlanCall (now (table .entry)) (now (demands .entry)) (now (grants .entry)) (now (caps .entry)) (now (answer .entry)) r (now (grants .exit)) (now (caps .exit)) (now (answer .exit)) ⌝ }
+    ensures { λ r. ⌜ PlanCall (now (table .entry)) (now (demands .entry)) (now (grants .entry)) (now (caps .entry)) (now (headroom .entry)) (now (answer .entry)) r (now (grants .exit)) (now (caps .exit)) (now (headroom .exit)) (now (answer .exit)) ⌝ }
 {
-    let mut granted = [0u32; MOST_GRANTS];
-    let mut capped = [0u32; MOST_CAPS];
+    let mut granted = [0u32; MOST_CORDS];
+    let mut capped = [0u32; MOST_SERVERS];
+    let mut spare = [0u32; MOST_CORDS];
     plan_by(
         table,
         demands,
@@ -154,11 +161,13 @@ fn plan_words(
         grants,
         &mut capped,
         caps,
+        &mut spare,
+        headroom,
         answer,
     )
 }
 
-// Plan by way of lists of grants and caps, of which no more are lent than the caller's lists have space for.
+// Plan by way of a list of words for each of the caller's, of which no more are lent than that has space for.
 fn plan_by(
     table: &[u32],
     demands: &[u32],
@@ -166,27 +175,33 @@ fn plan_by(
     grants: &mut [u8],
     capped: &mut [u32],
     caps: &mut [u8],
+    spare: &mut [u32],
+    headroom: &mut [u8],
     answer: &mut [u8],
 ) -> u32
     requires { ⌜ mostCords ≤ length (now granted) ⌝ }
     requires { ⌜ mostServers ≤ length (now capped) ⌝ }
-    ensures { λ r. ⌜ PlanCall (now (table .entry)) (now (demands .entry)) (now (grants .entry)) (now (caps .entry)) (now (answer .entry)) r (now (grants .exit)) (now (caps .exit)) (now (answer .exit)) ⌝ }
+    requires { ⌜ mostCords ≤ length (now spare) ⌝ }
+    ensures { λ r. ⌜ PlanCall (now (table .entry)) (now (demands .entry)) (now (grants .entry)) (now (caps .entry)) (now (headroom .entry)) (now (answer .entry)) r (now (grants .exit)) (now (caps .exit)) (now (headroom .exit)) (now (answer .exit)) ⌝ }
 {
     if answer.len() < ANSWER_BYTES {
         return 0;
     }
     let grants_space = least(grants.len() / 4, granted.len());
     let caps_space = least(caps.len() / 4, capped.len());
+    let headroom_space = least(headroom.len() / 4, spare.len());
     let planned = plans::plan(
         table,
         demands,
         &mut granted[..grants_space],
         &mut capped[..caps_space],
+        &mut spare[..headroom_space],
     );
     let cords = planned_count(planned, cord_count(table));
     let servers = planned_count(planned, demands.len());
     words::store(&granted[..cords], grants);
     words::store(&capped[..servers], caps);
+    words::store(&spare[..cords], headroom);
     words::store_answer(planned.number(), planned.figure(), answer);
     1
 }

@@ -1,3 +1,5 @@
 -- The laws of `deal_by_rank`.
+pub mod Raising
+pub mod Cuts
 pub mod Ranks
 pub mod RankLoop

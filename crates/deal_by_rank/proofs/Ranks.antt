@@ -3,33 +3,37 @@ use mathlib.Core.Path.{_≡_, refl, sym, ap, ap₂, _∙_, subst}
 use mathlib.Core.Bool.{Bool, true, false}
 use mathlib.Core.List.{List}
 use mathlib.Core.Logic.{⊎-elim}
-use Prim.Native.Nat.{ℕ, zero, suc, _+_, _-_, _*_, _/_, _≤_, _<_}
-use native.Mathlib.Nat.{eq-or-lt-of-le, le-trans, le-of-eq, le-refl, mul-le-mul-right}
+use Prim.Native.Nat.{ℕ, zero, suc, _+_, _-_, _*_, _/_, _≤_, _<_, min}
+use native.Mathlib.Nat.{eq-or-lt-of-le, le-trans, le-of-eq, le-refl, add-comm, mul-le-mul-right}
 use native.Mathlib.Omega.{arith}
-use lib.Dec.{eqb}
+use lib.Dec.{eqb, ltb}
 use lib.ListN.{length}
 use lib.Seq.{ext-getD}
-use borrow.Author.Tests.{ne-eqb, eqb-true, eqb-false}
+use borrow.Author.Tests.{ne-eqb, eqb-true, eqb-false, le-ltb}
 use Rattle.figures.specs.Sums.{on, sum}
 use Rattle.rooms.specs.Table.{mostWatts, mostCords, highestRank}
 use Rattle.rooms.specs.Limits.{beneath}
 use Rattle.rooms.specs.Credits.{sumBeneath}
-use Rattle.figures.proofs.Sums.{on-no, sum-cong, sum-zero, sum-swap, sum-one, sum-suc, up, up-suc}
+use Rattle.figures.proofs.Sums.{on-no, sum-cong, sum-zero, sum-suc, sum-le, sum-none, up, up-suc}
 use Rattle.rooms.proofs.Trees.{kids, own, under, kids-cong, down, rise}
 use Rattle.rooms.proofs.Credits.{sumBeneath-step}
 use Rattle.figures.specs.Figures.{at, cell}
 use Rattle.deals.specs.Metrics.{Deal, dealFrom, metrics, atLevel}
 use Rattle.splits.specs.Split.{part}
 use Rattle.deals.specs.Dealing.{granted, reached}
-use Rattle.deal_by_rank.specs.Ranks.{NodeLists, CordLists, DealLists, Spare, lowsUnder}
+use Rattle.deals.specs.Held.{cutAt}
+use Rattle.deal_by_rank.specs.Ranks.{NodeLists, CordLists, DealLists, Spare, Uncut, wattsUnder, DealMade}
+use Rattle.deal_by_rank.proofs.Cuts.{Marked, ltb-cong, marked-start, marked-turn, marked-skip}
 use Rattle.ranks.specs.Passes.{listedBefore, overListed, cordWeight, childrenBefore, overChildren, weightOf, Gathered, NodesDealt, CordsDealt}
 use Rattle.levels.specs.Levels.{Present, ActiveNodes, CordsActive, CordsOf}
 use Rattle.levels.proofs.Ordering.{listed-before, listed-all}
-use Rattle.figures.proofs.Lists.{sum-most, figures-length}
-use Rattle.deals.proofs.Requests.{Dealable, asked, request-asked, pcapmin-all}
-use Rattle.deals.proofs.Equations.{Dealt, weights, weights-are}
+use Rattle.figures.proofs.Lists.{figures-length}
+use Rattle.deals.proofs.Amounts.{own-sum}
+use Rattle.deals.proofs.Requests.{Dealable, later, sumBelow, asked, request-asked, sumBelow-unique, sumBelow-all}
+use Rattle.deals.proofs.Equations.{Dealt, weights, weights-are, pcapmin-starts}
 use Rattle.deals.proofs.Computed.{pcapmin, request, startsOf, amountOf, measured, dealt, granted-at, Startable}
 use Rattle.deals.proofs.Bounds.{asked-most, request-most}
+use Rattle.deals.proofs.Totals.{requestTotal-is, startsBelow-is}
 use Rattle.ranks.proofs.NodeSums.{on-zero, kids-none}
 
 on-on : (t u : Bool) (a : ℕ) → on t (on u a) ≡ on u (on t a)
@@ -38,10 +42,22 @@ on-on true false a = refl
 on-on false true a = refl
 on-on false false a = refl
 
+-- What is left before a level is what the limit has over the Requests of the higher ones and the starts of this one and the lower ones. The
+-- definition's bracket has Pcapmin, which is no more, in the place of the starts of the lower levels. Where the bracket counts, the
+-- Request takes what the starts leave, since it leaves them theirs.
+row-left : (limit higher lower starts start left whole request : ℕ) → lower ≤ starts → left + higher + (starts + start) ≡ limit
+    → request ≡ min (limit - higher - lower) (whole + start) → starts + (request + higher) ≤ limit → request ≡ start + min left whole
+row-left limit higher lower starts start left whole request less is row fits = omega arith
+
 -- ---- One rank of a deal, over functions of the places
 
+-- Whether a node is cut, by what its children ask.
+cut-is : (d : Deal) (n j : ℕ) → cutAt d (metrics d) n j ≡ ltb (request d n j) (asked d (request d) n j)
+unfolding request asked kids own
+cut-is d n j = refl
+
 module _ (d : Deal) (ok : Dealable d) where
-  open Deal d using (nodes, parent, limit, cords, node, level, low, want, levels)
+  open Deal d using (nodes, parent, limit, cords, node, level, want, start, levels)
 
   -- What sums a figure of a level's cords over each node's children is, at each node, the sum over the nodes beneath of what hangs on each.
   pub beneath-sum : (figure : ℕ → ℕ) (sums : ℕ → ℕ → ℕ) (j : ℕ)
@@ -53,21 +69,13 @@ module _ (d : Deal) (ok : Dealable d) where
       = kids-cong nodes parent n _ _ (λ m lm q. ih m lm (subst (λ (z : ℕ). z ≤ m) q (ok .rises m lm))) in
       omega (arith, by-children n l, sumBeneath-step nodes parent (ok .rises) f n l))
 
-  -- What hangs on the nodes is no more than what the cords have.
-  pub own-sum : (f : ℕ → ℕ) (most : ℕ) → ((c : ℕ) → c < cords → f c ≤ most) → sum nodes (λ n. own cords node n f) ≤ cords * most
-  unfolding own
-  own-sum f most h =
-      le-trans (le-of-eq (sum-swap nodes cords (λ n c. on (eqb (node c) (suc n)) (f c))))
-      (sum-most cords most _ (λ c l. le-trans (once c l (node c) refl) (h c l)))
-    where
-      once : (c : ℕ) → c < cords → (v : ℕ) → node c ≡ v → sum nodes (λ n. on (eqb (node c) (suc n)) (f c)) ≤ f c
-      once c l zero e = absurd (omega (arith, ok .hangs c l))
-      once c l (suc p) e =
-          le-of-eq
-          (sum-cong nodes _ _ (λ n ln. ap (λ (t : Bool). on t (f c)) (ap (λ (v : ℕ). eqb v (suc n)) e ∙ lib.Dec.eqb·suc-suc p n))
-          ∙ sum-one nodes p (λ n. f c) (omega (arith, ok .here c l)))
+  -- The starts beneath a node, over all levels.
+  pub starts-all : (n : ℕ) → n < nodes → sum levels (startsOf d n) ≡ sumBelow d n start
+  starts-all n l =
+      sum-cong levels _ _ (λ j h. sumBelow-unique d ok (atLevel d j start) (λ m. startsOf d m j) (λ m lm. dealt d ok .starts m j lm h ∙ add-comm _ _) n l)
+      ∙ sumBelow-all d ok n start
 
-  -- A level that no cord has: no Pcapmin and no Request.
+  -- A level that no cord has: no starts and no Request, and no node is cut there.
   module _ (j : ℕ) (h : j < levels) (none : (c : ℕ) → c < cords → level c ≡ j → ⊥) where
     own-none : (f : ℕ → ℕ) (n : ℕ) → own cords node n (atLevel d j f) ≡ 0
     unfolding own
@@ -76,19 +84,21 @@ module _ (d : Deal) (ok : Dealable d) where
         zero-at : (c : ℕ) → c < cords → on (eqb (node c) (suc n)) (atLevel d j f c) ≡ 0
         zero-at c l = on-zero (eqb (node c) (suc n)) (atLevel d j f c) (on-no (eqb (level c) j) (f c) (ne-eqb (level c) j (none c l)))
 
-    pub pcapmin-none : (n : ℕ) → n < nodes → pcapmin d n j ≡ 0
-    pcapmin-none = down nodes (λ n. pcapmin d n j ≡ 0) (λ n l ih.
-        omega (arith, measured d ok .lowest n j l h, own-none low n, kids-none nodes parent n (λ m. pcapmin d m j) (λ m lm q. ih m lm (subst (λ (z : ℕ). z ≤ m) q (ok .rises m lm)))))
+    pub starts-none : (n : ℕ) → n < nodes → startsOf d n j ≡ 0
+    starts-none = down nodes (λ n. startsOf d n j ≡ 0) (λ n l ih.
+        omega (arith, dealt d ok .starts n j l h, own-none start n, kids-none nodes parent n (λ m. startsOf d m j) (λ m lm q. ih m lm (later d ok m n lm q))))
+
+    asked-none : (n : ℕ) → n < nodes → ((m : ℕ) → m < nodes → n < m → request d m j ≡ 0) → asked d (request d) n j ≡ 0
+    unfolding asked
+    asked-none n l none-below =
+        omega (arith, own-none want n, kids-none nodes parent n (λ m. request d m j) (λ m lm q. none-below m lm (later d ok m n lm q)))
 
     pub request-none : (n : ℕ) → n < nodes → request d n j ≡ 0
-    unfolding asked
     request-none = down nodes (λ n. request d n j ≡ 0) (λ n l ih.
-        omega (
-          arith,
-          request-asked d ok (pcapmin d) (request d) (measured d ok) n l j h,
-          own-none want n,
-          kids-none nodes parent n (λ m. request d m j) (λ m lm q. ih m lm (subst (λ (z : ℕ). z ≤ m) q (ok .rises m lm))),
-        ))
+        omega (arith, request-asked d ok (pcapmin d) (request d) (measured d ok) n l j h, asked-none n l ih))
+
+    pub cut-none : (n : ℕ) → n < nodes → cutAt d (metrics d) n j ≡ false
+    cut-none n l = cut-is d n j ∙ le-ltb (request d n j) (asked d (request d) n j) (omega (arith, asked-none n l (λ m lm q. request-none m lm)))
 
 -- ---- The deal of lists
 
@@ -130,44 +140,80 @@ module _ (parents limits nodes levels lows starts wants : List ℕ) (lists : Dea
   equations : Dealt theDeal base req (amountOf theDeal) (reached theDeal (metrics theDeal))
   equations = dealt theDeal dealable
 
-  base-within : (n j : ℕ) → n < length parents → j < highestRank → base n j ≤ req n j
+  -- The Requests of a level and above leave the lower levels their starts.
+  starts-left : (n : ℕ) → n < length parents → (k j : ℕ) → suc j + k ≡ highestRank → sum j (base n) + (req n j + up k (suc j) (req n)) ≤ at limits n
   unfolding dealFrom
-  base-within = started .within
+  starts-left n l k j e =
+      omega (
+        arith,
+        lists .starts-fit n j l (omega arith),
+        startsBelow-is theDeal n l j (omega arith),
+        requestTotal-is theDeal n l (suc k) j (omega arith),
+        up-suc k j (req n),
+      )
 
-  -- Before the ranks below `above`: what the ranks dealt and the lows of those to come leave of each limit, the Requests of the ranks
-  -- dealt, in the rows, and their cords' grants.
-  pub record State (above : ℕ) (rows : List (List ℕ)) (left grants : List ℕ) : Type 0 where
+  -- Those starts are no less than the Pcapmin of the lower levels.
+  lower-starts : (n j : ℕ) → n < length parents → j < highestRank → sum j (pcap n) ≤ sum j (base n)
+  unfolding dealFrom
+  lower-starts n j l h =
+      sum-le j (pcap n) (base n) (λ i below.
+      pcapmin-starts theDeal dealable (pcapmin theDeal) (request theDeal) (measured theDeal dealable) (startsOf theDeal) (amountOf theDeal) (reached theDeal (metrics theDeal)) started equations n i l (omega arith))
+
+  -- What the children ask is their weights and the starts.
+  asked-is : (n j : ℕ) → n < length parents → j < highestRank → weights theDeal base req n j + base n j ≡ asked theDeal req n j
+  unfolding dealFrom
+  asked-is = weights-are theDeal dealable (pcapmin theDeal) (request theDeal) (measured theDeal dealable) (startsOf theDeal) (amountOf theDeal) (reached theDeal (metrics theDeal)) started equations
+
+  -- A node's Request is its starts and the lesser of what is left and of its children's weights.
+  request-is : (n : ℕ) → n < length parents → (k j : ℕ) → suc j + k ≡ highestRank → (left : ℕ)
+      → left + up k (suc j) (req n) + sum (suc j) (base n) ≡ at limits n → req n j ≡ base n j + min left (weights theDeal base req n j)
+  unfolding dealFrom
+  request-is n l k j e left is =
+      row-left (at limits n) (up k (suc j) (req n)) (sum j (pcap n)) (sum j (base n)) (base n j) left (weights theDeal base req n j) (req n j)
+      (lower-starts n j l (omega arith))
+      (ap (λ (z : ℕ). left + up k (suc j) (req n) + z) (sym (sum-suc j (base n))) ∙ is)
+      (measured theDeal dealable .request n l k j e ∙ ap (λ (z : ℕ). min (at limits n - up k (suc j) (req n) - sum j (pcap n)) z) (sym (asked-is n j l (omega arith))))
+      (starts-left n l k j e)
+
+  -- Before the ranks below `above`: what the ranks dealt and the starts of those to come leave of each limit, the Requests of the ranks
+  -- dealt, in the rows, where they cut a node, and their cords' grants.
+  pub record State (above : ℕ) (rows : List (List ℕ)) (left cuts grants : List ℕ) : Type 0 where
     pub higher : ℕ
     pub sum-is : above + higher ≡ highestRank
-    pub left-is : (n : ℕ) → n < length parents → at left n + up higher above (req n) + sum above (pcap n) ≡ at limits n
+    pub left-is : (n : ℕ) → n < length parents → at left n + up higher above (req n) + sum above (base n) ≡ at limits n
+    pub cuts-are : (n : ℕ) → n < length parents → Marked theDeal above n (at cuts n)
     pub filled : (n j : ℕ) → n < length parents → above ≤ j → j < highestRank → cell rows n j ≡ req n j
     pub grants-are : (c : ℕ) → c < length nodes → above ≤ at levels c → at grants c ≡ at (granted theDeal) c
 
   -- Before the first rank.
-  pub state-start : (rows : List (List ℕ)) (left grants : List ℕ) → Spare parents limits nodes lows left → State highestRank rows left grants
+  pub state-start : (rows : List (List ℕ)) (left cuts grants : List ℕ) → Spare parents limits nodes starts left → Uncut (length parents) cuts → State highestRank rows left cuts grants
   unfolding dealFrom under up
-  state-start rows left grants spare = record {
+  state-start rows left cuts grants spare uncut = record {
     higher = 0;
     sum-is = omega arith;
     left-is = λ n l.
-        let e : lowsUnder parents nodes lows n ≡ sum highestRank (pcap n)
-        = sym (pcapmin-all theDeal dealable (pcapmin theDeal) (request theDeal) (measured theDeal dealable) n l) in
+        let e : wattsUnder parents nodes starts n ≡ sum highestRank (base n) = sym (starts-all theDeal dealable n l) in
         omega (arith, spare .over n l);
+    cuts-are = λ n l. subst (Marked theDeal highestRank n) (sym (uncut .none n l)) (marked-start theDeal n);
     filled = λ n j l a b. absurd (omega arith);
     grants-are = λ c l h. absurd (omega (arith, cs .ranked c l));
   }
 
   -- After the last.
-  pub state-end : {rows : List (List ℕ)} {left grants : List ℕ} → length grants ≡ length nodes → State 0 rows left grants → grants ≡ granted theDeal
-  unfolding dealFrom granted
-  state-end {grants = grants} size s =
-      ext-getD 0 grants (granted theDeal) (size ∙ sym (figures-length (length nodes) _)) (λ c l. s .grants-are c (omega arith) (omega arith))
+  pub state-end : {rows : List (List ℕ)} {left cuts grants : List ℕ} → length grants ≡ length nodes → State 0 rows left cuts grants → DealMade theDeal rows left cuts grants
+  unfolding dealFrom granted request
+  state-end {grants = grants} size s = record {
+    grants-are = ext-getD 0 grants (granted theDeal) (size ∙ sym (figures-length (length nodes) _)) (λ c l. s .grants-are c (omega arith) (omega arith));
+    requests-are = λ n j l b. s .filled n j l (omega arith) b;
+    left-is = λ n l. omega (arith, s .left-is n l, sum-none (base n), requestTotal-is theDeal n l (s .higher) 0 (s .sum-is));
+    cuts-are = λ n j l b. s .cuts-are n l .cut-is j (omega arith) (omega arith);
+  }
 
   -- ---- A level that no cord has
 
-  module _ (j : ℕ) {rows : List (List ℕ)} {left grants : List ℕ} (none : (c : ℕ) → c < length nodes → at levels c ≡ j → ⊥)
-      (blank : (n : ℕ) → n < length parents → cell rows n j ≡ 0) (s : State (suc j) rows left grants) where
-    pub state-skip : State j rows left grants
+  module _ (j : ℕ) {rows : List (List ℕ)} {left cuts grants : List ℕ} (none : (c : ℕ) → c < length nodes → at levels c ≡ j → ⊥)
+      (blank : (n : ℕ) → n < length parents → cell rows n j ≡ 0) (s : State (suc j) rows left cuts grants) where
+    pub state-skip : State j rows left cuts grants
     unfolding dealFrom
     state-skip = record {
       higher = suc (s .higher);
@@ -176,10 +222,11 @@ module _ (parents limits nodes levels lows starts wants : List ℕ) (lists : Dea
         arith,
         s .left-is n l,
         up-suc (s .higher) j (req n),
-        sum-suc j (pcap n),
+        sum-suc j (base n),
         request-none theDeal dealable j (omega (arith, s .sum-is)) none n l,
-        pcapmin-none theDeal dealable j (omega (arith, s .sum-is)) none n l,
+        starts-none theDeal dealable j (omega (arith, s .sum-is)) none n l,
       );
+      cuts-are = λ n l. marked-skip theDeal n j (omega (arith, s .sum-is)) (s .cuts-are n l) (cut-none theDeal dealable j (omega (arith, s .sum-is)) none n l);
       filled = λ n i l a b.
           ⊎-elim
           (λ e. subst (λ (k : ℕ). cell rows n k ≡ req n k) e (blank n l ∙ sym (request-none theDeal dealable j (omega (arith, s .sum-is)) none n l)))
@@ -198,7 +245,7 @@ module _ (parents limits nodes levels lows starts wants : List ℕ) (lists : Dea
   abbrev ofLevel : ℕ → (ℕ → ℕ) → ℕ → ℕ → ℕ
   ofLevel j figure n k = sum k (λ c. on (eqb (at nodes c) (suc n)) (on (eqb (at levels c) j) (figure c)))
 
-  module _ (j : ℕ) {rows₀ : List (List ℕ)} {left grants : List ℕ} (s : State (suc j) rows₀ left grants) (listed : List ℕ) (of : CordsOf levels j listed) where
+  module _ (j : ℕ) {rows₀ : List (List ℕ)} {left cuts grants : List ℕ} (s : State (suc j) rows₀ left cuts grants) (listed : List ℕ) (of : CordsOf levels j listed) where
     level-fits : j < highestRank
     level-fits = omega (arith, s .sum-is)
 
@@ -214,8 +261,7 @@ module _ (parents limits nodes levels lows starts wants : List ℕ) (lists : Dea
         listed-before of (λ c. on (eqb (at nodes c) (suc n)) (figure c)) i h
         ∙ sum-cong (at listed i) _ _ (λ c l. on-on (eqb (at levels c) j) (eqb (at nodes c) (suc n)) (figure c))
 
-    module _ (pcapmins₀ starts₀ weights₀ : List ℕ)
-        (own-lows : (n : ℕ) → n < length parents → at pcapmins₀ n ≡ overListed listed nodes (at lows) n)
+    module _ (starts₀ weights₀ : List ℕ)
         (own-starts : (n : ℕ) → n < length parents → at starts₀ n ≡ overListed listed nodes (at starts) n)
         (own-weights : (n : ℕ) → n < length parents → at weights₀ n ≡ overListed listed nodes (cordWeight starts wants) n) where
       level-most : (figure : ℕ → ℕ) → ((c : ℕ) → c < length nodes → figure c ≤ mostWatts) → (c : ℕ) → c < length nodes → on (eqb (at levels c) j) (figure c) ≤ mostWatts
@@ -230,11 +276,10 @@ module _ (parents limits nodes levels lows starts wants : List ℕ) (lists : Dea
       unfolding dealFrom own
       figures-sum list figure is most =
           le-trans (le-of-eq (sum-cong (length parents) _ _ (λ n l. is n l ∙ listed-level figure n)))
-          (le-trans (own-sum theDeal dealable (atLevel theDeal j figure) mostWatts (level-most figure most)) (mul-le-mul-right mostWatts (cs .few)))
+          (le-trans (own-sum (length parents) (length nodes) (at nodes) (dealable .hangs) (dealable .here) (atLevel theDeal j figure) mostWatts (level-most figure most)) (mul-le-mul-right mostWatts (cs .few)))
 
-      pub sums-most : (sum (length parents) (at pcapmins₀) ≤ mostCords * mostWatts) × (sum (length parents) (at starts₀) ≤ mostCords * mostWatts) × (sum (length parents) (at weights₀) ≤ mostCords * mostWatts)
+      pub sums-most : (sum (length parents) (at starts₀) ≤ mostCords * mostWatts) × (sum (length parents) (at weights₀) ≤ mostCords * mostWatts)
       sums-most = (
-        figures-sum pcapmins₀ (at lows) own-lows (λ c l. omega (arith, cs .least c l, cs .ordered c l, cs .most c l)),
         figures-sum starts₀ (at starts) own-starts (λ c l. omega (arith, cs .ordered c l, cs .most c l)),
         figures-sum weights₀ (cordWeight starts wants) own-weights (λ c l. omega (arith, cs .most c l)),
       )
@@ -247,31 +292,14 @@ module _ (parents limits nodes levels lows starts wants : List ℕ) (lists : Dea
           sum-cong (length parents) _ _ (λ m h. ap (λ (z : ℕ). on (beneath (at parents) (length parents) n (suc m)) z) (is m h ∙ listed-level figure m))
           ∙ sym (beneath-sum theDeal dealable figure sums j by-children n l)
 
-      lows-beneath : (n : ℕ) → n < length parents → sumBeneath (at parents) (length parents) (at pcapmins₀) n ≡ pcap n j
-      unfolding dealFrom
-      lows-beneath = beneath-is pcapmins₀ (at lows) pcap own-lows (λ n l. measured theDeal dealable .lowest n j l level-fits)
-
       starts-beneath : (n : ℕ) → n < length parents → sumBeneath (at parents) (length parents) (at starts₀) n ≡ base n j
       unfolding dealFrom
       starts-beneath = beneath-is starts₀ (at starts) base own-starts (λ n l. equations .starts n j l level-fits)
 
-      -- What is left of a limit, with Pcapmin, is what the definition cuts the children's sum to.
-      request-left : (n : ℕ) → n < length parents → req n j ≤ at left n + pcap n j
-      unfolding dealFrom
-      request-left n l = omega (arith, s .left-is n l, sum-suc j (pcap n), measured theDeal dealable .request n l (s .higher) j (s .sum-is))
+      pub gather-asks : (n : ℕ) → n < length parents → at left n + sumBeneath (at parents) (length parents) (at starts₀) n ≤ mostWatts
+      gather-asks n l = omega (arith, starts-beneath n l, s .left-is n l, sum-suc j (base n), ns .most n l)
 
-      pub gather-asks : (n : ℕ) → n < length parents
-          → (at left n + sumBeneath (at parents) (length parents) (at pcapmins₀) n ≤ mostWatts)
-          × (sumBeneath (at parents) (length parents) (at starts₀) n ≤ at left n + sumBeneath (at parents) (length parents) (at pcapmins₀) n)
-      gather-asks n l = (
-        omega (arith, lows-beneath n l, s .left-is n l, sum-suc j (pcap n), ns .most n l),
-        omega (arith, lows-beneath n l, starts-beneath n l, base-within n j l level-fits, request-left n l),
-      )
-
-      module _ (rows′ : List (List ℕ)) (left′ pcapmins bases wholes : List ℕ) (g : Gathered parents j left pcapmins₀ starts₀ weights₀ rows₀ left′ pcapmins bases wholes rows′) where
-        pcapmins-are : (n : ℕ) → n < length parents → at pcapmins n ≡ pcap n j
-        pcapmins-are n l = g .pcapmin n l ∙ lows-beneath n l
-
+      module _ (rows′ : List (List ℕ)) (left′ cuts′ bases wholes : List ℕ) (g : Gathered parents j left cuts starts₀ weights₀ rows₀ left′ cuts′ bases wholes rows′) where
         bases-are : (n : ℕ) → n < length parents → at bases n ≡ base n j
         bases-are n l = g .start n l ∙ starts-beneath n l
 
@@ -283,33 +311,26 @@ module _ (parents limits nodes levels lows starts wants : List ℕ) (lists : Dea
             = kids-cong (length parents) (at parents) n _ _ (λ m lm q. ap₂ _-_ (ih m lm (subst (λ (z : ℕ). z ≤ m) q (ns .rises m lm))) (bases-are m lm)) in
             omega (arith, g .children n l, own-weights n l, listed-level (cordWeight starts wants) n)
 
-        asked-is : (n : ℕ) → n < length parents → weights theDeal base req n j + base n j ≡ asked theDeal req n j
-        unfolding dealFrom
-        asked-is n l = weights-are theDeal dealable (pcapmin theDeal) (request theDeal) (measured theDeal dealable) (startsOf theDeal) (amountOf theDeal) (reached theDeal (metrics theDeal)) started equations n j l level-fits
+        request-left : (n : ℕ) → n < length parents → req n j ≡ base n j + min (at left n) (weights theDeal base req n j)
+        request-left n l = request-is n l (s .higher) j (s .sum-is) (at left n) (s .left-is n l)
 
-        -- The lesser of two sums with the starts is the starts and the lesser of the two.
         requests-are : (n : ℕ) → n < length parents → cell rows′ n j ≡ req n j
-        unfolding dealFrom
         requests-are = down (length parents) (λ n. cell rows′ n j ≡ req n j) (λ n l ih.
-            omega (
-              arith,
-              g .request n l,
-              pcapmins-are n l,
-              bases-are n l,
-              whole-by n l ih,
-              asked-is n l,
-              s .left-is n l,
-              sum-suc j (pcap n),
-              base-within n j l level-fits,
-              request-left n l,
-              measured theDeal dealable .request n l (s .higher) j (s .sum-is),
-            ))
+            g .request n l ∙ ap₂ (λ (b w : ℕ). b + min (at left n) w) (bases-are n l) (whole-by n l ih) ∙ sym (request-left n l))
 
         weight-is : (n : ℕ) → n < length parents → weightOf rows′ j bases n ≡ req n j - base n j
         weight-is n l = ap₂ _-_ (requests-are n l) (bases-are n l)
 
         whole-is : (n : ℕ) → n < length parents → at wholes n ≡ weights theDeal base req n j
         whole-is n l = whole-by n l (λ m lm q. requests-are m lm)
+
+        -- A node is cut where less is left than its children weigh.
+        cut-left : (n : ℕ) → n < length parents → cutAt theDeal (metrics theDeal) n j ≡ ltb (at left n) (at wholes n)
+        cut-left n l =
+            cut-is theDeal n j
+            ∙ ltb-cong (req n j) (asked theDeal req n j) (at left n) (at wholes n)
+            (λ h. omega (arith, request-left n l, asked-is n j l level-fits, whole-is n l))
+            (λ h. omega (arith, request-left n l, asked-is n j l level-fits, whole-is n l))
 
         children-is : (n m : ℕ) → m ≤ length parents → childrenBefore parents (weightOf rows′ j bases) n m ≡ sum m (λ h. on (eqb (at parents h) (suc n)) (req h j - base h j))
         children-is n m h = sum-cong m _ _ (λ i l. ap (λ (z : ℕ). on (eqb (at parents i) (suc n)) z) (weight-is i (omega arith)))
@@ -322,7 +343,7 @@ module _ (parents limits nodes levels lows starts wants : List ℕ) (lists : Dea
             let rm : req n j ≤ mostWatts = request-most theDeal dealable (cs .few) (ns .most) (cs .most) n j l level-fits in
             let am : asked theDeal req n j ≤ mostCords * mostWatts = asked-most theDeal dealable (cs .few) (ns .most) (cs .most) n j l level-fits in
             let w = whole-is n l in
-            let a = asked-is n l in
+            let a = asked-is n j l level-fits in
             let q = g .request n l in
             (omega arith, omega arith, omega arith, omega arith, omega (arith, g .children n l))
 
@@ -400,7 +421,7 @@ module _ (parents limits nodes levels lows starts wants : List ℕ) (lists : Dea
                 ∙ sym (reached-is c n j (cord-fits i n h q) q (of .ranked i h)))
                 ∙ sym (granted-at theDeal dealable c (cord-fits i n h q))
 
-            pub state-turn : State j rows′ left′ grants′
+            pub state-turn : State j rows′ left′ cuts′ grants′
             unfolding dealFrom
             state-turn = record {
               higher = suc (s .higher);
@@ -408,13 +429,13 @@ module _ (parents limits nodes levels lows starts wants : List ℕ) (lists : Dea
               left-is = λ n l. omega (
                 arith,
                 g .left-is n l,
-                requests-are n l,
-                pcapmins-are n l,
+                whole-is n l,
                 request-left n l,
                 s .left-is n l,
                 up-suc (s .higher) j (req n),
-                sum-suc j (pcap n),
+                sum-suc j (base n),
               );
+              cuts-are = λ n l. marked-turn theDeal n j level-fits (s .cuts-are n l) (at left n) (at wholes n) (cut-left n l) (g .cuts-are n l);
               filled = λ n i l a b. ⊎-elim (λ e. subst (λ (k : ℕ). cell rows′ n k ≡ req n k) e (requests-are n l))
                   (λ more. g .others n i (λ q. absurd (omega arith)) ∙ s .filled n i l more b) (eq-or-lt-of-le a);
               grants-are = λ c l h. go c l (eqb (at levels c) j) refl h (at nodes c) refl;

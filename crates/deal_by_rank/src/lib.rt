@@ -5,7 +5,7 @@ ghost use mathlib.Core.List.{List};
 ghost use Prim.Native.Nat.{ℕ};
 ghost use lib.ListN.{length};
 ghost use Rattle.deals.specs.Metrics.{dealFrom};
-ghost use Rattle.deal_by_rank.specs.Ranks.{SomeDeal, DealGiven, DealMade, BlankRows};
+ghost use Rattle.deal_by_rank.specs.Ranks.{SomeDeal, DealGiven, DealMade, BlankRows, Uncut};
 use figures::index;
 use levels::COUNT;
 use levels::FROM;
@@ -15,34 +15,36 @@ use ranks::dealing::deal_nodes;
 use ranks::metrics::gather;
 use ranks::metrics::sum_cords;
 
+pub mod raise;
+
 // The length of the lists with a rank's figure of each node: a little more than the most nodes. 512 figures of 64 bits fill a page, so
 // that such lists would start at the same place of their pages. The processor, which compares that place alone, would let a load from
 // one wait for a store to another.
 const FIGURES: usize = 520;
 
 // The grants of a deal, rank by rank from the highest, over each rank's cords and active nodes, which `levels` lists. `left` comes with
-// what each limit has over all lows; before each rank it has what the Requests dealt and the lows to come leave. `requests` come with 0
-// where a node is not active at a rank, and leave so. `pcapmins`, `bases` (the starts beneath) and `wholes` (the children's weights)
-// have a rank's figure of each node; `amounts`, `before` (weights served) and `dealt` that of each active one.
+// what each limit has over all starts; before each rank it has what the Requests dealt and the starts to come leave. `cuts` come with 0
+// and leave with the highest rank at which a node is cut. `requests` come with 0 where a node is not active at a rank, and leave so.
+// `bases` (the starts beneath) and `wholes` (the children's weights) have a rank's figure of each node; `amounts`, `before` (weights
+// served) and `dealt` that of each active one.
 pub fn deal(
     parents: &[u16],
     levels: &[[u16; 4]; 16],
     order: &[u16],
     actives: &[[u16; 512]; 16],
     nodes: &[u16],
-    lows: &[u32],
     starts: &[u32],
     wants: &[u32],
     left: &mut [u32],
+    cuts: &mut [u16],
     requests: &mut [[u32; 16]; 512],
     grants: &mut [u32],
 )
-    requires { ⌜ SomeDeal (now parents) (now levels) (now order) (now actives) (now nodes) (now lows) (now starts) (now wants) (now left) × (length (now grants) ≡ length (now nodes)) ⌝ }
+    requires { ⌜ SomeDeal (now parents) (now levels) (now order) (now actives) (now nodes) (now starts) (now wants) (now left) × Uncut (length (now parents)) (now cuts) × (length (now grants) ≡ length (now nodes)) ⌝ }
     requires { ⌜ BlankRows (length (now parents)) (now levels) (now actives) (now requests) ⌝ }
-    ensures { λ _. ⌜ ((limits ranks : List ℕ) → DealGiven (now (parents .entry)) (now (levels .entry)) (now (order .entry)) (now (actives .entry)) (now (nodes .entry)) (now (lows .entry)) (now (starts .entry)) (now (wants .entry)) (now (left .entry)) limits ranks → DealMade (dealFrom (now (parents .entry)) limits (now (nodes .entry)) ranks (now (lows .entry)) (now (starts .entry)) (now (wants .entry))) (now (requests .exit)) (now (grants .exit))) ⌝ }
+    ensures { λ _. ⌜ ((limits ranks lows : List ℕ) → DealGiven (now (parents .entry)) (now (levels .entry)) (now (order .entry)) (now (actives .entry)) (now (nodes .entry)) (now (starts .entry)) (now (wants .entry)) (now (left .entry)) limits ranks lows → DealMade (dealFrom (now (parents .entry)) limits (now (nodes .entry)) ranks lows (now (starts .entry)) (now (wants .entry))) (now (requests .exit)) (now (left .exit)) (now (cuts .exit)) (now (grants .exit))) ⌝ }
     ensures { λ _. ⌜ BlankRows (length (now (parents .entry))) (now (levels .entry)) (now (actives .entry)) (now (requests .exit)) ⌝ }
 {
-    let mut pcapmins = [0u64; FIGURES];
     let mut bases = [0u64; FIGURES];
     let mut wholes = [0u64; FIGURES];
     let mut amounts = [0u32; FIGURES];
@@ -59,10 +61,8 @@ pub fn deal(
             sum_cords(
                 &order[from..to],
                 nodes,
-                lows,
                 starts,
                 wants,
-                &mut pcapmins[..n],
                 &mut bases[..n],
                 &mut wholes[..n],
             );
@@ -72,7 +72,7 @@ pub fn deal(
                 count,
                 level,
                 left,
-                &mut pcapmins[..n],
+                cuts,
                 &mut bases[..n],
                 &mut wholes[..n],
                 requests,

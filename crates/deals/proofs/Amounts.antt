@@ -1,20 +1,36 @@
 -- Amounts dealt by weights, by their equations: where no node weighs more than its children, each gives all that it gets, and none
 -- gets more than its weight. (A rank's dealing is one such, and that of the headroom another.)
-use mathlib.Core.Path.{_≡_, refl, sym, ap, _∙_, subst}
+use mathlib.Core.Path.{_≡_, refl, sym, ap, ap₂, _∙_, subst}
+use mathlib.Core.Bool.{Bool}
 use mathlib.Core.Logic.{_⊎_, inl, inr}
 use Prim.Native.Nat.{ℕ, zero, suc, _+_, _*_, _/_, _≤_, _<_}
-use native.Mathlib.Nat.{le-trans, le-of-eq, mul-comm, mul-div-cancel, eq-zero-or-pos}
+use native.Mathlib.Nat.{le-trans, le-of-eq, le-refl, mul-comm, mul-div-cancel, eq-zero-or-pos}
 use native.Mathlib.Omega.{arith}
-use lib.Dec.{eqb}
+use lib.Dec.{eqb, eqb·suc-suc}
 use borrow.Author.Tests.{eqb-true, eq-eqb}
 use Rattle.figures.specs.Sums.{on, sum}
-use Rattle.figures.proofs.Sums.{on-yes, on-cong, sum-cong}
-use Rattle.figures.proofs.Lists.{sum-one-le}
+use Rattle.figures.proofs.Sums.{on-yes, on-cong, sum-cong, sum-swap, sum-one}
+use Rattle.figures.proofs.Lists.{sum-most, sum-one-le}
 use Rattle.rooms.proofs.Trees.{kids, own, kids-cong, rise}
 use Rattle.splits.specs.Split.{part}
 use Rattle.splits.proofs.Splits.{part-le, part-none, part-whole, telescope, telescope-all}
 use Rattle.deals.specs.Metrics.{Deal}
 use Rattle.deals.proofs.Requests.{Dealable, later, sumBelow, sumBelow-unique}
+
+-- What hangs on the nodes is no more than what the cords have.
+pub own-sum : (nodes cords : ℕ) (node : ℕ → ℕ) → ((c : ℕ) → c < cords → 0 < node c) → ((c : ℕ) → c < cords → node c ≤ nodes)
+    → (f : ℕ → ℕ) (most : ℕ) → ((c : ℕ) → c < cords → f c ≤ most) → sum nodes (λ n. own cords node n f) ≤ cords * most
+unfolding own
+own-sum nodes cords node hangs here f most h =
+    le-trans (le-of-eq (sum-swap nodes cords (λ n c. on (eqb (node c) (suc n)) (f c))))
+    (sum-most cords most _ (λ c l. le-trans (once c l (node c) refl) (h c l)))
+  where
+    once : (c : ℕ) → c < cords → (v : ℕ) → node c ≡ v → sum nodes (λ n. on (eqb (node c) (suc n)) (f c)) ≤ f c
+    once c l zero e = absurd (omega (arith, hangs c l))
+    once c l (suc p) e =
+        le-of-eq
+        (sum-cong nodes _ _ (λ n ln. ap (λ (t : Bool). on t (f c)) (ap (λ (v : ℕ). eqb v (suc n)) e ∙ eqb·suc-suc p n))
+        ∙ sum-one nodes p (λ n. f c) (omega (arith, here c l)))
 
 module _ (d : Deal) where
   open Deal d using (nodes, parent, cords, node)
@@ -30,6 +46,44 @@ module _ (d : Deal) where
         → x m ≡ part (x n) (whole w v n) (sum m (λ h. on (eqb (parent h) (suc n)) (w h))) (w m)
     pub leaf : (c n : ℕ) → c < cords → node c ≡ suc n
         → y c ≡ part (x n) (whole w v n) (kids nodes parent n w + sum c (λ h. on (eqb (node h) (suc n)) (v h))) (v c)
+
+  pub whole-cong : (w u v : ℕ → ℕ) (n : ℕ) → ((m : ℕ) → m < nodes → parent m ≡ suc n → w m ≡ u m) → whole w v n ≡ whole u v n
+  unfolding whole
+  whole-cong w u v n same = ap (λ (z : ℕ). z + own cords node n v) (kids-cong nodes parent n w u same)
+
+-- Equal weights give equal amounts, from each parent to its children.
+module _ (d : Deal) (ok : Dealable d) (w u v x z y t : ℕ → ℕ) (same : (n : ℕ) → n < d .nodes → w n ≡ u n) (by : ByWeights d w v x y) (yb : ByWeights d u v z t) where
+  open Deal d using (nodes, parent, cords, node)
+
+  wholes-same : (n : ℕ) → whole d w v n ≡ whole d u v n
+  wholes-same n = whole-cong d w u v n (λ m lm q. same m lm)
+
+  before-same : (n m : ℕ) → m ≤ nodes → sum m (λ h. on (eqb (parent h) (suc n)) (w h)) ≡ sum m (λ h. on (eqb (parent h) (suc n)) (u h))
+  before-same n m h = sum-cong m _ _ (λ i l. ap (λ (a : ℕ). on (eqb (parent i) (suc n)) a) (same i (omega arith)))
+
+  amounts-same : (n : ℕ) → n < nodes → x n ≡ z n
+  amounts-same = rise nodes (λ n. x n ≡ z n) (λ n l ih. go n l ih (parent n) refl)
+    where
+      go : (n : ℕ) → n < nodes → ((m : ℕ) → m < n → x m ≡ z m) → (q : ℕ) → parent n ≡ q → x n ≡ z n
+      go n l ih zero e = by .root n l e ∙ same n l ∙ sym (yb .root n l e)
+      go n l ih (suc q) e =
+          by .inner n q l e
+          ∙ ap₂ (λ (a b : ℕ). part a b (sum n (λ h. on (eqb (parent h) (suc q)) (w h))) (w n)) (ih q (later d ok n q l e)) (wholes-same q)
+          ∙ ap₂ (λ (a b : ℕ). part (z q) (whole d u v q) a b) (before-same q n (omega arith)) (same n l)
+          ∙ sym (yb .inner n q l e)
+
+  pub reached-same : (c : ℕ) → c < cords → y c ≡ t c
+  unfolding kids
+  reached-same c l = go (node c) refl
+    where
+      go : (q : ℕ) → node c ≡ q → y c ≡ t c
+      go zero e = absurd (omega (arith, ok .hangs c l))
+      go (suc n) e =
+          let q : n < nodes = subst (λ (a : ℕ). a ≤ nodes) e (ok .here c l) in
+          by .leaf c n l e
+          ∙ ap₂ (λ (a b : ℕ). part a b (kids nodes parent n w + sum c (λ h. on (eqb (node h) (suc n)) (v h))) (v c)) (amounts-same n q) (wholes-same n)
+          ∙ ap (λ (a : ℕ). part (z n) (whole d u v n) (a + sum c (λ h. on (eqb (node h) (suc n)) (v h))) (v c)) (before-same n nodes (le-refl nodes))
+          ∙ sym (yb .leaf c n l e)
 
 module _ (d : Deal) (ok : Dealable d) (w v x y : ℕ → ℕ) (by : ByWeights d w v x y)
     (enough : (n : ℕ) → n < d .nodes → w n ≤ whole d w v n) where

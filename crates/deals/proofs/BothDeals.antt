@@ -27,7 +27,7 @@ use Rattle.deals.specs.Dealing.{granted}
 use Rattle.deals.proofs.Requests.{Dealable, WholeWay}
 use Rattle.figures.proofs.Lists.{figures-at, figures-length}
 use Rattle.deals.proofs.Computed.{Startable, lows-startable, granted-way, granted-start}
-use Rattle.deals.proofs.Starts.{later-startable}
+use Rattle.deals.proofs.Starts.{Later, later-startable}
 use Rattle.rooms.proofs.Carried.{carried-le}
 use Rattle.rooms.proofs.Cords.{cordsOf-all, lows-sum}
 use Rattle.deals.proofs.RoomDeals.{levelsOf-at, roomDeal, dealOf-is}
@@ -279,15 +279,21 @@ module _ (r : Room) (ok : Accepted r) where
     second-dealable = dealable (firstUsed r demands) (secondWants r demands) secondWants-lows
 
     -- In the second each starts from its used watts, which were granted in the first.
-    pub second-starts : Startable (roomDeal r (firstUsed r demands) (secondWants r demands))
+    pub second-later : Later (roomDeal r (lowsOf r) (firstWants r demands)) (at (secondWants r demands)) (at (firstUsed r demands))
     unfolding firstGrants firstDeal
-    second-starts =
-        later-startable (roomDeal r (lowsOf r) (firstWants r demands)) (at (secondWants r demands)) (at (firstUsed r demands))
-        (room-dealable (lowsOf r) (firstWants r demands) firstWants-lows) first-starts
-        (room-dealable (firstUsed r demands) (secondWants r demands) secondWants-lows)
-        firstUsed-lows firstUsed-secondWants
-        (subst (λ (d : Deal). (c : ℕ) → c < roomCords r → at (firstUsed r demands) c ≤ at (granted d) c) (dealOf-is r (lowsOf r) (firstWants r demands)) firstUsed-granted)
-        secondWants-wants
+    second-later = record {
+      ok = room-dealable (lowsOf r) (firstWants r demands) firstWants-lows;
+      st = first-starts;
+      ko = room-dealable (firstUsed r demands) (secondWants r demands) secondWants-lows;
+      lows = firstUsed-lows;
+      wants = firstUsed-secondWants;
+      grants =
+          subst (λ (d : Deal). (c : ℕ) → c < roomCords r → at (firstUsed r demands) c ≤ at (granted d) c) (dealOf-is r (lowsOf r) (firstWants r demands)) firstUsed-granted;
+      less = secondWants-wants;
+    }
+
+    pub second-starts : Startable (roomDeal r (firstUsed r demands) (secondWants r demands))
+    second-starts = later-startable (roomDeal r (lowsOf r) (firstWants r demands)) (at (secondWants r demands)) (at (firstUsed r demands)) second-later
 
     pub second-startable : Startable (secondDeal r demands)
     unfolding secondDeal

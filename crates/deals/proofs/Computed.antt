@@ -144,9 +144,17 @@ unfoldable pub amountOf : Deal → ℕ → ℕ → ℕ
 amountOf d m j = amount d (metrics d) (suc m) m j
 
 -- Each row has a place for each level.
+sums-levels : (d : Deal) (w : ℕ → ℕ) (n : ℕ) → n < d .nodes → length (getD (sumsFrom d w (d .nodes) 0) n []) ≡ d .levels
+unfolding childSums
+sums-levels d w n l = ap length (sumsFrom-at d w (d .nodes) 0 n n (zero-add n) l) ∙ figures-length (d .levels) _
+
 pub pcapmins-levels : (d : Deal) (n : ℕ) → n < d .nodes → length (getD (metrics d .pcapmins) n []) ≡ d .levels
-unfolding metrics childSums
-pcapmins-levels d n l = ap length (sumsFrom-at d (d .low) (d .nodes) 0 n n (zero-add n) l) ∙ figures-length (d .levels) _
+unfolding metrics
+pcapmins-levels d = sums-levels d (d .low)
+
+pub starts-levels : (d : Deal) (n : ℕ) → n < d .nodes → length (getD (metrics d .starts) n []) ≡ d .levels
+unfolding metrics
+starts-levels d = sums-levels d (d .start)
 
 pub requests-levels : (d : Deal) (n : ℕ) → n < d .nodes → length (getD (metrics d .requests) n []) ≡ d .levels
 unfolding metrics requestRow
@@ -272,7 +280,7 @@ module _ (d : Deal) (ok : Dealable d) (st : Startable d) where
 -- ---- A deal in which each cord starts from its low
 
 module _ (d : Deal) (ok : Dealable d) (lows : d .start ≡ d .low) where
-  starts-are : startsOf d ≡ pcapmin d
+  pub starts-are : startsOf d ≡ pcapmin d
   unfolding startsOf pcapmin metrics
   starts-are = ap (λ (w : ℕ → ℕ). cell (sumsFrom d w (d .nodes) 0)) lows
 

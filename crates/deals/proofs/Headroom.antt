@@ -20,7 +20,7 @@ use Rattle.deals.specs.Headroom.{ceilingWithin, nodeCeiling, requestsAt,
 use Rattle.deals.specs.Properties.{mostSum, headroomWeights, headroomAt, HeadroomBounded}
 use Rattle.deals.proofs.Children.{children-sum}
 use Rattle.deals.proofs.Requests.{Dealable, later, sumBelow, sumBelow-step, sumBelow-all, own-le, request-total}
-use Rattle.deals.proofs.Amounts.{whole, ByWeights, amount-most, reached-most, all-beneath}
+use Rattle.deals.proofs.Amounts.{whole, whole-cong, ByWeights, reached-same, amount-most, reached-most, all-beneath}
 use Rattle.deals.proofs.Computed.{pcapmin, request, measured, by-weights, Startable, granted-way, granted-asked}
 use Rattle.deals.proofs.Totals.{requestTotal-is}
 use Rattle.deals.proofs.Bounds.{beneath-most}
@@ -52,9 +52,9 @@ sum-parted : (k : ℕ) (t : ℕ → Bool) (f g h : ℕ → ℕ) → ((c : ℕ) �
 sum-parted k t f g h e =
     sum-cong k _ _ (λ c l. ap (λ (z : ℕ). on (t c) z) (e c l) ∙ on-add (t c) (f c) (g c)) ∙ sum-add k (λ c. on (t c) (f c)) (λ c. on (t c) (g c))
 
--- Of two figures, each cut to a limit, the greater has over the lesser no more than it had uncut.
-cut-over : (limit a b c r : ℕ) → b ≤ a → c ≡ min limit a → r ≡ min limit b → (r ≤ c) × (c - r ≤ a - b)
-cut-over limit a b c r h e q = (omega arith, omega arith)
+-- Of two figures, each cut to a limit, the greater has over the lesser what it had uncut, w, cut to what the limit has over the lesser.
+cut-over : (limit a b w c r : ℕ) → w + b ≡ a → c ≡ min limit a → r ≡ min limit b → c - r ≡ min (limit - r) w
+cut-over limit a b w c r h e q = omega arith
 
 module _ (d : Deal) (ok : Dealable d) where
   open Deal d using (nodes, parent, limit, cords, node, level, want, levels)
@@ -106,7 +106,7 @@ module _ (d : Deal) (ok : Dealable d) where
 
       asks-within : (n : ℕ) → n < nodes → asks n ≤ nodeCeiling d ceiling n
       asks-within = down nodes (λ n. asks n ≤ nodeCeiling d ceiling n) (λ n l ih.
-          cut-over (limit n) _ _ _ _ (asked-ceilings n ih) (ceiling-is n l) (asks-are n l) .0)
+          omega (arith, asked-ceilings n ih, ceiling-is n l, asks-are n l))
 
       -- ---- The weights
 
@@ -126,11 +126,13 @@ module _ (d : Deal) (ok : Dealable d) where
           let o = sum-parted cords (λ c. eqb (node c) (suc n)) cordOver want ceiling (λ c lc. let z : want c ≤ ceiling c = most c lc in omega arith) in
           omega (arith, k, o)
 
-      -- No node weighs more than its children.
+      -- A node's weight is its children's, cut to what its limit has over its Requests.
+      weight-is : (n : ℕ) → n < nodes → over n ≡ min (limit n - asks n) (whole d over cordOver n)
+      weight-is n l = cut-over (limit n) _ _ _ _ _ (weights-are n) (ceiling-is n l) (asks-are n l)
+
+      -- So no node weighs more than its children.
       weights-enough : (n : ℕ) → n < nodes → over n ≤ whole d over cordOver n
-      weights-enough n l =
-          let b = cut-over (limit n) _ _ _ _ (asked-ceilings n (λ m lm q. asks-within m lm)) (ceiling-is n l) (asks-are n l) .1 in
-          omega (arith, b, weights-are n)
+      weights-enough n l = omega (arith, weight-is n l)
 
       -- The headroom is dealt by these weights.
       lent-at : (c : ℕ) → c < cords → at (headroomOver d ceiling) c ≡ cordAmount d (headroomWeight d (metrics d) ceiling) c
@@ -142,6 +144,15 @@ module _ (d : Deal) (ok : Dealable d) where
       lent =
           let by = by-weights d ok (headroomWeight d (metrics d) ceiling) in
           record { root = by .root; inner = by .inner; leaf = λ c n l e. lent-at c l ∙ by .leaf c n l e }
+
+      -- Weights that are so cut are these, and what is dealt by them is the headroom.
+      module _ (w x y : ℕ → ℕ) (cut : (n : ℕ) → n < nodes → w n ≡ min (limit n - asks n) (whole d w cordOver n)) (by : ByWeights d w cordOver x y) where
+        weights-same : (n : ℕ) → n < nodes → w n ≡ over n
+        weights-same = down nodes (λ n. w n ≡ over n) (λ n l ih.
+            cut n l ∙ ap (min (limit n - asks n)) (whole-cong d w over cordOver n (λ m lm q. ih m lm (later d ok m n lm q))) ∙ sym (weight-is n l))
+
+        pub lent-only : (c : ℕ) → c < cords → y c ≡ at (headroomOver d ceiling) c
+        lent-only = reached-same d ok w over cordOver x (headroomAt d ceiling) y (at (headroomOver d ceiling)) weights-same by lent
 
       -- What a node has to lend, its cords have together; it is no more than what its ceiling has over its Requests.
       pub lent-beneath : (n : ℕ) → n < nodes → sumBelow d n (at (headroomOver d ceiling)) ≡ headroomAt d ceiling n

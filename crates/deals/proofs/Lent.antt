@@ -1,24 +1,25 @@
 -- How long the lists must be that are lent to Plan: one word more than a table may have decides every table, one demand more than a
--- room may have servers every demand list, and as many grants and caps as it may have cords and servers take every answer. A caller whose own lists may be of any length may lend such
--- lists in their place.
+-- room may have servers every demand list, and as many entries of each list as it may have cords or servers take every answer. A caller
+-- whose own lists may be of any length may lend such lists in their place.
 use mathlib.Core.Path.{_≡_, refl, sym, ap, _∙_}
 use mathlib.Core.Bool.{Bool, true, false, not}
 use mathlib.Core.List.{List}
 use Prim.Native.Nat.{ℕ, suc, _≤_, _<_, min}
+use native.Mathlib.Nat.{le-trans}
 use native.Mathlib.Omega.{arith}
 use lib.Dec.{eqb, leb, ltb}
 use lib.ListN.{length, take}
 use lib.Seq.{take-all, length-take-le}
 use borrow.Author.Tests.{eqb-true, eqb-false, ne-eqb, leb-true, leb-false, ltb-true, ltb-false, lt-ltb, le-ltb}
 use Rattle.rooms.specs.Part.{Step, good, bad}
-use Rattle.rooms.specs.Table.{Room, mostServers, mostWords, roomCords}
+use Rattle.rooms.specs.Table.{Room, mostServers, mostCords, mostWords, roomCords}
 use Rattle.rooms.specs.Limits.{checked}
 use Rattle.rooms.proofs.Reach.{prefix-decides}
 use Rattle.rooms.proofs.Accepted as rooms
 use Rattle.deals.specs.Plan.{Plan, planOf, accepted, refused, Reason, tooShort, reasons, unless, planRoom, planStep, plan, mostLent}
 use Rattle.deals.specs.declared.Lengths.{Lengths}
 use Rattle.deals.specs.declared.PlanList.{PlanList}
-use Rattle.deals.specs.declared.PlanList.the-variants.{Grants, Caps}
+use Rattle.deals.specs.declared.PlanList.the-variants.{Grants, Caps, Headroom}
 use Rattle.deals.specs.declared.PlanRefusal.the-variants.{DemandCount, ListTooShort}
 use Rattle.deals.proofs.Plans.{unless-stop, planRoom-is, plan-good, plan-good-table, Planning, planRoom-accepted}
 
@@ -66,20 +67,26 @@ plan-inputs-cut table demands w m lengths hw hm = ap (λ (s : Step Room). planSt
 
 -- Each list cut to no more than its space.
 abbrev pub cutTo : Lengths → Lengths → Lengths
-cutTo spaces lengths = record { grants = min (lengths .grants) (spaces .grants); caps = min (lengths .caps) (spaces .caps) }
+cutTo spaces lengths = record {
+  grants = min (lengths .grants) (spaces .grants);
+  caps = min (lengths .caps) (spaces .caps);
+  headroom = min (lengths .headroom) (spaces .headroom);
+}
 
 -- Spaces that take the plan of every room.
 pub record Ample (spaces : Lengths) : Type 0 where
   pub grants : mostLent .grants ≤ spaces .grants
   pub caps : mostLent .caps ≤ spaces .caps
+  pub headroom : mostLent .headroom ≤ spaces .headroom
 
 -- The plan of a room, and so Plan, comes to the same in lists that are cut no shorter than an answer can be.
-room-lists-cut : (r : Room) (demands : List ℕ) (lengths spaces : Lengths) → roomCords r ≤ spaces .grants → length (r .servers) ≤ spaces .caps
+room-lists-cut : (r : Room) (demands : List ℕ) (lengths spaces : Lengths) → roomCords r ≤ mostCords → length (r .servers) ≤ mostServers → Ample spaces
     → planRoom r demands (cutTo spaces lengths) ≡ planRoom r demands lengths
-room-lists-cut r demands lengths spaces cordsFit serversFit =
-    let grants = short-cut Grants (roomCords r) (lengths .grants) (spaces .grants) cordsFit in
-    let caps = short-cut Caps (length (r .servers)) (lengths .caps) (spaces .caps) serversFit in
-    let all : reasons r demands (cutTo spaces lengths) ≡ reasons r demands lengths = rw (grants, caps) in
+room-lists-cut r demands lengths spaces fewCords fewServers ample =
+    let grants = short-cut Grants (roomCords r) (lengths .grants) (spaces .grants) (le-trans fewCords (ample .grants)) in
+    let caps = short-cut Caps (length (r .servers)) (lengths .caps) (spaces .caps) (le-trans fewServers (ample .caps)) in
+    let headroom = short-cut Headroom (roomCords r) (lengths .headroom) (spaces .headroom) (le-trans fewCords (ample .headroom)) in
+    let all : reasons r demands (cutTo spaces lengths) ≡ reasons r demands lengths = rw (grants, caps, headroom) in
     planRoom-is r demands (cutTo spaces lengths) ∙ ap (λ (l : List Reason). unless l (planOf r demands)) all ∙ sym (planRoom-is r demands lengths)
 
 pub plan-lists-cut : (table demands : List ℕ) (lengths spaces : Lengths) → Ample spaces → plan table demands (cutTo spaces lengths) ≡ plan table demands lengths
@@ -89,7 +96,7 @@ plan-lists-cut table demands lengths spaces ample = go (checked table 0) refl
     go : (s : Step Room) → checked table 0 ≡ s → planStep s demands (cutTo spaces lengths) ≡ planStep s demands lengths
     go (good r end) e =
         let few = rooms.accepted table r end e in
-        room-lists-cut r demands lengths spaces (omega (arith, few .fewCords, ample .grants)) (omega (arith, few .fewServers, ample .caps))
+        room-lists-cut r demands lengths spaces (few .fewCords) (few .fewServers) ample
     go (bad refusal) e = refl
 
 -- ---- What an accepted plan writes

@@ -18,6 +18,7 @@ pub mod Inside
 pub mod Loads
 pub mod RoomDeals
 pub mod BothDeals
+pub mod StartsFit
 pub mod LowerRanks
 pub mod Bounds
 -- Headroom over the second deal.

@@ -15,16 +15,19 @@ use Rattle.rooms.specs.Promises.{Overloaded}
 use Rattle.rooms.specs.declared.Refusal.{Refusal}
 use Rattle.rooms.specs.declared.Refusal.the-variants.{LowsAboveLimit}
 use Rattle.rooms.proofs.Overloaded.{checked-nine, nine-lows}
-use Rattle.deals.specs.Metrics.{Deal, dealOf}
+use Rattle.figures.specs.Figures.{figures}
+use Rattle.rooms.specs.Lists.{nodesOf}
+use Rattle.deals.specs.Metrics.{dealFrom, dealOf}
 use Rattle.deals.specs.Dealing.{granted}
-use Rattle.deals.specs.SecondDeal.{usable, firstUsed, secondDeal, secondWants, secondGrants, caps}
+use Rattle.deals.specs.SecondDeal.{usable, secondDeal, secondGrants, caps}
+use Rattle.deals.specs.Headroom.{headroomOver, headroom}
 use Rattle.deals.specs.Plan.{Plan, planOf, Outcome, accepted, refused, Reason, countDiffers, demandTooLarge, tooShort, reasons, unless, planRoom, planStep, plan, answerOf, planRefusalNumber, planNumber}
 use Rattle.deals.specs.Promises.{IsNine}
 use Rattle.deals.specs.declared.Lengths.{Lengths}
-use Rattle.deals.specs.declared.PlanList.the-variants.{Grants, Caps}
+use Rattle.deals.specs.declared.PlanList.the-variants.{Grants, Caps, Headroom}
 use Rattle.deals.specs.declared.PlanRefusal.the-variants.{Table}
 use Rattle.figures.proofs.Lists.{figures-length}
-use Rattle.deals.proofs.RoomDeals.{dealOf-is}
+use Rattle.deals.proofs.RoomDeals.{nodesOf-length}
 
 -- ---- Tests
 
@@ -36,13 +39,17 @@ cond-no t a b e = ap (λ (x : Bool). cond x a b) e
 
 -- ---- The lengths of the answer's lists
 
-pub grants-length : (r : Room) (starts wants : List ℕ) → length (granted (dealOf r starts wants)) ≡ roomCords r
-unfolding granted
-grants-length r starts wants = ap (λ (d : Deal). length (granted d)) (dealOf-is r starts wants) ∙ figures-length (roomCords r) _
+-- A deal of a room has as many cords as the list of their nodes.
+cords-length : (r : Room) (g : ℕ → ℕ) → length (figures (length (nodesOf r)) g) ≡ roomCords r
+cords-length r g = figures-length (length (nodesOf r)) g ∙ nodesOf-length r
 
 pub secondGrants-length : (r : Room) (demands : List ℕ) → length (secondGrants r demands) ≡ roomCords r
-unfolding secondGrants secondDeal
-secondGrants-length r demands = grants-length r (firstUsed r demands) (secondWants r demands)
+unfolding secondGrants secondDeal dealOf dealFrom granted
+secondGrants-length r demands = cords-length r _
+
+pub headroom-length : (r : Room) (demands : List ℕ) → length (headroom r demands) ≡ roomCords r
+unfolding headroom secondDeal dealOf dealFrom headroomOver
+headroom-length r demands = cords-length r _
 
 pub caps-length : (r : Room) (demands : List ℕ) → length (caps r demands) ≡ length (r .servers)
 unfolding caps usable
@@ -126,6 +133,7 @@ pub record Planning (r : Room) (demands : List ℕ) (lengths : Lengths) (answer 
   pub demandCount : length demands ≡ length (r .servers)
   pub grants : Fits (answer .grants) (roomCords r) (lengths .grants)
   pub caps : Fits (answer .caps) (length (r .servers)) (lengths .caps)
+  pub headroom : Fits (answer .headroom) (roomCords r) (lengths .headroom)
 
 -- A list is not too short.
 fits : {written output : List ℕ} {needed entries : ℕ} → written ≡ output → length output ≡ needed → ltb entries needed ≡ false → Fits written needed entries
@@ -140,11 +148,13 @@ planRoom-accepted r demands lengths answer e =
     let large = unless-back _ _ (planOf r demands) (count .1) in
     let grants = unless-back _ _ (planOf r demands) (large .1) in
     let caps = unless-back _ _ (planOf r demands) (grants .1) in
+    let headroom = unless-back _ _ (planOf r demands) (caps .1) in
     record {
       is = is;
       demandCount = not-differs (length demands) (length (r .servers)) (count .0);
       grants = fits (ap (λ (p : Plan). p .grants) is) (secondGrants-length r demands) (grants .0);
       caps = fits (ap (λ (p : Plan). p .caps) is) (caps-length r demands) (caps .0);
+      headroom = fits (ap (λ (p : Plan). p .headroom) is) (headroom-length r demands) (headroom .0);
     }
   where
     not-differs : (a b : ℕ) → not (eqb a b) ≡ false → a ≡ b
@@ -156,14 +166,15 @@ planRoom-accepted r demands lengths answer e =
 
 -- ---- Refusal 9
 
--- The plan of a good room is accepted, or refused by 10 to 13.
+-- The plan of a good room is accepted, or refused by 10 to 14.
 room-other : (r : Room) (demands : List ℕ) (lengths : Lengths) → planNumber (answerOf (planRoom r demands lengths)) ≡ 9 → ⊥
 room-other r demands lengths e =
     unless-other (countDiffers r demands) _ (planOf r demands) 9 (λ q. omega arith)
     (unless-other (demandTooLarge demands) _ (planOf r demands) 9 (λ q. omega arith)
     (unless-other (tooShort Grants (lengths .grants) (roomCords r)) _ (planOf r demands) 9 (λ q. omega arith)
     (unless-other (tooShort Caps (lengths .caps) (length (r .servers))) _ (planOf r demands) 9 (λ q. omega arith)
-    (unless-none (planOf r demands) 8))))
+    (unless-other (tooShort Headroom (lengths .headroom) (roomCords r)) _ (planOf r demands) 9 (λ q. omega arith)
+    (unless-none (planOf r demands) 8)))))
     (sym (ap (λ (o : Outcome). planNumber (answerOf o)) (planRoom-is r demands lengths)) ∙ e)
 
 step-nine : (s : Step Room) (demands : List ℕ) (lengths : Lengths) (n : ℕ) → IsNine (answerOf (planStep s demands lengths)) n ↔ (s ≡ bad (LowsAboveLimit n))

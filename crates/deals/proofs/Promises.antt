@@ -16,29 +16,30 @@ use Rattle.rooms.proofs.Accepted.{Accepted, accepted}
 use Rattle.figures.proofs.Sums.{sum-cong}
 use Rattle.rooms.proofs.Trees.{under}
 use Rattle.figures.specs.Figures.{at}
-use Rattle.rooms.specs.Cords.{cordAt, rankOf}
+use Rattle.rooms.specs.Cords.{cordAt, serverAt, rankOf}
 use Rattle.rooms.specs.Lists.{carriedBy, lowsOf}
 use Rattle.deals.specs.Metrics.{Deal, dealOf}
 use Rattle.deals.specs.Dealing.{granted}
 use Rattle.deals.specs.Wants.{needs}
 use Rattle.deals.specs.SecondDeal.{firstDeal, firstGrants, firstUsable, firstUsed, secondDeal, secondWants, secondGrants, caps}
-use Rattle.deals.specs.Plan.{Plan}
-use Rattle.deals.specs.Headroom.{ceilingsOf, headroom}
+use Rattle.deals.specs.Plan.{Plan, planOf}
+use Rattle.deals.specs.Headroom.{ceilingsOf, rootHeadroom}
 use Rattle.deals.specs.Held.{held}
-use Rattle.deals.specs.Ways.{cordBeneath, sumBeneath, fromRank}
+use Rattle.deals.specs.Ways.{Root, cordBeneath, sumBeneath, fromRank}
 use Rattle.deals.specs.Promises.{AcceptedPlan, AcceptedHasRoom, Answered, AnswerOfBothDeals, Kept, FirstKept, SecondKept, Greatest, FirstGreatest, SecondGreatest, SettledFromRank, RefusalNine, CapsKeepUsable, GrantsKeepUsed, HeadroomWithinLimits, HeadroomWithinCeilings, HeadroomAllLent, HoldsDown, HeldNamed, HeldNone}
-use Rattle.deals.specs.Properties.{CapsInRange, UsableInRange, UsedGranted, SecondWantsInRange, FirstGivesAll, SecondGivesAll, SecondPassesFirst, NearestCut, HeldNearest, fromLevel, Totals, FiguresFit, HeadroomFits}
+use Rattle.deals.specs.Properties.{CapsInRange, UsableInRange, UsedGranted, SecondWantsInRange, FirstGivesAll, SecondGivesAll, SecondPassesFirst, NearestCut, HeldNearest, fromLevel, Totals, StartsLeft, FiguresFit, HeadroomFits}
 use Rattle.deals.proofs.Requests.{WholeWay}
 use Rattle.deals.proofs.Computed.{Startable, granted-most, deal-gives-all}
 use Rattle.deals.proofs.Passed.{passed-first}
 use Rattle.deals.proofs.Totals.{deal-totals}
 use Rattle.deals.proofs.RoomDeals.{levelsOf-at, roomDeal, dealOf-is}
 use Rattle.deals.proofs.BothDeals.{server-facts, cord-facts, room-dealable, grants-way, first-dealable, first-starts, first-startable, second-dealable, second-starts, second-startable, firstWants-lows, secondWants-lows, firstUsed-granted, secondGrants-used, capsUsed-granted, secondWants-wants, caps-least, caps-usable, caps-need, usable-least, usable-need, need-ge}
+use Rattle.deals.proofs.StartsFit.{first-fit, second-fit}
 use Rattle.deals.proofs.LowerRanks.{firstGrants-same, firstUsable-same, secondGrants-same, caps-same}
 use Rattle.deals.proofs.Bounds.{bounded}
 use Rattle.deals.proofs.RoomHeadroom.{headroom-limits, headroom-ceilings, headroom-lent, headroom-figures}
 use Rattle.deals.proofs.RoomHeld.{room-held-named, room-held-none, room-held-nearest}
-use Rattle.deals.proofs.Plans.{plan-nine, plan-good, plan-good-table, planRoom-accepted}
+use Rattle.deals.proofs.Plans.{plan-nine, plan-good, plan-good-table, Planning, planRoom-accepted}
 
 -- The levels from that of a rank on are the ranks from it on.
 rank-level : (rank own : ℕ) → 1 ≤ own → own ≤ highestRank → leb rank own ≡ leb (min (rank - 1) highestRank) (own - 1)
@@ -97,22 +98,26 @@ module _ (p : AcceptedPlan) where
   accepted-room : Accepted (p .room)
   accepted-room = accepted (p .table) (p .room) (p .end) (p .isRoom)
 
-  answered : Answered p
-  answered =
-      let e = plan-good-table (p .table) (p .demands) (p .lengths) (p .room) (p .end) (p .isRoom) in
-      let a = planRoom-accepted (p .room) (p .demands) (p .lengths) (p .answer) (sym e ∙ p .isAnswer) in
-      record {
-        freed = ap (λ (x : Plan). x .freed) (a .is);
-        grants = ap (λ (x : Plan). x .grants) (a .is);
-        caps = ap (λ (x : Plan). x .caps) (a .is);
-        eachCord = a .grants .count;
-        eachServer = a .caps .count;
-      }
+  planning : Planning (p .room) (p .demands) (p .lengths) (p .answer)
+  planning =
+      planRoom-accepted (p .room) (p .demands) (p .lengths) (p .answer)
+      (sym (plan-good-table (p .table) (p .demands) (p .lengths) (p .room) (p .end) (p .isRoom)) ∙ p .isAnswer)
 
-  -- What holds of the second grants of an accepted room holds of the answer's grants.
-  of-grants : (P : Room → List ℕ → List ℕ → Type 0) → ((r : Room) → Accepted r → (demands : List ℕ) → P r demands (secondGrants r demands))
-      → P (p .room) (p .demands) (p .answer .grants)
-  of-grants P h = subst (P (p .room) (p .demands)) (sym (answered .grants)) (h (p .room) accepted-room (p .demands))
+  answered : Answered p
+  answered = record {
+    freed = ap (λ (x : Plan). x .freed) (planning .is);
+    grants = ap (λ (x : Plan). x .grants) (planning .is);
+    caps = ap (λ (x : Plan). x .caps) (planning .is);
+    headroom = ap (λ (x : Plan). x .headroom) (planning .is);
+    eachCord = planning .grants .count;
+    eachServer = planning .caps .count;
+    eachHeadroom = planning .headroom .count;
+  }
+
+  -- What holds of the plan of every accepted room holds of the answer.
+  of-plan : (P : Room → List ℕ → Plan → Type 0) → ((r : Room) → Accepted r → (demands : List ℕ) → P r demands (planOf r demands))
+      → P (p .room) (p .demands) (p .answer)
+  of-plan P h = subst (P (p .room) (p .demands)) (sym (planning .is)) (h (p .room) accepted-room (p .demands))
 
 pub accepted-has-room : AcceptedHasRoom
 accepted-has-room = plan-good
@@ -131,7 +136,7 @@ first-kept p =
 pub second-kept : SecondKept
 unfolding secondGrants secondDeal
 second-kept p =
-    of-grants p (λ r demands. Kept r (secondWants r demands)) (λ r ok demands. kept r ok (firstUsed r demands) _ (secondWants-lows r ok demands) (second-starts r ok demands))
+    of-plan p (λ r demands plan. Kept r (secondWants r demands) (plan .grants)) (λ r ok demands. kept r ok (firstUsed r demands) _ (secondWants-lows r ok demands) (second-starts r ok demands))
 
 -- ---- 2
 
@@ -144,7 +149,7 @@ first-greatest p =
 pub second-greatest : SecondGreatest
 unfolding secondGrants secondDeal
 second-greatest p =
-    of-grants p (λ r demands. Greatest r (secondWants r demands)) (λ r ok demands. greatest r ok (firstUsed r demands) _ (secondWants-lows r ok demands) (second-starts r ok demands))
+    of-plan p (λ r demands plan. Greatest r (secondWants r demands) (plan .grants)) (λ r ok demands. greatest r ok (firstUsed r demands) _ (secondWants-lows r ok demands) (second-starts r ok demands))
 
 -- ---- 3
 
@@ -178,47 +183,47 @@ refusal-nine = plan-nine
 -- ---- 5
 
 pub caps-keep-usable : CapsKeepUsable
-caps-keep-usable p v l =
-    le-trans (caps-usable (p .room) (accepted-room p) (p .demands) v l) (le-of-eq (ap (λ (z : List ℕ). at z v) (sym (answered p .caps))))
+caps-keep-usable p =
+    of-plan p (λ r demands plan. (v : ℕ) → v < length (r .servers) → at (firstUsable r demands) v ≤ at (plan .caps) v) caps-usable
 
 pub grants-keep-used : GrantsKeepUsed
-grants-keep-used p c l =
-    le-trans (secondGrants-used (p .room) (accepted-room p) (p .demands) c l) (le-of-eq (ap (λ (z : List ℕ). at z c) (sym (answered p .grants))))
+grants-keep-used p =
+    of-plan p (λ r demands plan. (c : ℕ) → c < roomCords r → at (firstUsed r demands) c ≤ at (plan .grants) c) secondGrants-used
 
 -- ---- 6
 
 pub headroom-within-limits : HeadroomWithinLimits
 headroom-within-limits p =
-    of-grants p (λ r demands grants. (n : ℕ) → n < length (r .nodes) → sumBeneath r n (λ c. at grants c + at (headroom r demands) c) ≤ limit (nodeAt r n))
-    headroom-limits
+    of-plan p (λ r demands plan.
+    (n : ℕ) → n < length (r .nodes) → sumBeneath r n (λ c. at (plan .grants) c + at (plan .headroom) c) ≤ limit (nodeAt r n)) headroom-limits
 
 pub headroom-within-ceilings : HeadroomWithinCeilings
 headroom-within-ceilings p =
-    of-grants p (λ r demands grants. (c : ℕ) → c < roomCords r → at grants c + at (headroom r demands) c ≤ at (ceilingsOf r) c) headroom-ceilings
+    of-plan p (λ r demands plan. (c : ℕ) → c < roomCords r → at (plan .grants) c + at (plan .headroom) c ≤ at (ceilingsOf r) c) headroom-ceilings
 
 pub headroom-all-lent : HeadroomAllLent
-headroom-all-lent p = headroom-lent (p .room) (accepted-room p) (p .demands)
+headroom-all-lent p =
+    of-plan p (λ r demands plan. (root : ℕ) → Root r root → sumBeneath r root (at (plan .headroom)) ≡ rootHeadroom r demands root) headroom-lent
 
 -- ---- 7
 
 pub held-named : HeldNamed
-held-named p c l =
-    of-grants p (λ r demands grants. c < roomCords r → at grants c < at (secondWants r demands) c → HoldsDown r grants c (at (held r demands) c))
-    (λ r ok demands. room-held-named r ok demands c) l
+held-named p =
+    of-plan p (λ r demands plan.
+    (c : ℕ) → c < roomCords r → at (plan .grants) c < at (secondWants r demands) c → HoldsDown r (plan .grants) c (at (held r demands) c)) room-held-named
 
 pub held-none : HeldNone
-held-none p c l =
-    of-grants p (λ r demands grants. c < roomCords r → at grants c ≡ at (secondWants r demands) c → at (held r demands) c ≡ 0)
-    (λ r ok demands. room-held-none r ok demands c) l
+held-none p =
+    of-plan p (λ r demands plan.
+    (c : ℕ) → c < roomCords r → at (plan .grants) c ≡ at (secondWants r demands) c → at (held r demands) c ≡ 0) room-held-none
 
 -- ---- What else is proved of every plan
 
 pub caps-in-range : CapsInRange
-caps-in-range p v l =
-    let e : at (p .answer .caps) v ≡ at (caps (p .room) (p .demands)) v = ap (λ (z : List ℕ). at z v) (answered p .caps) in (
-      le-trans (caps-least (p .room) (accepted-room p) (p .demands) v l) (le-of-eq (sym e)),
-      le-trans (le-of-eq e) (caps-need (p .room) (accepted-room p) (p .demands) v l),
-    )
+caps-in-range p =
+    of-plan p (λ r demands plan.
+    (v : ℕ) → v < length (r .servers) → (serverAt r v .least ≤ at (plan .caps) v) × (at (plan .caps) v ≤ at (needs r demands) v))
+    (λ r ok demands v l. (caps-least r ok demands v l, caps-need r ok demands v l))
 
 pub usable-in-range : UsableInRange
 unfolding firstUsable
@@ -230,13 +235,11 @@ usable-in-range p v l =
     )
 
 pub used-granted : UsedGranted
-used-granted p c l =
-    let e : at (carriedBy (p .room) (p .answer .caps)) c ≡ at (carriedBy (p .room) (caps (p .room) (p .demands))) c
-    = ap (λ (z : List ℕ). at (carriedBy (p .room) z) c) (answered p .caps) in
-    let d : at (p .answer .grants) c ≡ at (secondGrants (p .room) (p .demands)) c = ap (λ (z : List ℕ). at z c) (answered p .grants) in (
-      firstUsed-granted (p .room) (accepted-room p) (p .demands) c l,
-      le-trans (le-of-eq e) (le-trans (capsUsed-granted (p .room) (accepted-room p) (p .demands) c l) (le-of-eq (sym d))),
-    )
+used-granted p =
+    of-plan p (λ r demands plan.
+    (c : ℕ) → c < roomCords r
+    → (at (firstUsed r demands) c ≤ at (firstGrants r demands) c) × (at (carriedBy r (plan .caps)) c ≤ at (plan .grants) c))
+    (λ r ok demands c l. (firstUsed-granted r ok demands c l, capsUsed-granted r ok demands c l))
 
 pub second-wants-in-range : SecondWantsInRange
 second-wants-in-range p c l =
@@ -252,15 +255,20 @@ pub second-passes-first : SecondPassesFirst
 second-passes-first p = passed-first _ (second-dealable (p .room) (accepted-room p) (p .demands)) (second-startable (p .room) (accepted-room p) (p .demands))
 
 pub held-nearest : HeldNearest
-held-nearest p c l =
-    of-grants p (λ r demands grants.
-    c < roomCords r → at grants c < at (secondWants r demands) c → NearestCut (secondDeal r demands) c (at (held r demands) c - 1))
-    (λ r ok demands. room-held-nearest r ok demands c) l
+held-nearest p =
+    of-plan p (λ r demands plan.
+    (c : ℕ) → c < roomCords r → at (plan .grants) c < at (secondWants r demands) c → NearestCut (secondDeal r demands) c (at (held r demands) c - 1))
+    room-held-nearest
 
 pub totals : Totals
 totals table r end e demands =
     let ok = accepted table r end e in
     (deal-totals _ (first-dealable r ok demands), deal-totals _ (second-dealable r ok demands))
+
+pub starts-left : StartsLeft
+starts-left table r end e demands =
+    let ok = accepted table r end e in
+    (first-fit r ok demands, second-fit r ok demands)
 
 pub figures-fit : FiguresFit
 figures-fit table r end e demands = bounded r (accepted table r end e) demands

@@ -201,7 +201,7 @@ module _ (d : Deal) (ok : Dealable d) where
     pub pcapmin-asked : (n : ℕ) → n < nodes → (j : ℕ) → j < levels → p n j ≤ asked d r n j
     pcapmin-asked n l = pcapmin-asked-by n l (λ m lm q. pcapmin-request m lm)
 
-    fits : (n : ℕ) → n < nodes → (k j : ℕ) → j + k ≡ levels → sum j (p n) + up k j (r n) ≤ limit n
+    pub fits : (n : ℕ) → n < nodes → (k j : ℕ) → j + k ≡ levels → sum j (p n) + up k j (r n) ≤ limit n
     fits n l = row-fits levels (limit n) (p n) (asked d r n) (r n) (me .request n l) (pcapmin-asked n l) (pcapmin-fits n l)
 
     pub requests-fit : (n : ℕ) → n < nodes → sum levels (r n) ≤ limit n

@@ -1,7 +1,7 @@
 -- The headroom of a room whose table is accepted: no second want is above its cord's ceiling, so that what holds of headroom over every
 -- such deal holds of the room's.
-use mathlib.Core.Path.{_≡_, sym}
-use mathlib.Core.List.{List}
+use mathlib.Core.Path.{_≡_, refl, sym}
+use mathlib.Core.List.{List, [], _∷_}
 use Prim.Native.Nat.{ℕ, _+_, _-_, _≤_, _<_}
 use native.Mathlib.Nat.{le-trans, le-of-eq}
 use lib.ListN.{length}
@@ -20,9 +20,28 @@ use Rattle.deals.specs.SecondDeal.{secondDeal, secondWants, secondGrants
 use Rattle.deals.specs.Headroom.{ceilingsOf, nodeCeiling, requestsAt, headroomOver, headroom, rootHeadroom}
 use Rattle.deals.specs.Ways.{Root, sumBeneath}
 use Rattle.deals.specs.Properties.{HeadroomBounded}
-use Rattle.deals.proofs.BothDeals.{server-facts, cord-facts, carriedBy-at, carriedBy-mono, need-le, secondWants-wants, second-starts, secondRoomDeal, secondRoomDeal-dealable, of-secondRoomDeal}
+use Rattle.deals.proofs.BothDeals.{server-facts, cord-facts, carriedBy-at, carriedBy-length, carriedBy-mono, need-le, secondWants-wants, second-starts, secondRoomDeal, secondRoomDeal-dealable, of-secondRoomDeal}
 use Rattle.deals.proofs.Bounds.{limit-most}
 use Rattle.deals.proofs.Headroom.{root-lends, within-limit, within-ceiling, headroom-bounded}
+
+-- ---- Worked by hand
+
+-- Two roots, of 50 W and 20 W, and a server of up to 100 W with half of its load on each.
+abbrev roomF : Room
+roomF = record {
+  scale = 1000;
+  nodes = record { parent = 0; rating = 50; percent = 100 } ∷ record { parent = 0; rating = 20; percent = 100 } ∷ [];
+  servers =
+      record { rank = 1; least = 0; greatest = 100; cords = record { node = 1; share = 500 } ∷ record { node = 2; share = 500 } ∷ [] } ∷ [];
+}
+
+-- With demand 100 the second root holds it to 40 W, so that the first cord's want falls from 50 W to 20, and its root has 30 to lend; by
+-- the first deal's Requests it would have none.
+by-hand : headroom roomF (100 ∷ []) ≡ 30 ∷ 0 ∷ []
+unfolding headroom
+by-hand = refl
+
+-- ---- Every room
 
 module _ (r : Room) (ok : Accepted r) (demands : List ℕ) where
   -- The greatests of the servers: what the ceilings are carried of.
@@ -32,7 +51,11 @@ module _ (r : Room) (ok : Accepted r) (demands : List ℕ) where
   greatests-at : (v : ℕ) → v < length (r .servers) → at greatests v ≡ serverAt r v .greatest
   greatests-at v l = figures-at (length (r .servers)) v _ l
 
-  ceilings-most : (c : ℕ) → c < roomCords r → at (ceilingsOf r) c ≤ mostWatts
+  pub ceilings-count : length (ceilingsOf r) ≡ roomCords r
+  unfolding ceilingsOf
+  ceilings-count = carriedBy-length r greatests
+
+  pub ceilings-most : (c : ℕ) → c < roomCords r → at (ceilingsOf r) c ≤ mostWatts
   unfolding ceilingsOf
   ceilings-most c l =
       let v = cord-facts r ok c l .0 in
@@ -40,7 +63,7 @@ module _ (r : Room) (ok : Accepted r) (demands : List ℕ) where
       (le-trans (carried-most (r .scale) (cordAt r c .share) (at greatests (cordAt r c .server)) (ok .scaled .0) (cord-facts r ok c l .3))
       (le-trans (le-of-eq (greatests-at (cordAt r c .server) v)) (server-facts r ok (cordAt r c .server) v .greatestTo)))
 
-  wants-ceilings : (c : ℕ) → c < roomCords r → at (secondWants r demands) c ≤ at (ceilingsOf r) c
+  pub wants-ceilings : (c : ℕ) → c < roomCords r → at (secondWants r demands) c ≤ at (ceilingsOf r) c
   unfolding firstWants ceilingsOf
   wants-ceilings c l =
       le-trans (secondWants-wants r ok demands c l)

@@ -9,9 +9,9 @@ use Rattle.figures.proofs.Sums.{up}
 use Rattle.figures.proofs.Lists.{total-drop, sumOf-take}
 use Rattle.rooms.proofs.Trees.{kids, own, kids-cong}
 use Rattle.deals.specs.Metrics.{Deal, metrics}
-use Rattle.deals.specs.Properties.{requestTotal, pcapminBelow, fromLevel, TotalsOf}
+use Rattle.deals.specs.Properties.{requestTotal, pcapminBelow, startsBelow, fromLevel, TotalsOf}
 use Rattle.deals.proofs.Requests.{Dealable, request-total}
-use Rattle.deals.proofs.Computed.{pcapmins-levels, requests-levels, pcapmin, request, measured}
+use Rattle.deals.proofs.Computed.{pcapmins-levels, requests-levels, starts-levels, pcapmin, request, startsOf, measured}
 
 module _ (d : Deal) where
   pub requestTotal-is : (n : ℕ) → n < d .nodes → (k j : ℕ) → j + k ≡ d .levels → requestTotal d n j ≡ up k j (request d n)
@@ -21,6 +21,10 @@ module _ (d : Deal) where
   pub pcapminBelow-is : (n : ℕ) → n < d .nodes → (j : ℕ) → j ≤ d .levels → pcapminBelow d n j ≡ sum j (pcapmin d n)
   unfolding pcapmin
   pcapminBelow-is n l j h = sumOf-take (getD (metrics d .pcapmins) n []) j (omega (arith, pcapmins-levels d n l))
+
+  pub startsBelow-is : (n : ℕ) → n < d .nodes → (j : ℕ) → j ≤ d .levels → startsBelow d n j ≡ sum j (startsOf d n)
+  unfolding startsOf
+  startsBelow-is n l j h = sumOf-take (getD (metrics d .starts) n []) j (omega (arith, starts-levels d n l))
 
   pub deal-totals : Dealable d → TotalsOf d
   unfolding kids own

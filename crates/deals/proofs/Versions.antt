@@ -127,7 +127,7 @@ module _ (r : Room) (some : 0 < r .scale) where
     caps-tenfold = usable-tenfold (needs finer demands) (secondGrants finer demands) ∙ ap₂ (usable r) needs-tenfold second-grants-tenfold
 
     -- Headroom too: the ceilings are what cords carry of the greatest.
-    pub headroom-tenfold : headroom finer demands ≡ headroom r demands
+    headroom-tenfold : headroom finer demands ≡ headroom r demands
     unfolding headroom ceilingsOf
     headroom-tenfold =
         ap₂ (λ (d : Deal) (l : List ℕ). headroomOver d (at l)) second-deal-tenfold
@@ -135,7 +135,7 @@ module _ (r : Room) (some : 0 < r .scale) where
         ∙ ap (carriedBy r) (figures-same (servers-tenfold r) (λ v. ap (λ (s : Server). s .greatest) (serverAt-tenfold r v))))
 
     planOf-tenfold : planOf finer demands ≡ planOf r demands
-    planOf-tenfold = λ i. record { freed = freed-tenfold i; grants = second-grants-tenfold i; caps = caps-tenfold i }
+    planOf-tenfold = λ i. record { freed = freed-tenfold i; grants = second-grants-tenfold i; caps = caps-tenfold i; headroom = headroom-tenfold i }
 
     reasons-tenfold : (lengths : Lengths) → reasons finer demands lengths ≡ reasons r demands lengths
     reasons-tenfold lengths = rw (servers-tenfold r, roomCords-tenfold r)

@@ -7,20 +7,19 @@ use Rattle.rooms.specs.Part.{Step, good, bad, follow, word, ensure, end, many}
 use Rattle.figures.specs.Figures.{total}
 use Rattle.rooms.specs.Table.{Room, formOf, percent, node, cord, range, load, server, table}
 use Rattle.rooms.specs.Limits.{beneath, serverLows, lows, firstNode, overloaded, checked}
-use Rattle.deals.specs.Headroom.{headroom}
 use Rattle.deals.specs.Held.{held}
 use Rattle.deals.specs.Plan.{Outcome, accepted, refused, plan}
 use Rattle.deals.specs.declared.Lengths.{Lengths}
-use Rattle.deals.specs.declared.PlanList.the-variants.{Grants, Caps}
+use Rattle.deals.specs.declared.PlanList.the-variants.{Grants, Caps, Headroom}
 use Rattle.deals.specs.declared.PlanRefusal.the-variants.{DemandCount, DemandTooLarge, ListTooShort}
 
--- Lists of so many grants and caps.
-abbrev lengths : ℕ → ℕ → Lengths
-lengths grants caps = record { grants = grants; caps = caps }
+-- Lists of so many grants, caps and words of headroom.
+abbrev lengths : ℕ → ℕ → ℕ → Lengths
+lengths grants caps headroom = record { grants = grants; caps = caps; headroom = headroom }
 
--- A plan of these freed watts, grants and caps.
-abbrev planned : ℕ → List ℕ → List ℕ → Outcome
-planned freed grants caps = accepted (record { freed = freed; grants = grants; caps = caps })
+-- A plan of these freed watts, grants, caps and headroom.
+abbrev planned : ℕ → List ℕ → List ℕ → List ℕ → Outcome
+planned freed grants caps headroom = accepted (record { freed = freed; grants = grants; caps = caps; headroom = headroom })
 
 -- Room H, by the rating of its second node.
 abbrev tableHWith : ℕ → List ℕ
@@ -29,16 +28,17 @@ tableHWith rating = 1 ∷ 2 ∷ 0 ∷ 150 ∷ 0 ∷ rating ∷ 2 ∷ 1 ∷ 100 �
 abbrev tableH : List ℕ
 tableH = tableHWith 500
 
--- Its plan whole, and room H turned back by 10, 11, 12 and 13.
-room-h : (plan tableH (400 ∷ 400 ∷ []) (lengths 3 2) ≡ planned 13 (120 ∷ 120 ∷ 280 ∷ []) (240 ∷ 280 ∷ []))
-    × (plan tableH (400 ∷ []) (lengths 0 0) ≡ refused (DemandCount 2))
-    × (plan tableH (400 ∷ 16777216 ∷ []) (lengths 0 0) ≡ refused (DemandTooLarge 1))
-    × (plan tableH (400 ∷ 400 ∷ []) (lengths 2 0) ≡ refused (ListTooShort Grants 3))
-    × (plan tableH (400 ∷ 400 ∷ []) (lengths 3 1) ≡ refused (ListTooShort Caps 2))
+-- Its plan whole, and room H turned back by 10 to 14.
+room-h : (plan tableH (400 ∷ 400 ∷ []) (lengths 3 2 3) ≡ planned 13 (120 ∷ 120 ∷ 280 ∷ []) (240 ∷ 280 ∷ []) (0 ∷ 0 ∷ 0 ∷ []))
+    × (plan tableH (400 ∷ []) (lengths 0 0 0) ≡ refused (DemandCount 2))
+    × (plan tableH (400 ∷ 16777216 ∷ []) (lengths 0 0 0) ≡ refused (DemandTooLarge 1))
+    × (plan tableH (400 ∷ 400 ∷ []) (lengths 2 0 0) ≡ refused (ListTooShort Grants 3))
+    × (plan tableH (400 ∷ 400 ∷ []) (lengths 3 1 0) ≡ refused (ListTooShort Caps 2))
+    × (plan tableH (400 ∷ 400 ∷ []) (lengths 3 2 2) ≡ refused (ListTooShort Headroom 3))
 unfolding plan
     follow word ensure end many total formOf percent node cord range load server table
     beneath serverLows lows firstNode overloaded
-room-h = (refl, refl, refl, refl, refl)
+room-h = (refl, refl, refl, refl, refl, refl)
 
 -- A root with 150 W over a node with 100 W and a cord. What hangs on the node wants 1,000 W, the cord wants 100; no cord has a low.
 abbrev tableN : List ℕ
@@ -64,7 +64,8 @@ tableP =
     ∷ 1 ∷ 0 ∷ 60 ∷ 1 ∷ 1 ∷ 1000 ∷ []
 
 -- The first grants are 20, 22, 46 and 52. The used watts, 2 W less, are passed on through the node before those 2 W are split.
-through-nodes : plan tableP (100 ∷ 100 ∷ 60 ∷ []) (lengths 4 3) ≡ planned 2 (20 ∷ 20 ∷ 47 ∷ 53 ∷ []) (40 ∷ 47 ∷ 53 ∷ [])
+-- (No headroom: both roots ask for all of their limits.)
+through-nodes : plan tableP (100 ∷ 100 ∷ 60 ∷ []) (lengths 4 3 4) ≡ planned 2 (20 ∷ 20 ∷ 47 ∷ 53 ∷ []) (40 ∷ 47 ∷ 53 ∷ []) (0 ∷ 0 ∷ 0 ∷ 0 ∷ [])
 unfolding plan
     follow word ensure end many total formOf percent node cord range load server table
     beneath serverLows lows firstNode overloaded
@@ -72,9 +73,10 @@ through-nodes = refl
 
 -- What programs that nearly get there get wrong: weights that are excesses; child nodes before cords; and a rank that counts
 -- across breakers.
-near-misses : (plan tableN (1000 ∷ 100 ∷ []) (lengths 2 2) ≡ planned 0 (75 ∷ 75 ∷ []) (75 ∷ 75 ∷ []))
-    × (plan tableO (1 ∷ 1 ∷ []) (lengths 2 2) ≡ planned 0 (0 ∷ 1 ∷ []) (0 ∷ 1 ∷ []))
-    × (plan tableS (430 ∷ 430 ∷ 430 ∷ 430 ∷ []) (lengths 4 4) ≡ planned 0 (430 ∷ 270 ∷ 270 ∷ 270 ∷ []) (430 ∷ 270 ∷ 270 ∷ 270 ∷ []))
+near-misses : (plan tableN (1000 ∷ 100 ∷ []) (lengths 2 2 2) ≡ planned 0 (75 ∷ 75 ∷ []) (75 ∷ 75 ∷ []) (0 ∷ 0 ∷ []))
+    × (plan tableO (1 ∷ 1 ∷ []) (lengths 2 2 2) ≡ planned 0 (0 ∷ 1 ∷ []) (0 ∷ 1 ∷ []) (0 ∷ 0 ∷ []))
+    × (plan tableS (430 ∷ 430 ∷ 430 ∷ 430 ∷ []) (lengths 4 4 4)
+    ≡ planned 0 (430 ∷ 270 ∷ 270 ∷ 270 ∷ []) (430 ∷ 270 ∷ 270 ∷ 270 ∷ []) (0 ∷ 0 ∷ 0 ∷ 0 ∷ []))
 unfolding plan
     follow word ensure end many total formOf percent node cord range load server table
     beneath serverLows lows firstNode overloaded
@@ -82,23 +84,20 @@ near-misses = (refl, refl, refl)
 
 -- ---- Headroom
 
--- The headroom of a table's room.
-abbrev lentBy : Step Room → List ℕ → List ℕ
-lentBy (good r end) demands = headroom r demands
-lentBy (bad refusal) demands = []
-
--- None where all limits are granted; what is left, split by ceilings less Requests; by the second wants, of which cord 2's is less;
--- through the nodes of room S; and none to its first node where that is granted its whole limit.
-lends : (lentBy (checked tableH 0) (400 ∷ 400 ∷ []) ≡ 0 ∷ 0 ∷ 0 ∷ [])
-    × (lentBy (checked tableH 0) (100 ∷ 100 ∷ []) ≡ 70 ∷ 83 ∷ 167 ∷ [])
-    × (lentBy (checked (tableHWith 1000) 0) (400 ∷ 400 ∷ []) ≡ 0 ∷ 80 ∷ 0 ∷ [])
-    × (lentBy (checked tableS 0) (430 ∷ 430 ∷ 430 ∷ 430 ∷ []) ≡ 0 ∷ 0 ∷ 0 ∷ 0 ∷ [])
-    × (lentBy (checked (tableSWith 1750) 0) (430 ∷ 270 ∷ 300 ∷ 330 ∷ []) ≡ 4 ∷ 16 ∷ 27 ∷ 23 ∷ [])
-    × (lentBy (checked (tableSWith 2000) 0) (430 ∷ 430 ∷ 300 ∷ 330 ∷ []) ≡ 0 ∷ 0 ∷ 64 ∷ 56 ∷ [])
-unfolding checked headroom
+-- (None in the rooms above, where each root asks for all of its limit.) What is left, split by ceilings less Requests; by the second
+-- wants, of which cord 2's is less; where the first deal's Requests would leave node 1 none; through the nodes of room S; and none to its
+-- first node where that is granted its whole limit.
+lends : (plan tableH (100 ∷ 100 ∷ []) (lengths 3 2 3) ≡ planned 0 (50 ∷ 50 ∷ 100 ∷ []) (100 ∷ 100 ∷ []) (70 ∷ 83 ∷ 167 ∷ []))
+    × (plan (tableHWith 1000) (400 ∷ 400 ∷ []) (lengths 3 2 3) ≡ planned 80 (120 ∷ 120 ∷ 400 ∷ []) (240 ∷ 400 ∷ []) (0 ∷ 80 ∷ 0 ∷ []))
+    × (plan (tableHWith 188) (400 ∷ 400 ∷ []) (lengths 3 2 3) ≡ planned 70 (50 ∷ 50 ∷ 100 ∷ []) (100 ∷ 100 ∷ []) (70 ∷ 0 ∷ 0 ∷ []))
+    × (plan (tableSWith 1750) (430 ∷ 270 ∷ 300 ∷ 330 ∷ []) (lengths 4 4 4)
+    ≡ planned 0 (430 ∷ 270 ∷ 300 ∷ 330 ∷ []) (430 ∷ 270 ∷ 300 ∷ 330 ∷ []) (4 ∷ 16 ∷ 27 ∷ 23 ∷ []))
+    × (plan (tableSWith 2000) (430 ∷ 430 ∷ 300 ∷ 330 ∷ []) (lengths 4 4 4)
+    ≡ planned 0 (430 ∷ 320 ∷ 300 ∷ 330 ∷ []) (430 ∷ 320 ∷ 300 ∷ 330 ∷ []) (0 ∷ 0 ∷ 64 ∷ 56 ∷ []))
+unfolding plan
     follow word ensure end many total formOf percent node cord range load server table
     beneath serverLows lows firstNode overloaded
-lends = (refl, refl, refl, refl, refl, refl)
+lends = (refl, refl, refl, refl, refl)
 
 -- ---- Held cords
 
@@ -122,7 +121,7 @@ holds : (heldBy (checked tableH 0) (400 ∷ 400 ∷ []) ≡ 1 ∷ 0 ∷ 2 ∷ []
     × (heldBy (checked tableS 0) (430 ∷ 430 ∷ 430 ∷ 430 ∷ []) ≡ 0 ∷ 1 ∷ 1 ∷ 1 ∷ [])
     × (heldBy (checked (tableSWith 1625) 0) (430 ∷ 430 ∷ 430 ∷ 430 ∷ []) ≡ 0 ∷ 1 ∷ 1 ∷ 1 ∷ [])
     × (heldBy (checked (tableSWith 2000) 0) (430 ∷ 430 ∷ 430 ∷ 430 ∷ []) ≡ 0 ∷ 2 ∷ 3 ∷ 3 ∷ [])
-    × (plan tableB (60 ∷ 10 ∷ 80 ∷ 5 ∷ []) (lengths 4 4) ≡ planned 0 (45 ∷ 5 ∷ 45 ∷ 5 ∷ []) (45 ∷ 5 ∷ 45 ∷ 5 ∷ []))
+    × (plan tableB (60 ∷ 10 ∷ 80 ∷ 5 ∷ []) (lengths 4 4 4) ≡ planned 0 (45 ∷ 5 ∷ 45 ∷ 5 ∷ []) (45 ∷ 5 ∷ 45 ∷ 5 ∷ []) (0 ∷ 0 ∷ 0 ∷ 0 ∷ []))
     × (heldBy (checked tableB 0) (60 ∷ 10 ∷ 80 ∷ 5 ∷ []) ≡ 2 ∷ 1 ∷ 1 ∷ 0 ∷ [])
 unfolding checked held plan
     follow word ensure end many total formOf percent node cord range load server table

@@ -5,11 +5,10 @@ pub mod Wants
 -- One deal: metrics and dealing.
 pub mod Metrics
 pub mod Dealing
--- Both deals, and the whole plan with its refusals.
+-- Both deals, the headroom over the second (request A.1), and the whole plan with its refusals.
 pub mod SecondDeal
-pub mod Plan
--- Headroom over the second deal (request A.1). No operation gives it yet.
 pub mod Headroom
+pub mod Plan
 -- The nodes that hold cords down (request A.5). No operation gives them yet.
 pub mod Held
 -- What is promised (demand 3): trees and other ways of dealing them, and the statements.

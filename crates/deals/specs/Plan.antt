@@ -11,8 +11,9 @@ use Rattle.rooms.specs.Table.{Room, mostWatts, mostServers, mostCords, roomCord
 use Rattle.rooms.specs.Limits.{checked}
 use Rattle.rooms.specs.Outcome.{refusalNumber, refusalPlace}
 use Rattle.deals.specs.SecondDeal.{freed, secondGrants, caps}
+use Rattle.deals.specs.Headroom.{headroom}
 use Rattle.deals.specs.declared.PlanList.{PlanList}
-use Rattle.deals.specs.declared.PlanList.the-variants.{Grants, Caps}
+use Rattle.deals.specs.declared.PlanList.the-variants.{Grants, Caps, Headroom}
 use Rattle.deals.specs.declared.Lengths.{Lengths}
 use Rattle.deals.specs.declared.PlanRefusal.{PlanRefusal}
 use Rattle.deals.specs.declared.PlanRefusal.the-variants.{Table, DemandCount, DemandTooLarge, ListTooShort}
@@ -21,15 +22,16 @@ use Rattle.deals.specs.declared.Planned.the-variants.{Accepted, Refused}
 
 -- ---- Plans
 
--- A plan: the freed watts, a grant for each cord and a cap for each server.
+-- A plan: the freed watts, a grant for each cord, a cap for each server, and the headroom of each cord.
 pub record Plan : Type 0 where
   pub freed : ℕ
   pub grants : List ℕ
   pub caps : List ℕ
+  pub headroom : List ℕ
 
 -- The plan of a room with its servers' demands.
 abbrev pub planOf : Room → List ℕ → Plan
-planOf r demands = record { freed = freed r demands; grants = secondGrants r demands; caps = caps r demands }
+planOf r demands = record { freed = freed r demands; grants = secondGrants r demands; caps = caps r demands; headroom = headroom r demands }
 
 -- What Plan comes to: a plan, or a refusal.
 pub data Outcome : Type 0 where
@@ -59,13 +61,14 @@ demandTooLarge demands = record { holds = ltb (firstTooLarge demands) (length de
 abbrev pub tooShort : PlanList → ℕ → ℕ → Reason
 tooShort list entries needed = record { holds = ltb entries needed; refusal = ListTooShort list needed }
 
--- The reasons to refuse the plan of a good room, in their order (10, 11, 12, 13).
+-- The reasons to refuse the plan of a good room, in their order (10 to 14).
 abbrev pub reasons : Room → List ℕ → Lengths → List Reason
 reasons r demands lengths =
     countDiffers r demands
     ∷ demandTooLarge demands
     ∷ tooShort Grants (lengths .grants) (roomCords r)
     ∷ tooShort Caps (lengths .caps) (length (r .servers))
+    ∷ tooShort Headroom (lengths .headroom) (roomCords r)
     ∷ []
 
 -- The first reason that holds refuses; where none does, the plan is accepted.
@@ -77,7 +80,7 @@ unless (reason ∷ rest) plan = cond (reason .holds) (refused (reason .refusal))
 
 -- The plan of a good room, in lists of given lengths.
 unfoldable pub planRoom : Room → List ℕ → Lengths → Outcome
-unfolding unless firstNotBelow freed secondGrants caps
+unfolding unless firstNotBelow freed secondGrants caps headroom
 planRoom r demands lengths = unless (reasons r demands lengths) (planOf r demands)
 
 -- The plan of what the table's check gives: its refusals (4 to 9) stand.
@@ -91,13 +94,13 @@ unfoldable pub plan : List ℕ → List ℕ → Lengths → Outcome
 unfolding planStep checked
 plan table demands lengths = planStep (checked table 0) demands lengths
 
--- The lengths of a grant list and a cap list.
-abbrev pub lent : (grants caps : List ℕ) → Lengths
-lent grants caps = record { grants = length grants; caps = length caps }
+-- The lengths of the lists that are lent.
+abbrev pub lent : (grants caps headroom : List ℕ) → Lengths
+lent grants caps headroom = record { grants = length grants; caps = length caps; headroom = length headroom }
 
 -- The lengths of lists that take the plan of every room.
 abbrev pub mostLent : Lengths
-mostLent = record { grants = mostCords; caps = mostServers }
+mostLent = record { grants = mostCords; caps = mostServers; headroom = mostCords }
 
 -- ---- What the caller sees
 
@@ -117,6 +120,7 @@ after output (refused refusal) list = list
 abbrev pub planListNumber : PlanList → ℕ
 planListNumber Grants = 12
 planListNumber Caps = 13
+planListNumber Headroom = 14
 
 -- A refusal's number.
 abbrev pub planRefusalNumber : PlanRefusal → ℕ

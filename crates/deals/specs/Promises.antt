@@ -39,13 +39,15 @@ AcceptedHasRoom =
     (table demands : List ℕ) (lengths : Lengths) (answer : Plan)
     → plan table demands lengths ≡ accepted answer → Good (checked table 0)
 
--- The answer is that of the two deals: a grant for each cord, and a cap for each server.
+-- The answer is that of the two deals: a grant for each cord, a cap for each server, and headroom for each cord.
 pub record Answered (p : AcceptedPlan) : Type 0 where
   pub freed : p .answer .freed ≡ freed (p .room) (p .demands)
   pub grants : p .answer .grants ≡ secondGrants (p .room) (p .demands)
   pub caps : p .answer .caps ≡ caps (p .room) (p .demands)
+  pub headroom : p .answer .headroom ≡ headroom (p .room) (p .demands)
   pub eachCord : length (p .answer .grants) ≡ roomCords (p .room)
   pub eachServer : length (p .answer .caps) ≡ length (p .room .servers)
+  pub eachHeadroom : length (p .answer .headroom) ≡ roomCords (p .room)
 
 abbrev pub AnswerOfBothDeals : Type 0
 AnswerOfBothDeals = (p : AcceptedPlan) → Answered p
@@ -135,19 +137,19 @@ GrantsKeepUsed =
 abbrev pub HeadroomWithinLimits : Type 0
 HeadroomWithinLimits =
     (p : AcceptedPlan) (n : ℕ) → n < length (p .room .nodes)
-    → sumBeneath (p .room) n (λ c. at (p .answer .grants) c + at (headroom (p .room) (p .demands)) c) ≤ limit (nodeAt (p .room) n)
+    → sumBeneath (p .room) n (λ c. at (p .answer .grants) c + at (p .answer .headroom) c) ≤ limit (nodeAt (p .room) n)
 
 -- No cord's grant and headroom pass its ceiling.
 abbrev pub HeadroomWithinCeilings : Type 0
 HeadroomWithinCeilings =
     (p : AcceptedPlan) (c : ℕ) → c < roomCords (p .room)
-    → at (p .answer .grants) c + at (headroom (p .room) (p .demands)) c ≤ at (ceilingsOf (p .room)) c
+    → at (p .answer .grants) c + at (p .answer .headroom) c ≤ at (ceilingsOf (p .room)) c
 
 -- All of a root's headroom is lent: the cords of its tree have it together.
 abbrev pub HeadroomAllLent : Type 0
 HeadroomAllLent =
     (p : AcceptedPlan) (root : ℕ) → Root (p .room) root
-    → sumBeneath (p .room) root (at (headroom (p .room) (p .demands))) ≡ rootHeadroom (p .room) (p .demands) root
+    → sumBeneath (p .room) root (at (p .answer .headroom)) ≡ rootHeadroom (p .room) (p .demands) root
 
 -- (1 to 5 speak of grants, usable watts and caps alone, and stand as they are: no definition of these has headroom in it. So it
 -- may follow the demands of lower ranks, and they still may not.)

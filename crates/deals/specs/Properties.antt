@@ -124,6 +124,10 @@ requestTotal d n j = sumOf (drop j (getD (metrics d .requests) n []))
 abbrev pub pcapminBelow : Deal → ℕ → ℕ → ℕ
 pcapminBelow d n j = sumOf (take j (getD (metrics d .pcapmins) n []))
 
+-- The starts beneath it of the levels below j, summed.
+abbrev pub startsBelow : Deal → ℕ → ℕ → ℕ
+startsBelow d n j = sumOf (take j (getD (metrics d .starts) n []))
+
 -- A figure of the cords of level j and above: 0 at the others.
 abbrev pub fromLevel : Deal → ℕ → (ℕ → ℕ) → ℕ → ℕ
 fromLevel d j figure c = on (leb j (d .level c)) (figure c)
@@ -143,6 +147,17 @@ abbrev pub Totals : Type 0
 Totals =
     (table : List ℕ) (r : Room) (end : ℕ) → checked table 0 ≡ good r end → (demands : List ℕ)
     → TotalsOf (firstDeal r demands) × TotalsOf (secondDeal r demands)
+
+-- A deal in which, at every node, the Requests of any rank and above leave the lower ranks their starts. (So it comes to the same
+-- Requests if, at each node, the limit less the starts of the lower ranks stands for the limit less their Pcapmin.)
+abbrev pub StartsFit : Deal → Type 0
+StartsFit d = (n j : ℕ) → n < d .nodes → j ≤ d .levels → startsBelow d n j + requestTotal d n j ≤ d .limit n
+
+-- Both deals of an accepted table are such, whatever the demands.
+abbrev pub StartsLeft : Type 0
+StartsLeft =
+    (table : List ℕ) (r : Room) (end : ℕ) → checked table 0 ≡ good r end → (demands : List ℕ)
+    → StartsFit (firstDeal r demands) × StartsFit (secondDeal r demands)
 
 -- ---- The figures that code holds fit their words
 

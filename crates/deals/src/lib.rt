@@ -7,12 +7,14 @@ ghost use Rattle.deals.specs.Plan.{planListNumber, planRefusalNumber, pl
 pub enum PlanList {
     Grants,
     Caps,
+    Headroom,
 }
 
 // How many entries each of the lists has that are lent to Plan.
 pub struct Lengths {
     pub grants: usize,
     pub caps: usize,
+    pub headroom: usize,
 }
 
 // Why a plan is turned back, and where: the table's refusal, the count of servers, a demand's index, or a list and the length that it
@@ -38,6 +40,7 @@ impl PlanList {
         match self {
             PlanList::Grants => 12,
             PlanList::Caps => 13,
+            PlanList::Headroom => 14,
         }
     }
 }

@@ -1,4 +1,4 @@
--- What is printed is at most 47,131 bytes, whatever the sheet and the demands.
+-- What is printed is at most 83,995 bytes, whatever the sheet and the demands.
 use mathlib.Core.Path.{_≡_, refl, _∙_}
 use mathlib.Core.Bool.{Bool, true, false}
 use mathlib.Core.List.{List}
@@ -20,7 +20,7 @@ use Rattle.deals.specs.Plan as plan
 use Rattle.deals.specs.Promises.{AcceptedPlan}
 use Rattle.figures.proofs.Lists.{figures-length}
 use Rattle.deals.proofs.Plans.{plan-good-table}
-use Rattle.deals.proofs.Promises.{answer-of-both-deals, second-kept, caps-in-range, figures-fit}
+use Rattle.deals.proofs.Promises.{answer-of-both-deals, second-kept, caps-in-range, headroom-within-ceilings, figures-fit, headroom-fits}
 use Rattle.print.specs.Line.{Put}
 use Rattle.print.proofs.Putting.{put-whole}
 use Rattle.print.proofs.Size.{length-refusedLine, length-printOf}
@@ -40,7 +40,10 @@ unfolding secondDeal
 plan-fits p =
     let whole = answer-of-both-deals p in
     let bounded = figures-fit (p .table) (p .room) (p .end) (p .isRoom) (p .demands) in
-    length-printOf (p .room) (p .answer .freed) (p .answer .caps) (p .answer .grants) (accepted (p .table) (p .room) (p .end) (p .isRoom))
+    let ceilings = headroom-fits (p .table) (p .room) (p .end) (p .isRoom) (p .demands) .ceilings in
+    let print =
+    length-printOf (p .room) (p .answer .freed) (p .answer .caps) (p .answer .grants) (p .answer .headroom)
+    (accepted (p .table) (p .room) (p .end) (p .isRoom))
     (omega (arith, whole .freed, bounded .freed))
     (words-below (p .answer .caps)
     (λ v h.
@@ -51,6 +54,12 @@ plan-fits p =
     let there : c < roomCords (p .room) = omega (arith, whole .eachCord) in
     let most = bounded .second .wants c (rw (figures-length (roomCords (p .room)) _) there) in
     omega (arith, second-kept p .most c there, most)))
+    (words-below (p .answer .headroom)
+    (λ c h.
+    let there : c < roomCords (p .room) = omega (arith, whole .eachHeadroom) in
+    let most = ceilings c (rw (figures-length (roomCords (p .room)) _) there) in
+    omega (arith, headroom-within-ceilings p c there, most))) in
+    omega (arith, print)
 
 pub tableText-fits : (table demands : List ℕ) → length (tableText table demands) ≤ mostText
 unfolding tableText

@@ -24,6 +24,7 @@ use Rattle.deals.specs.Plan.{Plan, plan, planRoom, planStep, lent, mostLent, Ou
 use Rattle.deals.specs.Plan as plan
 use Rattle.deals.specs.declared.Lengths.{Lengths}
 use Rattle.deals.specs.declared.PlanRefusal.{PlanRefusal}
+use Rattle.deals.specs.declared.Planned.{Planned}
 use Rattle.deals.specs.declared.Planned.the-variants.{Accepted, Refused}
 use Rattle.deals.specs.declared.PlanRefusal.the-variants.{Table}
 use Rattle.deals.proofs.Plans.{plan-good, plan-good-table}
@@ -34,15 +35,16 @@ use Rattle.print.proofs.Room.{printOf-front}
 use Rattle.hutplan.specs.Printed.{mostWords, tableText, roomText, stepText, sheetText, readText}
 
 -- Lists as long as any room's plan.
-pub most-lent : (grants caps : List ℕ) → length grants ≡ mostCords → length caps ≡ mostServers → lent grants caps ≡ mostLent
-most-lent grants caps hg hc = rw (hg, hc) refl
+pub most-lent : (grants caps headroom : List ℕ) → length grants ≡ mostCords → length caps ≡ mostServers → length headroom ≡ mostCords
+    → lent grants caps headroom ≡ mostLent
+most-lent grants caps headroom hg hc hh = rw (hg, hc, hh) refl
 
 module _ (table demands : List ℕ) (lengths : Lengths) (most : lengths ≡ mostLent) where
   -- A refused plan.
-  pub table-refused : {q : PlanRefusal} → Refused q ≡ answerOf (plan table demands lengths)
+  pub table-refused : {a : Planned} {q : PlanRefusal} → a ≡ Refused q → a ≡ answerOf (plan table demands lengths)
       → tableText table demands ≡ refusedLine (planRefusalNumber q) (planRefusalPlace q)
   unfolding tableText plan planStep
-  table-refused {q} e = go (checked table 0) (rw most at e)
+  table-refused {q = q} told e = go (checked table 0) (rw most at (sym told ∙ e))
     where
       room : (r : Room) (o : Outcome) → Refused q ≡ answerOf o
           → roomText r o ≡ refusedLine (planRefusalNumber q) (planRefusalPlace q)
@@ -55,20 +57,23 @@ module _ (table demands : List ℕ) (lengths : Lengths) (most : lengths ≡ most
       go (bad refusal) e = let same : q ≡ Table refusal = cc in rw same
 
   -- A good table, and the print of its room, which is the table's text.
-  pub record RoomText (f : ℕ) (caps grants : List ℕ) : Type 0 where
+  pub record RoomText (f : ℕ) (caps grants headroom : List ℕ) : Type 0 where
     pub good-table : Good (checked table 0)
-    pub text : printOf f (good-table .value .servers) caps grants ≡ tableText table demands
+    pub text : printOf f (good-table .value .servers) caps grants headroom ≡ tableText table demands
 
   -- An accepted plan, whose figures stand at the front of the lists.
-  pub table-accepted : (grants caps grants' caps' : List ℕ) {f : ℕ} → length grants ≡ mostCords → length caps ≡ mostServers
-      → Accepted f ≡ answerOf (plan table demands lengths) → grants' ≡ after (λ p. p .grants) (plan table demands lengths) grants
+  pub table-accepted : (grants caps headroom grants' caps' headroom' : List ℕ) {a : Planned} {f : ℕ}
+      → length grants ≡ mostCords → length caps ≡ mostServers → length headroom ≡ mostCords
+      → a ≡ Accepted f → a ≡ answerOf (plan table demands lengths)
+      → grants' ≡ after (λ p. p .grants) (plan table demands lengths) grants
       → caps' ≡ after (λ p. p .caps) (plan table demands lengths) caps
-      → RoomText f caps' grants'
+      → headroom' ≡ after (λ p. p .headroom) (plan table demands lengths) headroom
+      → RoomText f caps' grants' headroom'
   unfolding tableText
-  table-accepted grants caps grants' caps' {f} hg hc e eg ec = go (plan table demands lengths) refl e eg ec
+  table-accepted grants caps headroom grants' caps' headroom' {f = f} hg hc hh told e eg ec eh = go (plan table demands lengths) refl (sym told ∙ e) eg ec eh
     where
       in-room : (answer : Plan) → plan table demands lengths ≡ plan.accepted answer
-          → RoomText (answer .freed) (sets caps 0 (answer .caps)) (sets grants 0 (answer .grants))
+          → RoomText (answer .freed) (sets caps 0 (answer .caps)) (sets grants 0 (answer .grants)) (sets headroom 0 (answer .headroom))
       in-room answer is =
           let g = plan-good table demands lengths answer is in
           let few = accepted table (g .value) (g .next) (g .is) in
@@ -89,18 +94,20 @@ module _ (table demands : List ℕ) (lengths : Lengths) (most : lengths ≡ most
           record {
             good-table = g;
             text =
-                printOf-front (g .value) (answer .freed) (answer .caps) (answer .grants) caps grants (whole .eachServer) (whole .eachCord)
+                printOf-front (g .value) (answer .freed) (answer .caps) (answer .grants) (answer .headroom) caps grants headroom
+                (whole .eachServer) (whole .eachCord) (whole .eachHeadroom)
                 (omega (arith, few .fewServers, whole .eachServer)) (omega (arith, few .fewCords, whole .eachCord))
+                (omega (arith, few .fewCords, whole .eachHeadroom))
                 ∙ sym (ap (λ (s : Step Room). stepText s demands) (g .is) ∙ ap (roomText (g .value)) room);
           }
 
       go : (o : Outcome) → plan table demands lengths ≡ o → Accepted f ≡ answerOf o → grants' ≡ after (λ p. p .grants) o grants
-          → caps' ≡ after (λ p. p .caps) o caps
-          → RoomText f caps' grants'
-      go (plan.refused q) is e eg ec = let z : _≡_ {A = ℕ} 0 1 = cc in absurd (omega arith)
-      go (plan.accepted answer) is e eg ec =
+          → caps' ≡ after (λ p. p .caps) o caps → headroom' ≡ after (λ p. p .headroom) o headroom
+          → RoomText f caps' grants' headroom'
+      go (plan.refused q) is e eg ec eh = let z : _≡_ {A = ℕ} 0 1 = cc in absurd (omega arith)
+      go (plan.accepted answer) is e eg ec eh =
           let same : f ≡ answer .freed = cc in
-          rw (same, eg, ec) (in-room answer is)
+          rw (same, eg, ec, eh) (in-room answer is)
 
 -- ---- Read
 

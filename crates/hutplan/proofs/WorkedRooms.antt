@@ -1,4 +1,5 @@
--- The starred rooms of document 01, which has their figures by hand: one check of all, which the definitions compute.
+-- The starred rooms of document 01, which has their figures by hand: one check of all, which the definitions compute. And room H with
+-- demands that leave headroom (request A.1).
 use mathlib.Core.Path.{_≡_, refl}
 use mathlib.Core.List.{List, [], _∷_, _++_}
 use Prim.Native.Nat.{ℕ}
@@ -31,23 +32,46 @@ sheetH low high =
 abbrev tableH : ℕ → List ℕ
 tableH rating = 1 ∷ 2 ∷ 0 ∷ 150 ∷ 0 ∷ rating ∷ 2 ∷ 1 ∷ 100 ∷ 400 ∷ 2 ∷ 1 ∷ 500 ∷ 2 ∷ 500 ∷ 1 ∷ 100 ∷ 400 ∷ 1 ∷ 2 ∷ 1000 ∷ []
 
--- The text of the demands 400 and 400, a line each.
+-- The texts of the demands 400 and 400 and of 100 and 100, a line each.
 abbrev twice400 : List ℕ
 twice400 = 52 ∷ 48 ∷ 48 ∷ 10 ∷ 52 ∷ 48 ∷ 48 ∷ 10 ∷ []
 
--- What `hutplan` prints of them, each line as its bytes: `freed 13`, `server 1 cap 240`, `cord 1 node 1 grant 120`,
--- `cord 2 node 2 grant 120`, `server 2 cap 280`, `cord 1 node 2 grant 280`.
-abbrev sixLines : List ℕ
-sixLines =
+abbrev twice100 : List ℕ
+twice100 = 49 ∷ 48 ∷ 48 ∷ 10 ∷ 49 ∷ 48 ∷ 48 ∷ 10 ∷ []
+
+-- What `hutplan` prints of the first, each line as its bytes: `freed 13`, `server 1 cap 240`, `cord 1 node 1 grant 120 headroom 0`,
+-- `cord 2 node 2 grant 120 headroom 0`, `server 2 cap 280`, `cord 1 node 2 grant 280 headroom 0`.
+abbrev print400 : List ℕ
+print400 =
     (102 ∷ 114 ∷ 101 ∷ 101 ∷ 100 ∷ 32 ∷ 49 ∷ 51 ∷ 10 ∷ [])
     ++ (115 ∷ 101 ∷ 114 ∷ 118 ∷ 101 ∷ 114 ∷ 32 ∷ 49 ∷ 32 ∷ 99 ∷ 97 ∷ 112 ∷ 32 ∷ 50 ∷ 52 ∷ 48 ∷ 10 ∷ [])
     ++ (99 ∷ 111 ∷ 114 ∷ 100 ∷ 32 ∷ 49 ∷ 32 ∷ 110 ∷ 111 ∷ 100 ∷ 101 ∷ 32 ∷ 49 ∷ 32
-    ∷ 103 ∷ 114 ∷ 97 ∷ 110 ∷ 116 ∷ 32 ∷ 49 ∷ 50 ∷ 48 ∷ 10 ∷ [])
+    ∷ 103 ∷ 114 ∷ 97 ∷ 110 ∷ 116 ∷ 32 ∷ 49 ∷ 50 ∷ 48 ∷ 32
+    ∷ 104 ∷ 101 ∷ 97 ∷ 100 ∷ 114 ∷ 111 ∷ 111 ∷ 109 ∷ 32 ∷ 48 ∷ 10 ∷ [])
     ++ (99 ∷ 111 ∷ 114 ∷ 100 ∷ 32 ∷ 50 ∷ 32 ∷ 110 ∷ 111 ∷ 100 ∷ 101 ∷ 32 ∷ 50 ∷ 32
-    ∷ 103 ∷ 114 ∷ 97 ∷ 110 ∷ 116 ∷ 32 ∷ 49 ∷ 50 ∷ 48 ∷ 10 ∷ [])
+    ∷ 103 ∷ 114 ∷ 97 ∷ 110 ∷ 116 ∷ 32 ∷ 49 ∷ 50 ∷ 48 ∷ 32
+    ∷ 104 ∷ 101 ∷ 97 ∷ 100 ∷ 114 ∷ 111 ∷ 111 ∷ 109 ∷ 32 ∷ 48 ∷ 10 ∷ [])
     ++ (115 ∷ 101 ∷ 114 ∷ 118 ∷ 101 ∷ 114 ∷ 32 ∷ 50 ∷ 32 ∷ 99 ∷ 97 ∷ 112 ∷ 32 ∷ 50 ∷ 56 ∷ 48 ∷ 10 ∷ [])
     ++ (99 ∷ 111 ∷ 114 ∷ 100 ∷ 32 ∷ 49 ∷ 32 ∷ 110 ∷ 111 ∷ 100 ∷ 101 ∷ 32 ∷ 50 ∷ 32
-    ∷ 103 ∷ 114 ∷ 97 ∷ 110 ∷ 116 ∷ 32 ∷ 50 ∷ 56 ∷ 48 ∷ 10 ∷ [])
+    ∷ 103 ∷ 114 ∷ 97 ∷ 110 ∷ 116 ∷ 32 ∷ 50 ∷ 56 ∷ 48 ∷ 32
+    ∷ 104 ∷ 101 ∷ 97 ∷ 100 ∷ 114 ∷ 111 ∷ 111 ∷ 109 ∷ 32 ∷ 48 ∷ 10 ∷ [])
+
+-- And of the second: `freed 0`, `server 1 cap 100`, `cord 1 node 1 grant 50 headroom 70`, `cord 2 node 2 grant 50 headroom 83`,
+-- `server 2 cap 100`, `cord 1 node 2 grant 100 headroom 167`.
+abbrev print100 : List ℕ
+print100 =
+    (102 ∷ 114 ∷ 101 ∷ 101 ∷ 100 ∷ 32 ∷ 48 ∷ 10 ∷ [])
+    ++ (115 ∷ 101 ∷ 114 ∷ 118 ∷ 101 ∷ 114 ∷ 32 ∷ 49 ∷ 32 ∷ 99 ∷ 97 ∷ 112 ∷ 32 ∷ 49 ∷ 48 ∷ 48 ∷ 10 ∷ [])
+    ++ (99 ∷ 111 ∷ 114 ∷ 100 ∷ 32 ∷ 49 ∷ 32 ∷ 110 ∷ 111 ∷ 100 ∷ 101 ∷ 32 ∷ 49 ∷ 32
+    ∷ 103 ∷ 114 ∷ 97 ∷ 110 ∷ 116 ∷ 32 ∷ 53 ∷ 48 ∷ 32
+    ∷ 104 ∷ 101 ∷ 97 ∷ 100 ∷ 114 ∷ 111 ∷ 111 ∷ 109 ∷ 32 ∷ 55 ∷ 48 ∷ 10 ∷ [])
+    ++ (99 ∷ 111 ∷ 114 ∷ 100 ∷ 32 ∷ 50 ∷ 32 ∷ 110 ∷ 111 ∷ 100 ∷ 101 ∷ 32 ∷ 50 ∷ 32
+    ∷ 103 ∷ 114 ∷ 97 ∷ 110 ∷ 116 ∷ 32 ∷ 53 ∷ 48 ∷ 32
+    ∷ 104 ∷ 101 ∷ 97 ∷ 100 ∷ 114 ∷ 111 ∷ 111 ∷ 109 ∷ 32 ∷ 56 ∷ 51 ∷ 10 ∷ [])
+    ++ (115 ∷ 101 ∷ 114 ∷ 118 ∷ 101 ∷ 114 ∷ 32 ∷ 50 ∷ 32 ∷ 99 ∷ 97 ∷ 112 ∷ 32 ∷ 49 ∷ 48 ∷ 48 ∷ 10 ∷ [])
+    ++ (99 ∷ 111 ∷ 114 ∷ 100 ∷ 32 ∷ 49 ∷ 32 ∷ 110 ∷ 111 ∷ 100 ∷ 101 ∷ 32 ∷ 50 ∷ 32
+    ∷ 103 ∷ 114 ∷ 97 ∷ 110 ∷ 116 ∷ 32 ∷ 49 ∷ 48 ∷ 48 ∷ 32
+    ∷ 104 ∷ 101 ∷ 97 ∷ 100 ∷ 114 ∷ 111 ∷ 111 ∷ 109 ∷ 32 ∷ 49 ∷ 54 ∷ 55 ∷ 10 ∷ [])
 
 -- `refused 9 at 2`.
 abbrev nineAtTwo : List ℕ
@@ -66,9 +90,9 @@ demandsS = 430 ∷ 430 ∷ 430 ∷ 430 ∷ []
 abbrev noServers : List ℕ
 noServers = 1 ∷ 1 ∷ 0 ∷ 100 ∷ 0 ∷ []
 
--- Two words for grants and one for caps.
-abbrev twoAndOne : Lengths
-twoAndOne = record { grants = 2; caps = 1 }
+-- Two words for grants, one for caps and three for headroom.
+abbrev twoOneThree : Lengths
+twoOneThree = record { grants = 2; caps = 1; headroom = 3 }
 
 -- Figures of the room that a table gives.
 abbrev ofRoom : Step Room → (Room → List ℕ) → List ℕ
@@ -90,7 +114,7 @@ pub record Starred : Type 0 where
   pub countH : length (tableH 500) ≡ 21
   pub firstGrantsH : ofRoom (checked (tableH 500) 0) (λ r. firstGrants r (400 ∷ 400 ∷ [])) ≡ 120 ∷ 133 ∷ 267 ∷ []
   pub firstUsableH : ofRoom (checked (tableH 500) 0) (λ r. firstUsable r (400 ∷ 400 ∷ [])) ≡ 240 ∷ 267 ∷ []
-  pub printH : printed (sheetH 0xF4 0x03) twice400 ≡ sixLines
+  pub printH : printed (sheetH 0xF4 0x03) twice400 ≡ print400
   pub rated188 : reading (sheetH 0xBC 0x01) 21 ≡ read.accepted (tableH 188)
   pub rated187 : numbered (reading (sheetH 0xBB 0x01) 21) ≡ (9, 2)
   pub print187 : printed (sheetH 0xBB 0x01) twice400 ≡ nineAtTwo
@@ -99,9 +123,10 @@ pub record Starred : Type 0 where
   pub byte80 : numbered (reading (0x80 ∷ []) 1) ≡ (3, 0)
   pub bytes018000 : numbered (reading (0x01 ∷ 0x80 ∷ 0x00 ∷ []) 3) ≡ (2, 1)
   pub bytes80808080 : numbered (reading (0x80 ∷ 0x80 ∷ 0x80 ∷ 0x80 ∷ []) 4) ≡ (1, 0)
-  pub noServersFreed : plan.answerOf (plan noServers [] twoAndOne) ≡ Accepted 0
-  pub noServersGrants : (a b : ℕ) → after (λ p. p .grants) (plan noServers [] twoAndOne) (a ∷ b ∷ []) ≡ a ∷ b ∷ []
-  pub noServersCaps : (a : ℕ) → after (λ p. p .caps) (plan noServers [] twoAndOne) (a ∷ []) ≡ a ∷ []
+  pub noServersFreed : plan.answerOf (plan noServers [] twoOneThree) ≡ Accepted 0
+  pub noServersGrants : (a b : ℕ) → after (λ p. p .grants) (plan noServers [] twoOneThree) (a ∷ b ∷ []) ≡ a ∷ b ∷ []
+  pub noServersCaps : (a : ℕ) → after (λ p. p .caps) (plan noServers [] twoOneThree) (a ∷ []) ≡ a ∷ []
+  pub noServersHeadroom : (a b c : ℕ) → after (λ p. p .headroom) (plan noServers [] twoOneThree) (a ∷ b ∷ c ∷ []) ≡ a ∷ b ∷ c ∷ []
 
 pub starred : Starred
 unfolding printed sheetText tableText reading number later sheetFrom
@@ -126,4 +151,14 @@ starred =
       noServersFreed = refl;
       noServersGrants = λ a b. refl;
       noServersCaps = λ a. refl;
+      noServersHeadroom = λ a b c. refl;
     }
+
+-- Room H with demands 100 and 100, by hand: node 1 has 120 − 50 = 70 W to lend, and node 2 400 − 150 = 250, which it splits by
+-- 200 − 50 and 400 − 100.
+pub headroomPrinted : printed (sheetH 0xF4 0x03) twice100 ≡ print100
+unfolding printed sheetText tableText reading number later sheetFrom
+    follow word ensure end many total formOf percent node cord range load server table beneath serverLows lows firstNode overloaded
+    demandsOf lines before demandOf areDigits numberAfter plan
+    printOf serversPrint serverPrint linesFrom freedLine serverLine cordLine numeral
+headroomPrinted = refl

@@ -1,10 +1,10 @@
 -- What `hutplan` prints, by the bytes of its file and the text of its standard input.
 use mathlib.Core.Path.{_≡_}
 use mathlib.Core.List.{List}
-use Prim.Native.Nat.{ℕ, _≤_}
+use Prim.Native.Nat.{ℕ, _+_, _*_, _≤_}
 use lib.ListN.{length, take}
 use Rattle.rooms.specs.Part.{Step, good, bad}
-use Rattle.rooms.specs.Table.{Room}
+use Rattle.rooms.specs.Table.{Room, mostServers, mostCords}
 use Rattle.rooms.specs.Table as rooms
 use Rattle.rooms.specs.Limits.{checked}
 use Rattle.rooms.specs.Outcome.{reading, refusalNumber, refusalPlace}
@@ -20,13 +20,14 @@ use Rattle.hutplan.specs.Input.{mostBytes}
 abbrev pub mostWords : ℕ
 mostWords = rooms.mostWords
 
--- The most bytes that are printed (proofs/Fits).
+-- The most bytes that are printed (proofs/Fits): 27 of the first line, 26 of each server's and 69 of each cord's. (69 are for the
+-- headroom and the node that holds the cord, requests A.1 and A.5; with the headroom alone it has at most 53.)
 abbrev pub mostText : ℕ
-mostText = 47131
+mostText = 27 + 26 * mostServers + 69 * mostCords
 
 -- The print of a room's plan.
 abbrev pub roomText : Room → plan.Outcome → List ℕ
-roomText room (plan.accepted plan) = printOf (plan .freed) (room .servers) (plan .caps) (plan .grants)
+roomText room (plan.accepted plan) = printOf (plan .freed) (room .servers) (plan .caps) (plan .grants) (plan .headroom)
 roomText room (plan.refused refusal) = refusedLine (planRefusalNumber refusal) (planRefusalPlace refusal)
 
 -- The print of what a table's check gives, with demands.

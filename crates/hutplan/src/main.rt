@@ -17,6 +17,10 @@ ghost use Rattle.print.specs.Line.{Put};
 ghost use Rattle.hutplan.specs.Input.{mostBytes, FedPiece, ReadText};
 ghost use Rattle.hutplan.specs.Printed.{mostWords, mostText, tableText, sheetText, inputText, Lent};
 
+// The most bytes of a print: 27 of the first line, 26 of each server's and 69 of each cord's. (69 are for the headroom and the node that
+// holds the cord, requests A.1 and A.5; with the headroom alone it has at most 53.)
+const MOST_TEXT: usize = 83_995;
+
 // What one read of standard input leaves: the reading, and whether there may be more to read.
 struct Turn {
     reading: Reading,
@@ -79,22 +83,23 @@ fn read_demands(list: &mut [u32]) -> usize
     reading.finish(list)
 }
 
-// The print of a table with demands, by way of lists for the grants and the caps of any room.
+// The print of a table with demands, by way of lists for the grants, the caps and the headroom of any room.
 fn print_table(
     table: &[u32],
     demands: &[u32],
     grants: &mut [u32],
     caps: &mut [u32],
+    headroom: &mut [u32],
     buffer: &mut [u8],
 ) -> usize
-    requires { ⌜ (length (now grants) ≡ mostCords) × (length (now caps) ≡ mostServers) ⌝ }
+    requires { ⌜ (length (now grants) ≡ mostCords) × (length (now caps) ≡ mostServers) × (length (now headroom) ≡ mostCords) ⌝ }
     ensures { λ r. ⌜ Put (now (buffer .entry)) 0 (now (buffer .exit)) r
         (tableText (now (table .entry)) (now (demands .entry))) ⌝ }
     ensures { λ r. ⌜ Counts r (now (buffer .exit)) ⌝ }
 {
-    let planned = plans::plan(table, demands, grants, caps);
+    let planned = plans::plan(table, demands, grants, caps, headroom);
     match planned {
-        Planned::Accepted(freed) => print::plan(freed, table, caps, grants, buffer),
+        Planned::Accepted(freed) => print::plan(freed, table, caps, grants, headroom, buffer),
         Planned::Refused(refusal) => print::refusal(refusal.number(), refusal.place(), buffer),
     }
 }
@@ -114,7 +119,15 @@ fn print_sheet(sheet: &[u8], demands: &[u32], table: &mut [u32], buffer: &mut [u
     };
     let mut grants = [0u32; 1024];
     let mut caps = [0u32; 512];
-    print_table(&table[..count], demands, &mut grants, &mut caps, buffer)
+    let mut headroom = [0u32; 1024];
+    print_table(
+        &table[..count],
+        demands,
+        &mut grants,
+        &mut caps,
+        &mut headroom,
+        buffer,
+    )
 }
 
 // The print of what was read: so many bytes at the front of the sheet, and so many demands at the front of their list.
@@ -138,7 +151,7 @@ fn main() {
     let mut sheet = [0u8; 32768];
     let mut demands = [0u32; DECIDING_DEMANDS];
     let mut table = [0u32; MOST_WORDS];
-    let mut buffer = io::large_buffer();
+    let mut buffer = [0u8; MOST_TEXT];
     let bytes = read_sheet(&mut sheet);
     let count = read_demands(&mut demands);
     let length = print_input(&sheet, bytes, &demands, count, &mut table, &mut buffer);

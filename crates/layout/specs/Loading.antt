@@ -20,9 +20,11 @@ pub record CordsLoadable (scale : ℕ) (servers cords : List (List ℕ)) (needs 
   pub parts : (c : ℕ) → c < length cords → cell cords c shareColumn ≤ scale
   pub least-most : (v : ℕ) → v < length servers → cell servers v leastColumn ≤ mostWatts
   pub need-most : (v : ℕ) → v < length servers → at needs v ≤ mostWatts
+  pub greatest-most : (v : ℕ) → v < length servers → cell servers v greatestColumn ≤ mostWatts
 
--- The lists have the node of each cord, and what it carries of its server's least and of its server's need.
-pub record CordsLoaded (scale : ℕ) (servers cords : List (List ℕ)) (needs nodes lows wants : List ℕ) : Type 0 where
+-- The lists have the node of each cord, and what it carries of its server's least, need and greatest.
+pub record CordsLoaded (scale : ℕ) (servers cords : List (List ℕ)) (needs nodes lows wants ceilings : List ℕ) : Type 0 where
   pub nodes-are : nodes ≡ column nodeColumn cords
   pub lows-are : lows ≡ carriedFrom scale (column shareColumn cords) (column serverColumn cords) (column leastColumn servers)
   pub wants-are : wants ≡ carriedFrom scale (column shareColumn cords) (column serverColumn cords) needs
+  pub ceilings-are : ceilings ≡ carriedFrom scale (column shareColumn cords) (column serverColumn cords) (column greatestColumn servers)

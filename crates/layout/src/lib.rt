@@ -66,7 +66,7 @@ fn load_needs(servers: &[[u32; 4]], demands: &[u32], needs: &mut [u32])
     }
 }
 
-// The node of each cord, and what it carries of its server's least and need, by the rows.
+// The node of each cord, and what it carries of its server's least, need and greatest, by the rows.
 fn load_figures(
     servers: &[[u32; 4]],
     cords: &[[u32; 4]],
@@ -74,11 +74,12 @@ fn load_figures(
     nodes: &mut [u16],
     lows: &mut [u32],
     wants: &mut [u32],
+    ceilings: &mut [u32],
     scale: u32,
 )
     requires { ⌜ CordsLoadable scale (now servers) (now cords) (now needs) ⌝ }
-    requires { ⌜ (length (now nodes) ≡ length (now cords)) × (length (now lows) ≡ length (now cords)) × (length (now wants) ≡ length (now cords)) ⌝ }
-    ensures { λ _. ⌜ CordsLoaded scale (now (servers .entry)) (now (cords .entry)) (now (needs .entry)) (now (nodes .exit)) (now (lows .exit)) (now (wants .exit)) ⌝ }
+    requires { ⌜ (length (now nodes) ≡ length (now cords)) × (length (now lows) ≡ length (now cords)) × (length (now wants) ≡ length (now cords)) × (length (now ceilings) ≡ length (now cords)) ⌝ }
+    ensures { λ _. ⌜ CordsLoaded scale (now (servers .entry)) (now (cords .entry)) (now (needs .entry)) (now (nodes .exit)) (now (lows .exit)) (now (wants .exit)) (now (ceilings .exit)) ⌝ }
 {
     for c in 0..cords.len() {
         let cord = cords[c];
@@ -87,6 +88,7 @@ fn load_figures(
         nodes[c] = short(cord[NODE]);
         lows[c] = carried_by(share, servers[v][LEAST], scale);
         wants[c] = carried_by(share, needs[v], scale);
+        ceilings[c] = carried_by(share, servers[v][GREATEST], scale);
     }
 }
 
@@ -99,11 +101,12 @@ fn load_rows(
     nodes: &mut [u16],
     lows: &mut [u32],
     wants: &mut [u32],
+    ceilings: &mut [u32],
     needs: &mut [u32],
 )
-    requires { ⌜ CordsLent (now table) (now demands) (now cords) (now nodes) (now lows) (now wants) (now needs) ⌝ }
+    requires { ⌜ CordsLent (now table) (now demands) (now cords) (now nodes) (now lows) (now wants) (now ceilings) (now needs) ⌝ }
     requires { ⌜ ServersFit (now table) (length (now servers)) ⌝ }
-    ensures { λ _. ⌜ OfRoom (now (table .entry)) (λ r. CordsLaidOut r (now (demands .entry)) (now (cords .exit)) (now (nodes .exit)) (now (lows .exit)) (now (wants .exit)) (now (needs .exit))) ⌝ }
+    ensures { λ _. ⌜ OfRoom (now (table .entry)) (λ r. CordsLaidOut r (now (demands .entry)) (now (cords .exit)) (now (nodes .exit)) (now (lows .exit)) (now (wants .exit)) (now (ceilings .exit)) (now (needs .exit))) ⌝ }
 {
     lay_out_servers(table, servers, cords);
     load_needs(servers, demands, needs);
@@ -114,11 +117,12 @@ fn load_rows(
         nodes,
         lows,
         wants,
+        ceilings,
         table_scale(table),
     );
 }
 
-// The rows of a good table's cords, their nodes, lows and wants, and its servers' needs by the demands, one a server; the wants are
+// The rows of a good table's cords, their nodes, lows, wants and ceilings, and its servers' needs by the demands, one a server; the wants are
 // those of the first deal.
 pub fn load_cords(
     table: &[u32],
@@ -127,10 +131,11 @@ pub fn load_cords(
     nodes: &mut [u16],
     lows: &mut [u32],
     wants: &mut [u32],
+    ceilings: &mut [u32],
     needs: &mut [u32],
 )
-    requires { ⌜ CordsLent (now table) (now demands) (now cords) (now nodes) (now lows) (now wants) (now needs) ⌝ }
-    ensures { λ _. ⌜ OfRoom (now (table .entry)) (λ r. CordsLaidOut r (now (demands .entry)) (now (cords .exit)) (now (nodes .exit)) (now (lows .exit)) (now (wants .exit)) (now (needs .exit))) ⌝ }
+    requires { ⌜ CordsLent (now table) (now demands) (now cords) (now nodes) (now lows) (now wants) (now ceilings) (now needs) ⌝ }
+    ensures { λ _. ⌜ OfRoom (now (table .entry)) (λ r. CordsLaidOut r (now (demands .entry)) (now (cords .exit)) (now (nodes .exit)) (now (lows .exit)) (now (wants .exit)) (now (ceilings .exit)) (now (needs .exit))) ⌝ }
 {
     let mut servers = [[0u32; 4]; MOST_SERVERS];
     load_rows(
@@ -141,6 +146,7 @@ pub fn load_cords(
         nodes,
         lows,
         wants,
+        ceilings,
         needs,
     )
 }

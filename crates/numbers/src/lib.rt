@@ -6,9 +6,11 @@ ghost use lib.ListN.{length, drop, set};
 ghost use lib.Seq.{sets};
 ghost use Rattle.numbers.specs.Number.{number, decoded, form};
 ghost use Rattle.numbers.specs.Followed.{Followed};
-ghost use Rattle.numbers.specs.Sheet.{sheetOf, judged, bytesOf, written, afterEncodeSheet};
+ghost use Rattle.numbers.specs.Sheet.{bytesOf, written, afterEncodeSheet};
 ghost use Rattle.words.specs.Lists.{AllBelow};
 use words::first_not_below;
+
+pub mod parts;
 
 // Why bytes are no number: four bytes that all say another follows; a last byte of 0 after others; the bytes end inside.
 pub enum Fault {
@@ -159,26 +161,6 @@ fn store(words: &mut [u32], index: usize, word: u32)
     if index < words.len() {
         words[index] = word;
     }
-}
-
-// Reads a sheet to its end or its first fault. The numbers go to the front of `words`, as many as it has space for.
-pub fn decode_sheet(sheet: &[u8], words: &mut [u32]) -> Judged
-    ensures { λ r. ⌜ r ≡ judged (sheetOf (now (sheet .entry))) ⌝ }
-    ensures { λ r. ⌜ now (words .exit) ≡ sets (now (words .entry)) 0 (sheetOf (now (sheet .entry)) .words) ⌝ }
-{
-    let mut at = 0;
-    let mut count = 0;
-    while at < sheet.len() {
-        match decode(sheet, at) {
-            Decoded::Number(value, next) => {
-                store(words, count, value);
-                count += 1;
-                at = next;
-            }
-            Decoded::Refused(fault, place) => return Judged::Refused(fault, place),
-        }
-    }
-    Judged::Words(count)
 }
 
 // The count of bytes in the forms of some words.

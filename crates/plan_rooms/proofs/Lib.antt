@@ -1,2 +1,3 @@
 -- The laws of `plan_rooms`.
 pub mod Planning
+pub mod Following

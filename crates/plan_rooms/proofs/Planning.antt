@@ -1,32 +1,38 @@
 -- Both deals in a room's lists: what each call asks, and that what it leaves is what the plan's definition says.
-use mathlib.Core.Path.{_≡_, refl, sym, ap, _∙_}
+use mathlib.Core.Path.{_≡_, refl, sym, ap, _∙_, subst}
 use mathlib.Core.Bool.{cond, _&&_}
 use mathlib.Core.List.{List}
-use Prim.Native.Nat.{ℕ, _-_, _*_, _/_, _≤_, _<_}
+use Prim.Native.Nat.{ℕ, _+_, _-_, _*_, _/_, _≤_, _<_}
+use native.Mathlib.Nat.{le-trans, le-of-eq}
 use native.Mathlib.Omega.{arith}
 use lib.Dec.{eqb, ltb}
-use lib.ListN.{length}
+use lib.ListN.{length, take, replicate}
+use lib.Seq.{getD-take}
 use Rattle.rooms.specs.Table.{Room, roomCords, mostNodes}
 use Rattle.rooms.specs.Part.{Good}
-use Rattle.rooms.specs.Limits.{checked}
+use Rattle.rooms.specs.Limits.{checked, hangsBeneath}
 use Rattle.rooms.proofs.Accepted.{Accepted, accepted}
 use Rattle.rooms.proofs.Trees.{under}
 use Rattle.figures.specs.Figures.{figures, at, column, sumOf}
 use Rattle.figures.proofs.Columns.{column-at}
 use Rattle.figures.proofs.Lists.{figures-length}
+use Rattle.figures.proofs.Filled.{zeros-at}
+use Rattle.figures.proofs.Sums.{on-le, sum-le}
 use Rattle.rooms.specs.Cords.{cordAt}
 use Rattle.rooms.specs.Lists.{carriedBy, lowsOf, parentsOf, limitsOf, nodesOf, levelsOf, sharesOf, serversOf}
 use Rattle.deals.specs.Wants.{needs, firstWants}
-use Rattle.deals.specs.Metrics.{dealFrom, dealOf}
-use Rattle.deals.specs.Properties.{DealBounded}
+use Rattle.deals.specs.Metrics.{Deal, dealFrom, dealOf}
+use Rattle.deals.specs.Properties.{DealBounded, StartsFit}
 use Rattle.deals.specs.SecondDeal.{leastOver, usable, stranded, wantsAfter, firstDeal, firstGrants, firstUsable, firstUsed, secondDeal, secondWants, secondGrants}
 use Rattle.deals.specs.SecondDeal as second
-use Rattle.deals.proofs.Requests.{Dealable}
-use Rattle.deals.proofs.RoomDeals.{parentsOf-length, limitsOf-length, nodesOf-length, levelsOf-length, sharesOf-at, serversOf-at}
-use Rattle.deals.proofs.BothDeals.{cord-facts, lowsOf-length, carriedBy-length, lows-under, first-dealable, second-dealable}
+use Rattle.deals.proofs.Requests.{Dealable, sumBelow}
+use Rattle.deals.proofs.RoomDeals.{dealOf-is, parentsOf-length, limitsOf-length, nodesOf-length, levelsOf-length, sharesOf-at, serversOf-at}
+use Rattle.deals.proofs.BothDeals.{cord-facts, lowsOf-length, carriedBy-length, lows-under, grants-way, firstWants-lows, first-starts, firstUsed-granted, first-dealable, second-dealable}
 use Rattle.deals.proofs.Bounds.{bounded}
+use Rattle.deals.proofs.StartsFit.{first-fit, second-fit}
 use Rattle.levels.specs.Levels.{LevelLists, RoomCords}
-use Rattle.deal_by_rank.specs.Ranks.{DealLists, Spare, DealGiven, DealMade}
+use Rattle.levels.proofs.Cells.{zeros-front}
+use Rattle.deal_by_rank.specs.Ranks.{DealLists, wattsUnder, Spare, Raisable, DealGiven, DealMade, Uncut}
 use Rattle.reclaim.specs.Reclaimed.{ServerLists, usableFrom, usedFrom, strandedFrom, wantsFrom, freedFrom}
 use Rattle.reclaim.proofs.Reclaiming.{usable-lists}
 use Rattle.room_lists.specs.Lists.{NodesFit, CordRows, nodeColumn, serverColumn, levelColumn, shareColumn}
@@ -38,11 +44,18 @@ use Rattle.plan_rooms.specs.Planning.{RoomLists}
 pub nodes-few : (table : List ℕ) → Good (checked table 0) → {n : ℕ} → NodesFit table n → n ≤ mostNodes
 nodes-few table g fit = omega (arith, fit (g .value) (g .next) (g .is), accepted table (g .value) (g .next) (g .is) .fewNodes)
 
+-- No node is marked as cut in a list of zeros.
+pub blank-marks : {n size : ℕ} → n ≤ mostNodes → n ≡ size → Uncut size (take n (replicate mostNodes 0))
+blank-marks {n} few e = record {
+  size = zeros-front mostNodes n few ∙ e;
+  none = λ m l. getD-take n (replicate mostNodes 0) m 0 (omega arith) ∙ zeros-at mostNodes m;
+}
+
 -- ---- A deal of a room, in lists
 
--- What a deal asks of a room's lists, with starts and wants by which it is dealable and its figures fit.
+-- What a deal asks of a room's lists, with starts and wants by which it is dealable, and its figures and starts fit.
 module _ (r : Room) (ok : Accepted r) (starts wants : List ℕ) (starts-size : length starts ≡ roomCords r) (wants-size : length wants ≡ roomCords r)
-    (d : Dealable (dealOf r starts wants)) (b : DealBounded (dealOf r starts wants)) where
+    (d : Dealable (dealOf r starts wants)) (b : DealBounded (dealOf r starts wants)) (fit : StartsFit (dealOf r starts wants)) where
   pub room-lists : DealLists (parentsOf r) (limitsOf r) (nodesOf r) (levelsOf r) (lowsOf r) starts wants
   unfolding dealOf dealFrom under
   room-lists =
@@ -69,7 +82,17 @@ module _ (r : Room) (ok : Accepted r) (starts wants : List ℕ) (starts-size : l
         };
         lows-within = d .lows;
         starts-within = b .beneath;
+        starts-fit = fit;
       }
+
+-- The watts in use after the first deal keep the limits: they are no more than its grants.
+used-within : (r : Room) → Accepted r → (demands : List ℕ) (n : ℕ) → n < length (parentsOf r) → wattsUnder (parentsOf r) (nodesOf r) (firstUsed r demands) n ≤ at (limitsOf r) n
+unfolding dealOf dealFrom under firstGrants firstDeal
+used-within r ok demands =
+    subst (λ (d : Deal). (n : ℕ) → n < d .nodes → sumBelow d n (at (firstUsed r demands)) ≤ d .limit n) (sym (dealOf-is r (lowsOf r) (firstWants r demands)))
+    (λ n l.
+    le-trans (sum-le (roomCords r) _ _ (λ c h. on-le (hangsBeneath r n (cordAt r c .node)) _ _ (λ t. firstUsed-granted r ok demands c h)))
+    (grants-way r ok (lowsOf r) (firstWants r demands) (firstWants-lows r ok demands) (first-starts r ok demands) .within n l))
 
 -- ---- After a deal, the lists' figures are the room's
 
@@ -97,7 +120,7 @@ module _ {r : Room} (ok : Accepted r) {demands parents spare : List ℕ} {cords 
   abbrev rows : CordRows r cords
   rows = of .cords-are .rows-are
 
-  needs-size : length needed ≡ length (r .servers)
+  pub needs-size : length needed ≡ length (r .servers)
   unfolding needs
   needs-size = ap length (of .cords-are .needs-are) ∙ figures-length (length (r .servers)) _
 
@@ -111,7 +134,7 @@ module _ {r : Room} (ok : Accepted r) {demands parents spare : List ℕ} {cords 
   pub lists-first : DealLists (parentsOf r) (limitsOf r) (nodesOf r) (levelsOf r) (lowsOf r) (lowsOf r) (firstWants r demands)
   unfolding firstDeal firstWants
   lists-first =
-      room-lists r ok (lowsOf r) (firstWants r demands) (lowsOf-length r) (carriedBy-length r (needs r demands)) (first-dealable r ok demands) (bounded r ok demands .first)
+      room-lists r ok (lowsOf r) (firstWants r demands) (lowsOf-length r) (carriedBy-length r (needs r demands)) (first-dealable r ok demands) (bounded r ok demands .first) (first-fit r ok demands)
 
   used-size : length (firstUsed r demands) ≡ roomCords r
   unfolding firstUsed
@@ -120,7 +143,7 @@ module _ {r : Room} (ok : Accepted r) {demands parents spare : List ℕ} {cords 
   pub lists-second : DealLists (parentsOf r) (limitsOf r) (nodesOf r) (levelsOf r) (lowsOf r) (firstUsed r demands) (secondWants r demands)
   unfolding secondDeal secondWants wantsAfter
   lists-second =
-      room-lists r ok (firstUsed r demands) (secondWants r demands) used-size (figures-length (roomCords r) _) (second-dealable r ok demands) (bounded r ok demands .second)
+      room-lists r ok (firstUsed r demands) (secondWants r demands) used-size (figures-length (roomCords r) _) (second-dealable r ok demands) (bounded r ok demands .second) (second-fit r ok demands)
 
   -- What is asked of the levels, and what they leave.
   pub levels-nodes : (length parents ≤ mostNodes) × ((m : ℕ) → m < length parents → at parents m ≤ m)
@@ -139,42 +162,79 @@ module _ {r : Room} (ok : Accepted r) {demands parents spare : List ℕ} {cords 
             omega (arith, column-at levelColumn cords c, ap (λ (l : List ℕ). at l c) (rows .levels), lists-first .of-cords .ranked c (count c l));
       })
 
-  module _ {bounds : List (List ℕ)} {order : List ℕ} {actives : List (List ℕ)} (listed : LevelLists parents (column nodeColumn cords) (column levelColumn cords) bounds order actives) where
-    spared : {left : List ℕ} → left ≡ spare → Spare (parentsOf r) (limitsOf r) (nodesOf r) (lowsOf r) left
-    spared e = rw e
-        (record {
-          size = of .spare-size ∙ ap length (of .parents-are);
-          over = λ n l. omega (arith, of .spare-is n (omega (arith, parentsOf-length r)), lows-under r ok n);
-        })
+  -- What the limits have over the lows.
+  spared : Spare parents (limitsOf r) nodes lows spare
+  spared =
+      rw (of .parents-are, of .cords-are .nodes-are, of .cords-are .lows-are)
+      (record {
+        size = of .spare-size ∙ ap length (of .parents-are);
+        over = λ n l. omega (arith, of .spare-is n (omega (arith, parentsOf-length r)), lows-under r ok n);
+      })
 
-    by-level : LevelLists (parentsOf r) (nodesOf r) (levelsOf r) bounds order actives
-    by-level = rw (sym (of .parents-are), sym (rows .nodes), sym (rows .levels)) listed
-
-    -- What the first deal asks, and what it leaves; likewise the second.
-    pub first-given : {left : List ℕ} → left ≡ spare → DealGiven parents bounds order actives nodes lows lows wants left (limitsOf r) (levelsOf r)
-    first-given e =
+  module _ {left starts : List ℕ} (spare-again : left ≡ spare) (used : starts ≡ firstUsed r demands) where
+    -- It is enough for the used watts.
+    pub raisable : Raisable parents nodes lows starts left
+    raisable =
         let l = of .cords-are in
-        rw (of .parents-are, l .nodes-are, l .lows-are, l .wants-are) (record { lists = lists-first; by-level = by-level; spared = spared e })
+        let lists : DealLists parents (limitsOf r) nodes (levelsOf r) lows starts (secondWants r demands) = rw (of .parents-are, l .nodes-are, l .lows-are, used) lists-second in
+        let within : (n : ℕ) → n < length parents → wattsUnder parents nodes starts n ≤ at (limitsOf r) n = rw (of .parents-are, l .nodes-are, used) (used-within r ok demands) in
+        record {
+          few-nodes = lists .of-nodes .few;
+          few = lists .of-cords .few;
+          left-size = ap length spare-again ∙ of .spare-size;
+          lows-size = lists .of-cords .lows-size;
+          starts-size = lists .of-cords .starts-size;
+          rises = lists .of-nodes .rises;
+          hangs = lists .of-cords .hangs;
+          within = lists .of-cords .within;
+          least = lists .of-cords .least;
+          most = λ c h. le-trans (lists .of-cords .ordered c h) (lists .of-cords .most c h);
+          enough = λ n h. le-trans (within n h) (le-of-eq (sym (ap (λ (s : List ℕ). at s n + wattsUnder parents nodes lows n) spare-again ∙ spared .over n h)));
+        }
 
-    pub first-made : {requests : List (List ℕ)} {grants : List ℕ} → DealMade (dealFrom parents (limitsOf r) nodes (levelsOf r) lows lows wants) requests grants
-        → grants ≡ firstGrants r demands
+    -- What the limits have over the used watts, once these are taken.
+    pub raised : {after : List ℕ} → length after ≡ length left → ((n : ℕ) → n < length parents → at after n + wattsUnder parents nodes starts n ≡ at left n + wattsUnder parents nodes lows n)
+        → Spare parents (limitsOf r) nodes starts after
+    raised kept over = record {
+      size = kept ∙ ap length spare-again ∙ of .spare-size;
+      over = λ n l. over n l ∙ ap (λ (s : List ℕ). at s n + wattsUnder parents nodes lows n) spare-again ∙ spared .over n l;
+    }
+
+  module _ {bounds : List (List ℕ)} {order : List ℕ} {actives : List (List ℕ)} (listed : LevelLists parents (column nodeColumn cords) (column levelColumn cords) bounds order actives) where
+    by-level : LevelLists parents nodes (levelsOf r) bounds order actives
+    by-level = rw (of .cords-are .nodes-are, sym (rows .nodes), sym (rows .levels)) listed
+
+    -- What each deal asks.
+    pub first-given : DealGiven parents bounds order actives nodes lows wants spare (limitsOf r) (levelsOf r) lows
+    first-given =
+        let l = of .cords-are in
+        record { lists = rw (of .parents-are, l .nodes-are, l .lows-are, l .wants-are) lists-first; by-level = by-level; spared = spared }
+
+    pub second-given : {left starts given : List ℕ} → starts ≡ firstUsed r demands → given ≡ secondWants r demands → Spare parents (limitsOf r) nodes starts left
+        → DealGiven parents bounds order actives nodes starts given left (limitsOf r) (levelsOf r) lows
+    second-given es ew over =
+        let l = of .cords-are in
+        record { lists = rw (of .parents-are, l .nodes-are, l .lows-are, es, ew) lists-second; by-level = by-level; spared = over }
+
+  -- What each leaves.
+  module _ {requests : List (List ℕ)} {left cuts grants : List ℕ} where
+    pub first-made : DealMade (dealFrom parents (limitsOf r) nodes (levelsOf r) lows lows wants) requests left cuts grants → grants ≡ firstGrants r demands
     unfolding firstGrants firstDeal dealOf
     first-made made =
         let l = of .cords-are in
         made .grants-are ∙ rw (of .parents-are, l .nodes-are, l .lows-are, l .wants-are)
 
-    pub second-given : {left starts given : List ℕ} → left ≡ spare → starts ≡ firstUsed r demands → given ≡ secondWants r demands
-        → DealGiven parents bounds order actives nodes lows starts given left (limitsOf r) (levelsOf r)
-    second-given e es ew =
+    pub second-made : {starts given : List ℕ} → starts ≡ firstUsed r demands → given ≡ secondWants r demands
+        → DealMade (dealFrom parents (limitsOf r) nodes (levelsOf r) lows starts given) requests left cuts grants → DealMade (secondDeal r demands) requests left cuts grants
+    unfolding secondDeal dealOf
+    second-made {starts} {given} es ew made =
         let l = of .cords-are in
-        rw (of .parents-are, l .nodes-are, l .lows-are, es, ew) (record { lists = lists-second; by-level = by-level; spared = spared e })
+        let same : dealFrom parents (limitsOf r) nodes (levelsOf r) lows starts given ≡ secondDeal r demands = rw (of .parents-are, l .nodes-are, l .lows-are, es, ew) in
+        subst (λ (d : Deal). DealMade d requests left cuts grants) same made
 
-    pub second-made : {starts given : List ℕ} {requests : List (List ℕ)} {grants : List ℕ} → starts ≡ firstUsed r demands → given ≡ secondWants r demands
-        → DealMade (dealFrom parents (limitsOf r) nodes (levelsOf r) lows starts given) requests grants → grants ≡ secondGrants r demands
-    unfolding secondGrants secondDeal dealOf
-    second-made es ew made =
-        let l = of .cords-are in
-        made .grants-are ∙ rw (of .parents-are, l .nodes-are, l .lows-are, es, ew)
+    pub second-dealt : DealMade (secondDeal r demands) requests left cuts grants → grants ≡ secondGrants r demands
+    unfolding secondGrants
+    second-dealt made = made .grants-are
 
   -- What is asked after a deal, and what the servers can use of its grants.
   pub server-lists : {grantCount : ℕ} → grantCount ≡ length nodes → ServerLists scale cords needed grantCount

@@ -132,6 +132,7 @@ pub record Admitted (table demands : List ℕ) (lengths : Lengths) (cords server
   pub demandsFit : ServersFit table (length demands)
   pub grantsLong : cords ≤ lengths .grants
   pub capsLong : servers ≤ lengths .caps
+  pub headroomLong : cords ≤ lengths .headroom
 
 pub admitted-good : (table demands : List ℕ) (lengths : Lengths) {answer : admitted.the-data} {cords servers : ℕ}
     → answer ≡ admission (plan table demands lengths) → answer ≡ admitted.Good cords servers → Admitted table demands lengths cords servers
@@ -152,6 +153,7 @@ admitted-good table demands lengths {answer} {cords} {servers} d e = go (plan ta
           demandsFit = λ r end q. w .planning .demandCount ∙ ap (λ (x : Room). length (x .servers)) (same r end q);
           grantsLong = omega (arith, grants, w .planning .grants .count, w .planning .grants .within);
           capsLong = omega (arith, caps, w .planning .caps .count, w .planning .caps .within);
+          headroomLong = omega (arith, grants, w .planning .grants .count, w .planning .headroom .count, w .planning .headroom .within);
         }
 
 -- What is not admitted, Plan refuses.

@@ -27,7 +27,7 @@ fn admit(table: &[u32], demands: &[u32], lengths: Lengths, beneath: &mut [u64; 5
     ensures { λ r. ⌜ r ≡ admission (plan (now (table .entry)) (now (demands .entry)) lengths) ⌝ }
     ensures { λ _. ⌜ now (beneath .exit) ≡ lowsTold (checked (now (table .entry)) 0) ⌝ }
 {
-    let checked = rooms::check_lows(table, beneath);
+    let checked = rooms::parts::check_lows(table, beneath);
     let count = match checked {
         Checked::Good(cords, _) => cords,
         Checked::Refused(refusal) => return Admission::Refused(PlanRefusal::Table(refusal)),
@@ -47,20 +47,32 @@ fn admit(table: &[u32], demands: &[u32], lengths: Lengths, beneath: &mut [u64; 5
     if lengths.caps < servers {
         return Admission::Refused(PlanRefusal::ListTooShort(PlanList::Caps, servers));
     }
+    if lengths.headroom < cords {
+        return Admission::Refused(PlanRefusal::ListTooShort(PlanList::Headroom, cords));
+    }
     Admission::Good(cords, servers)
 }
 
-// Plan: a table and its servers' demands; a grant for each cord and a cap for each server, at the front of their lists.
+// Plan: a table and its servers' demands; a grant and its headroom for each cord and a cap for each server, at the front of their lists.
 // Refused, it leaves every list unchanged.
-pub fn plan(table: &[u32], demands: &[u32], grants: &mut [u32], caps: &mut [u32]) -> Planned
-    ensures { λ r. ⌜ r ≡ answerOf (plan (now (table .entry)) (now (demands .entry)) (lent (now (grants .entry)) (now (caps .entry)))) ⌝ }
-    ensures { λ _. ⌜ now (grants .exit) ≡ after (λ p. p .grants) (plan (now (table .entry)) (now (demands .entry)) (lent (now (grants .entry)) (now (caps .entry)))) (now (grants .entry)) ⌝ }
-    ensures { λ _. ⌜ now (caps .exit) ≡ after (λ p. p .caps) (plan (now (table .entry)) (now (demands .entry)) (lent (now (grants .entry)) (now (caps .entry)))) (now (caps .entry)) ⌝ }
+pub fn plan(
+    table: &[u32],
+    demands: &[u32],
+    grants: &mut [u32],
+    caps: &mut [u32],
+    headroom: &mut [u32],
+) -> Planned
+    ensures { λ r. ⌜ r ≡ answerOf (plan (now (table .entry)) (now (demands .entry)) (lent (now (grants .entry)) (now (caps .entry)) (now (headroom .entry)))) ⌝ }
+    ensures { λ _. ⌜ now (grants .exit) ≡ after (λ p. p .grants) (plan (now (table .entry)) (now (demands .entry)) (lent (now (grants .entry)) (now (caps .entry)) (now (headroom .entry)))) (now (grants .entry)) ⌝ }
+    ensures { λ _. ⌜ now (caps .exit) ≡ after (λ p. p .caps) (plan (now (table .entry)) (now (demands .entry)) (lent (now (grants .entry)) (now (caps .entry)) (now (headroom .entry)))) (now (caps .entry)) ⌝ }
+    ensures { λ _. ⌜ now (headroom .exit) ≡ after (λ p. p .headroom) (plan (now (table .entry)) (now (demands .entry)) (lent (now (grants .entry)) (now (caps .entry)) (now (headroom .entry)))) (now (headroom .entry)) ⌝ }
 {
     let mut beneath = [0u64; 512];
+    let mut held = [0u32; 1024];
     let lengths = Lengths {
         grants: grants.len(),
         caps: caps.len(),
+        headroom: headroom.len(),
     };
     let admission = admit(table, demands, lengths, &mut beneath);
     match admission {
@@ -71,6 +83,8 @@ pub fn plan(table: &[u32], demands: &[u32], grants: &mut [u32], caps: &mut [u32]
                 &beneath,
                 &mut grants[..cords],
                 &mut caps[..servers],
+                &mut headroom[..cords],
+                &mut held[..cords],
             );
             Planned::Accepted(freed)
         }

@@ -12,20 +12,20 @@ use Rattle.rooms.proofs.All.{all-at}
 use Rattle.rooms.proofs.Accepted.{ServerAccepted, accepted}
 use Rattle.room_lists.specs.Lists.{rankColumn}
 use Rattle.print.specs.Line.{freedLine}
-use Rattle.print.specs.Print.{printOf}
+use Rattle.print.specs.Print.{planLine, printOf}
 use Rattle.print.specs.Walk.{planPrint}
 use Rattle.print.specs.Promises.{PrintsRoom}
 use Rattle.print.proofs.Room.{serversAt-servers}
 
 pub prints-room : PrintsRoom
 unfolding planPrint printOf
-prints-room table room end freed servers cords caps grants e sr cr =
+prints-room table room end freed servers cords caps grants headroom e sr cr =
     let ok = accepted table room end e in
     let size : length servers ≡ length (room .servers)
     = sym (column-length rankColumn servers) ∙ ap length (sr .ranks) ∙ figures-length (length (room .servers)) _ in
     let all : min (length servers) mostServers ≡ length (room .servers) = omega (arith, ok .fewServers) in
     rw all
     (ap (λ (l : List ℕ). freedLine freed ++ l)
-    (serversAt-servers room servers caps grants sr cr
+    (serversAt-servers room servers caps (planLine grants headroom) sr cr
     (λ v h. all-at (ServerAccepted (room .scale) (length (room .nodes))) (room .servers) (ok .servers) v _ h .fewCords)
     (length (room .servers)) 0 0 (room .servers) (zero-add (length (room .servers))) refl refl refl (zero-add (roomCords room))))

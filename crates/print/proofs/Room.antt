@@ -16,9 +16,9 @@ use Rattle.rooms.specs.Lists.{nodesOf}
 use Rattle.rooms.proofs.Cords.{noRoomCord, noServer, serverCords-length}
 use Rattle.room_lists.specs.Lists.{countColumn, nodeColumn, ServerRows, CordRows}
 use Rattle.room_lists.proofs.Walk.{serverCords-at}
-use Rattle.print.specs.Line.{freedLine, serverLine, cordLine}
-use Rattle.print.specs.Print.{linesFrom, at, nodeAt, serverPrint, serversPrint, printOf}
-use Rattle.print.specs.Walk.{cordsAt, serversAt}
+use Rattle.print.specs.Line.{freedLine, serverLine}
+use Rattle.print.specs.Print.{linesFrom, at, nodeAt, serverPrint, serversPrint, planLine, printOf}
+use Rattle.print.specs.Walk.{cordLineAt, cordsAt, serversAt}
 
 -- Lines that are the same at each place.
 linesFrom-same : (f g : ℕ → List ℕ) (count k : ℕ) → ((m : ℕ) → m < k + count → f m ≡ g m)
@@ -28,18 +28,17 @@ linesFrom-same f g zero k same = refl
 linesFrom-same f g (suc count) k same =
     rw (same k (omega arith), linesFrom-same f g count (k + 1) (λ m h. same m (omega arith)))
 
--- A server of which the same is known has the same print.
-serverPrint-same : (number cap count : ℕ) (node node' grant : ℕ → ℕ) → ((k : ℕ) → k < count → node k ≡ node' k)
-    → serverPrint number cap count node grant ≡ serverPrint number cap count node' grant
+-- A server with the same lines has the same print.
+serverPrint-same : (number cap count : ℕ) (line line' : ℕ → List ℕ) → ((k : ℕ) → k < count → line k ≡ line' k)
+    → serverPrint number cap count line ≡ serverPrint number cap count line'
 unfolding serverPrint
-serverPrint-same number cap count node node' grant same =
-    ap (λ (l : List ℕ). serverLine number cap ++ l)
-    (linesFrom-same _ _ count 0 (λ k h. ap (λ (n : ℕ). cordLine (k + 1) n (grant k)) (same k (omega arith))))
+serverPrint-same number cap count line line' same =
+    ap (λ (l : List ℕ). serverLine number cap ++ l) (linesFrom-same line line' count 0 (λ k h. same k (omega arith)))
 
 -- ---- the servers
 
 -- The nodes of a server's cords, by their places among the room's.
-module _ (r : Room) (servers : List (List ℕ)) {cords : List (List ℕ)} (caps grants : List ℕ) (sr : ServerRows r servers) (cr : CordRows r cords)
+module _ (r : Room) (servers : List (List ℕ)) {cords : List (List ℕ)} (caps : List ℕ) (line : ℕ → ℕ → ℕ → List ℕ) (sr : ServerRows r servers) (cr : CordRows r cords)
     (few : (v : ℕ) → v < length (r .servers) → cordCount (serverAt r v) ≤ mostServerCords) where
   count-at : (v : ℕ) → v < length (r .servers) → cordsAt servers v ≡ cordCount (serverAt r v)
   count-at v h =
@@ -87,7 +86,7 @@ module _ (r : Room) (servers : List (List ℕ)) {cords : List (List ℕ)} (caps 
   -- The servers from place v on, with their cords from place c on.
   pub serversAt-servers : (left v c : ℕ) (ss : List Server) → v + left ≡ length (r .servers) → drop v (r .servers) ≡ ss → length ss ≡ left
       → drop c (cordsOf r) ≡ cordsFrom v ss → c + total cordCount ss ≡ roomCords r
-      → serversAt servers cords caps grants left v c ≡ serversPrint caps grants v c ss
+      → serversAt servers cords caps line left v c ≡ serversPrint caps line v c ss
   unfolding serversAt serversPrint
   serversAt-servers zero v c [] n d l e t = refl
   serversAt-servers zero v c (s ∷ rest) n d l e t = absurd (omega arith)
@@ -98,30 +97,27 @@ module _ (r : Room) (servers : List (List ℕ)) {cords : List (List ℕ)} (caps 
       let next : v + 1 ≡ suc v = add-one v in
       rw (
         count,
-        serverPrint-same (v + 1) (at caps v) (cordCount s) (λ k. cell cords (c + k) nodeColumn) (nodeAt (s .cords)) (λ k. at grants (c + k))
-            (node-of v c s rest d e first t),
+        serverPrint-same (v + 1) (at caps v) (cordCount s) (cordLineAt cords line c) (λ k. line (k + 1) (nodeAt (s .cords) k) (c + k))
+            (λ k h. ap (λ (n : ℕ). line (k + 1) n (c + k)) (node-of v c s rest d e first t k h)),
         serversAt-servers left (v + 1) (c + cordCount s) rest (omega arith) (rw next (here v c s rest d e first t .1)) (omega arith)
             (rw next (cords-next v c s rest d e first t)) (omega (arith, total-is v c s rest d e first t)),
       )
 
 -- ---- figures past those of the room make no difference
 
-module _ (caps caps' grants grants' : List ℕ) where
+module _ (caps caps' : List ℕ) (line line' : ℕ → ℕ → ℕ → List ℕ) where
   serversPrint-same : (v c : ℕ) (ss : List Server) → ((k : ℕ) → k < v + length ss → at caps k ≡ at caps' k)
-      → ((k : ℕ) → k < c + total cordCount ss → at grants k ≡ at grants' k)
-      → serversPrint caps grants v c ss ≡ serversPrint caps' grants' v c ss
-  unfolding serversPrint serverPrint total
+      → ((number node k : ℕ) → k < c + total cordCount ss → line number node k ≡ line' number node k)
+      → serversPrint caps line v c ss ≡ serversPrint caps' line' v c ss
+  unfolding serversPrint total
   serversPrint-same v c [] h k = refl
   serversPrint-same v c (s ∷ ss) h k =
-      let cord = linesFrom-same (line grants) (line grants') (cordCount s) 0 one in
-      let rest = serversPrint-same (v + 1) (c + cordCount s) ss (λ m l. h m (omega arith)) (λ m l. k m (omega arith)) in
-      rw (h v (omega arith), cord, rest)
+      let cords = serverPrint-same (v + 1) (at caps' v) (cordCount s) (at-cord line) (at-cord line') (λ m l. k (m + 1) (nodeAt (s .cords) m) (c + m) (omega arith)) in
+      let rest = serversPrint-same (v + 1) (c + cordCount s) ss (λ m l. h m (omega arith)) (λ a b m l. k a b m (omega arith)) in
+      rw (h v (omega arith), cords, rest)
     where
-      line : List ℕ → ℕ → List ℕ
-      line figures m = cordLine (m + 1) (nodeAt (s .cords) m) (at figures (c + m))
-
-      one : (m : ℕ) → m < 0 + cordCount s → line grants m ≡ line grants' m
-      one m l = ap (cordLine (m + 1) (nodeAt (s .cords) m)) (k (c + m) (omega arith))
+      at-cord : (ℕ → ℕ → ℕ → List ℕ) → ℕ → List ℕ
+      at-cord by m = by (m + 1) (nodeAt (s .cords) m) (c + m)
 
 -- What stands at the front of a list that has it there.
 at-front : (list output : List ℕ) (k : ℕ) → k < length output → length output ≤ length list
@@ -129,13 +125,16 @@ at-front : (list output : List ℕ) (k : ℕ) → k < length output → length o
 at-front list output k h l =
     sym (getD-take (length output) (sets list 0 output) k 0 h) ∙ rw (take-sets (length output) list output l (omega arith), take-length output)
 
--- The print of a plan whose figures stand at the front of longer lists.
-pub printOf-front : (r : Room) (freed : ℕ) (caps grants list list' : List ℕ) → length caps ≡ length (r .servers)
-    → length grants ≡ roomCords r
-    → length caps ≤ length list → length grants ≤ length list'
-    → printOf freed (r .servers) (sets list 0 caps) (sets list' 0 grants) ≡ printOf freed (r .servers) caps grants
-unfolding printOf
-printOf-front r freed caps grants list list' hc hg lc lg =
-    ap (λ (l : List ℕ). freedLine freed ++ l)
-    (serversPrint-same (sets list 0 caps) caps (sets list' 0 grants) grants 0 0 (r .servers)
-    (λ k h. at-front list caps k (omega arith) lc) (λ k h. at-front list' grants k (omega arith) lg))
+-- A plan whose figures stand at the front of longer lists: for each cord the same line, and the same print.
+module _ (r : Room) (freed : ℕ) (caps grants headroom list list' list'' : List ℕ) (hc : length caps ≡ length (r .servers))
+    (hg : length grants ≡ roomCords r) (hh : length headroom ≡ roomCords r)
+    (lc : length caps ≤ length list) (lg : length grants ≤ length list') (lh : length headroom ≤ length list'') where
+  line-front : (number node k : ℕ) → k < roomCords r → planLine (sets list' 0 grants) (sets list'' 0 headroom) number node k ≡ planLine grants headroom number node k
+  line-front number node k h = rw (at-front list' grants k (omega arith) lg, at-front list'' headroom k (omega arith) lh)
+
+  pub printOf-front : printOf freed (r .servers) (sets list 0 caps) (sets list' 0 grants) (sets list'' 0 headroom) ≡ printOf freed (r .servers) caps grants headroom
+  unfolding printOf
+  printOf-front =
+      ap (λ (l : List ℕ). freedLine freed ++ l)
+      (serversPrint-same (sets list 0 caps) caps (planLine (sets list' 0 grants) (sets list'' 0 headroom)) (planLine grants headroom) 0 0 (r .servers)
+      (λ k h. at-front list caps k (omega arith) lc) (λ number node k h. line-front number node k (omega arith)))

@@ -1,4 +1,4 @@
--- How long a print is: the print of a room is at most 47,131 bytes.
+-- How long a print is.
 use mathlib.Core.Path.{_≡_}
 use mathlib.Core.Bool.{Bool, true, false, cond}
 use mathlib.Core.List.{List, [], _∷_, _++_}
@@ -10,11 +10,11 @@ use lib.Dec.{ltb}
 use lib.ListN.{length, length-append}
 use Rattle.words.specs.Lists.{AllBelow}
 use Rattle.figures.specs.Figures.{total}
-use Rattle.rooms.specs.Table.{Server, Room, mostServers, mostNodes, cordCount}
+use Rattle.rooms.specs.Table.{Server, Room, mostServers, mostNodes, mostCords, cordCount}
 use Rattle.rooms.proofs.All.{All, all-head, all-tail, all-at}
 use Rattle.rooms.proofs.Accepted.{ServerAccepted, Accepted}
-use Rattle.print.specs.Line.{numeral, freedLine, serverLine, cordLine, refusedLine}
-use Rattle.print.specs.Print.{linesFrom, at, nodeAt, serverPrint, serversPrint, printOf}
+use Rattle.print.specs.Line.{numeral, labelled, freedLine, serverLine, cordLine, refusedLine}
+use Rattle.print.specs.Print.{linesFrom, at, nodeAt, serverPrint, serversPrint, planLine, printOf}
 
 -- A number below 10 ^ k has at most k digits.
 length-numeral : (k most n : ℕ) → n < 10 ^ suc k → length (numeral most n) ≤ suc k
@@ -42,23 +42,31 @@ length-most (suc most) n = go (ltb n 10) (length-most most (n / 10))
 
 -- ---- the lines
 
+-- The most bytes of a cord's line, and of the print of a room: 512 servers and 1,024 cords.
+abbrev mostLine : ℕ
+mostLine = 53
+
+abbrev pub mostPrint : ℕ
+mostPrint = 27 + 26 * mostServers + mostLine * mostCords
+
 pub length-refusedLine : (number place : ℕ) → length (refusedLine number place) ≤ 53
-unfolding refusedLine
+unfolding refusedLine labelled
 length-refusedLine number place = simp length-append (omega (arith, length-most 20 number, length-most 20 place))
 
 length-freedLine : (watts : ℕ) → watts < 10 ^ 20 → length (freedLine watts) ≤ 27
-unfolding freedLine
+unfolding freedLine labelled
 length-freedLine watts h = simp length-append (omega (arith, length-numeral 19 20 watts h))
 
 length-serverLine : (number cap : ℕ) → number < 10 ^ 3 → cap < 10 ^ 10 → length (serverLine number cap) ≤ 26
-unfolding serverLine
+unfolding serverLine labelled
 length-serverLine number cap h k = simp length-append (omega (arith, length-numeral 2 20 number h, length-numeral 9 20 cap k))
 
-length-cordLine : (number node grant : ℕ) → number < 10 ^ 1 → node < 10 ^ 3 → grant < 10 ^ 10
-    → length (cordLine number node grant) ≤ 33
-unfolding cordLine
-length-cordLine number node grant h k l =
-    simp length-append (omega (arith, length-numeral 0 20 number h, length-numeral 2 20 node k, length-numeral 9 20 grant l))
+length-cordLine : (number node grant headroom : ℕ) → number < 10 ^ 1 → node < 10 ^ 3 → grant < 10 ^ 10 → headroom < 10 ^ 10
+    → length (cordLine number node grant headroom) ≤ mostLine
+unfolding cordLine labelled
+length-cordLine number node grant headroom h k l m =
+    simp length-append
+    (omega (arith, length-numeral 0 20 number h, length-numeral 2 20 node k, length-numeral 9 20 grant l, length-numeral 9 20 headroom m))
 
 length-linesFrom : (most : ℕ) (line : ℕ → List ℕ) (count k : ℕ) → ((m : ℕ) → m < k + count → length (line m) ≤ most)
     → length (linesFrom count k line) ≤ most * count
@@ -76,25 +84,25 @@ length-linesFrom most line (suc count) k h =
 -- ---- the servers
 
 module _
-    (caps grants : List ℕ) (below : AllBelow (2 ^ 32) caps) (below' : AllBelow (2 ^ 32) grants)
+    (caps : List ℕ) (line : ℕ → ℕ → ℕ → List ℕ) (below : AllBelow (2 ^ 32) caps)
+    (short : (number node place : ℕ) → number < 10 ^ 1 → node < 10 ^ 3 → length (line number node place) ≤ mostLine)
     (scale nodeCount : ℕ) (few : nodeCount ≤ mostNodes) where
   length-serverPrint : (v c : ℕ) (s : Server) → v < mostServers → ServerAccepted scale nodeCount s
-      → length (serverPrint (v + 1) (at caps v) (cordCount s) (nodeAt (s .cords)) (λ k. at grants (c + k))) ≤ 26 + 33 * cordCount s
+      → length (serverPrint (v + 1) (at caps v) (cordCount s) (λ k. line (k + 1) (nodeAt (s .cords) k) (c + k))) ≤ 26 + mostLine * cordCount s
   unfolding serverPrint
   length-serverPrint v c s h a =
       let server = length-serverLine (v + 1) (at caps v) (omega arith) (omega (arith, below v)) in
-      let cords = length-linesFrom 33 (λ k. cordLine (k + 1) (nodeAt (s .cords) k) (at grants (c + k))) (cordCount s) 0 cord in
+      let cords = length-linesFrom mostLine (λ k. line (k + 1) (nodeAt (s .cords) k) (c + k)) (cordCount s) 0 cord in
       simp length-append (omega arith)
     where
-      cord : (k : ℕ) → k < 0 + cordCount s → length (cordLine (k + 1) (nodeAt (s .cords) k) (at grants (c + k))) ≤ 33
+      cord : (k : ℕ) → k < 0 + cordCount s → length (line (k + 1) (nodeAt (s .cords) k) (c + k)) ≤ mostLine
       cord k h =
           let there : k < cordCount s = omega arith in
           let is = all-at _ (s .cords) (a .cords) k (record { node = 0; share = 0 }) there in
-          length-cordLine (k + 1) (nodeAt (s .cords) k) (at grants (c + k))
-          (omega (arith, a .fewCords)) (omega (arith, is .nodeTo)) (omega (arith, below' (c + k)))
+          short (k + 1) (nodeAt (s .cords) k) (c + k) (omega (arith, a .fewCords)) (omega (arith, is .nodeTo))
 
   length-serversPrint : (v c : ℕ) (ss : List Server) → v + length ss ≤ mostServers → All (ServerAccepted scale nodeCount) ss
-      → length (serversPrint caps grants v c ss) ≤ 26 * length ss + 33 * total cordCount ss
+      → length (serversPrint caps line v c ss) ≤ 26 * length ss + mostLine * total cordCount ss
   unfolding serversPrint total
   length-serversPrint v c [] h a = omega arith
   length-serversPrint v c (s ∷ ss) h a =
@@ -103,13 +111,14 @@ module _
       simp length-append (omega arith)
 
 -- The print of an accepted room, with words for figures and 64 bits of freed watts.
-pub length-printOf : (r : Room) (freed : ℕ) (caps grants : List ℕ) → Accepted r → freed < 2 ^ 64 → AllBelow (2 ^ 32) caps
-    → AllBelow (2 ^ 32) grants
-    → length (printOf freed (r .servers) caps grants) ≤ 47131
+pub length-printOf : (r : Room) (freed : ℕ) (caps grants headroom : List ℕ) → Accepted r → freed < 2 ^ 64 → AllBelow (2 ^ 32) caps
+    → AllBelow (2 ^ 32) grants → AllBelow (2 ^ 32) headroom
+    → length (printOf freed (r .servers) caps grants headroom) ≤ mostPrint
 unfolding printOf
-length-printOf r freed caps grants a h below below' =
+length-printOf r freed caps grants headroom a h below below' below'' =
     let first = length-freedLine freed (omega arith) in
     let rest =
-    length-serversPrint caps grants below below' (r .scale) (length (r .nodes)) (a .fewNodes) 0 0 (r .servers)
-    (omega (arith, a .fewServers)) (a .servers) in
+    length-serversPrint caps (planLine grants headroom) below
+    (λ number node place n m. length-cordLine number node (at grants place) (at headroom place) n m (omega (arith, below' place)) (omega (arith, below'' place)))
+    (r .scale) (length (r .nodes)) (a .fewNodes) 0 0 (r .servers) (omega (arith, a .fewServers)) (a .servers) in
     simp length-append (omega (arith, a .fewServers, a .fewCords))

@@ -40,34 +40,34 @@ module _ (line : ℕ → List ℕ) where
 
 -- The walk over the servers, at its place v: what is put, followed by the servers that are left, is the whole; the first grant is no
 -- further than so many servers can take it.
-pub record Walking (servers cords : List (List ℕ)) (caps grants a : List ℕ) (start count : ℕ) (b : List ℕ) (first next v : ℕ) : Type 0 where
+pub record Walking (servers cords : List (List ℕ)) (caps : List ℕ) (line : ℕ → ℕ → ℕ → List ℕ) (a : List ℕ) (start count : ℕ) (b : List ℕ) (first next v : ℕ) : Type 0 where
   pub bound : v ≤ count
   pub most : count ≤ mostServers
   pub first-bound : first ≤ 4 * v
-  pub put : Putting a start b next (serversAt servers cords caps grants (count - v) v first) (serversAt servers cords caps grants count 0 0)
+  pub put : Putting a start b next (serversAt servers cords caps line (count - v) v first) (serversAt servers cords caps line count 0 0)
   pub size : length b ≡ length a
 
-module _ (servers cords : List (List ℕ)) (caps grants a : List ℕ) (start count : ℕ) where
-  pub walking-first : start ≤ length a → count ≤ mostServers → Walking servers cords caps grants a start count a 0 start 0
+module _ (servers cords : List (List ℕ)) (caps : List ℕ) (line : ℕ → ℕ → ℕ → List ℕ) (a : List ℕ) (start count : ℕ) where
+  pub walking-first : start ≤ length a → count ≤ mostServers → Walking servers cords caps line a start count a 0 start 0
   walking-first h k =
       let all : count - 0 ≡ count = omega arith in
       record {
         bound = omega arith;
         most = k;
         first-bound = omega arith;
-        put = rw all (putting-first a start (serversAt servers cords caps grants count 0 0) h);
+        put = rw all (putting-first a start (serversAt servers cords caps line count 0 0) h);
         size = refl;
       }
 
   -- One server more.
-  pub walking-next : (b : List ℕ) (first next v : ℕ) {b' b'' : List ℕ} {line past cap few : ℕ}
-      → Walking servers cords caps grants a start count b first next v → v < count
+  pub walking-next : (b : List ℕ) (first next v : ℕ) {b' b'' : List ℕ} {at-line past cap few : ℕ}
+      → Walking servers cords caps line a start count b first next v → v < count
       → cap ≡ at caps v → few ≡ cordsAt servers v
-      → Put b next b' line (serverLine (v + 1) cap)
-      → Put b' line b'' past (linesFrom few 0 (cordLineAt cords grants first))
-      → Walking servers cords caps grants a start count b'' (first + few) past (v + 1)
+      → Put b next b' at-line (serverLine (v + 1) cap)
+      → Put b' at-line b'' past (linesFrom few 0 (cordLineAt cords line first))
+      → Walking servers cords caps line a start count b'' (first + few) past (v + 1)
   unfolding serversAt serverPrint
-  walking-next b first next v {b'} {b''} {line} {past} {cap} {few} g h ec es p q =
+  walking-next b first next v {b'} {b''} {at-line} {past} {cap} {few} g h ec es p q =
       let left : count - v ≡ suc (count - (v + 1)) = omega arith in
       let both = then p q in
       record {
@@ -79,9 +79,9 @@ module _ (servers cords : List (List ℕ)) (caps grants a : List ℕ) (start cou
       }
 
 -- No server is left.
-pub walked : {servers cords : List (List ℕ)} {caps grants a : List ℕ} {start count : ℕ} {b : List ℕ} {first next v : ℕ}
-    → Walking servers cords caps grants a start count b first next v → count ≤ v → count ≡ min (length servers) mostServers
-    → Put a start b next (walkPrint servers cords caps grants)
+pub walked : {servers cords : List (List ℕ)} {caps : List ℕ} {line : ℕ → ℕ → ℕ → List ℕ} {a : List ℕ} {start count : ℕ} {b : List ℕ} {first next v : ℕ}
+    → Walking servers cords caps line a start count b first next v → count ≤ v → count ≡ min (length servers) mostServers
+    → Put a start b next (walkPrint servers cords caps line)
 unfolding serversAt
 walked {count = count} {v = v} g h ec =
     let none : count - v ≡ 0 = omega arith in

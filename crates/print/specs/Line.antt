@@ -16,7 +16,8 @@ numeral (suc most) n = cond (ltb n 10) ((48 + n) ∷ []) (numeral most (n / 10) 
 abbrev pub decimal : ℕ → List ℕ
 decimal n = numeral 20 n
 
--- The words of the lines, with their spaces: `freed `, `server `, ` cap `, `cord `, ` node `, ` grant `, `refused `, ` at `.
+-- The words of the lines, with their spaces: `freed `, `server `, ` cap `, `cord `, ` node `, ` grant `, ` headroom `, `refused `,
+-- ` at `.
 abbrev pub freedWord : List ℕ
 freedWord = 102 ∷ 114 ∷ 101 ∷ 101 ∷ 100 ∷ 32 ∷ []
 
@@ -35,6 +36,9 @@ nodeWord = 32 ∷ 110 ∷ 111 ∷ 100 ∷ 101 ∷ 32 ∷ []
 abbrev pub grantWord : List ℕ
 grantWord = 32 ∷ 103 ∷ 114 ∷ 97 ∷ 110 ∷ 116 ∷ 32 ∷ []
 
+abbrev pub headroomWord : List ℕ
+headroomWord = 32 ∷ 104 ∷ 101 ∷ 97 ∷ 100 ∷ 114 ∷ 111 ∷ 111 ∷ 109 ∷ 32 ∷ []
+
 abbrev pub refusedWord : List ℕ
 refusedWord = 114 ∷ 101 ∷ 102 ∷ 117 ∷ 115 ∷ 101 ∷ 100 ∷ 32 ∷ []
 
@@ -44,22 +48,30 @@ atWord = 32 ∷ 97 ∷ 116 ∷ 32 ∷ []
 abbrev pub newline : List ℕ
 newline = 10 ∷ []
 
+-- A word of a line and the figure after it.
+unfoldable pub labelled : List ℕ → ℕ → List ℕ
+labelled word figure = word ++ decimal figure
+
 -- `freed F`.
 unfoldable pub freedLine : ℕ → List ℕ
-freedLine watts = freedWord ++ (decimal watts ++ newline)
+unfolding labelled
+freedLine watts = labelled freedWord watts ++ newline
 
 -- `server N cap W`.
 unfoldable pub serverLine : ℕ → ℕ → List ℕ
-serverLine number cap = serverWord ++ (decimal number ++ (capWord ++ (decimal cap ++ newline)))
+unfolding labelled
+serverLine number cap = labelled serverWord number ++ (labelled capWord cap ++ newline)
 
--- `cord K node M grant G`.
-unfoldable pub cordLine : ℕ → ℕ → ℕ → List ℕ
-cordLine number node grant =
-    cordWord ++ (decimal number ++ (nodeWord ++ (decimal node ++ (grantWord ++ (decimal grant ++ newline)))))
+-- `cord K node M grant G headroom W`.
+unfoldable pub cordLine : ℕ → ℕ → ℕ → ℕ → List ℕ
+unfolding labelled
+cordLine number node grant headroom =
+    labelled cordWord number ++ (labelled nodeWord node ++ (labelled grantWord grant ++ (labelled headroomWord headroom ++ newline)))
 
 -- `refused R at P`.
 unfoldable pub refusedLine : ℕ → ℕ → List ℕ
-refusedLine number place = refusedWord ++ (decimal number ++ (atWord ++ (decimal place ++ newline)))
+unfolding labelled
+refusedLine number place = labelled refusedWord number ++ (labelled atWord place ++ newline)
 
 -- A text is put into a buffer from a place on: as much of it as fits stands there, the rest of the buffer is as it was,
 -- and the next place is past what stands there.

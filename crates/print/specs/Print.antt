@@ -14,21 +14,26 @@ linesFrom (suc count) k line = line k ++ linesFrom count (k + 1) line
 abbrev pub at : List ℕ → ℕ → ℕ
 at figures place = getD figures place 0
 
--- A server and its cords: its number and cap, how many cords, and node and grant of each by its place.
-unfoldable pub serverPrint : ℕ → ℕ → ℕ → (ℕ → ℕ) → (ℕ → ℕ) → List ℕ
-serverPrint number cap count node grant = serverLine number cap ++ linesFrom count 0 (λ k. cordLine (k + 1) (node k) (grant k))
+-- A server and its cords: its number and cap, how many cords, and the line of each by its place among them.
+unfoldable pub serverPrint : ℕ → ℕ → ℕ → (ℕ → List ℕ) → List ℕ
+serverPrint number cap count line = serverLine number cap ++ linesFrom count 0 line
 
 -- The node of the cord at a place.
 abbrev pub nodeAt : List Cord → ℕ → ℕ
 nodeAt cords k = getD cords k (record { node = 0; share = 0 }) .node
 
--- Some servers, the first at place v, and its first cord at place c of the grants.
-unfoldable pub serversPrint : List ℕ → List ℕ → ℕ → ℕ → List Server → List ℕ
-serversPrint caps grants v c [] = []
-serversPrint caps grants v c (s ∷ rest) =
-    serverPrint (v + 1) (at caps v) (cordCount s) (nodeAt (s .cords)) (λ k. at grants (c + k))
-    ++ serversPrint caps grants (v + 1) (c + cordCount s) rest
+-- Some servers, the first at place v, and its first cord at place c of the room's. The line of a cord is by its number, its node and
+-- its place.
+unfoldable pub serversPrint : List ℕ → (ℕ → ℕ → ℕ → List ℕ) → ℕ → ℕ → List Server → List ℕ
+serversPrint caps line v c [] = []
+serversPrint caps line v c (s ∷ rest) =
+    serverPrint (v + 1) (at caps v) (cordCount s) (λ k. line (k + 1) (nodeAt (s .cords) k) (c + k))
+    ++ serversPrint caps line (v + 1) (c + cordCount s) rest
+
+-- The line of a cord, by what a plan's lists have at its place.
+abbrev pub planLine : (grants headroom : List ℕ) → ℕ → ℕ → ℕ → List ℕ
+planLine grants headroom number node place = cordLine number node (at grants place) (at headroom place)
 
 -- The print of a plan.
-unfoldable pub printOf : ℕ → List Server → List ℕ → List ℕ → List ℕ
-printOf freed servers caps grants = freedLine freed ++ serversPrint caps grants 0 0 servers
+unfoldable pub printOf : ℕ → List Server → (caps grants headroom : List ℕ) → List ℕ
+printOf freed servers caps grants headroom = freedLine freed ++ serversPrint caps (planLine grants headroom) 0 0 servers

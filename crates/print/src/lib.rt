@@ -3,8 +3,8 @@ ghost use mathlib.Core.Path.{_≡_};
 ghost use Prim.Native.Nat.{_^_, _≤_, _<_};
 ghost use lib.ListN.{length};
 ghost use Rattle.io.specs.Counts.{Counts};
-ghost use Rattle.print.specs.Line.{decimal, freedLine, serverLine, cordLine, refusedLine, Put};
-ghost use Rattle.print.specs.Print.{linesFrom, at, printOf};
+ghost use Rattle.print.specs.Line.{decimal, labelled, freedLine, serverLine, cordLine, refusedLine, Put};
+ghost use Rattle.print.specs.Print.{linesFrom, at, planLine, printOf};
 ghost use Rattle.print.specs.Walk.{cordLineAt, walkPrint, planPrint};
 ghost use Rattle.figures.specs.Figures.{cell};
 ghost use Rattle.rooms.specs.Part.{Good};
@@ -23,10 +23,17 @@ const MOST_CORDS: usize = 1024;
 const MOST_SERVER_CORDS: usize = 4;
 
 // The print of a good table's plan, at the front of the buffer: as much as fits. The result is how many bytes that is.
-pub fn plan(freed: u64, table: &[u32], caps: &[u32], grants: &[u32], buffer: &mut [u8]) -> usize
+pub fn plan(
+    freed: u64,
+    table: &[u32],
+    caps: &[u32],
+    grants: &[u32],
+    headroom: &[u32],
+    buffer: &mut [u8],
+) -> usize
     requires { ⌜ Good (checked (now table) 0) ⌝ }
     ensures { λ r. ⌜ OfRoom (now (table .entry)) (λ room. Put (now (buffer .entry)) 0 (now (buffer .exit)) r
-        (printOf freed (room .servers) (now (caps .entry)) (now (grants .entry)))) ⌝ }
+        (printOf freed (room .servers) (now (caps .entry)) (now (grants .entry)) (now (headroom .entry)))) ⌝ }
     ensures { λ r. ⌜ Counts r (now (buffer .exit)) ⌝ }
 {
     let mut servers = [[0u32; 4]; MOST_SERVERS];
@@ -40,6 +47,7 @@ pub fn plan(freed: u64, table: &[u32], caps: &[u32], grants: &[u32], buffer: &mu
         &mut cords[..cord_count],
         caps,
         grants,
+        headroom,
         buffer,
     )
 }
@@ -52,16 +60,17 @@ fn plan_by(
     cords: &mut [[u32; 4]],
     caps: &[u32],
     grants: &[u32],
+    headroom: &[u32],
     buffer: &mut [u8],
 ) -> usize
     requires { ⌜ Good (checked (now table) 0) ⌝ }
     requires { ⌜ ServersFit (now table) (length (now servers)) × CordsFit (now table) (length (now cords)) ⌝ }
     ensures { λ r. ⌜ OfRoom (now (table .entry)) (λ room. Put (now (buffer .entry)) 0 (now (buffer .exit)) r
-        (printOf freed (room .servers) (now (caps .entry)) (now (grants .entry)))) ⌝ }
+        (printOf freed (room .servers) (now (caps .entry)) (now (grants .entry)) (now (headroom .entry)))) ⌝ }
     ensures { λ r. ⌜ Counts r (now (buffer .exit)) ⌝ }
 {
     room_lists::lay_out_servers(table, servers, cords);
-    put_plan(freed, servers, cords, caps, grants, buffer)
+    put_plan(freed, servers, cords, caps, grants, headroom, buffer)
 }
 
 // The print of a plan by the rows of its servers and cords.
@@ -71,14 +80,15 @@ fn put_plan(
     cords: &[[u32; 4]],
     caps: &[u32],
     grants: &[u32],
+    headroom: &[u32],
     buffer: &mut [u8],
 ) -> usize
     ensures { λ r. ⌜ Put (now (buffer .entry)) 0 (now (buffer .exit)) r
-        (planPrint freed (now (servers .entry)) (now (cords .entry)) (now (caps .entry)) (now (grants .entry))) ⌝ }
+        (planPrint freed (now (servers .entry)) (now (cords .entry)) (now (caps .entry)) (now (grants .entry)) (now (headroom .entry))) ⌝ }
     ensures { λ r. ⌜ Counts r (now (buffer .exit)) ⌝ }
 {
     let next = put_freed(freed as usize, buffer, 0);
-    put_servers(servers, cords, caps, grants, buffer, next)
+    put_servers(servers, cords, caps, grants, headroom, buffer, next)
 }
 
 // The print of a refusal, at the front of the buffer: as much as fits. The result is how many bytes that is.
@@ -86,11 +96,9 @@ pub fn refusal(number: u64, place: usize, buffer: &mut [u8]) -> usize
     ensures { λ r. ⌜ Put (now (buffer .entry)) 0 (now (buffer .exit)) r (refusedLine number place) ⌝ }
     ensures { λ r. ⌜ Counts r (now (buffer .exit)) ⌝ }
 {
-    let a = put(b"refused ", buffer, 0);
-    let b = put_decimal(number as usize, buffer, a);
-    let c = put(b" at ", buffer, b);
-    let d = put_decimal(place, buffer, c);
-    put(b"\n", buffer, d)
+    let a = put_figure(b"refused ", number as usize, buffer, 0);
+    let b = put_figure(b" at ", place, buffer, a);
+    put(b"\n", buffer, b)
 }
 
 // The lines of all servers and their cords.
@@ -99,12 +107,13 @@ fn put_servers(
     cords: &[[u32; 4]],
     caps: &[u32],
     grants: &[u32],
+    headroom: &[u32],
     buffer: &mut [u8],
     start: usize,
 ) -> usize
     requires { ⌜ start ≤ length (now buffer) ⌝ }
     ensures { λ r. ⌜ Put (now (buffer .entry)) start (now (buffer .exit)) r
-        (walkPrint (now (servers .entry)) (now (cords .entry)) (now (caps .entry)) (now (grants .entry))) ⌝ }
+        (walkPrint (now (servers .entry)) (now (cords .entry)) (now (caps .entry)) (planLine (now (grants .entry)) (now (headroom .entry)))) ⌝ }
 {
     let count = least(servers.len(), MOST_SERVERS);
     let mut first = 0usize;
@@ -112,25 +121,26 @@ fn put_servers(
     for v in 0..count {
         let few = least(word_index(servers[v][COUNT]), MOST_SERVER_CORDS);
         let line = put_server(v + 1, word(caps, v), buffer, next);
-        let past = put_cords(few, cords, grants, first, buffer, line);
+        let past = put_cords(few, cords, grants, headroom, first, buffer, line);
         next = past;
         first += few;
     }
     next
 }
 
-// The lines of a server's cords, whose rows and grants start at `first`.
+// The lines of a server's cords, whose rows and figures start at `first`.
 fn put_cords(
     count: usize,
     cords: &[[u32; 4]],
     grants: &[u32],
+    headroom: &[u32],
     first: usize,
     buffer: &mut [u8],
     start: usize,
 ) -> usize
     requires { ⌜ (count ≤ 4) × (first < 2 ^ 34) × (start ≤ length (now buffer)) ⌝ }
     ensures { λ r. ⌜ Put (now (buffer .entry)) start (now (buffer .exit)) r
-        (linesFrom count 0 (cordLineAt (now (cords .entry)) (now (grants .entry)) first)) ⌝ }
+        (linesFrom count 0 (cordLineAt (now (cords .entry)) (planLine (now (grants .entry)) (now (headroom .entry))) first)) ⌝ }
 {
     let mut next = start;
     for k in 0..count {
@@ -138,6 +148,7 @@ fn put_cords(
             k + 1,
             node(cords, first + k),
             word(grants, first + k),
+            word(headroom, first + k),
             buffer,
             next,
         );
@@ -162,9 +173,8 @@ fn put_freed(watts: usize, buffer: &mut [u8], start: usize) -> usize
     requires { ⌜ start ≤ length (now buffer) ⌝ }
     ensures { λ r. ⌜ Put (now (buffer .entry)) start (now (buffer .exit)) r (freedLine watts) ⌝ }
 {
-    let a = put(b"freed ", buffer, start);
-    let b = put_decimal(watts, buffer, a);
-    put(b"\n", buffer, b)
+    let a = put_figure(b"freed ", watts, buffer, start);
+    put(b"\n", buffer, a)
 }
 
 // `server N cap W`.
@@ -172,25 +182,37 @@ fn put_server(number: usize, cap: usize, buffer: &mut [u8], start: usize) -> usi
     requires { ⌜ start ≤ length (now buffer) ⌝ }
     ensures { λ r. ⌜ Put (now (buffer .entry)) start (now (buffer .exit)) r (serverLine number cap) ⌝ }
 {
-    let a = put(b"server ", buffer, start);
-    let b = put_decimal(number, buffer, a);
-    let c = put(b" cap ", buffer, b);
-    let d = put_decimal(cap, buffer, c);
+    let a = put_figure(b"server ", number, buffer, start);
+    let b = put_figure(b" cap ", cap, buffer, a);
+    put(b"\n", buffer, b)
+}
+
+// `cord K node M grant G headroom W`.
+fn put_cord(
+    number: usize,
+    node: usize,
+    grant: usize,
+    headroom: usize,
+    buffer: &mut [u8],
+    start: usize,
+) -> usize
+    requires { ⌜ start ≤ length (now buffer) ⌝ }
+    ensures { λ r. ⌜ Put (now (buffer .entry)) start (now (buffer .exit)) r (cordLine number node grant headroom) ⌝ }
+{
+    let a = put_figure(b"cord ", number, buffer, start);
+    let b = put_figure(b" node ", node, buffer, a);
+    let c = put_figure(b" grant ", grant, buffer, b);
+    let d = put_figure(b" headroom ", headroom, buffer, c);
     put(b"\n", buffer, d)
 }
 
-// `cord K node M grant G`.
-fn put_cord(number: usize, node: usize, grant: usize, buffer: &mut [u8], start: usize) -> usize
+// A word of a line and the figure after it, from a place on.
+fn put_figure(word: &[u8], figure: usize, buffer: &mut [u8], start: usize) -> usize
     requires { ⌜ start ≤ length (now buffer) ⌝ }
-    ensures { λ r. ⌜ Put (now (buffer .entry)) start (now (buffer .exit)) r (cordLine number node grant) ⌝ }
+    ensures { λ r. ⌜ Put (now (buffer .entry)) start (now (buffer .exit)) r (labelled (now (word .entry)) figure) ⌝ }
 {
-    let a = put(b"cord ", buffer, start);
-    let b = put_decimal(number, buffer, a);
-    let c = put(b" node ", buffer, b);
-    let d = put_decimal(node, buffer, c);
-    let e = put(b" grant ", buffer, d);
-    let f = put_decimal(grant, buffer, e);
-    put(b"\n", buffer, f)
+    let next = put(word, buffer, start);
+    put_decimal(figure, buffer, next)
 }
 
 // A number in decimal, from a place on.

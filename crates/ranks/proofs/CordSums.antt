@@ -19,17 +19,16 @@ use Rattle.ranks.specs.Passes.{LevelCords, listedBefore, overListed, cor
 
 -- ---- The cord of an entry, by its place as the code has it
 
-module _ {count : ℕ} {listed nodes lows starts wants : List ℕ} (cords : LevelCords count listed nodes lows starts wants) {i : ℕ} (more : i < length listed) {c : ℕ} (c-is : c ≡ at listed i) where
+module _ {count : ℕ} {listed nodes starts wants : List ℕ} (cords : LevelCords count listed nodes starts wants) {i : ℕ} (more : i < length listed) {c : ℕ} (c-is : c ≡ at listed i) where
   pub cord-within : c < length nodes
   cord-within = omega (arith, cords .within i more)
 
   pub cord-hangs : (1 ≤ at nodes c) × (at nodes c ≤ count)
   cord-hangs = (omega (arith, ap (at nodes) c-is, cords .hangs i more), omega (arith, ap (at nodes) c-is, cords .there i more))
 
-  pub cord-bounds : (at lows c ≤ at starts c) × (at starts c ≤ at wants c) × (at wants c ≤ mostWatts)
+  pub cord-bounds : (at starts c ≤ at wants c) × (at wants c ≤ mostWatts)
   cord-bounds = (
-    omega (arith, ap (at lows) c-is, ap (at starts) c-is, cords .ordered i more .0),
-    omega (arith, ap (at starts) c-is, ap (at wants) c-is, cords .ordered i more .1),
+    omega (arith, ap (at starts) c-is, ap (at wants) c-is, cords .ordered i more),
     omega (arith, ap (at wants) c-is, cords .most i more),
   )
 
@@ -56,7 +55,7 @@ credited-start listed nodes figure count e =
       sums-are = λ n l. ap (λ (x : List ℕ). at x n) e ∙ zeros-at count n ∙ sym (sum-none (λ h. on (eqb (at nodes (at listed h)) (suc n)) (figure (at listed h))));
     }
 
-module _ {count : ℕ} {listed nodes lows starts wants : List ℕ} (cords : LevelCords count listed nodes lows starts wants) {i : ℕ} (more : i < length listed) {c : ℕ} (c-is : c ≡ at listed i)
+module _ {count : ℕ} {listed nodes starts wants : List ℕ} (cords : LevelCords count listed nodes starts wants) {i : ℕ} (more : i < length listed) {c : ℕ} (c-is : c ≡ at listed i)
     {figure : ℕ → ℕ} {sums : List ℕ} (inv : Credited count listed nodes figure i sums) {x a : ℕ} (x-is : x ≡ at nodes c) where
   -- The figure of the cord of entry i is credited to its node.
   credited-more : {sums′ : List ℕ} → a ≡ figure c → sums′ ≡ credited x a sums → Credited count listed nodes figure (i + 1) sums′
@@ -82,59 +81,50 @@ module _ {count : ℕ} {listed nodes lows starts wants : List ℕ} (cords : Leve
         omega (arith, cords .few, hangs .0, hangs .1, inv .sums-are (x - 1) (omega (arith, hangs .0, hangs .1))),
       )
 
--- ---- Their lows, starts and weights
+-- ---- Their starts and weights
 
 -- Before the turn of entry i.
-pub record SumTurn (count : ℕ) (listed nodes lows starts wants : List ℕ) (i : ℕ) (pcapmins bases wholes : List ℕ) : Type 0 where
-  pub cords : LevelCords count listed nodes lows starts wants
+pub record SumTurn (count : ℕ) (listed nodes starts wants : List ℕ) (i : ℕ) (bases wholes : List ℕ) : Type 0 where
+  pub cords : LevelCords count listed nodes starts wants
   pub reached : i ≤ length listed
-  pub pcapmins-are : Credited count listed nodes (at lows) i pcapmins
   pub bases-are : Credited count listed nodes (at starts) i bases
   pub wholes-are : Credited count listed nodes (cordWeight starts wants) i wholes
 
-module _ {listed nodes lows starts wants : List ℕ} where
-  pub sums-start : {count : ℕ} {pcapmins bases wholes : List ℕ} → LevelCords count listed nodes lows starts wants
-      → pcapmins ≡ replicate count 0 → bases ≡ replicate count 0 → wholes ≡ replicate count 0
-      → SumTurn (length pcapmins) listed nodes lows starts wants 0 pcapmins bases wholes
-  sums-start {count} {pcapmins} {bases} {wholes} cords ep eb ew =
-      subst (λ (k : ℕ). SumTurn k listed nodes lows starts wants 0 pcapmins bases wholes) (sym (ap length ep ∙ length-replicate {A = ℕ} count 0))
+module _ {listed nodes starts wants : List ℕ} where
+  pub sums-start : {count : ℕ} {bases wholes : List ℕ} → LevelCords count listed nodes starts wants
+      → bases ≡ replicate count 0 → wholes ≡ replicate count 0
+      → SumTurn (length bases) listed nodes starts wants 0 bases wholes
+  sums-start {count} {bases} {wholes} cords eb ew =
+      subst (λ (k : ℕ). SumTurn k listed nodes starts wants 0 bases wholes) (sym (ap length eb ∙ length-replicate {A = ℕ} count 0))
       (record {
         cords = cords;
         reached = omega arith;
-        pcapmins-are = credited-start listed nodes (at lows) count ep;
         bases-are = credited-start listed nodes (at starts) count eb;
         wholes-are = credited-start listed nodes (cordWeight starts wants) count ew;
       })
 
-  module _ {count i : ℕ} {pcapmins bases wholes : List ℕ} (turn : SumTurn count listed nodes lows starts wants i pcapmins bases wholes) where
+  module _ {count i : ℕ} {bases wholes : List ℕ} (turn : SumTurn count listed nodes starts wants i bases wholes) where
     pub sums-end : length listed ≤ i → (n : ℕ) → n < count
-        → (at pcapmins n ≡ overListed listed nodes (at lows) n)
-        × (at bases n ≡ overListed listed nodes (at starts) n)
-        × (at wholes n ≡ overListed listed nodes (cordWeight starts wants) n)
+        → (at bases n ≡ overListed listed nodes (at starts) n) × (at wholes n ≡ overListed listed nodes (cordWeight starts wants) n)
     sums-end end n l =
         let e : i ≡ length listed = omega (arith, turn .reached) in (
-          turn .pcapmins-are .sums-are n l ∙ ap (listedBefore listed nodes (at lows) n) e,
           turn .bases-are .sums-are n l ∙ ap (listedBefore listed nodes (at starts) n) e,
           turn .wholes-are .sums-are n l ∙ ap (listedBefore listed nodes (cordWeight starts wants) n) e,
         )
 
     module _ (more : i < length listed) {c : ℕ} (c-is : c ≡ at listed i) {node : ℕ} (node-is : node ≡ at nodes c) where
-      pub low-fits : {low : ℕ} → low ≤ mostWatts → (node ≤ length pcapmins) × (at pcapmins (node - 1) + low < 2 ^ 64)
-      low-fits = credited-fits (turn .cords) more c-is (turn .pcapmins-are) node-is (λ h l. omega (arith, turn .cords .ordered h l, turn .cords .most h l))
-
       pub start-fits : {start : ℕ} → start ≤ mostWatts → (node ≤ length bases) × (at bases (node - 1) + start < 2 ^ 64)
       start-fits = credited-fits (turn .cords) more c-is (turn .bases-are) node-is (λ h l. omega (arith, turn .cords .ordered h l, turn .cords .most h l))
 
       pub weight-fits : {weight : ℕ} → weight ≤ mostWatts → (node ≤ length wholes) × (at wholes (node - 1) + weight < 2 ^ 64)
       weight-fits = credited-fits (turn .cords) more c-is (turn .wholes-are) node-is (λ h l. omega (arith, turn .cords .most h l))
 
-      pub sums-next : {low start weight : ℕ} {pcapmins′ bases′ wholes′ : List ℕ} → low ≡ at lows c → start ≡ at starts c → weight ≡ cordWeight starts wants c
-          → pcapmins′ ≡ credited node low pcapmins → bases′ ≡ credited node start bases → wholes′ ≡ credited node weight wholes
-          → SumTurn count listed nodes lows starts wants (i + 1) pcapmins′ bases′ wholes′
-      sums-next el es ew cp cb cw = record {
+      pub sums-next : {start weight : ℕ} {bases′ wholes′ : List ℕ} → start ≡ at starts c → weight ≡ cordWeight starts wants c
+          → bases′ ≡ credited node start bases → wholes′ ≡ credited node weight wholes
+          → SumTurn count listed nodes starts wants (i + 1) bases′ wholes′
+      sums-next es ew cb cw = record {
         cords = turn .cords;
         reached = omega arith;
-        pcapmins-are = credited-more (turn .cords) more c-is (turn .pcapmins-are) node-is el cp;
         bases-are = credited-more (turn .cords) more c-is (turn .bases-are) node-is es cb;
         wholes-are = credited-more (turn .cords) more c-is (turn .wholes-are) node-is ew cw;
       }

@@ -31,7 +31,7 @@ pub record HasCord (listed nodes : List ℕ) (n : ℕ) : Type 0 where
 
 -- What the pass takes of the cords and of their nodes.
 pub record CordsReady (listed nodes starts wants wholes amounts before₀ : List ℕ) : Type 0 where
-  pub cords : LevelCords (length amounts) listed nodes starts starts wants
+  pub cords : LevelCords (length amounts) listed nodes starts wants
   pub amount-most : (n : ℕ) → HasCord listed nodes n → at amounts n ≤ mostWatts
   pub amount-inside : (n : ℕ) → HasCord listed nodes n → at amounts n ≤ at wholes n
   pub wholes-most : (n : ℕ) → HasCord listed nodes n → at wholes n ≤ mostCords * mostWatts

@@ -1,8 +1,8 @@
 -- The passes of one rank over its nodes and cords: what the contracts of `ranks` cite. Figures stand in lists, by the places of nodes or cords.
 use mathlib.Core.Path.{_≡_}
 use mathlib.Core.List.{List}
-use Prim.Native.Nat.{ℕ, suc, _+_, _-_, _*_, _/_, _≤_, _<_, min}
-use lib.Dec.{eqb}
+use Prim.Native.Nat.{ℕ, suc, _+_, _-_, _*_, _/_, _≤_, _<_, min, max}
+use lib.Dec.{eqb, ltb}
 use lib.ListN.{length}
 use Rattle.figures.specs.Sums.{on, sum}
 use Rattle.rooms.specs.Table.{mostNodes, mostCords, mostWatts, highestRank}
@@ -11,18 +11,17 @@ use Rattle.figures.specs.Figures.{at, cell}
 use Rattle.splits.specs.Split.{part}
 use Rattle.levels.specs.Levels.{Absent, Present, Full}
 
--- The cords of a level, listed by their places, in a room of so many nodes; and for each cord its node's number, its low, its start
--- and its want.
-pub record LevelCords (nodeCount : ℕ) (listed nodes lows starts wants : List ℕ) : Type 0 where
+-- The cords of a level, listed by their places, in a room of so many nodes; and for each cord its node's number, its start and its
+-- want.
+pub record LevelCords (nodeCount : ℕ) (listed nodes starts wants : List ℕ) : Type 0 where
   pub few : length listed ≤ mostCords
-  pub lows-size : length lows ≡ length nodes
   pub starts-size : length starts ≡ length nodes
   pub wants-size : length wants ≡ length nodes
   pub within : (i : ℕ) → i < length listed → at listed i < length nodes
   pub rises : (i k : ℕ) → i < k → k < length listed → at listed i < at listed k
   pub hangs : (i : ℕ) → i < length listed → 1 ≤ at nodes (at listed i)
   pub there : (i : ℕ) → i < length listed → at nodes (at listed i) ≤ nodeCount
-  pub ordered : (i : ℕ) → i < length listed → (at lows (at listed i) ≤ at starts (at listed i)) × (at starts (at listed i) ≤ at wants (at listed i))
+  pub ordered : (i : ℕ) → i < length listed → at starts (at listed i) ≤ at wants (at listed i)
   pub most : (i : ℕ) → i < length listed → at wants (at listed i) ≤ mostWatts
 
 -- A figure of the cords, summed over the first i listed ones that hang on the node at place n.
@@ -57,17 +56,21 @@ overChildren parents figure n = childrenBefore parents figure n (length parents)
 abbrev pub weightOf : List (List ℕ) → ℕ → List ℕ → ℕ → ℕ
 weightOf rows level starts m = cell rows m level - at starts m
 
--- From what is left of each limit over the Requests of higher ranks and the Pcapmin of this rank and those below, and the cords' lows,
--- starts and weights on each node: the Pcapmin, the starts beneath and the children's weights at this rank, the Requests in their
--- column of the rows, and what is left for the next. (Document 01's two sides are `left` + Pcapmin and `wholes` + starts, so that
--- their lesser is the starts and the lesser of `left` + Pcapmin − starts and of `wholes`.)
-pub record Gathered (parents : List ℕ) (level : ℕ) (left lows starts weights : List ℕ) (rows : List (List ℕ)) (left′ pcapmins starts′ wholes : List ℕ) (rows′ : List (List ℕ)) : Type 0 where
-  pub pcapmin : (n : ℕ) → n < length parents → at pcapmins n ≡ sumBeneath (at parents) (length parents) (at lows) n
+-- The mark of a node's cuts after a level: the highest rank at which what was left of its limit was less than its children's weights; 0 if
+-- there was none. (A rank is its level + 1; the levels come from the highest down.)
+abbrev pub cutMark : (mark level left whole : ℕ) → ℕ
+cutMark mark level left whole = max mark (on (ltb left whole) (suc level))
+
+-- From what is left of each limit over the Requests of higher ranks and the starts of this rank and those below, and the cords' starts
+-- and weights on each node: the starts beneath and the children's weights at this rank, the Requests in their column of the rows, what
+-- is left for the next, and the marks of the cuts.
+pub record Gathered (parents : List ℕ) (level : ℕ) (left cuts starts weights : List ℕ) (rows : List (List ℕ)) (left′ cuts′ starts′ wholes : List ℕ) (rows′ : List (List ℕ)) : Type 0 where
   pub start : (n : ℕ) → n < length parents → at starts′ n ≡ sumBeneath (at parents) (length parents) (at starts) n
   pub children : (n : ℕ) → n < length parents → at wholes n ≡ at weights n + overChildren parents (weightOf rows′ level starts′) n
-  pub request : (n : ℕ) → n < length parents → cell rows′ n level ≡ at starts′ n + min (at left n + at pcapmins n - at starts′ n) (at wholes n)
+  pub request : (n : ℕ) → n < length parents → cell rows′ n level ≡ at starts′ n + min (at left n) (at wholes n)
   pub others : (n j : ℕ) → (j ≡ level → ⊥) → cell rows′ n j ≡ cell rows n j
-  pub left-is : (n : ℕ) → n < length parents → at left′ n ≡ at left n + at pcapmins n - cell rows′ n level
+  pub left-is : (n : ℕ) → n < length parents → at left′ n ≡ at left n - at wholes n
+  pub cuts-are : (n : ℕ) → n < length parents → at cuts′ n ≡ cutMark (at cuts n) level (at left n) (at wholes n)
   pub full : FullRows rows′
 
 -- What each active node has to give, the weights of its child nodes, and what these were dealt together.

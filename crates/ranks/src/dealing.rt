@@ -59,7 +59,7 @@ pub fn deal_cords(
     dealt: &mut [u32],
     grants: &mut [u32],
 )
-    requires { ⌜ LevelCords (length (now amounts)) (now listed) (now nodes) (now starts) (now starts) (now wants) ⌝ }
+    requires { ⌜ LevelCords (length (now amounts)) (now listed) (now nodes) (now starts) (now wants) ⌝ }
     requires { ⌜ (length (now wholes) ≡ length (now amounts)) × (length (now before) ≡ length (now amounts)) × (length (now dealt) ≡ length (now amounts)) × (length (now grants) ≡ length (now nodes)) ⌝ }
     requires { ⌜ ((i n : ℕ) → i < length (now listed) → at (now nodes) (at (now listed) i) ≡ suc n → (at (now amounts) n ≤ mostWatts) × (at (now amounts) n ≤ at (now wholes) n) × (at (now wholes) n ≤ mostCords * mostWatts) × (at (now dealt) n ≡ at (now amounts) n * at (now before) n / at (now wholes) n) × (at (now before) n + overListed (now listed) (now nodes) (cordWeight (now starts) (now wants)) n ≤ at (now wholes) n)) ⌝ }
     ensures { λ _. ⌜ CordsDealt (now (listed .entry)) (now (nodes .entry)) (now (starts .entry)) (now (wants .entry)) (now (wholes .entry)) (now (amounts .entry)) (now (before .entry)) (now (grants .entry)) (now (grants .exit)) ⌝ }

@@ -11,7 +11,6 @@ use lib.ListN.{length, set, length-set}
 use lib.Seq.{getD-set-same, getD-set-other, ext-getD}
 use borrow.Author.Tests.{eqb-true, eqb-false, lt-ltb, le-ltb}
 use Rattle.figures.specs.Sums.{sum}
-use Rattle.rooms.specs.Table.{IsScale}
 use Rattle.rooms.specs.Limits.{carried}
 use Rattle.figures.proofs.Sums.{sum-suc, sum-none}
 use Rattle.figures.specs.Figures.{figures, at, cell, column, sumOf}
@@ -44,8 +43,8 @@ and-false true = refl
 and-false false = refl
 
 module _ {scale : ℕ} {cords : List (List ℕ)} {needs grants : List ℕ} where
-  pub usable-none : {usable : List ℕ} → usable ≡ needs → UsableBy scale cords needs grants 0 usable
-  usable-none e = rw e (record { size-is = refl; is = λ v l. sym (leastOver-zero _ _ (at needs v)) })
+  pub usable-none : UsableBy scale cords needs grants 0 needs
+  usable-none = record { size-is = refl; is = λ v l. sym (leastOver-zero _ _ (at needs v)) }
 
   module _ {c : ℕ} {usable : List ℕ} (by : UsableBy scale cords needs grants c usable) where
     -- One cord more: its share is 0, or it lowers its server's figure to the load at which it carries its grant.
@@ -92,11 +91,12 @@ module _ {scale : ℕ} {cords : List (List ℕ)} {needs grants : List ℕ} where
         (ext-getD 0 usable (figures (length needs) (usableBefore scale (shares cords) (servers cords) needs grants c)) (by .size-is ∙ sym (figures-length (length needs) _))
         (λ v l. let here : v < length needs = omega (arith, by .size-is) in by .is v here ∙ sym (figures-at (length needs) v _ here)))
 
--- A grant of 32 bits in shares is far below 2^64.
-pub grant-product : {scale times grant : ℕ} → IsScale scale → times ≡ scale → grant < 4294967296 → times * grant < 18446744073709551616
-grant-product {grant = grant} ok e h =
-    let most : grant ≤ 4294967295 = omega arith in
-    rw e (omega (arith, mul-le-mul (ok .1) most))
+-- A product of two figures of 32 bits is below 2^64, whatever they are.
+pub product-fits : {a b : ℕ} → a < 4294967296 → b < 4294967296 → a * b < 18446744073709551616
+product-fits {a} {b} l h =
+    let most : a ≤ 4294967295 = omega arith in
+    let most′ : b ≤ 4294967295 = omega arith in
+    omega (arith, mul-le-mul most most′)
 
 -- They are no more than the needs, so that the cords carry them too.
 pub usable-lists : {scale : ℕ} {cords : List (List ℕ)} {needs : List ℕ} (grants : List ℕ) {n : ℕ} → ServerLists scale cords needs n

@@ -17,12 +17,12 @@ use room_lists::SERVER;
 use room_lists::SHARE;
 use rooms::limits::carried_by;
 
-// Each server's usable watts: its need, or the least of floor(scale × grant / share) of its cords with a share, if that is less.
-pub fn usable_of(cords: &[[u32; 4]], needs: &[u32], grants: &[u32], usable: &mut [u32], scale: u32)
-    requires { ⌜ ServerLists scale (now cords) (now needs) (length (now grants)) × (length (now usable) ≡ length (now needs)) ⌝ }
-    ensures { λ _. ⌜ now (usable .exit) ≡ usableFrom scale (column shareColumn (now (cords .entry))) (column serverColumn (now (cords .entry))) (now (needs .entry)) (now (grants .entry)) ⌝ }
+// Each server's usable watts, in the place of its need: the need, or the least of floor(scale × grant / share) of its cords with a share,
+// if that is less.
+pub fn usable_of(cords: &[[u32; 4]], grants: &[u32], usable: &mut [u32], scale: u32)
+    requires { ⌜ ServerLists scale (now cords) (now usable) (length (now grants)) ⌝ }
+    ensures { λ _. ⌜ now (usable .exit) ≡ usableFrom scale (column shareColumn (now (cords .entry))) (column serverColumn (now (cords .entry))) (now (usable .entry)) (now (grants .entry)) ⌝ }
 {
-    words::copy(needs, usable);
     for c in 0..cords.len() {
         let cord = cords[c];
         let share = wide(cord[SHARE]);

@@ -2,14 +2,12 @@
 ghost use mathlib.Core.Path.{_≡_};
 ghost use Prim.Native.Nat.{ℕ, suc, _≤_};
 ghost use lib.ListN.{length, replicate};
-ghost use lib.Seq.{sets};
 ghost use Rattle.numbers.specs.Number.{faultNumber};
-ghost use Rattle.numbers.specs.Sheet.{sheetOf};
 ghost use Rattle.rooms.specs.Part.{good};
-ghost use Rattle.rooms.specs.Limits.{checked, nodeLows, lowsTold};
+ghost use Rattle.rooms.specs.Limits.{checked, nodeLows};
 ghost use Rattle.rooms.specs.Table.{Room, mostNodes, mostWords, roomCords};
 ghost use Rattle.rooms.specs.Told.{told};
-ghost use Rattle.rooms.specs.Outcome.{refusalNumber, refusalPlace, answerNumber, answerFigure, answerOf, after, unlessRefused, fitting, reading, readingFirst, writing};
+ghost use Rattle.rooms.specs.Outcome.{refusalNumber, refusalPlace, answerNumber, answerFigure, answerOf, after, unlessRefused, fitting, reading, writing};
 use numbers::Fault;
 use numbers::Judged;
 use numbers::Written;
@@ -17,6 +15,7 @@ use numbers::Written;
 pub mod form;
 pub mod limits;
 pub mod lows;
+pub mod parts;
 mod table;
 
 // Why an input is turned back, and where: a byte or a word by its place, a node by its number, or a length.
@@ -141,27 +140,12 @@ fn check_summing(table: &[u32], lows: &mut [u64; 512]) -> Checked
     Checked::Good(cords, length)
 }
 
-// The whole check of a table, as `check`, with the lows of all cords beneath each node, at any depth, by the nodes' places: a caller that
-// goes on with a good table need not sum them again. Past the nodes, and where the table is refused, the lows are 0.
-pub fn check_lows(table: &[u32], lows: &mut [u64; 512]) -> Checked
-    ensures { λ r. ⌜ r ≡ told roomCords (checked (now (table .entry)) 0) ⌝ }
-    ensures { λ _. ⌜ now (lows .exit) ≡ lowsTold (checked (now (table .entry)) 0) ⌝ }
-{
-    clear(lows);
-    let checked = check_summing(table, lows);
-    if let Checked::Refused(_) = checked {
-        clear(lows);
-        return checked;
-    }
-    checked
-}
-
 // The whole check of a table: the count of its cords and its length, or its refusal.
 pub fn check(table: &[u32]) -> Checked
     ensures { λ r. ⌜ r ≡ told roomCords (checked (now (table .entry)) 0) ⌝ }
 {
     let mut lows = [0u64; 512];
-    check_lows(table, &mut lows)
+    parts::check_lows(table, &mut lows)
 }
 
 // The answer on a table whose words are to go to an output of `space` words.
@@ -179,31 +163,13 @@ fn answer_for(table: &[u32], space: usize) -> Answer
     Answer::Accepted(count)
 }
 
-// Read by way of a lent list, for an output of `space` words: the list gets the first words of a sheet, as many as it takes, also
-// where the sheet is refused, and these are answered for. A list of DECIDING_WORDS words takes enough for the answer to be that of
-// Read (`FirstWordsDecide`). A shorter one may accept, by the words that it takes, a sheet that Read refuses.
-pub fn read_words(sheet: &[u8], words: &mut [u32], space: usize) -> Answer
-    ensures { λ r. ⌜ r ≡ answerOf (readingFirst (length (now (words .entry))) (now (sheet .entry)) space) ⌝ }
-    ensures { λ _. ⌜ now (words .exit) ≡ sets (now (words .entry)) 0 (sheetOf (now (sheet .entry)) .words) ⌝ }
-{
-    let judged = numbers::decode_sheet(sheet, words);
-    let count = match judged {
-        Judged::Words(count) => count,
-        Judged::Refused(fault, place) => {
-            return Answer::Refused(Refusal::BadNumber(fault, place));
-        }
-    };
-    let front = words::least(count, words.len());
-    answer_for(&words[..front], space)
-}
-
 // Read by way of a list of its own, which takes the words until all is checked.
 fn read_by(sheet: &[u8], words: &mut [u32], table: &mut [u32]) -> Answer
     requires { ⌜ suc mostWords ≤ length (now words) ⌝ }
     ensures { λ r. ⌜ r ≡ answerOf (reading (now (sheet .entry)) (length (now (table .entry)))) ⌝ }
     ensures { λ _. ⌜ now (table .exit) ≡ after (reading (now (sheet .entry)) (length (now (table .entry)))) (now (table .entry)) ⌝ }
 {
-    let read = read_words(sheet, words, table.len());
+    let read = parts::read_words(sheet, words, table.len());
     let Answer::Accepted(count) = read else {
         return read;
     };

@@ -22,6 +22,8 @@ extern "C" {
         _: Len,
         _: At,
         _: Len,
+        _: At,
+        _: Len,
     ) -> u32;
 }
 
@@ -44,7 +46,7 @@ impl Call {
         match self {
             Call::Read => &["sheet", "table", "answer"],
             Call::Write => &["table", "sheet", "answer"],
-            Call::Plan => &["table", "demands", "grants", "caps", "answer"],
+            Call::Plan => &["table", "demands", "grants", "caps", "headroom", "answer"],
         }
     }
 
@@ -53,7 +55,7 @@ impl Call {
         match self {
             Call::Read => &[0, 1, 2, 3, 4, 5, 6, 7, 8, 9, 12],
             Call::Write => &[0, 4, 5, 6, 7, 8, 9, 12],
-            Call::Plan => &[0, 4, 5, 6, 7, 8, 9, 10, 11, 12, 13],
+            Call::Plan => &[0, 4, 5, 6, 7, 8, 9, 10, 11, 12, 13, 14],
         }
     }
 }
@@ -86,8 +88,11 @@ impl Outcome {
     }
 }
 
+/// Ground for every buffer of the call that has most of them.
+pub type Grounds = [Ground; 6];
+
 /// Runs the archive on a copy of the buffers.
-pub fn archive(case: &Case, grounds: &mut [Ground; 5]) -> Outcome {
+pub fn archive(case: &Case, grounds: &mut Grounds) -> Outcome {
     let lend =
         |(ground, b): (&mut Ground, &Buffer)| (ground.lend(b.place, &b.bytes), b.bytes.len());
     let lent: Vec<_> = grounds.iter_mut().zip(&case.buffers).map(lend).collect();
@@ -96,8 +101,8 @@ pub fn archive(case: &Case, grounds: &mut [Ground; 5]) -> Outcome {
         match (case.call, &lent[..]) {
             (Call::Read, &[(s, sn), (t, tn), (a, an)]) => hutplan_read(s, sn, t, tn, a, an),
             (Call::Write, &[(t, tn), (s, sn), (a, an)]) => hutplan_write(t, tn, s, sn, a, an),
-            (Call::Plan, &[(t, tn), (d, dn), (g, gn), (c, cn), (a, an)]) => {
-                hutplan_plan(t, tn, d, dn, g, gn, c, cn, a, an)
+            (Call::Plan, &[(t, tn), (d, dn), (g, gn), (c, cn), (h, hn), (a, an)]) => {
+                hutplan_plan(t, tn, d, dn, g, gn, c, cn, h, hn, a, an)
             }
             _ => panic!("wrong count of buffers"),
         }
@@ -121,8 +126,8 @@ pub fn reference(case: &Case) -> Outcome {
     let returned = match (case.call, &mut buffers[..]) {
         (Call::Read, [sheet, table, answer]) => reference::call::read(sheet, table, answer),
         (Call::Write, [table, sheet, answer]) => reference::call::write(table, sheet, answer),
-        (Call::Plan, [table, demands, grants, caps, answer]) => {
-            reference::call::plan(table, demands, grants, caps, answer)
+        (Call::Plan, [table, demands, grants, caps, headroom, answer]) => {
+            reference::call::plan(table, demands, grants, caps, headroom, answer)
         }
         _ => panic!("wrong count of buffers"),
     };

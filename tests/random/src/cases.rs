@@ -40,7 +40,8 @@ fn plan(dice: &mut Dice, room: &Room, words: &[u32], demands: &[u32]) -> Vec<Vec
     let (table, demands) = (list(dice, words), list(dice, demands));
     let grants = output(dice, 4 * room.cord_count());
     let caps = output(dice, 4 * room.servers.len());
-    vec![table, demands, grants, caps]
+    let headroom = output(dice, 4 * room.cord_count());
+    vec![table, demands, grants, caps, headroom]
 }
 
 /// Words as bytes, often with one to three bytes over.

@@ -29,13 +29,15 @@ pub fn plan(
     demands: &[u8],
     grants: &mut [u8],
     caps: &mut [u8],
+    headroom: &mut [u8],
     answer: &mut [u8],
 ) -> u32 {
     answered(answer, || {
-        let rooms = (grants.len() / WORD, caps.len() / WORD);
-        let plan = crate::plan(&words(table), &words(demands), rooms.0, rooms.1)?;
+        let spaces = [grants.len(), caps.len(), headroom.len()].map(|bytes| bytes / WORD);
+        let plan = crate::plan(&words(table), &words(demands), spaces)?;
         put_words(&plan.grants, grants);
         put_words(&plan.caps, caps);
+        put_words(&plan.headroom, headroom);
         Ok(plan.freed)
     })
 }

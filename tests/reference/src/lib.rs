@@ -47,6 +47,7 @@ pub struct Plan {
     pub freed: u64,
     pub grants: Vec<u32>,
     pub caps: Vec<u32>,
+    pub headroom: Vec<u32>,
 }
 
 /// Read, with room for so many words: the table's words.
@@ -65,17 +66,14 @@ pub fn write(table: &[u32], room: usize) -> Result<Vec<u8>, Refusal> {
     Ok(bytes)
 }
 
-/// Plan, with room for so many grants and caps.
-pub fn plan(
-    table: &[u32],
-    demands: &[u32],
-    grants_room: usize,
-    caps_room: usize,
-) -> Result<Plan, Refusal> {
+/// Plan, with space for so many grants, caps and figures of headroom.
+pub fn plan(table: &[u32], demands: &[u32], spaces: [usize; 3]) -> Result<Plan, Refusal> {
     let room = Room::of_words(table)?;
     plan::check_demands(&room, demands)?;
-    fits(12, room.cords.len(), grants_room)?;
-    fits(13, room.servers.len(), caps_room)?;
+    let [grants, caps, headroom] = spaces;
+    fits(12, room.cords.len(), grants)?;
+    fits(13, room.servers.len(), caps)?;
+    fits(14, room.cords.len(), headroom)?;
     Ok(plan::deals(&room, demands).answer())
 }
 

@@ -73,6 +73,7 @@ impl Deals {
             freed: narrow(self.stranded.iter().sum()),
             grants: self.second_grants.iter().map(|&w| narrow(w)).collect(),
             caps: self.caps.iter().map(|&w| narrow(w)).collect(),
+            headroom: self.headroom.iter().map(|&w| narrow(w)).collect(),
         }
     }
 }
@@ -110,7 +111,8 @@ fn pairs<A, B, C>(left: &[A], right: &[B], join: impl Fn(&A, &B) -> C) -> Vec<C>
     left.iter().zip(right).map(|(a, b)| join(a, b)).collect()
 }
 
-/// A grant or cap is at most 16,777,215 W, and freed at most 1,024 times that: all of them fit.
+/// A grant, a cap or a cord's headroom is at most 16,777,215 W, and freed at most 1,024 times that: all
+/// of them fit.
 fn narrow<N: TryFrom<Watts>>(watts: Watts) -> N {
     let Ok(narrow) = N::try_from(watts) else {
         unreachable!("{watts} W in an answer");

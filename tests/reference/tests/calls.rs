@@ -14,6 +14,19 @@ fn padded(words: &[u32], over: usize) -> Vec<u8> {
     [list(words), vec![0xAA; over]].concat()
 }
 
+/// Plan's lists: grants, caps and headroom.
+type Lists = [Vec<u8>; 3];
+
+fn plan(table: &[u8], demands: &[u8], lists: &mut Lists, answer: &mut [u8]) -> u32 {
+    let [grants, caps, headroom] = lists;
+    call::plan(table, demands, grants, caps, headroom, answer)
+}
+
+/// Lists of so many bytes, all 0xAA.
+fn untouched(lengths: [usize; 3]) -> Lists {
+    lengths.map(|length| vec![0xAA; length])
+}
+
 fn answer_of(number: u64, figure: u64) -> [u8; 16] {
     let mut answer = [0; 16];
     answer[..8].copy_from_slice(&number.to_le_bytes());
@@ -62,19 +75,22 @@ fn write_fills_the_front_of_the_sheet() {
 }
 
 #[test]
-fn plan_fills_the_front_of_both_lists() {
-    for over in 0..4 {
-        let mut grants = vec![0xAA; 12 + over];
-        let mut caps = vec![0xAA; 8 + over];
-        let mut answer = [0xAA; 17];
-        let table = padded(&room_h(500), over);
-        let demands = padded(&[400, 400], over);
-        let done = call::plan(&table, &demands, &mut grants, &mut caps, &mut answer);
-        assert_eq!(done, 1);
-        assert_eq!(grants, padded(&[120, 120, 280], over));
-        assert_eq!(caps, padded(&[240, 280], over));
-        assert_eq!(answer[..16], answer_of(0, 13));
-        assert_eq!(answer[16], 0xAA);
+fn plan_fills_the_front_of_all_lists() {
+    let plans: [([u32; 2], u64, [&[u32]; 3]); 2] = [
+        ([400, 400], 13, [&[120, 120, 280], &[240, 280], &[0, 0, 0]]),
+        ([100, 100], 0, [&[50, 50, 100], &[100, 100], &[70, 83, 167]]),
+    ];
+    for (demands, freed, expected) in plans {
+        for over in 0..4 {
+            let table = padded(&room_h(500), over);
+            let demands = padded(&demands, over);
+            let mut lists = untouched(expected.map(|words| 4 * words.len() + over));
+            let mut answer = [0xAA; 17];
+            assert_eq!(plan(&table, &demands, &mut lists, &mut answer), 1);
+            assert_eq!(lists, expected.map(|words| padded(words, over)));
+            assert_eq!(answer[..16], answer_of(0, freed));
+            assert_eq!(answer[16], 0xAA);
+        }
     }
 }
 
@@ -91,10 +107,8 @@ fn a_whole_word_over_is_read() {
     assert_eq!(sheet, [0xAA; 40]);
     let demands = padded(&[400, 400], 4);
     let table = list(&room_h(500));
-    assert_eq!(
-        call::plan(&table, &demands, &mut [], &mut [], &mut answer),
-        1
-    );
+    let done = plan(&table, &demands, &mut untouched([0; 3]), &mut answer);
+    assert_eq!(done, 1);
     assert_eq!(answer, answer_of(10, 2));
 }
 
@@ -111,17 +125,16 @@ fn a_word_lacking_a_byte_is_no_word() {
     assert_eq!(call::write(&table[..83], &mut [0; 28], &mut answer), 1);
     assert_eq!(answer, answer_of(4, 20));
     let demands = list(&[400, 400]);
-    let (mut grants, mut caps) = ([0xAA; 12], [0xAA; 8]);
-    let mut plan = |demands: &[u8], grants_room: usize, caps_room: usize| {
-        let grants = &mut grants[..grants_room];
-        let caps = &mut caps[..caps_room];
-        assert_eq!(call::plan(&table, demands, grants, caps, &mut answer), 1);
+    let mut refused = |demands: &[u8], lengths: [usize; 3]| {
+        let mut lists = untouched(lengths);
+        assert_eq!(plan(&table, demands, &mut lists, &mut answer), 1);
+        assert_eq!(lists, untouched(lengths));
         answer
     };
-    assert_eq!(plan(&demands[..7], 12, 8), answer_of(10, 2));
-    assert_eq!(plan(&demands, 11, 8), answer_of(12, 3));
-    assert_eq!(plan(&demands, 12, 7), answer_of(13, 2));
-    assert_eq!((grants, caps), ([0xAA; 12], [0xAA; 8]));
+    assert_eq!(refused(&demands[..7], [12, 8, 12]), answer_of(10, 2));
+    assert_eq!(refused(&demands, [11, 8, 12]), answer_of(12, 3));
+    assert_eq!(refused(&demands, [12, 7, 12]), answer_of(13, 2));
+    assert_eq!(refused(&demands, [12, 8, 11]), answer_of(14, 3));
 }
 
 #[test]
@@ -142,30 +155,26 @@ fn a_refusal_changes_nothing_but_the_answer() {
 fn a_short_answer_buffer_stops_the_call() {
     let h = list(&room_h(500));
     let sheet = write(&room_h(500), 28).expect("room H");
-    let mut lists = ([0xAA; 100], [0xAA; 100]);
+    let mut lists = untouched([100; 3]);
     for length in 0..16 {
         let mut answer = vec![0xAA; length];
-        assert_eq!(call::read(&sheet, &mut lists.0, &mut answer), 0);
-        assert_eq!(call::write(&h, &mut lists.0, &mut answer), 0);
+        assert_eq!(call::read(&sheet, &mut lists[0], &mut answer), 0);
+        assert_eq!(call::write(&h, &mut lists[0], &mut answer), 0);
         let demands = list(&[400, 400]);
-        let done = call::plan(&h, &demands, &mut lists.0, &mut lists.1, &mut answer);
-        assert_eq!(done, 0);
+        assert_eq!(plan(&h, &demands, &mut lists, &mut answer), 0);
         assert_eq!(answer, vec![0xAA; length]);
     }
-    assert_eq!(lists, ([0xAA; 100], [0xAA; 100]));
+    assert_eq!(lists, untouched([100; 3]));
 }
 
 #[test]
 fn a_room_without_servers_leaves_the_lists_untouched() {
     let mut answer = [0xAA; 16];
-    let (mut grants, mut caps) = ([0xAA; 9], [0xAA; 9]);
+    let mut lists = untouched([9; 3]);
     let table = list(&[1, 1, 0, 0, 0]);
-    assert_eq!(
-        call::plan(&table, &[], &mut grants, &mut caps, &mut answer),
-        1
-    );
+    assert_eq!(plan(&table, &[], &mut lists, &mut answer), 1);
     assert_eq!(answer, answer_of(0, 0));
-    assert_eq!((grants, caps), ([0xAA; 9], [0xAA; 9]));
+    assert_eq!(lists, untouched([9; 3]));
 }
 
 #[test]
@@ -175,6 +184,6 @@ fn empty_lists_are_good_input() {
     assert_eq!(answer, answer_of(4, 0));
     assert_eq!(call::write(&[], &mut [], &mut answer), 1);
     assert_eq!(answer, answer_of(4, 0));
-    assert_eq!(call::plan(&[], &[], &mut [], &mut [], &mut answer), 1);
+    assert_eq!(plan(&[], &[], &mut untouched([0; 3]), &mut answer), 1);
     assert_eq!(answer, answer_of(4, 0));
 }

@@ -9,7 +9,7 @@ use reference::room::Room;
 use reference::{plan, Plan, Refusal};
 
 fn planned(table: &[u32], demands: &[u32]) -> Plan {
-    plan(table, demands, 1_024, 512).expect("an accepted room")
+    plan(table, demands, [1_024, 512, 1_024]).expect("an accepted room")
 }
 
 fn grants(table: &[u32], demands: &[u32]) -> Vec<u32> {
@@ -33,9 +33,10 @@ fn room_h_is_dealt_twice() {
         freed: 13,
         grants: vec![120, 120, 280],
         caps: vec![240, 280],
+        headroom: vec![0, 0, 0],
     };
     assert_eq!(deals.answer(), answer);
-    assert_eq!(plan(&room_h(500), &[400, 400], 3, 2), Ok(answer));
+    assert_eq!(plan(&room_h(500), &[400, 400], [3, 2, 3]), Ok(answer));
 }
 
 /// Node 2 has 250 W beyond its lows in the second deal, as in the first. It passes on 120 − 50 = 70
@@ -92,7 +93,7 @@ fn room_h_rated_187_is_refused() {
         place: 2,
     };
     assert_eq!(reference::write(&room_h(187), 28), Err(refusal));
-    assert_eq!(plan(&room_h(187), &[400, 400], 3, 2), Err(refusal));
+    assert_eq!(plan(&room_h(187), &[400, 400], [3, 2, 3]), Err(refusal));
 }
 
 fn room_s(rating: u32) -> Vec<u32> {
@@ -122,11 +123,12 @@ fn room_s_with_a_greater_root_loses_no_watt() {
     assert_eq!(plan.caps, [430, 281, 294, 295]);
 }
 
-fn lent(table: &[u32], demands: &[u32]) -> Vec<i128> {
-    dealt(table, demands).headroom
+fn lent(table: &[u32], demands: &[u32]) -> Vec<u32> {
+    planned(table, demands).headroom
 }
 
-/// Both nodes of room H are granted all of their limits: nothing is left to lend. With demands of
+/// Node 1 has ceiling 120, its limit, below its cord's 200, and its Requests are 120; node 2 has ceiling
+/// 400, below 200 + 400, and Requests 400, of 120 + 400 wanted: nothing is left to lend. With demands of
 /// 100 each cord wants its low. Node 1 lends 120 − 50 = 70, and node 2 lends 400 − 150 = 250 by
 /// 200 − 50 = 150 and 400 − 100 = 300: floor(250 × 150 / 450) = 83 and 167.
 #[test]
@@ -145,10 +147,13 @@ fn headroom_goes_by_second_wants() {
     assert_eq!(deals.headroom, [0, 80, 0]);
 }
 
-/// Room S, all ceilings 500, the two nodes' 750. With demands of 430 nobody lends. With a root of
-/// 1,750 (limit 1,400) and demands 430, 270, 300, 330 all wants are met: Requests 700 and 630, and
-/// 1,330 at the root, which lends 70 by 50 and 120: floor(70 × 50 / 170) = 20 and 50. The left node
-/// splits 20 by 70 and 230, the right 50 by 200 and 170.
+/// Room S, all ceilings 500, the two nodes' 750. With demands of 430 the root's ceiling is its limit,
+/// 1,240 or 1,300, below 750 + 750. Its Requests are 430 at rank 2, and at rank 1 the rest, 810 or 870
+/// of 320 + 750: nobody lends.
+///
+/// With a root of 1,750 (limit 1,400) and demands 430, 270, 300, 330 all wants are met: Requests 700
+/// and 630, and 1,330 at the root, which lends 70 by 50 and 120: floor(70 × 50 / 170) = 20 and 50. The
+/// left node splits 20 by 70 and 230, the right 50 by 200 and 170.
 #[test]
 fn room_s_lends_through_its_nodes() {
     assert_eq!(lent(&room_s(1_550), &[430; 4]), [0; 4]);
@@ -250,9 +255,10 @@ fn a_room_without_servers_frees_nothing() {
         freed: 0,
         grants: vec![],
         caps: vec![],
+        headroom: vec![],
     };
-    assert_eq!(plan(&[1, 1, 0, 0, 0], &[], 0, 0), Ok(empty.clone()));
-    assert_eq!(plan(&table(&[(0, 9), (1, 9)], &[]), &[], 7, 7), Ok(empty));
+    assert_eq!(plan(&[1, 1, 0, 0, 0], &[], [0; 3]), Ok(empty.clone()));
+    assert_eq!(plan(&table(&[(0, 9), (1, 9)], &[]), &[], [7; 3]), Ok(empty));
 }
 
 /// Root limit 150, child limit 100.
@@ -307,7 +313,7 @@ fn nothing_is_dealt_where_nothing_is_wanted() {
 #[test]
 fn lows_are_rounded_up() {
     let halves: Server = (1, 3, 3, &[(1, 500), (2, 500)]);
-    let refused = plan(&table(&[(0, 3), (0, 2)], &[halves]), &[3], 2, 1);
+    let refused = plan(&table(&[(0, 3), (0, 2)], &[halves]), &[3], [2, 1, 2]);
     assert_eq!(
         refused,
         Err(Refusal {
@@ -404,6 +410,15 @@ fn the_greatest_watts_are_dealt_exactly() {
     assert_eq!(plan.grants.iter().filter(|&&g| g == 26_215).count(), 204);
     assert_eq!(plan.grants.iter().filter(|&&g| g == 26_214).count(), 308);
     assert_eq!(plan.caps, plan.grants);
+    assert_eq!(plan.headroom, [0; 512]);
+}
+
+/// One cord, all of whose watts are lent: it wants nothing, and may have all of the node's limit.
+#[test]
+fn the_greatest_headroom_is_lent_exactly() {
+    let most = 16_777_215;
+    let room = table(&[(0, most)], &[(8, 0, most, &[(1, 1000)])]);
+    assert_eq!(lent(&room, &[0]), [13_421_772]);
 }
 
 /// 512 servers, each with one cord held to 0 W: all that its other cord gets is stranded.

@@ -35,12 +35,12 @@ fn third(words: &[u32]) -> Vec<u32> {
 }
 
 fn planned(table: &[u32], demands: &[u32]) -> Plan {
-    plan(table, demands, 1_024, 512).expect("an accepted room")
+    plan(table, demands, [1_024, 512, 1_024]).expect("an accepted room")
 }
 
 fn refused(words: &[u32]) -> (u64, u64) {
     let refusal = write(words, 1 << 20).expect_err("a refusal");
-    assert_eq!(plan(words, &[], 0, 0), Err(refusal));
+    assert_eq!(plan(words, &[], [0; 3]), Err(refusal));
     assert_eq!(read(&reference::number::bytes(words), 0), Err(refusal));
     (refusal.number, refusal.place)
 }
@@ -171,6 +171,23 @@ fn shares_are_of_ten_thousand() {
     );
     // A ten-thousandth less on the second: it bears 150 W.
     assert_eq!(planned(&fine(3_334, 6_666), &[400]).caps, [150]);
+}
+
+/// On one node of 1,000 W, limit 800: of the greatest 400 W the shares carry 133.32 and 266.68, so that the ceilings are 134 and
+/// 267. With no demand the cords want their lows, 34 and 67. All of 401 − 101 = 300 W are lent, to each what is left to its ceiling.
+#[test]
+fn ceilings_go_by_ten_thousand() {
+    let room = [3, 1, 0, 1_000, 80, 1, 1, 100, 400, 2, 1, 3_333, 1, 6_667];
+    let plan = planned(&room, &[0]);
+    assert_eq!((plan.grants, plan.headroom), (vec![34, 67], vec![100, 200]));
+}
+
+/// The room S that lends, its root's limit 1,400 W at 100 percent.
+#[test]
+fn ceilings_go_by_the_percent() {
+    let room = second(&room_s([1_400, 938, 750]), &[100, 80, 100]);
+    let plan = planned(&room, &[430, 270, 300, 330]);
+    assert_eq!(plan.headroom, [4, 16, 27, 23]);
 }
 
 #[test]

@@ -1,43 +1,83 @@
 -- `plan_by` meets its contract: the lists that are lent take every answer, and just what was written is stored.
-use mathlib.Core.Path.{sym}
-use mathlib.Core.List.{List}
 use native.Mathlib.Omega.{arith}
-use lib.ListN.{take, length}
-use lib.Seq.{length-take-le}
+use lib.ListN.{take}
 use Rattle.rooms.proofs.Outcomes.{front-length}
 use Rattle.deals.specs.Plan.{Outcome, plan, lent}
 use Rattle.deals.specs.declared.Lengths.{Lengths}
-use Rattle.capi.proofs.PlanLaws.{Counted, grants-counted, caps-counted, list-fits, list-stored, call-same, plan-short, plan-done, same-plan}
+use Rattle.capi.proofs.PlanLaws.{grants-counted, caps-counted, headroom-counted, Listed, listed, list-fits, list-counted, list-stored, call-same, plan-short, plan-done, same-plan}
 use borrow.Author.Needs.{needs}
 use Rattle.capi.proofs.plan_by.Statement.{statement}
 use Rattle.capi.proofs.plan_by.Tie as tie
 
--- The spaces of the lists that are lent, and the start.
-abbrev spaces : tie.After-plan → tie.After-least2
-spaces c = c .before .before .before
+-- ---- Earlier places, each from a later one
 
-abbrev start : tie.After-plan → tie.Start
-start c = spaces c .before .before .before .before .before .before .before .before .before .before
+-- From the space in the last list: that in those before it, and the start.
+abbrev Spaces : Type 0
+Spaces = tie.After-least3
 
--- What Plan comes to in them.
-abbrev lengths : tie.After-plan → Lengths
-lengths c = lent (take (spaces c .before .least .result) (start c .args .granted .now)) (take (spaces c .least2 .result) (start c .args .capped .now))
+abbrev caps-space : Spaces → tie.After-least2
+caps-space c = c .before
 
-abbrev own : tie.After-plan → Outcome
+abbrev grants-space : Spaces → tie.After-least
+grants-space c = caps-space c .before
+
+abbrev start : Spaces → tie.Start
+start c = grants-space c .before .before .before .before .before .before .before .before .before .before .before
+
+-- From Plan: the spaces. From the counts: Plan.
+abbrev spaces : tie.After-plan → Spaces
+spaces c = c .before .before .before .before
+
+abbrev plan-of : tie.After-planned-count2 → tie.After-plan
+plan-of c = c .before .before .before .before .before .before .before .before .before
+
+-- From the first store: the counts. From each further one: the store before it.
+abbrev counts : tie.After-store → tie.After-planned-count2
+counts c = c .before .before .before
+
+abbrev grants-store : tie.After-store2 → tie.After-store
+grants-store c = c .before .before .before .before .before
+
+abbrev caps-store : tie.After-store3 → tie.After-store2
+caps-store c = c .before .before .before .before .before
+
+-- ---- What is known of the lists
+
+-- What Plan comes to in those that are lent.
+abbrev lengths : Spaces → Lengths
+lengths c =
+    lent
+    (take (grants-space c .least .result) (start c .args .granted .now))
+    (take (caps-space c .least2 .result) (start c .args .capped .now))
+    (take (c .least3 .result) (start c .args .spare .now))
+
+abbrev own : Spaces → Outcome
 own c = plan (start c .args .table .now) (start c .args .demands .now) (lengths c)
 
--- How many entries it writes for the cords and for the servers, and how many of each list.
-abbrev plan-of : tie.After-planned-count2 → tie.After-plan
-plan-of c = c .before .before .before .before .before .before .before
+-- What it does with each of them.
+module _ (c : tie.After-planned-count2) where
+  abbrev lends : Spaces
+  lends = spaces (plan-of c)
 
-abbrev grants-written : (c : tie.After-planned-count2) → Counted (λ p. p .grants) (own (plan-of c)) (c .before .before .cord-count .result) (lengths (plan-of c) .grants)
-grants-written c = grants-counted (start (plan-of c) .args .table .now) (start (plan-of c) .args .demands .now) (lengths (plan-of c)) _ (c .before .before .cord-count .ensures)
+  abbrev grants-listed : Listed (λ p. p .grants) (own lends) (start lends .args .grants .now) (start lends .args .granted .now)
+  grants-listed =
+      let told = plan-of c .plan .ensures in
+      listed (grants-space lends .least .ensures) (grants-counted _ _ (lengths lends) _ (c .before .before .cord-count .ensures)) (told .0) (told .1 .0) (c .before .planned-count .ensures)
 
-abbrev caps-written : (c : tie.After-planned-count2) → Counted (λ p. p .caps) (own (plan-of c)) (length (start (plan-of c) .args .demands .now)) (lengths (plan-of c) .caps)
-caps-written c = caps-counted (start (plan-of c) .args .table .now) (start (plan-of c) .args .demands .now) (lengths (plan-of c))
+  abbrev caps-listed : Listed (λ p. p .caps) (own lends) (start lends .args .caps .now) (start lends .args .capped .now)
+  caps-listed =
+      let told = plan-of c .plan .ensures in
+      listed (caps-space lends .least2 .ensures) (caps-counted _ _ (lengths lends)) (told .0) (told .1 .1 .0) (c .planned-count2 .ensures)
+
+  abbrev headroom-listed : Listed (λ p. p .headroom) (own lends) (start lends .args .headroom .now) (start lends .args .spare .now)
+  headroom-listed =
+      let told = plan-of c .plan .ensures in
+      listed (lends .least3 .ensures) (headroom-counted _ _ (lengths lends) _ (c .before .before .cord-count .ensures)) (told .0) (told .1 .1 .1) (c .before .planned-count .ensures)
+
+-- ---- The needs
 
 returns : tie.Need-returns
-returns c = plan-short _ _ _ _ (omega arith)
+returns c = plan-short _ _ _ _ _ (omega arith)
 
 least-requires : tie.Need-least-requires
 least-requires c κs = search needs
@@ -45,17 +85,26 @@ least-requires c κs = search needs
 least-requires-2 : tie.Need-least-requires-2
 least-requires-2 c κs = search needs
 
+least-requires-3 : tie.Need-least-requires-3
+least-requires-3 c κs = search needs
+
 slice-relend-prefix-plan : tie.Need-slice-relend-prefix-plan
 slice-relend-prefix-plan c = search needs
 
 slice-aggregate-plan : tie.Need-slice-aggregate-plan
-slice-aggregate-plan c = front-length _ _ (c .before .before .least .ensures)
+slice-aggregate-plan c = front-length _ _ (grants-space (c .before) .least .ensures)
 
 slice-relend-prefix-plan-2 : tie.Need-slice-relend-prefix-plan-2
 slice-relend-prefix-plan-2 c = search needs
 
 slice-aggregate-plan-2 : tie.Need-slice-aggregate-plan-2
-slice-aggregate-plan-2 c = front-length _ _ (c .before .before .least2 .ensures)
+slice-aggregate-plan-2 c = front-length _ _ (caps-space (c .before .before) .least2 .ensures)
+
+slice-relend-prefix-plan-3 : tie.Need-slice-relend-prefix-plan-3
+slice-relend-prefix-plan-3 c = search needs
+
+slice-aggregate-plan-3 : tie.Need-slice-aggregate-plan-3
+slice-aggregate-plan-3 c = front-length _ _ (c .before .before .before .least3 .ensures)
 
 plan-requires : tie.Need-plan-requires
 plan-requires c κs = search needs
@@ -70,27 +119,31 @@ planned-count-requires-2 : tie.Need-planned-count-requires-2
 planned-count-requires-2 c κs = search needs
 
 slice-reshare-prefix-store : tie.Need-slice-reshare-prefix-store
-slice-reshare-prefix-store c =
-    let plan = plan-of c in
-    omega (arith, list-fits (start plan .args .granted .now) (spaces plan .before .least .result) (grants-written c) (plan .plan .ensures .0) (plan .plan .ensures .1 .0) (c .before .planned-count .ensures))
+slice-reshare-prefix-store c = omega (arith, list-fits (grants-listed c))
 
 slice-aggregate-store : tie.Need-slice-aggregate-store
-slice-aggregate-store c = sym (length-take-le _ _ (slice-reshare-prefix-store (c .before)))
+slice-aggregate-store c = omega (arith, list-counted (grants-listed (c .before)))
 
 store-requires : tie.Need-store-requires
 store-requires c κs = search needs
 
 slice-reshare-prefix-store-2 : tie.Need-slice-reshare-prefix-store-2
-slice-reshare-prefix-store-2 c =
-    let counts = c .before .before .before .before .before in
-    let plan = plan-of counts in
-    omega (arith, list-fits (start plan .args .capped .now) (spaces plan .least2 .result) (caps-written counts) (plan .plan .ensures .0) (plan .plan .ensures .1 .1) (counts .planned-count2 .ensures))
+slice-reshare-prefix-store-2 c = omega (arith, list-fits (caps-listed (counts (c .before .before))))
 
 slice-aggregate-store-2 : tie.Need-slice-aggregate-store-2
-slice-aggregate-store-2 c = sym (length-take-le _ _ (slice-reshare-prefix-store-2 (c .before)))
+slice-aggregate-store-2 c = omega (arith, list-counted (caps-listed (counts (c .before .before .before))))
 
 store-requires-2 : tie.Need-store-requires-2
 store-requires-2 c κs = search needs
+
+slice-reshare-prefix-store-3 : tie.Need-slice-reshare-prefix-store-3
+slice-reshare-prefix-store-3 c = omega (arith, list-fits (headroom-listed (counts (grants-store (c .before .before)))))
+
+slice-aggregate-store-3 : tie.Need-slice-aggregate-store-3
+slice-aggregate-store-3 c = omega (arith, list-counted (headroom-listed (counts (grants-store (c .before .before .before)))))
+
+store-requires-3 : tie.Need-store-requires-3
+store-requires-3 c κs = search needs
 
 number-requires : tie.Need-number-requires
 number-requires c κs = search needs
@@ -116,28 +169,34 @@ same-length-4 c = search needs
 same-length-5 : tie.Need-same-length-5
 same-length-5 c = search needs
 
+same-length-6 : tie.Need-same-length-6
+same-length-6 c = search needs
+
+same-length-7 : tie.Need-same-length-7
+same-length-7 c = search needs
+
 returns-2 : tie.Need-returns-2
 returns-2 c =
     let answer = c .before .before in
     let figure = answer .before .before in
     let number = figure .before in
-    let caps-store = number .before .before .before in
-    let grants-store = caps-store .before .before .before .before .before in
-    let counts = grants-store .before .before .before in
-    let plan = plan-of counts in
-    let args = start plan .args in
-    let pre = start plan .pre in
-    let grantsSpace = spaces plan .before .least in
-    let capsSpace = spaces plan .least2 in
-    let told = plan .plan .ensures in
+    let store3 = number .before .before .before in
+    let store2 = caps-store store3 in
+    let store = grants-store store2 in
+    let told = counts store in
+    let plan = plan-of told in
+    let spaces = spaces plan in
+    let args = start spaces .args in
+    let pre = start spaces .pre in
     call-same
-    (same-plan _ _ (args .granted .now) (args .capped .now) (args .grants .now) (args .caps .now) (grantsSpace .result) (capsSpace .result)
-    (record { grants = pre .0; caps = pre .1 }) (grantsSpace .ensures) (capsSpace .ensures))
-    (plan-done (own plan) (args .grants .now) (args .caps .now) (args .answer .now) (omega (arith, spaces plan .before .before .if1 .left)) (told .0)
-    (list-stored (args .granted .now) (grantsSpace .result) (grants-written counts) (told .0) (told .1 .0) (counts .before .planned-count .ensures) (args .grants .now) (grantsSpace .ensures)
-    (grants-store .store .ensures))
-    (list-stored (args .capped .now) (capsSpace .result) (caps-written counts) (told .0) (told .1 .1) (counts .planned-count2 .ensures) (args .caps .now) (capsSpace .ensures)
-    (caps-store .store2 .ensures))
+    (same-plan _ _ (args .grants .now) (args .granted .now) (args .caps .now) (args .capped .now) (args .headroom .now) (args .spare .now)
+    (record { grants = pre .0; caps = pre .1 .0; headroom = pre .1 .1 })
+    (grants-space spaces .least .ensures) (caps-space spaces .least2 .ensures) (spaces .least3 .ensures))
+    (plan-done (own spaces) (args .grants .now) (args .caps .now) (args .headroom .now) (args .answer .now)
+    (omega (arith, grants-space spaces .before .if1 .left)) (plan .plan .ensures .0)
+    (list-stored (grants-listed told) (store .store .ensures))
+    (list-stored (caps-listed told) (store2 .store2 .ensures))
+    (list-stored (headroom-listed told) (store3 .store3 .ensures))
     (number .number .ensures) (figure .figure .ensures) (answer .store-answer .ensures .1))
 
 pub plan-by-spec : {M : Type 1} → statement M
@@ -147,10 +206,13 @@ plan-by-spec =
     returns
     least-requires
     least-requires-2
+    least-requires-3
     slice-relend-prefix-plan
     slice-aggregate-plan
     slice-relend-prefix-plan-2
     slice-aggregate-plan-2
+    slice-relend-prefix-plan-3
+    slice-aggregate-plan-3
     plan-requires
     cord-count-requires
     planned-count-requires
@@ -161,6 +223,9 @@ plan-by-spec =
     slice-reshare-prefix-store-2
     slice-aggregate-store-2
     store-requires-2
+    slice-reshare-prefix-store-3
+    slice-aggregate-store-3
+    store-requires-3
     number-requires
     figure-requires
     store-answer-requires
@@ -169,4 +234,6 @@ plan-by-spec =
     same-length-3
     same-length-4
     same-length-5
+    same-length-6
+    same-length-7
     returns-2)

@@ -6,12 +6,15 @@ use borrow.Author.Needs.{needs}
 use Rattle.capi.proofs.plan_loaded.Statement.{statement}
 use Rattle.capi.proofs.plan_loaded.Tie as tie
 
--- The load of the table, before that of the demands; and the start.
+-- Earlier places, each from a later one: the start from the load of the table, that from the load of the demands, and that from the call.
+abbrev start : tie.After-load → tie.Start
+start c = c .before .before .before .before .before .before .before .before .before .before
+
 abbrev table-load : tie.After-load2 → tie.After-load
 table-load c = c .before .before .before .before
 
-abbrev start : tie.After-load → tie.Start
-start c = c .before .before .before .before .before .before .before .before .before
+abbrev demands-load : tie.After-plan-words → tie.After-load2
+demands-load c = c .before .before .before .before .before .before .before .before .before
 
 load-requires : tie.Need-load-requires
 load-requires c κs = search needs
@@ -24,7 +27,7 @@ slice-reshare-prefix-plan-words c = search needs
 
 slice-aggregate-plan-words : tie.Need-slice-aggregate-plan-words
 slice-aggregate-plan-words c =
-    let load = c .before .before .before .before .before .before .before .load .ensures in
+    let load = table-load (c .before .before .before) .load .ensures in
     loaded-length _ _ (load .0) (load .1)
 
 slice-reshare-prefix-plan-words-2 : tie.Need-slice-reshare-prefix-plan-words-2
@@ -53,15 +56,18 @@ same-length-4 c = search needs
 same-length-5 : tie.Need-same-length-5
 same-length-5 c = search needs
 
+same-length-6 : tie.Need-same-length-6
+same-length-6 c = search needs
+
 returns : tie.Need-returns
 returns c =
-    let words = c .before .before .before .before .before .before in
-    let demands = words .before .before .before .before .before .before .before .before in
+    let words = c .before .before .before .before .before .before .before .before in
+    let demands = demands-load words in
     let table = table-load demands in
     let args = start table .args in
     let pre = start table .pre in
     call-same
-    (plan-loaded (args .table .now) (args .words .now) (args .demands .now) (args .figures .now) (lentBytes (args .grants .now) (args .caps .now)) (pre .0) (pre .1)
+    (plan-loaded (args .table .now) (args .words .now) (args .demands .now) (args .figures .now) (lentBytes (args .grants .now) (args .caps .now) (args .headroom .now)) (pre .0) (pre .1)
     (table .load .ensures .0) (table .load .ensures .1) (demands .load2 .ensures .0) (demands .load2 .ensures .1))
     (words .plan-words .ensures)
 
@@ -81,4 +87,5 @@ plan-loaded-spec =
     same-length-3
     same-length-4
     same-length-5
+    same-length-6
     returns)

@@ -1,15 +1,58 @@
 -- `print_table` meets its contract: what is printed of each answer of Plan is what the definition gives.
-use mathlib.Core.Path.{_≡_, sym, _∙_}
+use mathlib.Core.Path.{_≡_}
+use mathlib.Core.List.{List}
+use Prim.Native.Nat.{ℕ}
+use Rattle.deals.specs.declared.Lengths.{Lengths}
 use Rattle.deals.specs.Plan.{lent, mostLent}
-use Rattle.hutplan.proofs.Prints.{most-lent, table-refused, table-accepted}
+use Rattle.hutplan.proofs.Prints.{most-lent, RoomText, table-refused, table-accepted}
 use Rattle.print.proofs.Putting.{put-as}
 use borrow.Author.Needs.{needs}
 use Rattle.hutplan.proofs.print_table.Statement.{statement}
 use Rattle.hutplan.proofs.print_table.Tie as tie
 
+-- What is lent, and what of it Plan leaves.
+abbrev start : tie.After-plan → tie.Start
+start c = c .before .before .before .before .before .before .before .before .before .before
+
+abbrev table : tie.After-plan → List ℕ
+table c = start c .args .table .now
+
+abbrev demands : tie.After-plan → List ℕ
+demands c = start c .args .demands .now
+
+abbrev lengths : tie.After-plan → Lengths
+lengths c = lent (start c .args .grants .now) (start c .args .caps .now) (start c .args .headroom .now)
+
+abbrev grants : tie.After-plan → List ℕ
+grants c = c .plan .last .1 .1 .0
+
+abbrev caps : tie.After-plan → List ℕ
+caps c = c .plan .last .1 .1 .1 .0
+
+abbrev headroom : tie.After-plan → List ℕ
+headroom c = c .plan .last .1 .1 .1 .1 .0
+
 -- The lists take the plan of every room.
-abbrev most : (c : tie.Start) → lent (c .args .grants .now) (c .args .caps .now) ≡ mostLent
-most c = most-lent (c .args .grants .now) (c .args .caps .now) (c .pre .0) (c .pre .1)
+most : (c : tie.After-plan) → lengths c ≡ mostLent
+most c =
+    let args = start c .args in
+    let long = start c .pre in
+    most-lent (args .grants .now) (args .caps .now) (args .headroom .now) (long .0) (long .1) (long .2)
+
+-- Accepted, they have the room's plan.
+abbrev accepted : tie.After-planned → tie.After-plan
+accepted c = c .before .before .before .before .before .before .before .before
+
+room-text : (c : tie.After-planned)
+    → RoomText (table (accepted c)) (demands (accepted c)) (lengths (accepted c)) (most (accepted c)) (c .planned .given .0 .0)
+    (caps (accepted c)) (grants (accepted c)) (headroom (accepted c))
+room-text c =
+    let args = start (accepted c) .args in
+    let long = start (accepted c) .pre in
+    let said = accepted c .plan .ensures in
+    table-accepted (table (accepted c)) (demands (accepted c)) (lengths (accepted c)) (most (accepted c))
+    (args .grants .now) (args .caps .now) (args .headroom .now) (grants (accepted c)) (caps (accepted c)) (headroom (accepted c))
+    (long .0) (long .1) (long .2) (c .planned .given .1) (said .0) (said .1 .0) (said .1 .1 .0) (said .1 .1 .1)
 
 plan-requires : tie.Need-plan-requires
 plan-requires c κs = search needs
@@ -18,14 +61,7 @@ enum-known-planned : tie.Need-enum-known-planned
 enum-known-planned c = search needs
 
 plan-requires-2 : tie.Need-plan-requires-2
-plan-requires-2 c κs =
-    let known = c .before .before .before .before in
-    let planned = known .before .before .before .before .before .before in
-    let start = planned .before .before .before .before .before .before .before .before in
-    let args = start .args in
-    let said = planned .plan .ensures in
-    table-accepted (args .table .now) (args .demands .now) _ (most start) (args .grants .now) (args .caps .now) _ _
-    (start .pre .0) (start .pre .1) (sym (known .planned .given .1) ∙ said .0) (said .1 .0) (said .1 .1) .good-table
+plan-requires-2 c κs = room-text (c .before .before .before .before .before) .good-table
 
 enum-known-planned-2 : tie.Need-enum-known-planned-2
 enum-known-planned-2 c = search needs
@@ -48,21 +84,14 @@ same-length-2 c = search needs
 same-length-3 : tie.Need-same-length-3
 same-length-3 c = search needs
 
-returns : tie.Need-returns
-returns c =
-    let put = c .before .before in
-    let known = put .before .before .before .before .before in
-    let planned = known .before .before .before .before .before .before in
-    let start = planned .before .before .before .before .before .before .before .before in
-    let args = start .args in
-    let said = planned .plan .ensures in
-    let is =
-    table-accepted (args .table .now) (args .demands .now) _ (most start) (args .grants .now) (args .caps .now) _ _
-    (start .pre .0) (start .pre .1) (sym (known .planned .given .1) ∙ said .0) (said .1 .0) (said .1 .1) in
-    (put-as (is .text) (put .plan2 .ensures .0 (is .good-table .value) (is .good-table .next) (is .good-table .is)), put .plan2 .ensures .1)
-
 same-length-4 : tie.Need-same-length-4
 same-length-4 c = search needs
+
+returns : tie.Need-returns
+returns c =
+    let put = c .before .before .plan2 .ensures in
+    let is = room-text (c .before .before .before .before .before .before .before .before) in
+    (put-as (is .text) (put .0 (is .good-table .value) (is .good-table .next) (is .good-table .is)), put .1)
 
 same-length-5 : tie.Need-same-length-5
 same-length-5 c = search needs
@@ -70,15 +99,18 @@ same-length-5 c = search needs
 same-length-6 : tie.Need-same-length-6
 same-length-6 c = search needs
 
+same-length-7 : tie.Need-same-length-7
+same-length-7 c = search needs
+
+same-length-8 : tie.Need-same-length-8
+same-length-8 c = search needs
+
 returns-2 : tie.Need-returns-2
 returns-2 c =
     let put = c .before .before in
     let known = put .before .before .before .before .before in
-    let planned = known .before .before .before .before .before .before in
-    let start = planned .before .before .before .before .before .before .before .before in
-    let args = start .args in
-    let refused = sym (known .planned2 .given .1) ∙ planned .plan .ensures .0 in
-    let is = table-refused (args .table .now) (args .demands .now) _ (most start) refused in
+    let plan = known .before .before .before .before .before .before .before .before in
+    let is = table-refused (table plan) (demands plan) (lengths plan) (most plan) (known .planned2 .given .1) (plan .plan .ensures .0) in
     let number = put .before .before .before .number .ensures in
     let place = put .before .before .place .ensures in
     (rw (number, place, ← is) at (put .refusal .ensures .0), put .refusal .ensures .1)
@@ -97,8 +129,10 @@ print-table-spec =
     same-length
     same-length-2
     same-length-3
-    returns
     same-length-4
+    returns
     same-length-5
     same-length-6
+    same-length-7
+    same-length-8
     returns-2)

@@ -8,10 +8,10 @@ use Rattle.layout.proofs.load_figures.Statement.{statement}
 use Rattle.layout.proofs.load_figures.Tie as tie
 
 abbrev Inv-loop : tie.InvT-loop
-Inv-loop servers cords needs nodes₀ lows₀ wants₀ scale c₀ c-end nodes lows wants c = (c ≤ length cords) × Loaded scale servers cords needs c nodes lows wants
+Inv-loop servers cords needs nodes₀ lows₀ wants₀ ceilings₀ scale c₀ c-end nodes lows wants ceilings c = (c ≤ length cords) × Loaded scale servers cords needs c nodes lows wants ceilings
 
 abbrev μ-loop : tie.MeasureT-loop
-μ-loop servers cords needs nodes₀ lows₀ wants₀ scale c₀ c-end nodes lows wants c = c-end - c
+μ-loop servers cords needs nodes₀ lows₀ wants₀ ceilings₀ scale c₀ c-end nodes lows wants ceilings c = c-end - c
 
 -- ---- What is known at a turn, once the place of the cord's server is read
 
@@ -19,16 +19,23 @@ abbrev Placed : Type 0
 Placed = tie.After-word-index Inv-loop μ-loop
 
 abbrev start : Placed → tie.Start Inv-loop μ-loop
-start p = p .before .before .before .before .before .before .before .before
+start p = p .before .before .before .before .before .before .before .before .before
 
 abbrev turn : Placed → tie.In-loop Inv-loop μ-loop
 turn p = p .before .before
+
+-- All figures of the cord are found.
+abbrev Found : Type 0
+Found = tie.After-carried-by3 Inv-loop μ-loop
+
+abbrev place : Found → Placed
+place c = c .before .before .before .before .before .before .before
 
 placed : (p : Placed) → p .word-index .result < length (start p .args .servers .now)
 placed p = omega (arith, start p .pre .0 .within _ (turn p .loop-test .taken), p .word-index .ensures .0)
 
 loop-holds : tie.Need-loop-holds Inv-loop μ-loop
-loop-holds c = let sizes = c .before .before .before .before .pre .1 in (omega arith, loaded-none (sizes .0) (sizes .1) (sizes .2))
+loop-holds c = let sizes = c .before .before .before .before .before .pre .1 in (omega arith, loaded-none (sizes .0) (sizes .1) (sizes .2) (sizes .3))
 
 mul-cord : tie.Need-mul-cord Inv-loop μ-loop
 mul-cord c = search needs
@@ -96,26 +103,53 @@ mul-wants c = search needs
 slice-write-wants : tie.Need-slice-write-wants Inv-loop μ-loop
 slice-write-wants c = omega (arith, turn (c .before .before .before .before .before) .before .loop .inv .1 .wants-done .size-is, turn (c .before .before .before .before .before) .loop-test .taken)
 
+mul-carried-by-3 : tie.Need-mul-carried-by-3 Inv-loop μ-loop
+mul-carried-by-3 c = search needs
+
+index-1-carried-by-2 : tie.Need-index-1-carried-by-2 Inv-loop μ-loop
+index-1-carried-by-2 c = placed (c .before .before .before .before .before)
+
+index-2-carried-by-2 : tie.Need-index-2-carried-by-2 Inv-loop μ-loop
+index-2-carried-by-2 c = search needs
+
+carried-by-requires-3 : tie.Need-carried-by-requires-3 Inv-loop μ-loop
+carried-by-requires-3 c κs =
+    let p = c .before .before .before .before .before .before in
+    let asked = start p .pre .0 in
+    (asked .scaled, asked .parts _ (turn p .loop-test .taken), asked .greatest-most _ (placed p))
+
+mul-ceilings : tie.Need-mul-ceilings Inv-loop μ-loop
+mul-ceilings c = search needs
+
+slice-write-ceilings : tie.Need-slice-write-ceilings Inv-loop μ-loop
+slice-write-ceilings c = omega (arith, turn (place c) .before .loop .inv .1 .ceilings-done .size-is, turn (place c) .loop-test .taken)
+
 add-c : tie.Need-add-c Inv-loop μ-loop
-add-c c = omega (arith, turn (c .before .before .before .before .before) .loop-test .taken)
+add-c c = omega (arith, turn (place c) .loop-test .taken)
 
 loop-less : tie.Need-loop-less Inv-loop μ-loop
-loop-less c = omega (arith, turn (c .before .before .before .before .before) .loop-test .taken)
+loop-less c = omega (arith, turn (place c) .loop-test .taken)
 
 loop-again : tie.Need-loop-again Inv-loop μ-loop
 loop-again c =
-    let p = c .before .before .before .before .before in
-    let less = turn p .loop-test .taken in
-    (omega (arith, less), loaded-one (turn p .before .loop .inv .1) less (p .word-index .ensures .0) (c .before .before .before .before .short .ensures) (c .before .before .carried-by .ensures) (c .carried-by2 .ensures))
+    let p = place c in
+    let less = turn p .loop-test .taken in (
+      omega (arith, less),
+      loaded-one (turn p .before .loop .inv .1) less (p .word-index .ensures .0) (c .before .before .before .before .before .before .short .ensures) (c .before .before .before .before .carried-by .ensures) (c .before .before .carried-by2 .ensures)
+          (c .carried-by3 .ensures),
+    )
 
 same-length : tie.Need-same-length Inv-loop μ-loop
-same-length c = let size = c .before .before .before .before .before .before .pre .1 .0 in omega (arith, c .before .loop .inv .1 .nodes-done .size-is)
+same-length c = let size = c .before .before .before .before .before .before .before .pre .1 .0 in omega (arith, c .before .loop .inv .1 .nodes-done .size-is)
 
 same-length-2 : tie.Need-same-length-2 Inv-loop μ-loop
-same-length-2 c = let size = c .before .before .before .before .before .before .pre .1 .1 in omega (arith, c .before .loop .inv .1 .lows-done .size-is)
+same-length-2 c = let size = c .before .before .before .before .before .before .before .pre .1 .1 in omega (arith, c .before .loop .inv .1 .lows-done .size-is)
 
 same-length-3 : tie.Need-same-length-3 Inv-loop μ-loop
-same-length-3 c = let size = c .before .before .before .before .before .before .pre .1 .2 in omega (arith, c .before .loop .inv .1 .wants-done .size-is)
+same-length-3 c = let size = c .before .before .before .before .before .before .before .pre .1 .2 in omega (arith, c .before .loop .inv .1 .wants-done .size-is)
+
+same-length-4 : tie.Need-same-length-4 Inv-loop μ-loop
+same-length-4 c = let size = c .before .before .before .before .before .before .before .pre .1 .3 in omega (arith, c .before .loop .inv .1 .ceilings-done .size-is)
 
 returns : tie.Need-returns Inv-loop μ-loop
 returns c = loaded-all (c .before .loop .inv .1) (omega (arith, c .loop-test .left))
@@ -147,10 +181,17 @@ load-figures-spec =
     carried-by-requires-2
     mul-wants
     slice-write-wants
+    mul-carried-by-3
+    index-1-carried-by-2
+    index-2-carried-by-2
+    carried-by-requires-3
+    mul-ceilings
+    slice-write-ceilings
     add-c
     loop-less
     loop-again
     same-length
     same-length-2
     same-length-3
+    same-length-4
     returns)

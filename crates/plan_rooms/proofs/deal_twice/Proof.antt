@@ -1,23 +1,24 @@
 -- `deal_twice` meets its contract: what each call leaves is what the next one asks.
-use mathlib.Core.Path.{_≡_, sym, _∙_}
+use mathlib.Core.Path.{_≡_, refl, sym, ap, _∙_}
 use mathlib.Core.List.{List}
 use Prim.Native.Nat.{ℕ, _≤_}
 use native.Mathlib.Omega.{arith}
 use lib.ListN.{length, take, replicate}
 use Rattle.figures.specs.Figures.{column}
 use Rattle.words.proofs.Lists.{sets-all}
-use Rattle.rooms.specs.Table.{Room, mostNodes, mostCords, highestRank}
+use Rattle.rooms.specs.Table.{Room, mostNodes, mostCords, mostServers, highestRank}
 use Rattle.rooms.proofs.Accepted.{Accepted, accepted}
 use Rattle.rooms.specs.Lists.{limitsOf, levelsOf}
-use Rattle.room_lists.specs.Lists.{nodeColumn, levelColumn}
-use Rattle.deals.specs.SecondDeal.{firstGrants, firstUsed, secondWants, secondGrants}
+use Rattle.room_lists.specs.Lists.{nodeColumn, levelColumn, serverColumn, shareColumn}
+use Rattle.deals.specs.SecondDeal.{firstGrants, firstUsed, secondDeal, secondWants}
 use Rattle.deals.specs.SecondDeal as second
 use Rattle.levels.specs.Levels.{LevelLists, toColumn}
-use Rattle.deal_by_rank.specs.Ranks.{DealGiven}
+use Rattle.deal_by_rank.specs.Ranks.{DealGiven, DealMade}
+use Rattle.reclaim.specs.Reclaimed.{usableFrom}
 use Rattle.levels.proofs.Cells.{zeros-front, zeros-rows, zeros-cells}
 use Rattle.levels.proofs.Fronts.{equal-length, Lent, lent, lent-zeros, rejoined, lent-again, lent-few, lent-front}
 use Rattle.plan_rooms.specs.Planning.{RoomLists}
-use Rattle.plan_rooms.proofs.Planning.{cord-count, wants-count, levels-nodes, levels-cords, first-given, first-made, second-given, second-made, server-lists, reclaim-asks, first-used, freed-is, second-wants, caps-are}
+use Rattle.plan_rooms.proofs.Planning.{blank-marks, needs-size, cord-count, wants-count, levels-nodes, levels-cords, first-given, first-made, raisable, raised, second-given, second-made, second-dealt, server-lists, reclaim-asks, first-used, freed-is, second-wants, caps-are}
 use borrow.Author.Needs.{needs}
 use Rattle.plan_rooms.proofs.deal_twice.Statement.{statement}
 use Rattle.plan_rooms.proofs.deal_twice.Tie as tie
@@ -25,319 +26,442 @@ use Rattle.plan_rooms.proofs.deal_twice.Tie as tie
 abbrev Start : Type 0
 Start = tie.Start
 
+-- The lists at the start are those of a room with given demands.
+abbrev RoomOf : Start → Room → List ℕ → Type 0
+RoomOf s r demands =
+    RoomLists r demands (s .args .parents .now) (s .args .left .now) (s .args .cords .now) (s .args .nodes .now) (s .args .lows .now) (s .args .wants .now) (s .args .caps .now) (s .args .scale)
+
 abbrev room : (s : Start) → Accepted (s .pre .0 .room)
 room s = accepted (s .pre .0 .table) (s .pre .0 .room) (s .pre .0 .end) (s .pre .0 .is)
 
-abbrev lists : (s : Start) → RoomLists (s .pre .0 .room) (s .pre .0 .demands) (s .args .parents .now) (s .args .spare .now) (s .args .cords .now) (s .args .nodes .now) (s .args .lows .now) (s .args .wants .now) (s .args .needs .now) (s .args .scale)
+abbrev lists : (s : Start) → RoomOf s (s .pre .0 .room) (s .pre .0 .demands)
 lists s = s .pre .0 .lists
 
-nodes-few : (s : Start) → length (s .args .parents .now) ≤ mostNodes
+abbrev nodes-s : Start → ℕ
+nodes-s s = length (s .args .parents .now)
+
+abbrev cords-s : Start → ℕ
+cords-s s = length (s .args .nodes .now)
+
+abbrev servers-s : Start → ℕ
+servers-s s = length (s .args .caps .now)
+
+nodes-few : (s : Start) → nodes-s s ≤ mostNodes
 nodes-few s = levels-nodes (room s) (lists s) .0
 
-cords-few : (s : Start) → length (s .args .nodes .now) ≤ mostCords
+cords-few : (s : Start) → cords-s s ≤ mostCords
 cords-few s = omega (arith, levels-cords (room s) (lists s) .few, cord-count (room s) (lists s))
+
+servers-few : (s : Start) → servers-s s ≤ mostServers
+servers-few s = omega (arith, needs-size (room s) (lists s), room s .fewServers)
+
+-- After the first copy: `spare` has at its front what the limits have over the lows.
+abbrev Spared : Type 0
+Spared = tie.After-copy
+
+abbrev start-p : Spared → Start
+start-p p = p .before .before .before .before .before .before .before .before .before .before .before
+
+abbrev spare-after : Spared → List ℕ
+spare-after p = rejoined (nodes-s (start-p p)) (replicate mostNodes 0) (p .copy .last .1 .0)
+
+spare-lent : (p : Spared) → Lent (nodes-s (start-p p)) (replicate mostNodes 0) (p .copy .last .1 .0)
+spare-lent p = lent-zeros mostNodes (nodes-few (start-p p)) (p .copy .kept .1 .0)
+
+spare-is : (p : Spared) → take (nodes-s (start-p p)) (spare-after p) ≡ start-p p .args .left .now
+spare-is p = lent-again (spare-lent p) ∙ p .copy .ensures ∙ sets-all _ _ (zeros-front mostNodes _ (nodes-few (start-p p)) ∙ sym (lists (start-p p) .spare-size))
+
+-- After the second: `usable` has the servers' needs.
+abbrev Copied : Type 0
+Copied = tie.After-copy2
+
+abbrev spared-k : Copied → Spared
+spared-k k = k .before .before .before .before
+
+abbrev start-k : Copied → Start
+start-k k = start-p (spared-k k)
+
+abbrev usable-after : Copied → List ℕ
+usable-after k = rejoined (servers-s (start-k k)) (replicate mostServers 0) (k .copy2 .last .1 .0)
+
+usable-lent : (k : Copied) → Lent (servers-s (start-k k)) (replicate mostServers 0) (k .copy2 .last .1 .0)
+usable-lent k = lent-zeros mostServers (servers-few (start-k k)) (k .copy2 .kept .1 .0)
+
+usable-is : (k : Copied) → take (servers-s (start-k k)) (usable-after k) ≡ start-k k .args .caps .now
+usable-is k = lent-again (usable-lent k) ∙ k .copy2 .ensures ∙ sets-all _ _ (zeros-front mostServers _ (servers-few (start-k k)))
 
 -- After `list_levels`: the order by level came back, and stands before the rest of its list.
 abbrev Listed : Type 0
 Listed = tie.After-list-levels
 
-abbrev start-l : Listed → Start
-start-l l = l .before .before .before .before .before .before .before .before .before .before .before .before
+abbrev copied-l : Listed → Copied
+copied-l l = l .before .before .before .before .before
 
-abbrev cords-l : Listed → ℕ
-cords-l l = length (start-l l .args .nodes .now)
+abbrev start-l : Listed → Start
+start-l l = start-k (copied-l l)
 
 abbrev order-after : Listed → List ℕ
-order-after l = rejoined (cords-l l) (replicate mostCords 0) (l .list-levels .last .1 .1 .1 .0)
+order-after l = rejoined (cords-s (start-l l)) (replicate mostCords 0) (l .list-levels .last .1 .1 .1 .0)
 
-order-lent : (l : Listed) → Lent (cords-l l) (replicate mostCords 0) (l .list-levels .last .1 .1 .1 .0)
+order-lent : (l : Listed) → Lent (cords-s (start-l l)) (replicate mostCords 0) (l .list-levels .last .1 .1 .1 .0)
 order-lent l = lent-zeros mostCords (cords-few (start-l l)) (l .list-levels .kept .1 .1 .1 .0)
 
-listed-at : (l : Listed) → LevelLists (start-l l .args .parents .now) (column nodeColumn (start-l l .args .cords .now)) (column levelColumn (start-l l .args .cords .now)) (l .list-levels .last .1 .1 .0) (take (cords-l l) (order-after l)) (l .list-levels .last .1 .1 .1 .1 .0)
+listed-at : (l : Listed) → LevelLists (start-l l .args .parents .now) (column nodeColumn (start-l l .args .cords .now)) (column levelColumn (start-l l .args .cords .now)) (l .list-levels .last .1 .1 .0) (take (cords-s (start-l l)) (order-after l)) (l .list-levels .last .1 .1 .1 .1 .0)
 listed-at l = rw (lent-again (order-lent l)) (l .list-levels .ensures)
-
--- After the first copy.
-abbrev Copied : Type 0
-Copied = tie.After-copy
-
-abbrev listed-k : Copied → Listed
-listed-k k = k .before .before .before
-
-abbrev start-k : Copied → Start
-start-k k = start-l (listed-k k)
-
-abbrev nodes-k : Copied → ℕ
-nodes-k k = length (start-k k .args .parents .now)
-
-abbrev left-after : Copied → List ℕ
-left-after k = rejoined (nodes-k k) (replicate mostNodes 0) (k .copy .last .1 .0)
-
-left-lent : (k : Copied) → Lent (nodes-k k) (replicate mostNodes 0) (k .copy .last .1 .0)
-left-lent k = lent-zeros mostNodes (nodes-few (start-k k)) (k .copy .kept .1 .0)
-
-left-is : (k : Copied) → take (nodes-k k) (left-after k) ≡ start-k k .args .spare .now
-left-is k = lent-again (left-lent k) ∙ k .copy .ensures ∙ sets-all _ _ (zeros-front mostNodes _ (nodes-few (start-k k)) ∙ sym (lists (start-k k) .spare-size))
 
 -- After the first deal.
 abbrev First : Type 0
 First = tie.After-deal
 
-abbrev copied-f : First → Copied
-copied-f f = f .before .before .before .before .before .before .before .before .before
+abbrev listed-f : First → Listed
+listed-f f = f .before .before .before .before .before .before .before .before .before .before
 
 abbrev start-f : First → Start
-start-f f = start-k (copied-f f)
+start-f f = start-l (listed-f f)
 
 abbrev grants-f : First → List ℕ
 grants-f f = f .deal .last .1 .1 .1 .1 .1 .1 .1 .1 .1 .1 .0
 
-first-grants : (f : First) {r : Room} → Accepted r → {demands : List ℕ} → RoomLists r demands (start-f f .args .parents .now) (start-f f .args .spare .now) (start-f f .args .cords .now) (start-f f .args .nodes .now) (start-f f .args .lows .now) (start-f f .args .wants .now) (start-f f .args .needs .now) (start-f f .args .scale) → grants-f f ≡ firstGrants r demands
-first-grants f {r} ok of =
-    first-made ok of (listed-at (listed-k (copied-f f)))
-    (f .deal .ensures .0 (limitsOf r) (levelsOf r) (first-given ok of (listed-at (listed-k (copied-f f))) (left-is (copied-f f))))
+first-grants : (f : First) {r : Room} → Accepted r → {demands : List ℕ} → RoomOf (start-f f) r demands → grants-f f ≡ firstGrants r demands
+first-grants f {r} ok of = first-made ok of (f .deal .ensures .0 (limitsOf r) (levelsOf r) (start-f f .args .lows .now) (first-given ok of (listed-at (listed-f f))))
 
-grants-size : (f : First) → length (grants-f f) ≡ length (start-f f .args .nodes .now)
-grants-size f = f .deal .kept .1 .1 .1 .1 .1 .1 .1 .1 .1 .1 .0 ∙ start-f f .pre .1
+grants-size : (f : First) → length (grants-f f) ≡ cords-s (start-f f)
+grants-size f = f .deal .kept .1 .1 .1 .1 .1 .1 .1 .1 .1 .1 .0 ∙ start-f f .pre .1 .2
 
 -- After what the servers can use of it.
 abbrev Used : Type 0
 Used = tie.After-usable-of
 
 abbrev first-u : Used → First
-first-u u = u .before .before .before .before .before .before
+first-u u = u .before .before .before .before .before .before .before .before
 
 abbrev start-u : Used → Start
 start-u u = start-f (first-u u)
 
-abbrev caps-u : Used → List ℕ
-caps-u u = u .usable-of .last .1 .1 .1 .0
+abbrev copied-u : Used → Copied
+copied-u u = copied-l (listed-f (first-u u))
+
+abbrev usable-after-u : Used → List ℕ
+usable-after-u u = rejoined (servers-s (start-u u)) (usable-after (copied-u u)) (u .usable-of .last .1 .1 .0)
+
+usable-lent-u : (u : Used) → Lent (servers-s (start-u u)) (usable-after (copied-u u)) (u .usable-of .last .1 .1 .0)
+usable-lent-u u = lent (lent-few (usable-lent (copied-u u))) (u .usable-of .kept .1 .1 .0)
+
+usable-is-u : (u : Used) → take (servers-s (start-u u)) (usable-after-u u) ≡ usableFrom (start-u u .args .scale) (column shareColumn (start-u u .args .cords .now)) (column serverColumn (start-u u .args .cords .now)) (start-u u .args .caps .now) (grants-f (first-u u))
+usable-is-u u =
+    lent-again (usable-lent-u u)
+    ∙ u .usable-of .ensures
+    ∙ ap (λ (needed : List ℕ). usableFrom (start-u u .args .scale) (column shareColumn (start-u u .args .cords .now)) (column serverColumn (start-u u .args .cords .now)) needed (grants-f (first-u u))) (usable-is (copied-u u))
 
 -- After `reclaim`.
 abbrev Reclaimed : Type 0
 Reclaimed = tie.After-reclaim
 
 abbrev used-r : Reclaimed → Used
-used-r q = q .before .before .before .before .before .before .before
+used-r q = q .before .before .before .before .before .before
 
 abbrev start-r : Reclaimed → Start
 start-r q = start-u (used-r q)
 
-abbrev cords-r : Reclaimed → ℕ
-cords-r q = length (start-r q .args .nodes .now)
-
 abbrev starts-after : Reclaimed → List ℕ
-starts-after q = rejoined (cords-r q) (replicate mostCords 0) (q .reclaim .last .1 .1 .1 .0)
+starts-after q = rejoined (cords-s (start-r q)) (replicate mostCords 0) (q .reclaim .last .1 .1 .1 .0)
 
-starts-lent : (q : Reclaimed) → Lent (cords-r q) (replicate mostCords 0) (q .reclaim .last .1 .1 .1 .0)
+starts-lent : (q : Reclaimed) → Lent (cords-s (start-r q)) (replicate mostCords 0) (q .reclaim .last .1 .1 .1 .0)
 starts-lent q = lent-zeros mostCords (cords-few (start-r q)) (q .reclaim .kept .1 .1 .1 .0)
 
-module _ (q : Reclaimed) {r : Room} (ok : Accepted r) {demands : List ℕ} (of : RoomLists r demands (start-r q .args .parents .now) (start-r q .args .spare .now) (start-r q .args .cords .now) (start-r q .args .nodes .now) (start-r q .args .lows .now) (start-r q .args .wants .now) (start-r q .args .needs .now) (start-r q .args .scale)) where
+module _ (q : Reclaimed) {r : Room} (ok : Accepted r) {demands : List ℕ} (of : RoomOf (start-r q) r demands) where
   first-q : grants-f (first-u (used-r q)) ≡ firstGrants r demands
   first-q = first-grants (first-u (used-r q)) ok of
 
-  starts-are : take (cords-r q) (starts-after q) ≡ firstUsed r demands
-  starts-are = lent-again (starts-lent q) ∙ first-used ok of first-q (used-r q .usable-of .ensures) (q .reclaim .ensures .1 .0)
+  starts-are : take (cords-s (start-r q)) (starts-after q) ≡ firstUsed r demands
+  starts-are = lent-again (starts-lent q) ∙ first-used ok of first-q (usable-is-u (used-r q)) (q .reclaim .ensures .1 .0)
 
   wants-are : q .reclaim .last .1 .1 .1 .1 .0 ≡ secondWants r demands
-  wants-are = second-wants ok of first-q (used-r q .usable-of .ensures) (q .reclaim .ensures .1 .1)
+  wants-are = second-wants ok of first-q (usable-is-u (used-r q)) (q .reclaim .ensures .1 .1)
 
   freed-q : q .reclaim .result ≡ second.freed r demands
-  freed-q = freed-is ok of first-q (used-r q .usable-of .ensures) (q .reclaim .ensures .0)
+  freed-q = freed-is ok of first-q (usable-is-u (used-r q)) (q .reclaim .ensures .0)
 
--- The list of what is left, after the first deal; and after the second copy.
-abbrev left-after-f : First → List ℕ
-left-after-f f = rejoined (nodes-k (copied-f f)) (left-after (copied-f f)) (f .deal .last .1 .1 .1 .1 .1 .1 .1 .1 .0)
-
-left-lent-f : (f : First) → Lent (nodes-k (copied-f f)) (left-after (copied-f f)) (f .deal .last .1 .1 .1 .1 .1 .1 .1 .1 .0)
-left-lent-f f = lent (lent-few (left-lent (copied-f f))) (f .deal .kept .1 .1 .1 .1 .1 .1 .1 .1 .0)
-
+-- After the third copy: `left` is again what the limits have over the lows.
 abbrev Again : Type 0
-Again = tie.After-copy2
+Again = tie.After-copy3
 
 abbrev reclaimed-a : Again → Reclaimed
-reclaimed-a a = a .before .before .before .before .before
+reclaimed-a a = a .before .before .before .before .before .before
+
+abbrev start-a : Again → Start
+start-a a = start-r (reclaimed-a a)
 
 abbrev first-a : Again → First
 first-a a = first-u (used-r (reclaimed-a a))
 
-abbrev start-a : Again → Start
-start-a a = start-f (first-a a)
+abbrev spared-a : Again → Spared
+spared-a a = spared-k (copied-u (used-r (reclaimed-a a)))
 
-abbrev nodes-a : Again → ℕ
-nodes-a a = length (start-a a .args .parents .now)
+left-is-a : (a : Again) → a .copy3 .last .1 .0 ≡ start-a a .args .left .now
+left-is-a a =
+    a .copy3 .ensures
+    ∙ sets-all _ _ (first-a a .deal .kept .1 .1 .1 .1 .1 .1 .1 .0 ∙ sym (ap length (spare-is (spared-a a))))
+    ∙ spare-is (spared-a a)
 
-abbrev left-after-a : Again → List ℕ
-left-after-a a = rejoined (nodes-a a) (left-after-f (first-a a)) (a .copy2 .last .1 .0)
+-- After the starts were raised.
+abbrev Raised : Type 0
+Raised = tie.After-raise-starts
 
-left-lent-a : (a : Again) → Lent (nodes-a a) (left-after-f (first-a a)) (a .copy2 .last .1 .0)
-left-lent-a a = lent (lent-few (left-lent-f (first-a a))) (a .copy2 .kept .1 .0)
+abbrev again-e : Raised → Again
+again-e e = e .before .before .before .before .before
 
-left-is-a : (a : Again) → take (nodes-a a) (left-after-a a) ≡ start-a a .args .spare .now
-left-is-a a = lent-again (left-lent-a a) ∙ a .copy2 .ensures ∙ sets-all _ _ (sym (lent-front (left-lent-f (first-a a))) ∙ sym (lists (start-a a) .spare-size))
+abbrev reclaimed-e : Raised → Reclaimed
+reclaimed-e e = reclaimed-a (again-e e)
 
-second-lent : (a : Again) {r : Room} → Accepted r → {demands : List ℕ} → RoomLists r demands (start-a a .args .parents .now) (start-a a .args .spare .now) (start-a a .args .cords .now) (start-a a .args .nodes .now) (start-a a .args .lows .now) (start-a a .args .wants .now) (start-a a .args .needs .now) (start-a a .args .scale)
-    → DealGiven (start-a a .args .parents .now) (listed-k (copied-f (first-a a)) .list-levels .last .1 .1 .0) (take (cords-l (listed-k (copied-f (first-a a)))) (order-after (listed-k (copied-f (first-a a))))) (listed-k (copied-f (first-a a)) .list-levels .last .1 .1 .1 .1 .0)
-    (start-a a .args .nodes .now) (start-a a .args .lows .now) (take (cords-r (reclaimed-a a)) (starts-after (reclaimed-a a))) (reclaimed-a a .reclaim .last .1 .1 .1 .1 .0) (take (nodes-a a) (left-after-a a)) (limitsOf r) (levelsOf r)
-second-lent a ok of = second-given ok of (listed-at (listed-k (copied-f (first-a a)))) (left-is-a a) (starts-are (reclaimed-a a) ok of) (wants-are (reclaimed-a a) ok of)
+abbrev start-e : Raised → Start
+start-e e = start-a (again-e e)
+
+abbrev listed-e : Raised → Listed
+listed-e e = listed-f (first-a (again-e e))
+
+second-lent : (e : Raised) {r : Room} → Accepted r → {demands : List ℕ} → RoomOf (start-e e) r demands
+    → DealGiven (start-e e .args .parents .now) (listed-e e .list-levels .last .1 .1 .0) (take (cords-s (start-e e)) (order-after (listed-e e))) (listed-e e .list-levels .last .1 .1 .1 .1 .0)
+    (start-e e .args .nodes .now) (take (cords-s (start-e e)) (starts-after (reclaimed-e e))) (reclaimed-e e .reclaim .last .1 .1 .1 .1 .0) (e .raise-starts .last .1 .1 .1 .1 .0) (limitsOf r) (levelsOf r) (start-e e .args .lows .now)
+second-lent e ok of =
+    second-given ok of (listed-at (listed-e e)) (starts-are (reclaimed-e e) ok of) (wants-are (reclaimed-e e) ok of)
+    (raised ok of (left-is-a (again-e e)) (starts-are (reclaimed-e e) ok of) (e .raise-starts .kept .1 .1 .1 .1 .0) (e .raise-starts .ensures))
 
 -- After the second deal.
 abbrev Second : Type 0
 Second = tie.After-deal2
 
-abbrev again-s : Second → Again
-again-s e = e .before .before .before .before .before .before .before .before .before .before
+abbrev raised-d : Second → Raised
+raised-d d = d .before .before .before .before .before .before .before .before .before .before .before .before
 
-abbrev start-s : Second → Start
-start-s e = start-a (again-s e)
+abbrev start-d : Second → Start
+start-d d = start-e (raised-d d)
 
-second-grants : (e : Second) {r : Room} → Accepted r → {demands : List ℕ} → RoomLists r demands (start-s e .args .parents .now) (start-s e .args .spare .now) (start-s e .args .cords .now) (start-s e .args .nodes .now) (start-s e .args .lows .now) (start-s e .args .wants .now) (start-s e .args .needs .now) (start-s e .args .scale) → e .deal2 .last .1 .1 .1 .1 .1 .1 .1 .1 .1 .1 .0 ≡ secondGrants r demands
-second-grants e {r} ok of =
-    second-made ok of (listed-at (listed-k (copied-f (first-a (again-s e))))) (starts-are (reclaimed-a (again-s e)) ok of) (wants-are (reclaimed-a (again-s e)) ok of)
-    (e .deal2 .ensures .0 (limitsOf r) (levelsOf r) (second-lent (again-s e) ok of))
+abbrev left-d : Second → List ℕ
+left-d d = d .deal2 .last .1 .1 .1 .1 .1 .1 .1 .0
 
-grants-size-s : (e : Second) → length (e .deal2 .last .1 .1 .1 .1 .1 .1 .1 .1 .1 .1 .0) ≡ length (start-s e .args .nodes .now)
-grants-size-s e = e .deal2 .kept .1 .1 .1 .1 .1 .1 .1 .1 .1 .1 .0 ∙ grants-size (first-a (again-s e))
+abbrev cuts-d : Second → List ℕ
+cuts-d d = d .deal2 .last .1 .1 .1 .1 .1 .1 .1 .1 .0
 
+abbrev requests-d : Second → List (List ℕ)
+requests-d d = d .deal2 .last .1 .1 .1 .1 .1 .1 .1 .1 .1 .0
+
+abbrev grants-d : Second → List ℕ
+grants-d d = d .deal2 .last .1 .1 .1 .1 .1 .1 .1 .1 .1 .1 .0
+
+second-deal : (d : Second) {r : Room} → Accepted r → {demands : List ℕ} → RoomOf (start-d d) r demands → DealMade (secondDeal r demands) (requests-d d) (left-d d) (cuts-d d) (grants-d d)
+second-deal d {r} ok of =
+    second-made ok of (starts-are (reclaimed-e (raised-d d)) ok of) (wants-are (reclaimed-e (raised-d d)) ok of)
+    (d .deal2 .ensures .0 (limitsOf r) (levelsOf r) (start-d d .args .lows .now) (second-lent (raised-d d) ok of))
+
+grants-size-d : (d : Second) → length (grants-d d) ≡ cords-s (start-d d)
+grants-size-d d = d .deal2 .kept .1 .1 .1 .1 .1 .1 .1 .1 .1 .1 .0 ∙ grants-size (first-a (again-e (raised-d d)))
+
+-- After what the servers can use of it: the caps.
 abbrev Capped : Type 0
 Capped = tie.After-usable-of2
 
-abbrev second-c : Capped → Second
-second-c z = z .before .before .before .before .before .before
+abbrev second-z : Capped → Second
+second-z z = z .before .before .before .before .before .before .before .before .before
 
-abbrev start-c : Capped → Start
-start-c z = start-s (second-c z)
+abbrev start-z : Capped → Start
+start-z z = start-d (second-z z)
 
-wants-size : (s : Start) → length (s .args .wants .now) ≡ length (s .args .nodes .now)
-wants-size s = wants-count (room s) (lists s)
+left-size : (z : Capped) → length (left-d (second-z z)) ≡ length (start-z z .args .left .now)
+left-size z = second-z z .deal2 .kept .1 .1 .1 .1 .1 .1 .1 .0 ∙ raised-d (second-z z) .raise-starts .kept .1 .1 .1 .1 .0 ∙ ap length (left-is-a (again-e (raised-d (second-z z))))
 
-array-borrow-prefix-order : tie.Need-array-borrow-prefix-order
-array-borrow-prefix-order c = omega (arith, cords-few (c .before .before .before .before .before .before .before .before .before), equal-length {A = ℕ} mostCords 0)
-
-slice-aggregate-list-levels : tie.Need-slice-aggregate-list-levels
-slice-aggregate-list-levels c = sym (zeros-front mostCords _ (cords-few (c .before .before .before .before .before .before .before .before .before .before)))
-
-list-levels-requires : tie.Need-list-levels-requires
-list-levels-requires c κs = (levels-nodes (room (c .before .before .before .before .before .before .before .before .before .before .before)) (lists (c .before .before .before .before .before .before .before .before .before .before .before)), ((levels-cords (room (c .before .before .before .before .before .before .before .before .before .before .before)) (lists (c .before .before .before .before .before .before .before .before .before .before .before)), zeros-front mostCords _ (cords-few (c .before .before .before .before .before .before .before .before .before .before .before)) ∙ sym (cord-count (room (c .before .before .before .before .before .before .before .before .before .before .before)) (lists (c .before .before .before .before .before .before .before .before .before .before .before))), zeros-rows highestRank mostNodes), (zeros-rows highestRank 4, λ j. zeros-cells highestRank 4 j toColumn)))
-
-array-borrow-prefix-left : tie.Need-array-borrow-prefix-left
-array-borrow-prefix-left c = omega (arith, nodes-few (c .before .before .before .before .before .before .before .before .before .before .before .before .before), equal-length {A = ℕ} mostNodes 0)
+array-borrow-prefix-spare : tie.Need-array-borrow-prefix-spare
+array-borrow-prefix-spare c = omega (arith, nodes-few (c .before .before .before .before .before .before .before .before .before), equal-length {A = ℕ} mostNodes 0)
 
 slice-aggregate-copy : tie.Need-slice-aggregate-copy
-slice-aggregate-copy c = sym (zeros-front mostNodes _ (nodes-few (c .before .before .before .before .before .before .before .before .before .before .before .before .before .before)))
+slice-aggregate-copy c = sym (zeros-front mostNodes _ (nodes-few (c .before .before .before .before .before .before .before .before .before .before)))
 
 copy-requires : tie.Need-copy-requires
 copy-requires c κs = search needs
 
-array-share-prefix-order : tie.Need-array-share-prefix-order
-array-share-prefix-order c = lent-few (order-lent (c .before .before .before .before .before))
-
-slice-aggregate-deal : tie.Need-slice-aggregate-deal
-slice-aggregate-deal c = lent-front (order-lent (c .before .before .before .before .before .before))
-
-array-borrow-prefix-left-2 : tie.Need-array-borrow-prefix-left-2
-array-borrow-prefix-left-2 c = lent-few (left-lent (c .before .before .before .before .before))
-
-slice-aggregate-deal-2 : tie.Need-slice-aggregate-deal-2
-slice-aggregate-deal-2 c = lent-front (left-lent (c .before .before .before .before .before .before))
-
-deal-requires : tie.Need-deal-requires
-deal-requires c κs = ((record { limits = limitsOf (start-k (c .before .before .before .before .before .before .before .before) .pre .0 .room); levels = levelsOf (start-k (c .before .before .before .before .before .before .before .before) .pre .0 .room); given = first-given (room (start-k (c .before .before .before .before .before .before .before .before))) (lists (start-k (c .before .before .before .before .before .before .before .before))) (listed-at (listed-k (c .before .before .before .before .before .before .before .before))) (left-is (c .before .before .before .before .before .before .before .before)) }, start-k (c .before .before .before .before .before .before .before .before) .pre .1), record { full = zeros-rows mostNodes highestRank; blank = λ n j l b none. zeros-cells mostNodes highestRank n j })
-
-usable-of-requires : tie.Need-usable-of-requires
-usable-of-requires c κs = (server-lists (room (start-f (c .before .before .before .before .before))) (lists (start-f (c .before .before .before .before .before))) (grants-size (c .before .before .before .before .before)), start-f (c .before .before .before .before .before) .pre .2)
-
-array-borrow-prefix-used : tie.Need-array-borrow-prefix-used
-array-borrow-prefix-used c = omega (arith, cords-few (c .before .before .before .before .before .before .before .before .before .before .before .before .before .before .before .before .before .before .before .before .before .before .before .before .before .before .before .before .before .before .before .before .before .before), equal-length {A = ℕ} mostCords 0)
-
-slice-aggregate-reclaim : tie.Need-slice-aggregate-reclaim
-slice-aggregate-reclaim c = sym (zeros-front mostCords _ (cords-few (c .before .before .before .before .before .before .before .before .before .before .before .before .before .before .before .before .before .before .before .before .before .before .before .before .before .before .before .before .before .before .before .before .before .before .before)))
-
-reclaim-requires : tie.Need-reclaim-requires
-reclaim-requires c κs = (reclaim-asks (room (start-u (c .before .before .before .before .before .before))) (lists (start-u (c .before .before .before .before .before .before))) (first-grants (first-u (c .before .before .before .before .before .before)) (room (start-u (c .before .before .before .before .before .before))) (lists (start-u (c .before .before .before .before .before .before)))) ((c .before .before .before .before .before .before) .usable-of .ensures) (grants-size (first-u (c .before .before .before .before .before .before))), zeros-front mostCords _ (cords-few (start-u (c .before .before .before .before .before .before))) ∙ sym (cord-count (room (start-u (c .before .before .before .before .before .before))) (lists (start-u (c .before .before .before .before .before .before)))), wants-size (start-u (c .before .before .before .before .before .before)) ∙ sym (cord-count (room (start-u (c .before .before .before .before .before .before))) (lists (start-u (c .before .before .before .before .before .before)))))
-
-array-borrow-prefix-left-3 : tie.Need-array-borrow-prefix-left-3
-array-borrow-prefix-left-3 c = lent-few (left-lent-f (c .before .before .before .before .before .before .before .before .before .before .before .before .before .before .before .before))
+array-borrow-prefix-usable : tie.Need-array-borrow-prefix-usable
+array-borrow-prefix-usable c = omega (arith, servers-few (start-p (c .before .before)), equal-length {A = ℕ} mostServers 0)
 
 slice-aggregate-copy-2 : tie.Need-slice-aggregate-copy-2
-slice-aggregate-copy-2 c = lent-front (left-lent-f (c .before .before .before .before .before .before .before .before .before .before .before .before .before .before .before .before .before))
+slice-aggregate-copy-2 c = sym (zeros-front mostServers _ (servers-few (start-p (c .before .before .before))))
 
 copy-requires-2 : tie.Need-copy-requires-2
 copy-requires-2 c κs = search needs
 
-array-share-prefix-order-2 : tie.Need-array-share-prefix-order-2
-array-share-prefix-order-2 c = lent-few (order-lent (c .before .before .before .before .before .before .before .before .before .before .before .before .before .before .before .before .before .before .before .before .before .before .before .before .before .before .before .before .before .before .before .before))
+array-borrow-prefix-order : tie.Need-array-borrow-prefix-order
+array-borrow-prefix-order c = omega (arith, cords-few (start-k (c .before .before)), equal-length {A = ℕ} mostCords 0)
 
-slice-aggregate-deal-3 : tie.Need-slice-aggregate-deal-3
-slice-aggregate-deal-3 c = lent-front (order-lent (c .before .before .before .before .before .before .before .before .before .before .before .before .before .before .before .before .before .before .before .before .before .before .before .before .before .before .before .before .before .before .before .before .before))
+slice-aggregate-list-levels : tie.Need-slice-aggregate-list-levels
+slice-aggregate-list-levels c = sym (zeros-front mostCords _ (cords-few (start-k (c .before .before .before))))
+
+list-levels-requires : tie.Need-list-levels-requires
+list-levels-requires c κs =
+    let s : Start = start-k (c .before .before .before .before) in
+    (levels-nodes (room s) (lists s), ((levels-cords (room s) (lists s), zeros-front mostCords _ (cords-few s) ∙ sym (cord-count (room s) (lists s)), zeros-rows highestRank mostNodes), (zeros-rows highestRank 4, λ j. zeros-cells highestRank 4 j toColumn)))
+
+array-share-prefix-order : tie.Need-array-share-prefix-order
+array-share-prefix-order c = lent-few (order-lent (c .before .before))
+
+slice-aggregate-deal : tie.Need-slice-aggregate-deal
+slice-aggregate-deal c = lent-front (order-lent (c .before .before .before))
+
+array-borrow-prefix-marks : tie.Need-array-borrow-prefix-marks
+array-borrow-prefix-marks c = omega (arith, nodes-few (start-l (c .before .before .before .before .before .before)), equal-length {A = ℕ} mostNodes 0)
+
+slice-aggregate-deal-2 : tie.Need-slice-aggregate-deal-2
+slice-aggregate-deal-2 c = sym (zeros-front mostNodes _ (nodes-few (start-l (c .before .before .before .before .before .before .before))))
+
+deal-requires : tie.Need-deal-requires
+deal-requires c κs =
+    let l : Listed = c .before .before .before .before .before .before .before .before .before in
+    let s : Start = start-l l in
+    ((record { limits = limitsOf (s .pre .0 .room); levels = levelsOf (s .pre .0 .room); lows = s .args .lows .now; given = first-given (room s) (lists s) (listed-at l) }, blank-marks (nodes-few s) refl, s .pre .1 .2), record { full = s .pre .1 .1 .full; blank = λ n j _ _ _. s .pre .1 .1 .none n j })
+
+array-borrow-prefix-usable-2 : tie.Need-array-borrow-prefix-usable-2
+array-borrow-prefix-usable-2 c = lent-few (usable-lent (copied-l (listed-f (c .before .before .before .before .before .before))))
+
+slice-aggregate-usable-of : tie.Need-slice-aggregate-usable-of
+slice-aggregate-usable-of c = lent-front (usable-lent (copied-l (listed-f (c .before .before .before .before .before .before .before))))
+
+usable-of-requires : tie.Need-usable-of-requires
+usable-of-requires c κs =
+    let f : First = c .before .before .before .before .before .before .before in
+    rw (usable-is (copied-l (listed-f f))) (server-lists (room (start-f f)) (lists (start-f f)) (grants-size f))
+
+array-share-prefix-usable : tie.Need-array-share-prefix-usable
+array-share-prefix-usable c = lent-few (usable-lent-u (c .before))
+
+slice-aggregate-reclaim : tie.Need-slice-aggregate-reclaim
+slice-aggregate-reclaim c = lent-front (usable-lent-u (c .before .before))
+
+array-borrow-prefix-used : tie.Need-array-borrow-prefix-used
+array-borrow-prefix-used c = omega (arith, cords-few (start-u (c .before .before .before)), equal-length {A = ℕ} mostCords 0)
+
+slice-aggregate-reclaim-2 : tie.Need-slice-aggregate-reclaim-2
+slice-aggregate-reclaim-2 c = sym (zeros-front mostCords _ (cords-few (start-u (c .before .before .before .before))))
+
+reclaim-requires : tie.Need-reclaim-requires
+reclaim-requires c κs =
+    let u : Used = c .before .before .before .before .before in
+    let s : Start = start-u u in
+    (reclaim-asks (room s) (lists s) (first-grants (first-u u) (room s) (lists s)) (usable-is-u u) (grants-size (first-u u)), zeros-front mostCords _ (cords-few s) ∙ sym (cord-count (room s) (lists s)), wants-count (room s) (lists s) ∙ sym (cord-count (room s) (lists s)))
+
+array-share-prefix-spare : tie.Need-array-share-prefix-spare
+array-share-prefix-spare c = lent-few (spare-lent (spared-k (copied-u (used-r (c .before .before .before)))))
+
+slice-aggregate-copy-3 : tie.Need-slice-aggregate-copy-3
+slice-aggregate-copy-3 c = lent-front (spare-lent (spared-k (copied-u (used-r (c .before .before .before .before)))))
+
+copy-requires-3 : tie.Need-copy-requires-3
+copy-requires-3 c κs = search needs
 
 array-share-prefix-used : tie.Need-array-share-prefix-used
-array-share-prefix-used c = lent-few (starts-lent (c .before .before .before .before .before .before .before .before .before))
+array-share-prefix-used c = lent-few (starts-lent (reclaimed-a (c .before .before)))
+
+slice-aggregate-raise-starts : tie.Need-slice-aggregate-raise-starts
+slice-aggregate-raise-starts c = lent-front (starts-lent (reclaimed-a (c .before .before .before)))
+
+raise-starts-requires : tie.Need-raise-starts-requires
+raise-starts-requires c κs =
+    let a : Again = c .before .before .before .before in
+    let s : Start = start-a a in
+    raisable (room s) (lists s) (left-is-a a) (starts-are (reclaimed-a a) (room s) (lists s))
+
+array-share-prefix-order-2 : tie.Need-array-share-prefix-order-2
+array-share-prefix-order-2 c = lent-few (order-lent (listed-e (c .before .before .before)))
+
+slice-aggregate-deal-3 : tie.Need-slice-aggregate-deal-3
+slice-aggregate-deal-3 c = lent-front (order-lent (listed-e (c .before .before .before .before)))
+
+array-share-prefix-used-2 : tie.Need-array-share-prefix-used-2
+array-share-prefix-used-2 c = lent-few (starts-lent (reclaimed-e (c .before .before .before .before .before)))
 
 slice-aggregate-deal-4 : tie.Need-slice-aggregate-deal-4
-slice-aggregate-deal-4 c = lent-front (starts-lent (c .before .before .before .before .before .before .before .before .before .before))
-
-array-borrow-prefix-left-4 : tie.Need-array-borrow-prefix-left-4
-array-borrow-prefix-left-4 c = lent-few (left-lent-a (c .before .before .before .before .before .before))
-
-slice-aggregate-deal-5 : tie.Need-slice-aggregate-deal-5
-slice-aggregate-deal-5 c = lent-front (left-lent-a (c .before .before .before .before .before .before .before))
+slice-aggregate-deal-4 c = lent-front (starts-lent (reclaimed-e (c .before .before .before .before .before .before)))
 
 deal-requires-2 : tie.Need-deal-requires-2
-deal-requires-2 c κs = ((record { limits = limitsOf (start-a (c .before .before .before .before .before .before .before .before .before) .pre .0 .room); levels = levelsOf (start-a (c .before .before .before .before .before .before .before .before .before) .pre .0 .room); given = second-lent (c .before .before .before .before .before .before .before .before .before) (room (start-a (c .before .before .before .before .before .before .before .before .before))) (lists (start-a (c .before .before .before .before .before .before .before .before .before))) }, grants-size (first-a (c .before .before .before .before .before .before .before .before .before))), first-a (c .before .before .before .before .before .before .before .before .before) .deal .ensures .1)
+deal-requires-2 c κs =
+    let e : Raised = c .before .before .before .before .before .before .before .before .before .before .before in
+    let s : Start = start-e e in
+    let f : First = first-a (again-e e) in
+    ((record { limits = limitsOf (s .pre .0 .room); levels = levelsOf (s .pre .0 .room); lows = s .args .lows .now; given = second-lent e (room s) (lists s) }, s .pre .1 .0, grants-size f), f .deal .ensures .1)
 
 usable-of-requires-2 : tie.Need-usable-of-requires-2
-usable-of-requires-2 c κs = (server-lists (room (start-s (c .before .before .before .before .before))) (lists (start-s (c .before .before .before .before .before))) (grants-size-s (c .before .before .before .before .before)), used-r (reclaimed-a (again-s (c .before .before .before .before .before))) .usable-of .kept .1 .1 .1 .0 ∙ start-s (c .before .before .before .before .before) .pre .2)
+usable-of-requires-2 c κs =
+    let d : Second = c .before .before .before .before .before .before .before .before in
+    server-lists (room (start-d d)) (lists (start-d d)) (grants-size-d d)
 
 same-length : tie.Need-same-length
-same-length c = search needs
+same-length c = reclaimed-e (raised-d (second-z (c .before .before))) .reclaim .kept .1 .1 .1 .1 .0
 
 same-length-2 : tie.Need-same-length-2
-same-length-2 c = grants-size-s (second-c (c .before .before)) ∙ sym (start-c (c .before .before) .pre .1)
+same-length-2 c = left-size (c .before .before)
 
 same-length-3 : tie.Need-same-length-3
-same-length-3 c = (c .before .before) .usable-of2 .kept .1 .1 .1 .0 ∙ used-r (reclaimed-a (again-s (second-c (c .before .before)))) .usable-of .kept .1 .1 .1 .0
+same-length-3 c = search needs
+
+same-length-4 : tie.Need-same-length-4
+same-length-4 c = grants-size-d (second-z (c .before .before)) ∙ sym (start-z (c .before .before) .pre .1 .2)
+
+same-length-5 : tie.Need-same-length-5
+same-length-5 c = search needs
 
 returns : tie.Need-returns
 returns c =
     λ table demands r end is of.
+    let z : Capped = c .before .before in
+    let d : Second = second-z z in
+    let q : Reclaimed = reclaimed-e (raised-d d) in
     let ok : Accepted r = accepted table r end is in
     record {
-      freed-is = freed-q (reclaimed-a (again-s (second-c (c .before .before)))) ok of;
-      grants-are = second-grants (second-c (c .before .before)) ok of;
-      caps-are = caps-are ok of (second-grants (second-c (c .before .before)) ok of) ((c .before .before) .usable-of2 .ensures);
+      freed-is = freed-q q ok of;
+      wants-are = wants-are q ok of;
+      made = second-deal d ok of;
+      full = d .deal2 .ensures .1 .full;
+      caps-are = caps-are ok of (second-dealt ok of (second-deal d ok of)) (z .usable-of2 .ensures);
     }
 
 pub deal-twice-spec : {M : Type 1} → statement M
 deal-twice-spec =
     tie.close
     (tie.spec
+    array-borrow-prefix-spare
+    slice-aggregate-copy
+    copy-requires
+    array-borrow-prefix-usable
+    slice-aggregate-copy-2
+    copy-requires-2
     array-borrow-prefix-order
     slice-aggregate-list-levels
     list-levels-requires
-    array-borrow-prefix-left
-    slice-aggregate-copy
-    copy-requires
     array-share-prefix-order
     slice-aggregate-deal
-    array-borrow-prefix-left-2
+    array-borrow-prefix-marks
     slice-aggregate-deal-2
     deal-requires
+    array-borrow-prefix-usable-2
+    slice-aggregate-usable-of
     usable-of-requires
-    array-borrow-prefix-used
+    array-share-prefix-usable
     slice-aggregate-reclaim
+    array-borrow-prefix-used
+    slice-aggregate-reclaim-2
     reclaim-requires
-    array-borrow-prefix-left-3
-    slice-aggregate-copy-2
-    copy-requires-2
+    array-share-prefix-spare
+    slice-aggregate-copy-3
+    copy-requires-3
+    array-share-prefix-used
+    slice-aggregate-raise-starts
+    raise-starts-requires
     array-share-prefix-order-2
     slice-aggregate-deal-3
-    array-share-prefix-used
+    array-share-prefix-used-2
     slice-aggregate-deal-4
-    array-borrow-prefix-left-4
-    slice-aggregate-deal-5
     deal-requires-2
     usable-of-requires-2
     same-length
     same-length-2
     same-length-3
+    same-length-4
+    same-length-5
     returns)

@@ -65,6 +65,9 @@ counted3 c = counted2 (c .before .before)
 abbrev counted4 : tie.Else4 → tie.After-server-count
 counted4 c = counted3 (c .before .before)
 
+abbrev counted5 : tie.Else5 → tie.After-server-count
+counted5 c = counted4 (c .before .before)
+
 check-lows-requires : tie.Need-check-lows-requires
 check-lows-requires c κs = search needs
 
@@ -119,7 +122,15 @@ abbrev caps-checked : (c : tie.Else4) → Passed (counted4 c) 4
 caps-checked c = list-passed (grants-checked (c .before .before)) _ (server-count (counted4 c)) (c .if4 .left)
 
 returns-6 : tie.Need-returns-6
-returns-6 c = (all-passed (caps-checked c) _ _ (cord-count (counted4 c .before)) (server-count (counted4 c)), lows (counted4 c))
+returns-6 c =
+    let past = c .before .before in
+    (short-told (caps-checked past) _ (cord-count (counted4 past .before)) (c .if5 .taken), lows (counted4 past))
+
+abbrev headroom-checked : (c : tie.Else5) → Passed (counted5 c) 5
+headroom-checked c = list-passed (caps-checked (c .before .before)) _ (cord-count (counted5 c .before)) (c .if5 .left)
+
+returns-7 : tie.Need-returns-7
+returns-7 c = (all-passed (headroom-checked c) _ _ (cord-count (counted5 c .before)) (server-count (counted5 c)), lows (counted5 c))
 
 pub admit-spec : {M : Type 1} → statement M
 admit-spec =
@@ -136,4 +147,5 @@ admit-spec =
     returns-3
     returns-4
     returns-5
-    returns-6)
+    returns-6
+    returns-7)

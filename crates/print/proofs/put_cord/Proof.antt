@@ -1,9 +1,33 @@
--- `put_cord` meets its contract: each piece is put where the one before it ends.
+-- `put_cord` meets its contract: each figure is put where the one before it ends.
 use Rattle.print.specs.Line.{cordLine}
 use Rattle.print.proofs.Putting.{then}
 use borrow.Author.Needs.{needs}
 use Rattle.print.proofs.put_cord.Statement.{statement}
 use Rattle.print.proofs.put_cord.Tie as tie
+
+slice-aggregate-put-figure : tie.Need-slice-aggregate-put-figure
+slice-aggregate-put-figure c = search needs
+
+put-figure-requires : tie.Need-put-figure-requires
+put-figure-requires c κs = search needs
+
+slice-aggregate-put-figure-2 : tie.Need-slice-aggregate-put-figure-2
+slice-aggregate-put-figure-2 c = search needs
+
+put-figure-requires-2 : tie.Need-put-figure-requires-2
+put-figure-requires-2 c κs = search needs
+
+slice-aggregate-put-figure-3 : tie.Need-slice-aggregate-put-figure-3
+slice-aggregate-put-figure-3 c = search needs
+
+put-figure-requires-3 : tie.Need-put-figure-requires-3
+put-figure-requires-3 c κs = search needs
+
+slice-aggregate-put-figure-4 : tie.Need-slice-aggregate-put-figure-4
+slice-aggregate-put-figure-4 c = search needs
+
+put-figure-requires-4 : tie.Need-put-figure-requires-4
+put-figure-requires-4 c κs = search needs
 
 slice-aggregate-put : tie.Need-slice-aggregate-put
 slice-aggregate-put c = search needs
@@ -11,63 +35,32 @@ slice-aggregate-put c = search needs
 put-requires : tie.Need-put-requires
 put-requires c κs = search needs
 
-put-decimal-requires : tie.Need-put-decimal-requires
-put-decimal-requires c κs = search needs
-
-slice-aggregate-put-2 : tie.Need-slice-aggregate-put-2
-slice-aggregate-put-2 c = search needs
-
-put-requires-2 : tie.Need-put-requires-2
-put-requires-2 c κs = search needs
-
-put-decimal-requires-2 : tie.Need-put-decimal-requires-2
-put-decimal-requires-2 c κs = search needs
-
-slice-aggregate-put-3 : tie.Need-slice-aggregate-put-3
-slice-aggregate-put-3 c = search needs
-
-put-requires-3 : tie.Need-put-requires-3
-put-requires-3 c κs = search needs
-
-put-decimal-requires-3 : tie.Need-put-decimal-requires-3
-put-decimal-requires-3 c κs = search needs
-
-slice-aggregate-put-4 : tie.Need-slice-aggregate-put-4
-slice-aggregate-put-4 c = search needs
-
-put-requires-4 : tie.Need-put-requires-4
-put-requires-4 c κs = search needs
-
 same-length : tie.Need-same-length
 same-length c = search needs
 
 returns : tie.Need-returns
 unfolding cordLine
 returns c =
-    let p7 = c .before .before in
-    let p6 = p7 .before .before .before .before .before in
-    let p5 = p6 .before .before .before .before in
-    let p4 = p5 .before .before .before .before .before in
-    let p3 = p4 .before .before .before .before in
+    let last = c .before .before in
+    let p4 = last .before .before .before .before .before in
+    let p3 = p4 .before .before .before .before .before in
     let p2 = p3 .before .before .before .before .before in
-    let p1 = p2 .before .before .before .before in
-    then (p1 .put .ensures) (then (p2 .put-decimal .ensures) (then (p3 .put2 .ensures)
-    (then (p4 .put-decimal2 .ensures) (then (p5 .put3 .ensures) (then (p6 .put-decimal3 .ensures) (p7 .put4 .ensures))))))
+    let p1 = p2 .before .before .before .before .before in
+    then (p1 .put-figure .ensures) (then (p2 .put-figure2 .ensures) (then (p3 .put-figure3 .ensures) (then (p4 .put-figure4 .ensures) (last .put .ensures))))
 
 pub put-cord-spec : {M : Type 1} → statement M
 put-cord-spec =
     tie.close
     (tie.spec
+    slice-aggregate-put-figure
+    put-figure-requires
+    slice-aggregate-put-figure-2
+    put-figure-requires-2
+    slice-aggregate-put-figure-3
+    put-figure-requires-3
+    slice-aggregate-put-figure-4
+    put-figure-requires-4
     slice-aggregate-put
     put-requires
-    put-decimal-requires
-    slice-aggregate-put-2
-    put-requires-2
-    put-decimal-requires-2
-    slice-aggregate-put-3
-    put-requires-3
-    put-decimal-requires-3
-    slice-aggregate-put-4
-    put-requires-4
     same-length
     returns)

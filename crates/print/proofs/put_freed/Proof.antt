@@ -1,9 +1,15 @@
--- `put_freed` meets its contract: each piece is put where the one before it ends.
+-- `put_freed` meets its contract: the line ends where the figure does.
 use Rattle.print.specs.Line.{freedLine}
 use Rattle.print.proofs.Putting.{then}
 use borrow.Author.Needs.{needs}
 use Rattle.print.proofs.put_freed.Statement.{statement}
 use Rattle.print.proofs.put_freed.Tie as tie
+
+slice-aggregate-put-figure : tie.Need-slice-aggregate-put-figure
+slice-aggregate-put-figure c = search needs
+
+put-figure-requires : tie.Need-put-figure-requires
+put-figure-requires c κs = search needs
 
 slice-aggregate-put : tie.Need-slice-aggregate-put
 slice-aggregate-put c = search needs
@@ -11,34 +17,23 @@ slice-aggregate-put c = search needs
 put-requires : tie.Need-put-requires
 put-requires c κs = search needs
 
-put-decimal-requires : tie.Need-put-decimal-requires
-put-decimal-requires c κs = search needs
-
-slice-aggregate-put-2 : tie.Need-slice-aggregate-put-2
-slice-aggregate-put-2 c = search needs
-
-put-requires-2 : tie.Need-put-requires-2
-put-requires-2 c κs = search needs
-
 same-length : tie.Need-same-length
 same-length c = search needs
 
 returns : tie.Need-returns
 unfolding freedLine
 returns c =
-    let p3 = c .before .before in
-    let p2 = p3 .before .before .before .before .before in
-    let p1 = p2 .before .before .before .before in
-    then (p1 .put .ensures) (then (p2 .put-decimal .ensures) (p3 .put2 .ensures))
+    let last = c .before .before in
+    let p1 = last .before .before .before .before .before in
+    then (p1 .put-figure .ensures) (last .put .ensures)
 
 pub put-freed-spec : {M : Type 1} → statement M
 put-freed-spec =
     tie.close
     (tie.spec
+    slice-aggregate-put-figure
+    put-figure-requires
     slice-aggregate-put
     put-requires
-    put-decimal-requires
-    slice-aggregate-put-2
-    put-requires-2
     same-length
     returns)

@@ -1,9 +1,21 @@
--- `put_server` meets its contract: each piece is put where the one before it ends.
+-- `put_server` meets its contract: each figure is put where the one before it ends.
 use Rattle.print.specs.Line.{serverLine}
 use Rattle.print.proofs.Putting.{then}
 use borrow.Author.Needs.{needs}
 use Rattle.print.proofs.put_server.Statement.{statement}
 use Rattle.print.proofs.put_server.Tie as tie
+
+slice-aggregate-put-figure : tie.Need-slice-aggregate-put-figure
+slice-aggregate-put-figure c = search needs
+
+put-figure-requires : tie.Need-put-figure-requires
+put-figure-requires c κs = search needs
+
+slice-aggregate-put-figure-2 : tie.Need-slice-aggregate-put-figure-2
+slice-aggregate-put-figure-2 c = search needs
+
+put-figure-requires-2 : tie.Need-put-figure-requires-2
+put-figure-requires-2 c κs = search needs
 
 slice-aggregate-put : tie.Need-slice-aggregate-put
 slice-aggregate-put c = search needs
@@ -11,49 +23,26 @@ slice-aggregate-put c = search needs
 put-requires : tie.Need-put-requires
 put-requires c κs = search needs
 
-put-decimal-requires : tie.Need-put-decimal-requires
-put-decimal-requires c κs = search needs
-
-slice-aggregate-put-2 : tie.Need-slice-aggregate-put-2
-slice-aggregate-put-2 c = search needs
-
-put-requires-2 : tie.Need-put-requires-2
-put-requires-2 c κs = search needs
-
-put-decimal-requires-2 : tie.Need-put-decimal-requires-2
-put-decimal-requires-2 c κs = search needs
-
-slice-aggregate-put-3 : tie.Need-slice-aggregate-put-3
-slice-aggregate-put-3 c = search needs
-
-put-requires-3 : tie.Need-put-requires-3
-put-requires-3 c κs = search needs
-
 same-length : tie.Need-same-length
 same-length c = search needs
 
 returns : tie.Need-returns
 unfolding serverLine
 returns c =
-    let p5 = c .before .before in
-    let p4 = p5 .before .before .before .before .before in
-    let p3 = p4 .before .before .before .before in
-    let p2 = p3 .before .before .before .before .before in
-    let p1 = p2 .before .before .before .before in
-    then (p1 .put .ensures) (then (p2 .put-decimal .ensures)
-    (then (p3 .put2 .ensures) (then (p4 .put-decimal2 .ensures) (p5 .put3 .ensures))))
+    let last = c .before .before in
+    let p2 = last .before .before .before .before .before in
+    let p1 = p2 .before .before .before .before .before in
+    then (p1 .put-figure .ensures) (then (p2 .put-figure2 .ensures) (last .put .ensures))
 
 pub put-server-spec : {M : Type 1} → statement M
 put-server-spec =
     tie.close
     (tie.spec
+    slice-aggregate-put-figure
+    put-figure-requires
+    slice-aggregate-put-figure-2
+    put-figure-requires-2
     slice-aggregate-put
     put-requires
-    put-decimal-requires
-    slice-aggregate-put-2
-    put-requires-2
-    put-decimal-requires-2
-    slice-aggregate-put-3
-    put-requires-3
     same-length
     returns)

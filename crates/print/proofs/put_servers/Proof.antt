@@ -3,17 +3,18 @@ use borrow.Author.Needs.{needs}
 use native.Mathlib.Omega.{arith}
 use mathlib.Core.Path.{ap, _∙_}
 use Prim.Native.Nat.{ℕ, _-_, min}
+use Rattle.print.specs.Print.{planLine}
 use Rattle.print.proofs.Putting.{putting-within}
 use Rattle.print.proofs.Turns.{Walking, walking-first, walking-next, walked}
 use Rattle.print.proofs.put_servers.Statement.{statement}
 use Rattle.print.proofs.put_servers.Tie as tie
 
 abbrev Inv-loop : tie.InvT-loop
-Inv-loop servers cords caps grants buffer₀ start count first₀ next₀ v₀ buffer first next v =
-    Walking servers cords caps grants buffer₀ start count buffer first next v
+Inv-loop servers cords caps grants headroom buffer₀ start count first₀ next₀ v₀ buffer first next v =
+    Walking servers cords caps (planLine grants headroom) buffer₀ start count buffer first next v
 
 abbrev μ-loop : tie.MeasureT-loop
-μ-loop servers cords caps grants buffer₀ start count first₀ next₀ v₀ buffer first next v = count - v
+μ-loop servers cords caps grants headroom buffer₀ start count first₀ next₀ v₀ buffer first next v = count - v
 
 least-requires : tie.Need-least-requires Inv-loop μ-loop
 least-requires c κs = search needs

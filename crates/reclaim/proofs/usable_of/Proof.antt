@@ -5,16 +5,15 @@ use Prim.Native.Nat.{_-_, _≤_, _<_}
 use native.Mathlib.Omega.{arith}
 use lib.ListN.{length}
 use borrow.Author.Needs.{needs}
-use Rattle.words.proofs.Lists.{sets-all}
-use Rattle.reclaim.proofs.Reclaiming.{grant-product, UsableBy, usable-none, usable-kept, usable-lowered, usable-all}
+use Rattle.reclaim.proofs.Reclaiming.{product-fits, UsableBy, usable-none, usable-kept, usable-lowered, usable-all}
 use Rattle.reclaim.proofs.usable_of.Statement.{statement}
 use Rattle.reclaim.proofs.usable_of.Tie as tie
 
 abbrev Inv-loop : tie.InvT-loop
-Inv-loop cords needs grants usable₀ scale c₀ c-end usable c = (c ≤ length cords) × UsableBy scale cords needs grants c usable
+Inv-loop cords grants needs scale c₀ c-end usable c = (c ≤ length cords) × UsableBy scale cords needs grants c usable
 
 abbrev μ-loop : tie.MeasureT-loop
-μ-loop cords needs grants usable₀ scale c₀ c-end usable c = c-end - c
+μ-loop cords grants needs scale c₀ c-end usable c = c-end - c
 
 -- ---- What is known at a turn whose cord has a share, once the place of its server is read
 
@@ -22,19 +21,16 @@ abbrev Placed : Type 0
 Placed = tie.After-word-index Inv-loop μ-loop
 
 abbrev start : Placed → tie.Start Inv-loop μ-loop
-start p = p .before .before .before .before .before .before .before .before .before .before .before .before .before
+start p = p .before .before .before .before .before .before .before .before
 
 abbrev turn : Placed → tie.In-loop Inv-loop μ-loop
 turn p = p .before .before .before .before
 
 placed : (p : Placed) → p .word-index .result < length (turn p .before .loop .usable)
-placed p = omega (arith, start p .pre .0 .within _ (turn p .loop-test .taken), p .word-index .ensures .0, turn p .before .loop .inv .1 .size-is)
-
-copy-requires : tie.Need-copy-requires Inv-loop μ-loop
-copy-requires c κs = search needs
+placed p = omega (arith, start p .pre .within _ (turn p .loop-test .taken), p .word-index .ensures .0, turn p .before .loop .inv .1 .size-is)
 
 loop-holds : tie.Need-loop-holds Inv-loop μ-loop
-loop-holds c = (omega arith, usable-none (c .before .before .copy .ensures ∙ sets-all _ _ (c .before .before .before .before .before .before .before .pre .1)))
+loop-holds c = (omega arith, usable-none)
 
 mul-cord : tie.Need-mul-cord Inv-loop μ-loop
 mul-cord c = search needs
@@ -70,13 +66,13 @@ mul-wide-2 : tie.Need-mul-wide-2 Inv-loop μ-loop
 mul-wide-2 c = search needs
 
 shared-slice-read-wide : tie.Need-shared-slice-read-wide Inv-loop μ-loop
-shared-slice-read-wide c = let p = c .before .before .before .before in omega (arith, start p .pre .0 .grants-size, turn p .loop-test .taken)
+shared-slice-read-wide c = let p = c .before .before .before .before in omega (arith, start p .pre .grants-size, turn p .loop-test .taken)
 
 wide-requires-4 : tie.Need-wide-requires-4 Inv-loop μ-loop
 wide-requires-4 c κs = search needs
 
 mul-least : tie.Need-mul-least Inv-loop μ-loop
-mul-least c = omega (arith, grant-product (start (c .before .before .before .before .before) .pre .0 .scaled) (c .before .before .wide3 .ensures .0) (c .wide4 .ensures .1))
+mul-least c = omega (arith, product-fits (c .before .before .wide3 .ensures .1) (c .wide4 .ensures .1))
 
 div-least : tie.Need-div-least Inv-loop μ-loop
 div-least c = search needs
@@ -103,7 +99,7 @@ loop-again : tie.Need-loop-again Inv-loop μ-loop
 loop-again c =
     let less = c .before .before .before .loop-test .taken in
     let inv = c .before .before .before .before .loop .inv .1 in
-    let lists = c .before .before .before .before .before .before .before .before .before .before .before .before .pre .0 in
+    let lists = c .before .before .before .before .before .before .before .pre in
     let share = c .before .wide .ensures .0 in
     ⊎-elim
     (λ w. (omega arith, rw (w .9) (usable-lowered inv (w .1 .ensures .0) (omega (arith, lists .within _ less, w .1 .ensures .0)) share (w .0 .taken) (w .4 .ensures .0) (w .6 .ensures .0) (w .3 .ensures .0) (w .8 .ensures ∙ w .7 .ensures))))
@@ -111,7 +107,7 @@ loop-again c =
     (c .if1 .came)
 
 same-length : tie.Need-same-length Inv-loop μ-loop
-same-length c = search needs
+same-length c = c .before .loop .inv .1 .size-is
 
 returns : tie.Need-returns Inv-loop μ-loop
 returns c = usable-all (c .before .loop .inv .1) (omega (arith, c .before .loop .inv .0, c .loop-test .left))
@@ -122,7 +118,6 @@ usable-of-spec =
     (tie.spec
     Inv-loop
     μ-loop
-    copy-requires
     loop-holds
     mul-cord
     shared-slice-copy-out-cord

@@ -1,10 +1,9 @@
 //! The archive's C calls against the reference, on random, extreme and damaged input.
 
 use random::arguments::{option, usage};
-use random::calls::{archive, reference, Case, CALLS};
+use random::calls::{archive, reference, Case, Grounds, CALLS};
 use random::cases::case;
 use random::dice::Dice;
-use random::guard::Ground;
 use random::shrink::smallest;
 use std::panic::{self, AssertUnwindSafe};
 use std::process::exit;
@@ -77,7 +76,7 @@ enum Fate {
 }
 
 /// Runs both. Gives the refusal that was met as well (0: accepted; none: no answer).
-fn compare(case: &Case, grounds: &mut [Ground; 5]) -> (Fate, Option<u64>) {
+fn compare(case: &Case, grounds: &mut Grounds) -> (Fate, Option<u64>) {
     let both = AssertUnwindSafe(|| (archive(case, grounds), reference(case)));
     match panic::catch_unwind(both) {
         Ok((archive, reference)) if archive == reference => (Fate::Same, reference.number()),
@@ -138,7 +137,10 @@ fn found(case: Case) -> ! {
 /// For each call, how often each refusal was met (0: accepted); last, how often the answer
 /// buffer was too short.
 #[derive(Default)]
-struct Tally([[u64; 15]; 3]);
+struct Tally([[u64; NO_ANSWER + 1]; 3]);
+
+/// One above the greatest number of a refusal.
+const NO_ANSWER: usize = 15;
 
 impl Tally {
     fn print(&self, since: Instant) {
@@ -153,7 +155,7 @@ impl Tally {
                 "  {}: accepted {}, refused{refused}, no answer {}",
                 call.name(),
                 counts[0],
-                counts[14]
+                counts[NO_ANSWER]
             );
         }
     }
@@ -161,7 +163,7 @@ impl Tally {
     /// Whether each call was accepted, refused in every way and left without an answer.
     fn is_full(&self) -> bool {
         CALLS.iter().all(|call| {
-            let mut due = call.refusals().iter().chain(&[14]);
+            let mut due = call.refusals().iter().chain(&[NO_ANSWER]);
             due.all(|n| self.0[*call as usize][*n] > 0)
         })
     }
@@ -179,7 +181,7 @@ fn run(seed: u64, calls: u64, time: Duration, talk: bool) -> Tally {
         if fate != Fate::Same {
             found(case);
         }
-        tally.0[case.call as usize][number.map_or(14, |number| number as usize)] += 1;
+        tally.0[case.call as usize][number.map_or(NO_ANSWER, |number| number as usize)] += 1;
         if count % 256 == 0 && talk && start.elapsed() > next_line {
             tally.print(start);
             next_line += Duration::from_secs(10);

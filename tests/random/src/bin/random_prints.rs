@@ -202,7 +202,7 @@ fn number(print: &str) -> usize {
 /// difference.
 fn compare(program: &Path, directory: &Path, count: u64, seed: u64) -> Result<Option<Vec<u64>>> {
     let mut dice = Dice(seed);
-    let mut met = vec![0; 14];
+    let mut met = vec![0; REFUSALS + 1];
     for k in 0..count {
         let trial = trial(&mut dice);
         let expected = reference::print(trial.file.as_deref(), &trial.input);

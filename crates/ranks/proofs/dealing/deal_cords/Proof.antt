@@ -107,7 +107,7 @@ shared-slice-read-wide c = omega (arith, cord-there (cord (c .before .before .be
 sub-wide : tie.Need-sub-wide Inv-loop μ-loop
 sub-wide c =
     let at-cord = cord (c .before .before .before .before) in
-    cord-bounds (start (turn at-cord .before) .pre .0) (turn at-cord .loop-test .taken) (at-cord .index .ensures .0) .1
+    cord-bounds (start (turn at-cord .before) .pre .0) (turn at-cord .loop-test .taken) (at-cord .index .ensures .0) .0
 
 wide-requires : tie.Need-wide-requires Inv-loop μ-loop
 wide-requires c κs = search needs

@@ -6,34 +6,31 @@ use borrow.Author.Needs.{needs}
 use lib.ListN.{length, replicate}
 use Rattle.figures.specs.Figures.{at}
 use Rattle.rooms.specs.Table.{mostWatts}
-use Rattle.ranks.proofs.CordSums.{cord-within, cord-bounds, SumTurn, sums-start, sums-end, low-fits, start-fits, weight-fits, sums-next}
+use Rattle.ranks.proofs.CordSums.{cord-within, cord-bounds, SumTurn, sums-start, sums-end, start-fits, weight-fits, sums-next}
 use Rattle.ranks.proofs.metrics.sum_cords.Statement.{statement}
 use Rattle.ranks.proofs.metrics.sum_cords.Tie as tie
 
 abbrev Inv-loop : tie.InvT-loop
-Inv-loop listed nodes lows starts wants pcapmins₀ bases₀ wholes₀ i₀ i-end pcapmins bases wholes i =
-    SumTurn (length pcapmins₀) listed nodes lows starts wants i pcapmins bases wholes
+Inv-loop listed nodes starts wants bases₀ wholes₀ i₀ i-end bases wholes i =
+    SumTurn (length bases₀) listed nodes starts wants i bases wholes
 
 abbrev μ-loop : tie.MeasureT-loop
-μ-loop listed nodes lows starts wants pcapmins₀ bases₀ wholes₀ i₀ i-end pcapmins bases wholes i = length listed - i
+μ-loop listed nodes starts wants bases₀ wholes₀ i₀ i-end bases wholes i = length listed - i
 
--- The steps that the needs cite: the lists cleared, from the last to the first, and the start before them.
-abbrev wholes-cleared : tie.At-loop Inv-loop μ-loop → tie.After-clear3 Inv-loop μ-loop
+-- The steps that the needs cite: the lists cleared, the last one first, and the start before them.
+abbrev wholes-cleared : tie.At-loop Inv-loop μ-loop → tie.After-clear2 Inv-loop μ-loop
 wholes-cleared c = c .before .before .before
 
-abbrev bases-cleared : tie.After-clear3 Inv-loop μ-loop → tie.After-clear2 Inv-loop μ-loop
+abbrev bases-cleared : tie.After-clear2 Inv-loop μ-loop → tie.After-clear Inv-loop μ-loop
 bases-cleared c = c .before .before .before .before
 
-abbrev pcapmins-cleared : tie.After-clear2 Inv-loop μ-loop → tie.After-clear Inv-loop μ-loop
-pcapmins-cleared c = c .before .before .before .before
-
 abbrev cleared : tie.At-loop Inv-loop μ-loop → tie.After-clear Inv-loop μ-loop
-cleared c = pcapmins-cleared (bases-cleared (wholes-cleared c))
+cleared c = bases-cleared (wholes-cleared c)
 
 abbrev start : tie.At-loop Inv-loop μ-loop → tie.Start Inv-loop μ-loop
-start c = cleared c .before .before .before .before .before .before .before .before .before .before
+start c = cleared c .before .before .before .before .before .before .before .before
 
--- Of a turn: its test, the cord's place, its node's number, its low, its start and its weight.
+-- Of a turn: its test, the cord's place, its node's number, its start and its weight.
 abbrev turn : tie.After-index Inv-loop μ-loop → tie.In-loop Inv-loop μ-loop
 turn c = c .before .before
 
@@ -41,33 +38,27 @@ abbrev cord : tie.After-index2 Inv-loop μ-loop → tie.After-index Inv-loop μ-
 cord c = c .before .before
 
 abbrev node : tie.After-wide Inv-loop μ-loop → tie.After-index2 Inv-loop μ-loop
-node c = c .before .before .before .before
+node c = c .before .before .before
 
-abbrev low : tie.After-wide2 Inv-loop μ-loop → tie.After-wide Inv-loop μ-loop
-low c = c .before .before .before .before .before
-
-abbrev begun : tie.After-shared-slice-known10 Inv-loop μ-loop → tie.After-wide2 Inv-loop μ-loop
+abbrev begun : tie.After-shared-slice-known8 Inv-loop μ-loop → tie.After-wide Inv-loop μ-loop
 begun c = c .before .before .before .before .before
 
 -- The cord stands in the lists of cords.
 cord-there : (c : tie.After-index Inv-loop μ-loop)
     → (c .index .result < length (start (turn c .before) .args .nodes .now))
-    × (c .index .result < length (start (turn c .before) .args .lows .now))
     × (c .index .result < length (start (turn c .before) .args .starts .now))
     × (c .index .result < length (start (turn c .before) .args .wants .now))
 cord-there c =
     let cords = start (turn c .before) .pre .0 in
     let here = cord-within cords (turn c .loop-test .taken) (c .index .ensures .0) in (
       here,
-      omega (arith, here, cords .lows-size),
       omega (arith, here, cords .starts-size),
       omega (arith, here, cords .wants-size),
     )
 
--- Its low, start and want stand in order.
+-- Its start and want stand in order.
 bounds : (c : tie.After-index Inv-loop μ-loop)
-    → (at (start (turn c .before) .args .lows .now) (c .index .result) ≤ at (start (turn c .before) .args .starts .now) (c .index .result))
-    × (at (start (turn c .before) .args .starts .now) (c .index .result) ≤ at (start (turn c .before) .args .wants .now) (c .index .result))
+    → (at (start (turn c .before) .args .starts .now) (c .index .result) ≤ at (start (turn c .before) .args .wants .now) (c .index .result))
     × (at (start (turn c .before) .args .wants .now) (c .index .result) ≤ mostWatts)
 bounds c = cord-bounds (start (turn c .before) .pre .0) (turn c .loop-test .taken) (c .index .ensures .0)
 
@@ -77,16 +68,12 @@ clear-requires c κs = search needs
 clear-requires-2 : tie.Need-clear-requires-2 Inv-loop μ-loop
 clear-requires-2 c κs = search needs
 
-clear-requires-3 : tie.Need-clear-requires-3 Inv-loop μ-loop
-clear-requires-3 c κs = search needs
-
 loop-holds : tie.Need-loop-holds Inv-loop μ-loop
 loop-holds c =
-    let third = c .before .before in
-    let second = bases-cleared third in
-    let first = pcapmins-cleared second in
-    let pre = first .before .before .before .before .before .before .before .before .before .before .pre in
-    sums-start (pre .0) (first .clear .ensures) (second .clear2 .ensures ∙ ap (λ (k : ℕ). replicate {A = ℕ} k 0) (pre .1 .0)) (third .clear3 .ensures ∙ ap (λ (k : ℕ). replicate {A = ℕ} k 0) (pre .1 .1))
+    let second = c .before .before in
+    let first = bases-cleared second in
+    let pre = first .before .before .before .before .before .before .before .before .pre in
+    sums-start (pre .0) (first .clear .ensures) (second .clear2 .ensures ∙ ap (λ (k : ℕ). replicate {A = ℕ} k 0) (pre .1))
 
 mul-index : tie.Need-mul-index Inv-loop μ-loop
 mul-index c = search needs
@@ -106,17 +93,11 @@ shared-slice-read-index-2 c = cord-there (c .before) .0
 index-requires-2 : tie.Need-index-requires-2 Inv-loop μ-loop
 index-requires-2 c κs = search needs
 
-mul-low : tie.Need-mul-low Inv-loop μ-loop
-mul-low c = search needs
-
-shared-slice-read-low : tie.Need-shared-slice-read-low Inv-loop μ-loop
-shared-slice-read-low c = omega (arith, cord-there (cord (c .before)))
-
 mul-start : tie.Need-mul-start Inv-loop μ-loop
 mul-start c = search needs
 
 shared-slice-read-start : tie.Need-shared-slice-read-start Inv-loop μ-loop
-shared-slice-read-start c = omega (arith, cord-there (cord (c .before .before)))
+shared-slice-read-start c = omega (arith, cord-there (cord (c .before)))
 
 wide-requires : tie.Need-wide-requires Inv-loop μ-loop
 wide-requires c κs = search needs
@@ -124,37 +105,27 @@ wide-requires c κs = search needs
 credit-requires : tie.Need-credit-requires Inv-loop μ-loop
 credit-requires c κs =
     let at-cord = cord (node c) in
-    low-fits (turn at-cord .before .loop .inv) (turn at-cord .loop-test .taken) (at-cord .index .ensures .0) (node c .index2 .ensures .0)
+    start-fits (turn at-cord .before .loop .inv) (turn at-cord .loop-test .taken) (at-cord .index .ensures .0) (node c .index2 .ensures .0)
     (omega (arith, c .wide .ensures .0, bounds at-cord))
+
+mul-wide : tie.Need-mul-wide Inv-loop μ-loop
+mul-wide c = search needs
+
+shared-slice-read-wide : tie.Need-shared-slice-read-wide Inv-loop μ-loop
+shared-slice-read-wide c = omega (arith, cord-there (cord (node (begun c))))
+
+sub-wide : tie.Need-sub-wide Inv-loop μ-loop
+sub-wide c = omega (arith, bounds (cord (node (begun c))))
 
 wide-requires-2 : tie.Need-wide-requires-2 Inv-loop μ-loop
 wide-requires-2 c κs = search needs
 
 credit-requires-2 : tie.Need-credit-requires-2 Inv-loop μ-loop
 credit-requires-2 c κs =
-    let at-node = node (low c) in
-    let at-cord = cord at-node in
-    start-fits (turn at-cord .before .loop .inv) (turn at-cord .loop-test .taken) (at-cord .index .ensures .0) (at-node .index2 .ensures .0)
-    (omega (arith, c .wide2 .ensures .0, bounds at-cord))
-
-mul-wide : tie.Need-mul-wide Inv-loop μ-loop
-mul-wide c = search needs
-
-shared-slice-read-wide : tie.Need-shared-slice-read-wide Inv-loop μ-loop
-shared-slice-read-wide c = omega (arith, cord-there (cord (node (low (begun c)))))
-
-sub-wide : tie.Need-sub-wide Inv-loop μ-loop
-sub-wide c = omega (arith, bounds (cord (node (low (begun c)))))
-
-wide-requires-3 : tie.Need-wide-requires-3 Inv-loop μ-loop
-wide-requires-3 c κs = search needs
-
-credit-requires-3 : tie.Need-credit-requires-3 Inv-loop μ-loop
-credit-requires-3 c κs =
-    let at-node = node (low (begun (c .before))) in
+    let at-node = node (begun (c .before)) in
     let at-cord = cord at-node in
     weight-fits (turn at-cord .before .loop .inv) (turn at-cord .loop-test .taken) (at-cord .index .ensures .0) (at-node .index2 .ensures .0)
-    (omega (arith, c .wide3 .ensures .0, bounds at-cord))
+    (omega (arith, c .wide2 .ensures .0, bounds at-cord))
 
 add-i : tie.Need-add-i Inv-loop μ-loop
 add-i c = search needs
@@ -166,30 +137,23 @@ loop-again : tie.Need-loop-again Inv-loop μ-loop
 loop-again c =
     let weighed = c .before .before .before in
     let at-start = begun (weighed .before) in
-    let at-low = low at-start in
-    let at-node = node at-low in
+    let at-node = node at-start in
     let at-cord = cord at-node in
     sums-next (turn at-cord .before .loop .inv) (turn at-cord .loop-test .taken) (at-cord .index .ensures .0) (at-node .index2 .ensures .0)
-    (at-low .wide .ensures .0) (at-start .wide2 .ensures .0) (weighed .wide3 .ensures .0)
-    (at-start .before .before .before .before .credit .ensures) (weighed .before .before .before .before .before .credit2 .ensures) (c .before .before .credit3 .ensures)
+    (at-start .wide .ensures .0) (weighed .wide2 .ensures .0)
+    (weighed .before .before .before .before .before .credit .ensures) (c .before .before .credit2 .ensures)
 
 same-length : tie.Need-same-length Inv-loop μ-loop
-same-length c = c .before .loop .inv .pcapmins-are .size ∙ cleared (c .before) .clear .kept .0
+same-length c = c .before .loop .inv .bases-are .size ∙ cleared (c .before) .clear .kept .0
 
 same-length-2 : tie.Need-same-length-2 Inv-loop μ-loop
-same-length-2 c = omega (arith, c .before .loop .inv .bases-are .size, cleared (c .before) .clear .kept .0, start (c .before) .pre .1 .0)
-
-same-length-3 : tie.Need-same-length-3 Inv-loop μ-loop
-same-length-3 c = omega (arith, c .before .loop .inv .wholes-are .size, cleared (c .before) .clear .kept .0, start (c .before) .pre .1 .1)
+same-length-2 c = omega (arith, c .before .loop .inv .wholes-are .size, cleared (c .before) .clear .kept .0, start (c .before) .pre .1)
 
 returns : tie.Need-returns Inv-loop μ-loop
 returns c =
-    let inv = c .before .loop .inv in
-    let all = sums-end inv (c .loop-test .left) in
-    let kept = cleared (c .before) .clear .kept .0 in (
-      λ n l. all n (omega (arith, kept)) .0,
-      (λ n l. all n (omega (arith, kept)) .1, λ n l. all n (omega (arith, kept)) .2),
-    )
+    let all = sums-end (c .before .loop .inv) (c .loop-test .left) in
+    let kept = cleared (c .before) .clear .kept .0 in
+    (λ n l. all n (omega (arith, kept)) .0, λ n l. all n (omega (arith, kept)) .1)
 
 pub sum-cords-spec : {M : Type 1} → statement M
 sum-cords-spec =
@@ -199,7 +163,6 @@ sum-cords-spec =
     μ-loop
     clear-requires
     clear-requires-2
-    clear-requires-3
     loop-holds
     mul-index
     shared-slice-read-index
@@ -207,23 +170,18 @@ sum-cords-spec =
     mul-index-2
     shared-slice-read-index-2
     index-requires-2
-    mul-low
-    shared-slice-read-low
     mul-start
     shared-slice-read-start
     wide-requires
     credit-requires
-    wide-requires-2
-    credit-requires-2
     mul-wide
     shared-slice-read-wide
     sub-wide
-    wide-requires-3
-    credit-requires-3
+    wide-requires-2
+    credit-requires-2
     add-i
     loop-less
     loop-again
     same-length
     same-length-2
-    same-length-3
     returns)

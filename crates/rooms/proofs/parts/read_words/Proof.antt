@@ -1,8 +1,8 @@
 -- `read_words` meets its contract: the words that the list takes are at its front, and are answered for.
 use Rattle.rooms.proofs.Outcomes.{whole-so, front-length, first-bad-number, first-answered}
 use borrow.Author.Needs.{needs}
-use Rattle.rooms.proofs.read_words.Statement.{statement}
-use Rattle.rooms.proofs.read_words.Tie as tie
+use Rattle.rooms.proofs.parts.read_words.Statement.{statement}
+use Rattle.rooms.proofs.parts.read_words.Tie as tie
 
 decode-sheet-requires : tie.Need-decode-sheet-requires
 decode-sheet-requires c κs = search needs

@@ -4,8 +4,8 @@ use mathlib.Core.Path.{sym, _∙_}
 use Prim.Native.Nat.{_-_}
 use lib.ListN.{length}
 use Rattle.numbers.proofs.SheetLoops.{Reading, reading-begin, reading-end, reading-stop, reading-falls, reading-again}
-use Rattle.numbers.proofs.decode_sheet.Statement.{statement}
-use Rattle.numbers.proofs.decode_sheet.Tie as tie
+use Rattle.numbers.proofs.parts.decode_sheet.Statement.{statement}
+use Rattle.numbers.proofs.parts.decode_sheet.Tie as tie
 
 abbrev Inv-loop : tie.InvT-loop
 Inv-loop sheet words₀ at₀ count₀ words at count = Reading sheet words₀ words at count

@@ -4,8 +4,8 @@ use borrow.Author.Needs.{needs}
 use Rattle.rooms.specs.Limits.{lowsTold}
 use Rattle.rooms.proofs.Steps.{known}
 use Rattle.rooms.proofs.Outcomes.{refused-so}
-use Rattle.rooms.proofs.check_lows.Statement.{statement}
-use Rattle.rooms.proofs.check_lows.Tie as tie
+use Rattle.rooms.proofs.parts.check_lows.Statement.{statement}
+use Rattle.rooms.proofs.parts.check_lows.Tie as tie
 
 clear-requires : tie.Need-clear-requires
 clear-requires c κs = search needs

@@ -1,0 +1,176 @@
+// Headroom: what the limits have over the Requests, lent out once the deals are made.
+// Private to Plan: no operation stands here.
+ghost use mathlib.Core.Path.{_≡_};
+ghost use mathlib.Core.List.{List};
+ghost use Prim.Native.Nat.{ℕ, _-_, _≤_, _<_};
+ghost use lib.ListN.{length};
+ghost use Rattle.figures.specs.Figures.{at};
+ghost use Rattle.rooms.specs.Table.{mostCords, mostWatts};
+ghost use Rattle.deals.specs.Metrics.{dealFrom};
+ghost use Rattle.deals.specs.Headroom.{headroomOver};
+ghost use Rattle.ranks.specs.Passes.{FullRows};
+ghost use Rattle.headroom.specs.Lending.{LendGiven, SomeLending};
+ghost use Rattle.headroom.specs.Passes.{AllPlaces, Zeros, LendLists, Weighed, Cut, Shared};
+use figures::place;
+use ranks::dealing::deal_cords;
+use ranks::dealing::deal_nodes;
+use ranks::metrics::gather;
+use ranks::metrics::sum_cords;
+
+// The length of the lists with a figure of each node: a little more than the most nodes, so that no two start at the same place of
+// their pages, as in `deal_by_rank`.
+const FIGURES: usize = 520;
+
+// Lists all places.
+fn list_all(all: &mut [u16])
+    requires { ⌜ length (now all) ≡ mostCords ⌝ }
+    ensures { λ _. ⌜ AllPlaces (now (all .exit)) ⌝ }
+{
+    for i in 0..all.len() {
+        all[i] = place(i);
+    }
+}
+
+// The weights of all nodes, in the first column of their rows, and of each node's children. The wants are in no Request that is made
+// here: `gather` has zeros for the starts beneath each node, so that its Request is its weight. The sums of the wants, which
+// `sum_cords` makes too, are not used: `before` has room for them.
+fn weigh(
+    parents: &[u16],
+    all: &[u16],
+    nodes: &[u16],
+    wants: &[u32],
+    ceilings: &[u32],
+    left: &mut [u32],
+    zeros: &mut [u64],
+    wholes: &mut [u64],
+    before: &mut [u64],
+    requests: &mut [[u32; 16]; 512],
+)
+    requires { ⌜ LendLists (now parents) (now nodes) (now wants) (now ceilings) ⌝ }
+    requires { ⌜ AllPlaces (now all) ⌝ }
+    requires { ⌜ (length (now left) ≡ length (now parents)) × ((n : ℕ) → n < length (now parents) → at (now left) n ≤ mostWatts) ⌝ }
+    requires { ⌜ Zeros (length (now parents)) (now zeros) × (length (now wholes) ≡ length (now parents)) × (length (now before) ≡ length (now parents)) × FullRows (now requests) ⌝ }
+    ensures { λ _. ⌜ Zeros (length (now (parents .entry))) (now (zeros .exit)) × Weighed (now (parents .entry)) (now (nodes .entry)) (now (wants .entry)) (now (ceilings .entry)) (now (requests .exit)) (now (wholes .exit)) × Cut (now (parents .entry)) (now (left .entry)) (now (requests .exit)) (now (wholes .exit)) ⌝ }
+{
+    let mut marks = [0u16; 512];
+    let n = parents.len();
+    sum_cords(&all[..nodes.len()], nodes, wants, ceilings, before, wholes);
+    gather(
+        parents,
+        all,
+        n,
+        0,
+        left,
+        &mut marks[..n],
+        zeros,
+        wholes,
+        requests,
+    );
+}
+
+// What each cord has over its want, of lists with a figure a cord.
+fn take_wants(wants: &[u32], tops: &[u32], headroom: &mut [u32])
+    requires { ⌜ (length (now wants) ≡ length (now headroom)) × (length (now tops) ≡ length (now headroom)) × ((c : ℕ) → c < length (now headroom) → at (now wants) c ≤ at (now tops) c) ⌝ }
+    ensures { λ _. ⌜ ((c : ℕ) → c < length (now (headroom .entry)) → at (now (headroom .exit)) c ≡ at (now (tops .entry)) c - at (now (wants .entry)) c) ⌝ }
+{
+    for c in 0..headroom.len() {
+        let want = wants[c];
+        headroom[c] = tops[c] - want;
+    }
+}
+
+// The headroom of each cord, in the place of its ceiling, dealt by these weights.
+fn share(
+    parents: &[u16],
+    all: &[u16],
+    nodes: &[u16],
+    wants: &[u32],
+    bases: &[u64],
+    wholes: &[u64],
+    before: &mut [u64],
+    requests: &[[u32; 16]; 512],
+    tops: &mut [u32],
+    headroom: &mut [u32],
+)
+    requires { ⌜ LendLists (now parents) (now nodes) (now wants) (now headroom) ⌝ }
+    requires { ⌜ AllPlaces (now all) × (length (now tops) ≡ length (now nodes)) ⌝ }
+    requires { ⌜ Zeros (length (now parents)) (now bases) × (length (now wholes) ≡ length (now parents)) × (length (now before) ≡ length (now parents)) ⌝ }
+    requires { ⌜ Weighed (now parents) (now nodes) (now wants) (now headroom) (now requests) (now wholes) ⌝ }
+    ensures { λ _. ⌜ Shared (now (parents .entry)) (now (nodes .entry)) (now (wants .entry)) (now (headroom .entry)) (now (requests .entry)) (now (wholes .entry)) (now (headroom .exit)) ⌝ }
+{
+    let mut amounts = [0u32; FIGURES];
+    let mut dealt = [0u32; FIGURES];
+    let n = parents.len();
+    deal_nodes(
+        parents,
+        all,
+        n,
+        0,
+        requests,
+        bases,
+        wholes,
+        &mut amounts[..n],
+        before,
+        &mut dealt[..n],
+    );
+    deal_cords(
+        &all[..nodes.len()],
+        nodes,
+        wants,
+        headroom,
+        wholes,
+        &amounts[..n],
+        before,
+        &mut dealt[..n],
+        tops,
+    );
+    take_wants(wants, tops, headroom);
+}
+
+// The headroom of each cord, in the place of its ceiling. It is dealt as one more rank after all others would be, of which every cord
+// is, with its second want for its start and its ceiling for its want: a node's ceiling less its Requests is the lesser of what they
+// leave of its limit and of its children's ceilings less theirs. `left` has what the Requests leave of each limit. The rows of Requests
+// and `tops` (want plus headroom) are lent for the figures on the way.
+pub fn lend(
+    parents: &[u16],
+    nodes: &[u16],
+    wants: &[u32],
+    left: &mut [u32],
+    requests: &mut [[u32; 16]; 512],
+    tops: &mut [u32],
+    headroom: &mut [u32],
+)
+    requires { ⌜ SomeLending (now parents) (now nodes) (now wants) (now left) (now headroom) × (length (now tops) ≡ length (now nodes)) × FullRows (now requests) ⌝ }
+    ensures { λ _. ⌜ ((limits levels lows starts : List ℕ) → LendGiven (now (parents .entry)) (now (nodes .entry)) (now (wants .entry)) (now (left .entry)) (now (headroom .entry)) limits levels lows starts → now (headroom .exit) ≡ headroomOver (dealFrom (now (parents .entry)) limits (now (nodes .entry)) levels lows starts (now (wants .entry))) (at (now (headroom .entry)))) ⌝ }
+{
+    let mut all = [0u16; 1024];
+    let mut bases = [0u64; FIGURES];
+    let mut wholes = [0u64; FIGURES];
+    let mut before = [0u64; FIGURES];
+    let n = parents.len();
+    list_all(&mut all);
+    weigh(
+        parents,
+        &all,
+        nodes,
+        wants,
+        headroom,
+        left,
+        &mut bases[..n],
+        &mut wholes[..n],
+        &mut before[..n],
+        requests,
+    );
+    share(
+        parents,
+        &all,
+        nodes,
+        wants,
+        &bases[..n],
+        &wholes[..n],
+        &mut before[..n],
+        requests,
+        tops,
+        headroom,
+    );
+}

@@ -1,0 +1,2 @@
+-- Cited by contracts that are private to Plan: no operation has them.
+pub mod Holding

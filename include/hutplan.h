@@ -7,10 +7,11 @@
  * library but memcpy and memset, so threads may call them at the same time on buffers of their own.
  *
  * A sheet is bytes. A table is a list of words (unsigned, 32 bits). So are demands, grants, caps and
- * headroom, which are watts. Every list of words passes as bytes, at any alignment: four for each
- * word, the lowest first. Its length is given in bytes. Where that is no multiple of four, the last
- * one to three bytes are not looked at and not changed. Figures of the cap loop (hutplan_step,
- * hutplan_step_all) are doubles; the length of a list of them is their count.
+ * headroom, which are watts, and the nodes that hold cords down, which are node numbers. Every list
+ * of words passes as bytes, at any alignment: four for each word, the lowest first. Its length is
+ * given in bytes. Where that is no multiple of four, the last one to three bytes are not looked at
+ * and not changed. Figures of the cap loop (hutplan_step, hutplan_step_all) are doubles; the length
+ * of a list of them is their count.
  *
  * The answer is sixteen bytes, two numbers of eight bytes each, low byte first:
  *   bytes 0 to 7    0 if the input was accepted, else the number of the refusal (see below);
@@ -87,6 +88,7 @@ enum hutplan_refusal {
                                           (hutplan_plan) or servers named (hutplan_send) */
     HUTPLAN_CAPS_TOO_SHORT = 13,       /* the cap list; place: the count of servers */
     HUTPLAN_HEADROOM_TOO_SHORT = 14,   /* the headroom list; place: the count of cords */
+    HUTPLAN_HELD_TOO_SHORT = 15,       /* the list of holding nodes; place: the count of cords */
 
     /* A step of the DC cap loop (hutplan_step; in the results of hutplan_step_all). */
     HUTPLAN_CONTROLLER_OUT_OF_RANGE = 16, /* not 0 < k <= 1, or not
@@ -119,9 +121,9 @@ enum hutplan_refusal {
  * (2,048) and two for each of at most 1,024 cords (2,048). A word takes four bytes of a word list,
  * and one to four bytes of a sheet, so a table's list and its sheet both have at most 22,540 bytes.
  *
- * A plan takes one demand a server, at most 512, and gives one grant a cord, at most 1,024, one cap a
- * server, and one figure of headroom a cord. A period of a slow bus names each of at most 512 servers
- * once.
+ * A plan takes one demand a server, at most 512, and gives one grant a cord, at most 1,024, one cap
+ * a server, and one figure of headroom and one holding node a cord. A period of a slow bus names
+ * each of at most 512 servers once.
  */
 #define HUTPLAN_TABLE_WORDS (2 + 3 * 512 + 1 + 4 * 512 + 2 * 1024)
 #define HUTPLAN_TABLE_BYTES (4 * HUTPLAN_TABLE_WORDS)
@@ -130,6 +132,7 @@ enum hutplan_refusal {
 #define HUTPLAN_GRANTS_BYTES 4096
 #define HUTPLAN_CAPS_BYTES 2048
 #define HUTPLAN_HEADROOM_BYTES 4096
+#define HUTPLAN_HELD_BYTES 4096
 #define HUTPLAN_SEND_LIST_BYTES 2048
 #define HUTPLAN_ANSWER_BYTES 16
 #define HUTPLAN_SEND_ANSWER_BYTES 24
@@ -171,13 +174,18 @@ uint32_t hutplan_write(const uint8_t *table, size_t table_len,
  * Plan: deals a room's power, from the words of its table and a demand in watts for each server.
  *
  * Refusals: 4 to 9 of the table; 10 and 11 of the demands; then 12 if grants_len / 4 is less than
- * the count of cords, 13 if caps_len / 4 is less than the count of servers, and 14 if
- * headroom_len / 4 is less than the count of cords.
- * Accepted, the grants and the headroom stand in the table's order of cords and the caps in its order
- * of servers. A cord's headroom is watts for bursts, beyond its grant, lent out of what is not
- * requested at its root. At every node the grants and the headroom of all cords beneath it, at any
- * depth, sum to no more than its limit. A cord's headroom may follow the demands of servers of lower
- * ranks; its grant and its server's cap do not.
+ * the count of cords, 13 if caps_len / 4 is less than the count of servers, 14 if headroom_len / 4
+ * is less than the count of cords, and 15 if held_len / 4 is.
+ * Accepted, the grants, the headroom and the holding nodes stand in the table's order of cords and
+ * the caps in its order of servers. A cord's headroom is watts for bursts, beyond its grant, lent
+ * out of what is not requested at its root. At every node the grants and the headroom of all cords
+ * beneath it, at any depth, sum to no more than its limit. A cord's headroom may follow the demands
+ * of servers of lower ranks; its grant and its server's cap do not.
+ * The held list has 0 for a cord whose grant is all that it wants in the second deal. For every other
+ * cord it names the node that holds it down: of the nodes above the cord, the nearest to the root
+ * that asks, in the second deal, for less than its children together, at the cord's rank or a higher
+ * one. The grants beneath that node sum to its limit, and every cord beneath it of a lower rank than
+ * the held cord's has just its low.
  * The answer's figure is the freed watts: the watts that the first deal granted and the servers
  * cannot use, summed over all cords.
  */
@@ -186,6 +194,7 @@ uint32_t hutplan_plan(const uint8_t *table, size_t table_len,
                       uint8_t *grants, size_t grants_len,
                       uint8_t *caps, size_t caps_len,
                       uint8_t *headroom, size_t headroom_len,
+                      uint8_t *held, size_t held_len,
                       uint8_t *answer, size_t answer_len);
 
 /*
@@ -282,6 +291,7 @@ uint32_t hutplan_send(uint64_t count, uint64_t position, uint64_t m,
  *     static uint8_t grants[HUTPLAN_GRANTS_BYTES];
  *     static uint8_t caps[HUTPLAN_CAPS_BYTES];
  *     static uint8_t headroom[HUTPLAN_HEADROOM_BYTES];
+ *     static uint8_t held[HUTPLAN_HELD_BYTES];
  *
  *     static uint64_t number_at(const uint8_t *bytes, size_t count)
  *     {
@@ -303,13 +313,14 @@ uint32_t hutplan_send(uint64_t count, uint64_t position, uint64_t m,
  *         words = (size_t)number_at(answer + 8, 8);
  *         hutplan_plan(table, 4 * words, demands, demands_len,
  *                      grants, sizeof grants, caps, sizeof caps, headroom, sizeof headroom,
- *                      answer, sizeof answer);
+ *                      held, sizeof held, answer, sizeof answer);
  *         return number_at(answer, 8);
  *     }
  *
  * If the result is 0, the server at place i (from 0) has the cap number_at(caps + 4 * i, 4), and
  * the cord at place c, in the table's order, has the grant number_at(grants + 4 * c, 4) and the
- * headroom number_at(headroom + 4 * c, 4).
+ * headroom number_at(headroom + 4 * c, 4), and the node number_at(held + 4 * c, 4) holds it down, or
+ * none does if that is 0.
  */
 
 #ifdef __cplusplus

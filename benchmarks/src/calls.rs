@@ -12,7 +12,7 @@ extern "C" {
     fn hutplan_plan(
         table: In, table_len: usize, demands: In, demands_len: usize,
         grants: Out, grants_len: usize, caps: Out, caps_len: usize, headroom: Out, headroom_len: usize,
-        answer: Out, answer_len: usize,
+        held: Out, held_len: usize, answer: Out, answer_len: usize,
     ) -> u32;
 }
 
@@ -30,6 +30,7 @@ pub struct Outputs {
     pub first: Vec<u8>,
     pub caps: Vec<u8>,
     pub headroom: Vec<u8>,
+    pub held: Vec<u8>,
     pub answer: Vec<u8>,
 }
 
@@ -43,14 +44,20 @@ pub const CALLS: [(&str, Call, Call); 3] = [
 ];
 
 impl Outputs {
-    pub fn of_lengths(first: usize, caps: usize, headroom: usize, answer: usize) -> Outputs {
+    pub fn of_lengths(first: usize, caps: usize, [headroom, held]: [usize; 2], answer: usize) -> Outputs {
         let filled = |length| vec![0xA5; length];
-        Outputs { first: filled(first), caps: filled(caps), headroom: filled(headroom), answer: filled(answer) }
+        Outputs {
+            first: filled(first),
+            caps: filled(caps),
+            headroom: filled(headroom),
+            held: filled(held),
+            answer: filled(answer),
+        }
     }
 
     /// Buffers a little longer than any accepted input needs.
     pub fn lent() -> Outputs {
-        Outputs::of_lengths(4 * plain::DECIDING_WORDS, 2_052, 4_100, 24)
+        Outputs::of_lengths(4 * plain::DECIDING_WORDS, 2_052, [4_100; 2], 24)
     }
 
     /// The answer's two numbers.
@@ -84,12 +91,14 @@ fn product_plan(given: &Inputs, out: &mut Outputs) -> u32 {
             out.first.as_mut_ptr(), out.first.len(),
             out.caps.as_mut_ptr(), out.caps.len(),
             out.headroom.as_mut_ptr(), out.headroom.len(),
+            out.held.as_mut_ptr(), out.held.len(),
             out.answer.as_mut_ptr(), out.answer.len(),
         )
     }
 }
 
 fn plain_plan(given: &Inputs, out: &mut Outputs) -> u32 {
-    let lists = plain::Lists { grants: &mut out.first, caps: &mut out.caps, headroom: &mut out.headroom };
+    let lists =
+        plain::Lists { grants: &mut out.first, caps: &mut out.caps, headroom: &mut out.headroom, held: &mut out.held };
     plain::plan(&given.table, &given.demands, lists, &mut out.answer)
 }

@@ -74,5 +74,7 @@ fn shorten(given: &mut Inputs, chance: &mut Chance) {
 fn short_outputs(chance: &mut Chance) -> Outputs {
     let answer = 14 + chance.below(4);
     let first = chance.below(4 * DECIDING_WORDS as u32) as usize;
-    Outputs::of_lengths(first, chance.below(2_100) as usize, chance.below(4_200) as usize, answer as usize)
+    let caps = chance.below(2_100) as usize;
+    let of_cords = [(); 2].map(|()| chance.below(4_200) as usize);
+    Outputs::of_lengths(first, caps, of_cords, answer as usize)
 }

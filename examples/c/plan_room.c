@@ -6,9 +6,9 @@
  * There is one DEMAND for each server, in the table's order: watts in decimal.
  *
  * Prints the plan as hutplan does: a line `freed F`, and for each server a line `server N cap W`
- * with a line `cord K node M grant G headroom W` for each cord; or `refused R at P`, of which
- * hutplan.h lists the numbers and places. Exit status: 0 if all was accepted, 1 if the sheet or the
- * demands were refused, 2 if no FILE is given or it cannot be read.
+ * with a line `cord K node M grant G headroom W held B` for each cord; or `refused R at P`, of
+ * which hutplan.h lists the numbers and places. Exit status: 0 if all was accepted, 1 if the sheet
+ * or the demands were refused, 2 if no FILE is given or it cannot be read.
  */
 #include <inttypes.h>
 #include <stdio.h>
@@ -29,6 +29,7 @@ static uint8_t demands[HUTPLAN_DEMANDS_BYTES + 4];
 static uint8_t grants[HUTPLAN_GRANTS_BYTES];
 static uint8_t caps[HUTPLAN_CAPS_BYTES];
 static uint8_t headroom[HUTPLAN_HEADROOM_BYTES];
+static uint8_t held[HUTPLAN_HELD_BYTES];
 static uint8_t answer[HUTPLAN_ANSWER_BYTES];
 
 /* A number of `count` bytes, low byte first, whatever the byte order of the machine. */
@@ -93,8 +94,9 @@ static void print_plan(uint64_t freed)
         cords = word_at(table, at + 3); /* after rank, least and greatest */
         at += 4;
         for (cord = 1; cord <= cords; cord++) {
-            printf("cord %" PRIu32 " node %" PRIu32 " grant %" PRIu32 " headroom %" PRIu32 "\n",
-                   cord, word_at(table, at), word_at(grants, place), word_at(headroom, place));
+            printf("cord %" PRIu32 " node %" PRIu32, cord, word_at(table, at));
+            printf(" grant %" PRIu32 " headroom %" PRIu32 " held %" PRIu32 "\n",
+                   word_at(grants, place), word_at(headroom, place), word_at(held, place));
             at += 2; /* node and share */
             place += 1;
         }
@@ -134,7 +136,7 @@ int main(int argc, char **argv)
     /* Of the table, only the words that Read wrote: any more would be words left over. */
     hutplan_plan(table, 4 * words, demands, 4 * count,
                  grants, sizeof grants, caps, sizeof caps, headroom, sizeof headroom,
-                 answer, sizeof answer);
+                 held, sizeof held, answer, sizeof answer);
     if (!accepted())
         return 1;
     print_plan(number_at(answer + 8, 8));

@@ -5,9 +5,9 @@
 //! There is one DEMAND for each server, in the table's order: watts in decimal.
 //!
 //! Prints the plan as hutplan does: a line `freed F`, and for each server a line `server N cap W`
-//! with a line `cord K node M grant G headroom W` for each cord; or `refused R at P`, of which
-//! hutplan.h lists the numbers and places. Exit status: 0 if all was accepted, 1 if the sheet or the
-//! demands were refused, 2 if no FILE is given or it cannot be read.
+//! with a line `cord K node M grant G headroom W held B` for each cord; or `refused R at P`, of
+//! which hutplan.h lists the numbers and places. Exit status: 0 if all was accepted, 1 if the sheet
+//! or the demands were refused, 2 if no FILE is given or it cannot be read.
 
 /// Read and Plan of `include/hutplan.h`, in safe Rust.
 mod hutplan {
@@ -23,6 +23,7 @@ mod hutplan {
             grants: *mut u8, grants_len: usize,
             caps: *mut u8, caps_len: usize,
             headroom: *mut u8, headroom_len: usize,
+            held: *mut u8, held_len: usize,
             answer: *mut u8, answer_len: usize,
         ) -> u32;
     }
@@ -32,6 +33,7 @@ mod hutplan {
     const GRANTS_BYTES: usize = 4096;
     const CAPS_BYTES: usize = 2048;
     const HEADROOM_BYTES: usize = 4096;
+    const HELD_BYTES: usize = 4096;
     const ANSWER_BYTES: usize = 16;
 
     /// Why an input was turned back, and where; `hutplan.h` lists the numbers and their places.
@@ -42,13 +44,14 @@ mod hutplan {
     }
 
     /// The watts of a room: one grant and one figure of headroom a cord and one cap a server, in the
-    /// table's order.
+    /// table's order; and for each cord the node that holds it down, or 0.
     #[derive(Debug, PartialEq)]
     pub struct Plan {
         pub freed: u64,
         pub grants: Vec<u32>,
         pub caps: Vec<u32>,
         pub headroom: Vec<u32>,
+        pub held: Vec<u32>,
     }
 
     /// What an answer says: the figure of accepted input, or the refusal.
@@ -103,6 +106,7 @@ mod hutplan {
         let mut grants = vec![0; GRANTS_BYTES];
         let mut caps = vec![0; CAPS_BYTES];
         let mut headroom = vec![0; HEADROOM_BYTES];
+        let mut held = vec![0; HELD_BYTES];
         let mut answer = [0; ANSWER_BYTES];
         // SAFETY: as in `read`.
         unsafe {
@@ -112,6 +116,7 @@ mod hutplan {
                 grants.as_mut_ptr(), grants.len(),
                 caps.as_mut_ptr(), caps.len(),
                 headroom.as_mut_ptr(), headroom.len(),
+                held.as_mut_ptr(), held.len(),
                 answer.as_mut_ptr(), answer.len(),
             );
         }
@@ -125,6 +130,7 @@ mod hutplan {
             grants: to_words(&grants, cords),
             caps: to_words(&caps, servers),
             headroom: to_words(&headroom, cords),
+            held: to_words(&held, cords),
         })
     }
 }
@@ -160,8 +166,9 @@ fn print(table: &[u32], plan: &hutplan::Plan) {
         let cords = table[at + 3]; // after rank, least and greatest
         at += 4;
         for cord in 1..=cords {
-            let (grant, headroom) = (plan.grants[place], plan.headroom[place]);
-            println!("cord {cord} node {} grant {grant} headroom {headroom}", table[at]);
+            let (node, grant) = (table[at], plan.grants[place]);
+            let (headroom, held) = (plan.headroom[place], plan.held[place]);
+            println!("cord {cord} node {node} grant {grant} headroom {headroom} held {held}");
             at += 2; // node and share
             place += 1;
         }

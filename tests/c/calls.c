@@ -11,9 +11,9 @@
 static struct buffer input, output, answer;
 
 /* Of Plan, whose input is the table: the demands, and the lists that it fills. */
-enum { GRANTS, CAPS, HEADROOM, LISTS };
+enum { GRANTS, CAPS, HEADROOM, HELD, LISTS };
 static struct buffer demands, lists[LISTS];
-static const char *const list_names[LISTS] = {"grants", "caps", "headroom"};
+static const char *const list_names[LISTS] = {"grants", "caps", "headroom", "held"};
 
 /* ---- Sheets and tables in text */
 
@@ -453,7 +453,8 @@ static void expect_plan_call(uint64_t number, uint64_t figure, const char *const
 {
     uint32_t returned = hutplan_plan(input.bytes, input.length, demands.bytes, demands.length,
                                      lists[GRANTS].bytes, lists[GRANTS].length, lists[CAPS].bytes, lists[CAPS].length,
-                                     lists[HEADROOM].bytes, lists[HEADROOM].length, answer.bytes, answer.length);
+                                     lists[HEADROOM].bytes, lists[HEADROOM].length, lists[HELD].bytes, lists[HELD].length,
+                                     answer.bytes, answer.length);
     int list;
 
     if (answer.length >= HUTPLAN_ANSWER_BYTES) {
@@ -494,61 +495,72 @@ static const char second_s_words[] =
 static const char full_s_words[] =
     "2 3 0 1300 100 1 938 80 1 750 100 4 2 270 500 1 2 1000 1 270 500 1 2 1000 1 270 500 1 3 1000 1 270 500 1 3 1000";
 
+/* A root with limit 500 over node 2 (300) over node 3 (100), and node 4 (40). In the second deal node 4 is cut at rank 9,
+   node 3 at 9 and 4, node 2 at 6 and 2, and the root at 3. The servers have ranks 9, 6, 4, 3, 2, 1 and 9, on nodes 3, 2, 3,
+   1, 2 and 1, and the last on 4 and 2. */
+static const char cut_words[] =
+    "1 4 0 625 1 375 2 125 0 50 7 9 0 150 1 3 1000 6 0 400 1 2 1000 4 10 50 1 3 1000 3 0 300 1 1 1000 2 20 60 1 2 1000 "
+    "1 30 80 1 1 1000 9 0 200 2 4 500 2 500";
+
 /* The rooms of documents 01 and 02, those of the near misses with the right figures, and one refusal before the next. */
 static const struct plan_case plan_cases[] = {
-    {"H", room_h_words, "400 400", {12, 8, 12}, 0, 13, {"120 120 280", "240 280", "0 0 0"}},
-    {"H, longer lists", room_h_words, "400 400", {19, 30, 21}, 0, 13, {"120 120 280", "240 280", "0 0 0"}},
-    {"H, lists longer than any room's", room_h_words, "400 400", {100001, 50002, 100003}, 0, 13,
-     {"120 120 280", "240 280", "0 0 0"}},
-    {"H, demands of 100", room_h_words, "100 100", {12, 8, 12}, 0, 0, {"50 50 100", "100 100", "70 83 167"}},
-    {"H, demands of 100, longer lists", room_h_words, "100 100", {13, 11, 30}, 0, 0,
-     {"50 50 100", "100 100", "70 83 167"}},
-    {"S", room_s_words, "430 430 430 430", {16, 16, 16}, 0, 0, {"430 270 270 270", "430 270 270 270", "0 0 0 0"}},
-    {"S, root rated 1,625", larger_s_words, "430 430 430 430", {16, 16, 16}, 0, 0,
-     {"430 281 294 295", "430 281 294 295", "0 0 0 0"}},
-    {"S, root rated 1,750", lending_s_words, "430 270 300 330", {16, 16, 16}, 0, 0,
-     {"430 270 300 330", "430 270 300 330", "4 16 27 23"}},
-    {"S in version 2", second_s_words, "430 430 430 430", {16, 16, 16}, 0, 0,
-     {"430 270 270 270", "430 270 270 270", "0 0 0 0"}},
-    {"S, root at 100", full_s_words, "430 430 430 430", {16, 16, 16}, 0, 0,
-     {"430 281 294 295", "430 281 294 295", "0 0 0 0"}},
-    {"H in version 3", "3 2 0 150 80 0 500 80 2 1 100 400 2 1 5000 2 5000 1 100 400 1 2 10000", "400 400", {12, 8, 12},
-     0, 13, {"120 120 280", "240 280", "0 0 0"}},
-    {"shares of 3,333 and 6,667", "3 2 0 125 80 0 125 80 1 1 100 400 2 1 3333 2 6667", "400", {8, 4, 8}, 0, 50,
-     {"50 100", "149", "50 0"}},
-    {"shares of 3,334 and 6,666", "3 2 0 125 80 0 125 80 1 1 100 400 2 1 3334 2 6666", "400", {8, 4, 8}, 0, 49,
-     {"51 100", "150", "49 0"}},
-    {"ceilings of 3,333 and 6,667", "3 1 0 1000 80 1 1 100 400 2 1 3333 1 6667", "0", {8, 4, 8}, 0, 0,
-     {"34 67", "100", "100 200"}},
-    {"a percent of 90", "2 1 0 150 90 0", "", {0, 0, 0}, 5, 4, {"", "", ""}},
-    {"weights are excesses", "1 2 0 188 1 125 2 1 0 1000 1 2 1000 1 0 100 1 1 1000", "1000 100", {8, 8, 8}, 0, 0,
-     {"75 75", "75 75", "0 0"}},
-    {"60 W over 50 and 210", "1 1 0 75 2 1 0 50 1 1 1000 1 0 210 1 1 1000", "50 210", {8, 8, 8}, 0, 0,
-     {"11 49", "11 49", "0 0"}},
-    {"a child node before a cord", "1 2 0 2 1 2 2 1 0 1 1 2 1000 1 0 1 1 1 1000", "1 1", {8, 8, 8}, 0, 0,
-     {"0 1", "0 1", "0 0"}},
-    {"headroom, a child node before a cord", "1 2 0 2 1 2 2 1 0 1 1 2 1000 1 0 1 1 1 1000", "0 0", {8, 8, 8}, 0, 0,
-     {"0 0", "0 0", "0 1"}},
+    {"H", room_h_words, "400 400", {12, 8, 12, 12}, 0, 13, {"120 120 280", "240 280", "0 0 0", "1 0 2"}},
+    {"H, longer lists", room_h_words, "400 400", {19, 30, 21, 23}, 0, 13, {"120 120 280", "240 280", "0 0 0", "1 0 2"}},
+    {"H, lists longer than any room's", room_h_words, "400 400", {100001, 50002, 100003, 100002}, 0, 13,
+     {"120 120 280", "240 280", "0 0 0", "1 0 2"}},
+    {"H, demands of 100", room_h_words, "100 100", {12, 8, 12, 12}, 0, 0, {"50 50 100", "100 100", "70 83 167", "0 0 0"}},
+    {"H, demands of 100, longer lists", room_h_words, "100 100", {13, 11, 30, 29}, 0, 0,
+     {"50 50 100", "100 100", "70 83 167", "0 0 0"}},
+    {"S", room_s_words, "430 430 430 430", {16, 16, 16, 16}, 0, 0, {"430 270 270 270", "430 270 270 270", "0 0 0 0", "0 1 1 1"}},
+    {"S, root rated 1,625", larger_s_words, "430 430 430 430", {16, 16, 16, 16}, 0, 0,
+     {"430 281 294 295", "430 281 294 295", "0 0 0 0", "0 1 1 1"}},
+    {"S, root rated 1,750", lending_s_words, "430 270 300 330", {16, 16, 16, 16}, 0, 0,
+     {"430 270 300 330", "430 270 300 330", "4 16 27 23", "0 0 0 0"}},
+    {"S in version 2", second_s_words, "430 430 430 430", {16, 16, 16, 16}, 0, 0,
+     {"430 270 270 270", "430 270 270 270", "0 0 0 0", "0 1 1 1"}},
+    {"S, root at 100", full_s_words, "430 430 430 430", {16, 16, 16, 16}, 0, 0,
+     {"430 281 294 295", "430 281 294 295", "0 0 0 0", "0 1 1 1"}},
+    {"H in version 3", "3 2 0 150 80 0 500 80 2 1 100 400 2 1 5000 2 5000 1 100 400 1 2 10000", "400 400", {12, 8, 12, 12},
+     0, 13, {"120 120 280", "240 280", "0 0 0", "1 0 2"}},
+    {"shares of 3,333 and 6,667", "3 2 0 125 80 0 125 80 1 1 100 400 2 1 3333 2 6667", "400", {8, 4, 8, 8}, 0, 50,
+     {"50 100", "149", "50 0", "0 2"}},
+    {"shares of 3,334 and 6,666", "3 2 0 125 80 0 125 80 1 1 100 400 2 1 3334 2 6666", "400", {8, 4, 8, 8}, 0, 49,
+     {"51 100", "150", "49 0", "0 2"}},
+    {"ceilings of 3,333 and 6,667", "3 1 0 1000 80 1 1 100 400 2 1 3333 1 6667", "0", {8, 4, 8, 8}, 0, 0,
+     {"34 67", "100", "100 200", "0 0"}},
+    {"a percent of 90", "2 1 0 150 90 0", "", {0, 0, 0, 0}, 5, 4, {"", "", "", ""}},
+    {"weights are excesses", "1 2 0 188 1 125 2 1 0 1000 1 2 1000 1 0 100 1 1 1000", "1000 100", {8, 8, 8, 8}, 0, 0,
+     {"75 75", "75 75", "0 0", "1 1"}},
+    {"60 W over 50 and 210", "1 1 0 75 2 1 0 50 1 1 1000 1 0 210 1 1 1000", "50 210", {8, 8, 8, 8}, 0, 0,
+     {"11 49", "11 49", "0 0", "1 1"}},
+    {"a child node before a cord", "1 2 0 2 1 2 2 1 0 1 1 2 1000 1 0 1 1 1 1000", "1 1", {8, 8, 8, 8}, 0, 0,
+     {"0 1", "0 1", "0 0", "1 0"}},
+    {"headroom, a child node before a cord", "1 2 0 2 1 2 2 1 0 1 1 2 1000 1 0 1 1 1 1000", "0 0", {8, 8, 8, 8}, 0, 0,
+     {"0 0", "0 0", "0 1", "0 0"}},
     {"watts in use go first, through a node", "1 3 0 150 1 100 0 25 3 1 0 100 2 3 500 2 500 1 0 100 1 2 1000 1 0 60 1 1 1000",
-     "100 100 60", {16, 12, 16}, 0, 2, {"20 20 47 53", "40 47 53", "0 0 0 0"}},
-    {"lows rounded up", "1 1 0 127 1 1 100 100 2 1 333 1 667", "100", {8, 4, 8}, 0, 0, {"34 67", "100", "0 0"}},
-    {"ceilings rounded up", "1 1 0 1000 1 1 0 100 3 1 333 1 333 1 334", "0", {12, 4, 12}, 0, 0,
-     {"0 0 0", "0", "34 34 34"}},
-    {"no servers, no demands", "1 1 0 150 0", "", {9, 9, 9}, 0, 0, {"", "", ""}},
-    {"no servers, no lists", "1 1 0 150 0", "", {0, 0, 0}, 0, 0, {"", "", ""}},
-    {"a bad table before all else", "1 2", "", {0, 0, 0}, 4, 2, {"", "", ""}},
-    {"lows above a limit", "1 2 0 150 0 187 2 1 100 400 2 1 500 2 500 1 100 400 1 2 1000", "400 400", {12, 8, 12}, 9, 2,
-     {"", "", ""}},
-    {"no demands", room_h_words, "", {0, 0, 0}, 10, 2, {"", "", ""}},
-    {"a demand missing", room_h_words, "16777216", {0, 0, 0}, 10, 2, {"", "", ""}},
-    {"a demand over", room_h_words, "400 400 400", {12, 8, 12}, 10, 2, {"", "", ""}},
-    {"a demand too large", room_h_words, "400 16777216", {0, 0, 0}, 11, 1, {"", "", ""}},
-    {"two demands too large", room_h_words, "4294967295 16777216", {12, 8, 12}, 11, 0, {"", "", ""}},
-    {"the largest demands", room_h_words, "16777215 16777215", {12, 8, 12}, 0, 13, {"120 120 280", "240 280", "0 0 0"}},
-    {"grants too short", room_h_words, "400 400", {11, 0, 0}, 12, 3, {"", "", ""}},
-    {"caps too short", room_h_words, "400 400", {12, 7, 0}, 13, 2, {"", "", ""}},
-    {"headroom too short", room_h_words, "400 400", {12, 8, 11}, 14, 3, {"", "", ""}},
-    {"no headroom list", room_h_words, "400 400", {12, 8, 0}, 14, 3, {"", "", ""}},
+     "100 100 60", {16, 12, 16, 16}, 0, 2, {"20 20 47 53", "40 47 53", "0 0 0 0", "3 0 1 1"}},
+    {"cuts above at higher ranks", cut_words, "150 400 50 300 60 0 200", {32, 28, 32, 32}, 0, 60,
+     {"90 140 10 170 20 30 40 40", "90 140 10 170 20 30 80", "0 0 0 0 0 0 0 0", "3 2 2 1 1 0 4 0"}},
+    {"lows rounded up", "1 1 0 127 1 1 100 100 2 1 333 1 667", "100", {8, 4, 8, 8}, 0, 0, {"34 67", "100", "0 0", "0 0"}},
+    {"ceilings rounded up", "1 1 0 1000 1 1 0 100 3 1 333 1 333 1 334", "0", {12, 4, 12, 12}, 0, 0,
+     {"0 0 0", "0", "34 34 34", "0 0 0"}},
+    {"no servers, no demands", "1 1 0 150 0", "", {9, 9, 9, 9}, 0, 0, {"", "", "", ""}},
+    {"no servers, no lists", "1 1 0 150 0", "", {0, 0, 0, 0}, 0, 0, {"", "", "", ""}},
+    {"a bad table before all else", "1 2", "", {0, 0, 0, 0}, 4, 2, {"", "", "", ""}},
+    {"lows above a limit", "1 2 0 150 0 187 2 1 100 400 2 1 500 2 500 1 100 400 1 2 1000", "400 400", {12, 8, 12, 12}, 9, 2,
+     {"", "", "", ""}},
+    {"no demands", room_h_words, "", {0, 0, 0, 0}, 10, 2, {"", "", "", ""}},
+    {"a demand missing", room_h_words, "16777216", {0, 0, 0, 0}, 10, 2, {"", "", "", ""}},
+    {"a demand over", room_h_words, "400 400 400", {12, 8, 12, 12}, 10, 2, {"", "", "", ""}},
+    {"a demand too large", room_h_words, "400 16777216", {0, 0, 0, 0}, 11, 1, {"", "", "", ""}},
+    {"two demands too large", room_h_words, "4294967295 16777216", {12, 8, 12, 12}, 11, 0, {"", "", "", ""}},
+    {"the largest demands", room_h_words, "16777215 16777215", {12, 8, 12, 12}, 0, 13, {"120 120 280", "240 280", "0 0 0", "1 0 2"}},
+    {"grants too short", room_h_words, "400 400", {11, 0, 0, 0}, 12, 3, {"", "", "", ""}},
+    {"caps too short", room_h_words, "400 400", {12, 7, 0, 0}, 13, 2, {"", "", "", ""}},
+    {"headroom too short", room_h_words, "400 400", {12, 8, 11, 0}, 14, 3, {"", "", "", ""}},
+    {"no headroom list", room_h_words, "400 400", {12, 8, 0, 0}, 14, 3, {"", "", "", ""}},
+    {"held too short", room_h_words, "400 400", {12, 8, 12, 11}, 15, 3, {"", "", "", ""}},
+    {"no held list", room_h_words, "400 400", {12, 8, 12, 0}, 15, 3, {"", "", "", ""}},
 };
 
 static void lend_words(struct buffer *buffer, const char *text)
@@ -574,7 +586,8 @@ static void expect_plan(const struct plan_case *c, size_t answer_len)
    and those after it have none. */
 static void expect_short_list(int list, uint64_t number, uint64_t place)
 {
-    static const size_t sizes[LISTS] = {HUTPLAN_GRANTS_BYTES, HUTPLAN_CAPS_BYTES, HUTPLAN_HEADROOM_BYTES};
+    static const size_t sizes[LISTS] = {HUTPLAN_GRANTS_BYTES, HUTPLAN_CAPS_BYTES, HUTPLAN_HEADROOM_BYTES,
+                                        HUTPLAN_HELD_BYTES};
     int k;
 
     for (k = 0; k < LISTS; k++)
@@ -609,6 +622,7 @@ static void test_plan(void)
     expect_short_list(GRANTS, 12, 1024);
     expect_short_list(CAPS, 13, 512);
     expect_short_list(HEADROOM, 14, 1024);
+    expect_short_list(HELD, 15, 1024);
 }
 
 int main(void)

@@ -1,6 +1,6 @@
 //! Plan: the demands, both deals and what servers can use of them.
 
-use super::deal::{lend, Deals, Starts};
+use super::deal::{lend, name_holders, Deals, Starts};
 use super::table::{carried, Room, Table};
 use super::{tell, Outcome, Refusal, MOST_CORDS, MOST_SERVERS, MOST_WATTS};
 
@@ -9,9 +9,10 @@ pub struct Lists<'a> {
     pub grants: &'a mut [u8],
     pub caps: &'a mut [u8],
     pub headroom: &'a mut [u8],
+    pub held: &'a mut [u8],
 }
 
-/// Plan: a grant and its headroom for each cord and a cap for each server, at the fronts of their lists.
+/// Plan: a grant, its headroom and its holder for each cord and a cap for each server, at the fronts of their lists.
 pub fn plan(table: &[u8], demands: &[u8], lists: Lists, answer: &mut [u8]) -> u32 {
     tell(answer, || {
         let mut room = Room::empty();
@@ -21,7 +22,7 @@ pub fn plan(table: &[u8], demands: &[u8], lists: Lists, answer: &mut [u8]) -> u3
     })
 }
 
-/// Refusals 10 to 14.
+/// Refusals 10 to 15.
 fn check_lists(room: &Room, demands: Table, lists: &Lists) -> Outcome<()> {
     let (cords, servers) = (room.cord_count, room.server_count);
     if demands.len() != servers {
@@ -30,8 +31,13 @@ fn check_lists(room: &Room, demands: Table, lists: &Lists) -> Outcome<()> {
     if let Some(large) = demands.words().position(|demand| demand > MOST_WATTS) {
         return Err(Refusal(11, large as u64));
     }
-    for (number, list, needed) in [(12, &lists.grants, cords), (13, &lists.caps, servers), (14, &lists.headroom, cords)]
-    {
+    let lists = [
+        (12, &lists.grants, cords),
+        (13, &lists.caps, servers),
+        (14, &lists.headroom, cords),
+        (15, &lists.held, cords),
+    ];
+    for (number, list, needed) in lists {
         if list.len() / 4 < needed {
             return Err(Refusal(number, needed as u64));
         }
@@ -56,10 +62,11 @@ fn plan_room(room: &Room, demands: Table, lists: Lists) -> u64 {
     let mut granted = [0; MOST_CORDS];
     deals.deal(room, &Starts::lows(room), &wants, &mut granted);
     let (freed, used) = reclaim(room, &usable(room, &needs, &granted), &granted, &mut wants);
-    let slack = deals.deal(room, &Starts::used(room, used), &wants, &mut granted);
+    let left = deals.deal(room, &Starts::used(room, used), &wants, &mut granted);
     put(&granted[..room.cord_count], lists.grants);
     put(&usable(room, &needs, &granted)[..room.server_count], lists.caps);
-    put(&lend(room, &slack, &wants, &ceilings)[..room.cord_count], lists.headroom);
+    put(&lend(room, &left.slack, &wants, &ceilings)[..room.cord_count], lists.headroom);
+    put(&name_holders(room, &left.cuts, &wants, &granted)[..room.cord_count], lists.held);
     freed
 }
 

@@ -64,6 +64,9 @@ module _ (table demands : List ℕ) (lengths : Lengths) where
   pub headroom-counted : (cords : ℕ) → CordsFit table cords → Counted (λ p. p .headroom) (plan table demands lengths) cords (lengths .headroom)
   headroom-counted = cords-counted (λ p. p .headroom) (lengths .headroom) (λ p w. w .planning .headroom)
 
+  pub held-counted : (cords : ℕ) → CordsFit table cords → Counted (λ p. p .held) (plan table demands lengths) cords (lengths .held)
+  held-counted = cords-counted (λ p. p .held) (lengths .held) (λ p w. w .planning .held)
+
 -- ---- A list by way of words
 
 -- As much of a list of words is lent as there is space in the bytes that it stands for.
@@ -109,39 +112,42 @@ module _ {output : Plan → List ℕ} {o : Outcome} {bytes list : List ℕ} (l :
 -- ---- The call
 
 -- Where the answer's buffer is too short, nothing is changed.
-pub plan-short : (outcome : Outcome) (grants caps headroom answer : List ℕ) → length answer < 16
-    → PlannedCall outcome grants caps headroom answer 0 grants caps headroom answer
-plan-short outcome grants caps headroom answer h =
+pub plan-short : (outcome : Outcome) (grants caps headroom held answer : List ℕ) → length answer < 16
+    → PlannedCall outcome grants caps headroom held answer 0 grants caps headroom held answer
+plan-short outcome grants caps headroom held answer h =
     let short = holdsAnswer-short answer h in
     record {
       returned = rw short;
       grants-after = rw short;
       caps-after = rw short;
       headroom-after = rw short;
+      held-after = rw short;
       answer-after = sym (answered-short _ _ answer h);
     }
 
 -- Where it is long enough, it has the answer, and the lists are those after the outcome.
-pub plan-done : (outcome : Outcome) (grants caps headroom answer : List ℕ) {planned : Planned} {grants′ caps′ headroom′ answer′ : List ℕ} {number figure : ℕ}
+pub plan-done : (outcome : Outcome) (grants caps headroom held answer : List ℕ) {planned : Planned} {grants′ caps′ headroom′ held′ answer′ : List ℕ} {number figure : ℕ}
     → 16 ≤ length answer → planned ≡ answerOf outcome
     → grants′ ≡ after (λ p. bytesOf (p .grants)) outcome grants
     → caps′ ≡ after (λ p. bytesOf (p .caps)) outcome caps
     → headroom′ ≡ after (λ p. bytesOf (p .headroom)) outcome headroom
+    → held′ ≡ after (λ p. bytesOf (p .held)) outcome held
     → number ≡ planNumber planned → figure ≡ planFigure planned → answer′ ≡ answered number figure answer
-    → PlannedCall outcome grants caps headroom answer 1 grants′ caps′ headroom′ answer′
-plan-done outcome grants caps headroom answer long is g c h k v a =
+    → PlannedCall outcome grants caps headroom held answer 1 grants′ caps′ headroom′ held′ answer′
+plan-done outcome grants caps headroom held answer long is g c h d k v a =
     let holds = holdsAnswer-long answer long in
     record {
       returned = rw holds;
       grants-after = rw holds g;
       caps-after = rw holds c;
       headroom-after = rw holds h;
+      held-after = rw holds d;
       answer-after = answer-told answer (k ∙ ap planNumber is) (v ∙ ap planFigure is) a;
     }
 
 -- A call of the same outcome.
-pub call-same : {own outcome : Outcome} {grants caps headroom answer grants′ caps′ headroom′ answer′ : List ℕ} {r : ℕ} → own ≡ outcome
-    → PlannedCall own grants caps headroom answer r grants′ caps′ headroom′ answer′ → PlannedCall outcome grants caps headroom answer r grants′ caps′ headroom′ answer′
+pub call-same : {own outcome : Outcome} {grants caps headroom held answer grants′ caps′ headroom′ held′ answer′ : List ℕ} {r : ℕ} → own ≡ outcome
+    → PlannedCall own grants caps headroom held answer r grants′ caps′ headroom′ held′ answer′ → PlannedCall outcome grants caps headroom held answer r grants′ caps′ headroom′ held′ answer′
 call-same same call = rw same at call
 
 -- What is lent of a list of words is as long as the list, cut to the space in its bytes.
@@ -149,12 +155,14 @@ space-length : (bytes list : List ℕ) {space : ℕ} → Space bytes list space 
 space-length bytes list r = sym (front-length (length bytes / 4) list r) ∙ r
 
 -- Plan in lists of words that take every answer comes to the same as in the bytes.
-pub same-plan : (table demands grants granted caps capped headroom spare : List ℕ) {grantsSpace capsSpace headroomSpace : ℕ} → Ample (lent granted capped spare)
-    → Space grants granted grantsSpace → Space caps capped capsSpace → Space headroom spare headroomSpace
-    → plan table demands (lent (take grantsSpace granted) (take capsSpace capped) (take headroomSpace spare)) ≡ plan table demands (lentBytes grants caps headroom)
-same-plan table demands grants granted caps capped headroom spare ample g c h =
-    rw (space-length grants granted g, space-length caps capped c, space-length headroom spare h)
-    (plan-lists-cut table demands (lentBytes grants caps headroom) (lent granted capped spare) ample)
+pub same-plan : (table demands grants granted caps capped headroom spare held holders : List ℕ) {grantsSpace capsSpace headroomSpace heldSpace : ℕ}
+    → Ample (lent granted capped spare holders)
+    → Space grants granted grantsSpace → Space caps capped capsSpace → Space headroom spare headroomSpace → Space held holders heldSpace
+    → plan table demands (lent (take grantsSpace granted) (take capsSpace capped) (take headroomSpace spare) (take heldSpace holders))
+    ≡ plan table demands (lentBytes grants caps headroom held)
+same-plan table demands grants granted caps capped headroom spare held holders ample g c h d =
+    rw (space-length grants granted g, space-length caps capped c, space-length headroom spare h, space-length held holders d)
+    (plan-lists-cut table demands (lentBytes grants caps headroom held) (lent granted capped spare holders) ample)
 
 -- ---- Its table and demands
 

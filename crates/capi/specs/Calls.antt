@@ -38,8 +38,13 @@ WriteCall table sheet answer r sheet′ answer′ = OutcomeCall (writing (wordsO
 -- ---- Plan
 
 -- Each list holds one figure for every four of its bytes.
-abbrev pub lentBytes : (grants caps headroom : List ℕ) → Lengths
-lentBytes grants caps headroom = record { grants = length grants / 4; caps = length caps / 4; headroom = length headroom / 4 }
+abbrev pub lentBytes : (grants caps headroom held : List ℕ) → Lengths
+lentBytes grants caps headroom held = record {
+  grants = length grants / 4;
+  caps = length caps / 4;
+  headroom = length headroom / 4;
+  held = length held / 4;
+}
 
 -- The bytes of a list after the call of a plan that comes to an outcome, by what a plan has for the list: as after the outcome, its
 -- words as bytes; unchanged where the answer's buffer is too short.
@@ -47,14 +52,15 @@ abbrev pub bytesPlanned : (Plan → List ℕ) → plan.Outcome → (answer bytes
 bytesPlanned output outcome answer bytes = cond (holdsAnswer answer) (plan.after (λ p. bytesOf (output p)) outcome bytes) bytes
 
 -- The call of a plan that comes to an outcome: as any call, with more than one list for its output.
-pub record PlannedCall (outcome : plan.Outcome) (grants caps headroom answer : List ℕ) (r : ℕ) (grants′ caps′ headroom′ answer′ : List ℕ) : Type 0 where
+pub record PlannedCall (outcome : plan.Outcome) (grants caps headroom held answer : List ℕ) (r : ℕ) (grants′ caps′ headroom′ held′ answer′ : List ℕ) : Type 0 where
   pub returned : r ≡ cond (holdsAnswer answer) 1 0
   pub grants-after : grants′ ≡ bytesPlanned (λ p. p .grants) outcome answer grants
   pub caps-after : caps′ ≡ bytesPlanned (λ p. p .caps) outcome answer caps
   pub headroom-after : headroom′ ≡ bytesPlanned (λ p. p .headroom) outcome answer headroom
+  pub held-after : held′ ≡ bytesPlanned (λ p. p .held) outcome answer held
   pub answer-after : answer′ ≡ answered (planNumber (plan.answerOf outcome)) (planFigure (plan.answerOf outcome)) answer
 
 -- Plan, called from C, of a table and demands in words.
-abbrev pub PlanCall : (table demands grants caps headroom answer : List ℕ) (r : ℕ) (grants′ caps′ headroom′ answer′ : List ℕ) → Type 0
-PlanCall table demands grants caps headroom answer r grants′ caps′ headroom′ answer′ =
-    PlannedCall (plan table demands (lentBytes grants caps headroom)) grants caps headroom answer r grants′ caps′ headroom′ answer′
+abbrev pub PlanCall : (table demands grants caps headroom held answer : List ℕ) (r : ℕ) (grants′ caps′ headroom′ held′ answer′ : List ℕ) → Type 0
+PlanCall table demands grants caps headroom held answer r grants′ caps′ headroom′ held′ answer′ =
+    PlannedCall (plan table demands (lentBytes grants caps headroom held)) grants caps headroom held answer r grants′ caps′ headroom′ held′ answer′

@@ -12,6 +12,7 @@
 //                           uint8_t *grants, size_t grants_len,
 //                           uint8_t *caps, size_t caps_len,
 //                           uint8_t *headroom, size_t headroom_len,
+//                           uint8_t *held, size_t held_len,
 //                           uint8_t *answer, size_t answer_len);
 ghost use mathlib.Core.Path.{_≡_};
 ghost use Prim.Native.Nat.{suc, _≤_};
@@ -58,7 +59,7 @@ pub extern "C" fn hutplan_write(table: &[u8], sheet: &mut [u8], answer: &mut [u8
     write_by(table, &mut words, sheet, answer)
 }
 
-// Plan: a grant and its headroom for each cord and a cap for each server, at the fronts of their lists.
+// Plan: a grant, its headroom and the node that holds it for each cord, and a cap for each server, at the fronts of their lists.
 #[no_mangle]
 pub extern "C" fn hutplan_plan(
     table: &[u8],
@@ -66,9 +67,10 @@ pub extern "C" fn hutplan_plan(
     grants: &mut [u8],
     caps: &mut [u8],
     headroom: &mut [u8],
+    held: &mut [u8],
     answer: &mut [u8],
 ) -> u32
-    ensures { λ r. ⌜ PlanCall (wordsOf (now (table .entry))) (wordsOf (now (demands .entry))) (now (grants .entry)) (now (caps .entry)) (now (headroom .entry)) (now (answer .entry)) r (now (grants .exit)) (now (caps .exit)) (now (headroom .exit)) (now (answer .exit)) ⌝ }
+    ensures { λ r. ⌜ PlanCall (wordsOf (now (table .entry))) (wordsOf (now (demands .entry))) (now (grants .entry)) (now (caps .entry)) (now (headroom .entry)) (now (held .entry)) (now (answer .entry)) r (now (grants .exit)) (now (caps .exit)) (now (headroom .exit)) (now (held .exit)) (now (answer .exit)) ⌝ }
 {
     let mut words = [0u32; DECIDING_WORDS];
     let mut figures = [0u32; DECIDING_DEMANDS];
@@ -80,6 +82,7 @@ pub extern "C" fn hutplan_plan(
         grants,
         caps,
         headroom,
+        held,
         answer,
     )
 }
@@ -122,11 +125,12 @@ fn plan_loaded(
     grants: &mut [u8],
     caps: &mut [u8],
     headroom: &mut [u8],
+    held: &mut [u8],
     answer: &mut [u8],
 ) -> u32
     requires { ⌜ suc mostWords ≤ length (now words) ⌝ }
     requires { ⌜ suc mostServers ≤ length (now figures) ⌝ }
-    ensures { λ r. ⌜ PlanCall (wordsOf (now (table .entry))) (wordsOf (now (demands .entry))) (now (grants .entry)) (now (caps .entry)) (now (headroom .entry)) (now (answer .entry)) r (now (grants .exit)) (now (caps .exit)) (now (headroom .exit)) (now (answer .exit)) ⌝ }
+    ensures { λ r. ⌜ PlanCall (wordsOf (now (table .entry))) (wordsOf (now (demands .entry))) (now (grants .entry)) (now (caps .entry)) (now (headroom .entry)) (now (held .entry)) (now (answer .entry)) r (now (grants .exit)) (now (caps .exit)) (now (headroom .exit)) (now (held .exit)) (now (answer .exit)) ⌝ }
 {
     let word_count = words::load(table, words);
     let figure_count = words::load(demands, figures);
@@ -136,6 +140,7 @@ fn plan_loaded(
         grants,
         caps,
         headroom,
+        held,
         answer,
     )
 }
@@ -147,13 +152,15 @@ fn plan_words(
     grants: &mut [u8],
     caps: &mut [u8],
     headroom: &mut [u8],
+    held: &mut [u8],
     answer: &mut [u8],
 ) -> u32
-    ensures { λ r. ⌜ PlanCall (now (table .entry)) (now (demands .entry)) (now (grants .entry)) (now (caps .entry)) (now (headroom .entry)) (now (answer .entry)) r (now (grants .exit)) (now (caps .exit)) (now (headroom .exit)) (now (answer .exit)) ⌝ }
+    ensures { λ r. ⌜ PlanCall (now (table .entry)) (now (demands .entry)) (now (grants .entry)) (now (caps .entry)) (now (headroom .entry)) (now (held .entry)) (now (answer .entry)) r (now (grants .exit)) (now (caps .exit)) (now (headroom .exit)) (now (held .exit)) (now (answer .exit)) ⌝ }
 {
     let mut granted = [0u32; MOST_CORDS];
     let mut capped = [0u32; MOST_SERVERS];
     let mut spare = [0u32; MOST_CORDS];
+    let mut holders = [0u32; MOST_CORDS];
     plan_by(
         table,
         demands,
@@ -163,6 +170,8 @@ fn plan_words(
         caps,
         &mut spare,
         headroom,
+        &mut holders,
+        held,
         answer,
     )
 }
@@ -177,12 +186,15 @@ fn plan_by(
     caps: &mut [u8],
     spare: &mut [u32],
     headroom: &mut [u8],
+    holders: &mut [u32],
+    held: &mut [u8],
     answer: &mut [u8],
 ) -> u32
     requires { ⌜ mostCords ≤ length (now granted) ⌝ }
     requires { ⌜ mostServers ≤ length (now capped) ⌝ }
     requires { ⌜ mostCords ≤ length (now spare) ⌝ }
-    ensures { λ r. ⌜ PlanCall (now (table .entry)) (now (demands .entry)) (now (grants .entry)) (now (caps .entry)) (now (headroom .entry)) (now (answer .entry)) r (now (grants .exit)) (now (caps .exit)) (now (headroom .exit)) (now (answer .exit)) ⌝ }
+    requires { ⌜ mostCords ≤ length (now holders) ⌝ }
+    ensures { λ r. ⌜ PlanCall (now (table .entry)) (now (demands .entry)) (now (grants .entry)) (now (caps .entry)) (now (headroom .entry)) (now (held .entry)) (now (answer .entry)) r (now (grants .exit)) (now (caps .exit)) (now (headroom .exit)) (now (held .exit)) (now (answer .exit)) ⌝ }
 {
     if answer.len() < ANSWER_BYTES {
         return 0;
@@ -190,18 +202,21 @@ fn plan_by(
     let grants_space = least(grants.len() / 4, granted.len());
     let caps_space = least(caps.len() / 4, capped.len());
     let headroom_space = least(headroom.len() / 4, spare.len());
+    let held_space = least(held.len() / 4, holders.len());
     let planned = plans::plan(
         table,
         demands,
         &mut granted[..grants_space],
         &mut capped[..caps_space],
         &mut spare[..headroom_space],
+        &mut holders[..held_space],
     );
     let cords = planned_count(planned, cord_count(table));
     let servers = planned_count(planned, demands.len());
     words::store(&granted[..cords], grants);
     words::store(&capped[..servers], caps);
     words::store(&spare[..cords], headroom);
+    words::store(&holders[..cords], held);
     words::store_answer(planned.number(), planned.figure(), answer);
     1
 }

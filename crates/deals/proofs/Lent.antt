@@ -19,7 +19,7 @@ use Rattle.rooms.proofs.Accepted as rooms
 use Rattle.deals.specs.Plan.{Plan, planOf, accepted, refused, Reason, tooShort, reasons, unless, planRoom, planStep, plan, mostLent}
 use Rattle.deals.specs.declared.Lengths.{Lengths}
 use Rattle.deals.specs.declared.PlanList.{PlanList}
-use Rattle.deals.specs.declared.PlanList.the-variants.{Grants, Caps, Headroom}
+use Rattle.deals.specs.declared.PlanList.the-variants.{Grants, Caps, Headroom, Held}
 use Rattle.deals.specs.declared.PlanRefusal.the-variants.{DemandCount, ListTooShort}
 use Rattle.deals.proofs.Plans.{unless-stop, planRoom-is, plan-good, plan-good-table, Planning, planRoom-accepted}
 
@@ -71,6 +71,7 @@ cutTo spaces lengths = record {
   grants = min (lengths .grants) (spaces .grants);
   caps = min (lengths .caps) (spaces .caps);
   headroom = min (lengths .headroom) (spaces .headroom);
+  held = min (lengths .held) (spaces .held);
 }
 
 -- Spaces that take the plan of every room.
@@ -78,6 +79,7 @@ pub record Ample (spaces : Lengths) : Type 0 where
   pub grants : mostLent .grants ≤ spaces .grants
   pub caps : mostLent .caps ≤ spaces .caps
   pub headroom : mostLent .headroom ≤ spaces .headroom
+  pub held : mostLent .held ≤ spaces .held
 
 -- The plan of a room, and so Plan, comes to the same in lists that are cut no shorter than an answer can be.
 room-lists-cut : (r : Room) (demands : List ℕ) (lengths spaces : Lengths) → roomCords r ≤ mostCords → length (r .servers) ≤ mostServers → Ample spaces
@@ -86,7 +88,8 @@ room-lists-cut r demands lengths spaces fewCords fewServers ample =
     let grants = short-cut Grants (roomCords r) (lengths .grants) (spaces .grants) (le-trans fewCords (ample .grants)) in
     let caps = short-cut Caps (length (r .servers)) (lengths .caps) (spaces .caps) (le-trans fewServers (ample .caps)) in
     let headroom = short-cut Headroom (roomCords r) (lengths .headroom) (spaces .headroom) (le-trans fewCords (ample .headroom)) in
-    let all : reasons r demands (cutTo spaces lengths) ≡ reasons r demands lengths = rw (grants, caps, headroom) in
+    let held = short-cut Held (roomCords r) (lengths .held) (spaces .held) (le-trans fewCords (ample .held)) in
+    let all : reasons r demands (cutTo spaces lengths) ≡ reasons r demands lengths = rw (grants, caps, headroom, held) in
     planRoom-is r demands (cutTo spaces lengths) ∙ ap (λ (l : List Reason). unless l (planOf r demands)) all ∙ sym (planRoom-is r demands lengths)
 
 pub plan-lists-cut : (table demands : List ℕ) (lengths spaces : Lengths) → Ample spaces → plan table demands (cutTo spaces lengths) ≡ plan table demands lengths

@@ -21,10 +21,11 @@ use Rattle.deals.specs.Metrics.{dealFrom, dealOf}
 use Rattle.deals.specs.Dealing.{granted}
 use Rattle.deals.specs.SecondDeal.{usable, secondDeal, secondGrants, caps}
 use Rattle.deals.specs.Headroom.{headroomOver, headroom}
+use Rattle.deals.specs.Held.{heldOver, held}
 use Rattle.deals.specs.Plan.{Plan, planOf, Outcome, accepted, refused, Reason, countDiffers, demandTooLarge, tooShort, reasons, unless, planRoom, planStep, plan, answerOf, planRefusalNumber, planNumber}
 use Rattle.deals.specs.Promises.{IsNine}
 use Rattle.deals.specs.declared.Lengths.{Lengths}
-use Rattle.deals.specs.declared.PlanList.the-variants.{Grants, Caps, Headroom}
+use Rattle.deals.specs.declared.PlanList.the-variants.{Grants, Caps, Headroom, Held}
 use Rattle.deals.specs.declared.PlanRefusal.the-variants.{Table}
 use Rattle.figures.proofs.Lists.{figures-length}
 use Rattle.deals.proofs.RoomDeals.{nodesOf-length}
@@ -50,6 +51,10 @@ secondGrants-length r demands = cords-length r _
 pub headroom-length : (r : Room) (demands : List ℕ) → length (headroom r demands) ≡ roomCords r
 unfolding headroom secondDeal dealOf dealFrom headroomOver
 headroom-length r demands = cords-length r _
+
+pub held-length : (r : Room) (demands : List ℕ) → length (held r demands) ≡ roomCords r
+unfolding held secondDeal dealOf dealFrom heldOver
+held-length r demands = cords-length r _
 
 pub caps-length : (r : Room) (demands : List ℕ) → length (caps r demands) ≡ length (r .servers)
 unfolding caps usable
@@ -134,6 +139,7 @@ pub record Planning (r : Room) (demands : List ℕ) (lengths : Lengths) (answer 
   pub grants : Fits (answer .grants) (roomCords r) (lengths .grants)
   pub caps : Fits (answer .caps) (length (r .servers)) (lengths .caps)
   pub headroom : Fits (answer .headroom) (roomCords r) (lengths .headroom)
+  pub held : Fits (answer .held) (roomCords r) (lengths .held)
 
 -- A list is not too short.
 fits : {written output : List ℕ} {needed entries : ℕ} → written ≡ output → length output ≡ needed → ltb entries needed ≡ false → Fits written needed entries
@@ -149,12 +155,14 @@ planRoom-accepted r demands lengths answer e =
     let grants = unless-back _ _ (planOf r demands) (large .1) in
     let caps = unless-back _ _ (planOf r demands) (grants .1) in
     let headroom = unless-back _ _ (planOf r demands) (caps .1) in
+    let held = unless-back _ _ (planOf r demands) (headroom .1) in
     record {
       is = is;
       demandCount = not-differs (length demands) (length (r .servers)) (count .0);
       grants = fits (ap (λ (p : Plan). p .grants) is) (secondGrants-length r demands) (grants .0);
       caps = fits (ap (λ (p : Plan). p .caps) is) (caps-length r demands) (caps .0);
       headroom = fits (ap (λ (p : Plan). p .headroom) is) (headroom-length r demands) (headroom .0);
+      held = fits (ap (λ (p : Plan). p .held) is) (held-length r demands) (held .0);
     }
   where
     not-differs : (a b : ℕ) → not (eqb a b) ≡ false → a ≡ b
@@ -166,7 +174,7 @@ planRoom-accepted r demands lengths answer e =
 
 -- ---- Refusal 9
 
--- The plan of a good room is accepted, or refused by 10 to 14.
+-- The plan of a good room is accepted, or refused by 10 to 15.
 room-other : (r : Room) (demands : List ℕ) (lengths : Lengths) → planNumber (answerOf (planRoom r demands lengths)) ≡ 9 → ⊥
 room-other r demands lengths e =
     unless-other (countDiffers r demands) _ (planOf r demands) 9 (λ q. omega arith)
@@ -174,7 +182,8 @@ room-other r demands lengths e =
     (unless-other (tooShort Grants (lengths .grants) (roomCords r)) _ (planOf r demands) 9 (λ q. omega arith)
     (unless-other (tooShort Caps (lengths .caps) (length (r .servers))) _ (planOf r demands) 9 (λ q. omega arith)
     (unless-other (tooShort Headroom (lengths .headroom) (roomCords r)) _ (planOf r demands) 9 (λ q. omega arith)
-    (unless-none (planOf r demands) 8)))))
+    (unless-other (tooShort Held (lengths .held) (roomCords r)) _ (planOf r demands) 9 (λ q. omega arith)
+    (unless-none (planOf r demands) 8))))))
     (sym (ap (λ (o : Outcome). planNumber (answerOf o)) (planRoom-is r demands lengths)) ∙ e)
 
 step-nine : (s : Step Room) (demands : List ℕ) (lengths : Lengths) (n : ℕ) → IsNine (answerOf (planStep s demands lengths)) n ↔ (s ≡ bad (LowsAboveLimit n))

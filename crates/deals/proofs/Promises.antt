@@ -24,7 +24,6 @@ use Rattle.deals.specs.Wants.{needs}
 use Rattle.deals.specs.SecondDeal.{firstDeal, firstGrants, firstUsable, firstUsed, secondDeal, secondWants, secondGrants, caps}
 use Rattle.deals.specs.Plan.{Plan, planOf}
 use Rattle.deals.specs.Headroom.{ceilingsOf, rootHeadroom}
-use Rattle.deals.specs.Held.{held}
 use Rattle.deals.specs.Ways.{Root, cordBeneath, sumBeneath, fromRank}
 use Rattle.deals.specs.Promises.{AcceptedPlan, AcceptedHasRoom, Answered, AnswerOfBothDeals, Kept, FirstKept, SecondKept, Greatest, FirstGreatest, SecondGreatest, SettledFromRank, RefusalNine, CapsKeepUsable, GrantsKeepUsed, HeadroomWithinLimits, HeadroomWithinCeilings, HeadroomAllLent, HoldsDown, HeldNamed, HeldNone}
 use Rattle.deals.specs.Properties.{CapsInRange, UsableInRange, UsedGranted, SecondWantsInRange, FirstGivesAll, SecondGivesAll, SecondPassesFirst, NearestCut, HeldNearest, fromLevel, Totals, StartsLeft, FiguresFit, HeadroomFits}
@@ -109,9 +108,11 @@ module _ (p : AcceptedPlan) where
     grants = ap (λ (x : Plan). x .grants) (planning .is);
     caps = ap (λ (x : Plan). x .caps) (planning .is);
     headroom = ap (λ (x : Plan). x .headroom) (planning .is);
+    held = ap (λ (x : Plan). x .held) (planning .is);
     eachCord = planning .grants .count;
     eachServer = planning .caps .count;
     eachHeadroom = planning .headroom .count;
+    eachHeld = planning .held .count;
   }
 
   -- What holds of the plan of every accepted room holds of the answer.
@@ -210,12 +211,12 @@ headroom-all-lent p =
 pub held-named : HeldNamed
 held-named p =
     of-plan p (λ r demands plan.
-    (c : ℕ) → c < roomCords r → at (plan .grants) c < at (secondWants r demands) c → HoldsDown r (plan .grants) c (at (held r demands) c)) room-held-named
+    (c : ℕ) → c < roomCords r → at (plan .grants) c < at (secondWants r demands) c → HoldsDown r (plan .grants) c (at (plan .held) c)) room-held-named
 
 pub held-none : HeldNone
 held-none p =
     of-plan p (λ r demands plan.
-    (c : ℕ) → c < roomCords r → at (plan .grants) c ≡ at (secondWants r demands) c → at (held r demands) c ≡ 0) room-held-none
+    (c : ℕ) → c < roomCords r → at (plan .grants) c ≡ at (secondWants r demands) c → at (plan .held) c ≡ 0) room-held-none
 
 -- ---- What else is proved of every plan
 
@@ -257,7 +258,7 @@ second-passes-first p = passed-first _ (second-dealable (p .room) (accepted-room
 pub held-nearest : HeldNearest
 held-nearest p =
     of-plan p (λ r demands plan.
-    (c : ℕ) → c < roomCords r → at (plan .grants) c < at (secondWants r demands) c → NearestCut (secondDeal r demands) c (at (held r demands) c - 1))
+    (c : ℕ) → c < roomCords r → at (plan .grants) c < at (secondWants r demands) c → NearestCut (secondDeal r demands) c (at (plan .held) c - 1))
     room-held-nearest
 
 pub totals : Totals

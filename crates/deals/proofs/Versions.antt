@@ -19,6 +19,7 @@ use Rattle.deals.specs.Metrics.{Deal, dealOf}
 use Rattle.deals.specs.Dealing.{granted}
 use Rattle.deals.specs.SecondDeal.{leastOver, loaded, loadOf, usable, stranded, wantsAfter, firstDeal, firstGrants, firstUsable, firstUsed, freed, secondDeal, secondWants, secondGrants, caps}
 use Rattle.deals.specs.Headroom.{ceilingsOf, headroomOver, headroom}
+use Rattle.deals.specs.Held.{heldOver, held}
 use Rattle.deals.specs.Plan.{planOf, reasons, unless, planRoom, planStep, plan}
 use Rattle.deals.specs.declared.Lengths.{Lengths}
 use Rattle.deals.specs.Versions.{EqualPlans, EightyThroughout, SharesTenfold}
@@ -134,8 +135,18 @@ module _ (r : Room) (some : 0 < r .scale) where
         (carriedBy-tenfold r some (figures (length (finer .servers)) (λ v. serverAt finer v .greatest))
         ∙ ap (carriedBy r) (figures-same (servers-tenfold r) (λ v. ap (λ (s : Server). s .greatest) (serverAt-tenfold r v))))
 
+    held-tenfold : held finer demands ≡ held r demands
+    unfolding held
+    held-tenfold = ap heldOver second-deal-tenfold
+
     planOf-tenfold : planOf finer demands ≡ planOf r demands
-    planOf-tenfold = λ i. record { freed = freed-tenfold i; grants = second-grants-tenfold i; caps = caps-tenfold i; headroom = headroom-tenfold i }
+    planOf-tenfold = λ i. record {
+      freed = freed-tenfold i;
+      grants = second-grants-tenfold i;
+      caps = caps-tenfold i;
+      headroom = headroom-tenfold i;
+      held = held-tenfold i;
+    }
 
     reasons-tenfold : (lengths : Lengths) → reasons finer demands lengths ≡ reasons r demands lengths
     reasons-tenfold lengths = rw (servers-tenfold r, roomCords-tenfold r)

@@ -3,23 +3,22 @@
 use mathlib.Core.Path.{_≡_, refl}
 use mathlib.Core.List.{List, [], _∷_}
 use Prim.Native.Nat.{ℕ}
-use Rattle.rooms.specs.Part.{Step, good, bad, follow, word, ensure, end, many}
+use Rattle.rooms.specs.Part.{follow, word, ensure, end, many}
 use Rattle.figures.specs.Figures.{total}
-use Rattle.rooms.specs.Table.{Room, formOf, percent, node, cord, range, load, server, table}
-use Rattle.rooms.specs.Limits.{beneath, serverLows, lows, firstNode, overloaded, checked}
-use Rattle.deals.specs.Held.{held}
+use Rattle.rooms.specs.Table.{formOf, percent, node, cord, range, load, server, table}
+use Rattle.rooms.specs.Limits.{beneath, serverLows, lows, firstNode, overloaded}
 use Rattle.deals.specs.Plan.{Outcome, accepted, refused, plan}
 use Rattle.deals.specs.declared.Lengths.{Lengths}
-use Rattle.deals.specs.declared.PlanList.the-variants.{Grants, Caps, Headroom}
+use Rattle.deals.specs.declared.PlanList.the-variants.{Grants, Caps, Headroom, Held}
 use Rattle.deals.specs.declared.PlanRefusal.the-variants.{DemandCount, DemandTooLarge, ListTooShort}
 
--- Lists of so many grants, caps and words of headroom.
-abbrev lengths : ℕ → ℕ → ℕ → Lengths
-lengths grants caps headroom = record { grants = grants; caps = caps; headroom = headroom }
+-- Lists of so many grants, caps, words of headroom and nodes that hold cords.
+abbrev lengths : ℕ → ℕ → ℕ → ℕ → Lengths
+lengths grants caps headroom held = record { grants = grants; caps = caps; headroom = headroom; held = held }
 
--- A plan of these freed watts, grants, caps and headroom.
-abbrev planned : ℕ → List ℕ → List ℕ → List ℕ → Outcome
-planned freed grants caps headroom = accepted (record { freed = freed; grants = grants; caps = caps; headroom = headroom })
+-- A plan of these freed watts, grants, caps, headroom and nodes that hold cords.
+abbrev planned : ℕ → List ℕ → List ℕ → List ℕ → List ℕ → Outcome
+planned freed grants caps headroom held = accepted (record { freed = freed; grants = grants; caps = caps; headroom = headroom; held = held })
 
 -- Room H, by the rating of its second node.
 abbrev tableHWith : ℕ → List ℕ
@@ -28,17 +27,19 @@ tableHWith rating = 1 ∷ 2 ∷ 0 ∷ 150 ∷ 0 ∷ rating ∷ 2 ∷ 1 ∷ 100 �
 abbrev tableH : List ℕ
 tableH = tableHWith 500
 
--- Its plan whole, and room H turned back by 10 to 14.
-room-h : (plan tableH (400 ∷ 400 ∷ []) (lengths 3 2 3) ≡ planned 13 (120 ∷ 120 ∷ 280 ∷ []) (240 ∷ 280 ∷ []) (0 ∷ 0 ∷ 0 ∷ []))
-    × (plan tableH (400 ∷ []) (lengths 0 0 0) ≡ refused (DemandCount 2))
-    × (plan tableH (400 ∷ 16777216 ∷ []) (lengths 0 0 0) ≡ refused (DemandTooLarge 1))
-    × (plan tableH (400 ∷ 400 ∷ []) (lengths 2 0 0) ≡ refused (ListTooShort Grants 3))
-    × (plan tableH (400 ∷ 400 ∷ []) (lengths 3 1 0) ≡ refused (ListTooShort Caps 2))
-    × (plan tableH (400 ∷ 400 ∷ []) (lengths 3 2 2) ≡ refused (ListTooShort Headroom 3))
+-- Its plan whole, in which each root holds a cord, and the cord that wants no more than it uses has its want; and room H turned back by
+-- 10 to 15.
+room-h : (plan tableH (400 ∷ 400 ∷ []) (lengths 3 2 3 3) ≡ planned 13 (120 ∷ 120 ∷ 280 ∷ []) (240 ∷ 280 ∷ []) (0 ∷ 0 ∷ 0 ∷ []) (1 ∷ 0 ∷ 2 ∷ []))
+    × (plan tableH (400 ∷ []) (lengths 0 0 0 0) ≡ refused (DemandCount 2))
+    × (plan tableH (400 ∷ 16777216 ∷ []) (lengths 0 0 0 0) ≡ refused (DemandTooLarge 1))
+    × (plan tableH (400 ∷ 400 ∷ []) (lengths 2 0 0 0) ≡ refused (ListTooShort Grants 3))
+    × (plan tableH (400 ∷ 400 ∷ []) (lengths 3 1 0 0) ≡ refused (ListTooShort Caps 2))
+    × (plan tableH (400 ∷ 400 ∷ []) (lengths 3 2 2 0) ≡ refused (ListTooShort Headroom 3))
+    × (plan tableH (400 ∷ 400 ∷ []) (lengths 3 2 3 2) ≡ refused (ListTooShort Held 3))
 unfolding plan
     follow word ensure end many total formOf percent node cord range load server table
     beneath serverLows lows firstNode overloaded
-room-h = (refl, refl, refl, refl, refl, refl)
+room-h = (refl, refl, refl, refl, refl, refl, refl)
 
 -- A root with 150 W over a node with 100 W and a cord. What hangs on the node wants 1,000 W, the cord wants 100; no cord has a low.
 abbrev tableN : List ℕ
@@ -65,7 +66,8 @@ tableP =
 
 -- The first grants are 20, 22, 46 and 52. The used watts, 2 W less, are passed on through the node before those 2 W are split.
 -- (No headroom: both roots ask for all of their limits.)
-through-nodes : plan tableP (100 ∷ 100 ∷ 60 ∷ []) (lengths 4 3 4) ≡ planned 2 (20 ∷ 20 ∷ 47 ∷ 53 ∷ []) (40 ∷ 47 ∷ 53 ∷ []) (0 ∷ 0 ∷ 0 ∷ 0 ∷ [])
+through-nodes : plan tableP (100 ∷ 100 ∷ 60 ∷ []) (lengths 4 3 4 4)
+    ≡ planned 2 (20 ∷ 20 ∷ 47 ∷ 53 ∷ []) (40 ∷ 47 ∷ 53 ∷ []) (0 ∷ 0 ∷ 0 ∷ 0 ∷ []) (3 ∷ 0 ∷ 1 ∷ 1 ∷ [])
 unfolding plan
     follow word ensure end many total formOf percent node cord range load server table
     beneath serverLows lows firstNode overloaded
@@ -73,10 +75,10 @@ through-nodes = refl
 
 -- What programs that nearly get there get wrong: weights that are excesses; child nodes before cords; and a rank that counts
 -- across breakers.
-near-misses : (plan tableN (1000 ∷ 100 ∷ []) (lengths 2 2 2) ≡ planned 0 (75 ∷ 75 ∷ []) (75 ∷ 75 ∷ []) (0 ∷ 0 ∷ []))
-    × (plan tableO (1 ∷ 1 ∷ []) (lengths 2 2 2) ≡ planned 0 (0 ∷ 1 ∷ []) (0 ∷ 1 ∷ []) (0 ∷ 0 ∷ []))
-    × (plan tableS (430 ∷ 430 ∷ 430 ∷ 430 ∷ []) (lengths 4 4 4)
-    ≡ planned 0 (430 ∷ 270 ∷ 270 ∷ 270 ∷ []) (430 ∷ 270 ∷ 270 ∷ 270 ∷ []) (0 ∷ 0 ∷ 0 ∷ 0 ∷ []))
+near-misses : (plan tableN (1000 ∷ 100 ∷ []) (lengths 2 2 2 2) ≡ planned 0 (75 ∷ 75 ∷ []) (75 ∷ 75 ∷ []) (0 ∷ 0 ∷ []) (1 ∷ 1 ∷ []))
+    × (plan tableO (1 ∷ 1 ∷ []) (lengths 2 2 2 2) ≡ planned 0 (0 ∷ 1 ∷ []) (0 ∷ 1 ∷ []) (0 ∷ 0 ∷ []) (1 ∷ 0 ∷ []))
+    × (plan tableS (430 ∷ 430 ∷ 430 ∷ 430 ∷ []) (lengths 4 4 4 4)
+    ≡ planned 0 (430 ∷ 270 ∷ 270 ∷ 270 ∷ []) (430 ∷ 270 ∷ 270 ∷ 270 ∷ []) (0 ∷ 0 ∷ 0 ∷ 0 ∷ []) (0 ∷ 1 ∷ 1 ∷ 1 ∷ []))
 unfolding plan
     follow word ensure end many total formOf percent node cord range load server table
     beneath serverLows lows firstNode overloaded
@@ -87,24 +89,19 @@ near-misses = (refl, refl, refl)
 -- (None in the rooms above, where each root asks for all of its limit.) What is left, split by ceilings less Requests; by the second
 -- wants, of which cord 2's is less; where the first deal's Requests would leave node 1 none; through the nodes of room S; and none to its
 -- first node where that is granted its whole limit.
-lends : (plan tableH (100 ∷ 100 ∷ []) (lengths 3 2 3) ≡ planned 0 (50 ∷ 50 ∷ 100 ∷ []) (100 ∷ 100 ∷ []) (70 ∷ 83 ∷ 167 ∷ []))
-    × (plan (tableHWith 1000) (400 ∷ 400 ∷ []) (lengths 3 2 3) ≡ planned 80 (120 ∷ 120 ∷ 400 ∷ []) (240 ∷ 400 ∷ []) (0 ∷ 80 ∷ 0 ∷ []))
-    × (plan (tableHWith 188) (400 ∷ 400 ∷ []) (lengths 3 2 3) ≡ planned 70 (50 ∷ 50 ∷ 100 ∷ []) (100 ∷ 100 ∷ []) (70 ∷ 0 ∷ 0 ∷ []))
-    × (plan (tableSWith 1750) (430 ∷ 270 ∷ 300 ∷ 330 ∷ []) (lengths 4 4 4)
-    ≡ planned 0 (430 ∷ 270 ∷ 300 ∷ 330 ∷ []) (430 ∷ 270 ∷ 300 ∷ 330 ∷ []) (4 ∷ 16 ∷ 27 ∷ 23 ∷ []))
-    × (plan (tableSWith 2000) (430 ∷ 430 ∷ 300 ∷ 330 ∷ []) (lengths 4 4 4)
-    ≡ planned 0 (430 ∷ 320 ∷ 300 ∷ 330 ∷ []) (430 ∷ 320 ∷ 300 ∷ 330 ∷ []) (0 ∷ 0 ∷ 64 ∷ 56 ∷ []))
+lends : (plan tableH (100 ∷ 100 ∷ []) (lengths 3 2 3 3) ≡ planned 0 (50 ∷ 50 ∷ 100 ∷ []) (100 ∷ 100 ∷ []) (70 ∷ 83 ∷ 167 ∷ []) (0 ∷ 0 ∷ 0 ∷ []))
+    × (plan (tableHWith 1000) (400 ∷ 400 ∷ []) (lengths 3 2 3 3) ≡ planned 80 (120 ∷ 120 ∷ 400 ∷ []) (240 ∷ 400 ∷ []) (0 ∷ 80 ∷ 0 ∷ []) (1 ∷ 0 ∷ 0 ∷ []))
+    × (plan (tableHWith 188) (400 ∷ 400 ∷ []) (lengths 3 2 3 3) ≡ planned 70 (50 ∷ 50 ∷ 100 ∷ []) (100 ∷ 100 ∷ []) (70 ∷ 0 ∷ 0 ∷ []) (0 ∷ 2 ∷ 2 ∷ []))
+    × (plan (tableSWith 1750) (430 ∷ 270 ∷ 300 ∷ 330 ∷ []) (lengths 4 4 4 4)
+    ≡ planned 0 (430 ∷ 270 ∷ 300 ∷ 330 ∷ []) (430 ∷ 270 ∷ 300 ∷ 330 ∷ []) (4 ∷ 16 ∷ 27 ∷ 23 ∷ []) (0 ∷ 0 ∷ 0 ∷ 0 ∷ []))
+    × (plan (tableSWith 2000) (430 ∷ 430 ∷ 300 ∷ 330 ∷ []) (lengths 4 4 4 4)
+    ≡ planned 0 (430 ∷ 320 ∷ 300 ∷ 330 ∷ []) (430 ∷ 320 ∷ 300 ∷ 330 ∷ []) (0 ∷ 0 ∷ 64 ∷ 56 ∷ []) (0 ∷ 2 ∷ 0 ∷ 0 ∷ []))
 unfolding plan
     follow word ensure end many total formOf percent node cord range load server table
     beneath serverLows lows firstNode overloaded
 lends = (refl, refl, refl, refl, refl)
 
 -- ---- Held cords
-
--- The nodes that hold the cords of a table's room down.
-abbrev heldBy : Step Room → List ℕ → List ℕ
-heldBy (good r end) demands = held r demands
-heldBy (bad refusal) demands = []
 
 -- A root with 100 W over a node with 50 W. On the node hang a cord of rank 3, which wants 60 W, and one of rank 1, which wants 10 and has
 -- the low 5; on the root one of rank 2, which wants 80, and one of rank 3, which wants 5.
@@ -113,17 +110,27 @@ tableB =
     1 ∷ 2 ∷ 0 ∷ 125 ∷ 1 ∷ 63 ∷ 4 ∷ 3 ∷ 0 ∷ 60 ∷ 1 ∷ 2 ∷ 1000 ∷ 1 ∷ 5 ∷ 10 ∷ 1 ∷ 2 ∷ 1000
     ∷ 2 ∷ 0 ∷ 80 ∷ 1 ∷ 1 ∷ 1000 ∷ 3 ∷ 0 ∷ 5 ∷ 1 ∷ 1 ∷ 1000 ∷ []
 
--- Room H, where each root holds a cord, and the cord that wants no more than it uses has its want; room S, where the root comes before
--- the nodes that are cut too, unless it is not cut itself. In the last room the node is cut at rank 3, where the root is not, and at
--- rank 1; the root at rank 2 alone. So the cord of rank 3 is held by the node, which the root's cut at a lower rank does not
--- change, and that of rank 1 by the root, though its own rank is cut at the node alone.
-holds : (heldBy (checked tableH 0) (400 ∷ 400 ∷ []) ≡ 1 ∷ 0 ∷ 2 ∷ [])
-    × (heldBy (checked tableS 0) (430 ∷ 430 ∷ 430 ∷ 430 ∷ []) ≡ 0 ∷ 1 ∷ 1 ∷ 1 ∷ [])
-    × (heldBy (checked (tableSWith 1625) 0) (430 ∷ 430 ∷ 430 ∷ 430 ∷ []) ≡ 0 ∷ 1 ∷ 1 ∷ 1 ∷ [])
-    × (heldBy (checked (tableSWith 2000) 0) (430 ∷ 430 ∷ 430 ∷ 430 ∷ []) ≡ 0 ∷ 2 ∷ 3 ∷ 3 ∷ [])
-    × (plan tableB (60 ∷ 10 ∷ 80 ∷ 5 ∷ []) (lengths 4 4 4) ≡ planned 0 (45 ∷ 5 ∷ 45 ∷ 5 ∷ []) (45 ∷ 5 ∷ 45 ∷ 5 ∷ []) (0 ∷ 0 ∷ 0 ∷ 0 ∷ []))
-    × (heldBy (checked tableB 0) (60 ∷ 10 ∷ 80 ∷ 5 ∷ []) ≡ 2 ∷ 1 ∷ 1 ∷ 0 ∷ [])
-unfolding checked held plan
+-- A root with 80 W over a node with 60 W over a node with 12 W. On the lowest node hang a cord of rank 2, which wants 40 W and has the low
+-- 10, and one of rank 1, which wants 9 and has the low 2 (the table's last); on the node above it one of rank 3, which wants 100; on the
+-- root one of rank 1, which wants 50 and has the low 5.
+abbrev tableT : List ℕ
+tableT =
+    1 ∷ 3 ∷ 0 ∷ 100 ∷ 1 ∷ 75 ∷ 2 ∷ 15 ∷ 4 ∷ 2 ∷ 10 ∷ 40 ∷ 1 ∷ 3 ∷ 1000 ∷ 3 ∷ 0 ∷ 100 ∷ 1 ∷ 2 ∷ 1000
+    ∷ 1 ∷ 5 ∷ 50 ∷ 1 ∷ 1 ∷ 1000 ∷ 1 ∷ 2 ∷ 9 ∷ 1 ∷ 3 ∷ 1000 ∷ []
+
+-- In room S the root comes before the nodes that are cut too, unless it is not cut itself. In the third room the node is cut at rank 3,
+-- where the root is not, and at rank 1; the root at rank 2 alone. So the cord of rank 3 is held by the node, which the root's cut at a
+-- lower rank does not change, and that of rank 1 by the root, though its own rank is cut at the node alone. In the last the lowest node
+-- is cut at ranks 2 and 1, the node above it at rank 3 alone, and the root at rank 1 alone: the cord of rank 2 is held by the middle one.
+holds : (plan (tableSWith 1625) (430 ∷ 430 ∷ 430 ∷ 430 ∷ []) (lengths 4 4 4 4)
+    ≡ planned 0 (430 ∷ 281 ∷ 294 ∷ 295 ∷ []) (430 ∷ 281 ∷ 294 ∷ 295 ∷ []) (0 ∷ 0 ∷ 0 ∷ 0 ∷ []) (0 ∷ 1 ∷ 1 ∷ 1 ∷ []))
+    × (plan (tableSWith 2000) (430 ∷ 430 ∷ 430 ∷ 430 ∷ []) (lengths 4 4 4 4)
+    ≡ planned 0 (430 ∷ 320 ∷ 375 ∷ 375 ∷ []) (430 ∷ 320 ∷ 375 ∷ 375 ∷ []) (0 ∷ 0 ∷ 0 ∷ 0 ∷ []) (0 ∷ 2 ∷ 3 ∷ 3 ∷ []))
+    × (plan tableB (60 ∷ 10 ∷ 80 ∷ 5 ∷ []) (lengths 4 4 4 4)
+    ≡ planned 0 (45 ∷ 5 ∷ 45 ∷ 5 ∷ []) (45 ∷ 5 ∷ 45 ∷ 5 ∷ []) (0 ∷ 0 ∷ 0 ∷ 0 ∷ []) (2 ∷ 1 ∷ 1 ∷ 0 ∷ []))
+    × (plan tableT (40 ∷ 100 ∷ 50 ∷ 9 ∷ []) (lengths 4 4 4 4)
+    ≡ planned 0 (10 ∷ 48 ∷ 20 ∷ 2 ∷ []) (10 ∷ 48 ∷ 20 ∷ 2 ∷ []) (0 ∷ 0 ∷ 0 ∷ 0 ∷ []) (2 ∷ 2 ∷ 1 ∷ 1 ∷ []))
+unfolding plan
     follow word ensure end many total formOf percent node cord range load server table
     beneath serverLows lows firstNode overloaded
-holds = (refl, refl, refl, refl, refl, refl)
+holds = (refl, refl, refl, refl)

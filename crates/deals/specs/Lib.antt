@@ -5,12 +5,12 @@ pub mod Wants
 -- One deal: metrics and dealing.
 pub mod Metrics
 pub mod Dealing
--- Both deals, the headroom over the second (request A.1), and the whole plan with its refusals.
+-- Both deals, the headroom over the second (request A.1), the nodes that hold cords down in it (request A.5), and the whole plan with its
+-- refusals.
 pub mod SecondDeal
 pub mod Headroom
-pub mod Plan
--- The nodes that hold cords down (request A.5). No operation gives them yet.
 pub mod Held
+pub mod Plan
 -- What is promised (demand 3): trees and other ways of dealing them, and the statements.
 pub mod Ways
 pub mod Promises

@@ -12,8 +12,9 @@ use Rattle.rooms.specs.Limits.{checked}
 use Rattle.rooms.specs.Outcome.{refusalNumber, refusalPlace}
 use Rattle.deals.specs.SecondDeal.{freed, secondGrants, caps}
 use Rattle.deals.specs.Headroom.{headroom}
+use Rattle.deals.specs.Held.{held}
 use Rattle.deals.specs.declared.PlanList.{PlanList}
-use Rattle.deals.specs.declared.PlanList.the-variants.{Grants, Caps, Headroom}
+use Rattle.deals.specs.declared.PlanList.the-variants.{Grants, Caps, Headroom, Held}
 use Rattle.deals.specs.declared.Lengths.{Lengths}
 use Rattle.deals.specs.declared.PlanRefusal.{PlanRefusal}
 use Rattle.deals.specs.declared.PlanRefusal.the-variants.{Table, DemandCount, DemandTooLarge, ListTooShort}
@@ -22,16 +23,24 @@ use Rattle.deals.specs.declared.Planned.the-variants.{Accepted, Refused}
 
 -- ---- Plans
 
--- A plan: the freed watts, a grant for each cord, a cap for each server, and the headroom of each cord.
+-- A plan: the freed watts, a grant for each cord, a cap for each server, and for each cord its headroom and the node that holds it down
+-- (0 for none).
 pub record Plan : Type 0 where
   pub freed : ℕ
   pub grants : List ℕ
   pub caps : List ℕ
   pub headroom : List ℕ
+  pub held : List ℕ
 
 -- The plan of a room with its servers' demands.
 abbrev pub planOf : Room → List ℕ → Plan
-planOf r demands = record { freed = freed r demands; grants = secondGrants r demands; caps = caps r demands; headroom = headroom r demands }
+planOf r demands = record {
+  freed = freed r demands;
+  grants = secondGrants r demands;
+  caps = caps r demands;
+  headroom = headroom r demands;
+  held = held r demands;
+}
 
 -- What Plan comes to: a plan, or a refusal.
 pub data Outcome : Type 0 where
@@ -61,7 +70,7 @@ demandTooLarge demands = record { holds = ltb (firstTooLarge demands) (length de
 abbrev pub tooShort : PlanList → ℕ → ℕ → Reason
 tooShort list entries needed = record { holds = ltb entries needed; refusal = ListTooShort list needed }
 
--- The reasons to refuse the plan of a good room, in their order (10 to 14).
+-- The reasons to refuse the plan of a good room, in their order (10 to 15).
 abbrev pub reasons : Room → List ℕ → Lengths → List Reason
 reasons r demands lengths =
     countDiffers r demands
@@ -69,6 +78,7 @@ reasons r demands lengths =
     ∷ tooShort Grants (lengths .grants) (roomCords r)
     ∷ tooShort Caps (lengths .caps) (length (r .servers))
     ∷ tooShort Headroom (lengths .headroom) (roomCords r)
+    ∷ tooShort Held (lengths .held) (roomCords r)
     ∷ []
 
 -- The first reason that holds refuses; where none does, the plan is accepted.
@@ -80,7 +90,7 @@ unless (reason ∷ rest) plan = cond (reason .holds) (refused (reason .refusal))
 
 -- The plan of a good room, in lists of given lengths.
 unfoldable pub planRoom : Room → List ℕ → Lengths → Outcome
-unfolding unless firstNotBelow freed secondGrants caps headroom
+unfolding unless firstNotBelow freed secondGrants caps headroom held
 planRoom r demands lengths = unless (reasons r demands lengths) (planOf r demands)
 
 -- The plan of what the table's check gives: its refusals (4 to 9) stand.
@@ -95,12 +105,12 @@ unfolding planStep checked
 plan table demands lengths = planStep (checked table 0) demands lengths
 
 -- The lengths of the lists that are lent.
-abbrev pub lent : (grants caps headroom : List ℕ) → Lengths
-lent grants caps headroom = record { grants = length grants; caps = length caps; headroom = length headroom }
+abbrev pub lent : (grants caps headroom held : List ℕ) → Lengths
+lent grants caps headroom held = record { grants = length grants; caps = length caps; headroom = length headroom; held = length held }
 
 -- The lengths of lists that take the plan of every room.
 abbrev pub mostLent : Lengths
-mostLent = record { grants = mostCords; caps = mostServers; headroom = mostCords }
+mostLent = record { grants = mostCords; caps = mostServers; headroom = mostCords; held = mostCords }
 
 -- ---- What the caller sees
 
@@ -121,6 +131,7 @@ abbrev pub planListNumber : PlanList → ℕ
 planListNumber Grants = 12
 planListNumber Caps = 13
 planListNumber Headroom = 14
+planListNumber Held = 15
 
 -- A refusal's number.
 abbrev pub planRefusalNumber : PlanRefusal → ℕ

@@ -39,15 +39,18 @@ AcceptedHasRoom =
     (table demands : List ℕ) (lengths : Lengths) (answer : Plan)
     → plan table demands lengths ≡ accepted answer → Good (checked table 0)
 
--- The answer is that of the two deals: a grant for each cord, a cap for each server, and headroom for each cord.
+-- The answer is that of the two deals: a grant for each cord, a cap for each server, and for each cord its headroom and the node that
+-- holds it down.
 pub record Answered (p : AcceptedPlan) : Type 0 where
   pub freed : p .answer .freed ≡ freed (p .room) (p .demands)
   pub grants : p .answer .grants ≡ secondGrants (p .room) (p .demands)
   pub caps : p .answer .caps ≡ caps (p .room) (p .demands)
   pub headroom : p .answer .headroom ≡ headroom (p .room) (p .demands)
+  pub held : p .answer .held ≡ held (p .room) (p .demands)
   pub eachCord : length (p .answer .grants) ≡ roomCords (p .room)
   pub eachServer : length (p .answer .caps) ≡ length (p .room .servers)
   pub eachHeadroom : length (p .answer .headroom) ≡ roomCords (p .room)
+  pub eachHeld : length (p .answer .held) ≡ roomCords (p .room)
 
 abbrev pub AnswerOfBothDeals : Type 0
 AnswerOfBothDeals = (p : AcceptedPlan) → Answered p
@@ -168,10 +171,10 @@ pub record HoldsDown (r : Room) (grants : List ℕ) (c n : ℕ) : Type 0 where
 abbrev pub HeldNamed : Type 0
 HeldNamed =
     (p : AcceptedPlan) (c : ℕ) → c < roomCords (p .room) → at (p .answer .grants) c < at (secondWants (p .room) (p .demands)) c
-    → HoldsDown (p .room) (p .answer .grants) c (at (held (p .room) (p .demands)) c)
+    → HoldsDown (p .room) (p .answer .grants) c (at (p .answer .held) c)
 
 -- A cord with its second want has none: 0 stands for it. (No cord has more than its want: `SecondKept`.)
 abbrev pub HeldNone : Type 0
 HeldNone =
     (p : AcceptedPlan) (c : ℕ) → c < roomCords (p .room) → at (p .answer .grants) c ≡ at (secondWants (p .room) (p .demands)) c
-    → at (held (p .room) (p .demands)) c ≡ 0
+    → at (p .answer .held) c ≡ 0

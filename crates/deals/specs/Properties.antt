@@ -1,6 +1,7 @@
--- What else is proved of every plan: that caps, wants and amounts lie in their ranges, that the second deal is the one that
--- request A.2 tells of, that of the cut nodes above a cord the nearest to the root is named (request A.5), what a node's Requests of a rank and above sum to, and that the figures fit their words. Demand 3 does not
--- ask for these. Statements only; proofs/Promises.antt proves each: `CapsInRange` as `caps-in-range`, and so on.
+-- What else is proved of every plan: that caps, wants and amounts lie in their ranges, that the second deal is the one that request A.2
+-- tells of, that of the cut nodes above a cord the nearest to the root is named (request A.5), what a node's Requests of a rank and above
+-- sum to, that they leave the lower ranks their starts, and that the figures fit their words. Demand 3 does not ask for these. Statements
+-- only; proofs/Promises.antt proves each: `CapsInRange` as `caps-in-range`, and so on.
 use mathlib.Core.Path.{_≡_}
 use mathlib.Core.Bool.{true, false}
 use mathlib.Core.List.{List, [], map}
@@ -18,7 +19,7 @@ use Rattle.rooms.specs.Lists.{carriedBy, lowsOf}
 use Rattle.deals.specs.Metrics.{Deal, atLevel, metrics, excess, cordExcess, overNodes, overCords, childSums}
 use Rattle.deals.specs.Dealing.{Child, node, cord, children, nodeOver, cordOver, weightSum, partOf, nodeAmount, amount, reached, granted}
 use Rattle.deals.specs.SecondDeal.{firstDeal, firstGrants, firstUsable, firstUsed, freed, secondDeal, secondWants}
-use Rattle.deals.specs.Held.{cutFrom, held}
+use Rattle.deals.specs.Held.{cutFrom}
 use Rattle.deals.specs.Headroom.{ceilingsOf, nodeCeiling, requestsAt, headroomWeight}
 use Rattle.deals.specs.Promises.{AcceptedPlan}
 
@@ -112,7 +113,7 @@ pub record NearestCut (d : Deal) (c n : ℕ) : Type 0 where
 abbrev pub HeldNearest : Type 0
 HeldNearest =
     (p : AcceptedPlan) (c : ℕ) → c < roomCords (p .room) → at (p .answer .grants) c < at (secondWants (p .room) (p .demands)) c
-    → NearestCut (secondDeal (p .room) (p .demands)) c (at (held (p .room) (p .demands)) c - 1)
+    → NearestCut (secondDeal (p .room) (p .demands)) c (at (p .answer .held) c - 1)
 
 -- ---- The law of totals
 

@@ -8,6 +8,7 @@ pub enum PlanList {
     Grants,
     Caps,
     Headroom,
+    Held,
 }
 
 // How many entries each of the lists has that are lent to Plan.
@@ -15,6 +16,7 @@ pub struct Lengths {
     pub grants: usize,
     pub caps: usize,
     pub headroom: usize,
+    pub held: usize,
 }
 
 // Why a plan is turned back, and where: the table's refusal, the count of servers, a demand's index, or a list and the length that it
@@ -41,6 +43,7 @@ impl PlanList {
             PlanList::Grants => 12,
             PlanList::Caps => 13,
             PlanList::Headroom => 14,
+            PlanList::Held => 15,
         }
     }
 }

@@ -8,25 +8,26 @@ use borrow.Author.Tests.{ltb-true, ltb-false}
 use lib.Dec.{ltb}
 use lib.ListN.{length, take, getD, List·getD-eq-default}
 use Rattle.words.specs.Lists.{AllBelow}
+use Rattle.figures.specs.Figures.{at}
 use Rattle.rooms.specs.Part.{Step, good, bad}
 use Rattle.rooms.specs.Table.{Room, mostWatts, roomCords}
 use Rattle.rooms.specs.Limits.{checked}
 use Rattle.rooms.specs.Outcome.{reading}
 use Rattle.rooms.specs.Outcome as read
 use Rattle.rooms.proofs.Accepted.{accepted}
-use Rattle.deals.specs.SecondDeal.{secondDeal}
+use Rattle.deals.specs.SecondDeal.{secondDeal, secondWants}
 use Rattle.deals.specs.Plan.{plan, planRoom, mostLent, Outcome}
 use Rattle.deals.specs.Plan as plan
 use Rattle.deals.specs.Promises.{AcceptedPlan}
 use Rattle.figures.proofs.Lists.{figures-length}
 use Rattle.deals.proofs.Plans.{plan-good-table}
-use Rattle.deals.proofs.Promises.{answer-of-both-deals, second-kept, caps-in-range, headroom-within-ceilings, figures-fit, headroom-fits}
+use Rattle.deals.proofs.Promises.{answer-of-both-deals, second-kept, caps-in-range, headroom-within-ceilings, held-named, held-none, figures-fit, headroom-fits}
 use Rattle.print.specs.Line.{Put}
 use Rattle.print.proofs.Putting.{put-whole}
 use Rattle.print.proofs.Size.{length-refusedLine, length-printOf}
 use Rattle.hutplan.specs.Printed.{mostText, mostWords, tableText, roomText, stepText, sheetText, readText}
 
--- A list whose entries are watts of 24 bits has words for entries.
+-- A list whose entries are numbers of 24 bits has words for entries.
 words-below : (l : List ℕ) → ((i : ℕ) → i < length l → getD l i 0 ≤ mostWatts) → AllBelow (2 ^ 32) l
 words-below l h i = go (ltb i (length l)) refl
   where
@@ -34,32 +35,55 @@ words-below l h i = go (ltb i (length l)) refl
     go true e = omega (arith, h i (ltb-true _ _ e))
     go false e = rw (List·getD-eq-default l 0 (ltb-false i (length l) e)) (omega arith)
 
--- An accepted plan.
-plan-fits : (p : AcceptedPlan) → length (roomText (p .room) (plan.accepted (p .answer))) ≤ mostText
-unfolding secondDeal
-plan-fits p =
-    let whole = answer-of-both-deals p in
-    let bounded = figures-fit (p .table) (p .room) (p .end) (p .isRoom) (p .demands) in
-    let ceilings = headroom-fits (p .table) (p .room) (p .end) (p .isRoom) (p .demands) .ceilings in
-    let print =
-    length-printOf (p .room) (p .answer .freed) (p .answer .caps) (p .answer .grants) (p .answer .headroom)
-    (accepted (p .table) (p .room) (p .end) (p .isRoom))
-    (omega (arith, whole .freed, bounded .freed))
-    (words-below (p .answer .caps)
-    (λ v h.
-    let there : v < length (p .room .servers) = omega (arith, whole .eachServer) in
-    omega (arith, caps-in-range p v there .1, bounded .needs v there)))
-    (words-below (p .answer .grants)
-    (λ c h.
-    let there : c < roomCords (p .room) = omega (arith, whole .eachCord) in
-    let most = bounded .second .wants c (rw (figures-length (roomCords (p .room)) _) there) in
-    omega (arith, second-kept p .most c there, most)))
-    (words-below (p .answer .headroom)
-    (λ c h.
-    let there : c < roomCords (p .room) = omega (arith, whole .eachHeadroom) in
-    let most = ceilings c (rw (figures-length (roomCords (p .room)) _) there) in
-    omega (arith, headroom-within-ceilings p c there, most))) in
-    omega (arith, print)
+-- An accepted plan: all of its figures are such.
+module _ (p : AcceptedPlan) where
+  cap-words : AllBelow (2 ^ 32) (p .answer .caps)
+  cap-words =
+      let bounded = figures-fit (p .table) (p .room) (p .end) (p .isRoom) (p .demands) in
+      words-below (p .answer .caps) (λ v h.
+      let there : v < length (p .room .servers) = omega (arith, answer-of-both-deals p .eachServer) in
+      omega (arith, caps-in-range p v there .1, bounded .needs v there))
+
+  grant-words : AllBelow (2 ^ 32) (p .answer .grants)
+  unfolding secondDeal
+  grant-words =
+      let bounded = figures-fit (p .table) (p .room) (p .end) (p .isRoom) (p .demands) in
+      words-below (p .answer .grants) (λ c h.
+      let there : c < roomCords (p .room) = omega (arith, answer-of-both-deals p .eachCord) in
+      let most = bounded .second .wants c (rw (figures-length (roomCords (p .room)) _) there) in
+      omega (arith, second-kept p .most c there, most))
+
+  headroom-words : AllBelow (2 ^ 32) (p .answer .headroom)
+  unfolding secondDeal
+  headroom-words =
+      let bounded = headroom-fits (p .table) (p .room) (p .end) (p .isRoom) (p .demands) in
+      words-below (p .answer .headroom) (λ c h.
+      let there : c < roomCords (p .room) = omega (arith, answer-of-both-deals p .eachHeadroom) in
+      let most = bounded .ceilings c (rw (figures-length (roomCords (p .room)) _) there) in
+      omega (arith, headroom-within-ceilings p c there, most))
+
+  -- (A node's number, or 0.)
+  held-words : AllBelow (2 ^ 32) (p .answer .held)
+  held-words =
+      words-below (p .answer .held) (λ c h.
+      let there : c < roomCords (p .room) = omega (arith, answer-of-both-deals p .eachHeld) in
+      go c there (ltb (at (p .answer .grants) c) (at (secondWants (p .room) (p .demands)) c)) refl)
+    where
+      go : (c : ℕ) → c < roomCords (p .room) → (short : Bool) → ltb (at (p .answer .grants) c) (at (secondWants (p .room) (p .demands)) c) ≡ short
+          → at (p .answer .held) c ≤ mostWatts
+      go c there true e =
+          omega (arith, held-named p c there (ltb-true _ _ e) .node .1, accepted (p .table) (p .room) (p .end) (p .isRoom) .fewNodes)
+      go c there false e =
+          let full : at (p .answer .grants) c ≡ at (secondWants (p .room) (p .demands)) c
+          = omega (arith, second-kept p .most c there, ltb-false (at (p .answer .grants) c) (at (secondWants (p .room) (p .demands)) c) e) in
+          omega (arith, held-none p c there full)
+
+  plan-fits : length (roomText (p .room) (plan.accepted (p .answer))) ≤ mostText
+  plan-fits =
+      let freed = figures-fit (p .table) (p .room) (p .end) (p .isRoom) (p .demands) .freed in
+      length-printOf (p .room) (p .answer .freed) (p .answer .caps) (p .answer .grants) (p .answer .headroom) (p .answer .held)
+      (accepted (p .table) (p .room) (p .end) (p .isRoom)) (omega (arith, answer-of-both-deals p .freed, freed))
+      cap-words grant-words headroom-words held-words
 
 pub tableText-fits : (table demands : List ℕ) → length (tableText table demands) ≤ mostText
 unfolding tableText

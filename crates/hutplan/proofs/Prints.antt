@@ -12,7 +12,7 @@ use Rattle.numbers.specs.Sheet.{Ending, whole, sheetOf}
 use Rattle.numbers.specs.Sheet as numbers
 use Rattle.words.proofs.Lists.{take-sets}
 use Rattle.rooms.specs.Part.{Step, good, bad, Good}
-use Rattle.rooms.specs.Table.{Room, mostServers, mostCords}
+use Rattle.rooms.specs.Table.{Room}
 use Rattle.rooms.specs.Limits.{checked}
 use Rattle.rooms.specs.Outcome.{reading, readWords, unlessRefused, refusalNumber, refusalPlace}
 use Rattle.rooms.specs.Outcome as read
@@ -34,14 +34,18 @@ use Rattle.print.specs.Print.{printOf}
 use Rattle.print.proofs.Room.{printOf-front}
 use Rattle.hutplan.specs.Printed.{mostWords, tableText, roomText, stepText, sheetText, readText}
 
--- Lists as long as any room's plan.
-pub most-lent : (grants caps headroom : List ℕ) → length grants ≡ mostCords → length caps ≡ mostServers → length headroom ≡ mostCords
-    → lent grants caps headroom ≡ mostLent
-most-lent grants caps headroom hg hc hh = rw (hg, hc, hh) refl
+-- A good table, and the print of its room, which is the table's text.
+pub record RoomText (table demands : List ℕ) (f : ℕ) (caps grants headroom held : List ℕ) : Type 0 where
+  pub good-table : Good (checked table 0)
+  pub text : printOf f (good-table .value .servers) caps grants headroom held ≡ tableText table demands
 
-module _ (table demands : List ℕ) (lengths : Lengths) (most : lengths ≡ mostLent) where
+-- Lists that take the plan of every room, and what Plan comes to with them.
+module _ (table demands grants caps headroom held : List ℕ) (most : lent grants caps headroom held ≡ mostLent) where
+  abbrev outcome : Outcome
+  outcome = plan table demands (lent grants caps headroom held)
+
   -- A refused plan.
-  pub table-refused : {a : Planned} {q : PlanRefusal} → a ≡ Refused q → a ≡ answerOf (plan table demands lengths)
+  pub table-refused : {a : Planned} {q : PlanRefusal} → a ≡ Refused q → a ≡ answerOf outcome
       → tableText table demands ≡ refusedLine (planRefusalNumber q) (planRefusalPlace q)
   unfolding tableText plan planStep
   table-refused {q = q} told e = go (checked table 0) (rw most at (sym told ∙ e))
@@ -56,33 +60,26 @@ module _ (table demands : List ℕ) (lengths : Lengths) (most : lengths ≡ most
       go (good r end) e = room r (planRoom r demands mostLent) e
       go (bad refusal) e = let same : q ≡ Table refusal = cc in rw same
 
-  -- A good table, and the print of its room, which is the table's text.
-  pub record RoomText (f : ℕ) (caps grants headroom : List ℕ) : Type 0 where
-    pub good-table : Good (checked table 0)
-    pub text : printOf f (good-table .value .servers) caps grants headroom ≡ tableText table demands
-
   -- An accepted plan, whose figures stand at the front of the lists.
-  pub table-accepted : (grants caps headroom grants' caps' headroom' : List ℕ) {a : Planned} {f : ℕ}
-      → length grants ≡ mostCords → length caps ≡ mostServers → length headroom ≡ mostCords
-      → a ≡ Accepted f → a ≡ answerOf (plan table demands lengths)
-      → grants' ≡ after (λ p. p .grants) (plan table demands lengths) grants
-      → caps' ≡ after (λ p. p .caps) (plan table demands lengths) caps
-      → headroom' ≡ after (λ p. p .headroom) (plan table demands lengths) headroom
-      → RoomText f caps' grants' headroom'
+  pub table-accepted : (grants' caps' headroom' held' : List ℕ) {a : Planned} {f : ℕ} → a ≡ Accepted f → a ≡ answerOf outcome
+      → grants' ≡ after (λ p. p .grants) outcome grants → caps' ≡ after (λ p. p .caps) outcome caps
+      → headroom' ≡ after (λ p. p .headroom) outcome headroom → held' ≡ after (λ p. p .held) outcome held
+      → RoomText table demands f caps' grants' headroom' held'
   unfolding tableText
-  table-accepted grants caps headroom grants' caps' headroom' {f = f} hg hc hh told e eg ec eh = go (plan table demands lengths) refl (sym told ∙ e) eg ec eh
+  table-accepted grants' caps' headroom' held' {f = f} told e eg ec eh ed = go outcome refl (sym told ∙ e) eg ec eh ed
     where
-      in-room : (answer : Plan) → plan table demands lengths ≡ plan.accepted answer
-          → RoomText (answer .freed) (sets caps 0 (answer .caps)) (sets grants 0 (answer .grants)) (sets headroom 0 (answer .headroom))
+      in-room : (answer : Plan) → outcome ≡ plan.accepted answer
+          → RoomText table demands (answer .freed) (sets caps 0 (answer .caps)) (sets grants 0 (answer .grants)) (sets headroom 0 (answer .headroom))
+          (sets held 0 (answer .held))
       in-room answer is =
-          let g = plan-good table demands lengths answer is in
+          let g = plan-good table demands (lent grants caps headroom held) answer is in
           let few = accepted table (g .value) (g .next) (g .is) in
           let whole =
           answer-of-both-deals
           (record {
             table = table;
             demands = demands;
-            lengths = lengths;
+            lengths = lent grants caps headroom held;
             room = g .value;
             end = g .next;
             answer = answer;
@@ -90,24 +87,26 @@ module _ (table demands : List ℕ) (lengths : Lengths) (most : lengths ≡ most
             isAnswer = is;
           }) in
           let room : planRoom (g .value) demands mostLent ≡ plan.accepted answer =
-          rw (← most) (sym (plan-good-table table demands lengths (g .value) (g .next) (g .is)) ∙ is) in
+          rw (← most) (sym (plan-good-table table demands (lent grants caps headroom held) (g .value) (g .next) (g .is)) ∙ is) in
           record {
             good-table = g;
             text =
-                printOf-front (g .value) (answer .freed) (answer .caps) (answer .grants) (answer .headroom) caps grants headroom
-                (whole .eachServer) (whole .eachCord) (whole .eachHeadroom)
-                (omega (arith, few .fewServers, whole .eachServer)) (omega (arith, few .fewCords, whole .eachCord))
-                (omega (arith, few .fewCords, whole .eachHeadroom))
+                printOf-front (g .value) (answer .freed) (answer .caps) (answer .grants) (answer .headroom) (answer .held) caps grants headroom held
+                (whole .eachServer) (whole .eachCord) (whole .eachHeadroom) (whole .eachHeld)
+                (omega (arith, few .fewServers, whole .eachServer, ap (λ (l : Lengths). l .caps) most))
+                (omega (arith, few .fewCords, whole .eachCord, ap (λ (l : Lengths). l .grants) most))
+                (omega (arith, few .fewCords, whole .eachHeadroom, ap (λ (l : Lengths). l .headroom) most))
+                (omega (arith, few .fewCords, whole .eachHeld, ap (λ (l : Lengths). l .held) most))
                 ∙ sym (ap (λ (s : Step Room). stepText s demands) (g .is) ∙ ap (roomText (g .value)) room);
           }
 
-      go : (o : Outcome) → plan table demands lengths ≡ o → Accepted f ≡ answerOf o → grants' ≡ after (λ p. p .grants) o grants
-          → caps' ≡ after (λ p. p .caps) o caps → headroom' ≡ after (λ p. p .headroom) o headroom
-          → RoomText f caps' grants' headroom'
-      go (plan.refused q) is e eg ec eh = let z : _≡_ {A = ℕ} 0 1 = cc in absurd (omega arith)
-      go (plan.accepted answer) is e eg ec eh =
+      go : (o : Outcome) → outcome ≡ o → Accepted f ≡ answerOf o → grants' ≡ after (λ p. p .grants) o grants
+          → caps' ≡ after (λ p. p .caps) o caps → headroom' ≡ after (λ p. p .headroom) o headroom → held' ≡ after (λ p. p .held) o held
+          → RoomText table demands f caps' grants' headroom' held'
+      go (plan.refused q) is e eg ec eh ed = let z : _≡_ {A = ℕ} 0 1 = cc in absurd (omega arith)
+      go (plan.accepted answer) is e eg ec eh ed =
           let same : f ≡ answer .freed = cc in
-          rw (same, eg, ec, eh) (in-room answer is)
+          rw (same, eg, ec, eh, ed) (in-room answer is)
 
 -- ---- Read
 

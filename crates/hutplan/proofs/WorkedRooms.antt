@@ -39,39 +39,47 @@ twice400 = 52 ∷ 48 ∷ 48 ∷ 10 ∷ 52 ∷ 48 ∷ 48 ∷ 10 ∷ []
 abbrev twice100 : List ℕ
 twice100 = 49 ∷ 48 ∷ 48 ∷ 10 ∷ 49 ∷ 48 ∷ 48 ∷ 10 ∷ []
 
--- What `hutplan` prints of the first, each line as its bytes: `freed 13`, `server 1 cap 240`, `cord 1 node 1 grant 120 headroom 0`,
--- `cord 2 node 2 grant 120 headroom 0`, `server 2 cap 280`, `cord 1 node 2 grant 280 headroom 0`.
+-- What `hutplan` prints of the first, each line as its bytes: `freed 13`, `server 1 cap 240`,
+-- `cord 1 node 1 grant 120 headroom 0 held 1`, `cord 2 node 2 grant 120 headroom 0 held 0`, `server 2 cap 280`,
+-- `cord 1 node 2 grant 280 headroom 0 held 2`. (The last two figures are by hand, by requests A.1 and A.5: node 1 asks for 120 W of 200,
+-- node 2 for 400 of 120 + 400, and both so for all of their limits; cord 2 has the 120 W that it wants.)
 abbrev print400 : List ℕ
 print400 =
     (102 ∷ 114 ∷ 101 ∷ 101 ∷ 100 ∷ 32 ∷ 49 ∷ 51 ∷ 10 ∷ [])
     ++ (115 ∷ 101 ∷ 114 ∷ 118 ∷ 101 ∷ 114 ∷ 32 ∷ 49 ∷ 32 ∷ 99 ∷ 97 ∷ 112 ∷ 32 ∷ 50 ∷ 52 ∷ 48 ∷ 10 ∷ [])
     ++ (99 ∷ 111 ∷ 114 ∷ 100 ∷ 32 ∷ 49 ∷ 32 ∷ 110 ∷ 111 ∷ 100 ∷ 101 ∷ 32 ∷ 49 ∷ 32
     ∷ 103 ∷ 114 ∷ 97 ∷ 110 ∷ 116 ∷ 32 ∷ 49 ∷ 50 ∷ 48 ∷ 32
-    ∷ 104 ∷ 101 ∷ 97 ∷ 100 ∷ 114 ∷ 111 ∷ 111 ∷ 109 ∷ 32 ∷ 48 ∷ 10 ∷ [])
+    ∷ 104 ∷ 101 ∷ 97 ∷ 100 ∷ 114 ∷ 111 ∷ 111 ∷ 109 ∷ 32 ∷ 48 ∷ 32
+    ∷ 104 ∷ 101 ∷ 108 ∷ 100 ∷ 32 ∷ 49 ∷ 10 ∷ [])
     ++ (99 ∷ 111 ∷ 114 ∷ 100 ∷ 32 ∷ 50 ∷ 32 ∷ 110 ∷ 111 ∷ 100 ∷ 101 ∷ 32 ∷ 50 ∷ 32
     ∷ 103 ∷ 114 ∷ 97 ∷ 110 ∷ 116 ∷ 32 ∷ 49 ∷ 50 ∷ 48 ∷ 32
-    ∷ 104 ∷ 101 ∷ 97 ∷ 100 ∷ 114 ∷ 111 ∷ 111 ∷ 109 ∷ 32 ∷ 48 ∷ 10 ∷ [])
+    ∷ 104 ∷ 101 ∷ 97 ∷ 100 ∷ 114 ∷ 111 ∷ 111 ∷ 109 ∷ 32 ∷ 48 ∷ 32
+    ∷ 104 ∷ 101 ∷ 108 ∷ 100 ∷ 32 ∷ 48 ∷ 10 ∷ [])
     ++ (115 ∷ 101 ∷ 114 ∷ 118 ∷ 101 ∷ 114 ∷ 32 ∷ 50 ∷ 32 ∷ 99 ∷ 97 ∷ 112 ∷ 32 ∷ 50 ∷ 56 ∷ 48 ∷ 10 ∷ [])
     ++ (99 ∷ 111 ∷ 114 ∷ 100 ∷ 32 ∷ 49 ∷ 32 ∷ 110 ∷ 111 ∷ 100 ∷ 101 ∷ 32 ∷ 50 ∷ 32
     ∷ 103 ∷ 114 ∷ 97 ∷ 110 ∷ 116 ∷ 32 ∷ 50 ∷ 56 ∷ 48 ∷ 32
-    ∷ 104 ∷ 101 ∷ 97 ∷ 100 ∷ 114 ∷ 111 ∷ 111 ∷ 109 ∷ 32 ∷ 48 ∷ 10 ∷ [])
+    ∷ 104 ∷ 101 ∷ 97 ∷ 100 ∷ 114 ∷ 111 ∷ 111 ∷ 109 ∷ 32 ∷ 48 ∷ 32
+    ∷ 104 ∷ 101 ∷ 108 ∷ 100 ∷ 32 ∷ 50 ∷ 10 ∷ [])
 
--- And of the second: `freed 0`, `server 1 cap 100`, `cord 1 node 1 grant 50 headroom 70`, `cord 2 node 2 grant 50 headroom 83`,
--- `server 2 cap 100`, `cord 1 node 2 grant 100 headroom 167`.
+-- And of the second: `freed 0`, `server 1 cap 100`, `cord 1 node 1 grant 50 headroom 70 held 0`,
+-- `cord 2 node 2 grant 50 headroom 83 held 0`, `server 2 cap 100`, `cord 1 node 2 grant 100 headroom 167 held 0`.
 abbrev print100 : List ℕ
 print100 =
     (102 ∷ 114 ∷ 101 ∷ 101 ∷ 100 ∷ 32 ∷ 48 ∷ 10 ∷ [])
     ++ (115 ∷ 101 ∷ 114 ∷ 118 ∷ 101 ∷ 114 ∷ 32 ∷ 49 ∷ 32 ∷ 99 ∷ 97 ∷ 112 ∷ 32 ∷ 49 ∷ 48 ∷ 48 ∷ 10 ∷ [])
     ++ (99 ∷ 111 ∷ 114 ∷ 100 ∷ 32 ∷ 49 ∷ 32 ∷ 110 ∷ 111 ∷ 100 ∷ 101 ∷ 32 ∷ 49 ∷ 32
     ∷ 103 ∷ 114 ∷ 97 ∷ 110 ∷ 116 ∷ 32 ∷ 53 ∷ 48 ∷ 32
-    ∷ 104 ∷ 101 ∷ 97 ∷ 100 ∷ 114 ∷ 111 ∷ 111 ∷ 109 ∷ 32 ∷ 55 ∷ 48 ∷ 10 ∷ [])
+    ∷ 104 ∷ 101 ∷ 97 ∷ 100 ∷ 114 ∷ 111 ∷ 111 ∷ 109 ∷ 32 ∷ 55 ∷ 48 ∷ 32
+    ∷ 104 ∷ 101 ∷ 108 ∷ 100 ∷ 32 ∷ 48 ∷ 10 ∷ [])
     ++ (99 ∷ 111 ∷ 114 ∷ 100 ∷ 32 ∷ 50 ∷ 32 ∷ 110 ∷ 111 ∷ 100 ∷ 101 ∷ 32 ∷ 50 ∷ 32
     ∷ 103 ∷ 114 ∷ 97 ∷ 110 ∷ 116 ∷ 32 ∷ 53 ∷ 48 ∷ 32
-    ∷ 104 ∷ 101 ∷ 97 ∷ 100 ∷ 114 ∷ 111 ∷ 111 ∷ 109 ∷ 32 ∷ 56 ∷ 51 ∷ 10 ∷ [])
+    ∷ 104 ∷ 101 ∷ 97 ∷ 100 ∷ 114 ∷ 111 ∷ 111 ∷ 109 ∷ 32 ∷ 56 ∷ 51 ∷ 32
+    ∷ 104 ∷ 101 ∷ 108 ∷ 100 ∷ 32 ∷ 48 ∷ 10 ∷ [])
     ++ (115 ∷ 101 ∷ 114 ∷ 118 ∷ 101 ∷ 114 ∷ 32 ∷ 50 ∷ 32 ∷ 99 ∷ 97 ∷ 112 ∷ 32 ∷ 49 ∷ 48 ∷ 48 ∷ 10 ∷ [])
     ++ (99 ∷ 111 ∷ 114 ∷ 100 ∷ 32 ∷ 49 ∷ 32 ∷ 110 ∷ 111 ∷ 100 ∷ 101 ∷ 32 ∷ 50 ∷ 32
     ∷ 103 ∷ 114 ∷ 97 ∷ 110 ∷ 116 ∷ 32 ∷ 49 ∷ 48 ∷ 48 ∷ 32
-    ∷ 104 ∷ 101 ∷ 97 ∷ 100 ∷ 114 ∷ 111 ∷ 111 ∷ 109 ∷ 32 ∷ 49 ∷ 54 ∷ 55 ∷ 10 ∷ [])
+    ∷ 104 ∷ 101 ∷ 97 ∷ 100 ∷ 114 ∷ 111 ∷ 111 ∷ 109 ∷ 32 ∷ 49 ∷ 54 ∷ 55 ∷ 32
+    ∷ 104 ∷ 101 ∷ 108 ∷ 100 ∷ 32 ∷ 48 ∷ 10 ∷ [])
 
 -- `refused 9 at 2`.
 abbrev nineAtTwo : List ℕ
@@ -90,9 +98,9 @@ demandsS = 430 ∷ 430 ∷ 430 ∷ 430 ∷ []
 abbrev noServers : List ℕ
 noServers = 1 ∷ 1 ∷ 0 ∷ 100 ∷ 0 ∷ []
 
--- Two words for grants, one for caps and three for headroom.
-abbrev twoOneThree : Lengths
-twoOneThree = record { grants = 2; caps = 1; headroom = 3 }
+-- Two words for grants, one for caps, three for headroom and one for the nodes that hold cords.
+abbrev someLent : Lengths
+someLent = record { grants = 2; caps = 1; headroom = 3; held = 1 }
 
 -- Figures of the room that a table gives.
 abbrev ofRoom : Step Room → (Room → List ℕ) → List ℕ
@@ -123,10 +131,11 @@ pub record Starred : Type 0 where
   pub byte80 : numbered (reading (0x80 ∷ []) 1) ≡ (3, 0)
   pub bytes018000 : numbered (reading (0x01 ∷ 0x80 ∷ 0x00 ∷ []) 3) ≡ (2, 1)
   pub bytes80808080 : numbered (reading (0x80 ∷ 0x80 ∷ 0x80 ∷ 0x80 ∷ []) 4) ≡ (1, 0)
-  pub noServersFreed : plan.answerOf (plan noServers [] twoOneThree) ≡ Accepted 0
-  pub noServersGrants : (a b : ℕ) → after (λ p. p .grants) (plan noServers [] twoOneThree) (a ∷ b ∷ []) ≡ a ∷ b ∷ []
-  pub noServersCaps : (a : ℕ) → after (λ p. p .caps) (plan noServers [] twoOneThree) (a ∷ []) ≡ a ∷ []
-  pub noServersHeadroom : (a b c : ℕ) → after (λ p. p .headroom) (plan noServers [] twoOneThree) (a ∷ b ∷ c ∷ []) ≡ a ∷ b ∷ c ∷ []
+  pub noServersFreed : plan.answerOf (plan noServers [] someLent) ≡ Accepted 0
+  pub noServersGrants : (a b : ℕ) → after (λ p. p .grants) (plan noServers [] someLent) (a ∷ b ∷ []) ≡ a ∷ b ∷ []
+  pub noServersCaps : (a : ℕ) → after (λ p. p .caps) (plan noServers [] someLent) (a ∷ []) ≡ a ∷ []
+  pub noServersHeadroom : (a b c : ℕ) → after (λ p. p .headroom) (plan noServers [] someLent) (a ∷ b ∷ c ∷ []) ≡ a ∷ b ∷ c ∷ []
+  pub noServersHeld : (a : ℕ) → after (λ p. p .held) (plan noServers [] someLent) (a ∷ []) ≡ a ∷ []
 
 pub starred : Starred
 unfolding printed sheetText tableText reading number later sheetFrom
@@ -152,6 +161,7 @@ starred =
       noServersGrants = λ a b. refl;
       noServersCaps = λ a. refl;
       noServersHeadroom = λ a b c. refl;
+      noServersHeld = λ a. refl;
     }
 
 -- Room H with demands 100 and 100, by hand: node 1 has 120 − 50 = 70 W to lend, and node 2 400 − 150 = 250, which it splits by

@@ -20,14 +20,13 @@ use Rattle.hutplan.specs.Input.{mostBytes}
 abbrev pub mostWords : ℕ
 mostWords = rooms.mostWords
 
--- The most bytes that are printed (proofs/Fits): 27 of the first line, 26 of each server's and 69 of each cord's. (69 are for the
--- headroom and the node that holds the cord, requests A.1 and A.5; with the headroom alone it has at most 53.)
+-- The most bytes that are printed (proofs/Fits): 27 of the first line, 26 of each server's and 69 of each cord's.
 abbrev pub mostText : ℕ
 mostText = 27 + 26 * mostServers + 69 * mostCords
 
 -- The print of a room's plan.
 abbrev pub roomText : Room → plan.Outcome → List ℕ
-roomText room (plan.accepted plan) = printOf (plan .freed) (room .servers) (plan .caps) (plan .grants) (plan .headroom)
+roomText room (plan.accepted plan) = printOf (plan .freed) (room .servers) (plan .caps) (plan .grants) (plan .headroom) (plan .held)
 roomText room (plan.refused refusal) = refusedLine (planRefusalNumber refusal) (planRefusalPlace refusal)
 
 -- The print of what a table's check gives, with demands.

@@ -10,15 +10,14 @@ ghost use mathlib.Core.Path.{_≡_};
 ghost use Prim.Native.Nat.{_≤_};
 ghost use lib.ListN.{length, take};
 ghost use Rattle.io.specs.Counts.{Counts};
-ghost use Rattle.rooms.specs.Table.{mostServers, mostCords};
+ghost use Rattle.deals.specs.Plan.{lent, mostLent};
 ghost use Rattle.demands.specs.Text.{mostLines};
 ghost use Rattle.demands.specs.Reading.{held};
 ghost use Rattle.print.specs.Line.{Put};
 ghost use Rattle.hutplan.specs.Input.{mostBytes, FedPiece, ReadText};
 ghost use Rattle.hutplan.specs.Printed.{mostWords, mostText, tableText, sheetText, inputText, Lent};
 
-// The most bytes of a print: 27 of the first line, 26 of each server's and 69 of each cord's. (69 are for the headroom and the node that
-// holds the cord, requests A.1 and A.5; with the headroom alone it has at most 53.)
+// The most bytes of a print: 27 of the first line, 26 of each server's and 69 of each cord's.
 const MOST_TEXT: usize = 83_995;
 
 // What one read of standard input leaves: the reading, and whether there may be more to read.
@@ -83,23 +82,24 @@ fn read_demands(list: &mut [u32]) -> usize
     reading.finish(list)
 }
 
-// The print of a table with demands, by way of lists for the grants, the caps and the headroom of any room.
+// The print of a table with demands, by way of lists for the plan of any room.
 fn print_table(
     table: &[u32],
     demands: &[u32],
     grants: &mut [u32],
     caps: &mut [u32],
     headroom: &mut [u32],
+    held: &mut [u32],
     buffer: &mut [u8],
 ) -> usize
-    requires { ⌜ (length (now grants) ≡ mostCords) × (length (now caps) ≡ mostServers) × (length (now headroom) ≡ mostCords) ⌝ }
+    requires { ⌜ lent (now grants) (now caps) (now headroom) (now held) ≡ mostLent ⌝ }
     ensures { λ r. ⌜ Put (now (buffer .entry)) 0 (now (buffer .exit)) r
         (tableText (now (table .entry)) (now (demands .entry))) ⌝ }
     ensures { λ r. ⌜ Counts r (now (buffer .exit)) ⌝ }
 {
-    let planned = plans::plan(table, demands, grants, caps, headroom);
+    let planned = plans::plan(table, demands, grants, caps, headroom, held);
     match planned {
-        Planned::Accepted(freed) => print::plan(freed, table, caps, grants, headroom, buffer),
+        Planned::Accepted(freed) => print::plan(freed, table, caps, grants, headroom, held, buffer),
         Planned::Refused(refusal) => print::refusal(refusal.number(), refusal.place(), buffer),
     }
 }
@@ -120,12 +120,14 @@ fn print_sheet(sheet: &[u8], demands: &[u32], table: &mut [u32], buffer: &mut [u
     let mut grants = [0u32; 1024];
     let mut caps = [0u32; 512];
     let mut headroom = [0u32; 1024];
+    let mut held = [0u32; 1024];
     print_table(
         &table[..count],
         demands,
         &mut grants,
         &mut caps,
         &mut headroom,
+        &mut held,
         buffer,
     )
 }

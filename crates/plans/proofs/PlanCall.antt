@@ -133,6 +133,7 @@ pub record Admitted (table demands : List ℕ) (lengths : Lengths) (cords server
   pub grantsLong : cords ≤ lengths .grants
   pub capsLong : servers ≤ lengths .caps
   pub headroomLong : cords ≤ lengths .headroom
+  pub heldLong : cords ≤ lengths .held
 
 pub admitted-good : (table demands : List ℕ) (lengths : Lengths) {answer : admitted.the-data} {cords servers : ℕ}
     → answer ≡ admission (plan table demands lengths) → answer ≡ admitted.Good cords servers → Admitted table demands lengths cords servers
@@ -154,6 +155,7 @@ admitted-good table demands lengths {answer} {cords} {servers} d e = go (plan ta
           grantsLong = omega (arith, grants, w .planning .grants .count, w .planning .grants .within);
           capsLong = omega (arith, caps, w .planning .caps .count, w .planning .caps .within);
           headroomLong = omega (arith, grants, w .planning .grants .count, w .planning .headroom .count, w .planning .headroom .within);
+          heldLong = omega (arith, grants, w .planning .grants .count, w .planning .held .count, w .planning .held .within);
         }
 
 -- What is not admitted, Plan refuses.

@@ -50,10 +50,14 @@ fn admit(table: &[u32], demands: &[u32], lengths: Lengths, beneath: &mut [u64; 5
     if lengths.headroom < cords {
         return Admission::Refused(PlanRefusal::ListTooShort(PlanList::Headroom, cords));
     }
+    if lengths.held < cords {
+        return Admission::Refused(PlanRefusal::ListTooShort(PlanList::Held, cords));
+    }
     Admission::Good(cords, servers)
 }
 
-// Plan: a table and its servers' demands; a grant and its headroom for each cord and a cap for each server, at the front of their lists.
+// Plan: a table and its servers' demands; a grant, its headroom and the node that holds it for each cord, and a cap for each server, at
+// the front of their lists.
 // Refused, it leaves every list unchanged.
 pub fn plan(
     table: &[u32],
@@ -61,18 +65,20 @@ pub fn plan(
     grants: &mut [u32],
     caps: &mut [u32],
     headroom: &mut [u32],
+    held: &mut [u32],
 ) -> Planned
-    ensures { λ r. ⌜ r ≡ answerOf (plan (now (table .entry)) (now (demands .entry)) (lent (now (grants .entry)) (now (caps .entry)) (now (headroom .entry)))) ⌝ }
-    ensures { λ _. ⌜ now (grants .exit) ≡ after (λ p. p .grants) (plan (now (table .entry)) (now (demands .entry)) (lent (now (grants .entry)) (now (caps .entry)) (now (headroom .entry)))) (now (grants .entry)) ⌝ }
-    ensures { λ _. ⌜ now (caps .exit) ≡ after (λ p. p .caps) (plan (now (table .entry)) (now (demands .entry)) (lent (now (grants .entry)) (now (caps .entry)) (now (headroom .entry)))) (now (caps .entry)) ⌝ }
-    ensures { λ _. ⌜ now (headroom .exit) ≡ after (λ p. p .headroom) (plan (now (table .entry)) (now (demands .entry)) (lent (now (grants .entry)) (now (caps .entry)) (now (headroom .entry)))) (now (headroom .entry)) ⌝ }
+    ensures { λ r. ⌜ r ≡ answerOf (plan (now (table .entry)) (now (demands .entry)) (lent (now (grants .entry)) (now (caps .entry)) (now (headroom .entry)) (now (held .entry)))) ⌝ }
+    ensures { λ _. ⌜ now (grants .exit) ≡ after (λ p. p .grants) (plan (now (table .entry)) (now (demands .entry)) (lent (now (grants .entry)) (now (caps .entry)) (now (headroom .entry)) (now (held .entry)))) (now (grants .entry)) ⌝ }
+    ensures { λ _. ⌜ now (caps .exit) ≡ after (λ p. p .caps) (plan (now (table .entry)) (now (demands .entry)) (lent (now (grants .entry)) (now (caps .entry)) (now (headroom .entry)) (now (held .entry)))) (now (caps .entry)) ⌝ }
+    ensures { λ _. ⌜ now (headroom .exit) ≡ after (λ p. p .headroom) (plan (now (table .entry)) (now (demands .entry)) (lent (now (grants .entry)) (now (caps .entry)) (now (headroom .entry)) (now (held .entry)))) (now (headroom .entry)) ⌝ }
+    ensures { λ _. ⌜ now (held .exit) ≡ after (λ p. p .held) (plan (now (table .entry)) (now (demands .entry)) (lent (now (grants .entry)) (now (caps .entry)) (now (headroom .entry)) (now (held .entry)))) (now (held .entry)) ⌝ }
 {
     let mut beneath = [0u64; 512];
-    let mut held = [0u32; 1024];
     let lengths = Lengths {
         grants: grants.len(),
         caps: caps.len(),
         headroom: headroom.len(),
+        held: held.len(),
     };
     let admission = admit(table, demands, lengths, &mut beneath);
     match admission {

@@ -19,13 +19,13 @@ use Rattle.print.proofs.Room.{serversAt-servers}
 
 pub prints-room : PrintsRoom
 unfolding planPrint printOf
-prints-room table room end freed servers cords caps grants headroom e sr cr =
+prints-room table room end freed servers cords caps grants headroom held e sr cr =
     let ok = accepted table room end e in
     let size : length servers ≡ length (room .servers)
     = sym (column-length rankColumn servers) ∙ ap length (sr .ranks) ∙ figures-length (length (room .servers)) _ in
     let all : min (length servers) mostServers ≡ length (room .servers) = omega (arith, ok .fewServers) in
     rw all
     (ap (λ (l : List ℕ). freedLine freed ++ l)
-    (serversAt-servers room servers caps (planLine grants headroom) sr cr
+    (serversAt-servers room servers caps (planLine grants headroom held) sr cr
     (λ v h. all-at (ServerAccepted (room .scale) (length (room .nodes))) (room .servers) (ok .servers) v _ h .fewCords)
     (length (room .servers)) 0 0 (room .servers) (zero-add (length (room .servers))) refl refl refl (zero-add (roomCords room))))

@@ -126,15 +126,15 @@ at-front list output k h l =
     sym (getD-take (length output) (sets list 0 output) k 0 h) ∙ rw (take-sets (length output) list output l (omega arith), take-length output)
 
 -- A plan whose figures stand at the front of longer lists: for each cord the same line, and the same print.
-module _ (r : Room) (freed : ℕ) (caps grants headroom list list' list'' : List ℕ) (hc : length caps ≡ length (r .servers))
-    (hg : length grants ≡ roomCords r) (hh : length headroom ≡ roomCords r)
-    (lc : length caps ≤ length list) (lg : length grants ≤ length list') (lh : length headroom ≤ length list'') where
-  line-front : (number node k : ℕ) → k < roomCords r → planLine (sets list' 0 grants) (sets list'' 0 headroom) number node k ≡ planLine grants headroom number node k
-  line-front number node k h = rw (at-front list' grants k (omega arith) lg, at-front list'' headroom k (omega arith) lh)
+module _ (r : Room) (freed : ℕ) (caps grants headroom held list list' list'' list''' : List ℕ) (hc : length caps ≡ length (r .servers))
+    (hg : length grants ≡ roomCords r) (hh : length headroom ≡ roomCords r) (hd : length held ≡ roomCords r)
+    (lc : length caps ≤ length list) (lg : length grants ≤ length list') (lh : length headroom ≤ length list'') (ld : length held ≤ length list''') where
+  line-front : (number node k : ℕ) → k < roomCords r → planLine (sets list' 0 grants) (sets list'' 0 headroom) (sets list''' 0 held) number node k ≡ planLine grants headroom held number node k
+  line-front number node k h = rw (at-front list' grants k (omega arith) lg, at-front list'' headroom k (omega arith) lh, at-front list''' held k (omega arith) ld)
 
-  pub printOf-front : printOf freed (r .servers) (sets list 0 caps) (sets list' 0 grants) (sets list'' 0 headroom) ≡ printOf freed (r .servers) caps grants headroom
+  pub printOf-front : printOf freed (r .servers) (sets list 0 caps) (sets list' 0 grants) (sets list'' 0 headroom) (sets list''' 0 held) ≡ printOf freed (r .servers) caps grants headroom held
   unfolding printOf
   printOf-front =
       ap (λ (l : List ℕ). freedLine freed ++ l)
-      (serversPrint-same (sets list 0 caps) caps (planLine (sets list' 0 grants) (sets list'' 0 headroom)) (planLine grants headroom) 0 0 (r .servers)
+      (serversPrint-same (sets list 0 caps) caps (planLine (sets list' 0 grants) (sets list'' 0 headroom) (sets list''' 0 held)) (planLine grants headroom held) 0 0 (r .servers)
       (λ k h. at-front list caps k (omega arith) lc) (λ number node k h. line-front number node k (omega arith)))

@@ -44,7 +44,7 @@ length-most (suc most) n = go (ltb n 10) (length-most most (n / 10))
 
 -- The most bytes of a cord's line, and of the print of a room: 512 servers and 1,024 cords.
 abbrev mostLine : ℕ
-mostLine = 53
+mostLine = 69
 
 abbrev pub mostPrint : ℕ
 mostPrint = 27 + 26 * mostServers + mostLine * mostCords
@@ -61,12 +61,12 @@ length-serverLine : (number cap : ℕ) → number < 10 ^ 3 → cap < 10 ^ 10 →
 unfolding serverLine labelled
 length-serverLine number cap h k = simp length-append (omega (arith, length-numeral 2 20 number h, length-numeral 9 20 cap k))
 
-length-cordLine : (number node grant headroom : ℕ) → number < 10 ^ 1 → node < 10 ^ 3 → grant < 10 ^ 10 → headroom < 10 ^ 10
-    → length (cordLine number node grant headroom) ≤ mostLine
+length-cordLine : (number node grant headroom held : ℕ) → number < 10 ^ 1 → node < 10 ^ 3 → grant < 10 ^ 10 → headroom < 10 ^ 10 → held < 10 ^ 10
+    → length (cordLine number node grant headroom held) ≤ mostLine
 unfolding cordLine labelled
-length-cordLine number node grant headroom h k l m =
+length-cordLine number node grant headroom held h k l m o =
     simp length-append
-    (omega (arith, length-numeral 0 20 number h, length-numeral 2 20 node k, length-numeral 9 20 grant l, length-numeral 9 20 headroom m))
+    (omega (arith, length-numeral 0 20 number h, length-numeral 2 20 node k, length-numeral 9 20 grant l, length-numeral 9 20 headroom m, length-numeral 9 20 held o))
 
 length-linesFrom : (most : ℕ) (line : ℕ → List ℕ) (count k : ℕ) → ((m : ℕ) → m < k + count → length (line m) ≤ most)
     → length (linesFrom count k line) ≤ most * count
@@ -111,14 +111,14 @@ module _
       simp length-append (omega arith)
 
 -- The print of an accepted room, with words for figures and 64 bits of freed watts.
-pub length-printOf : (r : Room) (freed : ℕ) (caps grants headroom : List ℕ) → Accepted r → freed < 2 ^ 64 → AllBelow (2 ^ 32) caps
-    → AllBelow (2 ^ 32) grants → AllBelow (2 ^ 32) headroom
-    → length (printOf freed (r .servers) caps grants headroom) ≤ mostPrint
+pub length-printOf : (r : Room) (freed : ℕ) (caps grants headroom held : List ℕ) → Accepted r → freed < 2 ^ 64 → AllBelow (2 ^ 32) caps
+    → AllBelow (2 ^ 32) grants → AllBelow (2 ^ 32) headroom → AllBelow (2 ^ 32) held
+    → length (printOf freed (r .servers) caps grants headroom held) ≤ mostPrint
 unfolding printOf
-length-printOf r freed caps grants headroom a h below below' below'' =
+length-printOf r freed caps grants headroom held a h below below' below'' below''' =
     let first = length-freedLine freed (omega arith) in
     let rest =
-    length-serversPrint caps (planLine grants headroom) below
-    (λ number node place n m. length-cordLine number node (at grants place) (at headroom place) n m (omega (arith, below' place)) (omega (arith, below'' place)))
+    length-serversPrint caps (planLine grants headroom held) below
+    (λ number node place n m. length-cordLine number node (at grants place) (at headroom place) (at held place) n m (omega (arith, below' place)) (omega (arith, below'' place)) (omega (arith, below''' place)))
     (r .scale) (length (r .nodes)) (a .fewNodes) 0 0 (r .servers) (omega (arith, a .fewServers)) (a .servers) in
     simp length-append (omega (arith, a .fewServers, a .fewCords))

@@ -16,8 +16,8 @@ numeral (suc most) n = cond (ltb n 10) ((48 + n) ∷ []) (numeral most (n / 10) 
 abbrev pub decimal : ℕ → List ℕ
 decimal n = numeral 20 n
 
--- The words of the lines, with their spaces: `freed `, `server `, ` cap `, `cord `, ` node `, ` grant `, ` headroom `, `refused `,
--- ` at `.
+-- The words of the lines, with their spaces: `freed `, `server `, ` cap `, `cord `, ` node `, ` grant `, ` headroom `, ` held `,
+-- `refused `, ` at `.
 abbrev pub freedWord : List ℕ
 freedWord = 102 ∷ 114 ∷ 101 ∷ 101 ∷ 100 ∷ 32 ∷ []
 
@@ -38,6 +38,9 @@ grantWord = 32 ∷ 103 ∷ 114 ∷ 97 ∷ 110 ∷ 116 ∷ 32 ∷ []
 
 abbrev pub headroomWord : List ℕ
 headroomWord = 32 ∷ 104 ∷ 101 ∷ 97 ∷ 100 ∷ 114 ∷ 111 ∷ 111 ∷ 109 ∷ 32 ∷ []
+
+abbrev pub heldWord : List ℕ
+heldWord = 32 ∷ 104 ∷ 101 ∷ 108 ∷ 100 ∷ 32 ∷ []
 
 abbrev pub refusedWord : List ℕ
 refusedWord = 114 ∷ 101 ∷ 102 ∷ 117 ∷ 115 ∷ 101 ∷ 100 ∷ 32 ∷ []
@@ -62,11 +65,11 @@ unfoldable pub serverLine : ℕ → ℕ → List ℕ
 unfolding labelled
 serverLine number cap = labelled serverWord number ++ (labelled capWord cap ++ newline)
 
--- `cord K node M grant G headroom W`.
-unfoldable pub cordLine : ℕ → ℕ → ℕ → ℕ → List ℕ
+-- `cord K node M grant G headroom W held B`.
+unfoldable pub cordLine : ℕ → ℕ → ℕ → ℕ → ℕ → List ℕ
 unfolding labelled
-cordLine number node grant headroom =
-    labelled cordWord number ++ (labelled nodeWord node ++ (labelled grantWord grant ++ (labelled headroomWord headroom ++ newline)))
+cordLine number node grant headroom held =
+    labelled cordWord number ++ (labelled nodeWord node ++ (labelled grantWord grant ++ (labelled headroomWord headroom ++ (labelled heldWord held ++ newline))))
 
 -- `refused R at P`.
 unfoldable pub refusedLine : ℕ → ℕ → List ℕ

@@ -31,9 +31,9 @@ serversPrint caps line v c (s ∷ rest) =
     ++ serversPrint caps line (v + 1) (c + cordCount s) rest
 
 -- The line of a cord, by what a plan's lists have at its place.
-abbrev pub planLine : (grants headroom : List ℕ) → ℕ → ℕ → ℕ → List ℕ
-planLine grants headroom number node place = cordLine number node (at grants place) (at headroom place)
+abbrev pub planLine : (grants headroom held : List ℕ) → ℕ → ℕ → ℕ → List ℕ
+planLine grants headroom held number node place = cordLine number node (at grants place) (at headroom place) (at held place)
 
 -- The print of a plan.
-unfoldable pub printOf : ℕ → List Server → (caps grants headroom : List ℕ) → List ℕ
-printOf freed servers caps grants headroom = freedLine freed ++ serversPrint caps (planLine grants headroom) 0 0 servers
+unfoldable pub printOf : ℕ → List Server → (caps grants headroom held : List ℕ) → List ℕ
+printOf freed servers caps grants headroom held = freedLine freed ++ serversPrint caps (planLine grants headroom held) 0 0 servers

@@ -30,5 +30,5 @@ abbrev pub walkPrint : List (List ℕ) → List (List ℕ) → List ℕ → (ℕ
 walkPrint servers cords caps line = serversAt servers cords caps line (min (length servers) mostServers) 0 0
 
 -- The print of a plan.
-unfoldable pub planPrint : ℕ → List (List ℕ) → List (List ℕ) → (caps grants headroom : List ℕ) → List ℕ
-planPrint freed servers cords caps grants headroom = freedLine freed ++ walkPrint servers cords caps (planLine grants headroom)
+unfoldable pub planPrint : ℕ → List (List ℕ) → List (List ℕ) → (caps grants headroom held : List ℕ) → List ℕ
+planPrint freed servers cords caps grants headroom held = freedLine freed ++ walkPrint servers cords caps (planLine grants headroom held)

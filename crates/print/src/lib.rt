@@ -29,11 +29,12 @@ pub fn plan(
     caps: &[u32],
     grants: &[u32],
     headroom: &[u32],
+    held: &[u32],
     buffer: &mut [u8],
 ) -> usize
     requires { ⌜ Good (checked (now table) 0) ⌝ }
     ensures { λ r. ⌜ OfRoom (now (table .entry)) (λ room. Put (now (buffer .entry)) 0 (now (buffer .exit)) r
-        (printOf freed (room .servers) (now (caps .entry)) (now (grants .entry)) (now (headroom .entry)))) ⌝ }
+        (printOf freed (room .servers) (now (caps .entry)) (now (grants .entry)) (now (headroom .entry)) (now (held .entry)))) ⌝ }
     ensures { λ r. ⌜ Counts r (now (buffer .exit)) ⌝ }
 {
     let mut servers = [[0u32; 4]; MOST_SERVERS];
@@ -48,6 +49,7 @@ pub fn plan(
         caps,
         grants,
         headroom,
+        held,
         buffer,
     )
 }
@@ -61,16 +63,17 @@ fn plan_by(
     caps: &[u32],
     grants: &[u32],
     headroom: &[u32],
+    held: &[u32],
     buffer: &mut [u8],
 ) -> usize
     requires { ⌜ Good (checked (now table) 0) ⌝ }
     requires { ⌜ ServersFit (now table) (length (now servers)) × CordsFit (now table) (length (now cords)) ⌝ }
     ensures { λ r. ⌜ OfRoom (now (table .entry)) (λ room. Put (now (buffer .entry)) 0 (now (buffer .exit)) r
-        (printOf freed (room .servers) (now (caps .entry)) (now (grants .entry)) (now (headroom .entry)))) ⌝ }
+        (printOf freed (room .servers) (now (caps .entry)) (now (grants .entry)) (now (headroom .entry)) (now (held .entry)))) ⌝ }
     ensures { λ r. ⌜ Counts r (now (buffer .exit)) ⌝ }
 {
     room_lists::lay_out_servers(table, servers, cords);
-    put_plan(freed, servers, cords, caps, grants, headroom, buffer)
+    put_plan(freed, servers, cords, caps, grants, headroom, held, buffer)
 }
 
 // The print of a plan by the rows of its servers and cords.
@@ -81,14 +84,15 @@ fn put_plan(
     caps: &[u32],
     grants: &[u32],
     headroom: &[u32],
+    held: &[u32],
     buffer: &mut [u8],
 ) -> usize
     ensures { λ r. ⌜ Put (now (buffer .entry)) 0 (now (buffer .exit)) r
-        (planPrint freed (now (servers .entry)) (now (cords .entry)) (now (caps .entry)) (now (grants .entry)) (now (headroom .entry))) ⌝ }
+        (planPrint freed (now (servers .entry)) (now (cords .entry)) (now (caps .entry)) (now (grants .entry)) (now (headroom .entry)) (now (held .entry))) ⌝ }
     ensures { λ r. ⌜ Counts r (now (buffer .exit)) ⌝ }
 {
     let next = put_freed(freed as usize, buffer, 0);
-    put_servers(servers, cords, caps, grants, headroom, buffer, next)
+    put_servers(servers, cords, caps, grants, headroom, held, buffer, next)
 }
 
 // The print of a refusal, at the front of the buffer: as much as fits. The result is how many bytes that is.
@@ -108,12 +112,13 @@ fn put_servers(
     caps: &[u32],
     grants: &[u32],
     headroom: &[u32],
+    held: &[u32],
     buffer: &mut [u8],
     start: usize,
 ) -> usize
     requires { ⌜ start ≤ length (now buffer) ⌝ }
     ensures { λ r. ⌜ Put (now (buffer .entry)) start (now (buffer .exit)) r
-        (walkPrint (now (servers .entry)) (now (cords .entry)) (now (caps .entry)) (planLine (now (grants .entry)) (now (headroom .entry)))) ⌝ }
+        (walkPrint (now (servers .entry)) (now (cords .entry)) (now (caps .entry)) (planLine (now (grants .entry)) (now (headroom .entry)) (now (held .entry)))) ⌝ }
 {
     let count = least(servers.len(), MOST_SERVERS);
     let mut first = 0usize;
@@ -121,7 +126,7 @@ fn put_servers(
     for v in 0..count {
         let few = least(word_index(servers[v][COUNT]), MOST_SERVER_CORDS);
         let line = put_server(v + 1, word(caps, v), buffer, next);
-        let past = put_cords(few, cords, grants, headroom, first, buffer, line);
+        let past = put_cords(few, cords, grants, headroom, held, first, buffer, line);
         next = past;
         first += few;
     }
@@ -134,13 +139,14 @@ fn put_cords(
     cords: &[[u32; 4]],
     grants: &[u32],
     headroom: &[u32],
+    held: &[u32],
     first: usize,
     buffer: &mut [u8],
     start: usize,
 ) -> usize
     requires { ⌜ (count ≤ 4) × (first < 2 ^ 34) × (start ≤ length (now buffer)) ⌝ }
     ensures { λ r. ⌜ Put (now (buffer .entry)) start (now (buffer .exit)) r
-        (linesFrom count 0 (cordLineAt (now (cords .entry)) (planLine (now (grants .entry)) (now (headroom .entry))) first)) ⌝ }
+        (linesFrom count 0 (cordLineAt (now (cords .entry)) (planLine (now (grants .entry)) (now (headroom .entry)) (now (held .entry))) first)) ⌝ }
 {
     let mut next = start;
     for k in 0..count {
@@ -149,6 +155,7 @@ fn put_cords(
             node(cords, first + k),
             word(grants, first + k),
             word(headroom, first + k),
+            word(held, first + k),
             buffer,
             next,
         );
@@ -187,23 +194,25 @@ fn put_server(number: usize, cap: usize, buffer: &mut [u8], start: usize) -> usi
     put(b"\n", buffer, b)
 }
 
-// `cord K node M grant G headroom W`.
+// `cord K node M grant G headroom W held B`.
 fn put_cord(
     number: usize,
     node: usize,
     grant: usize,
     headroom: usize,
+    held: usize,
     buffer: &mut [u8],
     start: usize,
 ) -> usize
     requires { ⌜ start ≤ length (now buffer) ⌝ }
-    ensures { λ r. ⌜ Put (now (buffer .entry)) start (now (buffer .exit)) r (cordLine number node grant headroom) ⌝ }
+    ensures { λ r. ⌜ Put (now (buffer .entry)) start (now (buffer .exit)) r (cordLine number node grant headroom held) ⌝ }
 {
     let a = put_figure(b"cord ", number, buffer, start);
     let b = put_figure(b" node ", node, buffer, a);
     let c = put_figure(b" grant ", grant, buffer, b);
     let d = put_figure(b" headroom ", headroom, buffer, c);
-    put(b"\n", buffer, d)
+    let e = put_figure(b" held ", held, buffer, d);
+    put(b"\n", buffer, e)
 }
 
 // A word of a line and the figure after it, from a place on.

@@ -24,6 +24,8 @@ extern "C" {
         _: Len,
         _: At,
         _: Len,
+        _: At,
+        _: Len,
     ) -> u32;
 }
 
@@ -46,7 +48,9 @@ impl Call {
         match self {
             Call::Read => &["sheet", "table", "answer"],
             Call::Write => &["table", "sheet", "answer"],
-            Call::Plan => &["table", "demands", "grants", "caps", "headroom", "answer"],
+            Call::Plan => &[
+                "table", "demands", "grants", "caps", "headroom", "held", "answer",
+            ],
         }
     }
 
@@ -55,7 +59,7 @@ impl Call {
         match self {
             Call::Read => &[0, 1, 2, 3, 4, 5, 6, 7, 8, 9, 12],
             Call::Write => &[0, 4, 5, 6, 7, 8, 9, 12],
-            Call::Plan => &[0, 4, 5, 6, 7, 8, 9, 10, 11, 12, 13, 14],
+            Call::Plan => &[0, 4, 5, 6, 7, 8, 9, 10, 11, 12, 13, 14, 15],
         }
     }
 }
@@ -89,7 +93,7 @@ impl Outcome {
 }
 
 /// Ground for every buffer of the call that has most of them.
-pub type Grounds = [Ground; 6];
+pub type Grounds = [Ground; 7];
 
 /// Runs the archive on a copy of the buffers.
 pub fn archive(case: &Case, grounds: &mut Grounds) -> Outcome {
@@ -101,8 +105,8 @@ pub fn archive(case: &Case, grounds: &mut Grounds) -> Outcome {
         match (case.call, &lent[..]) {
             (Call::Read, &[(s, sn), (t, tn), (a, an)]) => hutplan_read(s, sn, t, tn, a, an),
             (Call::Write, &[(t, tn), (s, sn), (a, an)]) => hutplan_write(t, tn, s, sn, a, an),
-            (Call::Plan, &[(t, tn), (d, dn), (g, gn), (c, cn), (h, hn), (a, an)]) => {
-                hutplan_plan(t, tn, d, dn, g, gn, c, cn, h, hn, a, an)
+            (Call::Plan, &[(t, tn), (d, dn), (g, gn), (c, cn), (h, hn), (b, bn), (a, an)]) => {
+                hutplan_plan(t, tn, d, dn, g, gn, c, cn, h, hn, b, bn, a, an)
             }
             _ => panic!("wrong count of buffers"),
         }
@@ -126,8 +130,8 @@ pub fn reference(case: &Case) -> Outcome {
     let returned = match (case.call, &mut buffers[..]) {
         (Call::Read, [sheet, table, answer]) => reference::call::read(sheet, table, answer),
         (Call::Write, [table, sheet, answer]) => reference::call::write(table, sheet, answer),
-        (Call::Plan, [table, demands, grants, caps, headroom, answer]) => {
-            reference::call::plan(table, demands, grants, caps, headroom, answer)
+        (Call::Plan, [table, demands, grants, caps, headroom, held, answer]) => {
+            reference::call::plan(table, demands, grants, caps, headroom, held, answer)
         }
         _ => panic!("wrong count of buffers"),
     };

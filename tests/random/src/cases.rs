@@ -41,7 +41,8 @@ fn plan(dice: &mut Dice, room: &Room, words: &[u32], demands: &[u32]) -> Vec<Vec
     let grants = output(dice, 4 * room.cord_count());
     let caps = output(dice, 4 * room.servers.len());
     let headroom = output(dice, 4 * room.cord_count());
-    vec![table, demands, grants, caps, headroom]
+    let held = output(dice, 4 * room.cord_count());
+    vec![table, demands, grants, caps, headroom, held]
 }
 
 /// Words as bytes, often with one to three bytes over.

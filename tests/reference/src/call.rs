@@ -30,14 +30,17 @@ pub fn plan(
     grants: &mut [u8],
     caps: &mut [u8],
     headroom: &mut [u8],
+    held: &mut [u8],
     answer: &mut [u8],
 ) -> u32 {
     answered(answer, || {
-        let spaces = [grants.len(), caps.len(), headroom.len()].map(|bytes| bytes / WORD);
+        let bytes = [grants.len(), caps.len(), headroom.len(), held.len()];
+        let spaces = bytes.map(|bytes| bytes / WORD);
         let plan = crate::plan(&words(table), &words(demands), spaces)?;
         put_words(&plan.grants, grants);
         put_words(&plan.caps, caps);
         put_words(&plan.headroom, headroom);
+        put_words(&plan.held, held);
         Ok(plan.freed)
     })
 }

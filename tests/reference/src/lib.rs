@@ -48,6 +48,8 @@ pub struct Plan {
     pub grants: Vec<u32>,
     pub caps: Vec<u32>,
     pub headroom: Vec<u32>,
+    /// Node numbers, or 0.
+    pub held: Vec<u32>,
 }
 
 /// Read, with room for so many words: the table's words.
@@ -66,14 +68,15 @@ pub fn write(table: &[u32], room: usize) -> Result<Vec<u8>, Refusal> {
     Ok(bytes)
 }
 
-/// Plan, with space for so many grants, caps and figures of headroom.
-pub fn plan(table: &[u32], demands: &[u32], spaces: [usize; 3]) -> Result<Plan, Refusal> {
+/// Plan, with space for so many grants, caps, figures of headroom and nodes that hold a cord.
+pub fn plan(table: &[u32], demands: &[u32], spaces: [usize; 4]) -> Result<Plan, Refusal> {
     let room = Room::of_words(table)?;
     plan::check_demands(&room, demands)?;
-    let [grants, caps, headroom] = spaces;
+    let [grants, caps, headroom, held] = spaces;
     fits(12, room.cords.len(), grants)?;
     fits(13, room.servers.len(), caps)?;
     fits(14, room.cords.len(), headroom)?;
+    fits(15, room.cords.len(), held)?;
     Ok(plan::deals(&room, demands).answer())
 }
 

@@ -74,6 +74,7 @@ impl Deals {
             grants: self.second_grants.iter().map(|&w| narrow(w)).collect(),
             caps: self.caps.iter().map(|&w| narrow(w)).collect(),
             headroom: self.headroom.iter().map(|&w| narrow(w)).collect(),
+            held: self.held.clone(),
         }
     }
 }

@@ -18,7 +18,7 @@ pub fn print(room_bin: Option<&[u8]>, stdin: &[u8]) -> String {
     }
 }
 
-/// The program lends lists long enough for every room, so there is no refusal from 12 to 14.
+/// The program lends lists long enough for every room, so there is no refusal from 12 to 15.
 fn planned(sheet: &[u8], demands: &[u32]) -> Result<(Room, Plan), Refusal> {
     let room = Room::of_words(&number::words(sheet)?)?;
     plan::check_demands(&room, demands)?;
@@ -48,9 +48,9 @@ fn printed(room: &Room, plan: &Plan) -> String {
         lines.push(format!("server {number} cap {cap}"));
         for (index, number) in server.cords.clone().zip(1..) {
             let (node, grant) = (room.cords[index].node, plan.grants[index]);
-            let headroom = plan.headroom[index];
+            let (headroom, held) = (plan.headroom[index], plan.held[index]);
             lines.push(format!(
-                "cord {number} node {node} grant {grant} headroom {headroom}"
+                "cord {number} node {node} grant {grant} headroom {headroom} held {held}"
             ));
         }
     }

@@ -14,16 +14,16 @@ fn padded(words: &[u32], over: usize) -> Vec<u8> {
     [list(words), vec![0xAA; over]].concat()
 }
 
-/// Plan's lists: grants, caps and headroom.
-type Lists = [Vec<u8>; 3];
+/// Plan's lists: grants, caps, headroom and held.
+type Lists = [Vec<u8>; 4];
 
 fn plan(table: &[u8], demands: &[u8], lists: &mut Lists, answer: &mut [u8]) -> u32 {
-    let [grants, caps, headroom] = lists;
-    call::plan(table, demands, grants, caps, headroom, answer)
+    let [grants, caps, headroom, held] = lists;
+    call::plan(table, demands, grants, caps, headroom, held, answer)
 }
 
 /// Lists of so many bytes, all 0xAA.
-fn untouched(lengths: [usize; 3]) -> Lists {
+fn untouched(lengths: [usize; 4]) -> Lists {
     lengths.map(|length| vec![0xAA; length])
 }
 
@@ -76,11 +76,9 @@ fn write_fills_the_front_of_the_sheet() {
 
 #[test]
 fn plan_fills_the_front_of_all_lists() {
-    let plans: [([u32; 2], u64, [&[u32]; 3]); 2] = [
-        ([400, 400], 13, [&[120, 120, 280], &[240, 280], &[0, 0, 0]]),
-        ([100, 100], 0, [&[50, 50, 100], &[100, 100], &[70, 83, 167]]),
-    ];
-    for (demands, freed, expected) in plans {
+    let full: [&[u32]; 4] = [&[120, 120, 280], &[240, 280], &[0, 0, 0], &[1, 0, 2]];
+    let lent: [&[u32]; 4] = [&[50, 50, 100], &[100, 100], &[70, 83, 167], &[0, 0, 0]];
+    for (demands, freed, expected) in [([400, 400], 13, full), ([100, 100], 0, lent)] {
         for over in 0..4 {
             let table = padded(&room_h(500), over);
             let demands = padded(&demands, over);
@@ -107,7 +105,7 @@ fn a_whole_word_over_is_read() {
     assert_eq!(sheet, [0xAA; 40]);
     let demands = padded(&[400, 400], 4);
     let table = list(&room_h(500));
-    let done = plan(&table, &demands, &mut untouched([0; 3]), &mut answer);
+    let done = plan(&table, &demands, &mut untouched([0; 4]), &mut answer);
     assert_eq!(done, 1);
     assert_eq!(answer, answer_of(10, 2));
 }
@@ -125,16 +123,17 @@ fn a_word_lacking_a_byte_is_no_word() {
     assert_eq!(call::write(&table[..83], &mut [0; 28], &mut answer), 1);
     assert_eq!(answer, answer_of(4, 20));
     let demands = list(&[400, 400]);
-    let mut refused = |demands: &[u8], lengths: [usize; 3]| {
+    let mut refused = |demands: &[u8], lengths: [usize; 4]| {
         let mut lists = untouched(lengths);
         assert_eq!(plan(&table, demands, &mut lists, &mut answer), 1);
         assert_eq!(lists, untouched(lengths));
         answer
     };
-    assert_eq!(refused(&demands[..7], [12, 8, 12]), answer_of(10, 2));
-    assert_eq!(refused(&demands, [11, 8, 12]), answer_of(12, 3));
-    assert_eq!(refused(&demands, [12, 7, 12]), answer_of(13, 2));
-    assert_eq!(refused(&demands, [12, 8, 11]), answer_of(14, 3));
+    assert_eq!(refused(&demands[..7], [12, 8, 12, 12]), answer_of(10, 2));
+    assert_eq!(refused(&demands, [11, 8, 12, 12]), answer_of(12, 3));
+    assert_eq!(refused(&demands, [12, 7, 12, 12]), answer_of(13, 2));
+    assert_eq!(refused(&demands, [12, 8, 11, 12]), answer_of(14, 3));
+    assert_eq!(refused(&demands, [12, 8, 12, 11]), answer_of(15, 3));
 }
 
 #[test]
@@ -155,7 +154,7 @@ fn a_refusal_changes_nothing_but_the_answer() {
 fn a_short_answer_buffer_stops_the_call() {
     let h = list(&room_h(500));
     let sheet = write(&room_h(500), 28).expect("room H");
-    let mut lists = untouched([100; 3]);
+    let mut lists = untouched([100; 4]);
     for length in 0..16 {
         let mut answer = vec![0xAA; length];
         assert_eq!(call::read(&sheet, &mut lists[0], &mut answer), 0);
@@ -164,17 +163,17 @@ fn a_short_answer_buffer_stops_the_call() {
         assert_eq!(plan(&h, &demands, &mut lists, &mut answer), 0);
         assert_eq!(answer, vec![0xAA; length]);
     }
-    assert_eq!(lists, untouched([100; 3]));
+    assert_eq!(lists, untouched([100; 4]));
 }
 
 #[test]
 fn a_room_without_servers_leaves_the_lists_untouched() {
     let mut answer = [0xAA; 16];
-    let mut lists = untouched([9; 3]);
+    let mut lists = untouched([9; 4]);
     let table = list(&[1, 1, 0, 0, 0]);
     assert_eq!(plan(&table, &[], &mut lists, &mut answer), 1);
     assert_eq!(answer, answer_of(0, 0));
-    assert_eq!(lists, untouched([9; 3]));
+    assert_eq!(lists, untouched([9; 4]));
 }
 
 #[test]
@@ -184,6 +183,6 @@ fn empty_lists_are_good_input() {
     assert_eq!(answer, answer_of(4, 0));
     assert_eq!(call::write(&[], &mut [], &mut answer), 1);
     assert_eq!(answer, answer_of(4, 0));
-    assert_eq!(plan(&[], &[], &mut untouched([0; 3]), &mut answer), 1);
+    assert_eq!(plan(&[], &[], &mut untouched([0; 4]), &mut answer), 1);
     assert_eq!(answer, answer_of(4, 0));
 }

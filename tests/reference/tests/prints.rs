@@ -7,19 +7,19 @@ use reference::{print, write};
 
 const PRINT_H: &str = "freed 13
 server 1 cap 240
-cord 1 node 1 grant 120 headroom 0
-cord 2 node 2 grant 120 headroom 0
+cord 1 node 1 grant 120 headroom 0 held 1
+cord 2 node 2 grant 120 headroom 0 held 0
 server 2 cap 280
-cord 1 node 2 grant 280 headroom 0
+cord 1 node 2 grant 280 headroom 0 held 2
 ";
 
 /// With demands of 100, where both nodes lend.
 const PRINT_LENT_H: &str = "freed 0
 server 1 cap 100
-cord 1 node 1 grant 50 headroom 70
-cord 2 node 2 grant 50 headroom 83
+cord 1 node 1 grant 50 headroom 70 held 0
+cord 2 node 2 grant 50 headroom 83 held 0
 server 2 cap 100
-cord 1 node 2 grant 100 headroom 167
+cord 1 node 2 grant 100 headroom 167 held 0
 ";
 
 fn sheet(words: &[u32]) -> Vec<u8> {
@@ -126,7 +126,7 @@ fn a_full_room_takes_512_lines() {
     let print = |lines| print(Some(&sheet(&room)), "1\n".repeat(lines).as_bytes());
     let full = print(512);
     assert_eq!(full.lines().count(), 1 + 2 * 512);
-    assert!(full.ends_with("server 512 cap 1\ncord 1 node 1 grant 1 headroom 0\n"));
+    assert!(full.ends_with("server 512 cap 1\ncord 1 node 1 grant 1 headroom 0 held 0\n"));
     assert_eq!(print(511), "refused 10 at 512\n");
     assert_eq!(print(513), "refused 10 at 512\n");
     assert_eq!(print(514), "refused 10 at 512\n");

@@ -11,7 +11,7 @@ const GOOD_NODE: Node = (0, 1_000);
 /// Write's answer to these words; Read's and Plan's must be the same.
 fn refused(words: &[u32]) -> (u64, u64) {
     let refusal = write(words, 1 << 20).expect_err("a refusal");
-    assert_eq!(plan(words, &[MOST + 1; 600], [0; 3]), Err(refusal));
+    assert_eq!(plan(words, &[MOST + 1; 600], [0; 4]), Err(refusal));
     if words.iter().all(|&word| word < 1 << 28) {
         assert_eq!(read(&reference::number::bytes(words), 0), Err(refusal));
     }
@@ -164,8 +164,8 @@ fn the_lowest_overfull_node_of_a_chain_is_told() {
     assert_eq!(refused(&room(&nodes)), (9, 301));
 }
 
-/// Room H's refusal, with space for so many grants, caps and figures of headroom.
-fn plan_refused(demands: &[u32], spaces: [usize; 3]) -> (u64, u64) {
+/// Room H's refusal, with space for so many entries of each list.
+fn plan_refused(demands: &[u32], spaces: [usize; 4]) -> (u64, u64) {
     let refusal = plan(&room_h(500), demands, spaces).expect_err("a refusal");
     (refusal.number, refusal.place)
 }
@@ -173,18 +173,18 @@ fn plan_refused(demands: &[u32], spaces: [usize; 3]) -> (u64, u64) {
 #[test]
 fn demands_of_another_length_are_10_at_the_count() {
     for demands in [&[][..], &[1], &[1, 1, 1], &[MOST + 1; 513]] {
-        assert_eq!(plan_refused(demands, [0; 3]), (10, 2));
+        assert_eq!(plan_refused(demands, [0; 4]), (10, 2));
     }
-    let none = plan(&[1, 1, 0, 0, 0], &[5], [0; 3]);
+    let none = plan(&[1, 1, 0, 0, 0], &[5], [0; 4]);
     assert_eq!(none, Err(refusal(10, 0)));
 }
 
 #[test]
 fn a_demand_too_great_is_11_at_the_first() {
-    assert_eq!(plan_refused(&[MOST + 1, 0], [0; 3]), (11, 0));
-    assert_eq!(plan_refused(&[MOST, u32::MAX], [0; 3]), (11, 1));
-    assert_eq!(plan_refused(&[u32::MAX, MOST + 1], [3, 2, 3]), (11, 0));
-    assert!(plan(&room_h(500), &[MOST, MOST], [3, 2, 3]).is_ok());
+    assert_eq!(plan_refused(&[MOST + 1, 0], [0; 4]), (11, 0));
+    assert_eq!(plan_refused(&[MOST, u32::MAX], [0; 4]), (11, 1));
+    assert_eq!(plan_refused(&[u32::MAX, MOST + 1], [3, 2, 3, 3]), (11, 0));
+    assert!(plan(&room_h(500), &[MOST, MOST], [3, 2, 3, 3]).is_ok());
 }
 
 fn refusal(number: u64, place: u64) -> Refusal {
@@ -202,21 +202,28 @@ fn an_output_too_short_is_12_at_the_length_needed() {
         assert_eq!(write(&words, room), Err(refusal(12, 28)));
     }
     for room in [0, 2] {
-        assert_eq!(plan_refused(&[0, 0], [room, 0, 0]), (12, 3));
+        assert_eq!(plan_refused(&[0, 0], [room, 0, 0, 0]), (12, 3));
     }
 }
 
 #[test]
 fn a_cap_list_too_short_is_13_at_the_count_of_servers() {
     for room in [0, 1] {
-        assert_eq!(plan_refused(&[0, 0], [3, room, 0]), (13, 2));
+        assert_eq!(plan_refused(&[0, 0], [3, room, 0, 0]), (13, 2));
     }
 }
 
 #[test]
 fn a_headroom_list_too_short_is_14_at_the_count_of_cords() {
     for room in [0, 1, 2] {
-        assert_eq!(plan_refused(&[0, 0], [3, 2, room]), (14, 3));
+        assert_eq!(plan_refused(&[0, 0], [3, 2, room, 0]), (14, 3));
+    }
+}
+
+#[test]
+fn a_held_list_too_short_is_15_at_the_count_of_cords() {
+    for room in [0, 1, 2] {
+        assert_eq!(plan_refused(&[0, 0], [3, 2, 3, room]), (15, 3));
     }
 }
 
@@ -257,9 +264,10 @@ fn words_are_judged_one_by_one() {
 #[test]
 fn the_table_is_judged_before_the_demands_and_these_before_the_lists() {
     // `refused` hands bad demands and no room to every bad table; here is the rest of the order.
-    assert_eq!(plan_refused(&[MOST + 1], [0; 3]), (10, 2));
-    assert_eq!(plan_refused(&[0, MOST + 1], [0; 3]), (11, 1));
-    assert_eq!(plan_refused(&[0, 0], [2, 1, 2]), (12, 3));
-    assert_eq!(plan_refused(&[0, 0], [3, 1, 2]), (13, 2));
-    assert_eq!(plan_refused(&[0, 0], [3, 2, 2]), (14, 3));
+    assert_eq!(plan_refused(&[MOST + 1], [0; 4]), (10, 2));
+    assert_eq!(plan_refused(&[0, MOST + 1], [0; 4]), (11, 1));
+    assert_eq!(plan_refused(&[0, 0], [2, 1, 2, 2]), (12, 3));
+    assert_eq!(plan_refused(&[0, 0], [3, 1, 2, 2]), (13, 2));
+    assert_eq!(plan_refused(&[0, 0], [3, 2, 2, 2]), (14, 3));
+    assert_eq!(plan_refused(&[0, 0], [3, 2, 3, 2]), (15, 3));
 }

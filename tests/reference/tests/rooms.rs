@@ -9,7 +9,7 @@ use reference::room::Room;
 use reference::{plan, Plan, Refusal};
 
 fn planned(table: &[u32], demands: &[u32]) -> Plan {
-    plan(table, demands, [1_024, 512, 1_024]).expect("an accepted room")
+    plan(table, demands, [1_024, 512, 1_024, 1_024]).expect("an accepted room")
 }
 
 fn grants(table: &[u32], demands: &[u32]) -> Vec<u32> {
@@ -34,9 +34,10 @@ fn room_h_is_dealt_twice() {
         grants: vec![120, 120, 280],
         caps: vec![240, 280],
         headroom: vec![0, 0, 0],
+        held: vec![1, 0, 2],
     };
     assert_eq!(deals.answer(), answer);
-    assert_eq!(plan(&room_h(500), &[400, 400], [3, 2, 3]), Ok(answer));
+    assert_eq!(plan(&room_h(500), &[400, 400], [3, 2, 3, 3]), Ok(answer));
 }
 
 /// Node 2 has 250 W beyond its lows in the second deal, as in the first. It passes on 120 − 50 = 70
@@ -93,7 +94,7 @@ fn room_h_rated_187_is_refused() {
         place: 2,
     };
     assert_eq!(reference::write(&room_h(187), 28), Err(refusal));
-    assert_eq!(plan(&room_h(187), &[400, 400], [3, 2, 3]), Err(refusal));
+    assert_eq!(plan(&room_h(187), &[400, 400], [3, 2, 3, 3]), Err(refusal));
 }
 
 fn room_s(rating: u32) -> Vec<u32> {
@@ -203,7 +204,7 @@ fn ceilings_are_rounded_up() {
 }
 
 fn held(table: &[u32], demands: &[u32]) -> Vec<u32> {
-    dealt(table, demands).held
+    planned(table, demands).held
 }
 
 /// Each node asks for its whole limit, 120 of 200 and 400 of 120 + 400. Cord 2 has the 120 W that it
@@ -244,9 +245,52 @@ fn a_cut_at_a_higher_rank_holds_and_one_at_a_lower_does_not() {
             (3, 0, 5, &[(1, 1000)]),
         ],
     );
-    let deals = dealt(&room, &[60, 10, 80, 5]);
-    assert_eq!(deals.second_grants, [45, 5, 45, 5]);
-    assert_eq!(deals.held, [2, 1, 1, 0]);
+    let plan = planned(&room, &[60, 10, 80, 5]);
+    assert_eq!(plan.grants, [45, 5, 45, 5]);
+    assert_eq!(plan.held, [2, 1, 1, 0]);
+}
+
+/// A root with limit 500 over node 2 (300) over node 3 (100), and node 4 (40), a root of its own. Servers
+/// by rank, low and want: 9, 0, 150 on node 3; 6, 0, 400 on node 2; 4, 10, 50 on node 3; 3, 0, 300 on
+/// node 1; 2, 20, 60 on node 2; 1, 30, 30 on node 1; and 9, 0, 200, half on node 4 and half on node 2.
+///
+/// First deal, at rank 9: node 4 asks for 40 of 100, node 3 for 100 − 10 = 90 of 150, and node 2 and the
+/// root for all of 90 + 100. So the last server has 40 and 100, and can use 80: 60 W are stranded, and
+/// its cord on node 2 wants 40 in the second deal.
+///
+/// Second deal. Node 4: 40 of 100, cut at 9. Node 3: 90 of 150 and, at rank 4, 100 − 90 = 10 of 50, cut
+/// at 9 and 4. Node 2: at rank 9 all of 90 + 40; at 6, 300 − 130 − 10 − 20 = 140 of 400; at 4,
+/// 300 − 270 − 20 = 10, all; at 2, 300 − 280 = 20 of 60: cut at 6 and 2. The root: at 9, 6 and 4 all of
+/// 130, 140 and 10; at 3, 500 − 280 − 20 − 30 = 170 of 300; at 2 and 1 all of 20 and 30: cut at 3.
+///
+/// From the root down: rank 9 meets its first cut from 9 up in node 3; rank 6 in node 2; rank 4 in node
+/// 2, cut at 6, before node 3, cut at 4 itself; rank 3 in the root; rank 2 in the root, cut at 3, before
+/// node 2, cut at 2 itself. Rank 1 has its want, beneath a full root, and so has the cord that wants 40.
+#[test]
+fn a_cut_above_at_a_higher_rank_comes_before_a_cut_below() {
+    let room = table(
+        &[(0, 625), (1, 375), (2, 125), (0, 50)],
+        &[
+            (9, 0, 150, &[(3, 1000)]),
+            (6, 0, 400, &[(2, 1000)]),
+            (4, 10, 50, &[(3, 1000)]),
+            (3, 0, 300, &[(1, 1000)]),
+            (2, 20, 60, &[(2, 1000)]),
+            (1, 30, 80, &[(1, 1000)]),
+            (9, 0, 200, &[(4, 500), (2, 500)]),
+        ],
+    );
+    let demands = [150, 400, 50, 300, 60, 0, 200];
+    let first_grants = [90, 80, 10, 170, 20, 30, 40, 100];
+    assert_eq!(dealt(&room, &demands).first_grants, first_grants);
+    let answer = Plan {
+        freed: 60,
+        grants: vec![90, 140, 10, 170, 20, 30, 40, 40],
+        caps: vec![90, 140, 10, 170, 20, 30, 80],
+        headroom: vec![0; 8],
+        held: vec![3, 2, 2, 1, 1, 0, 4, 0],
+    };
+    assert_eq!(planned(&room, &demands), answer);
 }
 
 #[test]
@@ -256,9 +300,10 @@ fn a_room_without_servers_frees_nothing() {
         grants: vec![],
         caps: vec![],
         headroom: vec![],
+        held: vec![],
     };
-    assert_eq!(plan(&[1, 1, 0, 0, 0], &[], [0; 3]), Ok(empty.clone()));
-    assert_eq!(plan(&table(&[(0, 9), (1, 9)], &[]), &[], [7; 3]), Ok(empty));
+    assert_eq!(plan(&[1, 1, 0, 0, 0], &[], [0; 4]), Ok(empty.clone()));
+    assert_eq!(plan(&table(&[(0, 9), (1, 9)], &[]), &[], [7; 4]), Ok(empty));
 }
 
 /// Root limit 150, child limit 100.
@@ -313,7 +358,7 @@ fn nothing_is_dealt_where_nothing_is_wanted() {
 #[test]
 fn lows_are_rounded_up() {
     let halves: Server = (1, 3, 3, &[(1, 500), (2, 500)]);
-    let refused = plan(&table(&[(0, 3), (0, 2)], &[halves]), &[3], [2, 1, 2]);
+    let refused = plan(&table(&[(0, 3), (0, 2)], &[halves]), &[3], [2, 1, 2, 2]);
     assert_eq!(
         refused,
         Err(Refusal {
@@ -443,4 +488,5 @@ fn a_chain_of_512_breakers_lets_through_its_narrowest() {
     let room = table(&nodes, &[(2, 1, 9, deepest), (1, 1, 9, deepest)]);
     let plan = planned(&room, &[6, 9]);
     assert_eq!(plan.grants, [6, 2]);
+    assert_eq!(plan.held, [0, 256]);
 }

@@ -35,12 +35,12 @@ fn third(words: &[u32]) -> Vec<u32> {
 }
 
 fn planned(table: &[u32], demands: &[u32]) -> Plan {
-    plan(table, demands, [1_024, 512, 1_024]).expect("an accepted room")
+    plan(table, demands, [1_024, 512, 1_024, 1_024]).expect("an accepted room")
 }
 
 fn refused(words: &[u32]) -> (u64, u64) {
     let refusal = write(words, 1 << 20).expect_err("a refusal");
-    assert_eq!(plan(words, &[], [0; 3]), Err(refusal));
+    assert_eq!(plan(words, &[], [0; 4]), Err(refusal));
     assert_eq!(read(&reference::number::bytes(words), 0), Err(refusal));
     (refusal.number, refusal.place)
 }

@@ -4,7 +4,7 @@ use lib.ListN.{take}
 use Rattle.rooms.proofs.Outcomes.{front-length}
 use Rattle.deals.specs.Plan.{Outcome, plan, lent}
 use Rattle.deals.specs.declared.Lengths.{Lengths}
-use Rattle.capi.proofs.PlanLaws.{grants-counted, caps-counted, headroom-counted, Listed, listed, list-fits, list-counted, list-stored, call-same, plan-short, plan-done, same-plan}
+use Rattle.capi.proofs.PlanLaws.{grants-counted, caps-counted, headroom-counted, held-counted, Listed, listed, list-fits, list-counted, list-stored, call-same, plan-short, plan-done, same-plan}
 use borrow.Author.Needs.{needs}
 use Rattle.capi.proofs.plan_by.Statement.{statement}
 use Rattle.capi.proofs.plan_by.Tie as tie
@@ -13,23 +13,26 @@ use Rattle.capi.proofs.plan_by.Tie as tie
 
 -- From the space in the last list: that in those before it, and the start.
 abbrev Spaces : Type 0
-Spaces = tie.After-least3
+Spaces = tie.After-least4
+
+abbrev headroom-space : Spaces → tie.After-least3
+headroom-space c = c .before
 
 abbrev caps-space : Spaces → tie.After-least2
-caps-space c = c .before
+caps-space c = headroom-space c .before
 
 abbrev grants-space : Spaces → tie.After-least
 grants-space c = caps-space c .before
 
 abbrev start : Spaces → tie.Start
-start c = grants-space c .before .before .before .before .before .before .before .before .before .before .before
+start c = grants-space c .before .before .before .before .before .before .before .before .before .before .before .before .before
 
 -- From Plan: the spaces. From the counts: Plan.
 abbrev spaces : tie.After-plan → Spaces
-spaces c = c .before .before .before .before
+spaces c = c .before .before .before .before .before
 
 abbrev plan-of : tie.After-planned-count2 → tie.After-plan
-plan-of c = c .before .before .before .before .before .before .before .before .before
+plan-of c = c .before .before .before .before .before .before .before .before .before .before .before
 
 -- From the first store: the counts. From each further one: the store before it.
 abbrev counts : tie.After-store → tie.After-planned-count2
@@ -41,6 +44,9 @@ grants-store c = c .before .before .before .before .before
 abbrev caps-store : tie.After-store3 → tie.After-store2
 caps-store c = c .before .before .before .before .before
 
+abbrev headroom-store : tie.After-store4 → tie.After-store3
+headroom-store c = c .before .before .before .before .before
+
 -- ---- What is known of the lists
 
 -- What Plan comes to in those that are lent.
@@ -49,7 +55,8 @@ lengths c =
     lent
     (take (grants-space c .least .result) (start c .args .granted .now))
     (take (caps-space c .least2 .result) (start c .args .capped .now))
-    (take (c .least3 .result) (start c .args .spare .now))
+    (take (headroom-space c .least3 .result) (start c .args .spare .now))
+    (take (c .least4 .result) (start c .args .holders .now))
 
 abbrev own : Spaces → Outcome
 own c = plan (start c .args .table .now) (start c .args .demands .now) (lengths c)
@@ -72,12 +79,17 @@ module _ (c : tie.After-planned-count2) where
   abbrev headroom-listed : Listed (λ p. p .headroom) (own lends) (start lends .args .headroom .now) (start lends .args .spare .now)
   headroom-listed =
       let told = plan-of c .plan .ensures in
-      listed (lends .least3 .ensures) (headroom-counted _ _ (lengths lends) _ (c .before .before .cord-count .ensures)) (told .0) (told .1 .1 .1) (c .before .planned-count .ensures)
+      listed (headroom-space lends .least3 .ensures) (headroom-counted _ _ (lengths lends) _ (c .before .before .cord-count .ensures)) (told .0) (told .1 .1 .1 .0) (c .before .planned-count .ensures)
+
+  abbrev held-listed : Listed (λ p. p .held) (own lends) (start lends .args .held .now) (start lends .args .holders .now)
+  held-listed =
+      let told = plan-of c .plan .ensures in
+      listed (lends .least4 .ensures) (held-counted _ _ (lengths lends) _ (c .before .before .cord-count .ensures)) (told .0) (told .1 .1 .1 .1) (c .before .planned-count .ensures)
 
 -- ---- The needs
 
 returns : tie.Need-returns
-returns c = plan-short _ _ _ _ _ (omega arith)
+returns c = plan-short _ _ _ _ _ _ (omega arith)
 
 least-requires : tie.Need-least-requires
 least-requires c κs = search needs
@@ -87,6 +99,9 @@ least-requires-2 c κs = search needs
 
 least-requires-3 : tie.Need-least-requires-3
 least-requires-3 c κs = search needs
+
+least-requires-4 : tie.Need-least-requires-4
+least-requires-4 c κs = search needs
 
 slice-relend-prefix-plan : tie.Need-slice-relend-prefix-plan
 slice-relend-prefix-plan c = search needs
@@ -104,7 +119,13 @@ slice-relend-prefix-plan-3 : tie.Need-slice-relend-prefix-plan-3
 slice-relend-prefix-plan-3 c = search needs
 
 slice-aggregate-plan-3 : tie.Need-slice-aggregate-plan-3
-slice-aggregate-plan-3 c = front-length _ _ (c .before .before .before .least3 .ensures)
+slice-aggregate-plan-3 c = front-length _ _ (headroom-space (c .before .before .before) .least3 .ensures)
+
+slice-relend-prefix-plan-4 : tie.Need-slice-relend-prefix-plan-4
+slice-relend-prefix-plan-4 c = search needs
+
+slice-aggregate-plan-4 : tie.Need-slice-aggregate-plan-4
+slice-aggregate-plan-4 c = front-length _ _ (c .before .before .before .before .least4 .ensures)
 
 plan-requires : tie.Need-plan-requires
 plan-requires c κs = search needs
@@ -145,6 +166,15 @@ slice-aggregate-store-3 c = omega (arith, list-counted (headroom-listed (counts 
 store-requires-3 : tie.Need-store-requires-3
 store-requires-3 c κs = search needs
 
+slice-reshare-prefix-store-4 : tie.Need-slice-reshare-prefix-store-4
+slice-reshare-prefix-store-4 c = omega (arith, list-fits (held-listed (counts (grants-store (caps-store (c .before .before))))))
+
+slice-aggregate-store-4 : tie.Need-slice-aggregate-store-4
+slice-aggregate-store-4 c = omega (arith, list-counted (held-listed (counts (grants-store (caps-store (c .before .before .before))))))
+
+store-requires-4 : tie.Need-store-requires-4
+store-requires-4 c κs = search needs
+
 number-requires : tie.Need-number-requires
 number-requires c κs = search needs
 
@@ -175,12 +205,19 @@ same-length-6 c = search needs
 same-length-7 : tie.Need-same-length-7
 same-length-7 c = search needs
 
+same-length-8 : tie.Need-same-length-8
+same-length-8 c = search needs
+
+same-length-9 : tie.Need-same-length-9
+same-length-9 c = search needs
+
 returns-2 : tie.Need-returns-2
 returns-2 c =
     let answer = c .before .before in
     let figure = answer .before .before in
     let number = figure .before in
-    let store3 = number .before .before .before in
+    let store4 = number .before .before .before in
+    let store3 = headroom-store store4 in
     let store2 = caps-store store3 in
     let store = grants-store store2 in
     let told = counts store in
@@ -189,14 +226,15 @@ returns-2 c =
     let args = start spaces .args in
     let pre = start spaces .pre in
     call-same
-    (same-plan _ _ (args .grants .now) (args .granted .now) (args .caps .now) (args .capped .now) (args .headroom .now) (args .spare .now)
-    (record { grants = pre .0; caps = pre .1 .0; headroom = pre .1 .1 })
-    (grants-space spaces .least .ensures) (caps-space spaces .least2 .ensures) (spaces .least3 .ensures))
-    (plan-done (own spaces) (args .grants .now) (args .caps .now) (args .headroom .now) (args .answer .now)
+    (same-plan _ _ (args .grants .now) (args .granted .now) (args .caps .now) (args .capped .now) (args .headroom .now) (args .spare .now) (args .held .now) (args .holders .now)
+    (record { grants = pre .0; caps = pre .1 .0; headroom = pre .1 .1 .0; held = pre .1 .1 .1 })
+    (grants-space spaces .least .ensures) (caps-space spaces .least2 .ensures) (headroom-space spaces .least3 .ensures) (spaces .least4 .ensures))
+    (plan-done (own spaces) (args .grants .now) (args .caps .now) (args .headroom .now) (args .held .now) (args .answer .now)
     (omega (arith, grants-space spaces .before .if1 .left)) (plan .plan .ensures .0)
     (list-stored (grants-listed told) (store .store .ensures))
     (list-stored (caps-listed told) (store2 .store2 .ensures))
     (list-stored (headroom-listed told) (store3 .store3 .ensures))
+    (list-stored (held-listed told) (store4 .store4 .ensures))
     (number .number .ensures) (figure .figure .ensures) (answer .store-answer .ensures .1))
 
 pub plan-by-spec : {M : Type 1} → statement M
@@ -207,12 +245,15 @@ plan-by-spec =
     least-requires
     least-requires-2
     least-requires-3
+    least-requires-4
     slice-relend-prefix-plan
     slice-aggregate-plan
     slice-relend-prefix-plan-2
     slice-aggregate-plan-2
     slice-relend-prefix-plan-3
     slice-aggregate-plan-3
+    slice-relend-prefix-plan-4
+    slice-aggregate-plan-4
     plan-requires
     cord-count-requires
     planned-count-requires
@@ -226,6 +267,9 @@ plan-by-spec =
     slice-reshare-prefix-store-3
     slice-aggregate-store-3
     store-requires-3
+    slice-reshare-prefix-store-4
+    slice-aggregate-store-4
+    store-requires-4
     number-requires
     figure-requires
     store-answer-requires
@@ -236,4 +280,6 @@ plan-by-spec =
     same-length-5
     same-length-6
     same-length-7
+    same-length-8
+    same-length-9
     returns-2)

@@ -8,13 +8,13 @@ use Rattle.capi.proofs.plan_loaded.Tie as tie
 
 -- Earlier places, each from a later one: the start from the load of the table, that from the load of the demands, and that from the call.
 abbrev start : tie.After-load → tie.Start
-start c = c .before .before .before .before .before .before .before .before .before .before
+start c = c .before .before .before .before .before .before .before .before .before .before .before
 
 abbrev table-load : tie.After-load2 → tie.After-load
 table-load c = c .before .before .before .before
 
 abbrev demands-load : tie.After-plan-words → tie.After-load2
-demands-load c = c .before .before .before .before .before .before .before .before .before
+demands-load c = c .before .before .before .before .before .before .before .before .before .before
 
 load-requires : tie.Need-load-requires
 load-requires c κs = search needs
@@ -59,15 +59,18 @@ same-length-5 c = search needs
 same-length-6 : tie.Need-same-length-6
 same-length-6 c = search needs
 
+same-length-7 : tie.Need-same-length-7
+same-length-7 c = search needs
+
 returns : tie.Need-returns
 returns c =
-    let words = c .before .before .before .before .before .before .before .before in
+    let words = c .before .before .before .before .before .before .before .before .before .before in
     let demands = demands-load words in
     let table = table-load demands in
     let args = start table .args in
     let pre = start table .pre in
     call-same
-    (plan-loaded (args .table .now) (args .words .now) (args .demands .now) (args .figures .now) (lentBytes (args .grants .now) (args .caps .now) (args .headroom .now)) (pre .0) (pre .1)
+    (plan-loaded (args .table .now) (args .words .now) (args .demands .now) (args .figures .now) (lentBytes (args .grants .now) (args .caps .now) (args .headroom .now) (args .held .now)) (pre .0) (pre .1)
     (table .load .ensures .0) (table .load .ensures .1) (demands .load2 .ensures .0) (demands .load2 .ensures .1))
     (words .plan-words .ensures)
 
@@ -88,4 +91,5 @@ plan-loaded-spec =
     same-length-4
     same-length-5
     same-length-6
+    same-length-7
     returns)

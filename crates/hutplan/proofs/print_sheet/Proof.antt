@@ -72,6 +72,9 @@ slice-aggregate-print-table-3 c = search needs
 slice-aggregate-print-table-4 : tie.Need-slice-aggregate-print-table-4
 slice-aggregate-print-table-4 c = search needs
 
+slice-aggregate-print-table-5 : tie.Need-slice-aggregate-print-table-5
+slice-aggregate-print-table-5 c = search needs
+
 print-table-requires : tie.Need-print-table-requires
 print-table-requires c κs = search needs
 
@@ -83,8 +86,8 @@ same-length-4 c = search needs
 
 returns-2 : tie.Need-returns-2
 returns-2 c =
-    let put = c .before .before .before .before .before in
-    let known = put .before .before .before .before .before .before .before in
+    let put = c .before .before .before .before .before .before in
+    let known = put .before .before .before .before .before .before .before .before in
     let answered = known .before .before .before .before in
     let start = answered .before .before .before .before .before .before in
     let args = start .args in
@@ -112,6 +115,7 @@ print-sheet-spec =
     slice-aggregate-print-table-2
     slice-aggregate-print-table-3
     slice-aggregate-print-table-4
+    slice-aggregate-print-table-5
     print-table-requires
     same-length-3
     same-length-4

@@ -68,6 +68,9 @@ counted4 c = counted3 (c .before .before)
 abbrev counted5 : tie.Else5 → tie.After-server-count
 counted5 c = counted4 (c .before .before)
 
+abbrev counted6 : tie.Else6 → tie.After-server-count
+counted6 c = counted5 (c .before .before)
+
 check-lows-requires : tie.Need-check-lows-requires
 check-lows-requires c κs = search needs
 
@@ -130,7 +133,15 @@ abbrev headroom-checked : (c : tie.Else5) → Passed (counted5 c) 5
 headroom-checked c = list-passed (caps-checked (c .before .before)) _ (cord-count (counted5 c .before)) (c .if5 .left)
 
 returns-7 : tie.Need-returns-7
-returns-7 c = (all-passed (headroom-checked c) _ _ (cord-count (counted5 c .before)) (server-count (counted5 c)), lows (counted5 c))
+returns-7 c =
+    let past = c .before .before in
+    (short-told (headroom-checked past) _ (cord-count (counted5 past .before)) (c .if6 .taken), lows (counted5 past))
+
+abbrev held-checked : (c : tie.Else6) → Passed (counted6 c) 6
+held-checked c = list-passed (headroom-checked (c .before .before)) _ (cord-count (counted6 c .before)) (c .if6 .left)
+
+returns-8 : tie.Need-returns-8
+returns-8 c = (all-passed (held-checked c) _ _ (cord-count (counted6 c .before)) (server-count (counted6 c)), lows (counted6 c))
 
 pub admit-spec : {M : Type 1} → statement M
 admit-spec =
@@ -148,4 +159,5 @@ admit-spec =
     returns-4
     returns-5
     returns-6
-    returns-7)
+    returns-7
+    returns-8)

@@ -1,15 +1,11 @@
 -- `plan` meets its contract: what is admitted is dealt into the fronts of the lists.
-use mathlib.Core.Path.{_≡_, sym, _∙_}
+use mathlib.Core.Path.{sym, _∙_}
 use mathlib.Core.List.{List}
-use Prim.Native.Nat.{ℕ, _≤_}
-use native.Mathlib.Omega.{arith}
-use lib.ListN.{length, take, replicate, length-replicate}
+use Prim.Native.Nat.{ℕ}
 use native.Mathlib.Nat.{le-of-eq}
 use lib.Seq.{length-take-le}
 use Rattle.deals.specs.Plan.{plan, lent}
 use Rattle.deals.specs.declared.Lengths.{Lengths}
-use Rattle.room_lists.proofs.Lent.{cords-few}
-use Rattle.rooms.specs.Table.{mostCords}
 use Rattle.plans.proofs.PlanCall.{lows-long, lows-told, cords-fit, servers-fit, Admitted, admitted-good, admitted-refused, refusal-told, unwritten, freed-told, written}
 use borrow.Author.Needs.{needs}
 use Rattle.plans.proofs.plan.Statement.{statement}
@@ -17,7 +13,7 @@ use Rattle.plans.proofs.plan.Tie as tie
 
 -- The table, the demands and the lists.
 abbrev start : tie.After-admit → tie.Start
-start c = c .before .before .before .before .before .before .before
+start c = c .before .before .before .before .before .before .before .before
 
 abbrev table : tie.After-admit → List ℕ
 table c = start c .args .table .now
@@ -26,7 +22,7 @@ abbrev demands : tie.After-admit → List ℕ
 demands c = start c .args .demands .now
 
 abbrev lengths : tie.After-admit → Lengths
-lengths c = lent (start c .args .grants .now) (start c .args .caps .now) (start c .args .headroom .now)
+lengths c = lent (start c .args .grants .now) (start c .args .caps .now) (start c .args .headroom .now) (start c .args .held .now)
 
 -- What is admitted, with its counts of cords and of servers.
 abbrev admit-of : tie.After-known-told → tie.After-admit
@@ -40,10 +36,6 @@ servers c = c .before .admission .given .0 .1 .0
 
 abbrev admitted : (c : tie.After-known-told) → Admitted (table (admit-of c)) (demands (admit-of c)) (lengths (admit-of c)) (cords c) (servers c)
 admitted c = admitted-good _ _ _ (admit-of c .admit .ensures .0) (c .before .admission .given .1)
-
--- The front of a list of zeros for the cords of any room.
-figures-front : (n : ℕ) → n ≤ mostCords → length {A = ℕ} (take n (replicate mostCords 0)) ≡ n
-figures-front n h = let zeros : List ℕ = replicate mostCords 0 in length-take-le n zeros (omega (arith, length-replicate {A = ℕ} mostCords 0))
 
 admit-requires : tie.Need-admit-requires
 admit-requires c κs = search needs
@@ -72,11 +64,11 @@ slice-relend-prefix-plan-room-3 c = admitted (c .before .before .before) .headro
 slice-aggregate-plan-room-4 : tie.Need-slice-aggregate-plan-room-4
 slice-aggregate-plan-room-4 c = sym (length-take-le _ _ (admitted (c .before .before .before .before) .headroomLong))
 
-array-borrow-prefix-held : tie.Need-array-borrow-prefix-held
-array-borrow-prefix-held c = let a = admitted (c .before .before .before .before) in cords-few _ (a .room) (a .cordsFit)
+slice-relend-prefix-plan-room-4 : tie.Need-slice-relend-prefix-plan-room-4
+slice-relend-prefix-plan-room-4 c = admitted (c .before .before .before .before) .heldLong
 
 slice-aggregate-plan-room-5 : tie.Need-slice-aggregate-plan-room-5
-slice-aggregate-plan-room-5 c = let a = admitted (c .before .before .before .before .before) in sym (figures-front _ (cords-few _ (a .room) (a .cordsFit)))
+slice-aggregate-plan-room-5 c = sym (length-take-le _ _ (admitted (c .before .before .before .before .before) .heldLong))
 
 plan-room-requires : tie.Need-plan-room-requires
 plan-room-requires c κs =
@@ -91,7 +83,7 @@ plan-room-requires c κs =
           cords-fit table (length-take-le _ _ (a .grantsLong)) (a .cordsFit),
           servers-fit table (length-take-le _ _ (a .capsLong)) (a .serversFit),
           cords-fit table (length-take-le _ _ (a .headroomLong)) (a .cordsFit),
-          cords-fit table (figures-front (cords known) (cords-few table (a .room) (a .cordsFit))) (a .cordsFit),
+          cords-fit table (length-take-le _ _ (a .heldLong)) (a .cordsFit),
         ),
         (le-of-eq (lows-long table _ lows), lows-told table _ lows),
       ),
@@ -109,9 +101,12 @@ same-length-2 c = search needs
 same-length-3 : tie.Need-same-length-3
 same-length-3 c = search needs
 
+same-length-4 : tie.Need-same-length-4
+same-length-4 c = search needs
+
 returns : tie.Need-returns
 returns c =
-    let room = c .before .before .before .before .before .before .before in
+    let room = c .before .before .before .before .before .before .before .before in
     let known = room .before .before .before .before .before .before in
     let a = admitted known in
     let dealt = room .plan-room .ensures (a .room .value) (a .room .next) (a .room .is) in
@@ -121,7 +116,10 @@ returns c =
         written _ (a .is) (λ p. p .grants) _ _ _ (dealt .grants-are) (lists .0 ∙ length-take-le _ _ (a .grantsLong)) (a .grantsLong),
         (
           written _ (a .is) (λ p. p .caps) _ _ _ (dealt .caps-are) (lists .1 .0 ∙ length-take-le _ _ (a .capsLong)) (a .capsLong),
-          written _ (a .is) (λ p. p .headroom) _ _ _ (dealt .headroom-is) (lists .1 .1 .0 ∙ length-take-le _ _ (a .headroomLong)) (a .headroomLong),
+          (
+            written _ (a .is) (λ p. p .headroom) _ _ _ (dealt .headroom-is) (lists .1 .1 .0 ∙ length-take-le _ _ (a .headroomLong)) (a .headroomLong),
+            written _ (a .is) (λ p. p .held) _ _ _ (dealt .held-are) (lists .1 .1 .1 .0 ∙ length-take-le _ _ (a .heldLong)) (a .heldLong),
+          ),
         ),
       ),
     )
@@ -130,7 +128,7 @@ returns-2 : tie.Need-returns-2
 returns-2 c =
     let admit = c .before .before .before in
     let refused = admitted-refused (plan (table admit) (demands admit) (lengths admit)) (admit .admit .ensures .0) (c .before .admission2 .given .1) in
-    (refusal-told _ refused, (unwritten _ refused (λ p. p .grants) _, (unwritten _ refused (λ p. p .caps) _, unwritten _ refused (λ p. p .headroom) _)))
+    (refusal-told _ refused, (unwritten _ refused (λ p. p .grants) _, (unwritten _ refused (λ p. p .caps) _, (unwritten _ refused (λ p. p .headroom) _, unwritten _ refused (λ p. p .held) _))))
 
 pub plan-spec : {M : Type 1} → statement M
 plan-spec =
@@ -145,12 +143,13 @@ plan-spec =
     slice-aggregate-plan-room-3
     slice-relend-prefix-plan-room-3
     slice-aggregate-plan-room-4
-    array-borrow-prefix-held
+    slice-relend-prefix-plan-room-4
     slice-aggregate-plan-room-5
     plan-room-requires
     enum-known-admission-2
     same-length
     same-length-2
     same-length-3
+    same-length-4
     returns
     returns-2)

@@ -12,23 +12,23 @@ cord-count-requires : tie.Need-cord-count-requires
 cord-count-requires c κs = search needs
 
 array-borrow-prefix-servers : tie.Need-array-borrow-prefix-servers
-array-borrow-prefix-servers c = servers-few _ (c .before .before .before .before .before .before .before .pre) (c .before .server-count .ensures .0)
+array-borrow-prefix-servers c = servers-few _ (c .before .before .before .before .before .before .before .before .pre) (c .before .server-count .ensures .0)
 
 slice-aggregate-plan-by : tie.Need-slice-aggregate-plan-by
-slice-aggregate-plan-by c = servers-front _ (c .before .before .before .before .before .before .before .before .pre) (c .before .before .server-count .ensures .0) (replicate 4 0)
+slice-aggregate-plan-by c = servers-front _ (c .before .before .before .before .before .before .before .before .before .pre) (c .before .before .server-count .ensures .0) (replicate 4 0)
 
 array-borrow-prefix-cords : tie.Need-array-borrow-prefix-cords
-array-borrow-prefix-cords c = cords-few _ (c .before .before .before .before .before .before .before .before .pre) (c .before .cord-count .ensures)
+array-borrow-prefix-cords c = cords-few _ (c .before .before .before .before .before .before .before .before .before .pre) (c .before .cord-count .ensures)
 
 slice-aggregate-plan-by-2 : tie.Need-slice-aggregate-plan-by-2
-slice-aggregate-plan-by-2 c = cords-front _ (c .before .before .before .before .before .before .before .before .before .pre) (c .before .before .cord-count .ensures) (replicate 4 0)
+slice-aggregate-plan-by-2 c = cords-front _ (c .before .before .before .before .before .before .before .before .before .before .pre) (c .before .before .cord-count .ensures) (replicate 4 0)
 
 plan-by-requires : tie.Need-plan-by-requires
 plan-by-requires c κs =
-    (c .before .before .before .before .before .before .before .before .before .before .pre, (servers-lent _ (c .before .before .before .before .before .before .before .before .before .before .pre) (c .before .before .before .before .server-count .ensures .0) (replicate 4 0), cords-lent _ (c .before .before .before .before .before .before .before .before .before .before .pre) (c .before .before .before .cord-count .ensures) (replicate 4 0)))
+    (c .before .before .before .before .before .before .before .before .before .before .before .pre, (servers-lent _ (c .before .before .before .before .before .before .before .before .before .before .before .pre) (c .before .before .before .before .server-count .ensures .0) (replicate 4 0), cords-lent _ (c .before .before .before .before .before .before .before .before .before .before .before .pre) (c .before .before .before .cord-count .ensures) (replicate 4 0)))
 
 same-length : tie.Need-same-length
-same-length c = c .before .before .before .before .plan-by .kept .1 .1 .1 .1 .1 .1 .1 .0
+same-length c = c .before .before .before .before .plan-by .kept .1 .1 .1 .1 .1 .1 .1 .1 .0
 
 returns : tie.Need-returns
 returns c = c .before .before .before .before .plan-by .ensures

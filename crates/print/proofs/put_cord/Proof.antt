@@ -29,6 +29,12 @@ slice-aggregate-put-figure-4 c = search needs
 put-figure-requires-4 : tie.Need-put-figure-requires-4
 put-figure-requires-4 c κs = search needs
 
+slice-aggregate-put-figure-5 : tie.Need-slice-aggregate-put-figure-5
+slice-aggregate-put-figure-5 c = search needs
+
+put-figure-requires-5 : tie.Need-put-figure-requires-5
+put-figure-requires-5 c κs = search needs
+
 slice-aggregate-put : tie.Need-slice-aggregate-put
 slice-aggregate-put c = search needs
 
@@ -42,11 +48,12 @@ returns : tie.Need-returns
 unfolding cordLine
 returns c =
     let last = c .before .before in
-    let p4 = last .before .before .before .before .before in
+    let p5 = last .before .before .before .before .before in
+    let p4 = p5 .before .before .before .before .before in
     let p3 = p4 .before .before .before .before .before in
     let p2 = p3 .before .before .before .before .before in
     let p1 = p2 .before .before .before .before .before in
-    then (p1 .put-figure .ensures) (then (p2 .put-figure2 .ensures) (then (p3 .put-figure3 .ensures) (then (p4 .put-figure4 .ensures) (last .put .ensures))))
+    then (p1 .put-figure .ensures) (then (p2 .put-figure2 .ensures) (then (p3 .put-figure3 .ensures) (then (p4 .put-figure4 .ensures) (then (p5 .put-figure5 .ensures) (last .put .ensures)))))
 
 pub put-cord-spec : {M : Type 1} → statement M
 put-cord-spec =
@@ -60,6 +67,8 @@ put-cord-spec =
     put-figure-requires-3
     slice-aggregate-put-figure-4
     put-figure-requires-4
+    slice-aggregate-put-figure-5
+    put-figure-requires-5
     slice-aggregate-put
     put-requires
     same-length

@@ -12,18 +12,18 @@ use Rattle.print.proofs.put_cords.Statement.{statement}
 use Rattle.print.proofs.put_cords.Tie as tie
 
 abbrev Inv-loop : tie.InvT-loop
-Inv-loop count cords grants headroom first buffer₀ start next₀ k₀ buffer next k =
-    let line = cordLineAt cords (planLine grants headroom) first in
+Inv-loop count cords grants headroom held first buffer₀ start next₀ k₀ buffer next k =
+    let line = cordLineAt cords (planLine grants headroom held) first in
     (k ≤ count)
     × Putting buffer₀ start buffer next (linesFrom (count - k) k line) (linesFrom count 0 line)
     × (length buffer ≡ length buffer₀)
 
 abbrev μ-loop : tie.MeasureT-loop
-μ-loop count cords grants headroom first buffer₀ start next₀ k₀ buffer next k = count - k
+μ-loop count cords grants headroom held first buffer₀ start next₀ k₀ buffer next k = count - k
 
 loop-holds : tie.Need-loop-holds Inv-loop μ-loop
 loop-holds c =
-    let all : c .before .before .before .args .count - 0 ≡ c .before .before .before .args .count = omega arith in
+    let all : c .before .before .before .before .args .count - 0 ≡ c .before .before .before .before .args .count = omega arith in
     (omega arith, rw all (putting-first _ _ _ (search needs)), refl)
 
 add-put-cord : tie.Need-add-put-cord Inv-loop μ-loop
@@ -47,8 +47,14 @@ add-word-2 c = search needs
 word-requires-2 : tie.Need-word-requires-2 Inv-loop μ-loop
 word-requires-2 c κs = search needs
 
+add-word-3 : tie.Need-add-word-3 Inv-loop μ-loop
+add-word-3 c = search needs
+
+word-requires-3 : tie.Need-word-requires-3 Inv-loop μ-loop
+word-requires-3 c κs = search needs
+
 put-cord-requires : tie.Need-put-cord-requires Inv-loop μ-loop
-put-cord-requires c κs = putting-within (c .before .before .before .before .before .loop .inv .1)
+put-cord-requires c κs = putting-within (c .before .before .before .before .before .before .loop .inv .1)
 
 add-k : tie.Need-add-k Inv-loop μ-loop
 add-k c = search needs
@@ -59,13 +65,14 @@ loop-less c = search needs
 loop-again : tie.Need-loop-again Inv-loop μ-loop
 loop-again c =
     let put = c .before .before in
-    let at = put .before .before .before .before .before .before in
-    let args = at .before .before .before .before .args in
-    let line = cordLineAt (args .cords .now) (planLine (args .grants .now) (args .headroom .now)) (args .first) in
-    let node = put .before .before .before .before .node .ensures in
-    let grant = put .before .before .before .word .ensures .0 in
-    let headroom = put .before .before .word2 .ensures .0 in
-    let cord = rw (node, grant, headroom) at (put .put-cord .ensures) in
+    let at = put .before .before .before .before .before .before .before in
+    let args = at .before .before .before .before .before .args in
+    let line = cordLineAt (args .cords .now) (planLine (args .grants .now) (args .headroom .now) (args .held .now)) (args .first) in
+    let node = put .before .before .before .before .before .node .ensures in
+    let grant = put .before .before .before .before .word .ensures .0 in
+    let headroom = put .before .before .before .word2 .ensures .0 in
+    let held = put .before .before .word3 .ensures .0 in
+    let cord = rw (node, grant, headroom, held) at (put .put-cord .ensures) in
     (omega arith, lines-next line (args .count) (at .loop .k) (omega (arith, at)) (at .loop .inv .1) cord, search needs)
 
 same-length : tie.Need-same-length Inv-loop μ-loop
@@ -88,6 +95,8 @@ put-cords-spec =
     word-requires
     add-word-2
     word-requires-2
+    add-word-3
+    word-requires-3
     put-cord-requires
     add-k
     loop-less

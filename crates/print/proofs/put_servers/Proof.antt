@@ -10,11 +10,11 @@ use Rattle.print.proofs.put_servers.Statement.{statement}
 use Rattle.print.proofs.put_servers.Tie as tie
 
 abbrev Inv-loop : tie.InvT-loop
-Inv-loop servers cords caps grants headroom buffer₀ start count first₀ next₀ v₀ buffer first next v =
-    Walking servers cords caps (planLine grants headroom) buffer₀ start count buffer first next v
+Inv-loop servers cords caps grants headroom held buffer₀ start count first₀ next₀ v₀ buffer first next v =
+    Walking servers cords caps (planLine grants headroom held) buffer₀ start count buffer first next v
 
 abbrev μ-loop : tie.MeasureT-loop
-μ-loop servers cords caps grants headroom buffer₀ start count first₀ next₀ v₀ buffer first next v = count - v
+μ-loop servers cords caps grants headroom held buffer₀ start count first₀ next₀ v₀ buffer first next v = count - v
 
 least-requires : tie.Need-least-requires Inv-loop μ-loop
 least-requires c κs = search needs

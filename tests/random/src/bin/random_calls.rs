@@ -140,7 +140,7 @@ fn found(case: Case) -> ! {
 struct Tally([[u64; NO_ANSWER + 1]; 3]);
 
 /// One above the greatest number of a refusal.
-const NO_ANSWER: usize = 15;
+const NO_ANSWER: usize = 16;
 
 impl Tally {
     fn print(&self, since: Instant) {

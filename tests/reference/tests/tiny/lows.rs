@@ -9,7 +9,7 @@ fn refusal_9_names_the_lowest_overfull_breaker() {
     let cases = [listed(), drawn(0xA076_1D64_78BD_642F, 30_000)].concat();
     let (mut refused, mut not_the_first, mut several, mut accepted) = (0, 0, 0, 0);
     for (room, demands) in cases {
-        let answer = plan(&room.table(), &demands, [6, 3, 6]);
+        let answer = plan(&room.table(), &demands, [6, 3, 6, 6]);
         let Some(node) = room.first_exceeded(&room.lows()) else {
             assert!(answer.is_ok(), "{room:?} {answer:?}");
             accepted += 1;

@@ -22,8 +22,14 @@ pub(crate) struct Asking {
 /// The headroom of each cord. The watts in use play no part: Requests come of lows, wants and limits,
 /// and the split is document 01's own, without A.2's first passing.
 pub fn headroom(room: &Room, wants: &[Watts]) -> Vec<Watts> {
+    let ceilings = cord_ceilings(room);
+    let mut node_ceilings = BTreeMap::new();
+    for root in &room.trees {
+        note_ceiling(root, &ceilings, &mut node_ceilings);
+    }
     let lending = Lending {
-        ceilings: cord_ceilings(room),
+        ceilings,
+        node_ceilings,
         wants,
         askings: askings(room, wants),
     };
@@ -90,27 +96,34 @@ fn cord_ceilings(room: &Room) -> Vec<Watts> {
     ceilings
 }
 
+/// A breaker's ceiling, by those of its cords; notes it, and those of the breakers beneath, by number.
+fn note_ceiling(breaker: &Breaker, cords: &[Watts], nodes: &mut BTreeMap<u32, Watts>) -> Watts {
+    let mut below = 0;
+    for child in &breaker.children {
+        below += match child {
+            Child::Breaker(lower) => note_ceiling(lower, cords, nodes),
+            Child::Cord(cord) => cords[cord.index],
+        };
+    }
+    let ceiling = breaker.limit.min(below);
+    nodes.insert(breaker.number, ceiling);
+    ceiling
+}
+
 struct Lending<'a> {
     /// One a cord, as are the wants.
     ceilings: Vec<Watts>,
+    /// By node number, as are the askings.
+    node_ceilings: BTreeMap<u32, Watts>,
     wants: &'a [Watts],
     askings: BTreeMap<u32, Asking>,
 }
 
 impl Lending<'_> {
-    fn ceiling(&self, breaker: &Breaker) -> Watts {
-        let ceiling = |child: &Child| match child {
-            Child::Breaker(lower) => self.ceiling(lower),
-            Child::Cord(cord) => self.ceilings[cord.index],
-        };
-        let below: Watts = breaker.children.iter().map(ceiling).sum();
-        below.min(breaker.limit)
-    }
-
     /// A breaker's ceiling less its Requests, those of all ranks.
     fn spare(&self, breaker: &Breaker) -> Watts {
         let requests: Watts = self.askings[&breaker.number].requests.iter().sum();
-        self.ceiling(breaker) - requests
+        self.node_ceilings[&breaker.number] - requests
     }
 
     /// A child's ceiling less its Requests; a cord's only Request is its want.

@@ -1,4 +1,4 @@
--- `share` meets its contract: the weights are dealt to the nodes, then to the cords.
+-- `deal_out` meets its contract: the weights are dealt to the nodes, then to the cords.
 use mathlib.Core.Path.{sym, _∙_}
 use mathlib.Core.List.{List}
 use Prim.Native.Nat.{ℕ, _≤_}
@@ -10,8 +10,8 @@ use Rattle.levels.proofs.Fronts.{Lent, lent-zeros, rejoined, lent-again, lent-f
 use Rattle.ranks.specs.Passes.{NodesDealt}
 use Rattle.headroom.specs.Passes.{LendLists, AllPlaces, Zeros, Weighed}
 use Rattle.headroom.proofs.Weights.{listed-length, deal-nodes-asks, nodes-again, deal-cords-asks, take-wants-asks, shared}
-use Rattle.headroom.proofs.share.Statement.{statement}
-use Rattle.headroom.proofs.share.Tie as tie
+use Rattle.headroom.proofs.deal_out.Statement.{statement}
+use Rattle.headroom.proofs.deal_out.Tie as tie
 
 -- What it is given.
 abbrev lists : (s : tie.Start) → LendLists (s .args .parents .now) (s .args .nodes .now) (s .args .wants .now) (s .args .headroom .now)
@@ -118,8 +118,8 @@ returns c =
     shared (lists (start n)) (places (start n)) (zeros (start n)) (weights (start n)) (nodes-at n) (d .deal-cords .ensures)
     (lists (start n) .ceilings-size) (c .before .before .take-wants .ensures)
 
-pub share-spec : {M : Type 1} → statement M
-share-spec =
+pub deal-out-spec : {M : Type 1} → statement M
+deal-out-spec =
     tie.close
     (tie.spec
     array-borrow-prefix-amounts

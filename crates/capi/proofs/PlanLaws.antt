@@ -10,7 +10,7 @@ use Rattle.words.proofs.Bytes.{holdsAnswer-short, holdsAnswer-long, answered-sh
 use Rattle.words.proofs.Calls.{answer-told}
 use Rattle.rooms.specs.Table.{mostWords, mostServers, roomCords}
 use Rattle.rooms.proofs.Outcomes.{front-length}
-use Rattle.room_lists.specs.Lists.{CordsFit}
+use Rattle.rooms.specs.Rows.{CordsFit}
 use Rattle.deals.specs.Plan.{Plan, Outcome, accepted, refused, plan, lent, answerOf, after, planNumber, planFigure}
 use Rattle.deals.specs.declared.Lengths.{Lengths}
 use Rattle.deals.specs.declared.Planned.{Planned}

@@ -24,9 +24,9 @@ ghost use Rattle.capi.specs.Calls.{ReadCall, WriteCall, PlanCall};
 ghost use Rattle.capi.specs.Counts.{writtenCount, plannedCount};
 use deals::Planned;
 use demands::DECIDING_DEMANDS;
-use room_lists::cord_count;
 use rooms::Answer;
 use rooms::DECIDING_WORDS;
+use rooms::lists::cord_count;
 use words::least;
 
 pub mod schedule;

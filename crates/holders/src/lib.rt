@@ -10,8 +10,8 @@ use figures::index;
 use figures::index_word;
 use figures::place;
 use figures::word_index;
-use room_lists::LEVEL;
-use room_lists::NODE;
+use rooms::lists::LEVEL;
+use rooms::lists::NODE;
 
 // A node's number if it is cut at a rank or a higher one, else 0. `cut` is the highest rank at which it is.
 fn own(rank: u16, cut: u16, number: u16) -> u16

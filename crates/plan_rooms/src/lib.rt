@@ -10,7 +10,7 @@ ghost use Rattle.rooms.specs.Limits.{checked};
 ghost use Rattle.plan_rooms.specs.Planning.{RoomLists, SomeRoom, NoRequests, DealtTwice, Planning};
 ghost use Rattle.deal_by_rank.specs.Ranks.{Uncut};
 ghost use Rattle.layout.specs.Lists.{HasLowsBeneath};
-ghost use Rattle.room_lists.specs.Lists.{ServersFit, CordsFit};
+ghost use Rattle.rooms.specs.Rows.{ServersFit, CordsFit};
 use deal_by_rank::deal;
 use deal_by_rank::raise::raise_starts;
 use headroom::lend;
@@ -20,8 +20,8 @@ use layout::load_nodes;
 use levels::list_levels;
 use reclaim::reclaim;
 use reclaim::usable_of;
-use room_lists::node_count;
-use room_lists::table_scale;
+use rooms::lists::node_count;
+use rooms::lists::table_scale;
 
 // Both deals, in turn: the first starts from the cords' lows, the second from the watts in use after it. Gives the watts freed between
 // them. `left` comes with what each limit has over the lows beneath it, and leaves with what it has over the second deal's Requests;

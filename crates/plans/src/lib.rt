@@ -9,8 +9,8 @@ use deals::PlanRefusal;
 use deals::Planned;
 use figures::word_index;
 use plan_rooms::plan_room;
-use room_lists::server_count;
 use rooms::Checked;
+use rooms::lists::server_count;
 use words::first_not_below;
 
 // One more than the most watts of a demand.

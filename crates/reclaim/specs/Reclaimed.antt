@@ -8,7 +8,7 @@ use lib.Dec.{eqb, ltb}
 use lib.ListN.{length}
 use Rattle.rooms.specs.Table.{IsScale, mostCords, mostWatts}
 use Rattle.figures.specs.Figures.{figures, at, cell, sumOf}
-use Rattle.room_lists.specs.Lists.{serverColumn, shareColumn, carriedFrom}
+use Rattle.rooms.specs.Rows.{serverColumn, shareColumn, carriedFrom}
 use Rattle.deals.specs.SecondDeal.{leastOver}
 
 -- What the cords' rows must be, in a room of such a scale, with watts for each server: its need, or what it can use.

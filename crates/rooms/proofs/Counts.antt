@@ -6,16 +6,16 @@ use Prim.Native.Nat.{ℕ, _+_, _-_, _*_, _/_, _≤_, _<_}
 use native.Mathlib.Omega.{arith}
 use lib.ListN.{length}
 use Rattle.figures.specs.Figures.{at}
 use Rattle.rooms.specs.Part.{good, Good}
 use Rattle.rooms.specs.Table.{Room, formOf, roomCords}
 use Rattle.rooms.specs.Limits.{limit, nodeAt, parentOf, checked}
 use Rattle.rooms.specs.Credits.{nodeIndex, NodesRead, parentAt, limitAt}
 use Rattle.rooms.proofs.Rows.{nodes-words}
 use Rattle.rooms.proofs.Whole.{percentsOf, table-is, checked-is}
 use Rattle.rooms.proofs.Places.{Layout, layout, nodes-read, same-parent, same-limit}
 use Rattle.rooms.proofs.Reach.{length-is}
-use Rattle.room_lists.specs.Lists.{OfRoom, NodesFit, ServersFit, CordsFit, ScaleIs}
-use Rattle.room_lists.specs.Walk.{serversIndex}
+use Rattle.rooms.specs.Rows.{OfRoom, NodesFit, ServersFit, CordsFit, ScaleIs}
+use Rattle.rooms.specs.Walk.{serversIndex}
 
 module _ (table : List ℕ) where
   pub scale-told : {version scale : ℕ} → version ≡ at table 0 → scale ≡ formOf version .scale → ScaleIs table scale

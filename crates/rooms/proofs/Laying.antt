@@ -11,15 +11,15 @@ use borrow.Author.Tests.{eqb-true, eqb-false}
 use Rattle.figures.specs.Figures.{at, column}
 use Rattle.figures.proofs.Columns.{column-length, column-set}
 use Rattle.figures.proofs.Filled.{Filled, filled-none, filled-one, filled-all}
 use Rattle.rooms.specs.Part.{good, Good}
 use Rattle.rooms.specs.Table.{Room, mostServers, mostCords, cordCount, roomCords}
 use Rattle.rooms.specs.Limits.{checked}
 use Rattle.rooms.specs.Cords.{RoomCord, cordAt, serverAt, rankOf}
 use Rattle.rooms.specs.Lists.{nodesOf, levelsOf}
 use Rattle.rooms.proofs.Accepted.{accepted}
-use Rattle.room_lists.specs.Lists.{ServersFit, CordsFit, rankColumn, leastColumn, greatestColumn, countColumn, nodeColumn, serverColumn, levelColumn, shareColumn, rowWidth, ServerRows, CordRows}
-use Rattle.room_lists.specs.Walk.{serversIndex}
-use Rattle.room_lists.proofs.Walk.{begun, Walk, CordHere, ServerHere, walk-start, walk-server, walk-end}
+use Rattle.rooms.specs.Rows.{ServersFit, CordsFit, rankColumn, leastColumn, greatestColumn, countColumn, nodeColumn, serverColumn, levelColumn, shareColumn, rowWidth, ServerRows, CordRows}
+use Rattle.rooms.specs.Walk.{serversIndex}
+use Rattle.rooms.proofs.Walk.{begun, Walk, CordHere, ServerHere, walk-start, walk-server, walk-end}
 
 -- A row that is stored, with a figure of one of its columns, fills that column by one more.
 column-filled : {g : ℕ → ℕ} {size c : ℕ} (rows : List (List ℕ)) (k : ℕ) (row : List ℕ) → Filled g size c (column k rows) → c < size → at row k ≡ g c

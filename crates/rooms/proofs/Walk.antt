@@ -7,18 +7,18 @@ use native.Mathlib.Omega.{arith}
 use native.Mathlib.Numerals.{add-one}
 use lib.ListN.{length, getD, drop, List·getD-append, drop-of-length-le}
 use lib.Seq.{drop-cons, drop-drop, drop-at, getD-drop}
 use Rattle.rooms.specs.Part.{good}
 use Rattle.figures.specs.Figures.{total}
 use Rattle.rooms.specs.Table.{Cord, Server, Room, mostNodes, mostCords, mostWatts, highestRank, cord, cords, server, servers, cordCount, roomCords}
 use Rattle.rooms.specs.Limits.{checked}
 use Rattle.rooms.proofs.Inversion.{many-is, CordIs, cord-is, server-is}
 use Rattle.rooms.proofs.Rows.{nodes-words, cords-words}
 use Rattle.rooms.proofs.Whole.{percentsOf, table-is, checked-is}
 use Rattle.rooms.proofs.Accepted.{accepted}
 use Rattle.rooms.specs.Cords.{RoomCord, serverCords, cordsFrom, cordsOf, cordAt, serverAt}
 use Rattle.rooms.specs.Credits.{nodeIndex}
-use Rattle.room_lists.specs.Walk.{serversIndex}
+use Rattle.rooms.specs.Walk.{serversIndex}
 use Rattle.rooms.proofs.Cords.{noCord, noRoomCord, noServer, placed, serverCords-length}
 
 -- ---- The counts
 

@@ -5,10 +5,10 @@ use Prim.Native.Nat.{ℕ, _-_, _≤_, _<_}
 use native.Mathlib.Omega.{arith}
 use lib.ListN.{length}
 use borrow.Author.Needs.{needs}
-use Rattle.room_lists.proofs.Walk.{ServerHere}
-use Rattle.room_lists.proofs.Laying.{Laying, LayingServer, CordFits, laying-start, laying-server, laying-end, corded, few-cords, few-servers, server-begin, cord-fits, server-cord, server-end}
-use Rattle.room_lists.proofs.lay_out_servers.Statement.{statement}
-use Rattle.room_lists.proofs.lay_out_servers.Tie as tie
+use Rattle.rooms.proofs.Walk.{ServerHere}
+use Rattle.rooms.proofs.Laying.{Laying, LayingServer, CordFits, laying-start, laying-server, laying-end, corded, few-cords, few-servers, server-begin, cord-fits, server-cord, server-end}
+use Rattle.rooms.proofs.lists.lay_out_servers.Statement.{statement}
+use Rattle.rooms.proofs.lists.lay_out_servers.Tie as tie
 
 abbrev Inv-loop2 : tie.InvT-loop2
 Inv-loop2 table servers cords₀ start first v rank count word₀ c₀ v-end c-end cords word c = LayingServer table v start first count c word servers cords

@@ -2,8 +2,8 @@
 use mathlib.Core.Path.{sym}
 use lib.ListN.{List·getD-eq-default}
 use borrow.Author.Needs.{needs}
-use Rattle.room_lists.proofs.word.Statement.{statement}
-use Rattle.room_lists.proofs.word.Tie as tie
+use Rattle.rooms.proofs.lists.word.Statement.{statement}
+use Rattle.rooms.proofs.lists.word.Tie as tie
 
 mul-result : tie.Need-mul-result
 mul-result c = search needs

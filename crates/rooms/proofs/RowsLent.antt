@@ -5,11 +5,11 @@ use Prim.Native.Nat.{ℕ, _≤_}
 use native.Mathlib.Omega.{arith}
 use lib.ListN.{length, take, replicate, length-replicate}
 use lib.Seq.{length-take-le}
 use Rattle.rooms.specs.Part.{Good}
 use Rattle.rooms.specs.Table.{mostServers, mostCords}
 use Rattle.rooms.specs.Limits.{checked}
 use Rattle.rooms.proofs.Accepted.{accepted}
-use Rattle.room_lists.specs.Lists.{ServersFit, CordsFit}
+use Rattle.rooms.specs.Rows.{ServersFit, CordsFit}
 
 -- The front of a list of equal rows.
 front : (most n : ℕ) (row : List ℕ) → n ≤ most → length (take n (replicate most row)) ≡ n

@@ -1,8 +1,8 @@
 -- `cord_count` meets its contract: what a good table has besides its cords is told by its counts.
 use borrow.Author.Needs.{needs}
-use Rattle.room_lists.proofs.Counts.{cords-none, cords-told}
-use Rattle.room_lists.proofs.cord_count.Statement.{statement}
-use Rattle.room_lists.proofs.cord_count.Tie as tie
+use Rattle.rooms.proofs.Counts.{cords-none, cords-told}
+use Rattle.rooms.proofs.lists.cord_count.Statement.{statement}
+use Rattle.rooms.proofs.lists.cord_count.Tie as tie
 
 first-server-requires : tie.Need-first-server-requires
 first-server-requires c κs = search needs

@@ -1,9 +1,9 @@
 -- `server_count` meets its contract: the word behind the nodes.
 use mathlib.Core.Path.{_∙_}
 use borrow.Author.Needs.{needs}
-use Rattle.room_lists.proofs.Counts.{servers-told}
-use Rattle.room_lists.proofs.server_count.Statement.{statement}
-use Rattle.room_lists.proofs.server_count.Tie as tie
+use Rattle.rooms.proofs.Counts.{servers-told}
+use Rattle.rooms.proofs.lists.server_count.Statement.{statement}
+use Rattle.rooms.proofs.lists.server_count.Tie as tie
 
 servers-index-requires : tie.Need-servers-index-requires
 servers-index-requires c κs = search needs

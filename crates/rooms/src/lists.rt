@@ -4,18 +4,18 @@ ghost use mathlib.Core.Path.{_≡_};
 ghost use Prim.Native.Nat.{_<_, _+_, _^_};
 ghost use lib.ListN.{length};
 ghost use Rattle.figures.specs.Figures.{at};
 ghost use Rattle.rooms.specs.Part.{Good};
 ghost use Rattle.rooms.specs.Limits.{checked};
 ghost use Rattle.rooms.specs.Lists.{parentsOf, limitsOf};
-ghost use Rattle.room_lists.specs.Lists.{OfRoom, NodesFit, ServersFit, CordsFit, ScaleIs, ServerRows, CordRows};
-ghost use Rattle.room_lists.specs.Walk.{serversIndex};
+ghost use Rattle.rooms.specs.Rows.{OfRoom, NodesFit, ServersFit, CordsFit, ScaleIs, ServerRows, CordRows};
+ghost use Rattle.rooms.specs.Walk.{serversIndex};
+use crate::form::has_percents;
+use crate::form::limit_at;
+use crate::form::node_index;
+use crate::form::scale_of;
 use figures::index_word;
 use figures::short;
 use figures::word_index;
-use rooms::form::has_percents;
-use rooms::form::limit_at;
-use rooms::form::node_index;
-use rooms::form::scale_of;
 
 // The columns of a cord's row.
 pub const NODE: usize = 0;

@@ -1,8 +1,8 @@
 -- `table_scale` meets its contract: the version says the scale.
 use borrow.Author.Needs.{needs}
-use Rattle.room_lists.proofs.Counts.{scale-told}
-use Rattle.room_lists.proofs.table_scale.Statement.{statement}
-use Rattle.room_lists.proofs.table_scale.Tie as tie
+use Rattle.rooms.proofs.Counts.{scale-told}
+use Rattle.rooms.proofs.lists.table_scale.Statement.{statement}
+use Rattle.rooms.proofs.lists.table_scale.Tie as tie
 
 word-requires : tie.Need-word-requires
 word-requires c κs = search needs

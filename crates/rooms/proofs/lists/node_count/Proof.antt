@@ -1,9 +1,9 @@
 -- `node_count` meets its contract: the count is the second word.
 use mathlib.Core.Path.{_∙_}
 use borrow.Author.Needs.{needs}
-use Rattle.room_lists.proofs.Counts.{nodes-told}
-use Rattle.room_lists.proofs.node_count.Statement.{statement}
-use Rattle.room_lists.proofs.node_count.Tie as tie
+use Rattle.rooms.proofs.Counts.{nodes-told}
+use Rattle.rooms.proofs.lists.node_count.Statement.{statement}
+use Rattle.rooms.proofs.lists.node_count.Tie as tie
 
 word-requires : tie.Need-word-requires
 word-requires c κs = search needs

@@ -1,8 +1,8 @@
 -- `servers_index` meets its contract: the count of servers stands behind the nodes.
 use borrow.Author.Needs.{needs}
-use Rattle.room_lists.proofs.Counts.{index-told}
-use Rattle.room_lists.proofs.servers_index.Statement.{statement}
-use Rattle.room_lists.proofs.servers_index.Tie as tie
+use Rattle.rooms.proofs.Counts.{index-told}
+use Rattle.rooms.proofs.lists.servers_index.Statement.{statement}
+use Rattle.rooms.proofs.lists.servers_index.Tie as tie
 
 word-requires : tie.Need-word-requires
 word-requires c κs = search needs

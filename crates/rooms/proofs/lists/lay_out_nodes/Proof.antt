@@ -7,14 +7,14 @@ use native.Mathlib.Omega.{arith}
 use lib.ListN.{length}
 use borrow.Author.Needs.{needs}
 use Rattle.figures.proofs.Filled.{Filled, filled-none, filled-one, filled-all}
 use Rattle.rooms.specs.Limits.{limit, nodeAt, parentOf}
 use Rattle.rooms.specs.Lists.{parentsOf, limitsOf}
 use Rattle.rooms.specs.Table.{mostNodes, nodeWords}
 use Rattle.rooms.specs.Credits.{nodeFrom, NodesRead, parentAt, limitAt}
 use Rattle.rooms.proofs.NodeWords.{words-two, node-fits, parent-here, limit-here}
-use Rattle.room_lists.proofs.Counts.{nodes-there, parents-are, limits-are, alike}
-use Rattle.room_lists.proofs.lay_out_nodes.Statement.{statement}
-use Rattle.room_lists.proofs.lay_out_nodes.Tie as tie
+use Rattle.rooms.proofs.Counts.{nodes-there, parents-are, limits-are, alike}
+use Rattle.rooms.proofs.lists.lay_out_nodes.Statement.{statement}
+use Rattle.rooms.proofs.lists.lay_out_nodes.Tie as tie
 
 abbrev Inv-loop : tie.InvT-loop
 Inv-loop table parents₀ limits₀ percents m₀ m-end parents limits m =

@@ -23,7 +23,7 @@
  * call returns 0 and changes nothing. In every other case it returns 1. The answer of hutplan_send
  * has eight bytes more (see there).
  *
- * Accepted: what is written stands at the front of the output buffer; bytes past it are not
+ * Accepted: what is written stands at the front of each output buffer; bytes past it are not
  * touched. Refused: nothing but the answer is changed.
  *
  * The caller's duties:
@@ -68,7 +68,7 @@ enum hutplan_refusal {
     HUTPLAN_NUMBER_NOT_SHORTEST = 2,   /* longer than one byte, and its last byte is 0 */
     HUTPLAN_NUMBER_CUT_SHORT = 3,      /* the bytes end inside a number */
 
-    /* Words of a table, word by word (all calls). */
+    /* Words of a table, word by word (hutplan_read, hutplan_write, hutplan_plan). */
     HUTPLAN_WORD_MISSING = 4,          /* place: the table's length in words */
     HUTPLAN_WORD_OUT_OF_RANGE = 5,     /* place: the word's index */
     HUTPLAN_GREATEST_BELOW_LEAST = 6,  /* place: the index of the word `greatest` */

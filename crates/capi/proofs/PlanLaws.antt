@@ -10,7 +10,7 @@ use Rattle.words.proofs.Bytes.{holdsAnswer-short, holdsAnswer-long, answered-sh
 use Rattle.words.proofs.Calls.{answer-told}
 use Rattle.rooms.specs.Table.{mostWords, mostServers, roomCords}
 use Rattle.rooms.proofs.Outcomes.{front-length}
-use Rattle.room_lists.specs.Lists.{CordsFit}
+use Rattle.rooms.specs.Rows.{CordsFit}
 use Rattle.deals.specs.Plan.{Plan, Outcome, accepted, refused, plan, lent, answerOf, after, planNumber, planFigure}
 use Rattle.deals.specs.declared.Lengths.{Lengths}
 use Rattle.deals.specs.declared.Planned.{Planned}
@@ -155,14 +155,14 @@ space-length : (bytes list : List ℕ) {space : ℕ} → Space bytes list space 
 space-length bytes list r = sym (front-length (length bytes / 4) list r) ∙ r
 
 -- Plan in lists of words that take every answer comes to the same as in the bytes.
-pub same-plan : (table demands grants granted caps capped headroom spare held holders : List ℕ) {grantsSpace capsSpace headroomSpace heldSpace : ℕ}
-    → Ample (lent granted capped spare holders)
-    → Space grants granted grantsSpace → Space caps capped capsSpace → Space headroom spare headroomSpace → Space held holders heldSpace
-    → plan table demands (lent (take grantsSpace granted) (take capsSpace capped) (take headroomSpace spare) (take heldSpace holders))
+pub same-plan : (table demands grants granted caps capped headroom lentWords held holders : List ℕ) {grantsSpace capsSpace headroomSpace heldSpace : ℕ}
+    → Ample (lent granted capped lentWords holders)
+    → Space grants granted grantsSpace → Space caps capped capsSpace → Space headroom lentWords headroomSpace → Space held holders heldSpace
+    → plan table demands (lent (take grantsSpace granted) (take capsSpace capped) (take headroomSpace lentWords) (take heldSpace holders))
     ≡ plan table demands (lentBytes grants caps headroom held)
-same-plan table demands grants granted caps capped headroom spare held holders ample g c h d =
-    rw (space-length grants granted g, space-length caps capped c, space-length headroom spare h, space-length held holders d)
-    (plan-lists-cut table demands (lentBytes grants caps headroom held) (lent granted capped spare holders) ample)
+same-plan table demands grants granted caps capped headroom lentWords held holders ample g c h d =
+    rw (space-length grants granted g, space-length caps capped c, space-length headroom lentWords h, space-length held holders d)
+    (plan-lists-cut table demands (lentBytes grants caps headroom held) (lent granted capped lentWords holders) ample)
 
 -- ---- Its table and demands
 

@@ -24,9 +24,9 @@ ghost use Rattle.capi.specs.Calls.{ReadCall, WriteCall, PlanCall};
 ghost use Rattle.capi.specs.Counts.{writtenCount, plannedCount};
 use deals::Planned;
 use demands::DECIDING_DEMANDS;
-use room_lists::cord_count;
 use rooms::Answer;
 use rooms::DECIDING_WORDS;
+use rooms::lists::cord_count;
 use words::least;
 
 pub mod schedule;
@@ -59,7 +59,8 @@ pub extern "C" fn hutplan_write(table: &[u8], sheet: &mut [u8], answer: &mut [u8
     write_by(table, &mut words, sheet, answer)
 }
 
-// Plan: a grant, its headroom and the node that holds it for each cord, and a cap for each server, at the fronts of their lists.
+// Plan: for each cord a grant, its headroom and the number of the node that holds it (0 for none), and for each server a cap, at the fronts
+// of their lists.
 #[no_mangle]
 pub extern "C" fn hutplan_plan(
     table: &[u8],
@@ -159,7 +160,7 @@ fn plan_words(
 {
     let mut granted = [0u32; MOST_CORDS];
     let mut capped = [0u32; MOST_SERVERS];
-    let mut spare = [0u32; MOST_CORDS];
+    let mut lent = [0u32; MOST_CORDS];
     let mut holders = [0u32; MOST_CORDS];
     plan_by(
         table,
@@ -168,7 +169,7 @@ fn plan_words(
         grants,
         &mut capped,
         caps,
-        &mut spare,
+        &mut lent,
         headroom,
         &mut holders,
         held,
@@ -184,7 +185,7 @@ fn plan_by(
     grants: &mut [u8],
     capped: &mut [u32],
     caps: &mut [u8],
-    spare: &mut [u32],
+    lent: &mut [u32],
     headroom: &mut [u8],
     holders: &mut [u32],
     held: &mut [u8],
@@ -192,7 +193,7 @@ fn plan_by(
 ) -> u32
     requires { ⌜ mostCords ≤ length (now granted) ⌝ }
     requires { ⌜ mostServers ≤ length (now capped) ⌝ }
-    requires { ⌜ mostCords ≤ length (now spare) ⌝ }
+    requires { ⌜ mostCords ≤ length (now lent) ⌝ }
     requires { ⌜ mostCords ≤ length (now holders) ⌝ }
     ensures { λ r. ⌜ PlanCall (now (table .entry)) (now (demands .entry)) (now (grants .entry)) (now (caps .entry)) (now (headroom .entry)) (now (held .entry)) (now (answer .entry)) r (now (grants .exit)) (now (caps .exit)) (now (headroom .exit)) (now (held .exit)) (now (answer .exit)) ⌝ }
 {
@@ -201,21 +202,21 @@ fn plan_by(
     }
     let grants_space = least(grants.len() / 4, granted.len());
     let caps_space = least(caps.len() / 4, capped.len());
-    let headroom_space = least(headroom.len() / 4, spare.len());
+    let headroom_space = least(headroom.len() / 4, lent.len());
     let held_space = least(held.len() / 4, holders.len());
     let planned = plans::plan(
         table,
         demands,
         &mut granted[..grants_space],
         &mut capped[..caps_space],
-        &mut spare[..headroom_space],
+        &mut lent[..headroom_space],
         &mut holders[..held_space],
     );
     let cords = planned_count(planned, cord_count(table));
     let servers = planned_count(planned, demands.len());
     words::store(&granted[..cords], grants);
     words::store(&capped[..servers], caps);
-    words::store(&spare[..cords], headroom);
+    words::store(&lent[..cords], headroom);
     words::store(&holders[..cords], held);
     words::store_answer(planned.number(), planned.figure(), answer);
     1

@@ -11,7 +11,7 @@ use lib.Ieee.Fits.{and-i}
 use lib.Ieee.Scale.{finite}
 use Rattle.control.specs.declared.DcWatts.{DcWatts}
 use Rattle.control.specs.Step.{float0, dc, ordered, sum, cut}
-use Rattle.control.proofs.FloatOrder.{real, finite-real, le-real, le-refl, not-lt, le-not-lt, eq-refl}
+use Rattle.control.proofs.FloatOrder.{real, le-real, le-refl, not-lt, le-not-lt}
 use Rattle.control.proofs.FloatRounding.{zeroed, never-below, plain-zero, add-zero-is}
 
 -- ---- Cutting

@@ -3,7 +3,7 @@ use mathlib.Core.Path.{_≡_, refl, sym, subst}
 use mathlib.Core.Logic.{_⊎_, inl, inr}
 use mathlib.Core.Bool.{Bool, true, false, not, cond, _&&_, _||_, true≢false}
 use Prim.Native.Nat.{ℕ, _+_, _*_, _<_, _≤_}
-use native.Mathlib.Nat.{eq-or-lt-of-le, eq-zero-or-pos, mul-comm, add-mul, mul-le-mul-right, le-of-mul-le-mul-right, zero-mul, mul-assoc, mul-left-comm}
+use native.Mathlib.Nat.{eq-or-lt-of-le, eq-zero-or-pos, mul-comm, add-mul, mul-le-mul-right, le-of-mul-le-mul-right, zero-mul, mul-assoc}
 use native.Mathlib.Omega.{arith}
 use lib.Dec.{T, ltb, eqb, ltb→lt, lt→ltb, nltb→le, eqb→eq, eqb-refl, not-T}
 use lib.Ieee.{Float, nan, inf, fin, up, down, lt, le, eq, below, level}

@@ -5,6 +5,7 @@ pub mod Calls
 pub mod FloatOrder
 pub mod FloatRounding
 pub mod FloatCut
+pub mod FloatChoice
 pub mod Sound
 pub mod Outcomes
 pub mod Accepted

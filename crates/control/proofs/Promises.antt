@@ -1,13 +1,12 @@
 -- The promises of `control`, proved.
 use mathlib.Core.Path.{_≡_, refl, sym, ap, _∙_}
-use mathlib.Core.Bool.{Bool, true, false, cond, true≢false}
+use mathlib.Core.Bool.{Bool, true, false, true≢false}
 use mathlib.Core.List.{List, [], _∷_}
-use mathlib.Core.Logic.{_↔_}
 use Prim.Native.Nat.{ℕ, zero, suc, _<_, _≤_}
 use native.Mathlib.Nat.{lt-of-not-le}
 use native.Mathlib.Omega.{arith}
 use lib.Dec.{eqb·suc-zero}
-use lib.ListN.{length, getD}
+use lib.ListN.{length}
 use lib.Ieee.{Float, le}
 use lib.Ieee.Bits.{is-true}
 use lib.Ieee.Fits.{and-l, and-r}
@@ -15,11 +14,10 @@ use Rattle.control.specs.declared.AcWatts.{AcWatts}
 use Rattle.control.specs.declared.Reading.{Reading}
 use Rattle.control.specs.declared.Reading.the-variants.{Working, Failed}
 use Rattle.control.specs.declared.Controller.{Controller}
-use Rattle.control.specs.declared.Stepped.{Stepped}
 use Rattle.control.specs.declared.Stepped.the-variants.{Next, Refused}
 use Rattle.control.specs.Step.{ac, errors, successor, stepped, stepNumber, stepPlace, controllerAfter}
 use Rattle.control.specs.Call.{readingOf}
-use Rattle.control.specs.Promises.{CapInRange, RangeStays, SuccessorGood, ZeroErrorKeepsCap, working, MarkDecides, NoneWorkingKeepsCap, RefusedUnchanged, Sound, SoundReading, FirstUnsound, Refusals}
+use Rattle.control.specs.Promises.{CapInRange, RangeStays, SuccessorGood, ZeroErrorKeepsCap, working, MarkDecides, NoneWorkingKeepsCap, RefusedUnchanged, Sound, FirstUnsound, Refusals}
 use Rattle.control.proofs.FloatOrder.{from-true}
 use Rattle.control.proofs.Sound.{sound-good}
 use Rattle.control.proofs.Outcomes.{AllSound, Outcome, bad-controller, bad-reading, all-sound, outcome}

@@ -2,10 +2,11 @@
 //
 // This is A.6 of document 02, after section IV.B of the report. Figures are 64-bit floats; each operation is rounded once.
 ghost use mathlib.Core.Path.{_≡_};
-ghost use Prim.Native.Nat.{_<_};
-ghost use Rattle.control.specs.Step.{ordered, isEfficiency, inRange, difference, lesserFigure, lesser, dcChange, sum, cutFigure, cut, goodReading, goodController, moved, stepped, refusal, stepNumber, stepPlace, controllerAfter};
-ghost use Rattle.control.specs.declared.Stepped.the-variants.{Refused};
-ghost use Rattle.control.specs.Tally.{tallied};
+ghost use mathlib.Core.Bool.{_&&_};
+ghost use Prim.Native.Nat.{_+_, min};
+ghost use Rattle.control.specs.Step.{float0, mostWatts, ordered, isEfficiency, difference, lesserFigure, lesser, dcChange, sum, cutFigure, cut, goodReading, goodController, moved, stepped, refusal, stepNumber, stepPlace, controllerAfter};
+ghost use Rattle.control.specs.declared.Judged.the-variants.{Bad};
+ghost use Rattle.control.specs.Judged.{greaterFigure, noTally, tallied, movedBy, judgedFirst, judgedWith, steppedBy};
 
 pub mod call;
 
@@ -49,10 +50,16 @@ pub enum Stepped {
     Refused(Refusal, Controller),
 }
 
-// What the cords seen so far come to: how many of them work, and the least error of those. Where none does, the error says nothing.
+// What good cords come to: how many of them work, and the least error of those.
 pub struct Tally {
     pub least: AcWatts,
     pub working: u32,
+}
+
+// A controller and some of its cords, judged in order: all are good, and the cords come to a tally; or the refusal of the first that is not.
+pub enum Judged {
+    Good(Tally),
+    Bad(Refusal),
 }
 
 // Whether low ≤ x ≤ high, which no NaN does.
@@ -70,13 +77,6 @@ fn is_efficiency(k: f64) -> bool
 }
 
 impl AcWatts {
-    // Whether a budget or a measurement is a number from 0 to the greatest watts.
-    fn in_range(self) -> bool
-        ensures { λ r. ⌜ r ≡ inRange self ⌝ }
-    {
-        ordered(0.0, self.0, MOST_WATTS)
-    }
-
     // A budget less what is measured.
     fn less(self, measured: AcWatts) -> AcWatts
         ensures { λ r. ⌜ r ≡ difference self measured ⌝ }
@@ -124,6 +124,21 @@ fn lesser(first: f64, second: f64) -> f64
     if second < first { second } else { first }
 }
 
+// The greater of two figures, and the second of equals: whichever of them is not the lesser.
+fn greater(first: f64, second: f64) -> f64
+    ensures { λ r. ⌜ r ≡ greaterFigure first second ⌝ }
+{
+    if second < first { first } else { second }
+}
+
+// Whether two figures are numbers from 0 to the greatest watts, by two bounds in place of four. Each figure, a NaN too, is either the lesser or the
+// greater, and a NaN is within no bound.
+fn in_range(first: f64, second: f64) -> bool
+    ensures { λ r. ⌜ r ≡ ordered float0 first mostWatts && ordered float0 second mostWatts ⌝ }
+{
+    0.0 <= lesser(first, second) && greater(first, second) <= MOST_WATTS
+}
+
 // A figure cut to a range.
 fn cut(x: f64, low: f64, high: f64) -> f64
     ensures { λ r. ⌜ r ≡ cutFigure x low high ⌝ }
@@ -143,31 +158,40 @@ impl Reading {
         ensures { λ r. ⌜ r ≡ goodReading self ⌝ }
     {
         match self {
-            Reading::Working(budget, measured) => budget.in_range() && measured.in_range(),
+            Reading::Working(budget, measured) => in_range(budget.0, measured.0),
             Reading::Failed => true,
         }
     }
 }
 
+// A count with one cord more, of the four that a server has.
+fn one_more(count: u32) -> u32
+    ensures { λ r. ⌜ r ≡ min (count + 1) 4 ⌝ }
+{
+    if count < 4 { count + 1 } else { 4 }
+}
+
 impl Tally {
+    // The tally of no cord: the error is infinite, so that any cord's is the lesser.
+    fn none() -> Tally
+        ensures { λ r. ⌜ r ≡ noTally ⌝ }
+    {
+        Tally {
+            least: AcWatts(1.0 / 0.0),
+            working: 0,
+        }
+    }
+
     // The tally with one cord more.
     fn with(self, reading: Reading) -> Tally
-        requires { ⌜ self .working < 4 ⌝ }
         ensures { λ r. ⌜ r ≡ tallied self reading ⌝ }
     {
         match reading {
             Reading::Working(budget, measured) => {
-                let error = budget.less(measured);
-                if self.working == 0 {
-                    return Tally {
-                        least: error,
-                        working: 1,
-                    };
-                }
                 let least = self.least;
                 Tally {
-                    least: least.lesser(error),
-                    working: self.working + 1,
+                    least: least.lesser(budget.less(measured)),
+                    working: one_more(self.working),
                 }
             }
             Reading::Failed => self,
@@ -175,31 +199,75 @@ impl Tally {
     }
 }
 
+// The judgement of what is not good.
+fn refused(number: u64, place: u64) -> Judged
+    ensures { λ r. ⌜ r ≡ Bad (refusal number place) ⌝ }
+{
+    Judged::Bad(Refusal { number, place })
+}
+
+impl Judged {
+    // The judgement with one cord more, which is judged if all before it are good.
+    pub fn with(self, place: u64, reading: Reading) -> Judged
+        ensures { λ r. ⌜ r ≡ judgedWith self place reading ⌝ }
+    {
+        match self {
+            Judged::Good(tally) => {
+                if !reading.is_good() {
+                    return refused(BAD_READING, place);
+                }
+                Judged::Good(tally.with(reading))
+            }
+            Judged::Bad(_) => self,
+        }
+    }
+}
+
 impl Controller {
     // One step: the successor, by the readings of the server's four cords.
+    //
+    // It is made of small parts, so that each is compiled into this and into a pass over many controllers, which is made of them too: a step that both
+    // called would be compiled apart, and its readings and what it gives would go through memory.
     pub fn step(self, readings: [Reading; 4]) -> Stepped
         ensures { λ r. ⌜ r ≡ stepped self readings ⌝ }
     {
+        let none = self.judged();
+        let one = none.with(0, readings[0]);
+        let two = one.with(1, readings[1]);
+        let three = two.with(2, readings[2]);
+        let four = three.with(3, readings[3]);
+        self.step_by(four)
+    }
+
+    // The controller judged, before its cords.
+    pub fn judged(self) -> Judged
+        ensures { λ r. ⌜ r ≡ judgedFirst self ⌝ }
+    {
         if !self.is_good() {
-            return refused(BAD_CONTROLLER, 0, self);
+            return refused(BAD_CONTROLLER, 0);
         }
-        let mut tally = Tally {
-            least: AcWatts(0.0),
-            working: 0,
-        };
-        for cord in 0..4usize {
-            let reading = readings[cord];
-            if !reading.is_good() {
-                return refused(BAD_READING, cord as u64, self);
-            }
-            let next = tally.with(reading);
-            tally = next;
+        Judged::Good(Tally::none())
+    }
+
+    // The step, once the controller and its cords are judged.
+    pub fn step_by(self, judged: Judged) -> Stepped
+        ensures { λ r. ⌜ r ≡ steppedBy self judged ⌝ }
+    {
+        match judged {
+            Judged::Good(tally) => Stepped::Next(self.moved_by(tally)),
+            Judged::Bad(refusal) => Stepped::Refused(refusal, self),
         }
+    }
+
+    // The successor, by the tally of all cords. With none working, the cap stays.
+    fn moved_by(self, tally: Tally) -> Controller
+        ensures { λ r. ⌜ r ≡ movedBy self tally ⌝ }
+    {
         if tally.working == 0 {
-            return Stepped::Next(self);
+            return self;
         }
         let error = tally.least;
-        Stepped::Next(self.moved(error, tally.working))
+        self.moved(error, tally.working)
     }
 
     // Whether k is an efficiency, and 0 ≤ low ≤ cap ≤ high ≤ the greatest watts.
@@ -227,13 +295,6 @@ impl Controller {
             high,
         }
     }
-}
-
-// A refusal, beside the controller as it is.
-fn refused(number: u64, place: u64, controller: Controller) -> Stepped
-    ensures { λ r. ⌜ r ≡ Refused (refusal number place) controller ⌝ }
-{
-    Stepped::Refused(Refusal { number, place }, controller)
 }
 
 impl Stepped {

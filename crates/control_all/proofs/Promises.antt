@@ -4,7 +4,7 @@ use mathlib.Core.Bool.{Bool, true, false}
 use mathlib.Core.List.{List}
 use mathlib.Core.Logic.{_⊎_, inl, inr}
 use Prim.Native.Nat.{ℕ, zero, suc, _+_, _*_, _<_, _≤_}
-use native.Mathlib.Nat.{eq-or-lt-of-le, le-of-suc-le-suc, ne-of-lt, ne-of-gt}
+use native.Mathlib.Nat.{eq-or-lt-of-le, le-of-suc-le-suc, ne-of-lt}
 use native.Mathlib.Omega.{arith}
 use lib.ListN.{length, getD, set}
 use lib.Seq.{getD-set-same, getD-set-other}
@@ -18,8 +18,8 @@ use Rattle.control.specs.Call.{controllerOf, controllerAt, readingsAt, figuresA
 use Rattle.control.proofs.Outcomes.{Outcome, bad-controller, bad-reading, all-sound, outcome}
 use Rattle.control.proofs.Accepted.{successor-range}
 use Rattle.control.proofs.Promises.{refused-unchanged}
-use Rattle.control_all.specs.Pass.{controllerCount, ownStep, steppedTo, numbersTo, accepted, refused, passed, answerOf, answerNumber, answerFigure}
-use Rattle.control_all.specs.Promises.{AcceptedPass, single, AsSingle, EachAsSingle, Bounded, StaysInside, Fits, RefusalEighteen}
+use Rattle.control_all.specs.Pass.{controllerCount, ownStep, steppedTo, numbersTo, passed, answerOf, answerNumber, answerFigure}
+use Rattle.control_all.specs.Promises.{AcceptedPass, single, EachAsSingle, StaysInside, Fits, RefusalEighteen}
 use Rattle.control_all.proofs.Turns.{figuresAfter-other, steppedTo-ahead, length-steppedTo, length-numbersTo}
 use Rattle.control_all.proofs.Lengths.{fit, fit-fits, unfit-fits}
 use Rattle.control_all.proofs.Passes.{passed-accepted, passed-refused}

@@ -2,10 +2,9 @@
 --
 -- A list of controllers has four figures for each, in a row: cap, k, low and high. One to three figures over at its end belong to none.
 -- The marks, the budgets and the measured watts have four entries for each controller, one a cord.
-use mathlib.Core.Path.{_≡_}
 use mathlib.Core.Bool.{Bool, cond, _&&_}
 use mathlib.Core.List.{List, [], _∷_}
-use Prim.Native.Nat.{ℕ, zero, suc, _+_, _*_, _/_, _≤_}
+use Prim.Native.Nat.{ℕ, zero, suc, _+_, _*_, _/_}
 use lib.Dec.{eqb, leb}
 use lib.ListN.{length, set}
 use lib.Ieee.{Float}

@@ -5,7 +5,7 @@ ghost use Prim.Native.Nat.{_+_, _%_, _≤_};
 ghost use lib.Dec.{eqb};
 ghost use lib.ListN.{length};
 ghost use Rattle.control.specs.Step.{stepNumber};
-ghost use Rattle.control.specs.Call.{readingAt, stepAt, figuresAfter};
+ghost use Rattle.control.specs.Call.{controllerAt, readingAt, stepAt, figuresAfter};
 ghost use Rattle.control_all.specs.Pass.{fitting, steppedTo, numbersTo, zeros, answerNumber, answerFigure, passed, answerOf, controllersAfter, resultsAfter};
 ghost use Rattle.control_all.specs.Fitting.{Fitting};
 use control::Controller;
@@ -122,7 +122,8 @@ fn step_each(
     stepped
 }
 
-// The step of the controller whose figures, and whose cords', stand from a place on.
+// The step of the controller whose figures, and whose cords', stand from a place on, made of the parts of `Controller::step`: each reading is judged as
+// it is read.
 fn step_at(
     controllers: &[f64],
     working: &[u8],
@@ -133,17 +134,26 @@ fn step_at(
     requires { ⌜ (at + 4 ≤ length (now controllers)) × (at + 4 ≤ length (now working)) × (at + 4 ≤ length (now budgets)) × (at + 4 ≤ length (now measured)) ⌝ }
     ensures { λ r. ⌜ r ≡ stepAt (now (controllers .entry)) (now (working .entry)) (now (budgets .entry)) (now (measured .entry)) at ⌝ }
 {
-    let controller = Controller::of(
+    let controller = controller_at(controllers, at);
+    let none = controller.judged();
+    let one = none.with(0, reading_at(working, budgets, measured, at));
+    let two = one.with(1, reading_at(working, budgets, measured, at + 1));
+    let three = two.with(2, reading_at(working, budgets, measured, at + 2));
+    let four = three.with(3, reading_at(working, budgets, measured, at + 3));
+    controller.step_by(four)
+}
+
+// The controller whose figures stand from a place on.
+fn controller_at(controllers: &[f64], at: usize) -> Controller
+    requires { ⌜ at + 4 ≤ length (now controllers) ⌝ }
+    ensures { λ r. ⌜ r ≡ controllerAt (now (controllers .entry)) at ⌝ }
+{
+    Controller::of(
         controllers[at],
         controllers[at + 1],
         controllers[at + 2],
         controllers[at + 3],
-    );
-    let first = reading_at(working, budgets, measured, at);
-    let second = reading_at(working, budgets, measured, at + 1);
-    let third = reading_at(working, budgets, measured, at + 2);
-    let fourth = reading_at(working, budgets, measured, at + 3);
-    controller.step([first, second, third, fourth])
+    )
 }
 
 // The reading of the cord at a place.

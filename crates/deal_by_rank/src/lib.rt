@@ -23,8 +23,8 @@ pub mod raise;
 const FIGURES: usize = 520;
 
 // The grants of a deal, rank by rank from the highest, over each rank's cords and active nodes, which `levels` lists. `left` comes with
-// what each limit has over all starts; before each rank it has what the Requests dealt and the starts to come leave. `cuts` come with 0
-// and leave with the highest rank at which a node is cut. `requests` come with 0 where a node is not active at a rank, and leave so.
+// what each limit has over all starts; before each rank it has what the Requests dealt and the starts to come leave, and in the end what
+// the Requests leave. `cuts` come with 0 and leave with the highest rank at which each node is cut, 0 if there is none. `requests` come with 0 where a node is not active at a rank, and leave so.
 // `bases` (the starts beneath) and `wholes` (the children's weights) have a rank's figure of each node; `amounts`, `before` (weights
 // served) and `dealt` that of each active one.
 pub fn deal(

@@ -87,19 +87,21 @@ near-misses = (refl, refl, refl)
 -- ---- Headroom
 
 -- (None in the rooms above, where each root asks for all of its limit.) What is left, split by ceilings less Requests; by the second
--- wants, of which cord 2's is less; where the first deal's Requests would leave node 1 none; through the nodes of room S; and none to its
--- first node where that is granted its whole limit.
+-- wants, of which cord 2's is less; where the first deal's Requests would leave node 1 none; through the nodes of room S, and none there where
+-- all servers demand more; and none to its first node where that is granted its whole limit.
 lends : (plan tableH (100 ∷ 100 ∷ []) (lengths 3 2 3 3) ≡ planned 0 (50 ∷ 50 ∷ 100 ∷ []) (100 ∷ 100 ∷ []) (70 ∷ 83 ∷ 167 ∷ []) (0 ∷ 0 ∷ 0 ∷ []))
     × (plan (tableHWith 1000) (400 ∷ 400 ∷ []) (lengths 3 2 3 3) ≡ planned 80 (120 ∷ 120 ∷ 400 ∷ []) (240 ∷ 400 ∷ []) (0 ∷ 80 ∷ 0 ∷ []) (1 ∷ 0 ∷ 0 ∷ []))
     × (plan (tableHWith 188) (400 ∷ 400 ∷ []) (lengths 3 2 3 3) ≡ planned 70 (50 ∷ 50 ∷ 100 ∷ []) (100 ∷ 100 ∷ []) (70 ∷ 0 ∷ 0 ∷ []) (0 ∷ 2 ∷ 2 ∷ []))
     × (plan (tableSWith 1750) (430 ∷ 270 ∷ 300 ∷ 330 ∷ []) (lengths 4 4 4 4)
     ≡ planned 0 (430 ∷ 270 ∷ 300 ∷ 330 ∷ []) (430 ∷ 270 ∷ 300 ∷ 330 ∷ []) (4 ∷ 16 ∷ 27 ∷ 23 ∷ []) (0 ∷ 0 ∷ 0 ∷ 0 ∷ []))
+    × (plan (tableSWith 1750) (430 ∷ 430 ∷ 430 ∷ 430 ∷ []) (lengths 4 4 4 4)
+    ≡ planned 0 (430 ∷ 300 ∷ 335 ∷ 335 ∷ []) (430 ∷ 300 ∷ 335 ∷ 335 ∷ []) (0 ∷ 0 ∷ 0 ∷ 0 ∷ []) (0 ∷ 1 ∷ 1 ∷ 1 ∷ []))
     × (plan (tableSWith 2000) (430 ∷ 430 ∷ 300 ∷ 330 ∷ []) (lengths 4 4 4 4)
     ≡ planned 0 (430 ∷ 320 ∷ 300 ∷ 330 ∷ []) (430 ∷ 320 ∷ 300 ∷ 330 ∷ []) (0 ∷ 0 ∷ 64 ∷ 56 ∷ []) (0 ∷ 2 ∷ 0 ∷ 0 ∷ []))
 unfolding plan
     follow word ensure end many total formOf percent node cord range load server table
     beneath serverLows lows firstNode overloaded
-lends = (refl, refl, refl, refl, refl)
+lends = (refl, refl, refl, refl, refl, refl)
 
 -- ---- Held cords
 

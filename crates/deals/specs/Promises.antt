@@ -154,8 +154,8 @@ HeadroomAllLent =
     (p : AcceptedPlan) (root : ℕ) → Root (p .room) root
     → sumBeneath (p .room) root (at (p .answer .headroom)) ≡ rootHeadroom (p .room) (p .demands) root
 
--- (1 to 5 speak of grants, usable watts and caps alone, and stand as they are: no definition of these has headroom in it. So it
--- may follow the demands of lower ranks, and they still may not.)
+-- (1 to 5 speak of grants, usable watts and caps alone, and stand as they are, since no definition of these has headroom in it. So a
+-- cord's headroom may follow the demands of lower ranks; grants and caps still may not.)
 
 -- ---- 7. The breaker that holds a cord down (request A.5)
 

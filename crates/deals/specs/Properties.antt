@@ -209,7 +209,7 @@ unfolding nodeAmount metrics nodeCeiling total
 headroomAt d ceiling n = nodeAmount d (headroomWeight d (metrics d) ceiling) (suc n) n
 
 -- The figures of the headroom over a deal, where each cord has a ceiling. A ceiling, of a cord or of a node, and so each headroom, fits in
--- 24 bits; the children's ceilings and their weights sum to no more than 34 bits, and headroom times any running sum of weights fits
+-- 24 bits; the children's ceilings, summed, and their weights, summed, fit in 34, and headroom times any running sum of weights fits
 -- in 58. No difference is below 0, and no node weighs more than its children.
 pub record HeadroomBounded (d : Deal) (ceiling : ℕ → ℕ) : Type 0 where
   pub ceilings : (c : ℕ) → c < d .cords → ceiling c ≤ mostWatts

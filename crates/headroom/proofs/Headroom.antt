@@ -19,7 +19,7 @@ use Rattle.deals.proofs.Amounts.{whole, ByWeights}
 use Rattle.deals.proofs.Headroom.{lent-only}
 use Rattle.deal_by_rank.proofs.Ranks.{dealable}
 use Rattle.headroom.specs.Lending.{LendGiven}
-use Rattle.headroom.specs.Passes.{Zeros, LendLists, cordsBefore, nodeWeight, Weighed, Cut, Shared}
+use Rattle.headroom.specs.Passes.{Zeros, LendLists, cordsBefore, nodeWeight, Weighed, Cut, DealtOut}
 
 -- Zeros, as they are lent at first.
 pub zeros-lent : (k n : ℕ) → n ≤ k → Zeros n (take n (replicate k 0))
@@ -46,7 +46,7 @@ module _ {parents nodes wants left ceilings limits levels lows starts : List ℕ
   theDeal = dealFrom parents limits nodes levels lows starts wants
 
   module _ {rows : List (List ℕ)} {wholes headroom : List ℕ} (weights : Weighed parents nodes wants ceilings rows wholes) (cut : Cut parents left rows wholes)
-      (dealt : Shared parents nodes wants ceilings rows wholes headroom) where
+      (dealt : DealtOut parents nodes wants ceilings rows wholes headroom) where
     whole-is : (n : ℕ) → n < length parents → at wholes n ≡ whole theDeal (nodeWeight rows) (cordWeight wants ceilings) n
     unfolding dealFrom whole kids own
     whole-is n l = weights .whole n l

@@ -18,7 +18,7 @@ use Rattle.splits.specs.Split.{part}
 use Rattle.deals.proofs.Amounts.{own-sum}
 use Rattle.levels.specs.Levels.{Absent, Present, ActiveNodes}
 use Rattle.ranks.specs.Passes.{LevelCords, listedBefore, overListed, cordWeight, childrenBefore, overChildren, weightOf, FullRows, Gathered, NodesDealt, CordsDealt}
-use Rattle.headroom.specs.Passes.{AllPlaces, Zeros, LendLists, cordsBefore, nodeWeight, Weighed, Cut, Shared}
+use Rattle.headroom.specs.Passes.{AllPlaces, Zeros, LendLists, cordsBefore, nodeWeight, Weighed, Cut, DealtOut}
 
 -- ---- Zeros
 
@@ -260,7 +260,7 @@ module _ {parents nodes wants ceilings all : List ℕ} (lists : LendLists parent
         )
 
         pub shared : {headroom : List ℕ} {size : ℕ} → size ≡ length nodes → ((c : ℕ) → c < size → at headroom c ≡ at tops′ c - at wants c)
-            → Shared parents nodes wants ceilings rows wholes headroom
+            → DealtOut parents nodes wants ceilings rows wholes headroom
         shared e taken = record {
           lends = at amounts;
           root = λ m l r. nd .root m l (here m l) r ∙ weight-is m l;

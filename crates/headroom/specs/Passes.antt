@@ -52,7 +52,7 @@ abbrev pub Cut : List ℕ → List ℕ → List (List ℕ) → List ℕ → Type
 Cut parents left rows wholes = (n : ℕ) → n < length parents → nodeWeight rows n ≡ min (at left n) (at wholes n)
 
 -- The headroom is dealt by these weights, from what each node has to lend: a root all of its weight, any other its part of its parent's.
-pub record Shared (parents nodes wants ceilings : List ℕ) (rows : List (List ℕ)) (wholes headroom : List ℕ) : Type 0 where
+pub record DealtOut (parents nodes wants ceilings : List ℕ) (rows : List (List ℕ)) (wholes headroom : List ℕ) : Type 0 where
   pub lends : ℕ → ℕ
   pub root : (m : ℕ) → m < length parents → at parents m ≡ 0 → lends m ≡ nodeWeight rows m
   pub inner : (m n : ℕ) → m < length parents → at parents m ≡ suc n

@@ -1,4 +1,4 @@
-// Headroom: what the limits have over the Requests, lent out once the deals are made.
+// Headroom: what the second deal's Requests leave of the limits, lent out up to the cords' ceilings.
 // Private to Plan: no operation stands here.
 ghost use mathlib.Core.Path.{_≡_};
 ghost use mathlib.Core.List.{List};
@@ -10,7 +10,7 @@ ghost use Rattle.deals.specs.Metrics.{dealFrom};
 ghost use Rattle.deals.specs.Headroom.{headroomOver};
 ghost use Rattle.ranks.specs.Passes.{FullRows};
 ghost use Rattle.headroom.specs.Lending.{LendGiven, SomeLending};
-ghost use Rattle.headroom.specs.Passes.{AllPlaces, Zeros, LendLists, Weighed, Cut, Shared};
+ghost use Rattle.headroom.specs.Passes.{AllPlaces, Zeros, LendLists, Weighed, Cut, DealtOut};
 use figures::place;
 use ranks::dealing::deal_cords;
 use ranks::dealing::deal_nodes;
@@ -33,7 +33,7 @@ fn list_all(all: &mut [u16])
 
 // The weights of all nodes, in the first column of their rows, and of each node's children. The wants are in no Request that is made
 // here: `gather` has zeros for the starts beneath each node, so that its Request is its weight. The sums of the wants, which
-// `sum_cords` makes too, are not used: `before` has room for them.
+// `sum_cords` makes too, are not used: `before` has room for them. Nor are the marks of cuts, which `gather` makes.
 fn weigh(
     parents: &[u16],
     all: &[u16],
@@ -80,7 +80,7 @@ fn take_wants(wants: &[u32], tops: &[u32], headroom: &mut [u32])
 }
 
 // The headroom of each cord, in the place of its ceiling, dealt by these weights.
-fn share(
+fn deal_out(
     parents: &[u16],
     all: &[u16],
     nodes: &[u16],
@@ -96,7 +96,7 @@ fn share(
     requires { ⌜ AllPlaces (now all) × (length (now tops) ≡ length (now nodes)) ⌝ }
     requires { ⌜ Zeros (length (now parents)) (now bases) × (length (now wholes) ≡ length (now parents)) × (length (now before) ≡ length (now parents)) ⌝ }
     requires { ⌜ Weighed (now parents) (now nodes) (now wants) (now headroom) (now requests) (now wholes) ⌝ }
-    ensures { λ _. ⌜ Shared (now (parents .entry)) (now (nodes .entry)) (now (wants .entry)) (now (headroom .entry)) (now (requests .entry)) (now (wholes .entry)) (now (headroom .exit)) ⌝ }
+    ensures { λ _. ⌜ DealtOut (now (parents .entry)) (now (nodes .entry)) (now (wants .entry)) (now (headroom .entry)) (now (requests .entry)) (now (wholes .entry)) (now (headroom .exit)) ⌝ }
 {
     let mut amounts = [0u32; FIGURES];
     let mut dealt = [0u32; FIGURES];
@@ -127,10 +127,10 @@ fn share(
     take_wants(wants, tops, headroom);
 }
 
-// The headroom of each cord, in the place of its ceiling. It is dealt as one more rank after all others would be, of which every cord
-// is, with its second want for its start and its ceiling for its want: a node's ceiling less its Requests is the lesser of what they
-// leave of its limit and of its children's ceilings less theirs. `left` has what the Requests leave of each limit. The rows of Requests
-// and `tops` (want plus headroom) are lent for the figures on the way.
+// The headroom of each cord, in the place of its ceiling. It is dealt as one more rank would be, after all others: every cord is of that
+// rank, with its second want for its start and its ceiling for its want. For a node's ceiling less its Requests is the lesser of two
+// figures: what these leave of its limit, and its children's ceilings less their Requests, summed. `left` has what the Requests leave of
+// each limit. The rows of Requests and `tops` (want plus headroom) are lent for the figures on the way.
 pub fn lend(
     parents: &[u16],
     nodes: &[u16],
@@ -161,7 +161,7 @@ pub fn lend(
         &mut before[..n],
         requests,
     );
-    share(
+    deal_out(
         parents,
         &all,
         nodes,

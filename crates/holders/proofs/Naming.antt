@@ -14,7 +14,7 @@ use Rattle.figures.proofs.Lists.{figures-at, figures-length}
 use Rattle.figures.proofs.Columns.{column-length, column-at}
 use Rattle.rooms.specs.Table.{Room, highestRank}
 use Rattle.rooms.specs.Lists.{parentsOf, limitsOf, nodesOf, levelsOf, lowsOf}
-use Rattle.room_lists.specs.Lists.{nodeColumn, levelColumn, CordRows}
+use Rattle.rooms.specs.Rows.{nodeColumn, levelColumn, CordRows}
 use Rattle.deals.specs.Metrics.{dealFrom, dealOf, metrics}
 use Rattle.deals.specs.Dealing.{granted}
 use Rattle.deals.specs.SecondDeal.{firstUsed, secondDeal, secondWants, secondGrants}

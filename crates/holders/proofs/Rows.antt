@@ -17,7 +17,7 @@ use Rattle.figures.proofs.Filled.{zeros-at}
 use Rattle.figures.proofs.Lists.{figures-at, figures-length}
 use Rattle.rooms.specs.Table.{mostNodes, highestRank}
 use Rattle.deals.specs.Held.{nearestRoot}
-use Rattle.room_lists.specs.Lists.{nodeColumn, levelColumn}
+use Rattle.rooms.specs.Rows.{nodeColumn, levelColumn}
 use Rattle.holders.specs.Holding.{HeldLists, holderFrom, CutNodes, RowsByNumber, NoHolders, nextRow, HolderRows}
 
 -- ---- The node nearest the root

@@ -8,7 +8,7 @@ use lib.ListN.{length, getD}
 use Rattle.figures.specs.Figures.{figures, at, cell}
 use Rattle.figures.specs.Sums.{on}
 use Rattle.rooms.specs.Table.{mostNodes, mostCords, highestRank}
-use Rattle.room_lists.specs.Lists.{nodeColumn, levelColumn}
+use Rattle.rooms.specs.Rows.{nodeColumn, levelColumn}
 use Rattle.deals.specs.Held.{nearestRoot}
 
 -- The lists after a deal: the nodes' parents and the highest rank at which each is cut, and the cords' rows, wants and grants.

@@ -10,8 +10,8 @@ use figures::index;
 use figures::index_word;
 use figures::place;
 use figures::word_index;
-use room_lists::LEVEL;
-use room_lists::NODE;
+use rooms::lists::LEVEL;
+use rooms::lists::NODE;
 
 // A node's number if it is cut at a rank or a higher one, else 0. `cut` is the highest rank at which it is.
 fn own(rank: u16, cut: u16, number: u16) -> u16
@@ -38,8 +38,8 @@ fn next_row(above: [u16; 16], cut: u16, number: u16) -> [u16; 16]
     row
 }
 
-// The row of each node, by its number, from the first node to the last: a parent's stands before its child's. Row 0, that of a root's
-// parent, names none; all rows come as zeros.
+// The row of each node, by its number, from the first node to the last: a parent's stands before its child's. Row 0, which stands for a
+// root's parent, names none; all rows come as zeros.
 fn fill_rows(parents: &[u16], cuts: &[u16], rows: &mut [[u16; 16]; 513])
     requires { ⌜ CutNodes (now parents) (now cuts) × NoHolders (now rows) ⌝ }
     ensures { λ _. ⌜ HolderRows (now (parents .entry)) (now (cuts .entry)) (now (rows .exit)) ⌝ }

@@ -15,7 +15,7 @@ use Rattle.rooms.specs.Limits.{checked, carried}
 use Rattle.rooms.specs.Cords.{cordAt, serverAt}
 use Rattle.rooms.specs.Lists.{carriedBy, lowsOf, sharesOf, serversOf}
 use Rattle.rooms.proofs.Accepted.{Accepted, accepted}
-use Rattle.room_lists.specs.Lists.{nodeColumn, serverColumn, shareColumn, leastColumn, greatestColumn, carriedFrom, OfRoom, ScaleIs, ServerRows, CordRows}
+use Rattle.rooms.specs.Rows.{nodeColumn, serverColumn, shareColumn, leastColumn, greatestColumn, carriedFrom, OfRoom, ScaleIs, ServerRows, CordRows}
 use Rattle.deals.specs.Wants.{need, needs, firstWants}
 use Rattle.deals.specs.Headroom.{ceilingsOf}
 use Rattle.deals.proofs.RoomDeals.{sharesOf-at, serversOf-at}

@@ -8,7 +8,7 @@ use Rattle.figures.proofs.Lists.{figures-at, figures-length}
 use Rattle.figures.proofs.Columns.{column-length, column-at}
 use Rattle.rooms.specs.Table.{Room, roomCords}
 use Rattle.rooms.specs.Cords.{cordAt, serverAt}
-use Rattle.room_lists.specs.Lists.{rankColumn, leastColumn, greatestColumn, nodeColumn, serverColumn, shareColumn, ServerRows, CordRows}
+use Rattle.rooms.specs.Rows.{rankColumn, leastColumn, greatestColumn, nodeColumn, serverColumn, shareColumn, ServerRows, CordRows}
 use Rattle.deals.proofs.RoomDeals.{nodesOf-length, nodesOf-at, sharesOf-at, serversOf-at}
 
 module _ {r : Room} {rows : List (List ℕ)} where

@@ -12,7 +12,7 @@ use Rattle.rooms.specs.Table.{Room}
 use Rattle.rooms.specs.Limits.{lowsBeneath, checked}
 use Rattle.rooms.specs.Lists.{parentsOf, limitsOf}
 use Rattle.rooms.proofs.Accepted.{accepted}
-use Rattle.room_lists.specs.Lists.{OfRoom, NodesFit}
+use Rattle.rooms.specs.Rows.{OfRoom, NodesFit}
 use Rattle.deals.proofs.RoomDeals.{limitsOf-length, limitsOf-at}
 use Rattle.layout.specs.Lists.{HasLowsBeneath}
 

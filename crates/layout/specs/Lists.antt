@@ -8,7 +8,7 @@ use Rattle.rooms.specs.Part.{Good}
 use Rattle.rooms.specs.Table.{Room}
 use Rattle.rooms.specs.Limits.{lowsBeneath, checked}
 use Rattle.rooms.specs.Lists.{nodesOf, lowsOf}
-use Rattle.room_lists.specs.Lists.{OfRoom, ServersFit, CordsFit, CordRows}
+use Rattle.rooms.specs.Rows.{OfRoom, ServersFit, CordsFit, CordRows}
 use Rattle.deals.specs.Wants.{needs, firstWants}
 use Rattle.deals.specs.Headroom.{ceilingsOf}
 

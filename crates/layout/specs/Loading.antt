@@ -5,7 +5,7 @@ use Prim.Native.Nat.{ℕ, min, max, _≤_, _<_}
 use lib.ListN.{length}
 use Rattle.figures.specs.Figures.{figures, at, cell, column}
 use Rattle.rooms.specs.Table.{IsScale, mostWatts, mostNodes}
-use Rattle.room_lists.specs.Lists.{leastColumn, greatestColumn, nodeColumn, serverColumn, shareColumn, carriedFrom}
+use Rattle.rooms.specs.Rows.{leastColumn, greatestColumn, nodeColumn, serverColumn, shareColumn, carriedFrom}
 
 -- The need of each server, by its row and its demand.
 abbrev pub needsFrom : List (List ℕ) → List ℕ → List ℕ

@@ -35,7 +35,7 @@ use Rattle.levels.proofs.Cells.{zeros-front}
 use Rattle.deal_by_rank.specs.Ranks.{DealLists, wattsUnder, Spare, Raisable, DealGiven, DealMade, Uncut}
 use Rattle.reclaim.specs.Reclaimed.{ServerLists, usableFrom, usedFrom, strandedFrom, wantsFrom, freedFrom}
 use Rattle.reclaim.proofs.Reclaiming.{usable-lists}
-use Rattle.room_lists.specs.Lists.{NodesFit, CordRows, nodeColumn, serverColumn, levelColumn, shareColumn}
+use Rattle.rooms.specs.Rows.{NodesFit, CordRows, nodeColumn, serverColumn, levelColumn, shareColumn}
 use Rattle.layout.proofs.Rows.{cords-count, server-at, share-at}
 use Rattle.layout.proofs.Loading.{carried-is}
 use Rattle.plan_rooms.specs.Planning.{RoomLists}

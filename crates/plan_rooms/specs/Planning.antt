@@ -12,7 +12,7 @@ use Rattle.deals.specs.SecondDeal.{freed, secondDeal, secondGrants, secondWants
 use Rattle.deals.specs.SecondDeal as second
 use Rattle.deals.specs.Headroom as lending
 use Rattle.deals.specs.Held as holding
-use Rattle.room_lists.specs.Lists.{OfRoom}
+use Rattle.rooms.specs.Rows.{OfRoom}
 use Rattle.ranks.specs.Passes.{FullRows}
 use Rattle.deal_by_rank.specs.Ranks.{DealMade}
 use Rattle.layout.specs.Lists.{CordsLaidOut}

@@ -10,7 +10,7 @@ ghost use Rattle.rooms.specs.Limits.{checked};
 ghost use Rattle.plan_rooms.specs.Planning.{RoomLists, SomeRoom, NoRequests, DealtTwice, Planning};
 ghost use Rattle.deal_by_rank.specs.Ranks.{Uncut};
 ghost use Rattle.layout.specs.Lists.{HasLowsBeneath};
-ghost use Rattle.room_lists.specs.Lists.{ServersFit, CordsFit};
+ghost use Rattle.rooms.specs.Rows.{ServersFit, CordsFit};
 use deal_by_rank::deal;
 use deal_by_rank::raise::raise_starts;
 use headroom::lend;
@@ -20,12 +20,13 @@ use layout::load_nodes;
 use levels::list_levels;
 use reclaim::reclaim;
 use reclaim::usable_of;
-use room_lists::node_count;
-use room_lists::table_scale;
+use rooms::lists::node_count;
+use rooms::lists::table_scale;
 
 // Both deals, in turn: the first starts from the cords' lows, the second from the watts in use after it. Gives the watts freed between
 // them. `left` comes with what each limit has over the lows beneath it, and leaves with what it has over the second deal's Requests;
-// `wants` end as those of the second deal, and `caps` come with the servers' needs.
+// `wants`, `cuts` and `requests` end as those of the second deal, and `caps` come with the servers' needs. The first deal's marks of cuts
+// are not used.
 fn deal_twice(
     parents: &[u16],
     cords: &[[u32; 4]],
@@ -90,9 +91,10 @@ fn deal_twice(
     freed
 }
 
-// The plan of a good table with a demand for each server, in lists with one entry for each cord, and one for each server (the caps); gives
+// The plan of a good table with a demand for each server, in lists with one entry for each cord, and of the caps for each server; gives
 // the freed watts. `beneath` has the lows beneath each node, as the check of the table leaves them. Until the deals are made, `caps` have
-// the servers' needs, and `headroom` the cords' ceilings until it is lent.
+// the servers' needs, and `headroom` the cords' ceilings until it is lent. After the deals the rows of Requests and the lows are lent to
+// `lend` for its own figures.
 pub fn plan_room(
     table: &[u32],
     demands: &[u32],

@@ -21,7 +21,7 @@ use Rattle.rooms.proofs.Steps.{known}
 use Rattle.rooms.proofs.Outcomes.{refused-so}
 use Rattle.figures.specs.Figures.{at}
 use Rattle.deals.specs.Plan.{Plan, planOf, Outcome, accepted, refused, firstTooLarge, Reason, countDiffers, demandTooLarge, tooShort, reasons, unless, plan, answerOf, after}
-use Rattle.room_lists.specs.Lists.{ServersFit, CordsFit}
+use Rattle.rooms.specs.Rows.{ServersFit, CordsFit}
 use Rattle.layout.specs.Lists.{HasLowsBeneath}
 use Rattle.deals.specs.declared.Lengths.{Lengths}
 use Rattle.deals.specs.declared.PlanList.{PlanList}

@@ -1,4 +1,4 @@
-// Plan: the checks of its inputs, and the two deals of a room.
+// Plan: the checks of its inputs, and then the plan of a good room.
 ghost use mathlib.Core.Path.{_≡_};
 ghost use Rattle.rooms.specs.Limits.{checked, lowsTold};
 ghost use Rattle.deals.specs.Plan.{plan, lent, answerOf, after};
@@ -9,8 +9,8 @@ use deals::PlanRefusal;
 use deals::Planned;
 use figures::word_index;
 use plan_rooms::plan_room;
-use room_lists::server_count;
 use rooms::Checked;
+use rooms::lists::server_count;
 use words::first_not_below;
 
 // One more than the most watts of a demand.
@@ -56,8 +56,8 @@ fn admit(table: &[u32], demands: &[u32], lengths: Lengths, beneath: &mut [u64; 5
     Admission::Good(cords, servers)
 }
 
-// Plan: a table and its servers' demands; a grant, its headroom and the node that holds it for each cord, and a cap for each server, at
-// the front of their lists.
+// Plan: of a table and its servers' demands, for each cord a grant, its headroom and the number of the node that holds it (0 for none),
+// and for each server a cap, at the front of their lists.
 // Refused, it leaves every list unchanged.
 pub fn plan(
     table: &[u32],

@@ -10,7 +10,7 @@ use Rattle.figures.proofs.Lists.{figures-length}
 use Rattle.rooms.specs.Table.{mostServers, roomCords}
 use Rattle.rooms.proofs.All.{all-at}
 use Rattle.rooms.proofs.Accepted.{ServerAccepted, accepted}
-use Rattle.room_lists.specs.Lists.{rankColumn}
+use Rattle.rooms.specs.Rows.{rankColumn}
 use Rattle.print.specs.Line.{freedLine}
 use Rattle.print.specs.Print.{planLine, printOf}
 use Rattle.print.specs.Walk.{planPrint}

@@ -14,8 +14,8 @@ use Rattle.rooms.specs.Table.{Server, Room, mostServerCords, cordCount, roomCor
 use Rattle.rooms.specs.Cords.{RoomCord, serverCords, cordsFrom, cordsOf, cordAt, serverAt}
 use Rattle.rooms.specs.Lists.{nodesOf}
 use Rattle.rooms.proofs.Cords.{noRoomCord, noServer, serverCords-length}
-use Rattle.room_lists.specs.Lists.{countColumn, nodeColumn, ServerRows, CordRows}
-use Rattle.room_lists.proofs.Walk.{serverCords-at}
+use Rattle.rooms.specs.Rows.{countColumn, nodeColumn, ServerRows, CordRows}
+use Rattle.rooms.proofs.Walk.{serverCords-at}
 use Rattle.print.specs.Line.{freedLine, serverLine}
 use Rattle.print.specs.Print.{linesFrom, at, nodeAt, serverPrint, serversPrint, planLine, printOf}
 use Rattle.print.specs.Walk.{cordLineAt, cordsAt, serversAt}

@@ -5,7 +5,7 @@ use Prim.Native.Nat.{ℕ}
 use Rattle.rooms.specs.Part.{good}
 use Rattle.rooms.specs.Table.{Room}
 use Rattle.rooms.specs.Limits.{checked}
-use Rattle.room_lists.specs.Lists.{ServerRows, CordRows}
+use Rattle.rooms.specs.Rows.{ServerRows, CordRows}
 use Rattle.print.specs.Print.{printOf}
 use Rattle.print.specs.Walk.{planPrint}
 

@@ -6,7 +6,7 @@ use Prim.Native.Nat.{ℕ, zero, suc, _+_, min}
 use lib.ListN.{length}
 use Rattle.figures.specs.Figures.{cell}
 use Rattle.rooms.specs.Table.{mostServers, mostServerCords}
-use Rattle.room_lists.specs.Lists.{countColumn, nodeColumn}
+use Rattle.rooms.specs.Rows.{countColumn, nodeColumn}
 use Rattle.print.specs.Line.{freedLine}
 use Rattle.print.specs.Print.{at, serverPrint, planLine}
 

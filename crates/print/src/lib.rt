@@ -9,10 +9,10 @@ ghost use Rattle.print.specs.Walk.{cordLineAt, walkPrint, planPrint};
 ghost use Rattle.figures.specs.Figures.{cell};
 ghost use Rattle.rooms.specs.Part.{Good};
 ghost use Rattle.rooms.specs.Limits.{checked};
-ghost use Rattle.room_lists.specs.Lists.{OfRoom, ServersFit, CordsFit, nodeColumn};
+ghost use Rattle.rooms.specs.Rows.{OfRoom, ServersFit, CordsFit, nodeColumn};
 use figures::word_index;
-use room_lists::COUNT;
-use room_lists::NODE;
+use rooms::lists::COUNT;
+use rooms::lists::NODE;
 use words::least;
 
 // The most servers and cords of a room, and the most cords of a server.
@@ -39,8 +39,8 @@ pub fn plan(
 {
     let mut servers = [[0u32; 4]; MOST_SERVERS];
     let mut cords = [[0u32; 4]; MOST_CORDS];
-    let server_count = room_lists::server_count(table);
-    let cord_count = room_lists::cord_count(table);
+    let server_count = rooms::lists::server_count(table);
+    let cord_count = rooms::lists::cord_count(table);
     plan_by(
         freed,
         table,
@@ -72,7 +72,7 @@ fn plan_by(
         (printOf freed (room .servers) (now (caps .entry)) (now (grants .entry)) (now (headroom .entry)) (now (held .entry)))) ⌝ }
     ensures { λ r. ⌜ Counts r (now (buffer .exit)) ⌝ }
 {
-    room_lists::lay_out_servers(table, servers, cords);
+    rooms::lists::lay_out_servers(table, servers, cords);
     put_plan(freed, servers, cords, caps, grants, headroom, held, buffer)
 }
 

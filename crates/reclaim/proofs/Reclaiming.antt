@@ -14,7 +14,7 @@ use Rattle.figures.specs.Sums.{sum}
 use Rattle.rooms.specs.Limits.{carried}
 use Rattle.figures.proofs.Sums.{sum-suc, sum-none}
 use Rattle.figures.specs.Figures.{figures, at, cell, column, sumOf}
-use Rattle.room_lists.specs.Lists.{serverColumn, shareColumn}
+use Rattle.rooms.specs.Rows.{serverColumn, shareColumn}
 use Rattle.reclaim.specs.Reclaimed.{ServerLists, usableBefore, usableFrom, usedFrom, strandedFrom, wantsFrom}
 use Rattle.figures.proofs.Lists.{figures-at, figures-length, total-sum}
 use Rattle.figures.proofs.Columns.{column-length, column-at}

@@ -8,7 +8,7 @@ use lib.Dec.{eqb, ltb}
 use lib.ListN.{length}
 use Rattle.rooms.specs.Table.{IsScale, mostCords, mostWatts}
 use Rattle.figures.specs.Figures.{figures, at, cell, sumOf}
-use Rattle.room_lists.specs.Lists.{serverColumn, shareColumn, carriedFrom}
+use Rattle.rooms.specs.Rows.{serverColumn, shareColumn, carriedFrom}
 use Rattle.deals.specs.SecondDeal.{leastOver}
 
 -- What the cords' rows must be, in a room of such a scale, with watts for each server: its need, or what it can use.
@@ -43,7 +43,3 @@ freedFrom scale shares servers usable grants = sumOf (strandedFrom (usedFrom sca
 -- The wants of the next deal.
 abbrev pub wantsFrom : List ℕ → List ℕ → List ℕ → List ℕ
 wantsFrom used grants wants = figures (length used) (λ c. cond (ltb 0 (at (strandedFrom used grants) c)) (at used c) (at wants c))
-
--- The same, with the used watts worked out from the grants.
-abbrev pub wantsNext : ℕ → List ℕ → List ℕ → List ℕ → List ℕ → List ℕ → List ℕ
-wantsNext scale shares servers needs grants wants = wantsFrom (usedFrom scale shares servers (usableFrom scale shares servers needs grants)) grants wants

@@ -6,16 +6,16 @@ ghost use Prim.Native.Nat.{_^_, _<_};
 ghost use lib.Dec.{ltb};
 ghost use lib.ListN.{length};
 ghost use Rattle.figures.specs.Figures.{column};
-ghost use Rattle.room_lists.specs.Lists.{serverColumn, shareColumn};
+ghost use Rattle.rooms.specs.Rows.{serverColumn, shareColumn};
 ghost use Rattle.reclaim.specs.Reclaimed.{ServerLists, usableFrom, usedFrom, freedFrom, wantsFrom};
 use figures::least;
 use figures::narrow;
 use figures::over;
 use figures::wide;
 use figures::word_index;
-use room_lists::SERVER;
-use room_lists::SHARE;
 use rooms::limits::carried_by;
+use rooms::lists::SERVER;
+use rooms::lists::SHARE;
 
 // Each server's usable watts, in the place of its need: the need, or the least of floor(scale × grant / share) of its cords with a share,
 // if that is less.

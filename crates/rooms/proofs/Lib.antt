@@ -24,6 +24,11 @@ pub mod Search
 pub mod Found
 pub mod Overloaded
 pub mod Accepted
+-- A good table laid out in lists and rows.
+pub mod Counts
+pub mod Walk
+pub mod Laying
+pub mod RowsLent
 -- A good table as the words of its room; a table of one version made of another.
 pub mod Tables
 pub mod Versions

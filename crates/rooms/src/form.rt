@@ -1,5 +1,4 @@
-// The form of a table's words: what its version says, and where a node stands in it. For crates that lay a good table out; no
-// operation.
+// The form of a table's words: what its version says, and where a node stands in it.
 ghost use mathlib.Core.Path.{_≡_};
 ghost use Prim.Native.Nat.{_+_, _^_, _<_, _≤_};
 ghost use lib.ListN.{length};

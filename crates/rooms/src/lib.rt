@@ -12,8 +12,9 @@ use numbers::Fault;
 use numbers::Judged;
 use numbers::Written;
 
-pub mod form;
+mod form;
 pub mod limits;
+pub mod lists;
 pub mod lows;
 pub mod parts;
 mod table;

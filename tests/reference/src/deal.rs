@@ -27,13 +27,8 @@ fn deal(room: &Room, wants: &[Watts], used: &[Watts]) -> Vec<Watts> {
     grants
 }
 
-/// The second deal's metrics in a root's tree.
-pub(crate) fn second_metrics(root: &Breaker, wants: &[Watts], used: &[Watts]) -> Part {
-    weighed(root, wants, used)
-}
-
 #[derive(Clone, Copy, Debug, Default)]
-pub(crate) struct Metrics {
+struct Metrics {
     pcapmin: Watts,
     request: Watts,
     /// What is passed on first: the watts in use less the lows.
@@ -41,10 +36,10 @@ pub(crate) struct Metrics {
 }
 
 /// The metrics at each rank that has cords beneath; at every other rank all of them are 0.
-pub(crate) type Row = BTreeMap<u32, Metrics>;
+type Row = BTreeMap<u32, Metrics>;
 
 /// A child of a breaker, or a root, with its metrics.
-pub(crate) enum Part {
+enum Part {
     Cord(usize, u32, Metrics),
     Breaker(Row, Vec<Part>),
 }
@@ -112,22 +107,6 @@ impl Part {
             Part::Cord(..) => Metrics::default(),
             Part::Breaker(row, _) => row.get(&rank).copied().unwrap_or_default(),
         }
-    }
-
-    /// The sum of its Requests, over all ranks.
-    pub(crate) fn requests(&self) -> Watts {
-        let request = |&rank: &u32| self.metrics(rank).request;
-        self.ranks().iter().map(request).sum()
-    }
-
-    /// The ranks at which a breaker asks for less than its children together; none of a cord.
-    pub(crate) fn cut_ranks(&self) -> Vec<u32> {
-        let Part::Breaker(row, children) = self else {
-            return Vec::new();
-        };
-        let sums = summed(children).into_iter();
-        let cut = sums.filter(|(rank, sum)| row[rank].request < sum.request);
-        cut.map(|(rank, _)| rank).collect()
     }
 
     fn excess(&self, rank: u32) -> Watts {

@@ -1,69 +1,147 @@
-//! Headroom, document 02's request A.1: the watts at each root that no Request takes, lent out to
-//! the cords. Made from that text and document 01's split alone.
+//! Request A.1 of document 02 (headroom for bursts), with A.11's scale, made from that text and from
+//! document 01's metrics and split. Its writer had seen neither the product's code nor its definitions.
 
-use crate::deal::{second_metrics, split, Part};
-use crate::room::{Breaker, Child, Room};
+use crate::deal::split;
+use crate::room::{carried, Breaker, Child, Room};
 use crate::Watts;
+use std::collections::BTreeMap;
 
-/// The headroom of each cord, by the second deal's wants and the watts in use.
-pub fn headroom(room: &Room, wants: &[Watts], used: &[Watts]) -> Vec<Watts> {
-    let mut lent = vec![0; room.cords.len()];
+const RANKS: usize = 16;
+
+/// A figure for each rank, at the rank's own place; place 0 stays 0.
+pub(crate) type Row = [Watts; RANKS + 1];
+
+/// A node in the second deal, rank by rank.
+pub(crate) struct Asking {
+    pub(crate) requests: Row,
+    /// The Requests of its children, summed.
+    pub(crate) children: Row,
+    pcapmin: Row,
+}
+
+/// The headroom of each cord. The watts in use play no part: Requests come of lows, wants and limits,
+/// and the split is document 01's own, without A.2's first passing.
+pub fn headroom(room: &Room, wants: &[Watts]) -> Vec<Watts> {
+    let ceilings = cord_ceilings(room);
+    let mut node_ceilings = BTreeMap::new();
     for root in &room.trees {
-        let borrower = borrowers(root, &second_metrics(root, wants, used));
-        borrower.lend(borrower.weight(), &mut lent);
+        note_ceiling(root, &ceilings, &mut node_ceilings);
     }
-    lent
-}
-
-/// A child of a breaker, or a root, as one that headroom is lent to.
-struct Borrower {
-    ceiling: Watts,
-    /// Over all ranks.
-    requests: Watts,
-    to: To,
-}
-
-enum To {
-    Cord(usize),
-    Children(Vec<Borrower>),
-}
-
-fn borrowers(breaker: &Breaker, part: &Part) -> Borrower {
-    let Part::Breaker(_, parts) = part else {
-        unreachable!("a breaker with the metrics of a cord");
+    let lending = Lending {
+        ceilings,
+        node_ceilings,
+        wants,
+        askings: askings(room, wants),
     };
-    let borrower = |(child, part): (&Child, &Part)| match child {
-        Child::Breaker(breaker) => borrowers(breaker, part),
-        Child::Cord(cord) => Borrower {
-            ceiling: cord.ceiling,
-            requests: part.requests(),
-            to: To::Cord(cord.index),
-        },
-    };
-    let children: Vec<Borrower> = breaker.children.iter().zip(parts).map(borrower).collect();
-    let ceilings: Watts = children.iter().map(|child| child.ceiling).sum();
-    Borrower {
-        ceiling: breaker.limit.min(ceilings),
-        requests: part.requests(),
-        to: To::Children(children),
+    let mut headroom = vec![0; room.cords.len()];
+    for root in &room.trees {
+        lending.lend(root, lending.spare(root), &mut headroom);
     }
+    headroom
 }
 
-impl Borrower {
-    fn weight(&self) -> Watts {
-        let weight = self.ceiling - self.requests;
-        assert!(weight >= 0, "{weight} W of headroom");
-        weight
+/// Every node's figures, by node number.
+pub(crate) fn askings(room: &Room, wants: &[Watts]) -> BTreeMap<u32, Asking> {
+    let mut askings = BTreeMap::new();
+    for root in &room.trees {
+        ask(root, wants, &mut askings);
     }
+    askings
+}
 
-    fn lend(&self, watts: Watts, lent: &mut [Watts]) {
-        match &self.to {
-            To::Cord(index) => lent[*index] += watts,
-            To::Children(children) => {
-                let weights: Vec<Watts> = children.iter().map(Borrower::weight).collect();
-                for (child, part) in children.iter().zip(split(watts, &weights)) {
-                    child.lend(part, lent);
+/// Notes the figures of a breaker and of all those beneath it.
+fn ask(breaker: &Breaker, wants: &[Watts], askings: &mut BTreeMap<u32, Asking>) {
+    let mut pcapmin = Row::default();
+    let mut children = Row::default();
+    for child in &breaker.children {
+        match child {
+            Child::Cord(cord) => {
+                let rank = cord.rank as usize;
+                pcapmin[rank] += cord.low;
+                children[rank] += wants[cord.index];
+            }
+            Child::Breaker(lower) => {
+                ask(lower, wants, askings);
+                let lower = &askings[&lower.number];
+                for rank in 1..=RANKS {
+                    pcapmin[rank] += lower.pcapmin[rank];
+                    children[rank] += lower.requests[rank];
                 }
+            }
+        }
+    }
+    let mut requests = Row::default();
+    for rank in (1..=RANKS).rev() {
+        let higher_requests: Watts = requests[rank + 1..].iter().sum();
+        let lower_pcapmin: Watts = pcapmin[..rank].iter().sum();
+        let left = breaker.limit - higher_requests - lower_pcapmin;
+        requests[rank] = left.min(children[rank]);
+    }
+    let asking = Asking {
+        requests,
+        children,
+        pcapmin,
+    };
+    askings.insert(breaker.number, asking);
+}
+
+/// What each cord carries when its server draws its greatest.
+fn cord_ceilings(room: &Room) -> Vec<Watts> {
+    let mut ceilings = Vec::new();
+    for server in &room.servers {
+        for cord in &room.cords[server.cords.clone()] {
+            ceilings.push(carried(cord.share, server.greatest, room.whole));
+        }
+    }
+    ceilings
+}
+
+/// A breaker's ceiling, by those of its cords; notes it, and those of the breakers beneath, by number.
+fn note_ceiling(breaker: &Breaker, cords: &[Watts], nodes: &mut BTreeMap<u32, Watts>) -> Watts {
+    let mut below = 0;
+    for child in &breaker.children {
+        below += match child {
+            Child::Breaker(lower) => note_ceiling(lower, cords, nodes),
+            Child::Cord(cord) => cords[cord.index],
+        };
+    }
+    let ceiling = breaker.limit.min(below);
+    nodes.insert(breaker.number, ceiling);
+    ceiling
+}
+
+struct Lending<'a> {
+    /// One a cord, as are the wants.
+    ceilings: Vec<Watts>,
+    /// By node number, as are the askings.
+    node_ceilings: BTreeMap<u32, Watts>,
+    wants: &'a [Watts],
+    askings: BTreeMap<u32, Asking>,
+}
+
+impl Lending<'_> {
+    /// A breaker's ceiling less its Requests, those of all ranks.
+    fn spare(&self, breaker: &Breaker) -> Watts {
+        let requests: Watts = self.askings[&breaker.number].requests.iter().sum();
+        self.node_ceilings[&breaker.number] - requests
+    }
+
+    /// A child's ceiling less its Requests; a cord's only Request is its want.
+    fn weight(&self, child: &Child) -> Watts {
+        match child {
+            Child::Breaker(lower) => self.spare(lower),
+            Child::Cord(cord) => self.ceilings[cord.index] - self.wants[cord.index],
+        }
+    }
+
+    /// Gives an amount to a breaker's children and through them to the cords.
+    fn lend(&self, breaker: &Breaker, amount: Watts, headroom: &mut [Watts]) {
+        let weights: Vec<Watts> = breaker.children.iter().map(|c| self.weight(c)).collect();
+        assert!(amount >= 0 && weights.iter().all(|&weight| weight >= 0));
+        for (child, part) in breaker.children.iter().zip(split(amount, &weights)) {
+            match child {
+                Child::Breaker(lower) => self.lend(lower, part, headroom),
+                Child::Cord(cord) => headroom[cord.index] = part,
             }
         }
     }

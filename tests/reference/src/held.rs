@@ -1,64 +1,73 @@
-//! Held cords, document 02's request A.5: for a cord with less than its second want, the breaker above
-//! it that is nearest the root and cut at the cord's rank or a higher one. Made from that text and
-//! document 01's metrics, but by the same hand as the definition in `deals`, and after it: no second
-//! reading of the text. (The test over tiny rooms, of the same hand too, looks from the root down.)
+//! Request A.5 of document 02 (which breaker holds a cord down), made from that text and from document
+//! 01's metrics. Its writer had seen neither the product's code nor its definitions.
 
-use crate::deal::{second_metrics, Part};
+use crate::headroom::{askings, Asking};
 use crate::room::{Breaker, Child, Cord, Room};
 use crate::Watts;
+use std::collections::BTreeMap;
 
-/// The number of the breaker that holds each cord, by the second deal; 0 for a cord that has its want.
-pub fn held(room: &Room, wants: &[Watts], used: &[Watts], grants: &[Watts]) -> Vec<u32> {
-    let mut held = vec![0; room.cords.len()];
-    let mut name = |cord: &Cord, way: &[Passed]| {
-        if grants[cord.index] != wants[cord.index] {
-            held[cord.index] = climb(cord, way);
+/// The number of the node that holds each cord down, or 0 for a cord that has what it wants. The watts
+/// in use play no part of their own; they are in the grants.
+pub fn held(room: &Room, wants: &[Watts], grants: &[Watts]) -> Vec<u32> {
+    let climb = Climb {
+        askings: askings(room, wants),
+        parents: parents(room),
+    };
+    let name = |cord: &Cord| {
+        if grants[cord.index] == wants[cord.index] {
+            0
+        } else {
+            climb.holder(cord)
         }
     };
+    room.cords.iter().map(name).collect()
+}
+
+/// Each node's parent by the node's number; 0 over a root.
+fn parents(room: &Room) -> BTreeMap<u32, u32> {
+    let mut parents = BTreeMap::new();
     for root in &room.trees {
-        let part = second_metrics(root, wants, used);
-        go_down(root, &part, &mut Vec::new(), &mut name);
+        note_parents(root, 0, &mut parents);
     }
-    held
+    parents
 }
 
-/// A breaker on the way from a root to a cord.
-struct Passed {
-    number: u32,
-    /// The ranks at which its Request is less than its children's sum.
-    cut: Vec<u32>,
-}
-
-/// Comes to every cord beneath the breaker, with the way from the root to it.
-fn go_down(
-    breaker: &Breaker,
-    part: &Part,
-    way: &mut Vec<Passed>,
-    meet: &mut impl FnMut(&Cord, &[Passed]),
-) {
-    let Part::Breaker(_, parts) = part else {
-        unreachable!("a breaker with the metrics of a cord");
-    };
-    way.push(Passed {
-        number: breaker.number,
-        cut: part.cut_ranks(),
-    });
-    for (child, part) in breaker.children.iter().zip(parts) {
-        match child {
-            Child::Breaker(breaker) => go_down(breaker, part, way, meet),
-            Child::Cord(cord) => meet(cord, way),
+fn note_parents(breaker: &Breaker, parent: u32, parents: &mut BTreeMap<u32, u32>) {
+    parents.insert(breaker.number, parent);
+    for child in &breaker.children {
+        if let Child::Breaker(lower) = child {
+            note_parents(lower, breaker.number, parents);
         }
     }
-    way.pop();
 }
 
-/// From the cord to the root; the last that is found counts.
-fn climb(cord: &Cord, way: &[Passed]) -> u32 {
-    let mut found = None;
-    for breaker in way.iter().rev() {
-        if breaker.cut.iter().any(|&rank| rank >= cord.rank) {
-            found = Some(breaker.number);
+struct Climb {
+    askings: BTreeMap<u32, Asking>,
+    parents: BTreeMap<u32, u32>,
+}
+
+impl Climb {
+    /// Climbs from the cord's own node to its root and names the last node met that cuts its children
+    /// at the cord's rank or at a higher one.
+    fn holder(&self, cord: &Cord) -> u32 {
+        let mut holder = None;
+        let mut number = cord.node;
+        while number != 0 {
+            if self.cuts(number, cord.rank) {
+                holder = Some(number);
+            }
+            number = self.parents[&number];
         }
+        let Some(number) = holder else {
+            unreachable!("no node holds cord {} down", cord.index);
+        };
+        number
     }
-    found.expect("a breaker for a cord with less than its want")
+
+    /// Whether a node asks for less than its children together, at this rank or any above it.
+    fn cuts(&self, number: u32, rank: u32) -> bool {
+        let asking = &self.askings[&number];
+        let mut ranks = rank as usize..asking.requests.len();
+        ranks.any(|rank| asking.requests[rank] < asking.children[rank])
+    }
 }

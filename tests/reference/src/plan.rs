@@ -50,8 +50,8 @@ pub fn deals(room: &Room, demands: &[u32]) -> Deals {
     let second_wants = second_wants(&first_wants, &used, &stranded);
     let second_grants = second_deal(room, &second_wants, &used);
     let caps = self::usable(room, &needs, &second_grants);
-    let headroom = headroom(room, &second_wants, &used);
-    let held = held(room, &second_wants, &used, &second_grants);
+    let headroom = headroom(room, &second_wants);
+    let held = held(room, &second_wants, &second_grants);
     Deals {
         needs,
         first_wants,

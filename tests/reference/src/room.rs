@@ -47,8 +47,6 @@ pub struct Cord {
     pub rank: u32,
     pub share: Watts,
     pub low: Watts,
-    /// What it carries of its server's greatest.
-    pub ceiling: Watts,
 }
 
 impl Room {
@@ -127,7 +125,6 @@ impl Cord {
             rank: server.rank,
             share,
             low: carried(share, server.least.into(), whole),
-            ceiling: carried(share, server.greatest.into(), whole),
         }
     }
 }

@@ -55,7 +55,7 @@ lengths c =
     lent
     (take (grants-space c .least .result) (start c .args .granted .now))
     (take (caps-space c .least2 .result) (start c .args .capped .now))
-    (take (headroom-space c .least3 .result) (start c .args .spare .now))
+    (take (headroom-space c .least3 .result) (start c .args .lent .now))
     (take (c .least4 .result) (start c .args .holders .now))
 
 abbrev own : Spaces → Outcome
@@ -76,7 +76,7 @@ module _ (c : tie.After-planned-count2) where
       let told = plan-of c .plan .ensures in
       listed (caps-space lends .least2 .ensures) (caps-counted _ _ (lengths lends)) (told .0) (told .1 .1 .0) (c .planned-count2 .ensures)
 
-  abbrev headroom-listed : Listed (λ p. p .headroom) (own lends) (start lends .args .headroom .now) (start lends .args .spare .now)
+  abbrev headroom-listed : Listed (λ p. p .headroom) (own lends) (start lends .args .headroom .now) (start lends .args .lent .now)
   headroom-listed =
       let told = plan-of c .plan .ensures in
       listed (headroom-space lends .least3 .ensures) (headroom-counted _ _ (lengths lends) _ (c .before .before .cord-count .ensures)) (told .0) (told .1 .1 .1 .0) (c .before .planned-count .ensures)
@@ -226,7 +226,7 @@ returns-2 c =
     let args = start spaces .args in
     let pre = start spaces .pre in
     call-same
-    (same-plan _ _ (args .grants .now) (args .granted .now) (args .caps .now) (args .capped .now) (args .headroom .now) (args .spare .now) (args .held .now) (args .holders .now)
+    (same-plan _ _ (args .grants .now) (args .granted .now) (args .caps .now) (args .capped .now) (args .headroom .now) (args .lent .now) (args .held .now) (args .holders .now)
     (record { grants = pre .0; caps = pre .1 .0; headroom = pre .1 .1 .0; held = pre .1 .1 .1 })
     (grants-space spaces .least .ensures) (caps-space spaces .least2 .ensures) (headroom-space spaces .least3 .ensures) (spaces .least4 .ensures))
     (plan-done (own spaces) (args .grants .now) (args .caps .now) (args .headroom .now) (args .held .now) (args .answer .now)

@@ -1,7 +1,6 @@
 -- `keep_at` meets its contract: an accepted step's cap stands at its place.
 use borrow.Author.Needs.{needs}
 use mathlib.Core.Path.{refl}
-use native.Mathlib.Nat.{mod-eq-of-lt}
 use Rattle.control_all.proofs.keep_at.Statement.{statement}
 use Rattle.control_all.proofs.keep_at.Tie as tie
 

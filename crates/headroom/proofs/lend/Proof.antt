@@ -99,29 +99,29 @@ weights-at w =
 cut-at : (w : Weights) → Cut (start w .args .parents .now) (start w .args .left .now) (rows w) (wholes w)
 cut-at w = subst (Cut (start w .args .parents .now) (start w .args .left .now) (rows w)) (sym (lent-again (wholes-lent w))) (w .weigh .ensures .2)
 
-slice-aggregate-share : tie.Need-slice-aggregate-share
-slice-aggregate-share c = search needs
+slice-aggregate-deal-out : tie.Need-slice-aggregate-deal-out
+slice-aggregate-deal-out c = search needs
 
 array-share-prefix-bases : tie.Need-array-share-prefix-bases
 array-share-prefix-bases c = lent-few (bases-lent (c .before .before .before .before .before .before))
 
-slice-aggregate-share-2 : tie.Need-slice-aggregate-share-2
-slice-aggregate-share-2 c = lent-front (bases-lent (c .before .before .before .before .before .before .before))
+slice-aggregate-deal-out-2 : tie.Need-slice-aggregate-deal-out-2
+slice-aggregate-deal-out-2 c = lent-front (bases-lent (c .before .before .before .before .before .before .before))
 
 array-share-prefix-wholes : tie.Need-array-share-prefix-wholes
 array-share-prefix-wholes c = lent-few (wholes-lent (c .before .before .before .before .before .before .before))
 
-slice-aggregate-share-3 : tie.Need-slice-aggregate-share-3
-slice-aggregate-share-3 c = lent-front (wholes-lent (c .before .before .before .before .before .before .before .before))
+slice-aggregate-deal-out-3 : tie.Need-slice-aggregate-deal-out-3
+slice-aggregate-deal-out-3 c = lent-front (wholes-lent (c .before .before .before .before .before .before .before .before))
 
 array-borrow-prefix-before-2 : tie.Need-array-borrow-prefix-before-2
 array-borrow-prefix-before-2 c = lent-few (before-lent (c .before .before .before .before .before .before .before .before))
 
-slice-aggregate-share-4 : tie.Need-slice-aggregate-share-4
-slice-aggregate-share-4 c = lent-front (before-lent (c .before .before .before .before .before .before .before .before .before))
+slice-aggregate-deal-out-4 : tie.Need-slice-aggregate-deal-out-4
+slice-aggregate-deal-out-4 c = lent-front (before-lent (c .before .before .before .before .before .before .before .before .before))
 
-share-requires : tie.Need-share-requires
-share-requires c κs =
+deal-out-requires : tie.Need-deal-out-requires
+deal-out-requires c κs =
     let w : Weights = c .before .before .before .before .before .before .before .before .before .before .before .before in (
       lists (start w),
       (
@@ -146,7 +146,7 @@ returns : tie.Need-returns
 returns c =
     let w : Weights = c .before .before .before .before .before .before .before .before .before .before .before .before .before .before .before .before .before .before in
     λ limits levels lows starts given.
-    headroom-is given (weights-at w) (cut-at w) (c .before .before .before .before .before .share .ensures) (c .before .before .before .before .before .share .kept .1 .1 .1 .1 .1 .1 .1 .1 .1 .0)
+    headroom-is given (weights-at w) (cut-at w) (c .before .before .before .before .before .deal-out .ensures) (c .before .before .before .before .before .deal-out .kept .1 .1 .1 .1 .1 .1 .1 .1 .1 .0)
 
 pub lend-spec : {M : Type 1} → statement M
 lend-spec =
@@ -162,14 +162,14 @@ lend-spec =
     array-borrow-prefix-before
     slice-aggregate-weigh-4
     weigh-requires
-    slice-aggregate-share
+    slice-aggregate-deal-out
     array-share-prefix-bases
-    slice-aggregate-share-2
+    slice-aggregate-deal-out-2
     array-share-prefix-wholes
-    slice-aggregate-share-3
+    slice-aggregate-deal-out-3
     array-borrow-prefix-before-2
-    slice-aggregate-share-4
-    share-requires
+    slice-aggregate-deal-out-4
+    deal-out-requires
     same-length
     same-length-2
     same-length-3

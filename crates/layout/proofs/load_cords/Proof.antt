@@ -1,7 +1,7 @@
 -- `load_cords` meets its contract: it lends as many rows as the room has servers.
 use lib.ListN.{replicate}
 use borrow.Author.Needs.{needs}
-use Rattle.room_lists.proofs.Lent.{servers-few, servers-front, servers-lent}
+use Rattle.rooms.proofs.RowsLent.{servers-few, servers-front, servers-lent}
 use Rattle.layout.proofs.load_cords.Statement.{statement}
 use Rattle.layout.proofs.load_cords.Tie as tie
 

@@ -6,7 +6,7 @@ use lib.ListN.{length}
 use borrow.Author.Needs.{needs}
 use Rattle.figures.specs.Figures.{at, cell}
 use Rattle.figures.proofs.Filled.{Filled, filled-none, filled-one, filled-all}
-use Rattle.room_lists.specs.Lists.{leastColumn, greatestColumn}
+use Rattle.rooms.specs.Rows.{leastColumn, greatestColumn}
 use Rattle.layout.proofs.load_needs.Statement.{statement}
 use Rattle.layout.proofs.load_needs.Tie as tie
 

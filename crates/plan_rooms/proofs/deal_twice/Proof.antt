@@ -9,7 +9,7 @@ use Rattle.words.proofs.Lists.{sets-all}
 use Rattle.rooms.specs.Table.{Room, mostNodes, mostCords, mostServers, highestRank}
 use Rattle.rooms.proofs.Accepted.{Accepted, accepted}
 use Rattle.rooms.specs.Lists.{limitsOf, levelsOf}
-use Rattle.room_lists.specs.Lists.{nodeColumn, levelColumn, serverColumn, shareColumn}
+use Rattle.rooms.specs.Rows.{nodeColumn, levelColumn, serverColumn, shareColumn}
 use Rattle.deals.specs.SecondDeal.{firstGrants, firstUsed, secondDeal, secondWants}
 use Rattle.deals.specs.SecondDeal as second
 use Rattle.levels.specs.Levels.{LevelLists, toColumn}

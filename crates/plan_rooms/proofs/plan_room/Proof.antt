@@ -10,8 +10,8 @@ use Rattle.rooms.specs.Table.{Room, mostNodes, mostCords}
 use Rattle.rooms.specs.Limits.{checked}
 use Rattle.rooms.specs.Lists.{limitsOf, levelsOf, lowsOf}
 use Rattle.rooms.proofs.Accepted.{Accepted, accepted}
-use Rattle.room_lists.specs.Lists.{ScaleIs}
-use Rattle.room_lists.proofs.Lent.{cords-few, cords-front, cords-lent}
+use Rattle.rooms.specs.Rows.{ScaleIs}
+use Rattle.rooms.proofs.RowsLent.{cords-few, cords-front, cords-lent}
 use Rattle.deals.specs.SecondDeal.{firstUsed}
 use Rattle.levels.proofs.Cells.{zeros-front}
 use Rattle.levels.proofs.Fronts.{equal-length, front-length, Lent, lent, lent-zeros, rejoined, lent-again, lent-few, lent-front}

@@ -5,7 +5,7 @@ use Prim.Native.Nat.{ℕ}
 use lib.ListN.{List·getD-eq-default}
 use borrow.Author.Needs.{needs}
 use Rattle.figures.specs.Figures.{at}
-use Rattle.room_lists.specs.Lists.{nodeColumn}
+use Rattle.rooms.specs.Rows.{nodeColumn}
 use Rattle.print.proofs.node.Statement.{statement}
 use Rattle.print.proofs.node.Tie as tie
 

@@ -1,6 +1,6 @@
 -- `plan` meets its contract: it lends as many rows as the room has servers and cords.
 use lib.ListN.{replicate}
-use Rattle.room_lists.proofs.Lent.{servers-few, servers-front, servers-lent, cords-few, cords-front, cords-lent}
+use Rattle.rooms.proofs.RowsLent.{servers-few, servers-front, servers-lent, cords-few, cords-front, cords-lent}
 use borrow.Author.Needs.{needs}
 use Rattle.print.proofs.plan.Statement.{statement}
 use Rattle.print.proofs.plan.Tie as tie

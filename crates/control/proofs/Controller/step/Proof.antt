@@ -1,83 +1,55 @@
--- `Controller::step` meets its contract: the cords are judged and tallied in order.
+-- `Controller::step` meets its contract: the controller is judged, and then its four cords.
 use borrow.Author.Needs.{needs}
-use native.Mathlib.Omega.{arith}
-use mathlib.Core.Path.{sym, ap, _∙_}
-use mathlib.Core.List.{[]}
-use Prim.Native.Nat.{_-_}
-use Rattle.control.specs.declared.Stepped.the-variants.{Next}
-use Rattle.control.specs.Step.{successor}
-use Rattle.control.proofs.Tests.{was-true, was-false}
-use Rattle.control.proofs.Cords.{Before, successorFrom-none, successorFrom-end, before-first, before-next, stepped-bad-controller, stepped-bad-reading, stepped-next}
+use mathlib.Core.Path.{_≡_, ap, _∙_}
+use lib.ListN.{length}
+use Rattle.control.specs.Step.{stepped}
+use Rattle.control.proofs.Cords.{steppedBy-four, four-readings}
 use Rattle.control.proofs.Controller.step.Statement.{statement}
 use Rattle.control.proofs.Controller.step.Tie as tie
 
-abbrev Inv-loop : tie.InvT-loop
-Inv-loop self readings tally₀ cord₀ tally cord = Before self readings tally cord
+four : (c : tie.Start) → length (c .args .t2) ≡ 4
+four c = search needs
 
-abbrev μ-loop : tie.MeasureT-loop
-μ-loop self readings tally₀ cord₀ tally cord = 4 - cord
+judged-requires : tie.Need-judged-requires
+judged-requires c κs = search needs
 
-is-good-requires : tie.Need-is-good-requires Inv-loop μ-loop
-is-good-requires c κs = search needs
+array-copy-out-with : tie.Need-array-copy-out-with
+array-copy-out-with c = search needs
 
-refused-requires : tie.Need-refused-requires Inv-loop μ-loop
-refused-requires c κs = search needs
+with-requires : tie.Need-with-requires
+with-requires c κs = search needs
 
-returns : tie.Need-returns Inv-loop μ-loop
+array-copy-out-with-2 : tie.Need-array-copy-out-with-2
+array-copy-out-with-2 c = search needs
+
+with-requires-2 : tie.Need-with-requires-2
+with-requires-2 c κs = search needs
+
+array-copy-out-with-3 : tie.Need-array-copy-out-with-3
+array-copy-out-with-3 c = search needs
+
+with-requires-3 : tie.Need-with-requires-3
+with-requires-3 c κs = search needs
+
+array-copy-out-with-4 : tie.Need-array-copy-out-with-4
+array-copy-out-with-4 c = search needs
+
+with-requires-4 : tie.Need-with-requires-4
+with-requires-4 c κs = search needs
+
+step-by-requires : tie.Need-step-by-requires
+step-by-requires c κs = search needs
+
+returns : tie.Need-returns
 returns c =
-    let test = c .before .before in
-    c .refused .ensures ∙ stepped-bad-controller (test .before .args .self) _ (was-false (test .is-good .ensures) (c .before .if1 .taken))
-
-loop-holds : tie.Need-loop-holds Inv-loop μ-loop
-loop-holds c = before-first _ _ _ (was-true (c .before .is-good .ensures) (c .if1 .left)) (search needs)
-
-mul-reading : tie.Need-mul-reading Inv-loop μ-loop
-mul-reading c = omega arith
-
-array-copy-out-reading : tie.Need-array-copy-out-reading Inv-loop μ-loop
-array-copy-out-reading c = omega arith
-
-is-good-requires-2 : tie.Need-is-good-requires-2 Inv-loop μ-loop
-is-good-requires-2 c κs = search needs
-
-refused-requires-2 : tie.Need-refused-requires-2 Inv-loop μ-loop
-refused-requires-2 c κs = search needs
-
-returns-2 : tie.Need-returns-2 Inv-loop μ-loop
-returns-2 c =
-    let test = c .before .before in
-    c .refused2 .ensures
-    ∙ stepped-bad-reading _ _ _ _ (test .before .before .before .loop .inv) _ (omega arith) (was-false (test .is-good2 .ensures) (c .before .if2 .taken))
-
-with-requires : tie.Need-with-requires Inv-loop μ-loop
-with-requires c κs = omega (arith, c .before .before .before .before .loop .inv .few)
-
-add-cord : tie.Need-add-cord Inv-loop μ-loop
-add-cord c = omega arith
-
-loop-less : tie.Need-loop-less Inv-loop μ-loop
-loop-less c = omega arith
-
-loop-again : tie.Need-loop-again Inv-loop μ-loop
-loop-again c =
-    let test = c .before .before in
-    rw (c .with .ensures)
-    (before-next _ _ _ _ (test .before .before .before .loop .inv) _ (omega arith) (was-true (test .is-good2 .ensures) (c .before .if2 .left)))
-
-returns-3 : tie.Need-returns-3 Inv-loop μ-loop
-unfolding successor
-returns-3 c =
-    let inv = c .before .before .before .loop .inv in
-    ap Next (sym (successorFrom-none _ _ [] (c .if3 .taken))) ∙ stepped-next _ _ _ _ inv (omega arith)
-
-moved-requires : tie.Need-moved-requires Inv-loop μ-loop
-moved-requires c κs = search needs
-
-returns-4 : tie.Need-returns-4 Inv-loop μ-loop
-returns-4 c =
-    let test = c .before .before in
-    let inv = test .before .before .before .loop .inv in
-    ap Next (c .moved .ensures ∙ successorFrom-end _ _ (omega (arith, test .if3 .left))) ∙ stepped-next _ _ _ _ inv (omega arith)
+    let fourth = c .before in
+    let third = fourth .before .before in
+    let second = third .before .before in
+    let first = second .before .before in
+    let judged = first .before .before in
+    let start = judged .before in
+    rw (c .step-by .ensures, fourth .with4 .ensures, third .with3 .ensures, second .with2 .ensures, first .with .ensures, judged .judged .ensures)
+    (steppedBy-four (start .args .self) _ _ _ _ ∙ ap (stepped (start .args .self)) (four-readings (start .args .t2) _ (four start)))
 
 pub step-spec : {M : Type 1} → statement M
-step-spec = tie.close (tie.spec Inv-loop μ-loop is-good-requires refused-requires returns loop-holds mul-reading array-copy-out-reading is-good-requires-2 refused-requires-2 returns-2 with-requires add-cord loop-less loop-again returns-3 moved-requires returns-4)
+step-spec = tie.close (tie.spec judged-requires array-copy-out-with with-requires array-copy-out-with-2 with-requires-2 array-copy-out-with-3 with-requires-3 array-copy-out-with-4 with-requires-4 step-by-requires returns)

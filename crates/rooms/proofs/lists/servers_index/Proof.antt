@@ -1,0 +1,31 @@
+-- `servers_index` meets its contract: the count of servers stands behind the nodes.
+use borrow.Author.Needs.{needs}
+use Rattle.rooms.proofs.Counts.{index-told}
+use Rattle.rooms.proofs.lists.servers_index.Statement.{statement}
+use Rattle.rooms.proofs.lists.servers_index.Tie as tie
+
+word-requires : tie.Need-word-requires
+word-requires c κs = search needs
+
+has-percents-requires : tie.Need-has-percents-requires
+has-percents-requires c κs = search needs
+
+node-count-requires : tie.Need-node-count-requires
+node-count-requires c κs = search needs
+
+node-index-requires : tie.Need-node-index-requires
+node-index-requires c κs = search needs
+
+returns : tie.Need-returns
+returns c =
+    index-told (c .before .before .before .before .before .args .table .now) (c .before .before .before .word .ensures) (c .before .before .has-percents .ensures) (c .before .node-count .ensures .1 .0) (c .before .node-count .ensures .1 .1) (c .node-index .ensures)
+
+pub servers-index-spec : {M : Type 1} → statement M
+servers-index-spec =
+    tie.close
+    (tie.spec
+    word-requires
+    has-percents-requires
+    node-count-requires
+    node-index-requires
+    returns)

@@ -9,11 +9,11 @@ use native.Mathlib.Omega.{arith}
 use lib.Dec.{eqb, ltb}
 use lib.ListN.{length, getD, set, length-set}
 use lib.Seq.{set-getD, getD-set-same, getD-set-other}
-use borrow.Author.Tests.{ne-eqb, lt-ltb, le-ltb}
+use borrow.Author.Tests.{ne-eqb, le-ltb}
 use Rattle.figures.specs.Sums.{on, sum}
 use Rattle.rooms.specs.Table.{mostNodes, mostWatts, highestRank}
 use Rattle.rooms.specs.Credits.{credited}
-use Rattle.figures.proofs.Sums.{on-yes, on-no, sum-suc, up-cong}
+use Rattle.figures.proofs.Sums.{on-no, sum-suc, up-cong}
 use Rattle.rooms.proofs.Trees.{kids, kids-cong, down}
 use Rattle.rooms.proofs.Credits.{sumBeneath-step, credited-at, credited-length, figure-in-sum, sum-credited}
 use Rattle.rooms.proofs.Gather.{Holds, holds-start, holds-turn, holds-end, holds-whole}
@@ -98,16 +98,9 @@ unfolding credited
 sum-passed m zero figure l h f k = omega (arith, sum-suc m (at l))
 sum-passed m (suc p) figure l h f k = omega (arith, sum-suc m (at l), sum-credited m (suc p) figure l (omega arith) h (omega arith))
 
--- A mark stays where the node is not cut at the level, as where its children weigh nothing, and where a higher rank is marked.
-pub uncut : (mark level left whole : ℕ) → whole ≤ left → cutMark mark level left whole ≡ mark
-uncut mark level left whole h = omega (arith, on-no (ltb left whole) (suc level) (le-ltb left whole h))
-
-pub cut-above : (mark level left whole : ℕ) → left < whole → level < mark → cutMark mark level left whole ≡ mark
-cut-above mark level left whole h k = omega (arith, on-yes (ltb left whole) (suc level) (lt-ltb left whole h))
-
--- Else it is the level's rank.
-pub cut-here : (mark level left whole : ℕ) → left < whole → mark ≤ level → cutMark mark level left whole ≡ suc level
-cut-here mark level left whole h k = omega (arith, on-yes (ltb left whole) (suc level) (lt-ltb left whole h))
+-- Where children weigh nothing, a mark stays.
+uncut : (mark level left : ℕ) → cutMark mark level left 0 ≡ mark
+uncut mark level left = omega (arith, on-no (ltb left 0) (suc level) (le-ltb left 0 (omega arith)))
 
 -- The node whose turn comes, in the terms of the code.
 pub record NextNode (parents : List ℕ) (level : ℕ) (left₀ cuts₀ : List ℕ) (base : ℕ → ℕ) (weights : List ℕ) (rows₀ : List (List ℕ)) (m : ℕ) (left cuts wholes : List ℕ) (rows : List (List ℕ)) : Type 0 where
@@ -118,9 +111,9 @@ pub record NextNode (parents : List ℕ) (level : ℕ) (left₀ cuts₀ : List �
   pub in-rows : m < mostNodes
   pub bounds : at left m + base m ≤ mostWatts
   pub credit-fits : {parent v : ℕ} → parent ≡ at parents m → v ≤ at wholes m → (parent ≤ length wholes) × (at wholes (parent - 1) + v < 2 ^ 64)
-  pub turn : {rest v w u parent : ℕ} {cuts′ wholes′ : List ℕ} → rest ≡ at left m → v ≡ min rest (at wholes m) → w ≡ rest - v → cuts′ ≡ set cuts m (cutMark (at cuts m) level rest (at wholes m))
+  pub turn : {rest v w mark u parent : ℕ} {wholes′ : List ℕ} → rest ≡ at left m → v ≡ min rest (at wholes m) → w ≡ rest - v → mark ≡ cutMark (at cuts m) level rest (at wholes m)
       → u ≡ base m + v → parent ≡ at parents m → wholes′ ≡ credited parent v wholes
-      → Requesting parents level left₀ cuts₀ base weights rows₀ m (set left m w) cuts′ wholes′ (stored rows m level u)
+      → Requesting parents level left₀ cuts₀ base weights rows₀ m (set left m w) (set cuts m mark) wholes′ (stored rows m level u)
 
 module _ {parents : List ℕ} {level : ℕ} {left₀ cuts₀ : List ℕ} {base : ℕ → ℕ} {weights : List ℕ} {rows₀ : List (List ℕ)} where
   turned : (k : ℕ) (left cuts wholes : List ℕ) (rows : List (List ℕ)) (v : ℕ) → v ≡ min (at left k) (at wholes k)
@@ -189,7 +182,7 @@ module _ {parents : List ℕ} {level : ℕ} {left₀ cuts₀ : List ℕ} {base :
       → Requesting parents level left₀ cuts₀ base weights rows₀ (suc k) left cuts wholes rows → Requesting parents level left₀ cuts₀ base weights rows₀ k left cuts wholes rows
   turn-idle k left cuts wholes rows b a r inv =
       let left-same : set left k (at left k - 0) ≡ left = ap (set left k) (sub-zero (at left k)) ∙ set-getD left k 0 in
-      let mark-same : cutMark (at cuts k) level (at left k) (at wholes k) ≡ at cuts k = ap (cutMark (at cuts k) level (at left k)) a ∙ uncut (at cuts k) level (at left k) 0 (omega arith) in
+      let mark-same : cutMark (at cuts k) level (at left k) (at wholes k) ≡ at cuts k = ap (cutMark (at cuts k) level (at left k)) a ∙ uncut (at cuts k) level (at left k) in
       let cuts-same : set cuts k (cutMark (at cuts k) level (at left k) (at wholes k)) ≡ cuts = ap (set cuts k) mark-same ∙ set-getD cuts k 0 in
       let nothing : base k + 0 ≡ cell rows k level = omega (arith, b, r) in
       let row-same : set (getD rows k []) level (base k + 0) ≡ getD rows k [] = ap (set (getD rows k []) level) nothing ∙ set-getD (getD rows k []) level 0 in
@@ -342,10 +335,10 @@ module _ {parents active : List ℕ} {count level : ℕ} {left₀ cuts₀ starts
       pub base-fits : {parent : ℕ} → parent ≡ at parents n → (parent ≤ length bases) × (at bases (parent - 1) + at bases n < 2 ^ 64)
       base-fits = summing-fits rises (t .starts-fit) (here .1)
 
-      pub gather-turn : {rest v w u parent : ℕ} {cuts′ bases′ wholes′ : List ℕ} → rest ≡ at left n → v ≡ min rest (at wholes n) → w ≡ rest - v
-          → cuts′ ≡ set cuts n (cutMark (at cuts n) level rest (at wholes n)) → u ≡ at bases n + v → parent ≡ at parents n
+      pub gather-turn : {rest v w mark u parent : ℕ} {bases′ wholes′ : List ℕ} → rest ≡ at left n → v ≡ min rest (at wholes n) → w ≡ rest - v
+          → mark ≡ cutMark (at cuts n) level rest (at wholes n) → u ≡ at bases n + v → parent ≡ at parents n
           → bases′ ≡ credited parent (at bases n) bases → wholes′ ≡ credited parent v wholes
-          → GatherTurn parents active count level left₀ cuts₀ starts weights rows₀ (i - 1) (set left n w) cuts′ bases′ wholes′ (stored rows n level u)
+          → GatherTurn parents active count level left₀ cuts₀ starts weights rows₀ (i - 1) (set left n w) (set cuts n mark) bases′ wholes′ (stored rows n level u)
       gather-turn {v = v} {u = u} er ev ew em eu ep cb cw = record {
         nodes = t .nodes;
         starts-fit = t .starts-fit;

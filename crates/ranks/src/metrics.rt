@@ -1,7 +1,7 @@
 // One rank's starts and Requests, summed on the nodes from the cords up to the roots.
 ghost use mathlib.Core.Path.{_≡_};
 ghost use Prim.Native.Nat.{ℕ, _+_, _*_, _≤_, _<_};
-ghost use lib.ListN.{length, replicate, set};
+ghost use lib.ListN.{length, replicate};
 ghost use Rattle.figures.specs.Sums.{sum};
 ghost use Rattle.rooms.specs.Table.{mostNodes, mostWatts, mostCords, highestRank};
 ghost use Rattle.rooms.specs.Credits.{sumBeneath};
@@ -49,19 +49,17 @@ pub fn sum_cords(
     }
 }
 
-// Marks a node as cut at a level, where what is left of its limit there is less than its children's weights, unless a higher rank is
-// marked. A mark is stored where it is due alone: at most turns it is not, and a store at every turn costs more than the branch.
-fn mark_cut(cuts: &mut [u16], n: usize, level: usize, left: u64, whole: u64)
-    requires { ⌜ (n < length (now cuts)) × (level < highestRank) ⌝ }
-    ensures { λ _. ⌜ now (cuts .exit) ≡ set (now (cuts .entry)) n (cutMark (at (now (cuts .entry)) n) level left whole) ⌝ }
+// The mark of a node's cuts after a level, by what is left of its limit there and its children's weights.
+fn marked(mark: u16, level: usize, left: u64, whole: u64) -> u16
+    requires { ⌜ level < highestRank ⌝ }
+    ensures { λ r. ⌜ r ≡ cutMark mark level left whole ⌝ }
 {
-    if whole <= left {
-        return;
+    if left < whole {
+        if index(mark) <= level {
+            return place(level + 1);
+        }
     }
-    if level < index(cuts[n]) {
-        return;
-    }
-    cuts[n] = place(level + 1);
+    mark
 }
 
 // From the last active node to the first: a node's Request is the starts beneath it and its weight, the lesser of what is left of its
@@ -95,7 +93,7 @@ pub fn gather(
         let rest = wide(left[n]);
         let weight = least(rest, whole);
         left[n] = narrow(rest - weight);
-        mark_cut(cuts, n, level, rest, whole);
+        cuts[n] = marked(cuts[n], level, rest, whole);
         requests[n][level] = narrow(start + weight);
         let parent = index(parents[n]);
         credit(bases, parent, start);

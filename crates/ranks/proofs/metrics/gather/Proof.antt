@@ -27,11 +27,11 @@ node c = c .before .before .before .before
 abbrev rest : tie.After-least Inv-loop μ-loop → tie.After-wide Inv-loop μ-loop
 rest c = c .before
 
-abbrev weight : tie.After-mark-cut Inv-loop μ-loop → tie.After-least Inv-loop μ-loop
+abbrev weight : tie.After-marked Inv-loop μ-loop → tie.After-least Inv-loop μ-loop
 weight c = c .before .before .before
 
-abbrev mark : tie.After-narrow2 Inv-loop μ-loop → tie.After-mark-cut Inv-loop μ-loop
-mark c = c .before .before .before
+abbrev mark : tie.After-narrow2 Inv-loop μ-loop → tie.After-marked Inv-loop μ-loop
+mark c = c .before
 
 abbrev request : tie.After-index2 Inv-loop μ-loop → tie.After-narrow2 Inv-loop μ-loop
 request c = c .before .before
@@ -107,17 +107,26 @@ mul-left c = search needs
 slice-write-left : tie.Need-slice-write-left Inv-loop μ-loop
 slice-write-left c = gather-node (turn (node (rest (c .before))) .before .loop .inv) (turn (node (rest (c .before))) .loop-test .taken) (node (rest (c .before)) .index .ensures .0) .in-left
 
-mark-cut-requires : tie.Need-mark-cut-requires Inv-loop μ-loop
-mark-cut-requires c κs =
-    let at-node = node (rest (c .before .before)) in
-    let inv = turn at-node .before .loop .inv in
-    (gather-node inv (turn at-node .loop-test .taken) (at-node .index .ensures .0) .in-cuts, inv .requesting .given .ranked)
+mul-marked : tie.Need-mul-marked Inv-loop μ-loop
+mul-marked c = search needs
+
+slice-read-marked : tie.Need-slice-read-marked Inv-loop μ-loop
+slice-read-marked c = gather-node (turn (node (rest (c .before .before))) .before .loop .inv) (turn (node (rest (c .before .before))) .loop-test .taken) (node (rest (c .before .before)) .index .ensures .0) .in-cuts
+
+marked-requires : tie.Need-marked-requires Inv-loop μ-loop
+marked-requires c κs = turn (node (rest (c .before .before))) .before .loop .inv .requesting .given .ranked
+
+mul-cuts : tie.Need-mul-cuts Inv-loop μ-loop
+mul-cuts c = search needs
+
+slice-write-cuts : tie.Need-slice-write-cuts Inv-loop μ-loop
+slice-write-cuts c = gather-node (turn (node (rest (weight c))) .before .loop .inv) (turn (node (rest (weight c))) .loop-test .taken) (node (rest (weight c)) .index .ensures .0) .in-cuts
 
 add-narrow : tie.Need-add-narrow Inv-loop μ-loop
-add-narrow c = let weighed = weight (c .before .before) in omega (arith, rest-fits (rest weighed), weighed .least .ensures)
+add-narrow c = omega (arith, rest-fits (rest (weight c)), weight c .least .ensures)
 
 narrow-requires-2 : tie.Need-narrow-requires-2 Inv-loop μ-loop
-narrow-requires-2 c κs = let weighed = weight (c .before .before) in omega (arith, rest-fits (rest weighed), weighed .least .ensures)
+narrow-requires-2 c κs = omega (arith, rest-fits (rest (weight c)), weight c .least .ensures)
 
 mul-requests : tie.Need-mul-requests Inv-loop μ-loop
 mul-requests c = omega (arith, gather-node (turn (node (rest (weight (mark c)))) .before .loop .inv) (turn (node (rest (weight (mark c)))) .loop-test .taken) (node (rest (weight (mark c))) .index .ensures .0) .in-rows)
@@ -164,7 +173,7 @@ loop-again c =
     let weighed = weight set-mark in
     let at-node = node (rest weighed) in
     gather-turn (turn at-node .before .loop .inv) (turn at-node .loop-test .taken) (at-node .index .ensures .0)
-    (rest weighed .wide .ensures .0) (weighed .least .ensures) (set-mark .before .before .narrow .ensures) (set-mark .mark-cut .ensures) (asked .narrow2 .ensures) (parent .index2 .ensures .0)
+    (rest weighed .wide .ensures .0) (weighed .least .ensures) (set-mark .before .before .narrow .ensures) (set-mark .marked .ensures) (asked .narrow2 .ensures) (parent .index2 .ensures .0)
     (c .before .before .before .before .before .before .credit .ensures) (c .before .before .credit2 .ensures)
 
 same-length : tie.Need-same-length Inv-loop μ-loop
@@ -205,7 +214,11 @@ gather-spec =
     narrow-requires
     mul-left
     slice-write-left
-    mark-cut-requires
+    mul-marked
+    slice-read-marked
+    marked-requires
+    mul-cuts
+    slice-write-cuts
     add-narrow
     narrow-requires-2
     mul-requests

@@ -40,7 +40,7 @@
  * good input.
  *
  * Stack, as measured on x86-64 (docs/PERFORMANCE.md has the figures): about 27 KB for hutplan_read
- * and for hutplan_write, about 147 KB for hutplan_plan, about 8 KB for hutplan_schedule, about
+ * and for hutplan_write, about 156 KB for hutplan_plan, about 8 KB for hutplan_schedule, about
  * 2 KB for hutplan_send, and less than 1 KB for hutplan_step and for hutplan_step_all. It does not
  * grow with the input.
  */

@@ -6,9 +6,10 @@
  * There is one DEMAND for each server, in the table's order: watts in decimal.
  *
  * Prints the plan as hutplan does: a line `freed F`, and for each server a line `server N cap W`
- * with a line `cord K node M grant G headroom W held B` for each cord; or `refused R at P`, of
- * which hutplan.h lists the numbers and places. Exit status: 0 if all was accepted, 1 if the sheet
- * or the demands were refused, 2 if no FILE is given or it cannot be read.
+ * with a line `cord K node M grant G headroom W held B` for each cord; or, with the
+ * refusal's name beside its number, `refused R (NAME) at P`. hutplan.h lists the numbers and places.
+ * Exit status: 0 if all was accepted, 1 if the sheet or the demands were refused, 2 if no FILE is
+ * given or it cannot be read.
  */
 #include <inttypes.h>
 #include <stdio.h>
@@ -16,6 +17,7 @@
 #include <string.h>
 
 #include "hutplan.h"
+#include "refusal_names.h"
 
 /* More watts than a demand may have. */
 #define NO_DEMAND 16777216
@@ -74,7 +76,8 @@ static int accepted(void)
 
     if (number == HUTPLAN_ACCEPTED)
         return 1;
-    printf("refused %" PRIu64 " at %" PRIu64 "\n", number, number_at(answer + 8, 8));
+    printf("refused %" PRIu64 " (%s) at %" PRIu64 "\n", number, refusal_name(number),
+           number_at(answer + 8, 8));
     return 0;
 }
 

@@ -5,9 +5,10 @@
 //! There is one DEMAND for each server, in the table's order: watts in decimal.
 //!
 //! Prints the plan as hutplan does: a line `freed F`, and for each server a line `server N cap W`
-//! with a line `cord K node M grant G headroom W held B` for each cord; or `refused R at P`, of
-//! which hutplan.h lists the numbers and places. Exit status: 0 if all was accepted, 1 if the sheet
-//! or the demands were refused, 2 if no FILE is given or it cannot be read.
+//! with a line `cord K node M grant G headroom W held B` for each cord; or, with the
+//! refusal's name beside its number, `refused R (NAME) at P`. hutplan.h lists the numbers and places.
+//! Exit status: 0 if all was accepted, 1 if the sheet or the demands were refused, 2 if no FILE is
+//! given or it cannot be read.
 
 /// Read and Plan of `include/hutplan.h`, in safe Rust.
 mod hutplan {
@@ -135,6 +136,8 @@ mod hutplan {
     }
 }
 
+mod refusal_names;
+
 use std::path::PathBuf;
 use std::process::exit;
 
@@ -151,7 +154,8 @@ fn demand(text: &str) -> u32 {
 /// The value, or the refusal on standard output and exit status 1.
 fn accepted<T>(result: Result<T, hutplan::Refusal>) -> T {
     result.unwrap_or_else(|refusal| {
-        println!("refused {} at {}", refusal.number, refusal.place);
+        let name = refusal_names::refusal_name(refusal.number);
+        println!("refused {} ({name}) at {}", refusal.number, refusal.place);
         exit(1)
     })
 }

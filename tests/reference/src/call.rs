@@ -4,15 +4,15 @@
 use crate::control::{step_all as step_each, Controller, Cord};
 use crate::Refusal;
 
-const ANSWER: usize = 16;
-const LONG_ANSWER: usize = 24;
-const WORD: usize = 4;
+/// Bytes of a number of the answer, and of a word.
+const NUMBER: usize = 8;
+pub(crate) const WORD: usize = 4;
 
 pub fn read(sheet: &[u8], table: &mut [u8], answer: &mut [u8]) -> u32 {
     answered(answer, || {
         let words = crate::read(sheet, table.len() / WORD)?;
         put_words(&words, table);
-        Ok(words.len() as u64)
+        Ok([words.len() as u64])
     })
 }
 
@@ -20,7 +20,7 @@ pub fn write(table: &[u8], sheet: &mut [u8], answer: &mut [u8]) -> u32 {
     answered(answer, || {
         let bytes = crate::write(&words(table), sheet.len())?;
         sheet[..bytes.len()].copy_from_slice(&bytes);
-        Ok(bytes.len() as u64)
+        Ok([bytes.len() as u64])
     })
 }
 
@@ -41,26 +41,17 @@ pub fn plan(
         put_words(&plan.caps, caps);
         put_words(&plan.headroom, headroom);
         put_words(&plan.held, held);
-        Ok(plan.freed)
+        Ok([plan.freed])
     })
 }
 
 /// Send, whose answer is longer: where it is accepted, the new position follows.
 pub fn send(count: u64, position: u64, m: u64, list: &mut [u8], answer: &mut [u8]) -> u32 {
-    let Some(answer) = answer.get_mut(..LONG_ANSWER) else {
-        return 0;
-    };
-    let numbers = match crate::send::send(count, position, m, list.len() / WORD) {
-        Ok(period) => {
-            put_words(&period.named, list);
-            vec![0, period.named.len() as u64, period.position]
-        }
-        Err(refusal) => vec![refusal.number, refusal.place],
-    };
-    for (number, eight) in numbers.iter().zip(answer.chunks_exact_mut(8)) {
-        eight.copy_from_slice(&number.to_le_bytes());
-    }
-    1
+    answered(answer, || {
+        let period = crate::send::send(count, position, m, list.len() / WORD)?;
+        put_words(&period.named, list);
+        Ok([period.named.len() as u64, period.position])
+    })
 }
 
 /// A step: the controller's cap, k, low and high; and each cord's mark, budget and measured watts.
@@ -73,7 +64,7 @@ pub fn step(
 ) -> u32 {
     answered(answer, || {
         controller[0] = controller_of(controller).step(cords_of(working, budgets, measured))?;
-        Ok(0)
+        Ok([0])
     })
 }
 
@@ -102,7 +93,8 @@ pub fn step_all(
                 controllers[4 * i] = cap;
             }
         }
-        Ok(results.iter().filter(|number| **number == 0).count() as u64)
+        let stepped = results.iter().filter(|number| **number == 0);
+        Ok([stepped.count() as u64])
     })
 }
 
@@ -116,23 +108,27 @@ fn cords_of(working: &[u8], budgets: &[f64], measured: &[f64]) -> [Cord; 4] {
     [0, 1, 2, 3].map(|i| (working[i] != 0).then_some((budgets[i], measured[i])))
 }
 
-/// Runs the call if its answer fits, and answers.
-pub(crate) fn answered(answer: &mut [u8], call: impl FnOnce() -> Result<u64, Refusal>) -> u32 {
-    let Some(answer) = answer.get_mut(..ANSWER) else {
+/// Runs the call if its answer fits, and answers: 0 and so many figures, or a refusal's number and
+/// place, what follows these untouched.
+pub(crate) fn answered<const FIGURES: usize>(
+    answer: &mut [u8],
+    call: impl FnOnce() -> Result<[u64; FIGURES], Refusal>,
+) -> u32 {
+    let Some(answer) = answer.get_mut(..NUMBER * (1 + FIGURES)) else {
         return 0;
     };
-    let (number, figure) = match call() {
-        Ok(figure) => (0, figure),
-        Err(refusal) => (refusal.number, refusal.place),
+    let numbers = match call() {
+        Ok(figures) => [&[0], &figures[..]].concat(),
+        Err(refusal) => vec![refusal.number, refusal.place],
     };
-    let (first, second) = answer.split_at_mut(ANSWER / 2);
-    first.copy_from_slice(&number.to_le_bytes());
-    second.copy_from_slice(&figure.to_le_bytes());
+    for (number, eight) in numbers.iter().zip(answer.chunks_exact_mut(NUMBER)) {
+        eight.copy_from_slice(&number.to_le_bytes());
+    }
     1
 }
 
 /// The whole words of a list; bytes over at its end are none.
-fn words(list: &[u8]) -> Vec<u32> {
+pub(crate) fn words(list: &[u8]) -> Vec<u32> {
     let word = |four: &[u8]| {
         let mut bytes = [0; WORD];
         bytes.copy_from_slice(four);

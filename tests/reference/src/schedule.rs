@@ -1,7 +1,7 @@
 //! Breaker schedules (document 02, A.12): a text of lines to a table, its C call, and what the
 //! program writes.
 
-use crate::call::{answered, put_words};
+use crate::call::{answered, put_words, WORD};
 use crate::{fits, number, Refusal};
 
 /// NEC 240.6(A), 2020 edition.
@@ -51,9 +51,9 @@ fn plain(field: &str) -> Option<u32> {
 /// The C call.
 pub fn call(text: &[u8], table: &mut [u8], answer: &mut [u8]) -> u32 {
     answered(answer, || {
-        let words = schedule(text, table.len() / 4)?;
+        let words = schedule(text, table.len() / WORD)?;
         put_words(&words, table);
-        Ok(words.len() as u64)
+        Ok([words.len() as u64])
     })
 }
 

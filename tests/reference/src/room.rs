@@ -49,15 +49,21 @@ pub struct Cord {
     pub low: Watts,
 }
 
+/// The table and the room that the words describe, or the first fault (4 to 9).
+pub fn checked(words: &[u32]) -> Result<(Table, Room), Refusal> {
+    let table = Table::of_words(words)?;
+    let room = Room::of_table(&table);
+    match room.overfull() {
+        Some(number) => Err(Refusal::new(9, number as usize)),
+        None => Ok((table, room)),
+    }
+}
+
 impl Room {
     /// The room that the words describe, or the first fault (4 to 9).
     pub fn of_words(words: &[u32]) -> Result<Room, Refusal> {
-        let table = Table::of_words(words)?;
-        let room = Room::of_table(&table);
-        match room.overfull() {
-            Some(number) => Err(Refusal::new(9, number as usize)),
-            None => Ok(room),
-        }
+        let (_, room) = checked(words)?;
+        Ok(room)
     }
 
     fn of_table(table: &Table) -> Room {

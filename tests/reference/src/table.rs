@@ -1,16 +1,17 @@
-//! The room table, word by word: refusals 4 to 8. Version 2 (request A.3) has a percent for each node, and version 3
-//! (request A.11) shares of ten thousand.
+//! The room table, word by word: refusals 4 to 8; and the words of a table again. Version 2 (request
+//! A.3) has a percent for each node, and version 3 (request A.11) shares of ten thousand.
 
 use crate::Refusal;
 
 const MOST_WATTS: u32 = 16_777_215;
-const MOST_NODES: u32 = 512;
-const MOST_SERVERS: u32 = 512;
-const MOST_CORDS: u32 = 1_024;
+pub(crate) const MOST_NODES: u32 = 512;
+pub(crate) const MOST_SERVERS: u32 = 512;
+pub(crate) const MOST_CORDS: u32 = 1_024;
 
 /// A table as it is written, entry by entry.
 #[derive(Clone, Debug, PartialEq, Eq)]
 pub struct Table {
+    pub version: u32,
     /// What a server's shares sum to.
     pub whole: u32,
     pub nodes: Vec<NodeEntry>,
@@ -39,6 +40,32 @@ pub struct CordEntry {
     pub share: u32,
 }
 
+/// A word of a table, and what hangs on what by it.
+#[derive(Clone, Copy, Debug, PartialEq, Eq)]
+pub enum Word {
+    Figure(u32),
+    /// The node with this number hangs on its parent, or (0) on none.
+    Parent {
+        node: u32,
+        parent: u32,
+    },
+    /// A cord of the server at this place hangs on the node.
+    Cord {
+        server: usize,
+        node: u32,
+    },
+}
+
+impl Word {
+    pub fn value(self) -> u32 {
+        match self {
+            Word::Figure(figure) => figure,
+            Word::Parent { parent, .. } => parent,
+            Word::Cord { node, .. } => node,
+        }
+    }
+}
+
 impl Table {
     pub fn of_words(words: &[u32]) -> Result<Table, Refusal> {
         let mut reader = Reader { words, index: 0 };
@@ -51,10 +78,67 @@ impl Table {
         let servers = reader.servers(nodes.len() as u32, whole)?;
         reader.end()?;
         Ok(Table {
+            version,
             whole,
             nodes,
             servers,
         })
+    }
+
+    pub fn words(&self) -> Vec<u32> {
+        self.said().into_iter().map(Word::value).collect()
+    }
+
+    /// The words in order, each with what it says.
+    pub fn said(&self) -> Vec<Word> {
+        let head = [self.version, self.nodes.len() as u32].map(Word::Figure);
+        let mut said = head.to_vec();
+        for (number, node) in (1..).zip(&self.nodes) {
+            said.extend(node.said(number, self.version));
+        }
+        said.push(Word::Figure(self.servers.len() as u32));
+        for (place, server) in self.servers.iter().enumerate() {
+            said.extend(server.said(place));
+        }
+        said
+    }
+
+    pub fn cord_count(&self) -> usize {
+        self.servers.iter().map(|server| server.cords.len()).sum()
+    }
+
+    /// The table with every number of a node changed; 0 is none.
+    pub fn renumbered(mut self, change: impl Fn(u32) -> u32) -> Table {
+        let parents = self.nodes.iter_mut().map(|node| &mut node.parent);
+        let cords = self.servers.iter_mut().flat_map(|server| &mut server.cords);
+        let numbers = parents.chain(cords.map(|cord| &mut cord.node));
+        for number in numbers.filter(|number| **number != 0) {
+            *number = change(*number);
+        }
+        self
+    }
+}
+
+impl NodeEntry {
+    fn said(&self, node: u32, version: u32) -> Vec<Word> {
+        let parent = self.parent;
+        let mut said = vec![Word::Parent { node, parent }, Word::Figure(self.rating)];
+        if version != 1 {
+            said.push(Word::Figure(self.percent));
+        }
+        said
+    }
+}
+
+impl ServerEntry {
+    fn said(&self, server: usize) -> Vec<Word> {
+        let count = self.cords.len() as u32;
+        let own = [self.rank, self.least, self.greatest, count].map(Word::Figure);
+        let mut said = own.to_vec();
+        for &CordEntry { node, share } in &self.cords {
+            said.extend([Word::Cord { server, node }, Word::Figure(share)]);
+        }
+        said
     }
 }
 

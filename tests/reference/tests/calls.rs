@@ -1,18 +1,12 @@
 //! The C calls: lists as bytes and the answer buffer.
 
+#[path = "common/bytes.rs"]
+mod bytes;
 mod common;
 
+use bytes::{list, padded};
 use common::room_h;
 use reference::{call, write};
-
-fn list(words: &[u32]) -> Vec<u8> {
-    words.iter().flat_map(|word| word.to_le_bytes()).collect()
-}
-
-/// A list of the words, then so many bytes of 0xAA.
-fn padded(words: &[u32], over: usize) -> Vec<u8> {
-    [list(words), vec![0xAA; over]].concat()
-}
 
 /// Plan's lists: grants, caps, headroom and held.
 type Lists = [Vec<u8>; 4];

@@ -1,11 +1,13 @@
 //! Tiny rooms, so small that everything document 01 says of them can be counted out: demand 3 over
 //! every way of dealing, over changed demands and over the lows, and each split by its definition, that
-//! of the headroom (request A.1) too; and the breakers that hold cords down (request A.5).
+//! of the headroom (request A.1) too; the breakers that hold cords down (request A.5); and huts joined and
+//! parted (requests A.8 and A.10).
 
 mod demands;
 mod family;
 mod headroom;
 mod held;
+mod joins;
 mod lows;
 mod room;
 mod splits;

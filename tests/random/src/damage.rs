@@ -66,7 +66,7 @@ fn lower_ratings(dice: &mut Dice, room: &mut Room) {
 }
 
 /// One damage to a list of words.
-fn words(dice: &mut Dice, words: &mut Vec<u32>) {
+pub fn words(dice: &mut Dice, words: &mut Vec<u32>) {
     if words.is_empty() {
         return words.push(1);
     }

@@ -1,6 +1,6 @@
-//! Random input for the tests by running: generators of good, extreme and damaged rooms and of figures
-//! of the DC cap loop, the C calls between guard pages, and a shrinker of cases that show a
-//! difference.
+//! Random input for the tests by running: generators of good, extreme and damaged rooms, of rooms to
+//! join and to part and of figures of the DC cap loop, the C calls between guard pages, and a shrinker
+//! of cases that show a difference.
 
 pub mod arguments;
 pub mod calls;
@@ -9,6 +9,7 @@ pub mod damage;
 pub mod dice;
 pub mod figures;
 pub mod guard;
+pub mod joins;
 pub mod rooms;
 pub mod shrink;
 pub mod steps;

@@ -152,30 +152,49 @@ pub fn rating(dice: &mut Dice, limit: u64, percent: u32) -> u32 {
     ((100 * limit).div_ceil(u64::from(percent)) + twin).min(u64::from(MOST)) as u32
 }
 
+/// Counts of nodes, servers and cords (at most).
+pub type Sizes = (usize, usize, usize);
+
 /// A room that is good, but for sizes beyond the limits (now and then) and lows that no rating
 /// can carry (rare).
 pub fn room(dice: &mut Dice) -> Room {
-    let (nodes, servers, cords) = sizes(dice);
+    let sizes = sizes(dice);
     let version = dice.within(1, 3);
-    let mut room = Room {
-        version,
-        nodes: tree(dice, nodes, version),
-        servers: Vec::new(),
-    };
+    let mut room = bare(dice, version, sizes.0);
     if dice.one_in(12) {
         at_border(dice, &mut room);
-        return room;
+    } else {
+        fill(dice, &mut room, sizes);
     }
-    add_servers(dice, &mut room, servers, cords);
-    if !dice.one_in(50) {
-        lower_leasts(&mut room);
-    }
-    rate(dice, &mut room);
     room
 }
 
-/// Counts of nodes, servers and cords (at most), mostly small so that calls are fast.
-fn sizes(dice: &mut Dice) -> (usize, usize, usize) {
+/// Such a room, of this version and these sizes.
+pub fn sized(dice: &mut Dice, version: u32, sizes: Sizes) -> Room {
+    let mut room = bare(dice, version, sizes.0);
+    fill(dice, &mut room, sizes);
+    room
+}
+
+/// A room without servers, its nodes not yet rated.
+fn bare(dice: &mut Dice, version: u32, nodes: usize) -> Room {
+    Room {
+        version,
+        nodes: tree(dice, nodes, version),
+        servers: Vec::new(),
+    }
+}
+
+fn fill(dice: &mut Dice, room: &mut Room, (_, servers, cords): Sizes) {
+    add_servers(dice, room, servers, cords);
+    if !dice.one_in(50) {
+        lower_leasts(room);
+    }
+    rate(dice, room);
+}
+
+/// Mostly small so that calls are fast.
+fn sizes(dice: &mut Dice) -> Sizes {
     match dice.below(1000) {
         0..5 => dice.pick(&[(513, 512, 1024), (512, 513, 1024), (512, 512, 1027)]),
         5..30 => dice.pick(&[(512, 512, 1024), (1, 512, 1024), (512, 256, 1024)]),

@@ -128,7 +128,7 @@ module _ {listed nodes starts wants wholes amounts before₀ grants₀ : List �
         -- What `serve` asks at the node.
         pub cord-may-serve : MayServe (at amounts (node - 1)) (at wholes (node - 1)) w (node - 1) before dealt
         cord-may-serve =
-            may-serve (turn .served) (node - 1) w node-within here room-for (turn .ready .amount-inside (node - 1) here)
+            may-serve (turn .served) (node - 1) w node-within here room-for
             (product-fits (at amounts (node - 1)) (at wholes (node - 1)) (turn .ready .amount-most (node - 1) here) (turn .ready .wholes-most (node - 1) here))
 
         module _ {watts : ℕ} {before′ dealt′ : List ℕ} (has : HasServed (at amounts (node - 1)) (at wholes (node - 1)) w (node - 1) before dealt watts before′ dealt′) where

@@ -188,7 +188,7 @@ module _ {parents active : List ℕ} {count level : ℕ} {rows : List (List ℕ)
         -- What `serve` asks at the parent.
         pub node-may-serve : MayServe (at amounts (parent - 1)) (at wholes (parent - 1)) (request - at starts m) (parent - 1) (set before m 0) (set dealt m 0)
         node-may-serve =
-            may-serve begun (parent - 1) (request - at starts m) parent-within parent-begun room parent-inside
+            may-serve begun (parent - 1) (request - at starts m) parent-within parent-begun room
             (product-fits (at amounts (parent - 1)) (at wholes (parent - 1))
             (omega (arith, parent-most, turn .ready .bounds (parent - 1) parent-within .1))
             (turn .ready .bounds (parent - 1) parent-within .3))

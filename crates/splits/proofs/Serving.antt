@@ -3,7 +3,7 @@ use mathlib.Core.Path.{_≡_, refl, sym, ap, ap₂, subst, _∙_}
 use mathlib.Core.Bool.{Bool, true, false}
 use mathlib.Core.List.{List}
 use Prim.Native.Nat.{ℕ, suc, _+_, _*_, _-_, _/_, _^_, _≤_, _<_}
-use native.Mathlib.Nat.{mul-zero, sub-zero, zero-div}
+use native.Mathlib.Nat.{sub-zero}
 use native.Mathlib.Omega.{arith}
 use lib.Dec.{eqb}
 use lib.ListN.{length, set, length-set}
@@ -14,23 +14,20 @@ use Rattle.figures.proofs.Sums.{on-yes, on-no}
 use Rattle.figures.specs.Figures.{at}
 use Rattle.splits.specs.Split.{part}
 use Rattle.splits.specs.Serving.{MayServe, HasServed}
-use Rattle.splits.proofs.Splits.{div-mono, quotient-whole}
+use Rattle.splits.proofs.Splits.{div-mono, quotient-none}
 
 -- ---- One child
 
--- Nothing is dealt where nothing was served.
-dealt-none : (x e b : ℕ) → b ≡ 0 → x * b / e ≡ 0
-dealt-none x e b z = ap (λ (y : ℕ). x * y / e) z ∙ ap (λ (y : ℕ). y / e) (mul-zero x) ∙ zero-div e
-
--- A child with all the weight gets all.
-pub serve-all : (x e w p : ℕ) (before dealt : List ℕ) → at before p + w ≤ e → (e ≡ 0 → x ≡ 0) → w ≡ e → HasServed x e w p before dealt x (set before p w) (set dealt p x)
+-- A child with all the weight gets all, where there is weight.
+pub serve-all : (x e w p : ℕ) (before dealt : List ℕ) {watts : ℕ} → at before p + w ≤ e → w ≡ e → watts ≡ x * e / e → HasServed x e w p before dealt watts (set before p w) (set dealt p watts)
 unfolding part
-serve-all x e w p before dealt room h z =
-    let all : x * (at before p + w) / e ≡ x = ap (λ (y : ℕ). x * y / e) (let s : at before p + w ≡ e = omega arith in s) ∙ quotient-whole x e h in
+serve-all x e w p before dealt {watts} room all-weight all =
+    let sum-is : at before p + w ≡ e = omega arith in
+    let dealt-all : watts ≡ x * (at before p + w) / e = all ∙ ap (λ (y : ℕ). x * y / e) (sym sum-is) in
     record {
-      watts-are = sym (ap₂ _-_ all (dealt-none x e (at before p) (omega arith)) ∙ sub-zero x);
+      watts-are = dealt-all ∙ sym (ap (_-_ (x * (at before p + w) / e)) (quotient-none x (at before p) e (omega arith)) ∙ sub-zero (x * (at before p + w) / e));
       before-is = ap (set before p) (omega arith);
-      dealt-is = ap (set dealt p) (sym all);
+      dealt-is = ap (set dealt p) dealt-all;
     }
 
 -- The watts dealt never fall: the next child's part is the difference of two quotients, of which the later is no less.
@@ -78,7 +75,7 @@ module _ {count : ℕ} {some : ℕ → Type 0} {whole : ℕ → ℕ} {amounts : 
       dealt-same : (n : ℕ) → some n → (t : Bool) → eqb n m ≡ t → at amounts n * at before n / whole n ≡ at amounts′ n * at before n / whole n
       dealt-same n h true q =
           let b : at before n ≡ 0 = is .before-is n h ∙ ap weights (eqb-true n m q) ∙ z in
-          dealt-none (at amounts n) (whole n) (at before n) b ∙ sym (dealt-none (at amounts′ n) (whole n) (at before n) b)
+          quotient-none (at amounts n) (at before n) (whole n) b ∙ sym (quotient-none (at amounts′ n) (at before n) (whole n) b)
       dealt-same n h false q =
           ap (λ (y : ℕ). y * at before n / whole n) (sym (ap (λ (l : List ℕ). at l n) e ∙ getD-set-other amounts m n a 0 (eqb-false n m q)))
 
@@ -96,7 +93,7 @@ module _ {count : ℕ} {some : ℕ → Type 0} {whole : ℕ → ℕ} {amounts : 
       here : (at (set before m 0) m ≡ weights m) × (at (set dealt m 0) m ≡ at amounts m * at (set before m 0) m / whole m)
       here =
           let b : at (set before m 0) m ≡ 0 = getD-set-same before m 0 0 (omega (arith, is .before-size)) in
-          (b ∙ sym z, getD-set-same dealt m 0 0 (omega (arith, is .dealt-size)) ∙ sym (dealt-none (at amounts m) (whole m) (at (set before m 0) m) b))
+          (b ∙ sym z, getD-set-same dealt m 0 0 (omega (arith, is .dealt-size)) ∙ sym (quotient-none (at amounts m) (at (set before m 0) m) (whole m) b))
 
       here-or-not : (n : ℕ) → some′ n → (t : Bool) → eqb n m ≡ t → (at (set before m 0) n ≡ weights n) × (at (set dealt m 0) n ≡ at amounts n * at (set before m 0) n / whole n)
       here-or-not n h true q = subst (λ (k : ℕ). (at (set before m 0) k ≡ weights k) × (at (set dealt m 0) k ≡ at amounts k * at (set before m 0) k / whole k)) (sym (eqb-true n m q)) here
@@ -108,13 +105,12 @@ module _ {count : ℕ} {some : ℕ → Type 0} {whole : ℕ → ℕ} {amounts : 
   -- The next child of the node at place p.
   module _ (p w : ℕ) (within : p < count) (is-some : some p) where
     -- What `serve` asks.
-    pub may-serve : weights p + w ≤ whole p → at amounts p ≤ whole p → at amounts p * whole p < 2 ^ 64 → MayServe (at amounts p) (whole p) w p before dealt
-    may-serve room enough fits =
+    pub may-serve : weights p + w ≤ whole p → at amounts p * whole p < 2 ^ 64 → MayServe (at amounts p) (whole p) w p before dealt
+    may-serve room fits =
         record {
           before-has = omega (arith, is .before-size);
           dealt-has = omega (arith, is .dealt-size);
           room = omega (arith, is .before-is p is-some);
-          weightless = λ z. omega arith;
           fits = fits;
           dealt-is = is .dealt-is p is-some;
         }

@@ -3,8 +3,8 @@ use mathlib.Core.Path.{_≡_, sym, ap, _∙_}
 use mathlib.Core.Logic.{_⊎_, inl, inr}
 use mathlib.Core.Bool.{Bool, true, false}
 use mathlib.Core.List.{List, [], _∷_}
-use Prim.Native.Nat.{ℕ, zero, suc, _+_, _*_, _-_, _/_, _≤_, _<_}
-use native.Mathlib.Nat.{le-trans, le-of-eq, mul-le-mul-left, mul-zero, zero-div, div-zero, mul-div-cancel, add-mul-div-left, eq-zero-or-pos, mul-le-mul-right, le-div-iff-mul-le, div-mul-le-self, add-zero, add-assoc, zero-add}
+use Prim.Native.Nat.{ℕ, zero, suc, _+_, _*_, _-_, _/_, _≤_, _<_, max}
+use native.Mathlib.Nat.{le-trans, le-of-eq, mul-le-mul-left, mul-zero, zero-div, div-zero, mul-div-cancel, add-mul-div-left, eq-zero-or-pos, mul-le-mul-right, le-div-iff-mul-le, div-mul-le-self, max-eq-left, add-zero, add-assoc, zero-add}
 use native.Mathlib.Omega.{arith}
 use Rattle.figures.specs.Figures.{total, at, sumOf}
 use Rattle.figures.specs.Sums.{on, sum}
@@ -67,21 +67,35 @@ pub part-none : (x e c : ℕ) → part x e c 0 ≡ 0
 unfolding part
 part-none x e c = omega (arith, ap (λ (y : ℕ). x * y / e) (add-zero c))
 
--- The quotient by the whole weight is all of the amount, where none is without weight.
-pub quotient-whole : (x e : ℕ) → (e ≡ 0 → x ≡ 0) → x * e / e ≡ x
-quotient-whole x e h = go (eq-zero-or-pos e)
-  where
-    go : (e ≡ 0) ⊎ (0 < e) → x * e / e ≡ x
-    go (inl z) = let y : x ≡ 0 = h z in rw (z, div-zero, y)
-    go (inr q) = mul-div-cancel x q
-
 -- An amount of at most the whole weight is given whole.
 pub part-whole : (x e : ℕ) → x ≤ e → x * e / e ≡ x
-part-whole x e h = quotient-whole x e (λ z. omega arith)
+part-whole x e h = go (eq-zero-or-pos e)
+  where
+    go : (e ≡ 0) ⊎ (0 < e) → x * e / e ≡ x
+    go (inl z) = let y : x ≡ 0 = omega arith in rw (z, div-zero, y)
+    go (inr q) = mul-div-cancel x q
+
+-- ---- One quotient
+
+-- Nothing is dealt where nothing was served.
+pub quotient-none : (x u e : ℕ) → u ≡ 0 → x * u / e ≡ 0
+quotient-none x u e z = ap (λ (y : ℕ). x * y / e) z ∙ ap (λ (y : ℕ). y / e) (mul-zero x) ∙ zero-div e
 
 -- A quotient of an amount by a sum of the weights is no more than the amount.
-pub quotient-most : (x u e : ℕ) → u ≤ e → 0 < e → x * u / e ≤ x
-quotient-most x u e h q = le-trans (div-mono (x * u) (x * e) e (mul-le-mul-left x h)) (le-of-eq (mul-div-cancel x q))
+pub quotient-most : (x u e : ℕ) → u ≤ e → x * u / e ≤ x
+quotient-most x u e h = go (eq-zero-or-pos e)
+  where
+    go : (e ≡ 0) ⊎ (0 < e) → x * u / e ≤ x
+    go (inl z) = omega (arith, quotient-none x u e (omega arith))
+    go (inr q) = le-trans (div-mono (x * u) (x * e) e (mul-le-mul-left x h)) (le-of-eq (mul-div-cancel x q))
+
+-- Where the weights sum to 0, 1 may stand for their sum: what is divided is 0.
+pub quotient-by : (x u e : ℕ) → u ≤ e → x * u / max e 1 ≡ x * u / e
+quotient-by x u e h = go (eq-zero-or-pos e)
+  where
+    go : (e ≡ 0) ⊎ (0 < e) → x * u / max e 1 ≡ x * u / e
+    go (inl z) = quotient-none x u (max e 1) (omega arith) ∙ sym (quotient-none x u e (omega arith))
+    go (inr q) = ap (λ (y : ℕ). x * u / y) (max-eq-left q)
 
 -- ---- The split over any list of weights
 

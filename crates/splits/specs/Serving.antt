@@ -8,12 +8,11 @@ use Rattle.figures.specs.Figures.{at}
 use Rattle.splits.specs.Split.{part}
 
 -- A child of some weight may be served by the node at place p, which has an amount for children of weights that sum to `whole`.
--- The amount may be above that sum; where no child has weight it is 0.
+-- The amount may be above that sum.
 pub record MayServe (amount whole weight p : ℕ) (before dealt : List ℕ) : Type 0 where
   pub before-has : p < length before
   pub dealt-has : p < length dealt
   pub room : at before p + weight ≤ whole
-  pub weightless : whole ≡ 0 → amount ≡ 0
   pub fits : amount * whole < 2 ^ 64
   pub dealt-is : at dealt p ≡ amount * at before p / whole
 

@@ -1,9 +1,11 @@
 -- `long_quotient` meets its contract: the product is within that with the whole weight, which fits, and the quotient within the amount.
-use mathlib.Core.Path.{ap, _∙_}
-use Prim.Native.Nat.{ℕ, _*_, _/_}
+use mathlib.Core.Path.{_≡_, ap, ap₂, sym, subst, _∙_}
+use Prim.Native.Nat.{ℕ, _*_, _/_, _<_, _≤_, _^_, max}
 use native.Mathlib.Nat.{mul-le-mul-left, lt-of-le-of-lt}
+use native.Mathlib.Omega.{arith}
 use borrow.Author.Needs.{needs}
-use Rattle.splits.proofs.Splits.{quotient-most}
+use Rattle.splits.proofs.Splits.{quotient-by, quotient-most}
+use Rattle.splits.proofs.Ways.{quotientIn-is}
 use Rattle.splits.proofs.long_quotient.Statement.{statement}
 use Rattle.splits.proofs.long_quotient.Tie as tie
 
@@ -12,18 +14,32 @@ wide-requires c κs = search needs
 
 mul-narrow : tie.Need-mul-narrow
 mul-narrow c =
-    record { fits = rw (c .wide .ensures .0) (lt-of-le-of-lt (mul-le-mul-left _ (c .before .pre .0)) (c .before .pre .2)) }
+    record { fits = rw (c .wide .ensures .0) (lt-of-le-of-lt (mul-le-mul-left _ (c .before .pre .0)) (c .before .pre .1)) }
+
+greater-requires : tie.Need-greater-requires
+greater-requires c κs = search needs
 
 div-narrow : tie.Need-div-narrow
 div-narrow c = search needs
 
 narrow-requires : tie.Need-narrow-requires
 narrow-requires c κs =
-    lt-of-le-of-lt (quotient-most (c .wide .result) (c .before .args .upto) (c .before .args .whole) (c .before .pre .0) (c .before .pre .1)) (c .wide .ensures .1)
+    let amount = c .before .wide .result in
+    let args = c .before .before .args in
+    let by : amount * args .upto / c .greater .result ≡ amount * args .upto / args .whole
+    = ap (λ (d : ℕ). amount * args .upto / d) (c .greater .ensures) ∙ quotient-by amount (args .upto) (args .whole) (c .before .before .pre .0) in
+    lt-of-le-of-lt (subst (λ (q : ℕ). q ≤ amount) (sym by) (quotient-most amount (args .upto) (args .whole) (c .before .before .pre .0))) (c .before .wide .ensures .1)
 
 returns : tie.Need-returns
 returns c =
-    c .narrow .ensures ∙ ap (λ (x : ℕ). x * c .before .before .args .upto / c .before .before .args .whole) (c .before .wide .ensures .0)
+    let args = c .before .before .before .args in
+    let pre = c .before .before .before .pre in
+    c .narrow .ensures
+    ∙ ap₂ (λ (x d : ℕ). x * args .upto / d) (c .before .before .wide .ensures .0) (c .before .greater .ensures)
+    ∙ quotient-by (args .amount) (args .upto) (args .whole) (pre .0)
+    ∙ sym (quotientIn-is 64 (args .amount) (args .upto) (args .whole) (pre .0) (pre .1))
 
 pub long-quotient-spec : {M : Type 1} → statement M
-long-quotient-spec = tie.close (tie.spec wide-requires mul-narrow div-narrow narrow-requires returns)
+long-quotient-spec =
+    tie.close
+    (tie.spec wide-requires mul-narrow greater-requires div-narrow narrow-requires returns)

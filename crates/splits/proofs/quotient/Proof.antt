@@ -1,39 +1,55 @@
 -- `quotient` meets its contract: both ways have the same quotient, and the short one is taken only where it may be.
 use mathlib.Core.Path.{ap₂, _∙_}
-use Prim.Native.Nat.{ℕ, _*_, _/_}
 use native.Mathlib.Omega.{arith}
 use borrow.Author.Needs.{needs}
+use Rattle.splits.specs.Ways.{quotientIn}
+use Rattle.splits.proofs.Ways.{quotientIn-is, short-fits}
 use Rattle.splits.proofs.quotient.Statement.{statement}
 use Rattle.splits.proofs.quotient.Tie as tie
 
 wide-requires : tie.Need-wide-requires
 wide-requires c κs = search needs
 
+greater-requires : tie.Need-greater-requires
+greater-requires c κs = search needs
+
 narrow-requires : tie.Need-narrow-requires
-narrow-requires c κs = omega (arith, c .before .before .before .pre .0, c .if2 .taken)
+narrow-requires c κs = search needs
 
 narrow-requires-2 : tie.Need-narrow-requires-2
-narrow-requires-2 c κs = omega (arith, c .before .if2 .taken)
+narrow-requires-2 c κs = search needs
 
 short-quotient-requires : tie.Need-short-quotient-requires
-short-quotient-requires c κs =
-    let pre = c .before .before .before .before .before .pre in (
-      omega (arith, c .before .before .before .if1 .taken, c .before .before .before .before .wide .ensures .0),
-      omega (arith, c .before .before .if2 .taken, c .narrow2 .ensures),
-      omega (arith, pre .0, c .before .narrow .ensures, c .narrow2 .ensures),
-      omega (arith, pre .1, c .narrow2 .ensures),
-    )
+short-quotient-requires c κs = search needs
 
 returns : tie.Need-returns
 returns c =
+    let args = c .before .before .before .before .before .before .args in
+    let pre = c .before .before .before .before .before .before .pre in
+    let greater = c .before .before .before .before .greater .ensures in
+    let short = c .before .before .before .if1 .taken in
+    let wide = c .before .before .before .before .before .wide .ensures in
     c .short-quotient .ensures
-    ∙ ap₂ (λ (upto whole : ℕ). c .before .before .before .before .before .before .args .amount * upto / whole) (c .before .before .narrow .ensures) (c .before .narrow2 .ensures)
+    ∙ ap₂ (quotientIn 32 (args .amount)) (c .before .before .narrow .ensures) (c .before .narrow2 .ensures)
+    ∙ quotientIn-is 32 (args .amount) (args .upto) (args .whole) (pre .0) (short-fits (args .amount) (args .whole) (omega (arith, greater, short, wide .0)) (omega (arith, greater, short, wide .0)))
 
 long-quotient-requires : tie.Need-long-quotient-requires
 long-quotient-requires c κs = search needs
 
 returns-2 : tie.Need-returns-2
-returns-2 c = search needs
+returns-2 c =
+    let start = c .before .before .before .before in
+    c .long-quotient .ensures ∙ quotientIn-is 64 (start .args .amount) (start .args .upto) (start .args .whole) (start .pre .0) (start .pre .1)
 
 pub quotient-spec : {M : Type 1} → statement M
-quotient-spec = tie.close (tie.spec wide-requires narrow-requires narrow-requires-2 short-quotient-requires returns long-quotient-requires returns-2)
+quotient-spec =
+    tie.close
+    (tie.spec
+    wide-requires
+    greater-requires
+    narrow-requires
+    narrow-requires-2
+    short-quotient-requires
+    returns
+    long-quotient-requires
+    returns-2)

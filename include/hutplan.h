@@ -2,9 +2,16 @@
  * hutplan: room sheets, room tables, power plans and breaker schedules of equipment huts, and the
  * loop that holds a server's DC cap to its cords' budgets.
  *
- * Link with libcapi.a, which `rt staticlib capi` puts into target/staticlib. It is built for Linux
- * on x86-64. The calls keep no state, take no memory from the heap and call nothing of the C
- * library but memcpy and memset, so threads may call them at the same time on buffers of their own.
+ * Link with libhutplan.a of your chip, which `bash chips/build` puts into target/chips/CHIP. For
+ * Linux on x86-64 that is libcapi.a too, which `rt staticlib capi` puts into target/staticlib. The
+ * calls keep no state and take no memory from the heap, so threads may call them at the same time on
+ * buffers of their own. They call nothing but memcpy and memset, on ARM by their names there
+ * (__aeabi_memcpy, __aeabi_memclr and the like), and, on chips that lack an instruction for it, the
+ * compiler's routines (libgcc's or compiler-rt's) for products and quotients of 64 bits, quotients
+ * of 32 bits and doubles.
+ *
+ * A length is a number of 64 bits on every chip, also where a pointer and a size_t have 32. A size_t
+ * may be given as it is.
  *
  * A sheet is bytes. A table is a list of words (unsigned, 32 bits). So are demands, grants, caps and
  * headroom, which are watts, and the nodes that hold cords down, which are node numbers. Every list
@@ -32,17 +39,16 @@
  *   - no buffer that is written (output, answer) overlaps another buffer of the same call, and no
  *     other thread touches the buffers during the call;
  *   - a pointer is NULL only if its length is 0;
- *   - a length is at most PTRDIFF_MAX, as of any object in C;
+ *   - a length is at most PTRDIFF_MAX of the chip, as of any object in C;
  *   - doubles are aligned as any object of that type is in C, and the floating-point environment is
  *     the one that a program starts with: rounding to the nearest, subnormal numbers kept;
  *   - there is enough stack (see below).
  * There is no other duty: any bytes, of any length, and any doubles, NaNs and infinities too, are
  * good input.
  *
- * Stack, as measured on x86-64 (docs/PERFORMANCE.md has the figures): about 27 KB for hutplan_read
- * and for hutplan_write, about 156 KB for hutplan_plan, about 8 KB for hutplan_schedule, about
- * 2 KB for hutplan_send, and less than 1 KB for hutplan_step and for hutplan_step_all. It does not
- * grow with the input.
+ * Stack: each call needs at most HUTPLAN_.._STACK bytes of it (see below), on every chip, whatever
+ * the input. No call reaches itself. What memcpy, memset and the compiler's routines need comes on
+ * top, and so do interrupts.
  */
 #ifndef HUTPLAN_H
 #define HUTPLAN_H
@@ -137,6 +143,18 @@ enum hutplan_refusal {
 #define HUTPLAN_ANSWER_BYTES 16
 #define HUTPLAN_SEND_ANSWER_BYTES 24
 
+/*
+ * Stack of each call in bytes, no less than the most that it can use on any of the chips.
+ * tests/stack computes that from the compiled code of each; docs/PERFORMANCE.md has the figures.
+ */
+#define HUTPLAN_READ_STACK 27136
+#define HUTPLAN_WRITE_STACK 27136
+#define HUTPLAN_PLAN_STACK 156160
+#define HUTPLAN_SCHEDULE_STACK 4608
+#define HUTPLAN_STEP_STACK 256
+#define HUTPLAN_STEP_ALL_STACK 256
+#define HUTPLAN_SEND_STACK 2304
+
 /* Controllers of one hutplan_step_all, figures of a controller, and cords of a controller. */
 #define HUTPLAN_CONTROLLERS 512
 #define HUTPLAN_CONTROLLER_FIGURES 4
@@ -150,9 +168,9 @@ enum hutplan_refusal {
  *
  * Refusals: 1 to 9 of the sheet; then 12 if table_len / 4 is less than the count of words.
  */
-uint32_t hutplan_read(const uint8_t *sheet, size_t sheet_len,
-                      uint8_t *table, size_t table_len,
-                      uint8_t *answer, size_t answer_len);
+uint32_t hutplan_read(const uint8_t *sheet, uint64_t sheet_len,
+                      uint8_t *table, uint64_t table_len,
+                      uint8_t *answer, uint64_t answer_len);
 
 /*
  * Write: turns the words of a table into the bytes of its sheet.
@@ -166,9 +184,9 @@ uint32_t hutplan_read(const uint8_t *sheet, size_t sheet_len,
  *     sheet, into a buffer no shorter than the table, is accepted and gives the bytes of the
  *     table's words (all of its bytes but one to three over).
  */
-uint32_t hutplan_write(const uint8_t *table, size_t table_len,
-                       uint8_t *sheet, size_t sheet_len,
-                       uint8_t *answer, size_t answer_len);
+uint32_t hutplan_write(const uint8_t *table, uint64_t table_len,
+                       uint8_t *sheet, uint64_t sheet_len,
+                       uint8_t *answer, uint64_t answer_len);
 
 /*
  * Plan: deals a room's power, from the words of its table and a demand in watts for each server.
@@ -189,13 +207,13 @@ uint32_t hutplan_write(const uint8_t *table, size_t table_len,
  * The answer's figure is the freed watts: the watts that the first deal granted and the servers
  * cannot use, summed over all cords.
  */
-uint32_t hutplan_plan(const uint8_t *table, size_t table_len,
-                      const uint8_t *demands, size_t demands_len,
-                      uint8_t *grants, size_t grants_len,
-                      uint8_t *caps, size_t caps_len,
-                      uint8_t *headroom, size_t headroom_len,
-                      uint8_t *held, size_t held_len,
-                      uint8_t *answer, size_t answer_len);
+uint32_t hutplan_plan(const uint8_t *table, uint64_t table_len,
+                      const uint8_t *demands, uint64_t demands_len,
+                      uint8_t *grants, uint64_t grants_len,
+                      uint8_t *caps, uint64_t caps_len,
+                      uint8_t *headroom, uint64_t headroom_len,
+                      uint8_t *held, uint64_t held_len,
+                      uint8_t *answer, uint64_t answer_len);
 
 /*
  * Schedule: turns a text, each line of which describes a breaker, into the words of a table.
@@ -210,9 +228,9 @@ uint32_t hutplan_plan(const uint8_t *table, size_t table_len,
  * Refusals: for each line in turn 24, 25 and 26; then 12 if table_len / 4 is less than the count of
  * words. Only the first 7,695 bytes of a text decide, those of 513 lines at their longest.
  */
-uint32_t hutplan_schedule(const uint8_t *text, size_t text_len,
-                          uint8_t *table, size_t table_len,
-                          uint8_t *answer, size_t answer_len);
+uint32_t hutplan_schedule(const uint8_t *text, uint64_t text_len,
+                          uint8_t *table, uint64_t table_len,
+                          uint8_t *answer, uint64_t answer_len);
 
 /*
  * Step: one step of a server's DC cap loop, by what its four cords read.
@@ -239,7 +257,7 @@ uint32_t hutplan_step(double controller[4],
                       const uint8_t working[4],
                       const double budgets[4],
                       const double measured[4],
-                      uint8_t *answer, size_t answer_len);
+                      uint8_t *answer, uint64_t answer_len);
 
 /*
  * Step all: one step of each of up to 512 servers' loops, in one call.
@@ -255,12 +273,12 @@ uint32_t hutplan_step(double controller[4],
  *
  * Refusals: 18, before anything is stepped.
  */
-uint32_t hutplan_step_all(double *controllers, size_t controllers_len,
-                          const uint8_t *working, size_t working_len,
-                          const double *budgets, size_t budgets_len,
-                          const double *measured, size_t measured_len,
-                          uint8_t *results, size_t results_len,
-                          uint8_t *answer, size_t answer_len);
+uint32_t hutplan_step_all(double *controllers, uint64_t controllers_len,
+                          const uint8_t *working, uint64_t working_len,
+                          const double *budgets, uint64_t budgets_len,
+                          const double *measured, uint64_t measured_len,
+                          uint8_t *results, uint64_t results_len,
+                          uint8_t *answer, uint64_t answer_len);
 
 /*
  * Send: the servers that a period's messages go to, over a bus that carries m messages a period.
@@ -280,8 +298,8 @@ uint32_t hutplan_step_all(double *controllers, size_t controllers_len,
  * If the answer buffer is shorter than twenty-four bytes, the call returns 0 and changes nothing.
  */
 uint32_t hutplan_send(uint64_t count, uint64_t position, uint64_t m,
-                      uint8_t *list, size_t list_len,
-                      uint8_t *answer, size_t answer_len);
+                      uint8_t *list, uint64_t list_len,
+                      uint8_t *answer, uint64_t answer_len);
 
 /*
  * Example: reads a sheet and plans it with the demands given, a list of words. The result is 0, or

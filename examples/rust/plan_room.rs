@@ -14,18 +14,18 @@
 mod hutplan {
     extern "C" {
         fn hutplan_read(
-            sheet: *const u8, sheet_len: usize,
-            table: *mut u8, table_len: usize,
-            answer: *mut u8, answer_len: usize,
+            sheet: *const u8, sheet_len: u64,
+            table: *mut u8, table_len: u64,
+            answer: *mut u8, answer_len: u64,
         ) -> u32;
         fn hutplan_plan(
-            table: *const u8, table_len: usize,
-            demands: *const u8, demands_len: usize,
-            grants: *mut u8, grants_len: usize,
-            caps: *mut u8, caps_len: usize,
-            headroom: *mut u8, headroom_len: usize,
-            held: *mut u8, held_len: usize,
-            answer: *mut u8, answer_len: usize,
+            table: *const u8, table_len: u64,
+            demands: *const u8, demands_len: u64,
+            grants: *mut u8, grants_len: u64,
+            caps: *mut u8, caps_len: u64,
+            headroom: *mut u8, headroom_len: u64,
+            held: *mut u8, held_len: u64,
+            answer: *mut u8, answer_len: u64,
         ) -> u32;
     }
 
@@ -91,9 +91,9 @@ mod hutplan {
         // belong to this function alone. The result is 1, as the answer has its sixteen bytes.
         unsafe {
             hutplan_read(
-                sheet.as_ptr(), sheet.len(),
-                table.as_mut_ptr(), table.len(),
-                answer.as_mut_ptr(), answer.len(),
+                sheet.as_ptr(), sheet.len() as u64,
+                table.as_mut_ptr(), table.len() as u64,
+                answer.as_mut_ptr(), answer.len() as u64,
             );
         }
         let words = figure(answer)?;
@@ -112,13 +112,13 @@ mod hutplan {
         // SAFETY: as in `read`.
         unsafe {
             hutplan_plan(
-                table_bytes.as_ptr(), table_bytes.len(),
-                demands_bytes.as_ptr(), demands_bytes.len(),
-                grants.as_mut_ptr(), grants.len(),
-                caps.as_mut_ptr(), caps.len(),
-                headroom.as_mut_ptr(), headroom.len(),
-                held.as_mut_ptr(), held.len(),
-                answer.as_mut_ptr(), answer.len(),
+                table_bytes.as_ptr(), table_bytes.len() as u64,
+                demands_bytes.as_ptr(), demands_bytes.len() as u64,
+                grants.as_mut_ptr(), grants.len() as u64,
+                caps.as_mut_ptr(), caps.len() as u64,
+                headroom.as_mut_ptr(), headroom.len() as u64,
+                held.as_mut_ptr(), held.len() as u64,
+                answer.as_mut_ptr(), answer.len() as u64,
             );
         }
         let freed = figure(answer)?;

@@ -66,7 +66,7 @@ static size_t parse_words(const char *text, uint32_t *words)
 
 /* ---- One call */
 
-typedef uint32_t call(const uint8_t *, size_t, uint8_t *, size_t, uint8_t *, size_t);
+typedef uint32_t call(const uint8_t *, uint64_t, uint8_t *, uint64_t, uint8_t *, uint64_t);
 
 /* Makes a call on the buffers lent, and compares all of them. `written` is what is to stand at the
    front of the output buffer if `number` is 0. */

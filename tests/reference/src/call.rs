@@ -54,6 +54,14 @@ pub fn send(count: u64, position: u64, m: u64, list: &mut [u8], answer: &mut [u8
     })
 }
 
+/// Judge: where it is accepted, the verdict's three numbers.
+pub fn judge(table: &[u8], demands: &[u8], grants: &[u8], answer: &mut [u8]) -> u32 {
+    answered(answer, || {
+        let verdict = crate::judge::judge(&words(table), &words(demands), &words(grants))?;
+        Ok(verdict.numbers())
+    })
+}
+
 /// A step: the controller's cap, k, low and high; and each cord's mark, budget and measured watts.
 pub fn step(
     controller: &mut [f64; 4],

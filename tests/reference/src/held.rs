@@ -24,7 +24,7 @@ pub fn held(room: &Room, wants: &[Watts], grants: &[Watts]) -> Vec<u32> {
 }
 
 /// Each node's parent by the node's number; 0 over a root.
-fn parents(room: &Room) -> BTreeMap<u32, u32> {
+pub(crate) fn parents(room: &Room) -> BTreeMap<u32, u32> {
     let mut parents = BTreeMap::new();
     for root in &room.trees {
         note_parents(root, 0, &mut parents);

@@ -11,6 +11,7 @@ pub mod deal;
 pub mod headroom;
 pub mod held;
 pub mod join;
+pub mod judge;
 pub mod number;
 pub mod part;
 pub mod plan;

@@ -39,9 +39,7 @@ pub fn check_demands(room: &Room, demands: &[u32]) -> Result<(), Refusal> {
 
 /// Both deals, for one good demand a server.
 pub fn deals(room: &Room, demands: &[u32]) -> Deals {
-    let needs: Vec<Watts> = pairs(&room.servers, demands, |server, &demand| {
-        Watts::from(demand).max(server.least).min(server.greatest)
-    });
+    let needs = needs(room, demands);
     let first_wants = carried_by_cords(room, &needs);
     let first_grants = first_deal(room, &first_wants);
     let usable = usable(room, &needs, &first_grants);
@@ -65,6 +63,17 @@ pub fn deals(room: &Room, demands: &[u32]) -> Deals {
         headroom,
         held,
     }
+}
+
+/// The first deal's wants, for one good demand a server.
+pub(crate) fn first_wants(room: &Room, demands: &[u32]) -> Vec<Watts> {
+    carried_by_cords(room, &needs(room, demands))
+}
+
+fn needs(room: &Room, demands: &[u32]) -> Vec<Watts> {
+    pairs(&room.servers, demands, |server, &demand| {
+        Watts::from(demand).max(server.least).min(server.greatest)
+    })
 }
 
 impl Deals {

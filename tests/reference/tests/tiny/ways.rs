@@ -125,13 +125,12 @@ fn check_tree(room: &Room, root: u32, wants: &[Watts], grants: &[Watts]) -> usiz
     };
     let mut count = 0;
     let mut ours_is_a_way = false;
-    let mut limits = room.numbers().map(|node| room.limit(node)).collect();
     let search = Search {
         room,
         cords: &cords,
         wants,
     };
-    search.go(&mut Vec::new(), &mut limits, &mut |way| {
+    search.all(&mut |way| {
         count += 1;
         ours_is_a_way |= way == ours;
         for &rank in &ranks {
@@ -143,13 +142,19 @@ fn check_tree(room: &Room, root: u32, wants: &[Watts], grants: &[Watts]) -> usiz
     count
 }
 
-struct Search<'a> {
-    room: &'a Room,
-    cords: &'a [Cord],
-    wants: &'a [Watts],
+/// The ways of dealing these cords, all of one tree.
+pub struct Search<'a> {
+    pub room: &'a Room,
+    pub cords: &'a [Cord],
+    pub wants: &'a [Watts],
 }
 
 impl Search<'_> {
+    pub fn all(&self, tell: &mut dyn FnMut(&[Watts])) {
+        let limits = self.room.numbers().map(|node| self.room.limit(node));
+        self.go(&mut Vec::new(), &mut limits.collect(), tell);
+    }
+
     /// Tells every way that begins with these figures; `left` is what they leave of each limit.
     fn go(&self, figures: &mut Vec<Watts>, left: &mut Vec<Watts>, tell: &mut dyn FnMut(&[Watts])) {
         let Some(cord) = self.cords.get(figures.len()) else {

@@ -31,4 +31,6 @@ pub mod RoomHeld
 pub mod Plans
 pub mod Lent
 pub mod Promises
+pub mod Judged
+pub mod JudgedTotals
 pub mod Versions

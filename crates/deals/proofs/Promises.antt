@@ -62,14 +62,14 @@ module _ (r : Room) (ok : Accepted r) (starts wants : List ℕ) (lows : (c : ℕ
   grants = granted (dealOf r starts wants)
 
   -- A deal by wants at or above the lows, from starts that its Requests have room for, keeps the lows, the wants and the limits.
-  kept : Kept r wants grants
+  pub kept : Kept r wants grants
   unfolding sumBeneath under
   kept =
       let w : WholeWay deal (at grants) = grants-way r ok starts wants lows st in
       record { least = w .least; most = w .most; within = w .within }
 
   -- The cords of a rank and above, by their levels.
-  fromRank-level : (n rank : ℕ) (watts : List ℕ)
+  pub fromRank-level : (n rank : ℕ) (watts : List ℕ)
       → sumBeneath r n (fromRank r rank watts)
       ≡ under (length (r .nodes)) (parentOf r) (roomCords r) (λ c. cordAt r c .node) n (fromLevel deal (min (rank - 1) highestRank) (at watts))
   unfolding sumBeneath under
@@ -78,7 +78,7 @@ module _ (r : Room) (ok : Accepted r) (starts wants : List ℕ) (lows : (c : ℕ
       ap (λ (t : Bool). on (cordBeneath r n c) (on t (at watts c)))
       (rank-level rank (rankOf r c) (s .rankFrom) (s .rankTo) ∙ ap (leb (min (rank - 1) highestRank)) (sym (levelsOf-at r c l))))
 
-  greatest : Greatest r wants grants
+  pub greatest : Greatest r wants grants
   unfolding sumBeneath under
   greatest root top rank watts way =
       le-trans (le-of-eq (fromRank-level root rank watts))

@@ -14,6 +14,8 @@ pub mod Plan
 -- What is promised (demand 3): trees and other ways of dealing them, and the statements.
 pub mod Ways
 pub mod Promises
+-- What is wrong with a given list of grants (request A.9).
+pub mod Judge
 pub mod Versions
 -- What else is proved of every plan.
 pub mod Properties

@@ -4,10 +4,10 @@ use mathlib.Core.Path.{_≡_}
 use mathlib.Core.Bool.{true}
 use mathlib.Core.List.{List}
 use mathlib.Core.Logic.{_↔_}
-use Prim.Native.Nat.{ℕ, _+_, _-_, _≤_, _<_}
+use Prim.Native.Nat.{ℕ, suc, _+_, _-_, _≤_, _<_}
 use lib.ListN.{length}
 use Rattle.rooms.specs.Part.{good, Good}
-use Rattle.rooms.specs.Table.{Room, roomCords}
+use Rattle.rooms.specs.Table.{Room, highestRank, roomCords}
 use Rattle.rooms.specs.Limits.{limit, nodeAt, checked}
 use Rattle.rooms.specs.Promises.{IsNode, Overloaded}
 use Rattle.figures.specs.Figures.{at}
@@ -20,7 +20,10 @@ use Rattle.deals.specs.Held.{held}
 use Rattle.deals.specs.Plan.{Plan, accepted, plan, answerOf, planNumber, planFigure}
 use Rattle.deals.specs.Ways.{Root, Way, cordBeneath, sumBeneath, fromRank}
 use Rattle.deals.specs.declared.Lengths.{Lengths}
+use Rattle.deals.specs.Judge.{verdict}
 use Rattle.deals.specs.declared.Planned.{Planned}
+use Rattle.deals.specs.declared.Verdict.{Verdict}
+use Rattle.deals.specs.declared.Verdict.the-variants.{Passes, BelowLow, AboveWant, OverLimit, Short}
 
 -- A table and a demand list that Plan accepts, with lists of some lengths: the table's room, and the answer.
 pub record AcceptedPlan : Type 0 where
@@ -178,3 +181,81 @@ abbrev pub HeldNone : Type 0
 HeldNone =
     (p : AcceptedPlan) (c : ℕ) → c < roomCords (p .room) → at (p .answer .grants) c ≡ at (secondWants (p .room) (p .demands)) c
     → at (p .answer .held) c ≡ 0
+
+-- ---- 8. A given list of grants, judged (request A.9)
+
+-- Of the cords before a place each has its low, or no more than its want; of the nodes before a place none has its limit passed.
+abbrev pub LowsKept : Room → List ℕ → ℕ → Type 0
+LowsKept r grants upto = (c : ℕ) → c < upto → at (lowsOf r) c ≤ at grants c
+
+abbrev pub WantsKept : List ℕ → List ℕ → ℕ → Type 0
+WantsKept wants grants upto = (c : ℕ) → c < upto → at grants c ≤ at wants c
+
+abbrev pub LimitsKept : Room → List ℕ → ℕ → Type 0
+LimitsKept r grants upto = (n : ℕ) → n < upto → sumBeneath r n (at grants) ≤ limit (nodeAt r n)
+
+-- No way of dealing the tree of the root at place n gives its cords of a rank and above more than the list does.
+abbrev pub Unbeaten : Room → List ℕ → List ℕ → ℕ → ℕ → Type 0
+Unbeaten r wants grants n rank =
+    (watts : List ℕ) → Way r n wants watts → sumBeneath r n (fromRank r rank watts) ≤ sumBeneath r n (fromRank r rank grants)
+
+-- Some way does: the tree is short at that rank.
+pub record Beaten (r : Room) (wants grants : List ℕ) (n rank : ℕ) : Type 0 where
+  pub watts : List ℕ
+  pub way : Way r n wants watts
+  pub more : sumBeneath r n (fromRank r rank grants) < sumBeneath r n (fromRank r rank watts)
+
+-- The cord at place c is the lowest below its low.
+pub record LowestBelow (r : Room) (grants : List ℕ) (c : ℕ) : Type 0 where
+  pub cord : c < roomCords r
+  pub below : at grants c < at (lowsOf r) c
+  pub lower : LowsKept r grants c
+
+-- No cord is below its low, and the one at place c is the lowest above its want.
+pub record LowestAbove (r : Room) (wants grants : List ℕ) (c : ℕ) : Type 0 where
+  pub lows : LowsKept r grants (roomCords r)
+  pub cord : c < roomCords r
+  pub above : at wants c < at grants c
+  pub lower : WantsKept wants grants c
+
+-- Each cord lies from low to want, and the node of this number is the lowest whose limit is passed.
+pub record LowestOver (r : Room) (wants grants : List ℕ) (number : ℕ) : Type 0 where
+  pub lows : LowsKept r grants (roomCords r)
+  pub wanted : WantsKept wants grants (roomCords r)
+  pub place : ℕ
+  pub numbered : number ≡ suc place
+  pub node : place < length (r .nodes)
+  pub over : limit (nodeAt r place) < sumBeneath r place (at grants)
+  pub lower : LimitsKept r grants place
+
+-- Cords and limits are kept, and the node of this number is the lowest root whose tree is short, with the highest such rank.
+pub record LowestShort (r : Room) (wants grants : List ℕ) (number rank : ℕ) : Type 0 where
+  pub kept : Kept r wants grants
+  pub place : ℕ
+  pub numbered : number ≡ suc place
+  pub root : Root r place
+  pub isRank : (1 ≤ rank) × (rank ≤ highestRank)
+  pub beaten : Beaten r wants grants place rank
+  pub higher : (other : ℕ) → rank < other → Unbeaten r wants grants place other
+  pub lower : (m : ℕ) → m < place → Root r m → (other : ℕ) → Unbeaten r wants grants m other
+
+-- What a verdict says of a list of grants, by given wants.
+abbrev pub Says : Room → List ℕ → List ℕ → Verdict → Type 0
+Says r wants grants Passes = Kept r wants grants × Greatest r wants grants
+Says r wants grants (BelowLow c) = LowestBelow r grants c
+Says r wants grants (AboveWant c) = LowestAbove r wants grants c
+Says r wants grants (OverLimit node) = LowestOver r wants grants node
+Says r wants grants (Short root rank) = LowestShort r wants grants root rank
+
+-- A verdict is given exactly if what it says is so, by the wants of the first deal. So the list passes exactly if each cord lies from low
+-- to want, no limit is passed, and no way of dealing a tree gives any rank and above more.
+abbrev pub JudgedExactly : Type 0
+JudgedExactly =
+    (table : List ℕ) (r : Room) (end : ℕ) → checked table 0 ≡ good r end
+    → (demands grants : List ℕ) (v : Verdict) → (verdict r demands grants ≡ v) ↔ Says r (firstWants r demands) grants v
+
+-- Our own first grants pass. (The second, which are Plan's answer, go by other wants and need not: SPECIFICATION has a room.)
+abbrev pub FirstGrantsPass : Type 0
+FirstGrantsPass =
+    (table : List ℕ) (r : Room) (end : ℕ) → checked table 0 ≡ good r end
+    → (demands : List ℕ) → verdict r demands (firstGrants r demands) ≡ Passes

@@ -2,6 +2,7 @@
 // the operation itself is `plans::plan`.
 ghost use mathlib.Core.Path.{_≡_};
 ghost use Rattle.deals.specs.Plan.{planListNumber, planRefusalNumber, planRefusalPlace, planNumber, planFigure};
+ghost use Rattle.deals.specs.Judge.{verdictNumber, verdictNames, verdictRank};
 
 // The lists that a plan is written to.
 pub enum PlanList {
@@ -92,6 +93,57 @@ impl Planned {
         match self {
             Planned::Accepted(freed) => freed,
             Planned::Refused(refusal) => refusal.place() as u64,
+        }
+    }
+}
+
+// What is wrong with a list of grants: nothing; a cord, by its place, that has less than its low or more than its want; a node, by its
+// number, whose limit is passed; or a root, by its number, whose tree is short, and the highest rank at which it is.
+pub enum Verdict {
+    Passes,
+    BelowLow(usize),
+    AboveWant(usize),
+    OverLimit(usize),
+    Short(usize, usize),
+}
+
+impl Verdict {
+    // The verdict's number, 0 if the list passes.
+    pub fn number(self) -> u64
+        ensures { λ r. ⌜ r ≡ verdictNumber self ⌝ }
+    {
+        match self {
+            Verdict::Passes => 0,
+            Verdict::BelowLow(_) => 1,
+            Verdict::AboveWant(_) => 2,
+            Verdict::OverLimit(_) => 3,
+            Verdict::Short(_, _) => 4,
+        }
+    }
+
+    // The cord, the node or the root that it names, or 0.
+    pub fn names(self) -> usize
+        ensures { λ r. ⌜ r ≡ verdictNames self ⌝ }
+    {
+        match self {
+            Verdict::Passes => 0,
+            Verdict::BelowLow(cord) => cord,
+            Verdict::AboveWant(cord) => cord,
+            Verdict::OverLimit(node) => node,
+            Verdict::Short(root, _) => root,
+        }
+    }
+
+    // The rank that it names, or 0.
+    pub fn rank(self) -> usize
+        ensures { λ r. ⌜ r ≡ verdictRank self ⌝ }
+    {
+        match self {
+            Verdict::Passes => 0,
+            Verdict::BelowLow(_) => 0,
+            Verdict::AboveWant(_) => 0,
+            Verdict::OverLimit(_) => 0,
+            Verdict::Short(_, rank) => rank,
         }
     }
 }

@@ -11,7 +11,8 @@ use Rattle.words.proofs.Calls.{answer-told}
 use Rattle.rooms.specs.Table.{mostWords, mostServers, roomCords}
 use Rattle.rooms.proofs.Outcomes.{front-length}
 use Rattle.rooms.specs.Rows.{CordsFit}
-use Rattle.deals.specs.Plan.{Plan, Outcome, accepted, refused, plan, lent, answerOf, after, planNumber, planFigure}
+use Rattle.outcomes.specs.Outcome.{accepted, refused, after}
+use Rattle.deals.specs.Plan.{Plan, PlanOutcome, plan, lent, answerOf, planNumber, planFigure}
 use Rattle.deals.specs.declared.Lengths.{Lengths}
 use Rattle.deals.specs.declared.Planned.{Planned}
 use Rattle.deals.proofs.Plans.{Fits}
@@ -23,25 +24,25 @@ use Rattle.capi.proofs.CallLaws.{count-fits, written-stored}
 -- ---- What an outcome writes to a list
 
 -- What a plan has for the list; nothing where refused.
-abbrev writtenBy : (Plan → List ℕ) → Outcome → List ℕ
+abbrev writtenBy : (Plan → List ℕ) → PlanOutcome → List ℕ
 writtenBy output (accepted plan) = output plan
 writtenBy output (refused refusal) = []
 
-pub words-after : (output : Plan → List ℕ) (o : Outcome) (list : List ℕ) → after output o list ≡ sets list 0 (writtenBy output o)
+pub words-after : (output : Plan → List ℕ) (o : PlanOutcome) (list : List ℕ) → after output o list ≡ sets list 0 (writtenBy output o)
 words-after output (accepted plan) list = refl
 words-after output (refused refusal) list = refl
 
-bytes-after : (output : Plan → List ℕ) (o : Outcome) (bytes : List ℕ) → sets bytes 0 (bytesOf (writtenBy output o)) ≡ after (λ p. bytesOf (output p)) o bytes
+bytes-after : (output : Plan → List ℕ) (o : PlanOutcome) (bytes : List ℕ) → sets bytes 0 (bytesOf (writtenBy output o)) ≡ after (λ p. bytesOf (output p)) o bytes
 unfolding bytesOf
 bytes-after output (accepted plan) bytes = refl
 bytes-after output (refused refusal) bytes = refl
 
 -- It is as many entries as the count says, and fits the list.
-pub record Counted (output : Plan → List ℕ) (o : Outcome) (count entries : ℕ) : Type 0 where
+pub record Counted (output : Plan → List ℕ) (o : PlanOutcome) (count entries : ℕ) : Type 0 where
   pub counts : length (writtenBy output o) ≡ plannedCount (answerOf o) count
   pub fits : length (writtenBy output o) ≤ entries
 
-counted : (output : Plan → List ℕ) (count entries : ℕ) (o : Outcome) → ((plan : Plan) → o ≡ accepted plan → Fits (output plan) count entries) → Counted output o count entries
+counted : (output : Plan → List ℕ) (count entries : ℕ) (o : PlanOutcome) → ((plan : Plan) → o ≡ accepted plan → Fits (output plan) count entries) → Counted output o count entries
 counted output count entries (accepted plan) h = let f = h plan refl in record { counts = f .count; fits = omega (arith, f .count, f .within) }
 counted output count entries (refused q) h = record { counts = refl; fits = omega arith }
 
@@ -74,7 +75,7 @@ abbrev pub Space : (bytes list : List ℕ) (space : ℕ) → Type 0
 Space bytes list space = space ≡ min (length bytes / 4) (length list)
 
 -- What Plan does with a list of words, of which the front is lent and becomes `front′`, and how much of it is stored as bytes.
-pub record Listed (output : Plan → List ℕ) (o : Outcome) (bytes list : List ℕ) : Type 0 where
+pub record Listed (output : Plan → List ℕ) (o : PlanOutcome) (bytes list : List ℕ) : Type 0 where
   pub space : ℕ
   pub front′ : List ℕ
   pub stored : ℕ
@@ -83,7 +84,7 @@ pub record Listed (output : Plan → List ℕ) (o : Outcome) (bytes list : List 
   pub fits : length (writtenBy output o) ≤ length (take space list)
   pub storedIs : stored ≡ length (writtenBy output o)
 
-abbrev pub listed : {output : Plan → List ℕ} {o : Outcome} {bytes list : List ℕ} {space count stored : ℕ} {planned : Planned} {front′ : List ℕ}
+abbrev pub listed : {output : Plan → List ℕ} {o : PlanOutcome} {bytes list : List ℕ} {space count stored : ℕ} {planned : Planned} {front′ : List ℕ}
     → Space bytes list space → Counted output o count (length (take space list)) → planned ≡ answerOf o → front′ ≡ after output o (take space list) → stored ≡ plannedCount planned count
     → Listed output o bytes list
 listed {output} {o} {bytes} {list} {space} {count} {stored} {planned} {front′} r c is f n = record {
@@ -97,7 +98,7 @@ listed {output} {o} {bytes} {list} {space} {count} {stored} {planned} {front′}
 }
 
 -- Just what was written is stored.
-module _ {output : Plan → List ℕ} {o : Outcome} {bytes list : List ℕ} (l : Listed output o bytes list) where
+module _ {output : Plan → List ℕ} {o : PlanOutcome} {bytes list : List ℕ} (l : Listed output o bytes list) where
   pub list-fits : l .stored ≤ length (l .front′ ++ drop (l .space) list)
   list-fits = count-fits list (l .space) (writtenBy output o) (l .fits) (l .frontIs) (l .storedIs)
 
@@ -112,7 +113,7 @@ module _ {output : Plan → List ℕ} {o : Outcome} {bytes list : List ℕ} (l :
 -- ---- The call
 
 -- Where the answer's buffer is too short, nothing is changed.
-pub plan-short : (outcome : Outcome) (grants caps headroom held answer : List ℕ) → length answer < 16
+pub plan-short : (outcome : PlanOutcome) (grants caps headroom held answer : List ℕ) → length answer < 16
     → PlannedCall outcome grants caps headroom held answer 0 grants caps headroom held answer
 plan-short outcome grants caps headroom held answer h =
     let short = holdsAnswer-short answer h in
@@ -126,7 +127,7 @@ plan-short outcome grants caps headroom held answer h =
     }
 
 -- Where it is long enough, it has the answer, and the lists are those after the outcome.
-pub plan-done : (outcome : Outcome) (grants caps headroom held answer : List ℕ) {planned : Planned} {grants′ caps′ headroom′ held′ answer′ : List ℕ} {number figure : ℕ}
+pub plan-done : (outcome : PlanOutcome) (grants caps headroom held answer : List ℕ) {planned : Planned} {grants′ caps′ headroom′ held′ answer′ : List ℕ} {number figure : ℕ}
     → 16 ≤ length answer → planned ≡ answerOf outcome
     → grants′ ≡ after (λ p. bytesOf (p .grants)) outcome grants
     → caps′ ≡ after (λ p. bytesOf (p .caps)) outcome caps
@@ -146,7 +147,7 @@ plan-done outcome grants caps headroom held answer long is g c h d k v a =
     }
 
 -- A call of the same outcome.
-pub call-same : {own outcome : Outcome} {grants caps headroom held answer grants′ caps′ headroom′ held′ answer′ : List ℕ} {r : ℕ} → own ≡ outcome
+pub call-same : {own outcome : PlanOutcome} {grants caps headroom held answer grants′ caps′ headroom′ held′ answer′ : List ℕ} {r : ℕ} → own ≡ outcome
     → PlannedCall own grants caps headroom held answer r grants′ caps′ headroom′ held′ answer′ → PlannedCall outcome grants caps headroom held answer r grants′ caps′ headroom′ held′ answer′
 call-same same call = rw same at call
 

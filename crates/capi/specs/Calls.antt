@@ -10,7 +10,8 @@ use lib.Seq.{sets}
 use Rattle.words.specs.Bytes.{wordsOf, bytesOf, holdsAnswer, answered}
 use Rattle.words.specs.Calls.{Call}
 use Rattle.rooms.specs.Outcome.{Outcome, accepted, refused, answerOf, answerNumber, answerFigure, after, reading, writing}
-use Rattle.deals.specs.Plan.{Plan, plan, planNumber, planFigure}
+use Rattle.outcomes.specs.Outcome as outcomes
+use Rattle.deals.specs.Plan.{Plan, PlanOutcome, plan, planNumber, planFigure}
 use Rattle.deals.specs.Plan as plan
 use Rattle.deals.specs.declared.Lengths.{Lengths}
 
@@ -48,11 +49,11 @@ lentBytes grants caps headroom held = record {
 
 -- The bytes of a list after the call of a plan that comes to an outcome, by what a plan has for the list: as after the outcome, its
 -- words as bytes; unchanged where the answer's buffer is too short.
-abbrev pub bytesPlanned : (Plan → List ℕ) → plan.Outcome → (answer bytes : List ℕ) → List ℕ
-bytesPlanned output outcome answer bytes = cond (holdsAnswer answer) (plan.after (λ p. bytesOf (output p)) outcome bytes) bytes
+abbrev pub bytesPlanned : (Plan → List ℕ) → PlanOutcome → (answer bytes : List ℕ) → List ℕ
+bytesPlanned output outcome answer bytes = cond (holdsAnswer answer) (outcomes.after (λ p. bytesOf (output p)) outcome bytes) bytes
 
 -- The call of a plan that comes to an outcome: as any call, with more than one list for its output.
-pub record PlannedCall (outcome : plan.Outcome) (grants caps headroom held answer : List ℕ) (r : ℕ) (grants′ caps′ headroom′ held′ answer′ : List ℕ) : Type 0 where
+pub record PlannedCall (outcome : PlanOutcome) (grants caps headroom held answer : List ℕ) (r : ℕ) (grants′ caps′ headroom′ held′ answer′ : List ℕ) : Type 0 where
   pub returned : r ≡ cond (holdsAnswer answer) 1 0
   pub grants-after : grants′ ≡ bytesPlanned (λ p. p .grants) outcome answer grants
   pub caps-after : caps′ ≡ bytesPlanned (λ p. p .caps) outcome answer caps

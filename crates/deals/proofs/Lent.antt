@@ -7,31 +7,24 @@ use mathlib.Core.List.{List}
 use Prim.Native.Nat.{ℕ, suc, _≤_, _<_, min}
 use native.Mathlib.Nat.{le-trans}
 use native.Mathlib.Omega.{arith}
-use lib.Dec.{eqb, leb, ltb}
+use lib.Dec.{eqb, leb}
 use lib.ListN.{length, take}
 use lib.Seq.{take-all, length-take-le}
-use borrow.Author.Tests.{eqb-true, eqb-false, ne-eqb, leb-true, leb-false, ltb-true, ltb-false, lt-ltb, le-ltb}
+use borrow.Author.Tests.{eqb-true, eqb-false, ne-eqb, leb-true, leb-false}
+use Rattle.outcomes.specs.Outcome.{accepted, refused, unless}
+use Rattle.outcomes.proofs.Outcomes.{unless-stop, tooShort-cut}
 use Rattle.rooms.specs.Part.{Step, good, bad}
 use Rattle.rooms.specs.Table.{Room, mostServers, mostCords, mostWords, roomCords}
 use Rattle.rooms.specs.Limits.{checked}
 use Rattle.rooms.proofs.Reach.{prefix-decides}
 use Rattle.rooms.proofs.Accepted as rooms
-use Rattle.deals.specs.Plan.{Plan, planOf, accepted, refused, Reason, tooShort, reasons, unless, planRoom, planStep, plan, mostLent}
+use Rattle.deals.specs.Plan.{Plan, planOf, PlanReason, reasons, planRoom, planStep, plan, mostLent}
 use Rattle.deals.specs.declared.Lengths.{Lengths}
-use Rattle.deals.specs.declared.PlanList.{PlanList}
 use Rattle.deals.specs.declared.PlanList.the-variants.{Grants, Caps, Headroom, Held}
 use Rattle.deals.specs.declared.PlanRefusal.the-variants.{DemandCount, ListTooShort}
-use Rattle.deals.proofs.Plans.{unless-stop, planRoom-is, plan-good, plan-good-table, Planning, planRoom-accepted}
+use Rattle.deals.proofs.Plans.{planRoom-is, plan-good, plan-good-table, Planning, planRoom-accepted}
 
 -- ---- Lists that are cut
-
--- A list that is cut no shorter than a need is too short for it just where it was before.
-short-cut : (list : PlanList) (needed entries k : ℕ) → needed ≤ k → tooShort list (min entries k) needed ≡ tooShort list entries needed
-short-cut list needed entries k h = ap (λ (t : Bool). record { holds = t; refusal = ListTooShort list needed }) (go (ltb entries needed) refl)
-  where
-    go : (t : Bool) → ltb entries needed ≡ t → ltb (min entries k) needed ≡ ltb entries needed
-    go true e = lt-ltb (min entries k) needed (omega (arith, ltb-true entries needed e)) ∙ sym e
-    go false e = le-ltb (min entries k) needed (omega (arith, ltb-false entries needed e)) ∙ sym e
 
 -- Demands that are cut after one more than there are servers still differ from them in count.
 count-cut : (demands : List ℕ) (servers m : ℕ) → servers < m → (length demands ≡ servers → ⊥) → length (take m demands) ≡ servers → ⊥
@@ -85,12 +78,12 @@ pub record Ample (spaces : Lengths) : Type 0 where
 room-lists-cut : (r : Room) (demands : List ℕ) (lengths spaces : Lengths) → roomCords r ≤ mostCords → length (r .servers) ≤ mostServers → Ample spaces
     → planRoom r demands (cutTo spaces lengths) ≡ planRoom r demands lengths
 room-lists-cut r demands lengths spaces fewCords fewServers ample =
-    let grants = short-cut Grants (roomCords r) (lengths .grants) (spaces .grants) (le-trans fewCords (ample .grants)) in
-    let caps = short-cut Caps (length (r .servers)) (lengths .caps) (spaces .caps) (le-trans fewServers (ample .caps)) in
-    let headroom = short-cut Headroom (roomCords r) (lengths .headroom) (spaces .headroom) (le-trans fewCords (ample .headroom)) in
-    let held = short-cut Held (roomCords r) (lengths .held) (spaces .held) (le-trans fewCords (ample .held)) in
+    let grants = tooShort-cut (ListTooShort Grants) (roomCords r) (lengths .grants) (spaces .grants) (le-trans fewCords (ample .grants)) in
+    let caps = tooShort-cut (ListTooShort Caps) (length (r .servers)) (lengths .caps) (spaces .caps) (le-trans fewServers (ample .caps)) in
+    let headroom = tooShort-cut (ListTooShort Headroom) (roomCords r) (lengths .headroom) (spaces .headroom) (le-trans fewCords (ample .headroom)) in
+    let held = tooShort-cut (ListTooShort Held) (roomCords r) (lengths .held) (spaces .held) (le-trans fewCords (ample .held)) in
     let all : reasons r demands (cutTo spaces lengths) ≡ reasons r demands lengths = rw (grants, caps, headroom, held) in
-    planRoom-is r demands (cutTo spaces lengths) ∙ ap (λ (l : List Reason). unless l (planOf r demands)) all ∙ sym (planRoom-is r demands lengths)
+    planRoom-is r demands (cutTo spaces lengths) ∙ ap (λ (l : List PlanReason). unless l (planOf r demands)) all ∙ sym (planRoom-is r demands lengths)
 
 pub plan-lists-cut : (table demands : List ℕ) (lengths spaces : Lengths) → Ample spaces → plan table demands (cutTo spaces lengths) ≡ plan table demands lengths
 unfolding plan planStep

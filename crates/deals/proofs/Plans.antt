@@ -1,6 +1,6 @@
--- The outcomes of a plan: how its reasons to refuse are worked off, what an accepted plan says, and how long its lists are.
-use mathlib.Core.Path.{_≡_, refl, sym, ap, _∙_}
-use mathlib.Core.Bool.{Bool, true, false, cond, not, true≢false}
+-- The outcomes of a plan: what an accepted plan says, and how long its lists are.
+use mathlib.Core.Path.{_≡_, refl, sym, ap, subst, _∙_}
+use mathlib.Core.Bool.{Bool, true, false, not, true≢false}
 use mathlib.Core.List.{List, [], _∷_}
 use mathlib.Core.Logic.{_↔_, Iff·trans}
 use Prim.Native.Nat.{ℕ, suc, _≤_}
@@ -8,6 +8,8 @@ use native.Mathlib.Omega.{arith}
 use lib.Dec.{eqb, ltb}
 use lib.ListN.{length}
 use borrow.Author.Tests.{eqb-true, ltb-false}
+use Rattle.outcomes.specs.Outcome.{accepted, refused, unless}
+use Rattle.outcomes.proofs.Outcomes.{unless-back, unless-either, unless-none, unless-is}
 use Rattle.rooms.specs.Part.{Step, good, bad, Good}
 use Rattle.rooms.specs.Table.{Room, roomCords}
 use Rattle.rooms.specs.Limits.{checked}
@@ -22,21 +24,13 @@ use Rattle.deals.specs.Dealing.{granted}
 use Rattle.deals.specs.SecondDeal.{usable, secondDeal, secondGrants, caps}
 use Rattle.deals.specs.Headroom.{headroomOver, headroom}
 use Rattle.deals.specs.Held.{heldOver, held}
-use Rattle.deals.specs.Plan.{Plan, planOf, Outcome, accepted, refused, Reason, countDiffers, demandTooLarge, tooShort, reasons, unless, planRoom, planStep, plan, answerOf, planRefusalNumber, planNumber}
+use Rattle.deals.specs.Plan.{Plan, planOf, PlanOutcome, PlanReason, reasons, planRoom, planStep, plan, answerOf, planNumber}
 use Rattle.deals.specs.Promises.{IsNine}
 use Rattle.deals.specs.declared.Lengths.{Lengths}
 use Rattle.deals.specs.declared.PlanList.the-variants.{Grants, Caps, Headroom, Held}
 use Rattle.deals.specs.declared.PlanRefusal.the-variants.{Table}
 use Rattle.figures.proofs.Lists.{figures-length}
 use Rattle.deals.proofs.RoomDeals.{nodesOf-length}
-
--- ---- Tests
-
-cond-yes : {A : Type 0} (t : Bool) (a b : A) → t ≡ true → cond t a b ≡ a
-cond-yes t a b e = ap (λ (x : Bool). cond x a b) e
-
-cond-no : {A : Type 0} (t : Bool) (a b : A) → t ≡ false → cond t a b ≡ b
-cond-no t a b e = ap (λ (x : Bool). cond x a b) e
 
 -- ---- The lengths of the answer's lists
 
@@ -59,46 +53,6 @@ held-length r demands = cords-length r _
 pub caps-length : (r : Room) (demands : List ℕ) → length (caps r demands) ≡ length (r .servers)
 unfolding caps usable
 caps-length r demands = figures-length (length (r .servers)) _
-
--- ---- Reasons to refuse
-
--- The first reason that holds refuses, and one that does not is passed.
-module _ (reason : Reason) (rest : List Reason) (plan : Plan) where
-  pub unless-stop : reason .holds ≡ true → unless (reason ∷ rest) plan ≡ refused (reason .refusal)
-  unfolding unless
-  unless-stop e = cond-yes (reason .holds) _ _ e
-
-  pub unless-pass : reason .holds ≡ false → unless (reason ∷ rest) plan ≡ unless rest plan
-  unfolding unless
-  unless-pass e = cond-no (reason .holds) _ _ e
-
-  -- Where a plan is accepted, a reason does not hold, and the others decide.
-  pub unless-back : {answer : Plan} → unless (reason ∷ rest) plan ≡ accepted answer → (reason .holds ≡ false) × (unless rest plan ≡ accepted answer)
-  unless-back {answer} e = go (reason .holds) refl
-    where
-      go : (t : Bool) → reason .holds ≡ t → (reason .holds ≡ false) × (unless rest plan ≡ accepted answer)
-      go true h = absurd (let d : refused (reason .refusal) ≡ accepted answer = sym (unless-stop h) ∙ e in let z : _≡_ {A = ℕ} 0 1 = cc in omega arith)
-      go false h = (h, sym (unless-pass h) ∙ e)
-
-  -- A number is not told that neither this reason nor the others tell.
-  unless-other : (n : ℕ) → (planRefusalNumber (reason .refusal) ≡ n → ⊥) → (planNumber (answerOf (unless rest plan)) ≡ n → ⊥)
-      → planNumber (answerOf (unless (reason ∷ rest) plan)) ≡ n → ⊥
-  unless-other n own others e = go (reason .holds) refl
-    where
-      go : (t : Bool) → reason .holds ≡ t → ⊥
-      go true h = own (sym (ap (λ (o : Outcome). planNumber (answerOf o)) (unless-stop h)) ∙ e)
-      go false h = others (sym (ap (λ (o : Outcome). planNumber (answerOf o)) (unless-pass h)) ∙ e)
-
--- Where no reason is left, no number is told.
-unless-none : (plan : Plan) (n : ℕ) → planNumber (answerOf (unless [] plan)) ≡ suc n → ⊥
-unfolding unless
-unless-none plan n e = omega arith
-
--- Where a plan is accepted, it is the one that was to be.
-pub unless-is : (reasons : List Reason) (plan answer : Plan) → unless reasons plan ≡ accepted answer → answer ≡ plan
-unfolding unless
-unless-is [] plan answer e = cc
-unless-is (reason ∷ rest) plan answer e = unless-is rest plan answer (unless-back reason rest plan e .1)
 
 -- ---- The table
 
@@ -174,22 +128,30 @@ planRoom-accepted r demands lengths answer e =
 
 -- ---- Refusal 9
 
+-- The number of an outcome is not 9.
+record NotNine (o : PlanOutcome) : Type 0 where
+  other : planNumber (answerOf o) ≡ 9 → ⊥
+
 -- The plan of a good room is accepted, or refused by 10 to 15.
-room-other : (r : Room) (demands : List ℕ) (lengths : Lengths) → planNumber (answerOf (planRoom r demands lengths)) ≡ 9 → ⊥
-room-other r demands lengths e =
-    unless-other (countDiffers r demands) _ (planOf r demands) 9 (λ q. omega arith)
-    (unless-other (demandTooLarge demands) _ (planOf r demands) 9 (λ q. omega arith)
-    (unless-other (tooShort Grants (lengths .grants) (roomCords r)) _ (planOf r demands) 9 (λ q. omega arith)
-    (unless-other (tooShort Caps (lengths .caps) (length (r .servers))) _ (planOf r demands) 9 (λ q. omega arith)
-    (unless-other (tooShort Headroom (lengths .headroom) (roomCords r)) _ (planOf r demands) 9 (λ q. omega arith)
-    (unless-other (tooShort Held (lengths .held) (roomCords r)) _ (planOf r demands) 9 (λ q. omega arith)
-    (unless-none (planOf r demands) 8))))))
-    (sym (ap (λ (o : Outcome). planNumber (answerOf o)) (planRoom-is r demands lengths)) ∙ e)
+room-other : (r : Room) (demands : List ℕ) (lengths : Lengths) → NotNine (planRoom r demands lengths)
+room-other r demands lengths =
+    subst NotNine (sym (planRoom-is r demands lengths))
+    (past _ _ (record { other = λ e. omega arith }) (past _ _ (record { other = λ e. omega arith })
+    (past _ _ (record { other = λ e. omega arith }) (past _ _ (record { other = λ e. omega arith })
+    (past _ _ (record { other = λ e. omega arith }) (past _ _ (record { other = λ e. omega arith })
+    none))))))
+  where
+    past : (reason : PlanReason) (rest : List PlanReason) → NotNine (refused (reason .refusal)) → NotNine (unless rest (planOf r demands))
+        → NotNine (unless (reason ∷ rest) (planOf r demands))
+    past reason rest own others = unless-either reason rest (planOf r demands) NotNine (λ _. own) (λ _. others)
+
+    none : NotNine (unless [] (planOf r demands))
+    none = subst NotNine (sym (unless-none (planOf r demands))) (record { other = λ e. omega arith })
 
 step-nine : (s : Step Room) (demands : List ℕ) (lengths : Lengths) (n : ℕ) → IsNine (answerOf (planStep s demands lengths)) n ↔ (s ≡ bad (LowsAboveLimit n))
 unfolding planStep
 step-nine (good r end) demands lengths n =
-    (λ a. absurd (room-other r demands lengths (a .0)), λ e. absurd (let z : _≡_ {A = ℕ} 0 1 = cc in omega arith))
+    (λ a. absurd (room-other r demands lengths .other (a .0)), λ e. absurd (let z : _≡_ {A = ℕ} 0 1 = cc in omega arith))
 step-nine (bad refusal) demands lengths n = (
   λ a. ap bad (nine-lows refusal n (a .0) (a .1)),
   λ e. let q : refusal ≡ LowsAboveLimit n = cc in rw q (refl, refl),

@@ -20,7 +20,8 @@ use Rattle.deals.specs.Dealing.{granted}
 use Rattle.deals.specs.SecondDeal.{leastOver, loaded, loadOf, usable, stranded, wantsAfter, firstDeal, firstGrants, firstUsable, firstUsed, freed, secondDeal, secondWants, secondGrants, caps}
 use Rattle.deals.specs.Headroom.{ceilingsOf, headroomOver, headroom}
 use Rattle.deals.specs.Held.{heldOver, held}
-use Rattle.deals.specs.Plan.{planOf, reasons, unless, planRoom, planStep, plan}
+use Rattle.outcomes.specs.Outcome.{unless}
+use Rattle.deals.specs.Plan.{planOf, reasons, planRoom, planStep, plan}
 use Rattle.deals.specs.declared.Lengths.{Lengths}
 use Rattle.deals.specs.Versions.{EqualPlans, EightyThroughout, SharesTenfold}
 

@@ -7,7 +7,8 @@ use Rattle.rooms.specs.Part.{follow, word, ensure, end, many}
 use Rattle.figures.specs.Figures.{total}
 use Rattle.rooms.specs.Table.{formOf, percent, node, cord, range, load, server, table}
 use Rattle.rooms.specs.Limits.{beneath, serverLows, lows, firstNode, overloaded}
-use Rattle.deals.specs.Plan.{Outcome, accepted, refused, plan}
+use Rattle.outcomes.specs.Outcome.{accepted, refused}
+use Rattle.deals.specs.Plan.{PlanOutcome, plan}
 use Rattle.deals.specs.declared.Lengths.{Lengths}
 use Rattle.deals.specs.declared.PlanList.the-variants.{Grants, Caps, Headroom, Held}
 use Rattle.deals.specs.declared.PlanRefusal.the-variants.{DemandCount, DemandTooLarge, ListTooShort}
@@ -17,7 +18,7 @@ abbrev lengths : ℕ → ℕ → ℕ → ℕ → Lengths
 lengths grants caps headroom held = record { grants = grants; caps = caps; headroom = headroom; held = held }
 
 -- A plan of these freed watts, grants, caps, headroom and nodes that hold cords.
-abbrev planned : ℕ → List ℕ → List ℕ → List ℕ → List ℕ → Outcome
+abbrev planned : ℕ → List ℕ → List ℕ → List ℕ → List ℕ → PlanOutcome
 planned freed grants caps headroom held = accepted (record { freed = freed; grants = grants; caps = caps; headroom = headroom; held = held })
 
 -- Room H, by the rating of its second node.

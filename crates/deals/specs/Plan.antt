@@ -1,10 +1,10 @@
 -- The whole plan: the table's refusals, those of the demands and of the lists, and the answer.
-use mathlib.Core.Bool.{Bool, cond, not}
+use mathlib.Core.Bool.{not}
 use mathlib.Core.List.{List, [], _∷_}
 use Prim.Native.Nat.{ℕ, suc}
 use lib.Dec.{eqb, ltb}
 use lib.ListN.{length}
-use lib.Seq.{sets}
+use Rattle.outcomes.specs.Outcome.{Outcome, accepted, refused, Reason, unless, tooShort}
 use Rattle.words.specs.Lists.{firstNotBelow}
 use Rattle.rooms.specs.Part.{Step, good, bad}
 use Rattle.rooms.specs.Table.{Room, mostWatts, mostServers, mostCords, roomCords}
@@ -43,9 +43,8 @@ planOf r demands = record {
 }
 
 -- What Plan comes to: a plan, or a refusal.
-pub data Outcome : Type 0 where
-  accepted : Plan → Outcome
-  refused : PlanRefusal → Outcome
+abbrev pub PlanOutcome : Type 0
+PlanOutcome = Outcome Plan PlanRefusal
 
 -- ---- Refusals
 
@@ -53,54 +52,44 @@ pub data Outcome : Type 0 where
 abbrev pub firstTooLarge : List ℕ → ℕ
 firstTooLarge demands = firstNotBelow (suc mostWatts) demands
 
--- A reason to refuse: whether it holds, and the refusal that it gives.
-pub record Reason : Type 0 where
-  pub holds : Bool
-  pub refusal : PlanRefusal
+-- A reason to refuse a plan.
+abbrev pub PlanReason : Type 0
+PlanReason = Reason PlanRefusal
 
 -- There is not a demand for each server.
-abbrev pub countDiffers : Room → List ℕ → Reason
+abbrev pub countDiffers : Room → List ℕ → PlanReason
 countDiffers r demands = record { holds = not (eqb (length demands) (length (r .servers))); refusal = DemandCount (length (r .servers)) }
 
 -- A demand is above the most watts.
-abbrev pub demandTooLarge : List ℕ → Reason
+abbrev pub demandTooLarge : List ℕ → PlanReason
 demandTooLarge demands = record { holds = ltb (firstTooLarge demands) (length demands); refusal = DemandTooLarge (firstTooLarge demands) }
 
--- A list of so many entries is too short for what is needed.
-abbrev pub tooShort : PlanList → ℕ → ℕ → Reason
-tooShort list entries needed = record { holds = ltb entries needed; refusal = ListTooShort list needed }
-
 -- The reasons to refuse the plan of a good room, in their order (10 to 15).
-abbrev pub reasons : Room → List ℕ → Lengths → List Reason
+abbrev pub reasons : Room → List ℕ → Lengths → List PlanReason
 reasons r demands lengths =
     countDiffers r demands
     ∷ demandTooLarge demands
-    ∷ tooShort Grants (lengths .grants) (roomCords r)
-    ∷ tooShort Caps (lengths .caps) (length (r .servers))
-    ∷ tooShort Headroom (lengths .headroom) (roomCords r)
-    ∷ tooShort Held (lengths .held) (roomCords r)
+    ∷ tooShort (ListTooShort Grants) (lengths .grants) (roomCords r)
+    ∷ tooShort (ListTooShort Caps) (lengths .caps) (length (r .servers))
+    ∷ tooShort (ListTooShort Headroom) (lengths .headroom) (roomCords r)
+    ∷ tooShort (ListTooShort Held) (lengths .held) (roomCords r)
     ∷ []
-
--- The first reason that holds refuses; where none does, the plan is accepted.
-unfoldable pub unless : List Reason → Plan → Outcome
-unless [] plan = accepted plan
-unless (reason ∷ rest) plan = cond (reason .holds) (refused (reason .refusal)) (unless rest plan)
 
 -- ---- Plan
 
 -- The plan of a good room, in lists of given lengths.
-unfoldable pub planRoom : Room → List ℕ → Lengths → Outcome
+unfoldable pub planRoom : Room → List ℕ → Lengths → PlanOutcome
 unfolding unless firstNotBelow freed secondGrants caps headroom held
 planRoom r demands lengths = unless (reasons r demands lengths) (planOf r demands)
 
 -- The plan of what the table's check gives: its refusals (4 to 9) stand.
-unfoldable pub planStep : Step Room → List ℕ → Lengths → Outcome
+unfoldable pub planStep : Step Room → List ℕ → Lengths → PlanOutcome
 unfolding planRoom
 planStep (good r end) demands lengths = planRoom r demands lengths
 planStep (bad refusal) demands lengths = refused (Table refusal)
 
 -- Plan: a table, a demand list, and the lengths of the lists that are lent.
-unfoldable pub plan : List ℕ → List ℕ → Lengths → Outcome
+unfoldable pub plan : List ℕ → List ℕ → Lengths → PlanOutcome
 unfolding planStep checked
 plan table demands lengths = planStep (checked table 0) demands lengths
 
@@ -115,14 +104,9 @@ mostLent = record { grants = mostCords; caps = mostServers; headroom = mostCords
 -- ---- What the caller sees
 
 -- The answer to an outcome.
-abbrev pub answerOf : Outcome → Planned
+abbrev pub answerOf : PlanOutcome → Planned
 answerOf (accepted plan) = Accepted (plan .freed)
 answerOf (refused refusal) = Refused refusal
-
--- A list after an outcome, by what a plan has for it: that stands at the front; entries past it, and all where refused, are unchanged.
-abbrev pub after : (Plan → List ℕ) → Outcome → List ℕ → List ℕ
-after output (accepted plan) list = sets list 0 (output plan)
-after output (refused refusal) list = list
 
 -- ---- Numbers and places
 

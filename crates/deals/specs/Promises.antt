@@ -17,7 +17,8 @@ use Rattle.rooms.specs.Lists.{lowsOf}
 use Rattle.deals.specs.SecondDeal.{firstGrants, firstUsable, firstUsed, freed, secondWants, secondGrants, caps}
 use Rattle.deals.specs.Headroom.{ceilingsOf, headroom, rootHeadroom}
 use Rattle.deals.specs.Held.{held}
-use Rattle.deals.specs.Plan.{Plan, accepted, plan, answerOf, planNumber, planFigure}
+use Rattle.outcomes.specs.Outcome.{accepted}
+use Rattle.deals.specs.Plan.{Plan, plan, answerOf, planNumber, planFigure}
 use Rattle.deals.specs.Ways.{Root, Way, cordBeneath, sumBeneath, fromRank}
 use Rattle.deals.specs.declared.Lengths.{Lengths}
 use Rattle.deals.specs.Judge.{verdict}

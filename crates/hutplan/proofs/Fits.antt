@@ -16,8 +16,8 @@ use Rattle.rooms.specs.Outcome.{reading}
 use Rattle.rooms.specs.Outcome as read
 use Rattle.rooms.proofs.Accepted.{accepted}
 use Rattle.deals.specs.SecondDeal.{secondDeal, secondWants}
-use Rattle.deals.specs.Plan.{plan, planRoom, mostLent, Outcome}
-use Rattle.deals.specs.Plan as plan
+use Rattle.outcomes.specs.Outcome as outcomes
+use Rattle.deals.specs.Plan.{PlanOutcome, planRoom, mostLent, planRefusalNumber, planRefusalPlace}
 use Rattle.deals.specs.Promises.{AcceptedPlan}
 use Rattle.figures.proofs.Lists.{figures-length}
 use Rattle.deals.proofs.Plans.{plan-good-table}
@@ -78,7 +78,7 @@ module _ (p : AcceptedPlan) where
           = omega (arith, second-kept p .most c there, ltb-false (at (p .answer .grants) c) (at (secondWants (p .room) (p .demands)) c) e) in
           omega (arith, held-none p c there full)
 
-  plan-fits : length (roomText (p .room) (plan.accepted (p .answer))) ≤ mostText
+  plan-fits : length (roomText (p .room) (outcomes.accepted (p .answer))) ≤ mostText
   plan-fits =
       let freed = figures-fit (p .table) (p .room) (p .end) (p .isRoom) (p .demands) .freed in
       length-printOf (p .room) (p .answer .freed) (p .answer .caps) (p .answer .grants) (p .answer .headroom) (p .answer .held)
@@ -89,11 +89,11 @@ pub tableText-fits : (table demands : List ℕ) → length (tableText table dema
 unfolding tableText
 tableText-fits table demands = go (checked table 0) refl
   where
-    room : (r : Room) (end : ℕ) → checked table 0 ≡ good r end → (o : Outcome) → planRoom r demands mostLent ≡ o
+    room : (r : Room) (end : ℕ) → checked table 0 ≡ good r end → (o : PlanOutcome) → planRoom r demands mostLent ≡ o
         → length (roomText r o) ≤ mostText
-    room r end q (plan.refused refusal) e =
-        omega (arith, length-refusedLine (plan.planRefusalNumber refusal) (plan.planRefusalPlace refusal))
-    room r end q (plan.accepted answer) e =
+    room r end q (outcomes.refused refusal) e =
+        omega (arith, length-refusedLine (planRefusalNumber refusal) (planRefusalPlace refusal))
+    room r end q (outcomes.accepted answer) e =
         plan-fits
         (record {
           table = table;

@@ -20,8 +20,9 @@ use Rattle.rooms.specs.declared.Refusal.{Refusal}
 use Rattle.rooms.specs.declared.Refusal.the-variants.{OutputTooShort}
 use Rattle.rooms.specs.declared.Answer.the-variants as answer
 use Rattle.rooms.proofs.Accepted.{accepted}
-use Rattle.deals.specs.Plan.{Plan, plan, planRoom, planStep, lent, mostLent, Outcome, answerOf, after, planRefusalNumber, planRefusalPlace}
-use Rattle.deals.specs.Plan as plan
+use Rattle.outcomes.specs.Outcome.{after}
+use Rattle.outcomes.specs.Outcome as outcomes
+use Rattle.deals.specs.Plan.{Plan, PlanOutcome, plan, planRoom, planStep, lent, mostLent, answerOf, planRefusalNumber, planRefusalPlace}
 use Rattle.deals.specs.declared.Lengths.{Lengths}
 use Rattle.deals.specs.declared.PlanRefusal.{PlanRefusal}
 use Rattle.deals.specs.declared.Planned.{Planned}
@@ -41,7 +42,7 @@ pub record RoomText (table demands : List ℕ) (f : ℕ) (caps grants headroom h
 
 -- Lists that take the plan of every room, and what Plan comes to with them.
 module _ (table demands grants caps headroom held : List ℕ) (most : lent grants caps headroom held ≡ mostLent) where
-  abbrev outcome : Outcome
+  abbrev outcome : PlanOutcome
   outcome = plan table demands (lent grants caps headroom held)
 
   -- A refused plan.
@@ -50,10 +51,10 @@ module _ (table demands grants caps headroom held : List ℕ) (most : lent grant
   unfolding tableText plan planStep
   table-refused {q = q} told e = go (checked table 0) (rw most at (sym told ∙ e))
     where
-      room : (r : Room) (o : Outcome) → Refused q ≡ answerOf o
+      room : (r : Room) (o : PlanOutcome) → Refused q ≡ answerOf o
           → roomText r o ≡ refusedLine (planRefusalNumber q) (planRefusalPlace q)
-      room r (plan.accepted answer) e = let z : _≡_ {A = ℕ} 0 1 = cc in absurd (omega arith)
-      room r (plan.refused p) e = let same : q ≡ p = cc in rw same
+      room r (outcomes.accepted answer) e = let z : _≡_ {A = ℕ} 0 1 = cc in absurd (omega arith)
+      room r (outcomes.refused p) e = let same : q ≡ p = cc in rw same
 
       go : (s : Step Room) → Refused q ≡ answerOf (planStep s demands mostLent)
           → stepText s demands ≡ refusedLine (planRefusalNumber q) (planRefusalPlace q)
@@ -68,7 +69,7 @@ module _ (table demands grants caps headroom held : List ℕ) (most : lent grant
   unfolding tableText
   table-accepted grants' caps' headroom' held' {f = f} told e eg ec eh ed = go outcome refl (sym told ∙ e) eg ec eh ed
     where
-      in-room : (answer : Plan) → outcome ≡ plan.accepted answer
+      in-room : (answer : Plan) → outcome ≡ outcomes.accepted answer
           → RoomText table demands (answer .freed) (sets caps 0 (answer .caps)) (sets grants 0 (answer .grants)) (sets headroom 0 (answer .headroom))
           (sets held 0 (answer .held))
       in-room answer is =
@@ -86,7 +87,7 @@ module _ (table demands grants caps headroom held : List ℕ) (most : lent grant
             isRoom = g .is;
             isAnswer = is;
           }) in
-          let room : planRoom (g .value) demands mostLent ≡ plan.accepted answer =
+          let room : planRoom (g .value) demands mostLent ≡ outcomes.accepted answer =
           rw (← most) (sym (plan-good-table table demands (lent grants caps headroom held) (g .value) (g .next) (g .is)) ∙ is) in
           record {
             good-table = g;
@@ -100,11 +101,11 @@ module _ (table demands grants caps headroom held : List ℕ) (most : lent grant
                 ∙ sym (ap (λ (s : Step Room). stepText s demands) (g .is) ∙ ap (roomText (g .value)) room);
           }
 
-      go : (o : Outcome) → outcome ≡ o → Accepted f ≡ answerOf o → grants' ≡ after (λ p. p .grants) o grants
+      go : (o : PlanOutcome) → outcome ≡ o → Accepted f ≡ answerOf o → grants' ≡ after (λ p. p .grants) o grants
           → caps' ≡ after (λ p. p .caps) o caps → headroom' ≡ after (λ p. p .headroom) o headroom → held' ≡ after (λ p. p .held) o held
           → RoomText table demands f caps' grants' headroom' held'
-      go (plan.refused q) is e eg ec eh ed = let z : _≡_ {A = ℕ} 0 1 = cc in absurd (omega arith)
-      go (plan.accepted answer) is e eg ec eh ed =
+      go (outcomes.refused q) is e eg ec eh ed = let z : _≡_ {A = ℕ} 0 1 = cc in absurd (omega arith)
+      go (outcomes.accepted answer) is e eg ec eh ed =
           let same : f ≡ answer .freed = cc in
           rw (same, eg, ec, eh, ed) (in-room answer is)
 

@@ -13,7 +13,9 @@ use Rattle.rooms.specs.Limits.{beneath, serverLows, lows, firstNode, overloaded
 use Rattle.rooms.specs.Outcome.{reading, answerOf, answerNumber, answerFigure}
 use Rattle.rooms.specs.Outcome as read
 use Rattle.deals.specs.SecondDeal.{firstGrants, firstUsable}
-use Rattle.deals.specs.Plan.{plan, mostLent, after}
+use Rattle.outcomes.specs.Outcome.{after}
+use Rattle.outcomes.specs.Outcome as outcomes
+use Rattle.deals.specs.Plan.{PlanOutcome, plan, mostLent}
 use Rattle.deals.specs.Plan as plan
 use Rattle.deals.specs.declared.Lengths.{Lengths}
 use Rattle.deals.specs.declared.Planned.the-variants.{Accepted}
@@ -112,9 +114,9 @@ abbrev numbered : read.Outcome → ℕ × ℕ
 numbered outcome = (answerNumber (answerOf outcome), answerFigure (answerOf outcome))
 
 -- The grants of a plan; none if it is refused.
-abbrev grantsOf : plan.Outcome → List ℕ
-grantsOf (plan.accepted answer) = answer .grants
-grantsOf (plan.refused refusal) = []
+abbrev grantsOf : PlanOutcome → List ℕ
+grantsOf (outcomes.accepted answer) = answer .grants
+grantsOf (outcomes.refused refusal) = []
 
 -- The starred items, in their order.
 pub record Starred : Type 0 where

@@ -9,8 +9,8 @@ use Rattle.rooms.specs.Table as rooms
 use Rattle.rooms.specs.Limits.{checked}
 use Rattle.rooms.specs.Outcome.{reading, refusalNumber, refusalPlace}
 use Rattle.rooms.specs.Outcome as read
-use Rattle.deals.specs.Plan.{planRoom, mostLent, planRefusalNumber, planRefusalPlace}
-use Rattle.deals.specs.Plan as plan
+use Rattle.outcomes.specs.Outcome.{accepted, refused}
+use Rattle.deals.specs.Plan.{PlanOutcome, planRoom, mostLent, planRefusalNumber, planRefusalPlace}
 use Rattle.demands.specs.Text.{mostLines, demandsOf}
 use Rattle.print.specs.Line.{refusedLine}
 use Rattle.print.specs.Print.{printOf}
@@ -25,9 +25,9 @@ abbrev pub mostText : ℕ
 mostText = 27 + 26 * mostServers + 69 * mostCords
 
 -- The print of a room's plan.
-abbrev pub roomText : Room → plan.Outcome → List ℕ
-roomText room (plan.accepted plan) = printOf (plan .freed) (room .servers) (plan .caps) (plan .grants) (plan .headroom) (plan .held)
-roomText room (plan.refused refusal) = refusedLine (planRefusalNumber refusal) (planRefusalPlace refusal)
+abbrev pub roomText : Room → PlanOutcome → List ℕ
+roomText room (accepted plan) = printOf (plan .freed) (room .servers) (plan .caps) (plan .grants) (plan .headroom) (plan .held)
+roomText room (refused refusal) = refusedLine (planRefusalNumber refusal) (planRefusalPlace refusal)
 
 -- The print of what a table's check gives, with demands.
 abbrev pub stepText : Step Room → List ℕ → List ℕ

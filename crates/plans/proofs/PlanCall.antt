@@ -7,6 +7,8 @@ use native.Mathlib.Omega.{arith}
 use lib.ListN.{length, drop}
 use lib.Seq.{take-all}
 use borrow.Author.Tests.{eq-eqb, ne-eqb, lt-ltb, le-ltb}
+use Rattle.outcomes.specs.Outcome.{accepted, refused, tooShort, unless, after}
+use Rattle.outcomes.proofs.Outcomes.{unless-stop, unless-pass}
 use Rattle.words.proofs.Lists.{sets-front}
 use Rattle.rooms.specs.Part.{good, Good}
 use Rattle.rooms.specs.Table.{Room, mostNodes, roomCords}
@@ -20,7 +22,7 @@ use Rattle.rooms.proofs.Accepted as rooms
 use Rattle.rooms.proofs.Steps.{known}
 use Rattle.rooms.proofs.Outcomes.{refused-so}
 use Rattle.figures.specs.Figures.{at}
-use Rattle.deals.specs.Plan.{Plan, planOf, Outcome, accepted, refused, firstTooLarge, Reason, countDiffers, demandTooLarge, tooShort, reasons, unless, plan, answerOf, after}
+use Rattle.deals.specs.Plan.{Plan, planOf, PlanOutcome, firstTooLarge, PlanReason, countDiffers, demandTooLarge, reasons, plan, answerOf}
 use Rattle.rooms.specs.Rows.{ServersFit, CordsFit}
 use Rattle.layout.specs.Lists.{HasLowsBeneath}
 use Rattle.deals.specs.declared.Lengths.{Lengths}
@@ -28,7 +30,7 @@ use Rattle.deals.specs.declared.PlanList.{PlanList}
 use Rattle.deals.specs.declared.PlanRefusal.{PlanRefusal}
 use Rattle.deals.specs.declared.PlanRefusal.the-variants.{Table, DemandCount, DemandTooLarge, ListTooShort}
 use Rattle.deals.specs.declared.Planned.the-variants as planned
-use Rattle.deals.proofs.Plans.{unless-stop, unless-pass, planRoom-is, plan-bad-table, plan-good-table, secondGrants-length, caps-length}
+use Rattle.deals.proofs.Plans.{planRoom-is, plan-bad-table, plan-good-table, secondGrants-length, caps-length}
 use Rattle.deals.proofs.Lent.{plan-written}
 use Rattle.plans.specs.Admission.{admission}
 use Rattle.plans.specs.declared.Admission.the-variants as admitted
@@ -62,7 +64,7 @@ servers-fit table e h r end is = e ∙ h r end is
 -- ---- The checks, in their order
 
 -- A refusal is told.
-refused-told : (outcome : Outcome) {q : PlanRefusal} → outcome ≡ refused q → admitted.Refused q ≡ admission outcome
+refused-told : (outcome : PlanOutcome) {q : PlanRefusal} → outcome ≡ refused q → admitted.Refused q ≡ admission outcome
 refused-told outcome e = rw e refl
 
 -- The table's refusal stands.
@@ -71,7 +73,7 @@ pub table-told : (table demands : List ℕ) (lengths : Lengths) {answer : Checke
 table-told table demands lengths d e = refused-told _ (plan-bad-table table demands lengths _ (refused-so roomCords (checked table 0) d e))
 
 -- These reasons to refuse are left, of those of a good table's room, and decide.
-pub record Left (table demands : List ℕ) (lengths : Lengths) (room : Room) (rest : List Reason) : Type 0 where
+pub record Left (table demands : List ℕ) (lengths : Lengths) (room : Room) (rest : List PlanReason) : Type 0 where
   pub is : plan table demands lengths ≡ unless rest (planOf room demands)
 
 module _ {table demands : List ℕ} {lengths : Lengths} where
@@ -80,7 +82,7 @@ module _ {table demands : List ℕ} {lengths : Lengths} where
   table-passed g = record { is = plan-good-table table demands lengths (g .value) (g .next) (g .is) ∙ planRoom-is (g .value) demands lengths }
 
   -- A reason holds, and its refusal is told; or it does not, and the others are left.
-  module _ {room : Room} {reason : Reason} {rest : List Reason} (left : Left table demands lengths room (reason ∷ rest)) where
+  module _ {room : Room} {reason : PlanReason} {rest : List PlanReason} (left : Left table demands lengths room (reason ∷ rest)) where
     stopped : reason .holds ≡ true → admitted.Refused (reason .refusal) ≡ admission (plan table demands lengths)
     stopped h = refused-told (plan table demands lengths) (left .is ∙ unless-stop reason rest (planOf room demands) h)
 
@@ -88,7 +90,7 @@ module _ {table demands : List ℕ} {lengths : Lengths} where
     passed h = record { is = left .is ∙ unless-pass reason rest (planOf room demands) h }
 
   -- The count of demands.
-  module _ {room : Room} {rest : List Reason} (left : Left table demands lengths room (countDiffers room demands ∷ rest)) (n : ℕ) (is : n ≡ length (room .servers)) where
+  module _ {room : Room} {rest : List PlanReason} (left : Left table demands lengths room (countDiffers room demands ∷ rest)) (n : ℕ) (is : n ≡ length (room .servers)) where
     pub count-told : (length demands ≡ n → ⊥) → admitted.Refused (DemandCount n) ≡ admission (plan table demands lengths)
     count-told h = ap (λ (k : ℕ). admitted.Refused (DemandCount k)) is ∙ stopped left (ap not (ne-eqb (length demands) (length (room .servers)) (λ e. h (e ∙ sym is))))
 
@@ -96,7 +98,7 @@ module _ {table demands : List ℕ} {lengths : Lengths} where
     count-passed h = passed left (ap not (eq-eqb (length demands) (length (room .servers)) (h ∙ is)))
 
   -- The demands themselves.
-  module _ {room : Room} {rest : List Reason} (left : Left table demands lengths room (demandTooLarge demands ∷ rest)) (n : ℕ) (is : n ≡ firstTooLarge demands) where
+  module _ {room : Room} {rest : List PlanReason} (left : Left table demands lengths room (demandTooLarge demands ∷ rest)) (n : ℕ) (is : n ≡ firstTooLarge demands) where
     pub large-told : n < length demands → admitted.Refused (DemandTooLarge n) ≡ admission (plan table demands lengths)
     large-told h = ap (λ (k : ℕ). admitted.Refused (DemandTooLarge k)) is ∙ stopped left (lt-ltb (firstTooLarge demands) (length demands) (omega arith))
 
@@ -104,7 +106,7 @@ module _ {table demands : List ℕ} {lengths : Lengths} where
     large-passed h = passed left (le-ltb (firstTooLarge demands) (length demands) (omega arith))
 
   -- Any list.
-  module _ {room : Room} {list : PlanList} {entries needed : ℕ} {rest : List Reason} (left : Left table demands lengths room (tooShort list entries needed ∷ rest)) (n : ℕ)
+  module _ {room : Room} {list : PlanList} {entries needed : ℕ} {rest : List PlanReason} (left : Left table demands lengths room (tooShort (ListTooShort list) entries needed ∷ rest)) (n : ℕ)
       (is : n ≡ needed) where
     pub short-told : entries < n → admitted.Refused (ListTooShort list n) ≡ admission (plan table demands lengths)
     short-told h = ap (λ (k : ℕ). admitted.Refused (ListTooShort list k)) is ∙ stopped left (lt-ltb entries needed (omega arith))
@@ -139,7 +141,7 @@ pub admitted-good : (table demands : List ℕ) (lengths : Lengths) {answer : adm
     → answer ≡ admission (plan table demands lengths) → answer ≡ admitted.Good cords servers → Admitted table demands lengths cords servers
 admitted-good table demands lengths {answer} {cords} {servers} d e = go (plan table demands lengths) refl (sym e ∙ d)
   where
-    go : (o : Outcome) → plan table demands lengths ≡ o → admitted.Good cords servers ≡ admission o → Admitted table demands lengths cords servers
+    go : (o : PlanOutcome) → plan table demands lengths ≡ o → admitted.Good cords servers ≡ admission o → Admitted table demands lengths cords servers
     go (refused q) is told = absurd (let z : _≡_ {A = ℕ} 0 1 = cc in omega arith)
     go (accepted answer) is told =
         let w = plan-written table demands lengths is in
@@ -159,13 +161,13 @@ admitted-good table demands lengths {answer} {cords} {servers} d e = go (plan ta
         }
 
 -- What is not admitted, Plan refuses.
-pub admitted-refused : (outcome : Outcome) {answer : admitted.the-data} {q : PlanRefusal} → answer ≡ admission outcome → answer ≡ admitted.Refused q → outcome ≡ refused q
+pub admitted-refused : (outcome : PlanOutcome) {answer : admitted.the-data} {q : PlanRefusal} → answer ≡ admission outcome → answer ≡ admitted.Refused q → outcome ≡ refused q
 admitted-refused (accepted plan) d e = let h = sym d ∙ e in absurd (let z : _≡_ {A = ℕ} 0 1 = cc in omega arith)
 admitted-refused (refused p) d e = let h = sym d ∙ e in cc
 
 -- ---- What is told, and what is left in the lists
 
-module _ (outcome : Outcome) {q : PlanRefusal} (e : outcome ≡ refused q) where
+module _ (outcome : PlanOutcome) {q : PlanRefusal} (e : outcome ≡ refused q) where
   pub refusal-told : planned.Refused q ≡ answerOf outcome
   refusal-told = rw e refl
 
@@ -173,7 +175,7 @@ module _ (outcome : Outcome) {q : PlanRefusal} (e : outcome ≡ refused q) where
   pub unwritten : (output : Plan → List ℕ) (list : List ℕ) → list ≡ after output outcome list
   unwritten output list = rw e refl
 
-module _ (outcome : Outcome) {plan : Plan} (e : outcome ≡ accepted plan) where
+module _ (outcome : PlanOutcome) {plan : Plan} (e : outcome ≡ accepted plan) where
   pub freed-told : {watts : ℕ} → watts ≡ plan .freed → planned.Accepted watts ≡ answerOf outcome
   freed-told is = rw (e, is) refl
 

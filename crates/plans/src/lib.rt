@@ -1,7 +1,8 @@
 // Plan: the checks of its inputs, and then the plan of a good room.
 ghost use mathlib.Core.Path.{_≡_};
 ghost use Rattle.rooms.specs.Limits.{checked, lowsTold};
-ghost use Rattle.deals.specs.Plan.{plan, lent, answerOf, after};
+ghost use Rattle.outcomes.specs.Outcome.{after};
+ghost use Rattle.deals.specs.Plan.{plan, lent, answerOf};
 ghost use Rattle.plans.specs.Admission.{admission};
 use deals::Lengths;
 use deals::PlanList;

@@ -2,7 +2,7 @@
 use native.Mathlib.Omega.{arith}
 use lib.ListN.{take}
 use Rattle.rooms.proofs.Outcomes.{front-length}
-use Rattle.deals.specs.Plan.{Outcome, plan, lent}
+use Rattle.deals.specs.Plan.{PlanOutcome, plan, lent}
 use Rattle.deals.specs.declared.Lengths.{Lengths}
 use Rattle.capi.proofs.PlanLaws.{grants-counted, caps-counted, headroom-counted, held-counted, Listed, listed, list-fits, list-counted, list-stored, call-same, plan-short, plan-done, same-plan}
 use borrow.Author.Needs.{needs}
@@ -58,7 +58,7 @@ lengths c =
     (take (headroom-space c .least3 .result) (start c .args .lent .now))
     (take (c .least4 .result) (start c .args .holders .now))
 
-abbrev own : Spaces → Outcome
+abbrev own : Spaces → PlanOutcome
 own c = plan (start c .args .table .now) (start c .args .demands .now) (lengths c)
 
 -- What it does with each of them.

@@ -1,6 +1,6 @@
 -- A property of each element of a list.
 use mathlib.Core.List.{List, [], _∷_}
-use Prim.Native.Nat.{ℕ, zero, suc, _<_}
+use Prim.Native.Nat.{ℕ, zero, suc, _<_, zero-le, suc-le-suc}
 use native.Mathlib.Nat.{not-suc-le-zero, le-of-suc-le-suc}
 use lib.ListN.{length, getD}
 
@@ -30,3 +30,8 @@ module _ {A : Type 0} (P : A → Type 0) where
   all-at [] ps i d h = absurd (not-suc-le-zero h)
   all-at (a ∷ l) ps zero d h = ps .0
   all-at (a ∷ l) ps (suc i) d h = all-at l (ps .1) i d (le-of-suc-le-suc h)
+
+  pub all-from : (l : List A) (d : A) → ((i : ℕ) → i < length l → P (getD l i d)) → All P l
+  unfolding All
+  all-from [] d f = tt
+  all-from (a ∷ l) d f = (f 0 (suc-le-suc zero-le), all-from l d (λ i h. f (suc i) (suc-le-suc h)))

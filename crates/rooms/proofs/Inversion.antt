@@ -13,7 +13,8 @@ use Rattle.rooms.specs.declared.Refusal.{Refusal}
 use Rattle.rooms.specs.declared.Refusal.the-variants.{WordMissing, WordOutOfRange, WordsLeftOver}
 use Rattle.rooms.specs.Table.{Node, Cord, Server, Range, mostWatts, mostCords, mostServerCords, highestRank, nodeWords, percent, node, cord, cords, range, load, server, cordCount, shareSum}
 use Rattle.rooms.specs.Credits.{nodeFrom}
-use Rattle.rooms.proofs.NodeWords.{PercentFits, percent-words}
+use Rattle.rooms.specs.Words.{PercentFits}
+use Rattle.rooms.proofs.NodeWords.{percent-words}
 
 -- ---- One part after another
 

@@ -31,6 +31,7 @@ pub mod Laying
 pub mod RowsLent
 -- A good table as the words of its room; a table of one version made of another.
 pub mod Tables
+pub mod Words
 pub mod Versions
 -- Read and Write.
 pub mod Outcomes

@@ -12,6 +12,7 @@ use lib.Dec.{eqb}
 use borrow.Author.Tests.{eq-eqb, ne-eqb, eqb-true}
 use Rattle.rooms.specs.Table.{nodeWords}
 use Rattle.rooms.specs.Limits.{limit}
+use Rattle.rooms.specs.Words.{PercentFits}
 use Rattle.rooms.specs.Credits.{nodeFrom, nodeIndex, NodesRead, parentAt, limitAt}
 
 -- ---- One node
@@ -34,10 +35,6 @@ is-hundred v n e = rw (ne-eqb v 80 n, eq-eqb v 100 e)
 
 pub is-neither : (v : ℕ) → (v ≡ 80 → ⊥) → (v ≡ 100 → ⊥) → eqb v 80 || eqb v 100 ≡ false
 is-neither v n m = rw (ne-eqb v 80 n, ne-eqb v 100 m)
-
--- A percent that a node may have: 80, or where it has a word for it, also 100.
-abbrev pub PercentFits : Bool → ℕ → Type 0
-PercentFits percents p = cond percents (eqb p 80 || eqb p 100) (eqb p 80) ≡ true
 
 pub percent-is : (p : ℕ) → eqb p 80 || eqb p 100 ≡ true → (p ≡ 80) ⊎ (p ≡ 100)
 percent-is p e = go (eqb p 80) refl e

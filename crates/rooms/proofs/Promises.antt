@@ -4,11 +4,18 @@ use native.Mathlib.Omega.{arith}
 use Rattle.numbers.specs.Sheet.{bytesOf}
 use Rattle.numbers.proofs.Promises as numbers
 use Rattle.rooms.specs.Outcome.{reading}
-use Rattle.rooms.specs.Promises.{RefusalNine, TableReadsBack, SheetWritesBack, ReadIsChecked, FirstWordsDecide}
+use Rattle.rooms.specs.Promises.{GoodTableOfRoom, RoomReadsBack, RefusalNine, TableReadsBack, SheetWritesBack, ReadIsChecked, FirstWordsDecide}
 use Rattle.rooms.proofs.Reach.{words-small}
+use Rattle.rooms.proofs.Words as words
 use Rattle.rooms.proofs.Overloaded as overloaded
 use Rattle.rooms.proofs.Outcomes.{fitting-whole, reading-is, writing-is, writing-good}
 use Rattle.rooms.proofs.Lent.{reading-first}
+
+pub good-table-of-room : GoodTableOfRoom
+good-table-of-room = words.good-table-of-room
+
+pub room-reads-back : RoomReadsBack
+room-reads-back = words.room-reads-back
 
 pub refusal-nine : RefusalNine
 refusal-nine = overloaded.refusal-nine

@@ -260,10 +260,13 @@ prefix-decides w n h = go (leb n (length w)) refl
     go true e = checked-reaches w .same n h (leb-true n (length w) e)
     go false e = rw (take-all n w (omega (arith, leb-false n (length w) e)))
 
+-- A good table ends where its words do.
+pub table-length : (w : List ℕ) (r : Room) (j : ℕ) → table w 0 ≡ good r j → j ≡ length w
+table-length w r j e = omega (arith, table-reaches w .taken r j e .there (omega arith), table-is w r j e .ended)
+
 module _ (w : List ℕ) (r : Room) (j : ℕ) (e : checked w 0 ≡ good r j) where
-  -- A good table ends where its words do.
   pub next-is-length : j ≡ length w
-  next-is-length = omega (arith, checked-reaches w .taken r j e .there (omega arith), table-is w r j (checked-is w r j e .0) .ended)
+  next-is-length = table-length w r j (checked-is w r j e .0)
 
   -- So its length tells the count of its cords.
   pub length-is : length w ≡ 3 + nodeWords (percentsOf w) * length (r .nodes) + 4 * length (r .servers) + 2 * roomCords r

@@ -12,32 +12,12 @@ use Rattle.rooms.specs.Part.{good, Part, _>>=_, give, here, follow, word
 use Rattle.rooms.specs.declared.Refusal.{Refusal}
 use Rattle.rooms.specs.Table.{Node, Cord, Server, Room, mostWatts, mostNodes, mostServers, mostCords, highestRank, newestVersion, formOf, percent, node, nodes, cord, cords, range, load, server, servers, cordCount, table}
 use Rattle.rooms.proofs.Fronts.{stands}
-use Rattle.rooms.proofs.NodeWords.{PercentFits, percent-in}
+use Rattle.rooms.specs.Words.{rowWords, wordsOfNode, wordsOfCord, wordsOfServer, tableOf, PercentFits, NodeInRange}
+use Rattle.rooms.proofs.NodeWords.{percent-in}
 use Rattle.rooms.proofs.Inversion.{many-is, NodeIs, node-is, cord-is, server-is, server-few}
 use Rattle.rooms.proofs.Whole.{percentsOf, table-is}
 use Rattle.rooms.proofs.All.{All, all-head, all-tail}
 use Rattle.rooms.proofs.Accepted.{CordAccepted, ServerAccepted, server-accepted}
-
--- ---- The words of a room
-
--- The words of each of a row, one after the other.
-unfoldable pub rowWords : {A : Type 0} → (A → List ℕ) → List A → List ℕ
-rowWords words [] = []
-rowWords words (a ∷ l) = words a ++ rowWords words l
-
-abbrev pub wordsOfNode : Bool → Node → List ℕ
-wordsOfNode percents n = n .parent ∷ n .rating ∷ cond percents (n .percent ∷ []) []
-
-abbrev pub wordsOfCord : Cord → List ℕ
-wordsOfCord c = c .node ∷ c .share ∷ []
-
-abbrev pub wordsOfServer : Server → List ℕ
-wordsOfServer s = s .rank ∷ s .least ∷ s .greatest ∷ cordCount s ∷ rowWords wordsOfCord (s .cords)
-
--- The table of a room in a version.
-abbrev pub tableOf : ℕ → Room → List ℕ
-tableOf version r =
-    version ∷ length (r .nodes) ∷ (rowWords (wordsOfNode (formOf version .percents)) (r .nodes) ++ (length (r .servers) ∷ rowWords wordsOfServer (r .servers)))
 
 -- ---- A good table has the words of its room
 
@@ -126,12 +106,6 @@ many-chain part next w fact Kept each (suc count) given i l j k e =
     let f = each given i (a .got) (a .at) k (a .first) in
     rw (a .is) (f .0, many-chain part next w fact Kept each count (next given (a .got)) (a .at) (a .rest) j (f .1) (a .others))
 
--- A node by its own number.
-pub record NodeFits (percents : Bool) (own : ℕ) (n : Node) : Type 0 where
-  pub parent : n .parent ≤ own - 1
-  pub rating : n .rating ≤ mostWatts
-  pub percent : PercentFits percents (n .percent)
-
 -- A server, by the count of cords before it.
 pub record ServerFits (scale nodeCount before : ℕ) (s : Server) : Type 0 where
   pub accepted : ServerAccepted scale nodeCount s
@@ -143,7 +117,7 @@ pub record RoomFits (version : ℕ) (r : Room) : Type 0 where
   pub scaled : r .scale ≡ formOf version .scale
   pub someNodes : 1 ≤ length (r .nodes)
   pub fewNodes : length (r .nodes) ≤ mostNodes
-  pub nodes : Chain (NodeFits (formOf version .percents)) (λ own _. suc own) 1 (r .nodes)
+  pub nodes : Chain (NodeInRange (formOf version .percents)) (λ own _. suc own) 1 (r .nodes)
   pub fewServers : length (r .servers) ≤ mostServers
   pub servers : Chain (ServerFits (r .scale) (length (r .nodes))) (λ before s. before + cordCount s) 0 (r .servers)
 
@@ -153,7 +127,7 @@ unfolding Chain
 all-chain fact next [] given f = tt
 all-chain fact next (a ∷ l) given f = (all-head fact a l f, all-chain fact next l (next given a) (all-tail fact a l f))
 
-node-fits : (percents : Bool) (own : ℕ) (w : List ℕ) (i : ℕ) (n : Node) (j : ℕ) → node percents own w i ≡ good n j → NodeFits percents own n
+node-fits : (percents : Bool) (own : ℕ) (w : List ℕ) (i : ℕ) (n : Node) (j : ℕ) → node percents own w i ≡ good n j → NodeInRange percents own n
 node-fits percents own w i n j e =
     let a = node-is percents own w i n j e in
     record { parent = a .parent; rating = a .rating; percent = a .percent }
@@ -173,7 +147,7 @@ table-fits w r j e =
       scaled = t .scale-is;
       someNodes = t .someNodes;
       fewNodes = t .fewNodes;
-      nodes = many-chain _ _ w (NodeFits (percentsOf w)) (λ _. Unit {0}) (λ own i n j _ d. (node-fits (percentsOf w) own w i n j d, tt)) _ 1 2 (r .nodes) (t .middle) tt (t .nodesRead);
+      nodes = many-chain _ _ w (NodeInRange (percentsOf w)) (λ _. Unit {0}) (λ own i n j _ d. (node-fits (percentsOf w) own w i n j d, tt)) _ 1 2 (r .nodes) (t .middle) tt (t .nodesRead);
       fewServers = t .fewServers;
       servers = many-chain _ _ w (ServerFits (r .scale) (length (r .nodes))) (λ before. before ≤ mostCords)
           (λ before i s j h d. let f = server-fits (r .scale) (length (r .nodes)) before w i s j h d in (f, f .few)) _ 0 _ (r .servers) j (omega arith) (t .serversRead);
@@ -240,7 +214,7 @@ module _ (w : List ℕ) where
       ensure-reads w j _ _ _ f
       (give-reads w j p rest b)))
 
-  node-reads : (percents : Bool) (own : ℕ) (n : Node) (i : ℕ) (rest : List ℕ) → NodeFits percents own n → drop i w ≡ wordsOfNode percents n ++ rest
+  node-reads : (percents : Bool) (own : ℕ) (n : Node) (i : ℕ) (rest : List ℕ) → NodeInRange percents own n → drop i w ≡ wordsOfNode percents n ++ rest
       → Reads (node percents own) w i n rest
   unfolding node
   node-reads percents own n i rest f d =
@@ -288,7 +262,7 @@ module _ (version : ℕ) (r : Room) (f : RoomFits version r) (w : List ℕ) (i :
   nodes-reads : {rest : List ℕ} → drop i w ≡ rowWords (wordsOfNode (formOf version .percents)) (r .nodes) ++ rest
       → Reads (nodes (formOf version .percents) (length (r .nodes)) 1) w i (r .nodes) rest
   nodes-reads {rest} d =
-      many-reads _ _ w (wordsOfNode (formOf version .percents)) (NodeFits (formOf version .percents))
+      many-reads _ _ w (wordsOfNode (formOf version .percents)) (NodeInRange (formOf version .percents))
       (λ own n i rest f d. node-reads w (formOf version .percents) own n i rest f d) (r .nodes) 1 i rest (f .nodes) d
 
   servers-reads : drop i w ≡ rowWords wordsOfServer (r .servers)

@@ -22,12 +22,13 @@ use Rattle.rooms.proofs.All.{All}
 use Rattle.rooms.proofs.Search.{firstNode-cong}
 use Rattle.rooms.proofs.Accepted.{CordAccepted}
 use Rattle.rooms.proofs.Cords.{noRoomCord, noServer}
-use Rattle.rooms.proofs.Tables.{rowWords, wordsOfNode, wordsOfCord, wordsOfServer, tableOf, Chain, NodeFits, ServerFits, RoomFits, Reads, table-written, table-fits, table-reads}
+use Rattle.rooms.specs.Words.{rowWords, wordsOfNode, wordsOfCord, wordsOfServer, tableOf, NodeInRange}
+use Rattle.rooms.proofs.Tables.{Chain, ServerFits, RoomFits, Reads, table-written, table-fits, table-reads}
 
 -- ---- Version 2 from version 1
 
 -- Nodes without a word for their percent have 80, so that 80 as a third word is theirs.
-eighty-words : (own : ℕ) (l : List Node) (rest : List ℕ) → Chain (NodeFits false) (λ own _. suc own) own l
+eighty-words : (own : ℕ) (l : List Node) (rest : List ℕ) → Chain (NodeInRange false) (λ own _. suc own) own l
     → withEighty (length l) (rowWords (wordsOfNode false) l ++ rest) ≡ rowWords (wordsOfNode true) l ++ rest
 unfolding withEighty Chain rowWords
 eighty-words own [] rest f = refl
@@ -36,7 +37,7 @@ eighty-words own (n ∷ l) rest f =
     rw eighty (ap (λ (z : List ℕ). n .parent ∷ n .rating ∷ 80 ∷ z) (eighty-words (suc own) l rest (f .1)))
 
 -- 80 is a percent that a word may say.
-eighty-fits : (own : ℕ) (l : List Node) → Chain (NodeFits false) (λ own _. suc own) own l → Chain (NodeFits true) (λ own _. suc own) own l
+eighty-fits : (own : ℕ) (l : List Node) → Chain (NodeInRange false) (λ own _. suc own) own l → Chain (NodeInRange true) (λ own _. suc own) own l
 unfolding Chain
 eighty-fits own [] f = tt
 eighty-fits own (n ∷ l) f =

@@ -6,6 +6,7 @@ pub mod Cords
 pub mod Lists
 pub mod Rows
 pub mod Told
+pub mod Words
 pub mod Outcome
 pub mod Promises
 pub mod Versions

@@ -10,8 +10,20 @@ use Rattle.numbers.specs.Sheet.{whole, sheetOf}
 use Rattle.rooms.specs.Part.{good, Good}
 use Rattle.rooms.specs.Table.{Room, mostWords, table}
 use Rattle.rooms.specs.Limits.{limit, nodeAt, lowsBeneath, checked}
+use Rattle.figures.specs.Figures.{at}
+use Rattle.rooms.specs.Words.{tableOf, RoomInRange}
 use Rattle.rooms.specs.Outcome.{accepted, answerOf, answerNumber, answerFigure, reading, readingFirst, writing}
 use Rattle.rooms.specs.declared.Answer.{Answer}
+
+-- ---- The table of a room
+
+-- A good table is that of its room, in its version, and the room's figures are in range.
+abbrev pub GoodTableOfRoom : Type 0
+GoodTableOfRoom = (w : List ℕ) (r : Room) (j : ℕ) → table w 0 ≡ good r j → (w ≡ tableOf (at w 0) r) × RoomInRange (at w 0) r
+
+-- The table of a room whose figures are in range is read back as that room.
+abbrev pub RoomReadsBack : Type 0
+RoomReadsBack = (version : ℕ) (r : Room) → RoomInRange version r → table (tableOf version r) 0 ≡ good r (length (tableOf version r))
 
 -- ---- Refusal 9
 

@@ -1,7 +1,7 @@
 -- The room table: its words in order with their ranges, and the room that they give.
 use mathlib.Core.Bool.{Bool, true, false, cond, _||_}
 use mathlib.Core.List.{List}
-use Prim.Native.Nat.{ℕ, suc, _+_, _-_, _*_, _≤_, min}
+use Prim.Native.Nat.{ℕ, zero, suc, _+_, _-_, _*_, _≤_, min}
 use lib.ListN.{length}
 use lib.Dec.{leb, ltb, eqb}
 use Rattle.rooms.specs.Part.{Part, _>>=_, give, here, within, word, ensure, end, many}
@@ -16,6 +16,11 @@ pub record Node : Type 0 where
   pub parent : ℕ
   pub rating : ℕ
   pub percent : ℕ
+
+-- The number that a node has behind so many others; 0, which is no node, stays 0.
+abbrev pub raised : ℕ → ℕ → ℕ
+raised by zero = 0
+raised by (suc m) = suc (m + by)
 
 -- A cord hangs on a node, named by its number, and carries a share of its server's load.
 pub record Cord : Type 0 where

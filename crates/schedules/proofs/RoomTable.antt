@@ -14,8 +14,9 @@ use Rattle.rooms.specs.Limits.{lows, nodeAt, checked}
 use Rattle.rooms.specs.Outcome.{writing}
 use Rattle.rooms.specs.Outcome as rooms
 use Rattle.rooms.proofs.Reach.{next-is-length}
-use Rattle.rooms.proofs.Tables.{rowWords, wordsOfNode, Chain, NodeFits, RoomFits, Reads, table-reads}
-use Rattle.rooms.proofs.Tables as rooms-tables
+use Rattle.rooms.specs.Words.{rowWords, wordsOfNode, NodeInRange}
+use Rattle.rooms.specs.Words as words
+use Rattle.rooms.proofs.Tables.{Chain, RoomFits, Reads, table-reads}
 use Rattle.rooms.proofs.Outcomes.{writing-good, fitting-whole}
 use Rattle.rooms.proofs.Promises.{refusal-nine}
 use Rattle.schedules.specs.Text.{line}
@@ -54,7 +55,7 @@ nodes-words [] = refl
 nodes-words (e ∷ rest) = ap (λ (z : List ℕ). e .parent ∷ rating e ∷ z) (nodes-words rest)
 
 -- The nodes of entries that pass are in range; an entry at a place has a number that is one more.
-nodes-fit : {place : ℕ} {entries : List Entry} → Pass place entries → Chain (NodeFits false) (λ own _. suc own) (suc place) (map nodeOf entries)
+nodes-fit : {place : ℕ} {entries : List Entry} → Pass place entries → Chain (NodeInRange false) (λ own _. suc own) (suc place) (map nodeOf entries)
 unfolding Chain
 nodes-fit none = tt
 nodes-fit (more {place} {e} s t p) =
@@ -78,7 +79,7 @@ module _ (entries : List Entry) (p : Pass 0 entries) (some : 1 ≤ length entrie
         servers = tt;
       }
 
-  table-words : tableOf entries ≡ rooms-tables.tableOf 1 (roomOf entries)
+  table-words : tableOf entries ≡ words.tableOf 1 (roomOf entries)
   unfolding formOf rowWords
   table-words = rw (nodes-words entries, length-map entries nodeOf)
 

@@ -19,6 +19,7 @@ pub mod Loads
 pub mod RoomDeals
 pub mod BothDeals
 pub mod StartsFit
+pub mod RoomInside
 pub mod LowerRanks
 pub mod Bounds
 -- Headroom over the second deal.
@@ -27,6 +28,9 @@ pub mod RoomHeadroom
 -- The nodes that hold cords down.
 pub mod Held
 pub mod RoomHeld
+-- Headroom and held cords of a deal inside another.
+pub mod InsideLists
+pub mod RoomInsideLists
 -- The whole plan, and the promises.
 pub mod Plans
 pub mod Lent

@@ -12,7 +12,7 @@ use numbers::Fault;
 use numbers::Judged;
 use numbers::Written;
 
-mod form;
+pub mod form;
 pub mod limits;
 pub mod lists;
 pub mod lows;

@@ -58,7 +58,7 @@ pub fn node_count(table: &[u32]) -> usize
 }
 
 // The index of a table's count of servers.
-fn servers_index(table: &[u32]) -> usize
+pub fn servers_index(table: &[u32]) -> usize
     ensures { λ r. ⌜ (r ≡ serversIndex (now (table .entry))) × (r < 2 ^ 34) ⌝ }
 {
     node_index(has_percents(word(table, 0)), node_count(table))
@@ -73,7 +73,7 @@ pub fn server_count(table: &[u32]) -> usize
 }
 
 // The index of a table's first server, where it has one.
-fn first_server(table: &[u32]) -> usize
+pub fn first_server(table: &[u32]) -> usize
     ensures { λ r. ⌜ (r ≡ serversIndex (now (table .entry)) + 1) × (r < 2 ^ 35) ⌝ }
 {
     servers_index(table) + 1

@@ -1,0 +1,44 @@
+// Puts the page, its style, its modules, the table of refusals and the proved code into one HTML file.
+//
+//   node desk/bundle.mjs WASM OUT
+//
+// The modules become one: each follows those that it imports, without its import lines and the word export. So
+// two modules cannot have one name for two things; the browser refuses such a page, and the tests notice.
+
+import { createHash } from 'node:crypto';
+import { readFileSync, writeFileSync } from 'node:fs';
+
+const [wasm, out] = process.argv.slice(2);
+const here = path => readFileSync(new URL(path, import.meta.url), 'utf8');
+const IMPORT = /^import [^;]*? from '\.\/([\w-]+\.js)';\n/gm;
+
+/// The modules that one imports, and then itself.
+function modules(name, seen = new Set()) {
+  if (seen.has(name)) return [];
+  seen.add(name);
+  const source = here(`src/${name}`);
+  const below = Array.from(source.matchAll(IMPORT), match => modules(match[1], seen)).flat();
+  return [...below, source.replace(IMPORT, '').replace(/^export /gm, '')];
+}
+
+const constants = {
+  REFUSAL_TABLE: JSON.parse(here('../docs/refusals.json')),
+  SAMPLE_HUTS: JSON.parse(here('samples.json')),
+  MODULE: readFileSync(wasm).toString('base64'),
+};
+const script = [
+  ...Object.entries(constants).map(([name, value]) => `const ${name} = ${JSON.stringify(value).replaceAll('<', '\\u003c')};\n`),
+  ...modules('app.js'),
+].join('\n');
+if (script.includes('</script')) throw new Error('a module has the end of a script in it');
+
+const hash = createHash('sha256').update(script).digest('base64');
+const parts = {
+  // Nothing is fetched, and no script but this one runs.
+  policy: `default-src 'none'; script-src 'sha256-${hash}' 'wasm-unsafe-eval'; style-src 'unsafe-inline'; form-action 'none'; base-uri 'none'`,
+  style: here('style.css'),
+  script,
+};
+const html = here('page.html').replace(/\{\{(\w+)\}\}/g, (_, name) => parts[name]);
+writeFileSync(out, html);
+console.log(`${out}: ${html.length} characters`);

@@ -1,0 +1,457 @@
+// The page: what is typed is checked and planned at every change, and shown.
+
+import { load } from './calls.js';
+import { check, readsBack } from './check.js';
+import { cordsOf } from './hut.js';
+import { editorOf } from './editor.js';
+import { fixedFigures, planFigures } from './figures.js';
+import { openFile, offer } from './files.js';
+import { escaped } from './picture.js';
+import { picturePane, wholePicture, sceneOf } from './picture-pane.js';
+import { demandsOf } from './print.js';
+import { store } from './store.js';
+import { serversHtml, fillServers, cordsHtml, doorTables } from './tables.js';
+import { printTool, tryTool, busTool } from './tools.js';
+import { tellText, tellDemands, whyCord, watts, figure, counted } from './words.js';
+
+const $ = id => document.getElementById(id);
+const table = Object.fromEntries(REFUSAL_TABLE.map(each => [each.number, each]));
+
+/// All that the page knows. `result` is of the text as it stands, `good` of the last text that was accepted.
+const desk = {
+  table, calls: null, demands: new Map(), result: null, good: null, figures: null, selected: null, tab: 'servers', took: 0,
+};
+const view = { folded: new Set(), search: '', onlyHeld: false };
+
+// ---- Notices
+
+/// A line below the header, with something that can be done about it.
+function notice(says, action = null) {
+  const line = $('notice');
+  line.replaceChildren();
+  line.hidden = !says;
+  if (!says) return;
+  line.className = `notice${says.title ? ' bad' : ''}`;
+  const words = document.createElement('span');
+  words.innerHTML = says.title ? `<b>${escaped(says.title)}.</b> ${escaped(says.says)} ${escaped(says.mend)} Your text is as it was.` : escaped(says);
+  line.append(words);
+  const button = (label, act) => {
+    const made = document.createElement('button');
+    made.type = 'button';
+    made.textContent = label;
+    made.addEventListener('click', act);
+    line.append(made);
+  };
+  if (action) button(action.label, action.act);
+  button('Dismiss', () => notice(null));
+}
+
+// ---- The text and its verdict
+
+const verdict = $('verdict');
+
+function tellProblems(problems) {
+  const items = problems.slice(0, 5).map(({ span, says }, place) => `<li><button type="button" class="plain" data-problem="${place}">Line ${span.line + 1}</button> ${escaped(says)}</li>`);
+  const more = problems.length > 5 ? `<li>and ${problems.length - 5} more</li>` : '';
+  verdict.className = 'verdict bad';
+  verdict.innerHTML = `<p class="title">The text is not a hut yet</p><ul>${items.join('')}${more}</ul>`;
+}
+
+function tellRefusal(refusal, hut) {
+  const figures = refusal.number === 9 ? fixedFigures(hut, desk.calls) : null;
+  const { title, says, mend } = tellText(table, refusal, hut, figures);
+  const where = refusal.span ? `<button type="button" class="plain" data-problem="0">Line ${refusal.span.line + 1}</button> ` : '';
+  verdict.className = 'verdict bad';
+  verdict.innerHTML = `<p class="title">${escaped(title)}</p><p>${where}${escaped(says)}</p><p class="mend">${escaped(mend)}</p>`;
+}
+
+function tellAccepted({ hut, sheet }) {
+  const cords = cordsOf(hut).length;
+  verdict.className = 'verdict good';
+  verdict.innerHTML = `<p class="title">Accepted</p><p>${counted(hut.nodes.length, 'breaker')}, ${counted(hut.servers.length, 'server')}, ${counted(cords, 'cord')}; version ${hut.version}, ${counted(sheet.length, 'byte')}</p>`;
+}
+
+const marksOf = ({ problems, refusal }) => (problems ? problems.map(({ span }) => span) : refusal?.span ? [refusal.span] : []);
+
+/// Checks the text as it stands, and shows what it comes to.
+function textChanged() {
+  const started = performance.now();
+  const result = check($('text').value, desk.calls);
+  desk.result = result;
+  if (result.problems) tellProblems(result.problems);
+  else if (result.refusal) tellRefusal(result.refusal, result.hut);
+  else accept(result);
+  editor.refresh(marksOf(result));
+  showStale();
+  $('save-sheet').disabled = !result.sheet;
+  store.save($('text').value, desk.demands);
+  desk.took = performance.now() - started;
+}
+
+function showStale() {
+  const stale = !desk.result.sheet;
+  $('stale').hidden = !stale || !desk.good;
+  $('stale').textContent = 'The picture shows the text as it was when it was last accepted.';
+  $('picture').classList.toggle('old', stale);
+}
+
+/// A text that was accepted: its hut is shown and planned.
+function accept(result) {
+  tellAccepted(result);
+  const before = desk.good;
+  desk.good = { ...result, cords: cordsOf(result.hut), fixed: fixedFigures(result.hut, desk.calls) };
+  const names = hut => hut?.servers.map(({ name, rank, least, greatest }) => [name, rank, least, greatest].join(' ')).join('\n');
+  desk.serversChanged = !before || names(before.hut) !== names(result.hut);
+  replan();
+}
+
+// ---- The plan
+
+const demandOf = server => desk.demands.get(server.name) ?? server.greatest;
+
+/// Plans the hut with the demands as they stand, and shows the plan.
+function replan() {
+  const { hut, words, fixed, cords } = desk.good;
+  const demands = hut.servers.map(demandOf);
+  const figures = planFigures(hut, words, demands, fixed, desk.calls);
+  desk.refusedDemands = figures.number === 0 ? null : figures;
+  if (figures.number === 0) desk.figures = figures;
+  if (desk.figures?.grants.length === cords.length) {
+    picture.show(sceneOf(hut, cords, desk.figures));
+    totals();
+    why();
+  }
+  showTool(desk.serversChanged);
+  desk.serversChanged = false;
+}
+
+function totals() {
+  const { figures, good } = desk;
+  const sum = list => list.reduce((total, each) => total + each, 0);
+  const roots = good.hut.nodes.map((node, place) => (node.parent === 0 ? figures.limits[place] : 0));
+  const held = figures.held.filter(node => node > 0).length;
+  const entries = [['Limit', watts(sum(roots))], ['Granted', watts(sum(figures.grants))], ['Lent', watts(sum(figures.headroom))], ['Freed', watts(figures.freed)], ['Held', counted(held, 'cord')]];
+  $('totals').innerHTML = entries.map(([name, value], place) => `<div${place === 4 && held > 0 ? ' class="held"' : ''}><dt>${name}</dt><dd>${place === 4 && held > 0 ? '◆ ' : ''}${value}</dd></div>`).join('');
+}
+
+// ---- What is chosen
+
+function whyNode(place) {
+  const { figures, good } = desk;
+  const { name, rating, percent } = good.hut.nodes[place];
+  const held = figures.held.flatMap((node, cord) => (node === place + 1 ? [good.cords[cord]] : []));
+  const limit = figures.limits[place];
+  const facts = [['Rating', `${watts(rating)} at ${percent}%`], ['Limit', watts(limit)], ['Lows beneath', watts(figures.lowsBeneath[place])], ['Granted', watts(figures.grantsBeneath[place])], ['Lent', watts(figures.headroomBeneath[place])]];
+  const names = [...new Set(held.map(cord => good.hut.servers[cord.server].name))];
+  const says = held.length > 0 ? `Full. It holds ${counted(held.length, 'cord')}: ${names.slice(0, 8).join(', ')}${names.length > 8 ? ' …' : ''}.`
+    : `It holds no cord. ${watts(limit - figures.grantsBeneath[place] - figures.headroomBeneath[place])} of its limit are neither granted nor lent.`;
+  return { title: `Breaker ${name}`, facts, says };
+}
+
+function whyThisCord(place) {
+  const { figures, good } = desk;
+  const cord = good.cords[place];
+  const server = good.hut.servers[cord.server];
+  const facts = [['Low', watts(figures.lows[place])], ['Wants', watts(figures.wants[place])], ['Grant', watts(figures.grants[place])], ['Headroom', watts(figures.headroom[place])], ['Rank', String(server.rank)], ['Cap', watts(figures.caps[cord.server])]];
+  return { title: `Cord ${cord.cord + 1} of ${server.name}, on ${good.hut.nodes[cord.node - 1].name}`, facts, says: whyCord(good.hut, figures, cord, place) };
+}
+
+function why() {
+  const { selected, good } = desk;
+  const list = selected?.kind === 'node' ? good?.hut.nodes : good?.cords;
+  if (!selected || !list?.[selected.place]) {
+    $('why').innerHTML = '<p class="empty">Choose a breaker or a cord to see why it gets what it gets.</p>';
+    return;
+  }
+  const { title, facts, says } = selected.kind === 'node' ? whyNode(selected.place) : whyThisCord(selected.place);
+  $('why').innerHTML = `<h3>${escaped(title)}</h3><dl>${facts.map(([name, value]) => `<div><dt>${name}</dt><dd>${value}</dd></div>`).join('')}</dl><p>${escaped(says)}</p>`;
+}
+
+/// The span in the text of what is chosen in the picture.
+function lineOf({ kind, place }) {
+  if (!desk.result?.sheet) return null;
+  const { hut, cords } = desk.good;
+  if (kind === 'node') return hut.nodes[place].at.line;
+  return hut.servers[cords[place].server].cords[cords[place].cord].at.line;
+}
+
+function chosen(what, by) {
+  desk.selected = what;
+  why();
+  const span = lineOf(what);
+  if (!span) return;
+  editor.light(span.line);
+  editor.reveal(span.line);
+  if (by === 'enter') editor.choose(span);
+}
+
+/// The row of the picture that the caret's line describes.
+function caretMoved() {
+  if (!desk.result?.sheet) return;
+  const line = editor.caretLine();
+  const { hut, cords } = desk.good;
+  const node = hut.nodes.findIndex(each => each.at.line.line === line);
+  const cord = cords.findIndex(each => each.at.line.line === line);
+  const what = node >= 0 ? { kind: 'node', place: node } : cord >= 0 ? { kind: 'cord', place: cord } : null;
+  editor.light(line);
+  if (!what) return;
+  desk.selected = what;
+  picture.select(what);
+  why();
+}
+
+// ---- Tables and trials
+
+const TOOLS = [
+  { id: 'servers', name: 'Servers', show: serversTool },
+  { id: 'cords', name: 'Cords', show: tool => { tool.innerHTML = cordsHtml(desk.good.hut, desk.good.cords, desk.figures); } },
+  { id: 'plan', name: 'Plan text', show: printTool },
+  { id: 'try', name: 'Try', show: tryTool, keeps: true },
+  { id: 'bus', name: 'Bus', show: busTool, keeps: true, needs: 'send' },
+];
+const toolsHere = () => TOOLS.filter(({ needs }) => !needs || desk.calls.has(needs));
+
+function makeTabs() {
+  $('tabs').innerHTML = toolsHere().map(({ id, name }) => `<button type="button" role="tab" id="tab-${id}" data-tab="${id}" aria-controls="tool">${name}</button>`).join('');
+  $('tabs').addEventListener('click', event => event.target.dataset.tab && chooseTab(event.target.dataset.tab));
+  $('tabs').addEventListener('keydown', event => {
+    const step = { ArrowRight: 1, ArrowLeft: -1 }[event.key];
+    if (!step) return;
+    const all = toolsHere().map(({ id }) => id);
+    const next = all[(all.indexOf(desk.tab) + step + all.length) % all.length];
+    chooseTab(next);
+    $(`tab-${next}`).focus();
+  });
+}
+
+function chooseTab(id) {
+  desk.tab = id;
+  showTool(true);
+}
+
+/// Shows the chosen tool. A tool that keeps what was put into it is made anew only if `fresh`.
+function showTool(fresh) {
+  const chosenTool = toolsHere().find(({ id }) => id === desk.tab);
+  for (const { id } of toolsHere()) {
+    $(`tab-${id}`).setAttribute('aria-selected', String(id === desk.tab));
+    $(`tab-${id}`).tabIndex = id === desk.tab ? 0 : -1;
+  }
+  const tool = $('tool');
+  tool.setAttribute('role', 'tabpanel');
+  tool.setAttribute('aria-labelledby', `tab-${desk.tab}`);
+  if (!desk.good || !desk.figures) tool.innerHTML = '<p class="empty">Here the hut’s tables appear once its text is accepted.</p>';
+  else if (fresh || !chosenTool.keeps) chosenTool.show(tool, desk, fresh);
+}
+
+function serversTool(tool, _, fresh) {
+  const { hut } = desk.good;
+  if (fresh || !tool.querySelector('.servers')) tool.innerHTML = serversHtml(hut);
+  fillServers(tool, hut, hut.servers.map(demandOf), desk.refusedDemands ? null : desk.figures);
+  const line = $('demands-told');
+  if (!line) return;
+  const refused = desk.refusedDemands && tellDemands(table, desk.refusedDemands, hut);
+  line.innerHTML = refused ? `<p class="refusal"><b>${escaped(refused.title)}.</b> ${escaped(refused.says)}</p><p class="mend">${escaped(refused.mend)}</p>` : '';
+}
+
+function setDemand(place, value) {
+  desk.demands.set(desk.good.hut.servers[place].name, value);
+  replan();
+  store.save($('text').value, desk.demands);
+}
+
+/// All servers ask for the same part of the way from least to greatest.
+function setAll(part) {
+  for (const { name, least, greatest } of desk.good.hut.servers) desk.demands.set(name, Math.round(least + part * (greatest - least)));
+  replan();
+  store.save($('text').value, desk.demands);
+}
+
+/// Pasted demands are judged by Plan before they are taken.
+function takePasted(form) {
+  const { hut, words, cords } = desk.good;
+  const demands = demandsOf(form.querySelector('textarea').value);
+  const answer = desk.calls.plan(words, demands, cords.length);
+  if (answer.number !== 0) {
+    const { title, says, mend } = tellDemands(table, answer, hut);
+    form.querySelector('.told').innerHTML = `<span class="refusal"><b>${escaped(title)}.</b> ${escaped(says)} ${escaped(mend)}</span>`;
+    return;
+  }
+  hut.servers.forEach(({ name }, place) => desk.demands.set(name, demands[place]));
+  form.hidden = true;
+  replan();
+  store.save($('text').value, desk.demands);
+}
+
+function listenToTool() {
+  const tool = $('tool');
+  tool.addEventListener('input', event => {
+    const { slide, ask } = event.target.dataset;
+    if (slide === undefined && ask === undefined) return;
+    const value = Math.min(Math.max(0, Math.floor(Number(event.target.value) || 0)), 4294967295);
+    setDemand(Number(slide ?? ask), value);
+  });
+  tool.addEventListener('click', event => {
+    const { all, paste, cancel } = event.target.dataset;
+    const form = tool.querySelector('.paste');
+    if (all !== undefined) setAll(Number(all));
+    if (paste !== undefined) {
+      form.hidden = false;
+      form.querySelector('textarea').focus();
+    }
+    if (cancel !== undefined) form.hidden = true;
+  });
+  tool.addEventListener('submit', event => {
+    if (!event.target.classList.contains('paste')) return;
+    event.preventDefault();
+    takePasted(event.target);
+  });
+}
+
+// ---- Files
+
+/// Puts another text in place of what was typed, which can be brought back.
+function replaceText(text, says) {
+  const before = $('text').value;
+  const put = next => {
+    $('text').value = next;
+    desk.selected = null;
+    textChanged();
+  };
+  put(text);
+  if (before.trim() === '' || before === text) notice(says);
+  else notice(says, { label: 'Bring back what was there', act: () => { put(before); notice('Your text is back.'); } });
+}
+
+async function open(file) {
+  const result = await openFile(file, table, desk.calls);
+  if (result.refused) notice({ ...result.refused, title: `${file.name}: ${result.refused.title}` });
+  else replaceText(result.text, result.says);
+}
+
+function saveSheet() {
+  const { sheet, words } = desk.result;
+  if (!sheet) return;
+  if (!readsBack(sheet, words, desk.calls)) {
+    notice({ title: 'Not saved', says: 'The sheet did not read back as the hut that was written.', mend: 'Reload the page and try again.' });
+    return;
+  }
+  offer('room.bin', sheet, 'application/octet-stream');
+  notice(`Saved room.bin, ${counted(sheet.length, 'byte')}; Read gives back the same hut.`);
+}
+
+function saveText() {
+  offer('hut.txt', $('text').value, 'text/plain;charset=utf-8');
+  notice('Saved hut.txt.');
+}
+
+function listenToFiles() {
+  $('open').addEventListener('click', () => $('file').click());
+  $('file').addEventListener('change', () => {
+    const [file] = $('file').files;
+    if (file) open(file);
+    $('file').value = '';
+  });
+  $('save-sheet').addEventListener('click', saveSheet);
+  $('save-text').addEventListener('click', saveText);
+  $('print').addEventListener('click', () => window.print());
+  addEventListener('dragover', event => {
+    event.preventDefault();
+    $('dropping').hidden = false;
+  });
+  addEventListener('dragleave', event => { if (!event.relatedTarget) $('dropping').hidden = true; });
+  addEventListener('drop', event => {
+    event.preventDefault();
+    $('dropping').hidden = true;
+    const [file] = event.dataTransfer.files;
+    if (file) open(file);
+    else if (event.dataTransfer.getData('text')) replaceText(event.dataTransfer.getData('text'), 'Took the text that was dropped.');
+  });
+}
+
+// ---- Paper
+
+const DOOR_WIDTH = 720;
+
+/// The sheet for the hut's door.
+function makeDoor() {
+  if (!desk.figures) return;
+  const { hut, cords } = desk.good;
+  const title = $('text').value.match(/^\s*#\s*(.+)/)?.[1] ?? 'Hut';
+  const date = new Date().toLocaleDateString('en-GB', { year: 'numeric', month: 'long', day: 'numeric' });
+  $('door').innerHTML = `<h1>${escaped(title)}</h1><p>${date}. ${counted(hut.nodes.length, 'breaker')}, ${counted(hut.servers.length, 'server')}, ${counted(cords.length, 'cord')}; planned for the demands below. Freed ${figure(desk.figures.freed)} W. ◆ marks a cord that gets less than it wants.</p>${wholePicture(sceneOf(hut, cords, desk.figures), DOOR_WIDTH)}${doorTables(hut, cords, desk.figures)}`;
+}
+
+// ---- The rest of the page
+
+function listenToPage() {
+  $('text').addEventListener('input', textChanged);
+  document.addEventListener('selectionchange', () => { if (document.activeElement === $('text')) caretMoved(); });
+  verdict.addEventListener('click', event => {
+    const { problem } = event.target.dataset;
+    if (problem !== undefined) editor.choose(marksOf(desk.result)[Number(problem)]);
+  });
+  $('search').addEventListener('input', () => { view.search = $('search').value; picture.layOut(); });
+  $('only-held').addEventListener('change', () => { view.onlyHeld = $('only-held').checked; picture.layOut(); });
+  $('fold').addEventListener('click', () => {
+    const fold = view.folded.size === 0;
+    view.folded = new Set(fold ? desk.good?.hut.nodes.map(({ name }) => name) : []);
+    $('fold').textContent = fold ? 'Unfold all' : 'Fold all';
+    picture.layOut();
+  });
+  $('forget').addEventListener('click', () => {
+    store.forget();
+    notice('Forgotten. What you see is kept again at the next change.');
+  });
+  document.querySelectorAll('[data-pane]').forEach(button => button.addEventListener('click', () => showPane(button.dataset.pane)));
+  addEventListener('beforeprint', makeDoor);
+}
+
+/// On a narrow screen one pane is seen at a time.
+function showPane(id) {
+  document.querySelectorAll('.pane').forEach(pane => pane.classList.toggle('front', pane.id === id));
+  document.querySelectorAll('[data-pane]').forEach(button => button.setAttribute('aria-pressed', String(button.dataset.pane === id)));
+  picture.layOut();
+}
+
+function listenToTheme() {
+  const dark = matchMedia('(prefers-color-scheme: dark)');
+  const set = on => {
+    document.documentElement.dataset.theme = on ? 'dark' : 'light';
+    $('theme').setAttribute('aria-pressed', String(on));
+  };
+  set(dark.matches);
+  dark.addEventListener('change', () => set(dark.matches));
+  $('theme').addEventListener('click', () => set(document.documentElement.dataset.theme !== 'dark'));
+}
+
+function fillSamples() {
+  $('sample').append(...Object.keys(SAMPLE_HUTS).map(name => new Option(name, name)));
+  $('sample').addEventListener('change', () => {
+    const name = $('sample').value;
+    $('sample').value = '';
+    if (name) replaceText(SAMPLE_HUTS[name], `Took the sample ${name.split(':')[0]}.`);
+  });
+}
+
+const editor = editorOf({ area: $('text'), paint: $('paint'), lines: $('lines') });
+const picture = picturePane($('picture'), view, chosen);
+
+async function start() {
+  Object.assign(desk, { notice, replaceText });
+  desk.calls = await load(Uint8Array.from(atob(MODULE), letter => letter.charCodeAt(0)));
+  const kept = store.load();
+  $('text').value = kept?.text ?? Object.values(SAMPLE_HUTS)[0];
+  desk.demands = kept?.demands ?? new Map();
+  listenToTheme();
+  makeTabs();
+  listenToTool();
+  listenToFiles();
+  listenToPage();
+  fillSamples();
+  showPane('text-pane');
+  textChanged();
+  why();
+  document.documentElement.dataset.ready = 'yes';
+}
+
+start();

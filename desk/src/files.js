@@ -1,0 +1,51 @@
+// Opening and saving files. A file is a sheet or a text; whatever it is, it gets a sentence.
+
+import { hutOf } from './hut.js';
+import { writeText } from './text.js';
+import { tellSheet, counted } from './words.js';
+
+/// No sheet and no text of a hut has as many bytes: a full sheet has 22,540, its text some 100,000.
+const MOST_BYTES = 1 << 20;
+
+/// Whether bytes are a text: UTF-8 without control characters. A sheet begins with its version, which is one.
+function textOf(bytes) {
+  try {
+    const text = new TextDecoder('utf-8', { fatal: true }).decode(bytes);
+    // eslint-disable-next-line no-control-regex
+    return /[\u0000-\u0008\u000b\u000c\u000e-\u001f]/.test(text) ? null : text.replaceAll('\r\n', '\n');
+  } catch {
+    return null;
+  }
+}
+
+/// What a file with this name and these bytes comes to: { text, says }, or { refused: { title, says, mend } }.
+export function opened(name, bytes, table, calls) {
+  const text = /\.bin$/i.test(name) ? null : textOf(bytes);
+  if (text !== null) return { text, says: `Opened the text ${name}.` };
+  const read = calls.read(bytes);
+  if (read.number !== 0) return { refused: tellSheet(table, read, bytes) };
+  const hut = hutOf(read.words);
+  return { text: writeText(hut), says: `Opened the sheet ${name}: ${counted(hut.nodes.length, 'breaker')}, ${counted(hut.servers.length, 'server')}.` };
+}
+
+/// The same of a file that a person chose, after a look at its size.
+export async function openFile(file, table, calls) {
+  if (file.size > MOST_BYTES) {
+    const size = `${(file.size / (1 << 20)).toFixed(1)} MB`;
+    return { refused: { title: 'Too large', says: `${file.name} has ${size}. The largest hut's sheet has 22,540 bytes, and no file above 1 MB is opened.`, mend: 'Choose the sheet (room.bin) or the text of a hut.' } };
+  }
+  try {
+    return opened(file.name, new Uint8Array(await file.arrayBuffer()), table, calls);
+  } catch {
+    return { refused: { title: 'Not read', says: `${file.name} could not be read by the browser.`, mend: 'If it is a folder, choose the file in it.' } };
+  }
+}
+
+/// Offers bytes or a text as a file.
+export function offer(name, content, type) {
+  const link = document.createElement('a');
+  link.href = URL.createObjectURL(new Blob([content], { type }));
+  link.download = name;
+  link.click();
+  setTimeout(() => URL.revokeObjectURL(link.href), 1000);
+}

@@ -1,0 +1,284 @@
+// The page in a headless Chromium, used as a person uses it. Pictures of its states go to target/desk/shots.
+
+import test, { after, before } from 'node:test';
+import assert from 'node:assert/strict';
+import { existsSync, mkdtempSync, readFileSync, rmSync, writeFileSync } from 'node:fs';
+import { tmpdir } from 'node:os';
+import { join, resolve } from 'node:path';
+import { Browser, KEYS } from './browser.mjs';
+import { bytes, text, ROOM_H } from './desk.mjs';
+
+const PAGE = `file://${resolve('target/desk/hutplan.html')}`;
+const files = mkdtempSync(join(tmpdir(), 'desk-'));
+let page;
+
+before(async () => {
+  page = await Browser.start({ width: 1440, height: 900, downloads: files });
+  await page.open(PAGE);
+});
+after(async () => {
+  await page?.end();
+  rmSync(files, { recursive: true });
+});
+
+const value = () => page.run('return document.getElementById("text").value');
+const verdict = () => page.text('#verdict');
+
+/// Puts a text into the editor at once, as pasting does.
+const paste = content => page.run('const area = document.getElementById("text"); area.value = arguments[0]; area.dispatchEvent(new Event("input", { bubbles: true }))', content);
+
+/// Writes a text as a person does: all of the old one away, then key by key.
+async function write(content) {
+  await page.clear('#text');
+  await page.type('#text', content);
+}
+
+/// Drops files that are made in the page: [name, bytes] each.
+const drop = (name, size, first = []) => page.run(`
+  const bytes = new Uint8Array(arguments[1]); bytes.set(arguments[2]);
+  const data = new DataTransfer(); data.items.add(new File([bytes], arguments[0]));
+  document.body.dispatchEvent(new DragEvent("drop", { bubbles: true, cancelable: true, dataTransfer: data }))`, name, size, first);
+
+const saved = async name => {
+  const path = join(files, name);
+  await page.until(() => existsSync(path), `${name} is saved`);
+  return readFileSync(path);
+};
+
+test('a hut is typed, and accepted', async () => {
+  await write(ROOM_H);
+  assert.equal(await value(), ROOM_H);
+  assert.match(await verdict(), /^Accepted\n2 breakers, 2 servers, 3 cords; version 1, 28 bytes$/);
+});
+
+test('a mistake is told, with its line and word marked, and mended', async () => {
+  await paste(ROOM_H.replace('50% on left', '60% on left'));
+  assert.match(await verdict(), /Refused 7, shares not whole\nLine 5 The rank of server web: .*They sum to 110%\./);
+  assert.equal(await page.text('.painted.wrong .marked'), '1');
+  assert.equal(await page.text('#lines .wrong'), '5');
+  assert.equal(await page.run('return document.getElementById("save-sheet").disabled'), true);
+  await page.shot('refused');
+  await page.click('#verdict button');
+  assert.equal(await page.run('return getSelection().toString() || document.activeElement.value.slice(document.activeElement.selectionStart, document.activeElement.selectionEnd)'), '1');
+  await paste(ROOM_H.replace('on left', 'on lfet'));
+  assert.match(await verdict(), /The text is not a hut yet\nLine 6 No breaker is named lfet\./);
+  assert.equal(await page.text('.painted.wrong .marked'), 'lfet');
+  await paste(ROOM_H.replace('150 W', '120 W').replaceAll('from 100', 'from 300'));
+  assert.match(await verdict(), /Refused 9, lows above limit\nLine 2 Breaker left: .*The lows beneath it sum to 150 W, and it carries 96 W\./);
+  await paste(ROOM_H);
+  assert.match(await verdict(), /^Accepted/);
+});
+
+test('the plan shows what is held, and its print is that of hutplan', async () => {
+  assert.match(await page.text('#totals'), /Freed\n13 W\nHeld\n◆ 2 cords/);
+  assert.match(await page.text('#picture'), /held by left/);
+  await page.click('#tab-plan');
+  assert.equal(`${await page.text('#tool pre')}\n`, text('samples/room-h.print'));
+  await page.click('#tab-servers');
+  for (const place of [0, 1]) {
+    await page.clear(`[data-ask="${place}"]`);
+    await page.type(`[data-ask="${place}"]`, '100');
+  }
+  assert.match(await page.text('#totals'), /Lent\n320 W\nFreed\n0 W\nHeld\n0 cords/);
+  await page.type('[data-ask="1"]', '99999999');
+  assert.match(await page.text('#demands-told'), /Refused 11, demand too large\. Server db:/);
+  await page.click('[data-paste]');
+  await page.type('#pasted', '400\n');
+  await page.click('.paste [type="submit"]');
+  assert.match(await page.text('.paste .told'), /Refused 10, demand count.*The hut has 2 servers/);
+  await page.type('#pasted', '400\n');
+  await page.click('.paste [type="submit"]');
+  assert.match(await page.text('#totals'), /◆ 2 cords/);
+});
+
+test('a slider changes the plan', async () => {
+  await page.click('[data-slide="0"]');
+  const [slide, ask] = await page.run('return ["slide", "ask"].map(kind => Number(document.querySelector(`[data-${kind}="0"]`).value))');
+  assert.equal(ask, slide);
+  assert.ok(ask > 200 && ask < 300, 'a click in its middle is half of the way');
+  await page.click('[data-all="1"]');
+  assert.match(await page.text('#totals'), /Freed\n13 W/);
+});
+
+test('why a cord gets what it gets is told where it is chosen', async () => {
+  await page.click('[data-row="1"] .server');
+  assert.match(await page.text('#why'), /^Cord 1 of web, on left\n[^]*Held by left\. It wants 200 W and gets 120 W/);
+  await page.click('[data-row="0"] .name');
+  assert.match(await page.text('#why'), /^Breaker left\n[^]*Full\. It holds 1 cord: web\./);
+  await page.shot('room-h');
+});
+
+test('search, folding and the wish for held ones leave what is asked for', async () => {
+  const rows = () => page.run('return document.querySelectorAll("#picture [data-row]").length');
+  assert.equal(await rows(), 5);
+  await page.type('#search', 'db');
+  assert.equal(await rows(), 2);
+  await page.clear('#search');
+  await page.run('document.getElementById("search").dispatchEvent(new Event("input"))');
+  await page.click('#only-held');
+  assert.equal(await rows(), 4);
+  await page.click('#only-held');
+  await page.click('#fold');
+  assert.equal(await rows(), 2);
+  await page.click('#fold');
+  assert.equal(await rows(), 5);
+});
+
+test('what is saved is the sheet, and opens again', async () => {
+  await page.click('#save-sheet');
+  assert.deepEqual(new Uint8Array(await saved('room.bin')), bytes('samples/room-h.bin'));
+  assert.match(await page.text('#notice'), /Read gives back the same hut/);
+  await page.click('#save-text');
+  assert.equal(String(await saved('hut.txt')), ROOM_H);
+  await page.type('#file', join(files, 'room.bin'));
+  await page.until(async () => /^version 1\n\nbreaker b1 150 W/.test(await value()), 'the sheet is opened');
+  assert.match(await page.text('#notice'), /Opened the sheet room\.bin: 2 breakers, 2 servers\./);
+  await page.click('#notice button');
+  assert.equal(await value(), ROOM_H);
+  await page.type('#file', join(files, 'hut.txt'));
+  await page.until(async () => /Opened the text/.test(await page.text('#notice')), 'the text is opened');
+});
+
+test('a schedule is pasted as it is', async () => {
+  await paste(text('samples/hut.schedule'));
+  assert.match(await verdict(), /^Accepted\n3 breakers, 0 servers, 0 cords/);
+  await paste('0 200 240\n1 21 120\n');
+  assert.match(await verdict(), /Refused 25, not a size\nLine 2 Line 2 of the schedule: No breaker is made for these amperes\./);
+  await paste(ROOM_H);
+});
+
+test('a bad file gets a sentence, and nothing that was typed is lost', async () => {
+  await drop('room.bin', 3, [1, 128, 0]);
+  await page.until(async () => /room\.bin: Refused 2, number not shortest\. At byte 1/.test(await page.text('#notice')), 'the refusal');
+  await page.shot('bad-file');
+  await drop('film.mp4', 100 * 1024 * 1024);
+  await page.until(async () => /film\.mp4: Too large\. film\.mp4 has 100\.0 MB/.test(await page.text('#notice')), 'the size');
+  await drop('noise.txt', 9, [0xff, 0xfe, 0, 1, 2, 3]);
+  await page.until(async () => /noise\.txt: Refused/.test(await page.text('#notice')), 'the bytes');
+  assert.equal(await value(), ROOM_H);
+  assert.match(await page.text('#notice'), /Your text is as it was/);
+});
+
+test('what was typed survives a reload, and can be forgotten', async () => {
+  await page.open(PAGE);
+  assert.equal(await value(), ROOM_H);
+  await page.click('#forget');
+  await page.open(PAGE);
+  assert.match(await value(), /^# Room H\nbreaker left/);
+  await paste(ROOM_H);
+});
+
+test('a change is tried', async () => {
+  await paste('breaker b 1000 W\nserver s rank 1 from 100 to 200 W\n cord 100% on b\n');
+  await page.click('#tab-try');
+  await page.click('#tool [type="submit"]');
+  await page.until(async () => /3 more servers on b/.test(await page.text('#tool .result')), 'the answer');
+  assert.match(await page.text('#tool .result'), /With one more, cord 1 of \S.* is held by b\./);
+  await page.click('#tab-servers');
+  await page.click('[data-all="0"]');
+  await page.click('#tab-try');
+  await page.clear('#try-demand');
+  await page.type('#try-demand', '0');
+  await page.click('#tool [type="submit"]');
+  await page.until(async () => /7 more servers on b[^]*One more is refused\. Refused 9, lows above limit: Breaker b: .*sum to 900 W, and it carries 800 W/.test(await page.text('#tool .result')), 'the refusal');
+  await page.shot('try');
+});
+
+test('the bus names servers in turn', async () => {
+  await paste(ROOM_H);
+  await page.click('#tab-bus');
+  await page.click('#tool [type="submit"]');
+  assert.equal(await page.text('#tool li'), 'web, db');
+  await page.clear('#bus-m');
+  await page.click('#tool [type="submit"]');
+  assert.match(await page.text('#tool li:last-child'), /Refused 27, no messages/);
+  await page.click('#tab-servers');
+});
+
+test('the keyboard alone is enough', async () => {
+  await page.open(PAGE);
+  const focus = () => page.run('const at = document.activeElement; return at.id || at.textContent');
+  const seen = [];
+  for (let step = 0; step < 40 && seen.at(-1) !== 'picture'; step++) {
+    await page.press(KEYS.tab);
+    seen.push(await focus());
+  }
+  for (const id of ['open', 'save-sheet', 'save-text', 'print', 'theme', 'sample', 'text', 'forget', 'search', 'only-held', 'fold', 'picture']) assert.ok(seen.includes(id), `${id} among ${seen}`);
+  await page.press(KEYS.down, KEYS.down, KEYS.up);
+  assert.match(await page.text('#why'), /^Cord 1 of web/);
+  await page.press(KEYS.left, KEYS.left);
+  assert.match(await page.text('#why'), /^Breaker left/);
+  assert.equal(await page.run('return document.querySelector("#picture [aria-selected=true]").getAttribute("aria-expanded")'), 'false');
+  await page.press(KEYS.right, KEYS.down, KEYS.enter);
+  assert.equal(await focus(), 'text');
+  await page.press(KEYS.end, ' ', '#', '!');
+  assert.match(await value(), /cord 50% on left #!\n/);
+  await paste(ROOM_H);
+});
+
+test('every control has a name, and nothing is fetched', async () => {
+  const nameless = await page.run(`return [...document.querySelectorAll("button, input, select, textarea, [role=tree], [role=table]")]
+    .filter(each => !(each.getAttribute("aria-label") || each.labels?.length || each.textContent.trim())).map(each => each.outerHTML)`);
+  assert.deepEqual(nameless, []);
+  assert.deepEqual(await page.run('return performance.getEntriesByType("resource").map(each => each.name)'), []);
+});
+
+/// A hut of full size: 512 breakers in a tree of eights, 512 servers, 1,024 cords.
+function fullHut() {
+  const lines = Array.from({ length: 512 }, (_, k) => `breaker n${k + 1}${k > 0 ? ` under n${Math.floor((k - 1) / 8) + 1}` : ''} ${k < 9 ? 400000 : 3000 + (k % 7) * 100} W`);
+  for (let k = 0; k < 512; k++) {
+    lines.push(`server s${k + 1} rank ${1 + (k % 16)} from 100 to ${900 + (k % 5) * 300} W`, `  cord 50% on n${(k * 7) % 448 + 65}`, `  cord 50% on n${(k * 11 + 5) % 448 + 65}`);
+  }
+  return `${lines.join('\n')}\n`;
+}
+
+test('a hut of full size is planned and drawn quickly', async t => {
+  await paste(fullHut());
+  assert.match(await verdict(), /^Accepted\n512 breakers, 512 servers, 1,024 cords/);
+  const times = await page.run(`
+    const settled = () => new Promise(done => requestAnimationFrame(() => { const channel = new MessageChannel(); channel.port1.onmessage = done; channel.port2.postMessage(0); }));
+    const timed = async act => { const from = performance.now(); act(); await settled(); return Math.round(performance.now() - from); };
+    const area = document.getElementById("text");
+    const typed = () => { area.value += "#"; area.dispatchEvent(new Event("input", { bubbles: true })); };
+    const ask = document.querySelector("[data-ask='3']");
+    const asked = k => () => { ask.value = 500 + k; ask.dispatchEvent(new Event("input", { bubbles: true })); };
+    return (async () => {
+      const text = [], demand = [], scroll = [];
+      for (let k = 0; k < 5; k++) { text.push(await timed(typed)); demand.push(await timed(asked(k))); scroll.push(await timed(() => { document.getElementById("picture").scrollTop += 900; })); }
+      return { text, demand, scroll };
+    })()`);
+  for (const [name, all] of Object.entries(times)) t.diagnostic(`milliseconds to a drawn plan after a change (${name}): ${all.join(', ')}`);
+  await page.shot('full');
+  await page.type('#search', 's400');
+  assert.match(await page.text('#picture'), /s400/);
+  await page.clear('#search');
+  await page.run('document.getElementById("search").dispatchEvent(new Event("input"))');
+  await page.click('#tab-cords');
+  assert.equal(await page.run('return document.querySelectorAll(".cords .tr").length'), 1025);
+  await page.click('#tab-servers');
+});
+
+test('dark, a phone and paper', async () => {
+  const samples = await page.run('return [...document.getElementById("sample").options].map(each => each.value)');
+  await page.run('const box = document.getElementById("sample"); box.value = arguments[0]; box.dispatchEvent(new Event("change"))', samples.at(-1));
+  await page.click('#notice button:last-child');
+  await page.click('[data-row="7"] .server');
+  await page.shot('valley');
+  await page.click('#theme');
+  await page.shot('dark');
+  for (const pane of ['text-pane', 'picture-pane', 'tools-pane']) {
+    await page.size(390, 844);
+    await page.click(`[data-pane="${pane}"]`);
+    assert.ok(await page.run('return document.documentElement.scrollWidth <= innerWidth'));
+    await page.shot(`phone-${pane}`);
+  }
+  await page.click('#theme');
+  await page.size(1440, 900);
+  const { data } = await page.developer('Page.printToPDF', { printBackground: true });
+  writeFileSync('target/desk/door.pdf', Buffer.from(data, 'base64'));
+  await page.run('dispatchEvent(new Event("beforeprint"))');
+  await page.developer('Emulation.setEmulatedMedia', { media: 'print' });
+  assert.match(await page.text('#door'), /^Valley hut, as wired in spring\n/);
+  await page.shot('door');
+  await page.developer('Emulation.setEmulatedMedia', { media: '' });
+});

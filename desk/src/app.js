@@ -71,7 +71,7 @@ function tellAccepted({ hut, sheet }) {
   verdict.innerHTML = `<p class="title">Accepted</p><p>${counted(hut.nodes.length, 'breaker')}, ${counted(hut.servers.length, 'server')}, ${counted(cords, 'cord')}; version ${hut.version}, ${counted(sheet.length, 'byte')}</p>`;
 }
 
-const marksOf = ({ problems, refusal }) => (problems ? problems.map(({ span }) => span) : refusal?.span ? [refusal.span] : []);
+const marksOf = ({ problems, refusal }) => (problems ? problems.map(({ span }) => span) : refusal?.span ? [refusal.span, ...(refusal.also ?? [])] : []);
 
 /// Checks the text as it stands, and shows what it comes to.
 function textChanged() {
@@ -437,7 +437,7 @@ const editor = editorOf({ area: $('text'), paint: $('paint'), lines: $('lines') 
 const picture = picturePane($('picture'), view, chosen);
 
 async function start() {
-  Object.assign(desk, { notice, replaceText });
+  Object.assign(desk, { notice, replaceText, text: () => $('text').value });
   desk.calls = await load(Uint8Array.from(atob(MODULE), letter => letter.charCodeAt(0)));
   const kept = store.load();
   $('text').value = kept?.text ?? Object.values(SAMPLE_HUTS)[0];

@@ -15,9 +15,15 @@ export function spanOf(hut, { kind, node, server, cord }) {
   return null;
 }
 
-/// What a refusal of the table means: { part, span }, a part as tableOf tells it.
+/// What a refusal of the table means: { part, span }, a part as tableOf tells it; of 7, whose place is that of
+/// the server, `also` has the shares.
 function meantBy(hut, parts, { number, place }) {
-  const part = number === 9 ? { kind: 'lows', node: place - 1 } : parts[place];
+  if (number === 9) return { part: { kind: 'lows', node: place - 1 }, span: hut.nodes[place - 1].at.name };
+  const part = parts[place];
+  if (number === 7) {
+    const { at, cords } = hut.servers[part.server];
+    return { part: { kind: 'shares', server: part.server }, span: at.name, also: cords.map(cord => cord.at.share) };
+  }
   return { part, span: part ? spanOf(hut, part) : null };
 }
 

@@ -1,18 +1,22 @@
 // The picture in its pane: only the rows in sight are drawn, and the keyboard moves through all of them.
 
-import { geometryOf, rowSvg, rowLabel, PATTERNS, holdsOf } from './picture.js';
+import { geometryOf, labelWidth, rowSvg, rowLabel, patterns, holdsOf } from './picture.js';
 import { rowsOf } from './rows.js';
 
 const SPARE_ROWS = 6;
 const same = (row, chosen) => chosen && row.kind === chosen.kind && row.place === chosen.place;
 
+/// The widest label of these rows.
+const longestLabel = (rows, { hut, cords }) => rows.reduce((most, { kind, place, depth }) =>
+  Math.max(most, labelWidth(depth, kind === 'node' ? hut.nodes[place].name : hut.servers[cords[place].server].name)), 0);
+
 /// The drawing of all rows, for paper.
 export function wholePicture(scene, width) {
   const view = { folded: new Set(), search: '', onlyHeld: false, held: scene.figures.held };
   const rows = rowsOf(scene.hut, scene.cords, view);
-  const geometry = geometryOf(width, Math.max(0, ...rows.map(row => row.depth)));
+  const geometry = geometryOf(width, longestLabel(rows, scene));
   const lines = rows.map((row, index) => rowSvg(row, index, geometry, scene, false).replace(/ id="row-\d+"/, ''));
-  return `<svg class="drawing" xmlns="http://www.w3.org/2000/svg" width="${width}" height="${rows.length * geometry.row}" viewBox="0 0 ${width} ${rows.length * geometry.row}">${PATTERNS}${lines.join('')}</svg>`;
+  return `<svg class="drawing" xmlns="http://www.w3.org/2000/svg" width="${width}" height="${rows.length * geometry.row}" viewBox="0 0 ${width} ${rows.length * geometry.row}">${patterns('hatch-on-paper')}${lines.join('')}</svg>`;
 }
 
 /// Everything that drawing a row needs.
@@ -24,11 +28,12 @@ export function picturePane(pane, view, chosen) {
   const svg = pane.querySelector('svg');
   let scene = null;
   let rows = [];
+  let longest = 0;
   let active = 0;
   let selected = null;
 
   const width = () => Math.max(300, pane.clientWidth);
-  const geometry = () => geometryOf(width(), rows.reduce((most, row) => Math.max(most, row.depth), 0));
+  const geometry = () => geometryOf(width(), longest);
 
   const draw = () => {
     if (!scene) {
@@ -41,7 +46,7 @@ export function picturePane(pane, view, chosen) {
     space.style.height = `${rows.length * shape.row}px`;
     svg.setAttribute('width', shape.width);
     svg.setAttribute('height', rows.length * shape.row);
-    svg.innerHTML = PATTERNS + rows.slice(first, last)
+    svg.innerHTML = patterns('hatch') + rows.slice(first, last)
       .map((row, index) => rowSvg(row, first + index, shape, scene, same(row, selected))).join('');
     if (rows.length > 0) pane.setAttribute('aria-activedescendant', `row-${active}`);
     else pane.removeAttribute('aria-activedescendant');
@@ -49,6 +54,7 @@ export function picturePane(pane, view, chosen) {
 
   const layOut = () => {
     rows = scene ? rowsOf(scene.hut, scene.cords, { ...view, held: scene.figures.held }) : [];
+    longest = scene ? longestLabel(rows, scene) : 0;
     active = Math.max(0, rows.findIndex(row => same(row, selected)));
     draw();
   };

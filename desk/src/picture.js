@@ -13,18 +13,21 @@ const MOST_INDENTS = 10;
 const MARGIN = 14;
 const LETTER = 7.2;
 
-/// Where things stand in a row of a picture of this width. A narrow one has its bars on a second line.
-export function geometryOf(width, maxDepth) {
-  const narrow = width < 520;
-  const indents = Math.min(maxDepth, MOST_INDENTS);
-  const label = narrow ? width : Math.max(170, Math.min(width * 0.36, 150 + indents * INDENT));
-  const note = narrow ? 96 : 116;
-  const figures = narrow ? 70 : 108;
-  const bar = narrow ? MARGIN + 24 : label;
-  return { width, narrow, row: narrow ? 46 : 30, label, bar, barWidth: Math.max(40, width - bar - figures - note), figures, note };
-}
-
 const xOf = depth => MARGIN + Math.min(depth, MOST_INDENTS) * INDENT;
+
+/// The width that a row's sign and name take, with the small figure behind the name.
+export const labelWidth = (depth, name) => xOf(depth) + 13 + name.length * LETTER + 40;
+
+/// Where things stand in a row of a picture of this width whose longest label is so wide. A narrow picture has
+/// its bars on a second line of the row.
+export function geometryOf(width, longest) {
+  if (width < 520) {
+    const bar = MARGIN + 24;
+    return { width, narrow: true, row: 48, label: width - 90, bar, barWidth: Math.max(40, width - bar - 124), figureX: width - MARGIN, noteX: width - MARGIN };
+  }
+  const label = Math.max(120, Math.min(width * 0.42, longest));
+  return { width, narrow: false, row: 30, label, bar: label, barWidth: Math.max(40, width - label - 228), figureX: width - 126, noteX: width - 116 };
+}
 
 /// The lines that lead to a row from the rows above it.
 function wires(row, middle, height) {
@@ -66,6 +69,10 @@ const clipped = (text, space) => {
 
 const text = (kind, x, y, content, anchor = 'start') => `<text class="${kind}" x="${x}" y="${y}" text-anchor="${anchor}">${content}</text>`;
 
+/// The note at a row's end; in a narrow picture at the end of its first line.
+const noteOf = (geometry, middle, state, content) => (content
+  ? text(`note ${state}`, geometry.noteX, middle + 4.5, content, geometry.narrow ? 'end' : 'start') : '');
+
 function nodeRow(row, geometry, { hut, figures, holds }, middle, barY) {
   const node = hut.nodes[row.place];
   const x = xOf(row.depth);
@@ -73,9 +80,8 @@ function nodeRow(row, geometry, { hut, figures, holds }, middle, barY) {
   const held = holds.get(row.place + 1) ?? 0;
   const bar = barOf(geometry, barY - 6, 12, limit, { granted, lent: figures.headroomBeneath[row.place], low: figures.lowsBeneath[row.place], want: 0, state: '' });
   const end = `<path class="limit${held ? ' holds' : ''}" d="M${geometry.bar + geometry.barWidth} ${barY - 9}v18"/>`;
-  const figureX = geometry.width - geometry.note;
   const space = geometry.label - x - 44;
-  return `${breakerSign(x, middle, row, held > 0)}${text('name', x + 13, middle + 4.5, `${escaped(clipped(node.name, space))}<tspan class="number" dx="6">${row.place + 1}</tspan>`)}${bar}${end}${text('figure', figureX - 8, barY + 4.5, `${figure(granted)}<tspan class="of"> of ${figure(limit)}</tspan>`, 'end')}${held ? text('note held', figureX + 2, barY + 4.5, `◆ holds ${held}`) : ''}`;
+  return `${breakerSign(x, middle, row, held > 0)}${text('name', x + 13, middle + 4.5, `${escaped(clipped(node.name, space))}<tspan class="number" dx="6">${row.place + 1}</tspan>`)}${bar}${end}${text('figure', geometry.figureX, barY + 4.5, `${figure(granted)}<tspan class="of"> of ${figure(limit)}</tspan>`, 'end')}${noteOf(geometry, middle, 'held', held ? `◆ holds ${held}` : '')}`;
 }
 
 /// held, stranded or met.
@@ -85,9 +91,9 @@ export function cordState(figures, place) {
 }
 
 function cordNote(hut, figures, place, state, geometry) {
-  if (state === 'held') return `held by ${clipped(hut.nodes[figures.held[place] - 1].name, geometry.note - 58)}`;
+  if (state === 'held') return `held by ${clipped(hut.nodes[figures.held[place] - 1].name, geometry.narrow ? 90 : 62)}`;
   if (figures.headroom[place] > 0) return `+${figure(figures.headroom[place])} lent`;
-  return state === 'stranded' ? 'other cord' : '';
+  return state === 'stranded' ? 'rest freed' : '';
 }
 
 function cordRow(row, geometry, { hut, figures, cords }, middle, barY) {
@@ -100,9 +106,8 @@ function cordRow(row, geometry, { hut, figures, cords }, middle, barY) {
   });
   const which = server.cords.length > 1 ? `<tspan class="number" dx="6">${cord.cord + 1}/${server.cords.length}</tspan>` : '';
   const note = cordNote(hut, figures, row.place, state, geometry);
-  const figureX = geometry.width - geometry.note;
   const space = geometry.label - x - 44;
-  return `${cordSign(x, middle, state)}${text('server', x + 13, middle + 4.5, `${escaped(clipped(server.name, space))}${which}`)}${bar}${text('figure', figureX - 8, barY + 4.5, figure(figures.grants[row.place]), 'end')}${note ? text(`note ${state}`, figureX + 2, barY + 4.5, escaped(note)) : ''}`;
+  return `${cordSign(x, middle, state)}${text('server', x + 13, middle + 4.5, `${escaped(clipped(server.name, space))}${which}`)}${bar}${text('figure', geometry.figureX, barY + 4.5, figure(figures.grants[row.place]), 'end')}${noteOf(geometry, middle, state, escaped(note))}`;
 }
 
 /// What a row says to a screen reader.
@@ -118,8 +123,8 @@ export function rowLabel(row, { hut, figures, cords, holds }) {
 
 /// One row as SVG, at a height.
 export function rowSvg(row, index, geometry, scene, selected) {
-  const middle = geometry.narrow ? 15 : geometry.row / 2;
-  const barY = geometry.narrow ? 34 : middle;
+  const middle = geometry.narrow ? 16 : geometry.row / 2;
+  const barY = geometry.narrow ? 36 : middle;
   const draw = row.kind === 'node' ? nodeRow : cordRow;
   const label = escaped(rowLabel(row, scene));
   const open = row.foldable ? ` aria-expanded="${row.open}"` : '';
@@ -127,7 +132,7 @@ export function rowSvg(row, index, geometry, scene, selected) {
 }
 
 /// The hatching of lent watts, once in a drawing.
-export const PATTERNS = '<defs><pattern id="hatch" width="5" height="5" patternUnits="userSpaceOnUse" patternTransform="rotate(45)"><rect class="hatch-ground" width="5" height="5"/><path class="hatch-line" d="M0 0V5"/></pattern></defs>';
+export const patterns = id => `<defs><pattern id="${id}" width="5" height="5" patternUnits="userSpaceOnUse" patternTransform="rotate(45)"><rect class="hatch-ground" width="5" height="5"/><path class="hatch-line" d="M0 0V5"/></pattern></defs>`;
 
 /// How many cords each node holds, by its number.
 export function holdsOf(held) {

@@ -50,7 +50,7 @@ export function fillServers(tool, hut, demands, figures) {
 function cordCells(hut, figures, cord, place) {
   const holder = figures.held[place];
   const state = cordState(figures, place);
-  const note = holder > 0 ? `◆ ${escaped(hut.nodes[holder - 1].name)}` : state === 'stranded' ? 'other cord' : '';
+  const note = holder > 0 ? `◆ ${escaped(hut.nodes[holder - 1].name)}` : state === 'stranded' ? 'rest freed' : '';
   return row([
     cell('who', `${escaped(hut.servers[cord.server].name)}<small> ${cord.cord + 1}</small>`),
     cell('on', escaped(hut.nodes[cord.node - 1].name)),

@@ -10,15 +10,26 @@ import { scaleOf, hasPercents, USUAL_PERCENT } from './hut.js';
 const MOST_WORD = 4294967295;
 const TOKEN = /(\d+(?:\.\d+)?)|(%)|(\p{L}[\p{L}\p{N}_.\-/]*)|(\S)/gu;
 
-/// The words of a line, up to its comment.
-export function tokensOf(text, line) {
-  const code = text.replace(/#.*/, '');
-  return Array.from(code.matchAll(TOKEN), match => ({
+/// Lines whose words are known: a text is read at every keystroke, and all lines but one are as they were.
+const known = new Map();
+const MOST_KNOWN = 8192;
+
+function wordsIn(content) {
+  const found = known.get(content);
+  if (found) return found;
+  const made = Array.from(content.replace(/#.*/, '').matchAll(TOKEN), match => ({
     text: match[0],
     kind: match[1] ? 'number' : match[2] ? 'percent' : match[3] ? 'word' : 'other',
-    span: { line, from: match.index, to: match.index + match[0].length },
+    from: match.index,
   }));
+  if (known.size >= MOST_KNOWN) known.clear();
+  known.set(content, made);
+  return made;
 }
+
+/// The words of a line, up to its comment.
+export const tokensOf = (content, line) => wordsIn(content)
+  .map(({ text, kind, from }) => ({ text, kind, span: { line, from, to: from + text.length } }));
 
 /// Thrown where a line cannot be understood; it becomes a problem.
 class Unclear extends Error {

@@ -42,7 +42,7 @@ function stopSentence(stop, node, { good, table, calls }) {
   const words = number <= 9
     ? tellText(table, { ...stop.refusal, part }, larger, number === 9 ? fixedFigures(larger, calls) : null)
     : tellPlain(table, stop.refusal);
-  return `One more is refused. ${escaped(words.title)}: ${escaped(words.says)}`;
+  return `With one more the hut is refused (${number}, ${table[number].name}). ${escaped(words.says)}`;
 }
 
 export function tryTool(tool, desk) {
@@ -67,8 +67,18 @@ export function tryTool(tool, desk) {
     const base = { hut, demands: desk.figures.demands, heldBefore: desk.figures.held };
     const outcome = await howMany(base, node, kind, desk.calls, () => mine !== asked || !tool.isConnected);
     if (!outcome) return;
-    result.innerHTML = `<p class="answer"><b>${counted(outcome.fit, 'more server')}</b> on ${escaped(hut.nodes[node - 1].name)}</p><p>${stopSentence(outcome.stop, node, desk)}</p>`;
+    const { name } = hut.nodes[node - 1];
+    result.innerHTML = `<p class="answer"><b>${counted(outcome.fit, 'more server')}</b> on ${escaped(name)}</p><p>${stopSentence(outcome.stop, node, desk)}</p>${outcome.fit > 0 ? '<p><button type="button" data-add>Add one to the text</button></p>' : ''}`;
+    result.querySelector('[data-add]')?.addEventListener('click', () => addServer(desk, name, kind));
   });
+}
+
+/// Adds a server of a kind, with one cord, to the text.
+function addServer({ good, text, replaceText }, breaker, { rank, least, greatest }) {
+  const taken = new Set(good.hut.servers.map(server => server.name));
+  let number = 1;
+  while (taken.has(`new-${number}`)) number += 1;
+  replaceText(`${text().trimEnd()}\n\nserver new-${number} rank ${rank} from ${least} to ${greatest} W\n  cord 100% on ${breaker}\n`, `Added new-${number}.`);
 }
 
 // ---- Caps over a slow bus

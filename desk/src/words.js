@@ -32,6 +32,7 @@ const serverName = (hut, place) => hut.servers[place]?.name ?? `server ${place +
 export function thingOf(hut, { kind, node, server, cord }) {
   if (kind === 'line') return `line ${node + 1} of the schedule`;
   if (kind === 'amperes' || kind === 'lows') return `breaker ${nodeName(hut, node)}`;
+  if (kind === 'shares') return `server ${serverName(hut, server)}`;
   if (node !== undefined) return `the ${kind} of breaker ${nodeName(hut, node)}`;
   if (cord !== undefined) return `the ${kind === 'node' ? 'breaker' : kind} of cord ${cord + 1} of server ${serverName(hut, server)}`;
   if (server !== undefined) return `the ${kind} of server ${serverName(hut, server)}`;
@@ -112,7 +113,7 @@ export function whyCord(hut, figures, cord, place) {
   }
   if (grant < want) {
     const { name } = hut.servers[cord.server];
-    return `It would carry ${watts(want)}, but ${name} can draw no more than ${watts(figures.caps[cord.server])} by its other cords, so more here would be stranded.`;
+    return `Of the ${watts(want)} that it would carry it keeps the ${watts(grant)} that ${name} could use after the first deal, when another of its cords carried no more. The rest was freed for others.`;
   }
   return `It gets all that it wants, ${watts(want)}.`;
 }

@@ -104,11 +104,12 @@ export class Browser {
     throw new Error(`it never came: ${what}`);
   }
 
-  /// A picture of what is seen, kept beside the page.
-  async shot(name) {
-    const png = Buffer.from(await this.call('GET', '/screenshot'), 'base64');
+  /// A picture of what is seen, kept beside the page; as PNG, or smaller as WebP.
+  async shot(name, format = 'png') {
+    const quality = format === 'webp' ? { quality: 80 } : {};
+    const { data } = await this.developer('Page.captureScreenshot', { format, ...quality });
     mkdirSync('target/desk/shots', { recursive: true });
-    writeFileSync(`target/desk/shots/${name}.png`, png);
+    writeFileSync(`target/desk/shots/${name}.${format}`, Buffer.from(data, 'base64'));
   }
 
   async end() {

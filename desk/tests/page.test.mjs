@@ -53,13 +53,14 @@ test('a hut is typed, and accepted', async () => {
 
 test('a mistake is told, with its line and word marked, and mended', async () => {
   await paste(ROOM_H.replace('50% on left', '60% on left'));
-  assert.match(await verdict(), /Refused 7, shares not whole\nLine 5 The rank of server web: .*They sum to 110%\./);
-  assert.equal(await page.text('.painted.wrong .marked'), '1');
+  assert.match(await verdict(), /Refused 7, shares not whole\nLine 5 Server web: .*They sum to 110%\./);
+  const marks = await page.run('return [...document.querySelectorAll(".marked")].map(mark => mark.textContent)');
+  assert.deepEqual(marks, ['web', '60%', '50%']);
   assert.equal(await page.text('#lines .wrong'), '5');
   assert.equal(await page.run('return document.getElementById("save-sheet").disabled'), true);
   await page.shot('refused');
   await page.click('#verdict button');
-  assert.equal(await page.run('return getSelection().toString() || document.activeElement.value.slice(document.activeElement.selectionStart, document.activeElement.selectionEnd)'), '1');
+  assert.equal(await page.run('return getSelection().toString() || document.activeElement.value.slice(document.activeElement.selectionStart, document.activeElement.selectionEnd)'), 'web');
   await paste(ROOM_H.replace('on left', 'on lfet'));
   assert.match(await verdict(), /The text is not a hut yet\nLine 6 No breaker is named lfet\./);
   assert.equal(await page.text('.painted.wrong .marked'), 'lfet');
@@ -180,7 +181,7 @@ test('a change is tried', async () => {
   await page.clear('#try-demand');
   await page.type('#try-demand', '0');
   await page.click('#tool [type="submit"]');
-  await page.until(async () => /7 more servers on b[^]*One more is refused\. Refused 9, lows above limit: Breaker b: .*sum to 900 W, and it carries 800 W/.test(await page.text('#tool .result')), 'the refusal');
+  await page.until(async () => /7 more servers on b[^]*With one more the hut is refused \(9, lows above limit\)\. Breaker b: .*sum to 900 W, and it carries 800 W/.test(await page.text('#tool .result')), 'the refusal');
   await page.shot('try');
 });
 
@@ -264,7 +265,13 @@ test('dark, a phone and paper', async () => {
   await page.click('#notice button:last-child');
   await page.click('[data-row="7"] .server');
   await page.shot('valley');
+  await page.size(1280, 800);
+  await page.shot('desk', 'webp');
   await page.click('#theme');
+  await page.click('#tab-cords');
+  await page.shot('desk-dark', 'webp');
+  await page.click('#tab-servers');
+  await page.size(1440, 900);
   await page.shot('dark');
   for (const pane of ['text-pane', 'picture-pane', 'tools-pane']) {
     await page.size(390, 844);

@@ -94,6 +94,6 @@ test('why a cord gets what it gets', () => {
   const cords = cordsOf(hut);
   const why = place => whyCord(hut, figures, cords[place], place);
   assert.match(why(0), /^Held by left\. It wants 200 W and gets 120 W/);
-  assert.match(why(1), /web can draw no more than 240 W by its other cords/);
+  assert.match(why(1), /^Of the 200 W that it would carry it keeps the 120 W that web could use after the first deal/);
   assert.match(why(2), /^Held by right/);
 });

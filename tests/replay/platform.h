@@ -1,0 +1,13 @@
+/* What the replayer needs of the machine that it runs on. */
+#ifndef PLATFORM_H
+#define PLATFORM_H
+
+#include <stddef.h>
+
+/* The next bytes of the recorded calls; how many there were. */
+size_t platform_read(void *bytes, size_t count);
+
+/* Prints a text. */
+void platform_say(const char *text);
+
+#endif

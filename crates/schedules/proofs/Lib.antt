@@ -8,4 +8,5 @@ pub mod RoomTable
 pub mod ReadsText
 pub mod WritesText
 pub mod FirstBytes
+pub mod Answers
 pub mod Promises

@@ -10,7 +10,7 @@ use lib.Dec.{leb, eqb}
 use borrow.Author.Tests.{eqb-true, eq-eqb, eqb-false}
 use Rattle.schedules.specs.Sizes.{sizes, isIn, isSize}
 use Rattle.schedules.specs.Schedule.{Ending, whole, refused, linesOf, tableOf, accepted, turnedBack, fitting, scheduledLines, scheduling}
-use Rattle.schedules.specs.Promises.{SizesRise, SizesAreTheTable, AcceptedIsWritten, WrittenIsRead, ScheduleGivesRoom, FirstBytesDecide}
+use Rattle.schedules.specs.Promises.{SizesRise, SizesAreTheTable, AcceptedIsWritten, WrittenIsRead, AnsweredExactly, ScheduleGivesRoom, FirstBytesDecide}
 use Rattle.schedules.proofs.SizeLaws as sizes
 use Rattle.schedules.proofs.TableLaws.{few-entries}
 use Rattle.schedules.specs.Written.{Pass}
@@ -18,6 +18,7 @@ use Rattle.schedules.proofs.RoomTable.{entries-pass, roomOf, table-chec
 use Rattle.schedules.proofs.ReadsText.{lines-read}
 use Rattle.schedules.proofs.WritesText.{lines-written}
 use Rattle.schedules.proofs.FirstBytes.{scheduling-cut}
+use Rattle.schedules.proofs.Answers.{tells-24, tells-25, tells-26, tells-12, tells-0}
 use Rattle.schedules.specs.declared.Refusal.the-variants.{OutOfRange, TableTooShort}
 
 -- ---- The sizes
@@ -93,7 +94,7 @@ accepted-is-written text table words e =
     }
 
 pub written-is-read : WrittenIsRead
-written-is-read entries text w p = lines-written w 0 p 513 text 0 refl (omega arith) (omega arith)
+written-is-read entries text w p = lines-written w p
 
 pub schedule-gives-room : ScheduleGivesRoom
 schedule-gives-room text table words e =
@@ -111,6 +112,11 @@ schedule-gives-room text table words e =
       parent = λ n h k. node-of entries (n - 1) .0;
       rated = λ n h k. node-of entries (n - 1) .1;
     })
+
+-- ---- Answers
+
+pub answered-exactly : AnsweredExactly
+answered-exactly = record { no-line = tells-24; no-size = tells-25; out-of-range = tells-26; list-short = tells-12; accepted = tells-0 }
 
 -- ---- How much of a text decides
 

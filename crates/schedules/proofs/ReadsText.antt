@@ -2,8 +2,8 @@
 use mathlib.Core.Path.{_≡_, refl, sym, ap, _∙_}
 use mathlib.Core.Bool.{Bool, true, false, cond}
 use mathlib.Core.List.{List, [], _∷_, _++_, append-assoc, append-nil}
-use Prim.Native.Nat.{ℕ, zero, suc, _+_, _-_, _*_, _≤_, _<_}
-use native.Mathlib.Nat.{suc-ne-zero}
+use Prim.Native.Nat.{ℕ, zero, suc, _+_, _-_, _*_, _^_, _≤_, _<_}
+use native.Mathlib.Nat.{suc-ne-zero, le-trans, mul-assoc, mul-le-mul-right, le-mul-of-pos-right, pow-succ', pow-le-pow-right}
 use native.Mathlib.Omega.{arith}
 use lib.Dec.{eqb, leb, ltb}
 use lib.ListN.{length, drop, List·getD-eq-default, drop-of-length-le}
@@ -26,32 +26,44 @@ stands text at b e h = go (ltb at (length text)) refl
     go true q = rw (drop-cons text at 0 (ltb-true at (length text) q), e)
     go false q = absurd (omega (arith, List·getD-eq-default text 0 (ltb-false at (length text) q)))
 
+-- A number that leaves space for so many digits more is small, and so is the one with a digit more.
+small-so : (value most : ℕ) → (value + 1) * 10 ^ most ≤ 10000 → value ≤ 9999
+small-so value most fits = omega (arith, fits, le-mul-of-pos-right (value + 1) (pow-le-pow-right {n = 10} (omega arith) {i = 0} {j = most} (omega arith)))
+
+small-next : (value d most : ℕ) → d < 10 → (value + 1) * 10 ^ suc most ≤ 10000 → (value * 10 + d + 1) * 10 ^ most ≤ 10000
+small-next value d most h fits =
+    let shifted : (value + 1) * 10 * 10 ^ most ≤ 10000 = rw (mul-assoc (value + 1) 10 (10 ^ most), ← pow-succ' 10 most) fits in
+    le-trans (mul-le-mul-right (10 ^ most) (omega arith)) shifted
+
 -- Some digits were read: those of a number, from a place to the next.
 record Digits (text : List ℕ) (at value next : ℕ) : Type 0 where
   s : List ℕ
   is : Decimal value s
+  small : value ≤ 9999
   bytes : drop at text ≡ s ++ drop next text
 
 -- So were some more, behind those of a number that is not 0.
 record Further (text : List ℕ) (at next value : ℕ) (front : List ℕ) : Type 0 where
   s : List ℕ
   is : Decimal value (front ++ s)
+  small : value ≤ 9999
   bytes : drop at text ≡ s ++ drop next text
 
-digits-read : (most value : ℕ) (text : List ℕ) (at v next : ℕ) (front : List ℕ) → Decimal value front → 1 ≤ value → digits most value text at ≡ good v next
+digits-read : (most value : ℕ) (text : List ℕ) (at v next : ℕ) (front : List ℕ) → Decimal value front → 1 ≤ value → (value + 1) * 10 ^ most ≤ 10000 → digits most value text at ≡ good v next
     → Further text at next v front
 unfolding digits
-digits-read zero value text at v next front d h e =
+digits-read zero value text at v next front d h fits e =
     let a : value ≡ v = cc in
     let b : at ≡ next = cc in
-    record { s = []; is = rw (append-nil, ← a) d; bytes = rw b }
-digits-read (suc most) value text at v next front d h e =
+    record { s = []; is = rw (append-nil, ← a) d; small = rw (← a) (small-so value zero fits); bytes = rw b }
+digits-read (suc most) value text at v next front d h fits e =
     go (isDigit (byteAt text at)) refl e
-    (λ k f. digits-read most (value * 10 + (byteAt text at - digitZero)) text (suc at) v next (front ++ (byteAt text at ∷ [])) k (omega arith) f)
+    (λ k fits f. digits-read most (value * 10 + (byteAt text at - digitZero)) text (suc at) v next (front ++ (byteAt text at ∷ [])) k (omega arith) fits f)
   where
     go : (t : Bool) → isDigit (byteAt text at) ≡ t
         → cond t (digits most (value * 10 + (byteAt text at - digitZero)) text (suc at)) (good value at) ≡ good v next
         → (Decimal (value * 10 + (byteAt text at - digitZero)) (front ++ (byteAt text at ∷ []))
+        → (value * 10 + (byteAt text at - digitZero) + 1) * 10 ^ most ≤ 10000
         → digits most (value * 10 + (byteAt text at - digitZero)) text (suc at) ≡ good v next
         → Further text (suc at) next v (front ++ (byteAt text at ∷ [])))
         → Further text at next v front
@@ -61,16 +73,17 @@ digits-read (suc most) value text at v next front d h e =
         let raw : Decimal (value * 10 + (byteAt text at - 48)) (front ++ ((48 + (byteAt text at - 48)) ∷ [])) =
         more value (byteAt text at - 48) front d h (omega arith) in
         let one : Decimal (value * 10 + (byteAt text at - 48)) (front ++ (byteAt text at ∷ [])) = rw b at raw in
-        let f = further one e in
+        let f = further one (small-next value (byteAt text at - 48) most (omega arith) fits) e in
         record {
           s = byteAt text at ∷ f .s;
           is = rw (← append-snoc front (byteAt text at) (f .s)) (f .is);
+          small = f .small;
           bytes = stands text at (byteAt text at) refl (omega arith) ∙ ap (λ (l : List ℕ). byteAt text at ∷ l) (f .bytes);
         }
     go false q e further =
         let a : value ≡ v = cc in
         let b : at ≡ next = cc in
-        record { s = []; is = rw (append-nil, ← a) d; bytes = rw b }
+        record { s = []; is = rw (append-nil, ← a) d; small = rw (← a) (small-so value (suc most) fits); bytes = rw b }
 
 number-read : (text : List ℕ) (at v next : ℕ) → number text at ≡ good v next → Digits text at v next
 unfolding number digits
@@ -83,8 +96,8 @@ number-read text at v next e = go (eqb (byteAt text at) digitZero) (isDigit (byt
         let value : 0 * 10 + (b - 48) ≡ b - 48 = omega arith in
         let raw : Decimal (b - 48) ((48 + (b - 48)) ∷ []) = digit (b - 48) (omega arith) in
         let one : Decimal (b - 48) (b ∷ []) = rw same at raw in
-        let f = digits-read 3 (b - 48) text (suc at) v next (b ∷ []) one (some b r z) (rw value at e) in
-        record { s = b ∷ f .s; is = f .is; bytes = stands text at b is (omega arith) ∙ ap (λ (l : List ℕ). b ∷ l) (f .bytes) }
+        let f = digits-read 3 (b - 48) text (suc at) v next (b ∷ []) one (some b r z) (omega (arith, r)) (rw value at e) in
+        record { s = b ∷ f .s; is = f .is; small = f .small; bytes = stands text at b is (omega arith) ∙ ap (λ (l : List ℕ). b ∷ l) (f .bytes) }
       where
         some : (b : ℕ) → (48 ≤ b) × (b ≤ 57) → (b ≡ 48 → ⊥) → 1 ≤ b - 48
         some b r z = go (leb 1 (b - 48)) refl
@@ -100,7 +113,7 @@ number-read text at v next e = go (eqb (byteAt text at) digitZero) (isDigit (byt
         let a : 0 ≡ v = cc in
         let b : suc at ≡ next = cc in
         let zero-digit : Decimal 0 (48 ∷ []) = digit 0 (omega arith) in
-        record { s = 48 ∷ []; is = rw (← a) zero-digit; bytes = rw (← b) (stands text at 48 (eqb-true (byteAt text at) 48 p) (omega arith)) }
+        record { s = 48 ∷ []; is = rw (← a) zero-digit; small = omega (arith, a); bytes = rw (← b) (stands text at 48 (eqb-true (byteAt text at) 48 p) (omega arith)) }
     go false true p q e = first (byteAt text at) refl (eqb-false (byteAt text at) 48 p) q e
     go false false p q e = absurd (suc-ne-zero 0 (cc))
 
@@ -128,6 +141,7 @@ byte-read b text at v next e h = go (eqb (byteAt text at) b) refl e
 record Field (end : ℕ) (text : List ℕ) (at value next : ℕ) : Type 0 where
   s : List ℕ
   is : Decimal value s
+  small : value ≤ 9999
   bytes : drop at text ≡ s ++ (end ∷ drop next text)
 
 field-read : (end : ℕ) (text : List ℕ) (at v next : ℕ) → 0 < end → field end text at ≡ good v next → Field end text at v next
@@ -141,15 +155,18 @@ field-read end text at v next h e =
     go value i j d b e =
         let same : value ≡ v = cc in
         let place : j ≡ next = cc in
-        rw (← same, ← place) (record { s = d .s; is = d .is; bytes = d .bytes ∙ ap (λ (l : List ℕ). d .s ++ l) b })
+        rw (← same, ← place) (record { s = d .s; is = d .is; small = d .small; bytes = d .bytes ∙ ap (λ (l : List ℕ). d .s ++ l) b })
 
 -- A line.
-record LineRead (text : List ℕ) (at : ℕ) (e : Entry) (next : ℕ) : Type 0 where
-  s : List ℕ
-  is : LineText e s
-  bytes : drop at text ≡ s ++ drop next text
+pub record LineRead (text : List ℕ) (at : ℕ) (e : Entry) (next : ℕ) : Type 0 where
+  pub s : List ℕ
+  pub is : LineText e s
+  pub parentMost : e .parent ≤ 9999
+  pub amperesMost : e .amperes ≤ 9999
+  pub voltsMost : e .volts ≤ 9999
+  pub bytes : drop at text ≡ s ++ drop next text
 
-line-read : (text : List ℕ) (at : ℕ) (e : Entry) (next : ℕ) → line text at ≡ good e next → LineRead text at e next
+pub line-read : (text : List ℕ) (at : ℕ) (e : Entry) (next : ℕ) → line text at ≡ good e next → LineRead text at e next
 unfolding line
 line-read text at e next l =
     let p = took (field space text at) _ e next l in
@@ -178,6 +195,9 @@ line-read text at e next l =
             voltsIs = v .is;
             is = refl;
           };
+          parentMost = p .small;
+          amperesMost = a .small;
+          voltsMost = v .small;
           bytes = p .bytes ∙ rw (a .bytes, v .bytes) (sym (simp append-assoc));
         })
 

@@ -1,7 +1,7 @@
 -- What is written in a text is read of it.
 use mathlib.Core.Path.{_≡_, refl, sym, ap, _∙_}
 use mathlib.Core.Bool.{Bool, true, false, cond}
-use mathlib.Core.List.{List, [], _∷_, _++_, append-assoc}
+use mathlib.Core.List.{List, [], _∷_, _++_, append-assoc, append-nil}
 use Prim.Native.Nat.{ℕ, zero, suc, _+_, _-_, _*_, _^_, _≤_, _<_}
 use native.Mathlib.Nat.{pow-suc, pow-le-pow-right}
 use native.Mathlib.Omega.{arith}
@@ -13,7 +13,7 @@ use borrow.Author.Tests.{leb-true, leb-false, le-leb, eq-eqb, ne-eqb}
 use Rattle.rooms.specs.Table.{mostNodes}
 use Rattle.schedules.specs.Sizes.{isSize}
 use Rattle.schedules.specs.Text.{byteAt, space, newline, isDigit, Step, good, bad, follow, byte, digits, number, field, line}
-use Rattle.schedules.specs.Schedule.{inRange, passed, judged, whole, linesFrom}
+use Rattle.schedules.specs.Schedule.{inRange, passed, judged, whole, Lines, linesFrom, linesOf}
 use Rattle.schedules.specs.Written.{Decimal, digit, LineText, Written, Pass}
 use Rattle.schedules.specs.Written as written
 use Rattle.rooms.proofs.Fronts.{stands}
@@ -137,12 +137,12 @@ field-written end {v} {s} k h n text at rest e =
     record { good-so = rw (number-written k h text at end rest e n, st .is, eq-eqb end end refl); bytes = st .next }
 
 -- A line of numbers that are small enough.
-record LineReached (text : List ℕ) (at : ℕ) (e : Entry) (rest : List ℕ) : Type 0 where
-  next : ℕ
-  good-so : line text at ≡ good e next
-  bytes : drop next text ≡ rest
+pub record LineReached (text : List ℕ) (at : ℕ) (e : Entry) (rest : List ℕ) : Type 0 where
+  pub next : ℕ
+  pub good-so : line text at ≡ good e next
+  pub bytes : drop next text ≡ rest
 
-line-written : (e : Entry) (s : List ℕ) → LineText e s → e .parent ≤ 9999 → e .amperes ≤ 9999 → e .volts ≤ 9999 → (text : List ℕ) (at : ℕ) (rest : List ℕ)
+pub line-written : (e : Entry) (s : List ℕ) → LineText e s → e .parent ≤ 9999 → e .amperes ≤ 9999 → e .volts ≤ 9999 → (text : List ℕ) (at : ℕ) (rest : List ℕ)
     → drop at text ≡ s ++ rest → LineReached text at e rest
 unfolding line follow
 line-written e s l hp ha hv text at rest d =
@@ -157,20 +157,56 @@ line-written e s l hp ha hv text at rest d =
       bytes = v .bytes;
     }
 
+-- A line has a byte at least.
+pub line-size : (e : Entry) (s : List ℕ) → LineText e s → 1 ≤ length s
+line-size e s l = omega (arith, ap length (l .is), length-append (l .parent) (space ∷ (l .amperes ++ (space ∷ (l .volts ++ (newline ∷ []))))))
+
 judged-passed : (place : ℕ) (s : Step Entry) (e : Entry) (next : ℕ) → s ≡ good e next → isSize (e .amperes) ≡ true → inRange place e ≡ true → judged place s ≡ passed e next
 unfolding judged
 judged-passed place s e next g a b = rw (g, a, b)
 
 -- ---- All lines
 
-pub lines-written : {entries : List Entry} {t : List ℕ} → Written entries t → (place : ℕ) → Pass place entries → (most : ℕ) (text : List ℕ) (at : ℕ) → drop at text ≡ t
-    → place ≤ mostNodes → mostNodes < place + most → linesFrom most text place at ≡ record { entries = entries; ending = whole }
-lines-written written.none place p most text at d h k = linesFrom-end most text place at (omega (arith, length-drop at text, ap length d))
-lines-written (written.line e rest s t l w) place (written.more a b p) zero text at d h k = absurd (omega arith)
-lines-written (written.line e rest s t l w) place (written.more a b p) (suc most) text at d h k =
+-- Lines in front of others, entry by entry.
+abbrev pub ahead : List Entry → Lines → Lines
+ahead entries l = record { entries = entries ++ l .entries; ending = l .ending }
+
+-- Lines that pass were read: as many places on the others follow, of which so many may come.
+pub record FrontRead (entries : List Entry) (most : ℕ) (text : List ℕ) (place at : ℕ) (rest : List ℕ) : Type 0 where
+  pub next : ℕ
+  pub bytes : drop next text ≡ rest
+  pub left : ℕ
+  pub place′ : ℕ
+  pub further : place′ ≡ place + length entries
+  pub few : place′ ≤ mostNodes
+  pub enough : mostNodes < place′ + left
+  pub is : linesFrom most text place at ≡ ahead entries (linesFrom left text place′ next)
+
+pub front-written : {entries : List Entry} {own : List ℕ} → Written entries own → (place : ℕ) → Pass place entries → (most : ℕ) (text : List ℕ) (at : ℕ) (rest : List ℕ)
+    → drop at text ≡ own ++ rest → place ≤ mostNodes → mostNodes < place + most → FrontRead entries most text place at rest
+front-written written.none place p most text at rest d h k =
+    record { next = at; bytes = d; left = most; place′ = place; further = omega arith; few = h; enough = k; is = refl }
+front-written (written.line e others s t l w) place (written.more a b p) zero text at rest d h k = absurd (omega arith)
+front-written (written.line e others s t l w) place (written.more a b p) (suc most) text at rest d h k =
     let r = range-is place e b in
-    let one = line-written e s l (omega (arith, r .parent, r .few)) (omega (arith, size-most (e .amperes) a)) (omega (arith, r .most)) text at t d in
-    let size : 1 ≤ length s = omega (arith, ap length (l .is), length-append (l .parent) (space ∷ (l .amperes ++ (space ∷ (l .volts ++ (newline ∷ [])))))) in
-    let there : at < length text = omega (arith, length-drop at text, ap length d, length-append s t) in
-    let others = lines-written w (suc place) p most text (one .next) (one .bytes) (r .few) (omega arith) in
-    linesFrom-some most text place at there ∙ rw (judged-passed place (line text at) e (one .next) (one .good-so) a b, others)
+    let front : drop at text ≡ s ++ (t ++ rest) = d ∙ append-assoc s t rest in
+    let one = line-written e s l (omega (arith, r .parent, r .few)) (omega (arith, size-most (e .amperes) a)) (omega (arith, r .most)) text at (t ++ rest) front in
+    let there : at < length text = omega (arith, length-drop at text, ap length front, length-append s (t ++ rest), line-size e s l) in
+    let behind-it = front-written w (suc place) p most text (one .next) rest (one .bytes) (r .few) (omega arith) in
+    record {
+      next = behind-it .next;
+      bytes = behind-it .bytes;
+      left = behind-it .left;
+      place′ = behind-it .place′;
+      further = omega (arith, behind-it .further);
+      few = behind-it .few;
+      enough = behind-it .enough;
+      is = linesFrom-some most text place at there ∙ rw (judged-passed place (line text at) e (one .next) (one .good-so) a b, behind-it .is);
+    }
+
+-- A text that is lines that pass, and nothing else.
+pub lines-written : {entries : List Entry} {text : List ℕ} → Written entries text → Pass 0 entries → linesOf text ≡ record { entries = entries; ending = whole }
+lines-written {entries} {text} w p =
+    let f = front-written w 0 p (suc mostNodes) text 0 [] (sym (append-nil text)) (omega arith) (omega arith) in
+    let ended : length text ≤ f .next = omega (arith, length-drop (f .next) text, ap length (f .bytes)) in
+    f .is ∙ ap (ahead entries) (linesFrom-end (f .left) text (f .place′) (f .next) ended) ∙ rw append-nil

@@ -1,9 +1,9 @@
 -- What holds of a schedule, apart from any code.
 -- proofs/Promises.antt proves each: `SizesRise` as `sizes-rise`, and so on.
 use mathlib.Core.Path.{_≡_}
-use mathlib.Core.Bool.{true}
+use mathlib.Core.Bool.{true, false}
 use mathlib.Core.List.{List, []}
-use mathlib.Core.Logic.{_↔_}
+use mathlib.Core.Logic.{_↔_, _⊎_}
 use Prim.Native.Nat.{ℕ, _-_, _≤_, _<_}
 use lib.ListN.{length, getD, take}
 use Rattle.numbers.specs.Sheet.{bytesOf}
@@ -13,8 +13,8 @@ use Rattle.rooms.specs.Limits.{nodeAt, checked}
 use Rattle.rooms.specs.Outcome.{writing}
 use Rattle.rooms.specs.Outcome as rooms
 use Rattle.schedules.specs.Sizes.{sizes, isSize}
-use Rattle.schedules.specs.Schedule.{rating, whole, linesOf, accepted, scheduling}
-use Rattle.schedules.specs.Written.{Written, Pass}
+use Rattle.schedules.specs.Schedule.{rating, inRange, whole, linesOf, tableOf, Outcome, accepted, scheduling, answerOf, answerNumber, answerFigure}
+use Rattle.schedules.specs.Written.{Written, Pass, LineFirst, LinesFirst}
 use Rattle.schedules.specs.declared.Entry.{Entry}
 
 -- ---- The sizes
@@ -48,6 +48,53 @@ AcceptedIsWritten = (text table : List ℕ) (words : ℕ) → scheduling text wo
 abbrev pub WrittenIsRead : Type 0
 WrittenIsRead = (entries : List Entry) (text : List ℕ) → Written entries text → Pass 0 entries
     → linesOf text ≡ record { entries = entries; ending = whole }
+
+-- ---- Answers
+
+-- An outcome's answer has this number and this figure.
+abbrev pub Tells : Outcome → ℕ → ℕ → Type 0
+Tells outcome number figure = (answerNumber (answerOf outcome) ≡ number) × (answerFigure (answerOf outcome) ≡ figure)
+
+-- All of the text is lines that pass, at least one, whose table has so many words.
+pub record AllLines (text : List ℕ) (needed : ℕ) : Type 0 where
+  pub entries : List Entry
+  pub lines : Written entries text
+  pub pass : Pass 0 entries
+  pub some : 1 ≤ length entries
+  pub needs : length (tableOf entries) ≡ needed
+
+-- Behind so many lines that pass, the text goes on, with no line.
+pub record NoLineAt (text : List ℕ) (place : ℕ) : Type 0 where
+  pub rest : List ℕ
+  pub front : LinesFirst place text rest
+  pub more : 1 ≤ length rest
+  pub none : (e : Entry) → LineFirst e rest → ⊥
+
+-- Behind so many lines that pass comes a line whose amperes are no size.
+pub record NoSizeAt (text : List ℕ) (place : ℕ) : Type 0 where
+  pub rest : List ℕ
+  pub front : LinesFirst place text rest
+  pub entry : Entry
+  pub line : LineFirst entry rest
+  pub other : isSize (entry .amperes) ≡ false
+
+-- Behind so many lines that pass comes a line with a size, whose volts or parent are out of range there, or which is a 513th.
+pub record OutOfRangeAt (text : List ℕ) (place : ℕ) : Type 0 where
+  pub rest : List ℕ
+  pub front : LinesFirst place text rest
+  pub entry : Entry
+  pub line : LineFirst entry rest
+  pub size : isSize (entry .amperes) ≡ true
+  pub out : inRange place entry ≡ false
+
+-- Each answer comes exactly where it is due: 24, 25 or 26 at the first line that does not pass, by what it is; 26 at 0 of a text without
+-- lines; else 12 where the list is shorter than the table, at the table's length; else acceptance, with that length.
+pub record AnsweredExactly : Type 0 where
+  pub no-line : (text : List ℕ) (words place : ℕ) → Tells (scheduling text words) 24 place ↔ NoLineAt text place
+  pub no-size : (text : List ℕ) (words place : ℕ) → Tells (scheduling text words) 25 place ↔ NoSizeAt text place
+  pub out-of-range : (text : List ℕ) (words place : ℕ) → Tells (scheduling text words) 26 place ↔ (OutOfRangeAt text place ⊎ ((text ≡ []) × (place ≡ 0)))
+  pub list-short : (text : List ℕ) (words needed : ℕ) → Tells (scheduling text words) 12 needed ↔ (AllLines text needed × (words < needed))
+  pub accepted : (text : List ℕ) (words needed : ℕ) → Tells (scheduling text words) 0 needed ↔ (AllLines text needed × (needed ≤ words))
 
 -- ---- The table of an accepted schedule
 

@@ -3,6 +3,7 @@ use mathlib.Core.Path.{_≡_}
 use mathlib.Core.Bool.{true}
 use mathlib.Core.List.{List, [], _∷_, _++_}
 use Prim.Native.Nat.{ℕ, suc, _+_, _*_, _≤_, _<_}
+use lib.ListN.{length}
 use Rattle.schedules.specs.Sizes.{isSize}
 use Rattle.schedules.specs.Text.{digitZero, space, newline}
 use Rattle.schedules.specs.Schedule.{inRange}
@@ -32,3 +33,28 @@ pub data Written : List Entry → List ℕ → Type 0 where
 pub data Pass : ℕ → List Entry → Type 0 where
   none : {place : ℕ} → Pass place []
   more : {place : ℕ} {e : Entry} {rest : List Entry} → isSize (e .amperes) ≡ true → inRange place e ≡ true → Pass (suc place) rest → Pass place (e ∷ rest)
+
+-- ---- What a text begins with
+
+-- No number of a line is above this.
+abbrev pub mostNumber : ℕ
+mostNumber = 9999
+
+-- A text begins with the line of an entry, none of whose numbers is too large.
+pub record LineFirst (e : Entry) (text : List ℕ) : Type 0 where
+  pub own : List ℕ
+  pub behind : List ℕ
+  pub is : text ≡ own ++ behind
+  pub line : LineText e own
+  pub parentMost : e .parent ≤ mostNumber
+  pub amperesMost : e .amperes ≤ mostNumber
+  pub voltsMost : e .volts ≤ mostNumber
+
+-- A text begins with so many lines that pass, and this is the rest of it.
+pub record LinesFirst (count : ℕ) (text rest : List ℕ) : Type 0 where
+  pub entries : List Entry
+  pub own : List ℕ
+  pub is : text ≡ own ++ rest
+  pub lines : Written entries own
+  pub pass : Pass 0 entries
+  pub counted : length entries ≡ count

@@ -10,7 +10,7 @@ use borrow.Author.Tests.{ltb-true, ltb-false}
 use lib.Dec.{ltb}
 use lib.ListN.{length, getD}
 use Rattle.sender.specs.Period.{following, serversFrom, positionAfter, namedCount, period}
-use Rattle.sender.specs.Outcome.{Outcome, accepted, refused, inRange, sending, answerOf, sentNumber, sentFigure}
+use Rattle.sender.specs.Outcome.{Outcome, accepted, refused, inRange, sending, answerOf, sentNumber, sentFigure, sentPosition}
 use Rattle.sender.specs.Promises.{InRange, Tells, AnsweredExactly, Kept, PeriodKept, run, ceilDiv, EachWithin}
 use Rattle.sender.specs.declared.SendRefusal.{SendRefusal}
 use Rattle.sender.proofs.Periods.{positionAfter-add, positionAfter-suc, positionAfter-below, positionAfter-once, reached, length-serversFrom, getD-serversFrom, mem-serversFrom}
@@ -69,21 +69,27 @@ module _ (count position m space : ℕ) where
           (h, k, same, omega arith)
       go t (whole is h k l) = absurd (omega (arith, numbered is))
 
-  tells-0 : (named : ℕ) → Tells outcome 0 named ↔ ((1 ≤ m) × InRange count position × (many ≡ named) × (named ≤ space))
-  tells-0 named = (
+  tells-0 : (named next : ℕ) → (Tells outcome 0 named × (sentPosition (answerOf outcome) ≡ next))
+      ↔ ((1 ≤ m) × InRange count position × (many ≡ named) × (named ≤ space) × (positionAfter count position named ≡ next))
+  tells-0 named next = (
     λ t. go t (reason count position m space),
     λ h.
-        let t = tells (sending-whole count position m space (h .0) (inside (h .1)) (omega (arith, h .2, h .3))) in
-        (t .0, t .1 ∙ length-serversFrom count position many ∙ h .2),
+        let is = sending-whole count position m space (h .0) (inside (h .1)) (omega (arith, h .2, h .3)) in
+        let t = tells is in
+        ((t .0, t .1 ∙ length-serversFrom count position many ∙ h .2), positioned is ∙ ap (positionAfter count position) (h .2) ∙ h .4),
   )
     where
-      go : Tells outcome 0 named → Reason count position m space → (1 ≤ m) × InRange count position × (many ≡ named) × (named ≤ space)
+      positioned : {o : Outcome} → outcome ≡ o → sentPosition (answerOf outcome) ≡ sentPosition (answerOf o)
+      positioned is = ap (λ (x : Outcome). sentPosition (answerOf x)) is
+
+      go : Tells outcome 0 named × (sentPosition (answerOf outcome) ≡ next) → Reason count position m space
+          → (1 ≤ m) × InRange count position × (many ≡ named) × (named ≤ space) × (positionAfter count position named ≡ next)
       go t (no-messages is h) = absurd (omega (arith, numbered is))
       go t (out-of-range is h k) = absurd (omega (arith, numbered is))
       go t (short is h k l) = absurd (omega (arith, numbered is))
       go t (whole is h k l) =
-          let same : many ≡ named = sym (length-serversFrom count position many) ∙ sym (tells is .1) ∙ t .1 in
-          (h, k, same, omega arith)
+          let same : many ≡ named = sym (length-serversFrom count position many) ∙ sym (tells is .1) ∙ t .0 .1 in
+          (h, k, same, omega arith, ap (positionAfter count position) (sym same) ∙ sym (positioned is) ∙ t .1)
 
 pub answered-exactly : AnsweredExactly
 answered-exactly = record { no-messages = tells-27; out-of-range = tells-28; list-short = tells-12; accepted = tells-0 }

@@ -67,3 +67,8 @@ sentNumber (Refused refusal) = refusalNumber refusal
 abbrev pub sentFigure : Sent → ℕ
 sentFigure (Accepted named next) = named
 sentFigure (Refused refusal) = refusalPlace refusal
+
+-- An answer's second value: the new position. A refusal has none, for which 0 stands here; the call writes none.
+abbrev pub sentPosition : Sent → ℕ
+sentPosition (Accepted named next) = next
+sentPosition (Refused refusal) = 0

@@ -5,8 +5,8 @@ use mathlib.Core.List.{List, [], _∷_, List·Memᴰ, flatten}
 use mathlib.Core.Logic.{_↔_}
 use Prim.Native.Nat.{ℕ, zero, suc, _+_, _-_, _/_, _≤_, _<_}
 use lib.ListN.{length, getD}
-use Rattle.sender.specs.Period.{following, namedCount, Period, period}
-use Rattle.sender.specs.Outcome.{mostServers, Outcome, accepted, sending, answerOf, sentNumber, sentFigure}
+use Rattle.sender.specs.Period.{following, positionAfter, namedCount, Period, period}
+use Rattle.sender.specs.Outcome.{mostServers, Outcome, accepted, sending, answerOf, sentNumber, sentFigure, sentPosition}
 
 -- ---- Answers
 
@@ -21,14 +21,16 @@ abbrev pub Tells : Outcome → ℕ → ℕ → Type 0
 Tells outcome number figure = (sentNumber (answerOf outcome) ≡ number) × (sentFigure (answerOf outcome) ≡ figure)
 
 -- Each answer comes exactly where it is due: 27 where m is 0; else 28 where position or count is out of range; else 12 where the list
--- is too short for the servers to be named, at their count; else acceptance, which tells their count.
+-- is too short for the servers to be named, at their count; else acceptance, which tells their count and the position after
+-- as many servers.
 pub record AnsweredExactly : Type 0 where
   pub no-messages : (count position m space : ℕ) → Tells (sending count position m space) 27 0 ↔ (m ≡ 0)
   pub out-of-range : (count position m space : ℕ) → Tells (sending count position m space) 28 1 ↔ ((1 ≤ m) × (InRange count position → ⊥))
   pub list-short : (count position m space needed : ℕ) → Tells (sending count position m space) 12 needed
       ↔ ((1 ≤ m) × InRange count position × (namedCount count m ≡ needed) × (space < needed))
-  pub accepted : (count position m space named : ℕ) → Tells (sending count position m space) 0 named
-      ↔ ((1 ≤ m) × InRange count position × (namedCount count m ≡ named) × (named ≤ space))
+  pub accepted : (count position m space named next : ℕ)
+      → (Tells (sending count position m space) 0 named × (sentPosition (answerOf (sending count position m space)) ≡ next))
+      ↔ ((1 ≤ m) × InRange count position × (namedCount count m ≡ named) × (named ≤ space) × (positionAfter count position named ≡ next))
 
 -- ---- A period
 

@@ -3,13 +3,13 @@ use mathlib.Core.Path.{_≡_, refl, sym, ap, _∙_}
 use mathlib.Core.Bool.{Bool, true, false, cond, _&&_, _||_, Bool·beq, true≢false}
 use mathlib.Core.List.{List, [], _∷_}
 use mathlib.Core.Logic.{_⊎_, inl, inr}
-use Prim.Native.Nat.{ℕ, suc, _*_, _^_, _<_, _≤_}
+use Prim.Native.Nat.{ℕ, zero, suc, _*_, _^_, _<_, _≤_}
 use native.Mathlib.Nat.{zero-lt-suc, zero-mul}
 use native.Mathlib.Omega.{arith}
 use lib.IntN.{pos}
 use lib.Dec.{T, eqb, eqb→eq}
-use lib.ListN.{length}
-use lib.Ieee.{Float, nan, inf, fin, binary64, up, down, mul, lt, le, eq, ofInt}
+use lib.ListN.{length, getD}
+use lib.Ieee.{Float, nan, inf, fin, binary64, fits, up, down, mul, lt, le, eq, ofInt}
 use lib.Ieee.Bits.{is-true}
 use lib.Ieee.Fits.{and-i, and-l, and-r, up-pos, eq→eqb}
 use lib.Ieee.Positive.{positive}
@@ -21,9 +21,9 @@ use Rattle.control.specs.declared.Reading.the-variants.{Working, Failed}
 use Rattle.control.specs.declared.Controller.{Controller}
 use Rattle.control.specs.declared.Stepped.{Stepped}
 use Rattle.control.specs.declared.Stepped.the-variants.{Next}
-use Rattle.control.specs.Step.{float0, ordered, errors, lesser, least, dcChange, sum, cut, withCap, successor, stepped, stepNumber}
-use Rattle.control.specs.Promises.{AcceptedStep, Sound, Kept}
-use Rattle.control.proofs.FloatOrder.{real, from-true, le-trans, eq-refl, finite-real, bottomless-up, topless-down, finite-bottomless, finite-topless, is-finite}
+use Rattle.control.specs.Step.{ac, float0, ordered, errors, lesser, least, dcChange, sum, cut, withCap, successor, stepped, stepNumber}
+use Rattle.control.specs.Promises.{AcceptedStep, Sound, Kept, FirstLeast}
+use Rattle.control.proofs.FloatOrder.{real, from-true, not-lt, le-refl, le-trans, lt-le, le-lt-trans, lt-le-trans, eq-refl, finite-real, bottomless-up, topless-down, finite-bottomless, finite-topless, is-finite}
 use Rattle.control.proofs.FloatRounding.{zeroed, no-size, add-real, mul-real, mul-zero, count-positive}
 use Rattle.control.proofs.FloatCut.{cut-within, cut-zero-added}
 use Rattle.control.proofs.Sound.{efficiency-positive}
@@ -71,6 +71,80 @@ least-real error (next ∷ rest) h (reals k more) = least-real (lesser error nex
     go true = k
     go false = h
 
+-- ---- The least error, and the first of equals
+
+first-least : (error : AcWatts) (rest : List AcWatts) → T (real (error .0)) → Reals rest → FirstLeast (error ∷ rest) (least error rest)
+unfolding least
+first-least error [] h no-reals =
+    record { place = 0; within = omega arith; is = refl; least = λ j l. only j l; first = λ j l. absurd (omega arith) }
+  where
+    only : (j : ℕ) → j < 1 → le (error .0) (getD (error ∷ []) j (ac nan) .0) ≡ true
+    only zero l = is-true _ (le-refl (error .0) h)
+    only (suc j) l = absurd (omega arith)
+first-least error (next ∷ rest) h (reals k more) = choose (lt (next .0) (error .0)) refl (first-least next rest k more) (first-least error rest h more)
+  where
+    -- The next is less: what is first among it and the rest comes a place later.
+    later : T (lt (next .0) (error .0)) → FirstLeast (next ∷ rest) (least next rest) → FirstLeast (error ∷ next ∷ rest) (least next rest)
+    later less f =
+        record { place = suc (f .place); within = omega (arith, f .within); is = f .is; least = at-most; first = below-all }
+      where
+        x : Float
+        x = least next rest .0
+
+        x-real : T (real x)
+        x-real = least-real next rest k more
+
+        at-most : (j : ℕ) → j < length (error ∷ next ∷ rest) → le x (getD (error ∷ next ∷ rest) j (ac nan) .0) ≡ true
+        at-most zero l = is-true _ (le-trans x (next .0) (error .0) k (from-true (f .least 0 (omega arith))) (lt-le (next .0) (error .0) less))
+        at-most (suc j) l = f .least j (omega arith)
+
+        below-all : (j : ℕ) → j < suc (f .place) → lt x (getD (error ∷ next ∷ rest) j (ac nan) .0) ≡ true
+        below-all zero l = is-true _ (le-lt-trans x (next .0) (error .0) x-real k h (from-true (f .least 0 (omega arith))) less)
+        below-all (suc j) l = f .first j (omega arith)
+
+    -- The next is not less: it stands behind the error, and nothing of it is told.
+    passed-over : T (le (error .0) (next .0)) → FirstLeast (error ∷ rest) (least error rest) → FirstLeast (error ∷ next ∷ rest) (least error rest)
+    passed-over no-less f = at-place (f .place) refl
+      where
+        x : Float
+        x = least error rest .0
+
+        x-real : T (real x)
+        x-real = least-real error rest h more
+
+        at-most : (j : ℕ) → j < length (error ∷ next ∷ rest) → le x (getD (error ∷ next ∷ rest) j (ac nan) .0) ≡ true
+        at-most zero l = f .least 0 (omega arith)
+        at-most (suc zero) l = is-true _ (le-trans x (error .0) (next .0) h (from-true (f .least 0 (omega arith))) no-less)
+        at-most (suc (suc j)) l = f .least (suc j) (omega arith)
+
+        at-place : (p : ℕ) → f .place ≡ p → FirstLeast (error ∷ next ∷ rest) (least error rest)
+        at-place zero e =
+            record { place = 0; within = omega arith; is = ap (λ (i : ℕ). getD (error ∷ rest) i (ac nan)) (sym e) ∙ f .is; least = at-most; first = λ j l. absurd (omega arith) }
+        at-place (suc p) e =
+            record {
+              place = suc (suc p);
+              within = omega (arith, f .within, e);
+              is = ap (λ (i : ℕ). getD (error ∷ rest) i (ac nan)) (sym e) ∙ f .is;
+              least = at-most;
+              first = below-all;
+            }
+          where
+            below-all : (j : ℕ) → j < suc (suc p) → lt x (getD (error ∷ next ∷ rest) j (ac nan) .0) ≡ true
+            below-all zero l = f .first 0 (omega (arith, e))
+            below-all (suc zero) l = is-true _ (lt-le-trans x (error .0) (next .0) x-real h k (from-true (f .first 0 (omega (arith, e)))) no-less)
+            below-all (suc (suc j)) l = f .first (suc j) (omega (arith, e))
+
+    choose : (b : Bool) → lt (next .0) (error .0) ≡ b → FirstLeast (next ∷ rest) (least next rest) → FirstLeast (error ∷ rest) (least error rest)
+        → FirstLeast (error ∷ next ∷ rest) (least (ac (cond b (next .0) (error .0))) rest)
+    choose true e f g = later (from-true e) f
+    choose false e f g = passed-over (not-lt (next .0) (error .0) k h e) g
+
+pub least-first : (s : AcceptedStep) (error : AcWatts) (rest : List AcWatts) → errors (s .readings) ≡ error ∷ rest → FirstLeast (errors (s .readings)) (least error rest)
+least-first s error rest e = rw e (go (rw e at (errors-real (s .readings) (accepted s .readings-sound))))
+  where
+    go : Reals (error ∷ rest) → FirstLeast (error ∷ rest) (least error rest)
+    go (reals h more) = first-least error rest h more
+
 -- There are no more errors than readings, so that a float counts them.
 few-errors : (readings : List Reading) → length (errors readings) ≤ length readings
 unfolding errors
@@ -82,7 +156,7 @@ few-errors (Working budget measured ∷ rest) = omega (arith, few-errors rest)
 
 module _ (c : Controller) (sound : Sound c) where
   low-high : T (le (c .low .0) (c .high .0))
-  low-high = le-trans (c .low .0) (c .cap .0) (c .high .0) (from-true (sound .cap-finite)) (from-true (sound .low-cap)) (from-true (sound .cap-high))
+  low-high = le-trans (c .low .0) (c .cap .0) (c .high .0) (finite-real (c .cap .0) (from-true (sound .cap-finite))) (from-true (sound .low-cap)) (from-true (sound .cap-high))
 
   k-positive : T (positive (c .k))
   k-positive = efficiency-positive (c .k) (and-i (lt float0 (c .k)) _ (from-true (sound .k-above)) (from-true (sound .k-most)))
@@ -146,10 +220,10 @@ zero-equal (fin s m e) z =
     either true = refl
     either false = refl
 
-pub zero-error-kept : (s : AcceptedStep) (error : AcWatts) (rest : List AcWatts)
+pub zero-error-kept : (s : AcceptedStep) (error : AcWatts) (rest : List AcWatts) → fits binary64 (s .controller .cap .0) ≡ true
     → errors (s .readings) ≡ error ∷ rest → T (eq (least error rest .0) float0) → Kept s
 unfolding successor
-zero-error-kept s error rest w z = go (cut-zero-added (c .cap) change (c .low) (c .high) (from-true (s .isFloat)) cap-finite change-is-zero (from-true (a .sound .low-cap)) (from-true (a .sound .cap-high)))
+zero-error-kept s error rest is-float w z = go (cut-zero-added (c .cap) change (c .low) (c .high) (from-true is-float) cap-finite change-is-zero (from-true (a .sound .low-cap)) (from-true (a .sound .cap-high)))
   where
     c : Controller
     c = s .controller

@@ -2,28 +2,20 @@
 use mathlib.Core.Path.{_≡_, refl}
 use mathlib.Core.Bool.{Bool, true, false, cond, _&&_}
 use lib.Dec.{T}
-use lib.Ieee.{Float, nan, inf, fin, lt, le, eq}
+use lib.Ieee.{Float, nan, inf, fin, lt, le}
 use lib.Ieee.Fits.{and-i, and-l, and-r}
-use lib.Ieee.Scale.{finite}
 use Rattle.control.specs.Step.{ordered, lesserFigure}
 use Rattle.control.specs.Judged.{greaterFigure}
-use Rattle.control.proofs.FloatOrder.{real, from-true, or-l, le-real, not-lt, le-trans, topless-down, bottomless-up, finite-topless, finite-bottomless, is-finite}
+use Rattle.control.proofs.FloatOrder.{real, from-true, le-real, not-lt, le-trans, lt-le}
 
 -- ---- Two figures in a range
 
-lt-le : (x y : Float) → lt x y ≡ true → T (le x y)
-unfolding le
-lt-le x y e = or-l (lt x y) (eq x y) (from-true e)
-
-module _ (low high : Float) (bottom : T (finite low)) (top : T (finite high)) where
+module _ (low high : Float) where
   -- Where the lesser is not below the range and the greater not above it, both lie in it.
   between : (x y : Float) → T (le x y) → T (le low x) → T (le y high) → T (ordered low x high) × T (ordered low y high)
   between x y h p q =
-      let x-up = bottomless-up low x p (finite-bottomless low bottom) in
-      let y-down = topless-down y high q (finite-topless high top) in
-      let x-finite = is-finite x x-up (topless-down x y h y-down) in
-      let y-finite = is-finite y (bottomless-up x y h x-up) y-down in
-      (and-i (le low x) (le x high) p (le-trans x y high y-finite h q), and-i (le low y) (le y high) (le-trans low x y x-finite p h) q)
+      let are-real = le-real x y h in
+      (and-i (le low x) (le x high) p (le-trans x y high (are-real .1) h q), and-i (le low y) (le y high) (le-trans low x y (are-real .0) p h) q)
 
   -- The test of the two says whether both lie in the range, also of a NaN: that is the one or the other.
   pub range-of-two : (x y : Float) → le low (lesserFigure x y) && le (greaterFigure x y) high ≡ ordered low x high && ordered low y high
@@ -47,7 +39,7 @@ module _ (low high : Float) (bottom : T (finite low)) (top : T (finite high)) wh
       go : (b : Bool) → lt y x ≡ b → le low (cond b y x) && le (cond b x y) high ≡ both
       go true less = same (le low y && le x high) both
           (λ h.
-          let o = between y x (lt-le y x less) (and-l (le low y) (le x high) h) (and-r (le low y) (le x high) h) in
+          let o = between y x (lt-le y x (from-true less)) (and-l (le low y) (le x high) h) (and-r (le low y) (le x high) h) in
           and-i (ordered low x high) (ordered low y high) (o .1) (o .0))
           (λ h. and-i (le low y) (le x high) (in-y h .0) (in-x h .1))
       go false not-less = same (le low x && le y high) both

@@ -221,10 +221,21 @@ under-mul : (s : Bool) (a b : ℕ) → under s (a * b) ≡ under s a * b
 under-mul true a b = refl
 under-mul false a b = sym (zero-mul b)
 
-pub le-trans : (x y z : Float) → T (finite y) → T (le x y) → T (le y z) → T (le x z)
+pub le-trans : (x y z : Float) → T (real y) → T (le x y) → T (le y z) → T (le x z)
 unfolding le
 le-trans x nan z f p q = absurd f
-le-trans x (inf t) z f p q = absurd f
+le-trans nan (inf t) z f p q = absurd p
+le-trans (inf true) (inf t) nan f p q = absurd q
+le-trans (inf true) (inf t) (inf true) f p q = tt
+le-trans (inf true) (inf t) (inf false) f p q = tt
+le-trans (inf true) (inf t) (fin u o g) f p q = tt
+le-trans (inf false) (inf true) z f p q = absurd p
+le-trans (inf false) (inf false) z f p q = q
+le-trans (fin s m e) (inf true) z f p q = absurd p
+le-trans (fin s m e) (inf false) nan f p q = absurd q
+le-trans (fin s m e) (inf false) (inf true) f p q = absurd q
+le-trans (fin s m e) (inf false) (inf false) f p q = tt
+le-trans (fin s m e) (inf false) (fin u o g) f p q = absurd q
 le-trans nan (fin t n d) z f p q = absurd p
 le-trans (inf false) (fin t n d) z f p q = absurd p
 le-trans (inf true) (fin t n d) nan f p q = absurd q
@@ -240,6 +251,28 @@ le-trans (fin s m e) (fin t n d) (fin u o g) f p q =
     says-le s (m * up e * down g) u (o * up g * down e)
     (simp (over-mul, under-mul)
     (chain (over s m * up e) (under s m * up e) (over t n * up d) (under t n * up d) (over u o * up g) (under u o * up g) (down e) (down d) (down g) (down-pos d) h k))
+
+-- ---- `lt` beside `le`
+
+pub lt-le : (x y : Float) → T (lt x y) → T (le x y)
+unfolding le
+lt-le x y h = or-l (lt x y) (eq x y) h
+
+module _ (x y z : Float) (x-real : T (real x)) (y-real : T (real y)) (z-real : T (real z)) where
+  -- What would not be less would be no less, and against one of the two.
+  pub le-lt-trans : T (le x y) → T (lt y z) → T (lt x z)
+  le-lt-trans p q = go (lt x z) refl
+    where
+      go : (b : Bool) → lt x z ≡ b → T b
+      go true e = tt
+      go false e = absurd (subst T (le-not-lt z y (le-trans z x y x-real (not-lt x z x-real z-real e) p)) q)
+
+  pub lt-le-trans : T (lt x y) → T (le y z) → T (lt x z)
+  lt-le-trans p q = go (lt x z) refl
+    where
+      go : (b : Bool) → lt x z ≡ b → T b
+      go true e = tt
+      go false e = absurd (subst T (le-not-lt y x (le-trans y z x z-real q (not-lt x z x-real z-real e))) p)
 
 -- ---- What lies between finite values is finite
 abbrev pub topless : Float → Bool

@@ -17,11 +17,11 @@ use Rattle.control.specs.declared.Controller.{Controller}
 use Rattle.control.specs.declared.Stepped.the-variants.{Next, Refused}
 use Rattle.control.specs.Step.{ac, errors, successor, stepped, stepNumber, stepPlace, controllerAfter}
 use Rattle.control.specs.Call.{readingOf}
-use Rattle.control.specs.Promises.{CapInRange, RangeStays, SuccessorGood, ZeroErrorKeepsCap, working, MarkDecides, NoneWorkingKeepsCap, RefusedUnchanged, Sound, FirstUnsound, Refusals}
+use Rattle.control.specs.Promises.{CapInRange, RangeStays, SuccessorGood, ZeroErrorKeepsCap, LeastError, working, MarkDecides, NoneWorkingKeepsCap, RefusedUnchanged, Sound, FirstUnsound, Refusals}
 use Rattle.control.proofs.FloatOrder.{from-true}
 use Rattle.control.proofs.Sound.{sound-good}
 use Rattle.control.proofs.Outcomes.{AllSound, Outcome, bad-controller, bad-reading, all-sound, outcome}
-use Rattle.control.proofs.Accepted.{accepted, successor-range, next-in-range, next-finite, zero-error-kept}
+use Rattle.control.proofs.Accepted.{accepted, successor-range, next-in-range, next-finite, zero-error-kept, least-first}
 
 -- ---- Accepted steps
 
@@ -52,7 +52,10 @@ successor-good s =
     })
 
 pub zero-error-keeps-cap : ZeroErrorKeepsCap
-zero-error-keeps-cap s error rest w z = zero-error-kept s error rest w (from-true z)
+zero-error-keeps-cap s error rest is-float w z = zero-error-kept s error rest is-float w (from-true z)
+
+pub least-error : LeastError
+least-error = least-first
 
 -- ---- Working cords
 

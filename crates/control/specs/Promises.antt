@@ -8,7 +8,7 @@ use mathlib.Core.List.{List, [], _∷_}
 use mathlib.Core.Logic.{_↔_}
 use Prim.Native.Nat.{ℕ, suc, _<_}
 use lib.ListN.{length, getD}
-use lib.Ieee.{Float, binary64, fits, lt, le, eq}
+use lib.Ieee.{Float, nan, binary64, fits, lt, le, eq}
 use lib.Ieee.Scale.{finite}
 use Rattle.control.specs.declared.AcWatts.{AcWatts}
 use Rattle.control.specs.declared.Reading.{Reading}
@@ -16,17 +16,16 @@ use Rattle.control.specs.declared.Reading.the-variants.{Working, Failed}
 use Rattle.control.specs.declared.Controller.{Controller}
 use Rattle.control.specs.declared.Refusal.{Refusal}
 use Rattle.control.specs.declared.Stepped.the-variants.{Next, Refused}
-use Rattle.control.specs.Step.{float0, float1, mostWatts, ordered, goodController, errors, least, stepped, stepNumber, stepPlace}
+use Rattle.control.specs.Step.{float0, float1, mostWatts, ac, ordered, goodController, errors, least, stepped, stepNumber, stepPlace}
 use Rattle.control.specs.Call.{readingOf}
 
 -- ---- Accepted steps
 
--- A step by four readings that is accepted. The cap is a 64-bit float, as every figure in the code is.
+-- A step by four readings that is accepted.
 pub record AcceptedStep : Type 0 where
   pub controller : Controller
   pub readings : List Reading
   pub next : Controller
-  pub isFloat : fits binary64 (controller .cap .0) ≡ true
   pub four : length readings ≡ 4
   pub is : stepped controller readings ≡ Next next
 
@@ -42,15 +41,32 @@ RangeStays = (s : AcceptedStep) → (s .next .k ≡ s .controller .k) × (s .nex
 abbrev pub SuccessorGood : Type 0
 SuccessorGood = (s : AcceptedStep) → goodController (s .next) ≡ true
 
--- An error of zero leaves the cap's value; but for a cap of zero, whose sign may change, it leaves the whole controller.
+-- An error of zero leaves the value of a cap that is a 64-bit float, as every figure in the code is; but for a cap of zero, whose sign may
+-- change, it leaves the whole controller.
 pub record Kept (s : AcceptedStep) : Type 0 where
   pub value : eq (s .next .cap .0) (s .controller .cap .0) ≡ true
   pub whole : eq (s .controller .cap .0) float0 ≡ false → s .next ≡ s .controller
 
 abbrev pub ZeroErrorKeepsCap : Type 0
 ZeroErrorKeepsCap =
-    (s : AcceptedStep) (error : AcWatts) (rest : List AcWatts)
+    (s : AcceptedStep) (error : AcWatts) (rest : List AcWatts) → fits binary64 (s .controller .cap .0) ≡ true
     → errors (s .readings) ≡ error ∷ rest → eq (least error rest .0) float0 ≡ true → Kept s
+
+-- ---- The error
+
+-- An error stands at a place of some: it is the least of them, and the first of its equals.
+pub record FirstLeast (errors : List AcWatts) (error : AcWatts) : Type 0 where
+  pub place : ℕ
+  pub within : place < length errors
+  pub is : getD errors place (ac nan) ≡ error
+  pub least : (j : ℕ) → j < length errors → le (error .0) (getD errors j (ac nan) .0) ≡ true
+  pub first : (j : ℕ) → j < place → lt (error .0) (getD errors j (ac nan) .0) ≡ true
+
+-- The error of an accepted step is that of the working cords.
+abbrev pub LeastError : Type 0
+LeastError =
+    (s : AcceptedStep) (error : AcWatts) (rest : List AcWatts)
+    → errors (s .readings) ≡ error ∷ rest → FirstLeast (errors (s .readings)) (least error rest)
 
 -- ---- Working cords
 

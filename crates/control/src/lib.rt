@@ -249,7 +249,7 @@ impl Controller {
         Judged::Good(Tally::none())
     }
 
-    // The step, once the controller and its cords are judged.
+    // The step, once the controller and its cords are judged. It moves whatever controller it is given: the caller hands over the judgement of this one.
     pub fn step_by(self, judged: Judged) -> Stepped
         ensures { λ r. ⌜ r ≡ steppedBy self judged ⌝ }
     {

@@ -55,7 +55,7 @@ module _ (controllers : List Float) (working : List ℕ) (budgets measured : Lis
   abbrev after : ℕ → List Float
   after = steppedTo controllers working budgets measured
 
-  -- A figure that is unfit controller's cap is untouched.
+  -- A figure that is no controller's cap is untouched.
   untouched : (n at : ℕ) → ((j : ℕ) → j < n → at ≡ 4 * j → ⊥) → getD (after n) at nan ≡ getD controllers at nan
   unfolding steppedTo
   untouched zero at none = refl
@@ -93,7 +93,7 @@ module _ (controllers : List Float) (working : List ℕ) (budgets measured : Lis
       go earlier (inr less) =
           getD-set-other (numbersTo controllers working budgets measured results n) n i (stepNumber (own n)) 0 (ne-of-lt less) ∙ earlier less
 
--- A place between two caps is unfit cap's.
+-- A place between two caps is no cap's.
 between-caps : (i j k : ℕ) → 0 < k → k < 4 → 4 * i + k ≡ 4 * j → ⊥
 between-caps i j k h l e = omega arith
 

@@ -19,7 +19,7 @@ unfolding ofBits
 returns c =
     let lesser = c .before .before in
     and-true (sym (ap (le float0) (lesser .lesser .ensures)) ∙ c .before .if1 .taken) (ap (λ (x : Float). le x mostWatts) (c .greater .ensures))
-    ∙ range-of-two float0 mostWatts tt tt (lesser .before .args .first) (lesser .before .args .second)
+    ∙ range-of-two float0 mostWatts (lesser .before .args .first) (lesser .before .args .second)
 
 returns-2 : tie.Need-returns-2
 unfolding ofBits
@@ -27,7 +27,7 @@ returns-2 c =
     let lesser = c .before in
     c .if1 .left
     ∙ and-false _ (sym (ap (le float0) (lesser .lesser .ensures)) ∙ c .if1 .left)
-    ∙ range-of-two float0 mostWatts tt tt (lesser .before .args .first) (lesser .before .args .second)
+    ∙ range-of-two float0 mostWatts (lesser .before .args .first) (lesser .before .args .second)
 
 pub in-range-spec : {M : Type 1} → statement M
 in-range-spec = tie.close (tie.spec lesser-requires greater-requires returns returns-2)

@@ -20,7 +20,7 @@ use Rattle.rooms.proofs.Trees.{kids, own, under, rise}
 use Rattle.deals.specs.Metrics.{Deal, metrics, atLevel}
 use Rattle.deals.specs.Dealing.{weight, cordOver, amount, reached, granted}
 use Rattle.deals.specs.Held.{cutAt, someFrom, cutFrom, nearestRoot, holder, heldOver}
-use Rattle.deals.specs.Properties.{NearestCut}
+use Rattle.deals.specs.Promises.{NearestCut}
 use Rattle.deals.proofs.Rows.{sum-tight}
 use Rattle.deals.proofs.Requests.{Dealable, later, or-right, sumBelow, sumBelow-all, asked, pcapmin-is, request-asked, cut-full, cut-lows}
 use Rattle.deals.proofs.Amounts.{whole, whole-node, whole-cord}

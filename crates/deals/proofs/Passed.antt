@@ -1,20 +1,21 @@
 -- A deal from starts, told as passing the watts from low to start on first: what a node has in hand beyond the lows is what is passed on
--- beneath it and its amount.
-use mathlib.Core.Path.{_≡_, refl, sym, ap, ap₂, _∙_, subst}
+-- beneath it and its amount. Where each start is the low nothing is passed, and the deal is told by its excesses alone.
+use mathlib.Core.Path.{_≡_, refl, sym, ap, ap₂, _∙_, subst, fun-ext}
 use mathlib.Core.Bool.{Bool, true, false}
-use mathlib.Core.List.{List, map}
+use mathlib.Core.List.{List, [], _∷_, map}
 use Prim.Native.Nat.{ℕ, _+_, _-_, _≤_, _<_}
+use native.Mathlib.Nat.{sub-self, sub-zero, zero-add}
 use native.Mathlib.Omega.{arith}
 use lib.Dec.{eqb}
 use borrow.Author.Tests.{eq-eqb}
-use Rattle.figures.specs.Figures.{sumOf}
+use Rattle.figures.specs.Figures.{total, cell, sumOf}
 use Rattle.figures.specs.Sums.{on}
 use Rattle.figures.proofs.Sums.{on-yes}
 use Rattle.rooms.proofs.Trees.{kids, own, kids-add, kids-cong}
 use Rattle.splits.specs.Split.{split}
-use Rattle.deals.specs.Metrics.{Deal, metrics}
+use Rattle.deals.specs.Metrics.{Deal, sumsFrom, metrics}
 use Rattle.deals.specs.Dealing.{Child, node, cord, children, weight, weightsOf, beside, partOf, amount, reached}
-use Rattle.deals.specs.Properties.{passed, childExcess, given, PassedFirst}
+use Rattle.deals.specs.Promises.{passed, childExcess, given, PassedFirst, DealtByExcess}
 use Rattle.deals.proofs.Children.{children-sum, children-cong, partOf-node, partOf-cord}
 use Rattle.deals.proofs.Requests.{Dealable, later, own-add}
 use Rattle.deals.proofs.Equations.{weights, pcapmin-starts}
@@ -83,4 +84,43 @@ module _ (d : Deal) (ok : Dealable d) (st : Startable d) where
           on-yes (eqb (d .level c) (d .level c)) (d .start c - d .low c) (eq-eqb (d .level c) (d .level c) refl),
           st .least c l,
         );
+  }
+
+-- ---- Where each start is the low
+
+sum-none : {A : Type 0} (l : List A) → sumOf (map (λ (_ : A). 0) l) ≡ 0
+unfolding total
+sum-none [] = refl
+sum-none (a ∷ rest) = zero-add _ ∙ sum-none rest
+
+module _ (d : Deal) (same : d .start ≡ d .low) where
+  -- Nothing is passed first.
+  passed-none : (j : ℕ) (child : Child) → passed d j child ≡ 0
+  unfolding metrics
+  passed-none j (node m) = ap (λ (f : ℕ → ℕ). cell (sumsFrom d f (d .nodes) 0) m j - cell (metrics d .pcapmins) m j) same ∙ sub-self _
+  passed-none j (cord c) = ap (λ (f : ℕ → ℕ). on (eqb (d .level c) j) (f c - d .low c)) same ∙ nothing (eqb (d .level c) j)
+    where
+      nothing : (t : Bool) → on t (d .low c - d .low c) ≡ 0
+      nothing true = sub-self (d .low c)
+      nothing false = refl
+
+  -- So a child is given its part of all that its node has, by the excesses.
+  given-all : (n j watts : ℕ) (child : Child) → given d n j watts child ≡ partOf d (childExcess d j) n watts child
+  unfolding given
+  given-all n j watts child =
+      let all : (f : Child → ℕ) → f ≡ (λ _. 0)
+      → f child + partOf d (λ other. childExcess d j other - f other) n (watts - sumOf (map f (children d n))) child ≡ partOf d (childExcess d j) n watts child
+      = λ f none.
+      ap (λ (f : Child → ℕ). f child + partOf d (λ other. childExcess d j other - f other) n (watts - sumOf (map f (children d n))) child) none
+      ∙ zero-add _
+      ∙ ap (λ (x : ℕ). partOf d (λ other. childExcess d j other - 0) n x child) (ap (λ (s : ℕ). watts - s) (sum-none (children d n)) ∙ sub-zero watts)
+      ∙ ap (λ (w : Child → ℕ). partOf d w n watts child) (fun-ext (λ other. sub-zero (childExcess d j other))) in
+      all (passed d j) (fun-ext (passed-none j))
+
+  pub dealt-by-excess : PassedFirst d → DealtByExcess d
+  dealt-by-excess first = record {
+    amounts = first .inHand;
+    root = first .root;
+    toNode = λ m n j l h e. first .toNode m n j l h e ∙ given-all n j (first .inHand n j) (node m);
+    toCord = λ c n l e. first .toCord c n l e ∙ ap (λ (x : ℕ). d .low c + x) (given-all n (d .level c) (first .inHand n (d .level c)) (cord c));
   }

@@ -18,18 +18,18 @@ use Rattle.rooms.proofs.Trees.{under}
 use Rattle.figures.specs.Figures.{at}
 use Rattle.rooms.specs.Cords.{cordAt, serverAt, rankOf}
 use Rattle.rooms.specs.Lists.{carriedBy, lowsOf}
-use Rattle.deals.specs.Metrics.{Deal, dealOf}
+use Rattle.deals.specs.Metrics.{Deal, dealFrom, dealOf}
 use Rattle.deals.specs.Dealing.{granted}
 use Rattle.deals.specs.Wants.{needs}
 use Rattle.deals.specs.SecondDeal.{firstDeal, firstGrants, firstUsable, firstUsed, secondDeal, secondWants, secondGrants, caps}
 use Rattle.deals.specs.Plan.{Plan, planOf}
 use Rattle.deals.specs.Headroom.{ceilingsOf, rootHeadroom}
 use Rattle.deals.specs.Ways.{Root, cordBeneath, sumBeneath, fromRank}
-use Rattle.deals.specs.Promises.{AcceptedPlan, AcceptedHasRoom, Answered, AnswerOfBothDeals, Kept, FirstKept, SecondKept, Greatest, FirstGreatest, SecondGreatest, SettledFromRank, RefusalNine, CapsKeepUsable, GrantsKeepUsed, HeadroomWithinLimits, HeadroomWithinCeilings, HeadroomAllLent, HoldsDown, HeldNamed, HeldNone}
-use Rattle.deals.specs.Properties.{CapsInRange, UsableInRange, UsedGranted, SecondWantsInRange, FirstGivesAll, SecondGivesAll, SecondPassesFirst, NearestCut, HeldNearest, fromLevel, Totals, StartsLeft, FiguresFit, HeadroomFits}
+use Rattle.deals.specs.Promises.{AcceptedPlan, AcceptedHasRoom, Answered, AnswerOfBothDeals, FirstByExcess, SecondPassesFirst, CapsInRange, UsableInRange, UsedGranted, NearestCut, HeldNearest, Kept, FirstKept, SecondKept, Greatest, FirstGreatest, SecondGreatest, SettledFromRank, RefusalNine, CapsKeepUsable, GrantsKeepUsed, HeadroomWithinLimits, HeadroomWithinCeilings, HeadroomAllLent, HoldsDown, HeldNamed, HeldNone}
+use Rattle.deals.specs.Properties.{SecondWantsInRange, FirstGivesAll, SecondGivesAll, fromLevel, Totals, StartsLeft, FiguresFit, HeadroomFits}
 use Rattle.deals.proofs.Requests.{WholeWay}
 use Rattle.deals.proofs.Computed.{Startable, granted-most, deal-gives-all}
-use Rattle.deals.proofs.Passed.{passed-first}
+use Rattle.deals.proofs.Passed.{passed-first, dealt-by-excess}
 use Rattle.deals.proofs.Totals.{deal-totals}
 use Rattle.deals.proofs.RoomDeals.{levelsOf-at, roomDeal, dealOf-is}
 use Rattle.deals.proofs.BothDeals.{server-facts, cord-facts, room-dealable, grants-way, first-dealable, first-starts, first-startable, second-dealable, second-starts, second-startable, firstWants-lows, secondWants-lows, firstUsed-granted, secondGrants-used, capsUsed-granted, secondWants-wants, caps-least, caps-usable, caps-need, usable-least, usable-need, need-ge}
@@ -126,7 +126,15 @@ accepted-has-room = plan-good
 pub answer-of-both-deals : AnswerOfBothDeals
 answer-of-both-deals = answered
 
--- ---- 1
+-- ---- Document 01, "Dealing"
+
+pub first-by-excess : FirstByExcess
+unfolding firstDeal dealOf dealFrom
+first-by-excess p =
+    let ok = accepted-room p in
+    dealt-by-excess _ refl (passed-first _ (first-dealable (p .room) ok (p .demands)) (first-startable (p .room) ok (p .demands)))
+
+-- ---- Demand 3
 
 pub first-kept : FirstKept
 unfolding firstGrants firstDeal
@@ -139,8 +147,6 @@ unfolding secondGrants secondDeal
 second-kept p =
     of-plan p (λ r demands plan. Kept r (secondWants r demands) (plan .grants)) (λ r ok demands. kept r ok (firstUsed r demands) _ (secondWants-lows r ok demands) (second-starts r ok demands))
 
--- ---- 2
-
 pub first-greatest : FirstGreatest
 unfolding firstGrants firstDeal
 first-greatest p =
@@ -151,8 +157,6 @@ pub second-greatest : SecondGreatest
 unfolding secondGrants secondDeal
 second-greatest p =
     of-plan p (λ r demands plan. Greatest r (secondWants r demands) (plan .grants)) (λ r ok demands. greatest r ok (firstUsed r demands) _ (secondWants-lows r ok demands) (second-starts r ok demands))
-
--- ---- 3
 
 -- One table has one room.
 same-room : (w v : List ℕ) (r s : Room) (i j : ℕ) → checked w 0 ≡ good r i → checked v 0 ≡ good s j → w ≡ v → s ≡ r
@@ -176,22 +180,10 @@ settled-from-rank rank p q one same =
           ∙ ap (λ (z : List ℕ). at z v) (alike caps _ (answered q .caps));
     }
 
--- ---- 4
-
 pub refusal-nine : RefusalNine
 refusal-nine = plan-nine
 
--- ---- 5
-
-pub caps-keep-usable : CapsKeepUsable
-caps-keep-usable p =
-    of-plan p (λ r demands plan. (v : ℕ) → v < length (r .servers) → at (firstUsable r demands) v ≤ at (plan .caps) v) caps-usable
-
-pub grants-keep-used : GrantsKeepUsed
-grants-keep-used p =
-    of-plan p (λ r demands plan. (c : ℕ) → c < roomCords r → at (firstUsed r demands) c ≤ at (plan .grants) c) secondGrants-used
-
--- ---- 6
+-- ---- A.1
 
 pub headroom-within-limits : HeadroomWithinLimits
 headroom-within-limits p =
@@ -206,7 +198,20 @@ pub headroom-all-lent : HeadroomAllLent
 headroom-all-lent p =
     of-plan p (λ r demands plan. (root : ℕ) → Root r root → sumBeneath r root (at (plan .headroom)) ≡ rootHeadroom r demands root) headroom-lent
 
--- ---- 7
+-- ---- A.2
+
+pub second-passes-first : SecondPassesFirst
+second-passes-first p = passed-first _ (second-dealable (p .room) (accepted-room p) (p .demands)) (second-startable (p .room) (accepted-room p) (p .demands))
+
+pub caps-keep-usable : CapsKeepUsable
+caps-keep-usable p =
+    of-plan p (λ r demands plan. (v : ℕ) → v < length (r .servers) → at (firstUsable r demands) v ≤ at (plan .caps) v) caps-usable
+
+pub grants-keep-used : GrantsKeepUsed
+grants-keep-used p =
+    of-plan p (λ r demands plan. (c : ℕ) → c < roomCords r → at (firstUsed r demands) c ≤ at (plan .grants) c) secondGrants-used
+
+-- ---- A.5
 
 pub held-named : HeldNamed
 held-named p =
@@ -218,13 +223,20 @@ held-none p =
     of-plan p (λ r demands plan.
     (c : ℕ) → c < roomCords r → at (plan .grants) c ≡ at (secondWants r demands) c → at (plan .held) c ≡ 0) room-held-none
 
--- ---- What else is proved of every plan
-
-pub caps-in-range : CapsInRange
-caps-in-range p =
+pub held-nearest : HeldNearest
+held-nearest p =
     of-plan p (λ r demands plan.
-    (v : ℕ) → v < length (r .servers) → (serverAt r v .least ≤ at (plan .caps) v) × (at (plan .caps) v ≤ at (needs r demands) v))
-    (λ r ok demands v l. (caps-least r ok demands v l, caps-need r ok demands v l))
+    (c : ℕ) → c < roomCords r → at (plan .grants) c < at (secondWants r demands) c → NearestCut (secondDeal r demands) c (at (plan .held) c - 1))
+    room-held-nearest
+
+-- ---- A.11 (the equal plans of A.3 and A.11: Versions.antt; the verdicts of A.9: Judged.antt)
+
+pub used-granted : UsedGranted
+used-granted p =
+    of-plan p (λ r demands plan.
+    (c : ℕ) → c < roomCords r
+    → (at (firstUsed r demands) c ≤ at (firstGrants r demands) c) × (at (carriedBy r (plan .caps)) c ≤ at (plan .grants) c))
+    (λ r ok demands c l. (firstUsed-granted r ok demands c l, capsUsed-granted r ok demands c l))
 
 pub usable-in-range : UsableInRange
 unfolding firstUsable
@@ -235,12 +247,13 @@ usable-in-range p v l =
       usable-need r ok (needs r (p .demands)) (firstGrants r (p .demands)) v l,
     )
 
-pub used-granted : UsedGranted
-used-granted p =
+pub caps-in-range : CapsInRange
+caps-in-range p =
     of-plan p (λ r demands plan.
-    (c : ℕ) → c < roomCords r
-    → (at (firstUsed r demands) c ≤ at (firstGrants r demands) c) × (at (carriedBy r (plan .caps)) c ≤ at (plan .grants) c))
-    (λ r ok demands c l. (firstUsed-granted r ok demands c l, capsUsed-granted r ok demands c l))
+    (v : ℕ) → v < length (r .servers) → (serverAt r v .least ≤ at (plan .caps) v) × (at (plan .caps) v ≤ at (needs r demands) v))
+    (λ r ok demands v l. (caps-least r ok demands v l, caps-need r ok demands v l))
+
+-- ---- What else is proved of every plan
 
 pub second-wants-in-range : SecondWantsInRange
 second-wants-in-range p c l =
@@ -251,15 +264,6 @@ first-gives-all p = deal-gives-all _ (first-dealable (p .room) (accepted-room p)
 
 pub second-gives-all : SecondGivesAll
 second-gives-all p = deal-gives-all _ (second-dealable (p .room) (accepted-room p) (p .demands)) (second-startable (p .room) (accepted-room p) (p .demands))
-
-pub second-passes-first : SecondPassesFirst
-second-passes-first p = passed-first _ (second-dealable (p .room) (accepted-room p) (p .demands)) (second-startable (p .room) (accepted-room p) (p .demands))
-
-pub held-nearest : HeldNearest
-held-nearest p =
-    of-plan p (λ r demands plan.
-    (c : ℕ) → c < roomCords r → at (plan .grants) c < at (secondWants r demands) c → NearestCut (secondDeal r demands) c (at (plan .held) c - 1))
-    room-held-nearest
 
 pub totals : Totals
 totals table r end e demands =

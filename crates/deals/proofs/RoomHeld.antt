@@ -17,7 +17,7 @@ use Rattle.deals.specs.SecondDeal.{secondDeal, secondWants, secondGrants
 use Rattle.deals.specs.Held.{heldOver, held}
 use Rattle.deals.specs.Ways.{cordBeneath, sumBeneath}
 use Rattle.deals.specs.Promises.{HoldsDown}
-use Rattle.deals.specs.Properties.{NearestCut}
+use Rattle.deals.specs.Promises.{NearestCut}
 use Rattle.deals.proofs.RoomDeals.{levelsOf-at}
 use Rattle.deals.proofs.BothDeals.{server-facts, cord-facts, second-starts, secondRoomDeal, secondRoomDeal-dealable, of-secondRoomDeal}
 use Rattle.deals.proofs.Held.{holder-full, holder-lows, held-none, held-named, holder-nearest}

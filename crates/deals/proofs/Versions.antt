@@ -23,7 +23,7 @@ use Rattle.deals.specs.Held.{heldOver, held}
 use Rattle.outcomes.specs.Outcome.{unless}
 use Rattle.deals.specs.Plan.{planOf, reasons, planRoom, planStep, plan}
 use Rattle.deals.specs.declared.Lengths.{Lengths}
-use Rattle.deals.specs.Versions.{EqualPlans, EightyThroughout, SharesTenfold}
+use Rattle.deals.specs.Promises.{EqualPlans, EightyThroughout, SharesTenfold}
 
 -- Tables whose rooms name the same overloaded node, or none, and have the same plan whatever the demands and lists: they have equal plans.
 -- (What a plan reads of a room is all that the rooms need to have in common.)

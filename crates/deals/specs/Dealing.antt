@@ -6,7 +6,7 @@
 -- the excesses less P(k). Such a weight is Request − Pcapmin − (starts − Pcapmin) = Request − starts. The P(k) sum to the node's
 -- own used − low watts, which its parent passed to it in the same way, so that the rest is just the part that it got itself (of a
 -- root: its excess less that, its weight). A cord's low, its used − low and its part are its start and its part.
--- (`SecondPassesFirst` in Properties.antt says this of the figures.)
+-- (`SecondPassesFirst` in Promises.antt says this of the figures.)
 use mathlib.Core.Bool.{Bool, false, cond}
 use mathlib.Core.List.{List, [], _∷_, _++_, map}
 use Prim.Native.Nat.{ℕ, zero, suc, _+_, _-_}

@@ -16,6 +16,5 @@ pub mod Ways
 pub mod Promises
 -- What is wrong with a given list of grants (request A.9).
 pub mod Judge
-pub mod Versions
 -- What else is proved of every plan.
 pub mod Properties

@@ -1,7 +1,6 @@
--- What else is proved of every plan: that caps, wants and amounts lie in their ranges, that the second deal is the one that request A.2
--- tells of, that of the cut nodes above a cord the nearest to the root is named (request A.5), what a node's Requests of a rank and above
--- sum to, that they leave the lower ranks their starts, and that the figures fit their words. Demand 3 does not ask for these. Statements
--- only; proofs/Promises.antt proves each: `CapsInRange` as `caps-in-range`, and so on.
+-- What else is proved of every plan, though no document asks for it: that wants and amounts lie in their ranges, what a node's Requests of
+-- a rank and above sum to, that they leave the lower ranks their starts, and that the figures fit their words. Statements only;
+-- proofs/Promises.antt proves each: `SecondWantsInRange` as `second-wants-in-range`, and so on.
 use mathlib.Core.Path.{_≡_}
 use mathlib.Core.Bool.{true, false}
 use mathlib.Core.List.{List, [], map}
@@ -23,28 +22,7 @@ use Rattle.deals.specs.Held.{cutFrom}
 use Rattle.deals.specs.Headroom.{ceilingsOf, nodeCeiling, requestsAt, headroomWeight}
 use Rattle.deals.specs.Promises.{AcceptedPlan}
 
--- ---- Caps, usable and used watts, the second deal's wants, and what a node gives
--- (Over the room's scale, whatever the version: nothing here names a figure of it.)
-
--- A cap is never below its server's least nor above its need.
-abbrev pub CapsInRange : Type 0
-CapsInRange =
-    (p : AcceptedPlan) (v : ℕ) → v < length (p .room .servers)
-    → (serverAt (p .room) v .least ≤ at (p .answer .caps) v) × (at (p .answer .caps) v ≤ at (needs (p .room) (p .demands)) v)
-
--- So are the usable watts after the first deal.
-abbrev pub UsableInRange : Type 0
-UsableInRange =
-    (p : AcceptedPlan) (v : ℕ) → v < length (p .room .servers)
-    → (serverAt (p .room) v .least ≤ at (firstUsable (p .room) (p .demands)) v)
-    × (at (firstUsable (p .room) (p .demands)) v ≤ at (needs (p .room) (p .demands)) v)
-
--- Used never exceeds grant: after the first deal, and of the caps after the second.
-abbrev pub UsedGranted : Type 0
-UsedGranted =
-    (p : AcceptedPlan) (c : ℕ) → c < roomCords (p .room)
-    → (at (firstUsed (p .room) (p .demands)) c ≤ at (firstGrants (p .room) (p .demands)) c)
-    × (at (carriedBy (p .room) (p .answer .caps)) c ≤ at (p .answer .grants) c)
+-- ---- The second deal's wants, and what a node gives
 
 -- The second deal's wants lie from low to the first's wants.
 abbrev pub SecondWantsInRange : Type 0
@@ -67,53 +45,6 @@ FirstGivesAll = (p : AcceptedPlan) → GivesAll (firstDeal (p .room) (p .demands
 
 abbrev pub SecondGivesAll : Type 0
 SecondGivesAll = (p : AcceptedPlan) → GivesAll (secondDeal (p .room) (p .demands))
-
--- ---- The second deal in request A.2's own terms
-
--- What a child is passed first at level j: the watts from low to start of the cords beneath it, or of the cord itself.
-abbrev pub passed : Deal → ℕ → Child → ℕ
-passed d j (node m) = cell (metrics d .starts) m j - cell (metrics d .pcapmins) m j
-passed d j (cord c) = atLevel d j (λ c. d .start c - d .low c) c
-
--- A child's excess at level j.
-abbrev pub childExcess : Deal → ℕ → Child → ℕ
-childExcess d j (node m) = excess (metrics d) m j
-childExcess d j (cord c) = atLevel d j (cordExcess d) c
-
--- What a child gets of the watts in hand of the node at place n: what is passed to it first, and its part of what then remains,
--- split among the children by their excesses less what is passed to each.
-unfoldable pub given : Deal → ℕ → ℕ → ℕ → Child → ℕ
-unfolding children partOf total
-given d n j watts child =
-    let rest = watts - sumOf (map (passed d j) (children d n)) in
-    passed d j child + partOf d (λ other. childExcess d j other - passed d j other) n rest child
-
--- A deal in which each node has watts in hand at each rank, beyond the lows: a root all of its excess, any other what its parent
--- gives it so; and in which each cord is granted its low and what its node gives it so.
-pub record PassedFirst (d : Deal) : Type 0 where
-  pub inHand : ℕ → ℕ → ℕ
-  pub root : (m j : ℕ) → m < d .nodes → j < d .levels → d .parent m ≡ 0 → inHand m j ≡ excess (metrics d) m j
-  pub toNode : (m n j : ℕ) → m < d .nodes → j < d .levels → d .parent m ≡ suc n → inHand m j ≡ given d n j (inHand n j) (node m)
-  pub toCord : (c n : ℕ) → c < d .cords → d .node c ≡ suc n
-      → at (granted d) c ≡ d .low c + given d n (d .level c) (inHand n (d .level c)) (cord c)
-
--- The second deal is such; what is passed first there is used − low.
-abbrev pub SecondPassesFirst : Type 0
-SecondPassesFirst = (p : AcceptedPlan) → PassedFirst (secondDeal (p .room) (p .demands))
-
--- ---- The node that is named for a cord
-
--- The node at place n is above the cord at place c and cut at the cord's level or a higher one, and no node above it is so cut.
-pub record NearestCut (d : Deal) (c n : ℕ) : Type 0 where
-  pub above : beneath (d .parent) (d .nodes) n (d .node c) ≡ true
-  pub cut : cutFrom d (metrics d) (d .level c) n ≡ true
-  pub nearest : (m : ℕ) → beneath (d .parent) (d .nodes) m (d .parent n) ≡ true → cutFrom d (metrics d) (d .level c) m ≡ false
-
--- Such is the node that is named for every cord with less than its second want.
-abbrev pub HeldNearest : Type 0
-HeldNearest =
-    (p : AcceptedPlan) (c : ℕ) → c < roomCords (p .room) → at (p .answer .grants) c < at (secondWants (p .room) (p .demands)) c
-    → NearestCut (secondDeal (p .room) (p .demands)) c (at (p .answer .held) c - 1)
 
 -- ---- The law of totals
 

@@ -1,0 +1,2 @@
+-- The promises of all operations, proved.
+pub mod Promises

@@ -1,0 +1,2 @@
+-- What is promised of all operations.
+pub mod Promises

@@ -6,6 +6,8 @@ import { cordsOf } from './hut.js';
 import { editorOf } from './editor.js';
 import { fixedFigures, planFigures } from './figures.js';
 import { openFile, offer } from './files.js';
+import { hutsTool } from './huts.js';
+import { judgeTool } from './judging.js';
 import { escaped } from './picture.js';
 import { picturePane, wholePicture, sceneOf } from './picture-pane.js';
 import { demandsOf } from './print.js';
@@ -185,6 +187,19 @@ function chosen(what, by) {
   if (by === 'enter') editor.choose(span);
 }
 
+/// Chooses a breaker or cord from elsewhere than the picture.
+function select(what) {
+  picture.select(what);
+  chosen(what);
+}
+
+/// Lights a span's line in the text, as of a word that a tool's refusal means.
+function mark(span) {
+  if (!span || !desk.result?.sheet) return;
+  editor.refresh([span]);
+  editor.reveal(span.line);
+}
+
 /// The row of the picture that the caret's line describes.
 function caretMoved() {
   if (!desk.result?.sheet) return;
@@ -207,9 +222,13 @@ const TOOLS = [
   { id: 'cords', name: 'Cords', show: tool => { tool.innerHTML = cordsHtml(desk.good.hut, desk.good.cords, desk.figures); } },
   { id: 'plan', name: 'Plan text', show: printTool },
   { id: 'try', name: 'Try', show: tryTool, keeps: true },
-  { id: 'bus', name: 'Bus', show: busTool, keeps: true, needs: 'send' },
+  { id: 'bus', name: 'Bus', show: busTool, keeps: true, needs: ['send'] },
+  { id: 'huts', name: 'Two huts', show: hutsTool, keeps: true, needs: ['join', 'part'] },
+  { id: 'judge', name: 'Judge', show: judgeTool, keeps: true, needs: ['judge'] },
 ];
-const toolsHere = () => TOOLS.filter(({ needs }) => !needs || desk.calls.has(needs));
+
+/// A tool is on the page where a call that it needs is in the build.
+const toolsHere = () => TOOLS.filter(({ needs }) => !needs || needs.some(name => desk.calls.has(name)));
 
 function makeTabs() {
   $('tabs').innerHTML = toolsHere().map(({ id, name }) => `<button type="button" role="tab" id="tab-${id}" data-tab="${id}" aria-controls="tool">${name}</button>`).join('');
@@ -437,7 +456,7 @@ const editor = editorOf({ area: $('text'), paint: $('paint'), lines: $('lines') 
 const picture = picturePane($('picture'), view, chosen);
 
 async function start() {
-  Object.assign(desk, { notice, replaceText, text: () => $('text').value });
+  Object.assign(desk, { notice, replaceText, select, mark, text: () => $('text').value });
   desk.calls = await load(Uint8Array.from(atob(MODULE), letter => letter.charCodeAt(0)));
   const kept = store.load();
   $('text').value = kept?.text ?? Object.values(SAMPLE_HUTS)[0];

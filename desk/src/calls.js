@@ -1,6 +1,6 @@
 // The proved calls of include/hutplan.h, compiled for wasm, with lists of words as they are in JavaScript.
 //
-// Each call gives { number: 0, figure, .. } with what was written, or { number, place }: the refusal.
+// Each call gives { number: 0, .. } with what was written, or { number, place }: the refusal.
 
 const PAGE = 65536;
 const WORD = 4;
@@ -75,8 +75,8 @@ export function callsOf(instance) {
   const memory = lender(exports.memory);
   const call = (name, items, written, answerBytes = ANSWER) => {
     const lists = run(exports, memory, `hutplan_${name}`, items, answerBytes);
-    const [number, figure, further] = numbersOf(lists.pop());
-    return number === 0 ? { number, figure, ...written(lists, figure, further) } : { number, place: figure };
+    const [number, ...figures] = numbersOf(lists.pop());
+    return number === 0 ? { number, ...written(lists, ...figures) } : { number, place: figures[0] };
   };
   const table = { room: WORD * TABLE_WORDS };
   const asTable = ([bytes], count) => ({ words: wordsOf(bytes, count) });
@@ -90,6 +90,11 @@ export function callsOf(instance) {
     send: (servers, position, m) => call('send',
       [BigInt(servers), BigInt(position), BigInt(m), { room: WORD * SERVERS }],
       ([list], count, next) => ({ named: wordsOf(list, count), position: next }), 24),
+    join: (first, second) => call('join', [bytesOf(first), bytesOf(second), table], asTable),
+    part: (words, nodes, servers) => call('part', [bytesOf(words), BigInt(nodes), BigInt(servers), table, table],
+      ([first, second], count, further) => ({ first: wordsOf(first, count), second: wordsOf(second, further) }), 24),
+    judge: (words, demands, grants) => call('judge', [bytesOf(words), bytesOf(demands), bytesOf(grants)],
+      (_, verdict, what, rank) => ({ verdict, what, rank }), 32),
   };
 }
 

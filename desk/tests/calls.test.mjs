@@ -25,10 +25,36 @@ test('what is saved reads back', () => {
 });
 
 test('the sender names servers in turn, as in the specification', () => {
-  assert.deepEqual(calls.send(5, 3, 4), { number: 0, figure: 4, named: [3, 4, 0, 1], position: 2 });
-  assert.deepEqual(calls.send(5, 3, 9), { number: 0, figure: 5, named: [3, 4, 0, 1, 2], position: 3 });
+  assert.deepEqual(calls.send(5, 3, 4), { number: 0, named: [3, 4, 0, 1], position: 2 });
+  assert.deepEqual(calls.send(5, 3, 9), { number: 0, named: [3, 4, 0, 1, 2], position: 3 });
   assert.deepEqual(calls.send(5, 0, 0), { number: 27, place: 0 });
   assert.deepEqual(calls.send(5, 5, 1), { number: 28, place: 1 });
+});
+
+/// Requests A.8 to A.10: tried as soon as the build has the calls.
+const request = (name, act) => test(`the call ${name}`, { skip: !calls.has(name) && `${name} is not in this build` }, act);
+const ROOM_H = [1, 2, 0, 150, 0, 500, 2, 1, 100, 400, 2, 1, 500, 2, 500, 1, 100, 400, 1, 2, 1000];
+
+request('join', () => {
+  const joined = [1, 4, 0, 150, 0, 500, 0, 150, 0, 500, 4, ...ROOM_H.slice(7), 1, 100, 400, 2, 3, 500, 4, 500, 1, 100, 400, 1, 4, 1000];
+  assert.deepEqual(calls.join(ROOM_H, ROOM_H), { number: 0, words: joined });
+  const { words } = calls.read(bytes('samples/room-s-full-load.bin'));
+  assert.deepEqual(calls.join(ROOM_H, words), { number: 19, place: 0 });
+});
+
+request('part', () => {
+  const { words } = calls.join(ROOM_H, ROOM_H);
+  assert.deepEqual(calls.part(words, 2, 2), { number: 0, first: ROOM_H, second: ROOM_H });
+  assert.deepEqual(calls.part(words, 4, 2), { number: 22, place: 0 });
+  assert.deepEqual(calls.part(words, 2, 1), { number: 23, place: 23 });
+});
+
+request('judge', () => {
+  assert.deepEqual(calls.judge(ROOM_H, [400, 400], [120, 133, 267]), { number: 0, verdict: 0, what: 0, rank: 0 });
+  assert.deepEqual(calls.judge(ROOM_H, [400, 400], [120, 49, 267]), { number: 0, verdict: 1, what: 1, rank: 0 });
+  assert.deepEqual(calls.judge(ROOM_H, [400, 400], [120, 134, 267]), { number: 0, verdict: 3, what: 2, rank: 0 });
+  assert.deepEqual(calls.judge(ROOM_H, [400, 400], [120, 133, 266]), { number: 0, verdict: 4, what: 2, rank: 1 });
+  assert.deepEqual(calls.judge(ROOM_H, [400, 400], [120, 133]), { number: 21, place: 3 });
 });
 
 test('the build tells which calls it has', () => {

@@ -6,7 +6,7 @@ import { existsSync, mkdtempSync, readFileSync, rmSync, writeFileSync } from 'no
 import { tmpdir } from 'node:os';
 import { join, resolve } from 'node:path';
 import { Browser, KEYS } from './browser.mjs';
-import { bytes, text, ROOM_H } from './desk.mjs';
+import { bytes, calls, text, ROOM_H } from './desk.mjs';
 
 const PAGE = `file://${resolve('target/desk/hutplan.html')}`;
 const files = mkdtempSync(join(tmpdir(), 'desk-'));
@@ -288,4 +288,69 @@ test('dark, a phone and paper', async () => {
   assert.match(await page.text('#door'), /^Valley hut, as wired in spring\n/);
   await page.shot('door');
   await page.developer('Emulation.setEmulatedMedia', { media: '' });
+});
+
+/// Requests A.8 to A.10: used as soon as the build has the calls.
+const request = (name, what, act) => test(what, { skip: !calls.has(name) && `${name} is not in this build` }, async () => {
+  await page.size(1440, 900);
+  await paste(ROOM_H);
+  await act();
+});
+
+request('join', 'two huts are joined', async () => {
+  await page.click('#tab-huts');
+  await page.type('#second', 'breaker left 100 W at 100%\n');
+  await page.click('.join [type="submit"]');
+  assert.match(await page.text('#joined'), /Refused 19, versions differ/);
+  await page.clear('#second');
+  await page.type('#second', 'breaker left 100 W\nserver cam rank 2 from 1 to 50 W\ncord 100% on lefd');
+  await page.click('.join [type="submit"]');
+  assert.match(await page.text('#joined'), /The other text is not a hut\. Line 3: No breaker is named lefd/);
+  await page.press(KEYS.tab);
+  await page.run('document.getElementById("second").value = document.getElementById("second").value.replace("lefd", "left")');
+  await page.click('.join [type="submit"]');
+  assert.match(await page.text('#notice'), /Joined: 3 breakers, 3 servers\./);
+  assert.match(await value(), /breaker left-2 100 W\n[^]*server cam rank 2 from 1 to 50 W\n {2}cord 100% on left-2\n$/);
+  await page.click('#notice button');
+});
+
+request('part', 'a hut is parted where nothing crosses the cut', async () => {
+  await page.click('#tab-servers');
+  await page.click('#tab-huts');
+  await page.click('.part [type="submit"]');
+  assert.match(await page.text('#parted'), /Refused 23, link across the cut\..*It is the breaker of cord 2 of server web\./);
+  assert.equal(await page.text('.painted .marked'), 'right');
+  await page.clear('#part-nodes');
+  await page.type('#part-nodes', '2');
+  await page.click('.part [type="submit"]');
+  assert.match(await page.text('#parted'), /Refused 22, cut out of range/);
+  await paste(`${ROOM_H}breaker far 100 W\n`);
+  await page.clear('#part-servers');
+  await page.type('#part-servers', '2');
+  await page.click('.part [type="submit"]');
+  assert.match(await page.text('#parted'), /The first: 2 breakers, 2 servers\.[^]*The second: 1 breaker, 0 servers\./);
+  await page.shot('parted');
+  await page.click('[data-keep="1"]');
+  assert.equal(await value(), 'version 1\n\nbreaker far 100 W\n');
+});
+
+request('judge', 'another maker\'s grants are judged', async () => {
+  await page.click('#tab-servers');
+  await page.click('[data-all="1"]');
+  await page.click('#tab-judge');
+  const judged = async grants => {
+    await page.clear('#grants');
+    await page.type('#grants', grants);
+    await page.click('.judge [type="submit"]');
+    return page.text('#tool .result');
+  };
+  assert.match(await judged('120\n133\n267'), /^Passes/);
+  assert.match(await judged('49\n133\n267'), /A cord below its low\nCord 1 of web has 49 W, less than its low of 50 W\./);
+  assert.match(await page.text('#why'), /^Cord 1 of web/);
+  assert.match(await judged('201\n133\n267'), /A cord above its want\nCord 1 of web has 201 W, more than its want of 200 W\./);
+  assert.match(await judged('121\n133\n267'), /A breaker over its limit\nThe grants beneath left sum to 121 W; it carries 120 W\./);
+  assert.match(await judged('119\n133\n267'), /Watts withheld\nBeneath left the cords of rank 1 and above could have more in sum\./);
+  await page.shot('judged');
+  assert.match(await judged('119\n133'), /Refused 21, grant count/);
+  assert.match(await judged('119\nmuch'), /Line 2 is no whole number of watts/);
 });

@@ -12,7 +12,7 @@ import { escaped } from './picture.js';
 import { picturePane, wholePicture, sceneOf } from './picture-pane.js';
 import { demandsOf } from './print.js';
 import { store } from './store.js';
-import { serversHtml, fillServers, cordsHtml, doorTables } from './tables.js';
+import { serversHtml, renewServers, fillServers, cordsHtml, doorTables } from './tables.js';
 import { printTool, tryTool, busTool } from './tools.js';
 import { tellText, tellDemands, whyCord, watts, figure, counted } from './words.js';
 
@@ -100,11 +100,9 @@ function showStale() {
 /// A text that was accepted: its hut is shown and planned.
 function accept(result) {
   tellAccepted(result);
-  const before = desk.good;
+  const first = !desk.good;
   desk.good = { ...result, cords: cordsOf(result.hut), fixed: fixedFigures(result.hut, desk.calls) };
-  const names = hut => hut?.servers.map(({ name, rank, least, greatest }) => [name, rank, least, greatest].join(' ')).join('\n');
-  desk.serversChanged = !before || names(before.hut) !== names(result.hut);
-  replan();
+  replan(first);
 }
 
 // ---- The plan
@@ -112,7 +110,7 @@ function accept(result) {
 const demandOf = server => desk.demands.get(server.name) ?? server.greatest;
 
 /// Plans the hut with the demands as they stand, and shows the plan.
-function replan() {
+function replan(fresh = false) {
   const { hut, words, fixed, cords } = desk.good;
   const demands = hut.servers.map(demandOf);
   const figures = planFigures(hut, words, demands, fixed, desk.calls);
@@ -123,8 +121,7 @@ function replan() {
     totals();
     why();
   }
-  showTool(desk.serversChanged);
-  desk.serversChanged = false;
+  showTool(fresh);
 }
 
 function totals() {
@@ -264,7 +261,8 @@ function showTool(fresh) {
 
 function serversTool(tool, _, fresh) {
   const { hut } = desk.good;
-  if (fresh || !tool.querySelector('.servers')) tool.innerHTML = serversHtml(hut);
+  if (fresh || !renewServers(tool, desk.listed, hut)) tool.innerHTML = serversHtml(hut);
+  desk.listed = hut;
   fillServers(tool, hut, hut.servers.map(demandOf), desk.refusedDemands ? null : desk.figures);
   const line = $('demands-told');
   if (!line) return;

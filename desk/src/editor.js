@@ -36,25 +36,34 @@ export function editorOf({ area, paint, lines }) {
   let rows = [''];
   let marks = [];
   let lit = -1;
-  const lineHeight = () => parseFloat(getComputedStyle(area).lineHeight);
+  // Noted when they change, so that painting does not make the browser lay the page out.
+  let height = 20;
+  let seen = 300;
+  let scroll = { top: 0, left: 0 };
 
   const repaint = () => {
-    const height = lineHeight();
-    const first = Math.max(0, Math.floor(area.scrollTop / height) - SPARE_LINES);
-    const last = Math.min(rows.length, first + Math.ceil(area.clientHeight / height) + 2 * SPARE_LINES);
+    const first = Math.max(0, Math.floor(scroll.top / height) - SPARE_LINES);
+    const last = Math.min(rows.length, first + Math.ceil(seen / height) + 2 * SPARE_LINES);
     const shown = Array.from({ length: Math.max(0, last - first) }, (_, index) => first + index);
     const own = line => marks.filter(mark => mark.line === line);
     paint.innerHTML = shown.map(line =>
       `<div class="painted${own(line).length ? ' wrong' : ''}${line === lit ? ' lit' : ''}">${paintLine(rows[line], line, own(line)) || ' '}</div>`).join('');
     lines.innerHTML = shown.map(line => `<div class="${own(line).length ? 'wrong' : ''}">${line + 1}</div>`).join('');
-    const y = first * height - area.scrollTop;
-    paint.style.transform = `translate(${-area.scrollLeft}px, ${y}px)`;
+    const y = first * height - scroll.top;
+    paint.style.transform = `translate(${-scroll.left}px, ${y}px)`;
     lines.style.transform = `translateY(${y}px)`;
   };
 
   const startOf = line => rows.slice(0, line).reduce((sum, row) => sum + row.length + 1, 0);
-  area.addEventListener('scroll', repaint);
-  new ResizeObserver(repaint).observe(area);
+  area.addEventListener('scroll', () => {
+    scroll = { top: area.scrollTop, left: area.scrollLeft };
+    repaint();
+  });
+  new ResizeObserver(() => {
+    height = parseFloat(getComputedStyle(area).lineHeight);
+    seen = area.clientHeight;
+    repaint();
+  }).observe(area);
   return {
     refresh(spans) {
       rows = area.value.split('\n');
@@ -66,9 +75,8 @@ export function editorOf({ area, paint, lines }) {
       repaint();
     },
     reveal(line) {
-      const height = lineHeight();
       const top = line * height;
-      if (top < area.scrollTop || top + 2 * height > area.scrollTop + area.clientHeight) area.scrollTop = Math.max(0, top - area.clientHeight / 3);
+      if (top < scroll.top || top + 2 * height > scroll.top + seen) area.scrollTop = Math.max(0, top - seen / 3);
       repaint();
     },
     /// Puts the caret onto a span, marks it as chosen and takes the focus.

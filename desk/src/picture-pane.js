@@ -31,9 +31,12 @@ export function picturePane(pane, view, chosen) {
   let longest = 0;
   let active = 0;
   let selected = null;
+  // Sizes are noted when they change: asking the browser for them while the page is being changed would make
+  // it lay the page out each time.
+  let size = { width: 300, height: 300 };
+  let top = 0;
 
-  const width = () => Math.max(300, pane.clientWidth);
-  const geometry = () => geometryOf(width(), longest);
+  const geometry = () => geometryOf(Math.max(300, size.width), longest);
 
   const draw = () => {
     if (!scene) {
@@ -41,8 +44,8 @@ export function picturePane(pane, view, chosen) {
       return;
     }
     const shape = geometry();
-    const first = Math.max(0, Math.floor(pane.scrollTop / shape.row) - SPARE_ROWS);
-    const last = Math.min(rows.length, first + Math.ceil(pane.clientHeight / shape.row) + 2 * SPARE_ROWS);
+    const first = Math.max(0, Math.floor(Math.min(top, rows.length * shape.row - size.height) / shape.row) - SPARE_ROWS);
+    const last = Math.min(rows.length, first + Math.ceil(size.height / shape.row) + 2 * SPARE_ROWS);
     space.style.height = `${rows.length * shape.row}px`;
     svg.setAttribute('width', shape.width);
     svg.setAttribute('height', rows.length * shape.row);
@@ -61,8 +64,10 @@ export function picturePane(pane, view, chosen) {
 
   const reveal = index => {
     const { row } = geometry();
-    if (index * row < pane.scrollTop) pane.scrollTop = index * row;
-    else if ((index + 1) * row > pane.scrollTop + pane.clientHeight) pane.scrollTop = (index + 1) * row - pane.clientHeight;
+    if (index * row < top) top = index * row;
+    else if ((index + 1) * row > top + size.height) top = (index + 1) * row - size.height;
+    else return;
+    pane.scrollTop = top;
   };
 
   const choose = (index, by) => {
@@ -115,8 +120,14 @@ export function picturePane(pane, view, chosen) {
     if (event.target.closest('.sign, .fold')) fold(index, !rows[index].open);
     choose(rows[index] ? index : 0);
   });
-  pane.addEventListener('scroll', draw);
-  new ResizeObserver(draw).observe(pane);
+  pane.addEventListener('scroll', () => {
+    top = pane.scrollTop;
+    draw();
+  });
+  new ResizeObserver(() => {
+    size = { width: pane.clientWidth, height: pane.clientHeight };
+    draw();
+  }).observe(pane);
 
   return {
     show(next) {

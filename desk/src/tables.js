@@ -32,6 +32,17 @@ export function serversHtml(hut) {
     <div class="table servers" role="table" aria-label="Servers">${head}${hut.servers.map(serverRow).join('')}</div>`;
 }
 
+/// Makes the rows anew of those servers alone that are not as before. Gives false where their number is another.
+export function renewServers(tool, before, hut) {
+  const rows = tool.querySelectorAll('.servers .tr');
+  if (!before || rows.length !== hut.servers.length + 1) return false;
+  const key = ({ name, rank, least, greatest }) => [name, rank, least, greatest].join(' ');
+  hut.servers.forEach((server, place) => {
+    if (key(server) !== key(before.servers[place])) rows[place + 1].outerHTML = serverRow(server, place);
+  });
+  return true;
+}
+
 /// Puts demands and caps into the servers' rows. The field that has the focus is left to who types in it.
 export function fillServers(tool, hut, demands, figures) {
   const each = (kind, put) => tool.querySelectorAll(`[data-${kind}]`).forEach(element => put(element, Number(element.dataset[kind])));

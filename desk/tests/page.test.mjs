@@ -240,7 +240,8 @@ test('a hut of full size is planned and drawn quickly', async t => {
     const settled = () => new Promise(done => requestAnimationFrame(() => { const channel = new MessageChannel(); channel.port1.onmessage = done; channel.port2.postMessage(0); }));
     const timed = async act => { const from = performance.now(); act(); await settled(); return Math.round(performance.now() - from); };
     const area = document.getElementById("text");
-    const typed = () => { area.value += "#"; area.dispatchEvent(new Event("input", { bubbles: true })); };
+    area.focus(); area.setSelectionRange(area.value.length, area.value.length);
+    const typed = () => document.execCommand("insertText", false, "#");
     const ask = document.querySelector("[data-ask='3']");
     const asked = k => () => { ask.value = 500 + k; ask.dispatchEvent(new Event("input", { bubbles: true })); };
     return (async () => {

@@ -1,6 +1,7 @@
 //! The C calls beside plain Rust: equal answers first, then times, growth, stack and size.
 
 mod calls;
+mod chip;
 mod compare;
 mod plain;
 mod rooms;
@@ -25,6 +26,9 @@ const SHAPES: [Shape; 4] = [Shape::Chain, Shape::Star, Shape::Binary, Shape::Fee
 const FULL: Kind = Kind { shape: Shape::Binary, nodes: 512, cords: 1024, ranks: 16, watts: 1 };
 
 fn main() {
+    if std::env::args().any(|word| word == "--once") {
+        return chip::calls();
+    }
     println!("Microseconds a call: the least of {ROUNDS} rounds, product and baseline in turn, {ROOMS} rooms a round.");
     println!();
     full_rooms();

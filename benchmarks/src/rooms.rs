@@ -84,7 +84,7 @@ pub fn room(kind: Kind, version: u32, chance: &mut Chance) -> Inputs {
     given
 }
 
-fn bytes(words: &[u32]) -> Vec<u8> {
+pub fn bytes(words: &[u32]) -> Vec<u8> {
     words.iter().flat_map(|word| word.to_le_bytes()).collect()
 }
 

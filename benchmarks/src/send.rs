@@ -67,3 +67,11 @@ pub fn periods() {
     println!("its stack, in bytes                  {:10} {:9}", depth(product), depth(baseline));
     println!();
 }
+
+/// Each period once.
+pub fn once() {
+    for (name, product, _) in PERIODS {
+        println!("{name}");
+        product(&Inputs { sheet: vec![], table: vec![], demands: vec![] }, &mut Outputs::lent());
+    }
+}

@@ -139,3 +139,12 @@ pub fn stack_depth() {
     let theirs = stack::depth(&mut || baseline(&mut given));
     println!("{:36} {ours:10} {theirs:9}", "Step all");
 }
+
+/// One pass over 512 controllers, for each kind of their cords.
+pub fn once() {
+    let mut chance = Chance(1);
+    for cords in [Cords::Two, Cords::Four, Cords::Any] {
+        println!("Step all, 512 controllers, working cords: {cords:?}");
+        product(&mut lists(512, cords, &mut chance));
+    }
+}

@@ -12,3 +12,11 @@ void platform_say(const char *text)
 {
     fputs(text, stdout);
 }
+
+void platform_before_call(void)
+{
+}
+
+void platform_after_call(void)
+{
+}

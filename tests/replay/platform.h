@@ -10,4 +10,8 @@ size_t platform_read(void *bytes, size_t count);
 /* Prints a text. */
 void platform_say(const char *text);
 
+/* Around every call, for a machine that counts what it costs. */
+void platform_before_call(void);
+void platform_after_call(void);
+
 #endif

@@ -3,7 +3,7 @@
 //   node desk/bundle.mjs WASM OUT
 //
 // The modules become one: each follows those that it imports, without its import lines and the word export. So
-// two modules cannot have one name for two things; the browser refuses such a page, and the tests notice.
+// two modules cannot have one name for two things; where they do, nothing is made.
 
 import { createHash } from 'node:crypto';
 import { readFileSync, writeFileSync } from 'node:fs';
@@ -21,21 +21,34 @@ function modules(name, seen = new Set()) {
   return [...below, source.replace(IMPORT, '').replace(/^export /gm, '')];
 }
 
+/// Stops where a name is declared twice at the outermost level.
+function checkNames(sources) {
+  const seen = new Set();
+  for (const [, name] of sources.join('\n').matchAll(/^(?:const|let|class|(?:async )?function\*?) (\w+|\$)/gm)) {
+    if (seen.has(name)) throw new Error(`two modules declare ${name}`);
+    seen.add(name);
+  }
+}
+
 const constants = {
   REFUSAL_TABLE: JSON.parse(here('../docs/refusals.json')),
   SAMPLE_HUTS: JSON.parse(here('samples.json')),
   MODULE: readFileSync(wasm).toString('base64'),
 };
-const script = [
-  ...Object.entries(constants).map(([name, value]) => `const ${name} = ${JSON.stringify(value).replaceAll('<', '\\u003c')};\n`),
+const literal = value => JSON.stringify(value).replaceAll('<', '\\u003c');
+const sources = [
+  ...Object.entries(constants).map(([name, value]) => `const ${name} = ${literal(value)};\n`),
   ...modules('app.js'),
-].join('\n');
+];
+checkNames(sources);
+const script = sources.join('\n');
 if (script.includes('</script')) throw new Error('a module has the end of a script in it');
 
 const hash = createHash('sha256').update(script).digest('base64');
 const parts = {
   // Nothing is fetched, and no script but this one runs.
-  policy: `default-src 'none'; script-src 'sha256-${hash}' 'wasm-unsafe-eval'; style-src 'unsafe-inline'; form-action 'none'; base-uri 'none'`,
+  policy: [`default-src 'none'`, `script-src 'sha256-${hash}' 'wasm-unsafe-eval'`, `style-src 'unsafe-inline'`,
+    `form-action 'none'`, `base-uri 'none'`].join('; '),
   style: here('style.css'),
   script,
 };

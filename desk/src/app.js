@@ -3,25 +3,27 @@
 import { load } from './calls.js';
 import { check, readsBack } from './check.js';
 import { cordsOf } from './hut.js';
-import { editorOf } from './editor.js';
+import { Editor } from './editor.js';
 import { fixedFigures, planFigures } from './figures.js';
 import { openFile, offer } from './files.js';
+import { told, wholeIn } from './forms.js';
 import { hutsTool } from './huts.js';
 import { judgeTool } from './judging.js';
 import { escaped } from './picture.js';
-import { picturePane, wholePicture, sceneOf } from './picture-pane.js';
+import { PicturePane, wholePicture, sceneOf } from './picture-pane.js';
 import { demandsOf } from './print.js';
 import { store } from './store.js';
 import { serversHtml, renewServers, fillServers, cordsHtml, doorTables } from './tables.js';
 import { printTool, tryTool, busTool } from './tools.js';
-import { tellText, tellDemands, whyCord, watts, figure, counted } from './words.js';
+import { tellText, tellDemands, whyCord, watts, counted } from './words.js';
 
 const $ = id => document.getElementById(id);
 const table = Object.fromEntries(REFUSAL_TABLE.map(each => [each.number, each]));
 
-/// All that the page knows. `result` is of the text as it stands, `good` of the last text that was accepted.
+/// All that the page knows. `result` is of the text as it stands, `good` of the last text that was accepted,
+/// `figures` of the last plan that was.
 const desk = {
-  table, calls: null, demands: new Map(), result: null, good: null, figures: null, selected: null, tab: 'servers', took: 0,
+  table, calls: null, demands: new Map(), result: null, good: null, figures: null, selected: null, tab: 'servers',
 };
 const view = { folded: new Set(), search: '', onlyHeld: false };
 
@@ -35,7 +37,8 @@ function notice(says, action = null) {
   if (!says) return;
   line.className = `notice${says.title ? ' bad' : ''}`;
   const words = document.createElement('span');
-  words.innerHTML = says.title ? `<b>${escaped(says.title)}.</b> ${escaped(says.says)} ${escaped(says.mend)} Your text is as it was.` : escaped(says);
+  words.innerHTML = says.title
+    ? `<b>${escaped(says.title)}.</b> ${escaped(says.says)} ${escaped(says.mend)} Your text is as it was.` : escaped(says);
   line.append(words);
   const button = (label, act) => {
     const made = document.createElement('button');
@@ -52,42 +55,70 @@ function notice(says, action = null) {
 
 const verdict = $('verdict');
 
+/// How many of a text's problems are told at once.
+const MOST_TOLD = 5;
+
+function tell(kind, title, html) {
+  verdict.className = `verdict ${kind}`;
+  verdict.innerHTML = `<p class="title">${escaped(title)}</p>${html}`;
+}
+
+/// A button that goes to the mark of this place.
+const goTo = (span, place) => `<button type="button" class="plain" data-problem="${place}">Line ${span.line + 1}</button>`;
+
 function tellProblems(problems) {
-  const items = problems.slice(0, 5).map(({ span, says }, place) => `<li><button type="button" class="plain" data-problem="${place}">Line ${span.line + 1}</button> ${escaped(says)}</li>`);
-  const more = problems.length > 5 ? `<li>and ${problems.length - 5} more</li>` : '';
-  verdict.className = 'verdict bad';
-  verdict.innerHTML = `<p class="title">The text is not a hut yet</p><ul>${items.join('')}${more}</ul>`;
+  const items = problems.slice(0, MOST_TOLD).map(({ span, says }, place) => `<li>${goTo(span, place)} ${escaped(says)}</li>`);
+  const more = problems.length > MOST_TOLD ? `<li>and ${problems.length - MOST_TOLD} more</li>` : '';
+  tell('bad', 'The text is not a hut yet', `<ul>${items.join('')}${more}</ul>`);
 }
 
 function tellRefusal(refusal, hut) {
   const figures = refusal.number === 9 ? fixedFigures(hut, desk.calls) : null;
   const { title, says, mend } = tellText(table, refusal, hut, figures);
-  const where = refusal.span ? `<button type="button" class="plain" data-problem="0">Line ${refusal.span.line + 1}</button> ` : '';
-  verdict.className = 'verdict bad';
-  verdict.innerHTML = `<p class="title">${escaped(title)}</p><p>${where}${escaped(says)}</p><p class="mend">${escaped(mend)}</p>`;
+  const where = refusal.span ? `${goTo(refusal.span, 0)} ` : '';
+  tell('bad', title, `<p>${where}${escaped(says)}</p><p class="mend">${escaped(mend)}</p>`);
 }
 
 function tellAccepted({ hut, sheet }) {
-  const cords = cordsOf(hut).length;
-  verdict.className = 'verdict good';
-  verdict.innerHTML = `<p class="title">Accepted</p><p>${counted(hut.nodes.length, 'breaker')}, ${counted(hut.servers.length, 'server')}, ${counted(cords, 'cord')}; version ${hut.version}, ${counted(sheet.length, 'byte')}</p>`;
+  const counts = [[hut.nodes.length, 'breaker'], [hut.servers.length, 'server'], [cordsOf(hut).length, 'cord']];
+  const parts = counts.map(([count, name]) => counted(count, name)).join(', ');
+  tell('good', 'Accepted', `<p>${parts}; version ${hut.version}, ${counted(sheet.length, 'byte')}</p>`);
 }
 
-const marksOf = ({ problems, refusal }) => (problems ? problems.map(({ span }) => span) : refusal?.span ? [refusal.span, ...(refusal.also ?? [])] : []);
+function tellNothing() {
+  tell('', 'Nothing is written yet', `<p>Begin with a breaker, as <code>breaker main 1500 W</code>, paste a schedule,
+    or take a sample.</p>`);
+}
+
+function marksOf({ problems, refusal }) {
+  if (problems) return problems.map(({ span }) => span);
+  return refusal?.span ? [refusal.span, ...(refusal.also ?? [])] : [];
+}
 
 /// Checks the text as it stands, and shows what it comes to.
 function textChanged() {
-  const started = performance.now();
-  const result = check($('text').value, desk.calls);
+  const text = $('text').value;
+  const result = check(text, desk.calls);
   desk.result = result;
-  if (result.problems) tellProblems(result.problems);
+  if (text.trim() === '') tellNothing();
+  else if (result.problems) tellProblems(result.problems);
   else if (result.refusal) tellRefusal(result.refusal, result.hut);
   else accept(result);
   editor.refresh(marksOf(result));
   showStale();
   $('save-sheet').disabled = !result.sheet;
-  store.save($('text').value, desk.demands);
-  desk.took = performance.now() - started;
+  document.title = `${titleOf(text) ?? 'A hut'} · hutplan desk`;
+  keep();
+}
+
+/// A hut is called by the comment that its text begins with.
+const titleOf = text => text.match(/^\s*#\s*(.+)/)?.[1];
+
+/// Has the browser keep what was typed, and says so where it does not.
+function keep() {
+  const kept = store.save($('text').value, desk.demands);
+  $('kept').textContent = kept ? 'What you type is kept in this browser, on this machine alone.'
+    : 'This browser does not keep what you type: save the text before you leave.';
 }
 
 function showStale() {
@@ -129,21 +160,30 @@ function totals() {
   const sum = list => list.reduce((total, each) => total + each, 0);
   const roots = good.hut.nodes.map((node, place) => (node.parent === 0 ? figures.limits[place] : 0));
   const held = figures.held.filter(node => node > 0).length;
-  const entries = [['Limit', watts(sum(roots))], ['Granted', watts(sum(figures.grants))], ['Lent', watts(sum(figures.headroom))], ['Freed', watts(figures.freed)], ['Held', counted(held, 'cord')]];
-  $('totals').innerHTML = entries.map(([name, value], place) => `<div${place === 4 && held > 0 ? ' class="held"' : ''}><dt>${name}</dt><dd>${place === 4 && held > 0 ? '◆ ' : ''}${value}</dd></div>`).join('');
+  const entries = [['Limit', watts(sum(roots))], ['Granted', watts(sum(figures.grants))],
+    ['Lent', watts(sum(figures.headroom))], ['Freed', watts(figures.freed)]];
+  const [kind, sign] = held > 0 ? ['held', '◆ '] : ['', ''];
+  $('totals').innerHTML = `${factsHtml(entries)}<div class="${kind}"><dt>Held</dt><dd>${sign}${counted(held, 'cord')}</dd></div>`;
 }
 
+const factsHtml = facts => facts.map(([name, value]) => `<div><dt>${name}</dt><dd>${value}</dd></div>`).join('');
+
 // ---- What is chosen
+
+/// How many servers are listed of those that a breaker holds.
+const MOST_NAMES = 8;
 
 function whyNode(place) {
   const { figures, good } = desk;
   const { name, rating, percent } = good.hut.nodes[place];
   const held = figures.held.flatMap((node, cord) => (node === place + 1 ? [good.cords[cord]] : []));
-  const limit = figures.limits[place];
-  const facts = [['Rating', `${watts(rating)} at ${percent}%`], ['Limit', watts(limit)], ['Lows beneath', watts(figures.lowsBeneath[place])], ['Granted', watts(figures.grantsBeneath[place])], ['Lent', watts(figures.headroomBeneath[place])]];
+  const [limit, granted, lent] = [figures.limits[place], figures.grantsBeneath[place], figures.headroomBeneath[place]];
+  const facts = [['Rating', `${watts(rating)} at ${percent}%`], ['Limit', watts(limit)],
+    ['Lows beneath', watts(figures.lowsBeneath[place])], ['Granted', watts(granted)], ['Lent', watts(lent)]];
   const names = [...new Set(held.map(cord => good.hut.servers[cord.server].name))];
-  const says = held.length > 0 ? `Full. It holds ${counted(held.length, 'cord')}: ${names.slice(0, 8).join(', ')}${names.length > 8 ? ' …' : ''}.`
-    : `It holds no cord. ${watts(limit - figures.grantsBeneath[place] - figures.headroomBeneath[place])} of its limit are neither granted nor lent.`;
+  const listed = `${names.slice(0, MOST_NAMES).join(', ')}${names.length > MOST_NAMES ? ' …' : ''}`;
+  const says = held.length > 0 ? `Full. It holds ${counted(held.length, 'cord')}: ${listed}.`
+    : `It holds no cord. ${watts(limit - granted - lent)} of its limit are neither granted nor lent.`;
   return { title: `Breaker ${name}`, facts, says };
 }
 
@@ -151,8 +191,11 @@ function whyThisCord(place) {
   const { figures, good } = desk;
   const cord = good.cords[place];
   const server = good.hut.servers[cord.server];
-  const facts = [['Low', watts(figures.lows[place])], ['Wants', watts(figures.wants[place])], ['Grant', watts(figures.grants[place])], ['Headroom', watts(figures.headroom[place])], ['Rank', String(server.rank)], ['Cap', watts(figures.caps[cord.server])]];
-  return { title: `Cord ${cord.cord + 1} of ${server.name}, on ${good.hut.nodes[cord.node - 1].name}`, facts, says: whyCord(good.hut, figures, cord, place) };
+  const facts = [['Low', watts(figures.lows[place])], ['Wants', watts(figures.wants[place])],
+    ['Grant', watts(figures.grants[place])], ['Headroom', watts(figures.headroom[place])],
+    ['Rank', String(server.rank)], ['Cap', watts(figures.caps[cord.server])]];
+  const title = `Cord ${cord.cord + 1} of ${server.name}, on ${good.hut.nodes[cord.node - 1].name}`;
+  return { title, facts, says: whyCord(good.hut, figures, cord, place) };
 }
 
 function why() {
@@ -163,7 +206,7 @@ function why() {
     return;
   }
   const { title, facts, says } = selected.kind === 'node' ? whyNode(selected.place) : whyThisCord(selected.place);
-  $('why').innerHTML = `<h3>${escaped(title)}</h3><dl>${facts.map(([name, value]) => `<div><dt>${name}</dt><dd>${value}</dd></div>`).join('')}</dl><p>${escaped(says)}</p>`;
+  $('why').innerHTML = `<h3>${escaped(title)}</h3><dl>${factsHtml(facts)}</dl><p>${escaped(says)}</p>`;
 }
 
 /// The span in the text of what is chosen in the picture.
@@ -200,7 +243,7 @@ function mark(span) {
 /// The row of the picture that the caret's line describes.
 function caretMoved() {
   if (!desk.result?.sheet) return;
-  const line = editor.caretLine();
+  const line = editor.caretLine;
   const { hut, cords } = desk.good;
   const node = hut.nodes.findIndex(each => each.at.line.line === line);
   const cord = cords.findIndex(each => each.at.line.line === line);
@@ -216,7 +259,7 @@ function caretMoved() {
 
 const TOOLS = [
   { id: 'servers', name: 'Servers', show: serversTool },
-  { id: 'cords', name: 'Cords', show: tool => { tool.innerHTML = cordsHtml(desk.good.hut, desk.good.cords, desk.figures); } },
+  { id: 'cords', name: 'Cords', show: cordsTool },
   { id: 'plan', name: 'Plan text', show: printTool },
   { id: 'try', name: 'Try', show: tryTool, keeps: true },
   { id: 'bus', name: 'Bus', show: busTool, keeps: true, needs: ['send'] },
@@ -228,7 +271,8 @@ const TOOLS = [
 const toolsHere = () => TOOLS.filter(({ needs }) => !needs || needs.some(name => desk.calls.has(name)));
 
 function makeTabs() {
-  $('tabs').innerHTML = toolsHere().map(({ id, name }) => `<button type="button" role="tab" id="tab-${id}" data-tab="${id}" aria-controls="tool">${name}</button>`).join('');
+  $('tabs').innerHTML = toolsHere().map(({ id, name }) =>
+    `<button type="button" role="tab" id="tab-${id}" data-tab="${id}" aria-controls="tool">${name}</button>`).join('');
   $('tabs').addEventListener('click', event => event.target.dataset.tab && chooseTab(event.target.dataset.tab));
   $('tabs').addEventListener('keydown', event => {
     const step = { ArrowRight: 1, ArrowLeft: -1 }[event.key];
@@ -266,21 +310,26 @@ function serversTool(tool, _, fresh) {
   fillServers(tool, hut, hut.servers.map(demandOf), desk.refusedDemands ? null : desk.figures);
   const line = $('demands-told');
   if (!line) return;
-  const refused = desk.refusedDemands && tellDemands(table, desk.refusedDemands, hut);
-  line.innerHTML = refused ? `<p class="refusal"><b>${escaped(refused.title)}.</b> ${escaped(refused.says)}</p><p class="mend">${escaped(refused.mend)}</p>` : '';
+  line.innerHTML = desk.refusedDemands ? told(tellDemands(table, desk.refusedDemands, hut)) : '';
+}
+
+function cordsTool(tool) {
+  tool.innerHTML = cordsHtml(desk.good.hut, desk.good.cords, desk.figures);
 }
 
 function setDemand(place, value) {
   desk.demands.set(desk.good.hut.servers[place].name, value);
   replan();
-  store.save($('text').value, desk.demands);
+  keep();
 }
 
 /// All servers ask for the same part of the way from least to greatest.
 function setAll(part) {
-  for (const { name, least, greatest } of desk.good.hut.servers) desk.demands.set(name, Math.round(least + part * (greatest - least)));
+  for (const { name, least, greatest } of desk.good.hut.servers) {
+    desk.demands.set(name, Math.round(least + part * (greatest - least)));
+  }
   replan();
-  store.save($('text').value, desk.demands);
+  keep();
 }
 
 /// Pasted demands are judged by Plan before they are taken.
@@ -289,14 +338,13 @@ function takePasted(form) {
   const demands = demandsOf(form.querySelector('textarea').value);
   const answer = desk.calls.plan(words, demands, cords.length);
   if (answer.number !== 0) {
-    const { title, says, mend } = tellDemands(table, answer, hut);
-    form.querySelector('.told').innerHTML = `<span class="refusal"><b>${escaped(title)}.</b> ${escaped(says)} ${escaped(mend)}</span>`;
+    form.querySelector('.told').innerHTML = told(tellDemands(table, answer, hut));
     return;
   }
   hut.servers.forEach(({ name }, place) => desk.demands.set(name, demands[place]));
   form.hidden = true;
   replan();
-  store.save($('text').value, desk.demands);
+  keep();
 }
 
 function listenToTool() {
@@ -304,11 +352,11 @@ function listenToTool() {
   tool.addEventListener('input', event => {
     const { slide, ask } = event.target.dataset;
     if (slide === undefined && ask === undefined) return;
-    const value = Math.min(Math.max(0, Math.floor(Number(event.target.value) || 0)), 4294967295);
-    setDemand(Number(slide ?? ask), value);
+    setDemand(Number(slide ?? ask), wholeIn(event.target));
   });
   tool.addEventListener('click', event => {
-    const { all, paste, cancel } = event.target.dataset;
+    const { all, paste, cancel, cord } = event.target.dataset;
+    if (cord !== undefined) select({ kind: 'cord', place: Number(cord) });
     const form = tool.querySelector('.paste');
     if (all !== undefined) setAll(Number(all));
     if (paste !== undefined) {
@@ -349,11 +397,21 @@ function saveSheet() {
   const { sheet, words } = desk.result;
   if (!sheet) return;
   if (!readsBack(sheet, words, desk.calls)) {
-    notice({ title: 'Not saved', says: 'The sheet did not read back as the hut that was written.', mend: 'Reload the page and try again.' });
+    const says = 'The sheet did not read back as the hut that was written.';
+    notice({ title: 'Not saved', says, mend: 'Reload the page and try again.' });
     return;
   }
   offer('room.bin', sheet, 'application/octet-stream');
   notice(`Saved room.bin, ${counted(sheet.length, 'byte')}; Read gives back the same hut.`);
+}
+
+/// Ctrl and S saves the sheet, or the text where there is none; Ctrl and O opens a file.
+function shortcut(event) {
+  if (!(event.ctrlKey || event.metaKey) || event.altKey || event.shiftKey) return;
+  const acts = { s: () => (desk.result.sheet ? saveSheet() : saveText()), o: () => $('file').click() };
+  if (!acts[event.key]) return;
+  event.preventDefault();
+  acts[event.key]();
 }
 
 function saveText() {
@@ -371,6 +429,7 @@ function listenToFiles() {
   $('save-sheet').addEventListener('click', saveSheet);
   $('save-text').addEventListener('click', saveText);
   $('print').addEventListener('click', () => window.print());
+  addEventListener('keydown', shortcut);
   addEventListener('dragover', event => {
     event.preventDefault();
     $('dropping').hidden = false;
@@ -380,8 +439,9 @@ function listenToFiles() {
     event.preventDefault();
     $('dropping').hidden = true;
     const [file] = event.dataTransfer.files;
+    const text = event.dataTransfer.getData('text');
     if (file) open(file);
-    else if (event.dataTransfer.getData('text')) replaceText(event.dataTransfer.getData('text'), 'Took the text that was dropped.');
+    else if (text) replaceText(text, 'Took the text that was dropped.');
   });
 }
 
@@ -393,9 +453,12 @@ const DOOR_WIDTH = 720;
 function makeDoor() {
   if (!desk.figures) return;
   const { hut, cords } = desk.good;
-  const title = $('text').value.match(/^\s*#\s*(.+)/)?.[1] ?? 'Hut';
   const date = new Date().toLocaleDateString('en-GB', { year: 'numeric', month: 'long', day: 'numeric' });
-  $('door').innerHTML = `<h1>${escaped(title)}</h1><p>${date}. ${counted(hut.nodes.length, 'breaker')}, ${counted(hut.servers.length, 'server')}, ${counted(cords.length, 'cord')}; planned for the demands below. Freed ${figure(desk.figures.freed)} W. ◆ marks a cord that gets less than it wants.</p>${wholePicture(sceneOf(hut, cords, desk.figures), DOOR_WIDTH)}${doorTables(hut, cords, desk.figures)}`;
+  $('door').innerHTML = `<h1>${escaped(titleOf($('text').value) ?? 'Hut')}</h1>
+    <p>${date}. Planned for the demands below; ${watts(desk.figures.freed)} were freed by the first deal and dealt again.
+    A bar is a breaker's limit; what is granted is full, what is lent is hatched, a stroke marks the lows, and ◆ a cord
+    that is held.</p>
+    ${wholePicture(sceneOf(hut, cords, desk.figures), DOOR_WIDTH)}${doorTables(hut, cords, desk.figures)}`;
 }
 
 // ---- The rest of the page
@@ -419,14 +482,18 @@ function listenToPage() {
     store.forget();
     notice('Forgotten. What you see is kept again at the next change.');
   });
-  document.querySelectorAll('[data-pane]').forEach(button => button.addEventListener('click', () => showPane(button.dataset.pane)));
+  document.querySelectorAll('[data-pane]').forEach(button => {
+    button.addEventListener('click', () => showPane(button.dataset.pane));
+  });
   addEventListener('beforeprint', makeDoor);
 }
 
 /// On a narrow screen one pane is seen at a time.
 function showPane(id) {
   document.querySelectorAll('.pane').forEach(pane => pane.classList.toggle('front', pane.id === id));
-  document.querySelectorAll('[data-pane]').forEach(button => button.setAttribute('aria-pressed', String(button.dataset.pane === id)));
+  document.querySelectorAll('[data-pane]').forEach(button => {
+    button.setAttribute('aria-pressed', String(button.dataset.pane === id));
+  });
   picture.layOut();
 }
 
@@ -450,8 +517,8 @@ function fillSamples() {
   });
 }
 
-const editor = editorOf({ area: $('text'), paint: $('paint'), lines: $('lines') });
-const picture = picturePane($('picture'), view, chosen);
+const editor = new Editor({ area: $('text'), paint: $('paint'), lines: $('lines') });
+const picture = new PicturePane($('picture'), view, chosen);
 
 async function start() {
   Object.assign(desk, { notice, replaceText, select, mark, text: () => $('text').value });

@@ -11,7 +11,6 @@ const MOST_BYTES = 1 << 20;
 function textOf(bytes) {
   try {
     const text = new TextDecoder('utf-8', { fatal: true }).decode(bytes);
-    // eslint-disable-next-line no-control-regex
     return /[\u0000-\u0008\u000b\u000c\u000e-\u001f]/.test(text) ? null : text.replaceAll('\r\n', '\n');
   } catch {
     return null;
@@ -25,19 +24,22 @@ export function opened(name, bytes, table, calls) {
   const read = calls.read(bytes);
   if (read.number !== 0) return { refused: tellSheet(table, read, bytes) };
   const hut = hutOf(read.words);
-  return { text: writeText(hut), says: `Opened the sheet ${name}: ${counted(hut.nodes.length, 'breaker')}, ${counted(hut.servers.length, 'server')}.` };
+  const size = `${counted(hut.nodes.length, 'breaker')}, ${counted(hut.servers.length, 'server')}`;
+  return { text: writeText(hut), says: `Opened the sheet ${name}: ${size}.` };
 }
 
 /// The same of a file that a person chose, after a look at its size.
 export async function openFile(file, table, calls) {
   if (file.size > MOST_BYTES) {
     const size = `${(file.size / (1 << 20)).toFixed(1)} MB`;
-    return { refused: { title: 'Too large', says: `${file.name} has ${size}. The largest hut's sheet has 22,540 bytes, and no file above 1 MB is opened.`, mend: 'Choose the sheet (room.bin) or the text of a hut.' } };
+    const says = `It has ${size}. The largest hut's sheet has 22,540 bytes, and no file above 1 MB is opened.`;
+    return { refused: { title: 'Too large', says, mend: 'Choose the sheet (room.bin) or the text of a hut.' } };
   }
   try {
     return opened(file.name, new Uint8Array(await file.arrayBuffer()), table, calls);
   } catch {
-    return { refused: { title: 'Not read', says: `${file.name} could not be read by the browser.`, mend: 'If it is a folder, choose the file in it.' } };
+    const says = 'The browser could not read it.';
+    return { refused: { title: 'Not read', says, mend: 'If it is a folder, choose the file in it.' } };
   }
 }
 

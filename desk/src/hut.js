@@ -6,10 +6,11 @@
 
 export const FULL_PERCENT = 100;
 export const USUAL_PERCENT = 80;
+/// The greatest word of a table. A greater number counts as this one, which every range refuses.
+export const MOST_WORD = 4294967295;
 export const MOST_WATTS = 16777215;
 export const MOST_NODES = 512;
 export const MOST_SERVERS = 512;
-export const MOST_CORDS = 1024;
 
 /// From version 2 on a node has a third word, its percent.
 export const hasPercents = version => version >= 2;
@@ -64,6 +65,22 @@ export function hutOf(words) {
     return { name: `s${place + 1}`, rank, least, greatest, cords };
   });
   return { version, nodes, servers };
+}
+
+/// What the word at a place of a table stands for, where all words before it are good.
+export function partAt(words, place) {
+  if (place < 2) return { kind: ['version', 'count of nodes'][place] };
+  const kinds = ['parent', 'rating', 'percent'].slice(0, hasPercents(words[0]) ? 3 : 2);
+  let at = 2 + kinds.length * words[1];
+  if (place < at) return { kind: kinds[(place - 2) % kinds.length], node: Math.floor((place - 2) / kinds.length) };
+  if (place === at) return { kind: 'count of servers' };
+  at += 1;
+  for (let server = 0; ; server++) {
+    if (place < at + 4) return { kind: ['rank', 'least', 'greatest', 'count of cords'][place - at], server };
+    const first = at + 4;
+    at = first + 2 * words[at + 3];
+    if (place < at) return { kind: ['node', 'share'][(place - first) % 2], server, cord: Math.floor((place - first) / 2) };
+  }
 }
 
 /// All cords in the table's order, each with its server's place and its place there.

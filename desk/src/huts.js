@@ -2,11 +2,11 @@
 // the names of the texts are put beside them again.
 
 import { check, spanOf } from './check.js';
+import { numberField, onSubmit, told, wholeIn } from './forms.js';
 import { hutOf, tableOf } from './hut.js';
 import { offer, openFile } from './files.js';
 import { escaped } from './picture.js';
 import { writeText } from './text.js';
-import { told, input, whole } from './tools.js';
 import { tellText, tellPlain, thingOf, counted } from './words.js';
 
 /// Names in turn, where one that is taken already gets a number behind it.
@@ -53,13 +53,20 @@ export function parted({ hut, words }, nodes, servers, calls) {
 // ---- The tool
 
 const JOIN = `<h3>Join</h3><p class="lead">Another hut's breakers and servers come behind those of this one.</p>
-  <form class="join"><label for="second">The other hut, as text</label><textarea id="second" rows="7" spellcheck="false"></textarea>
-  <div class="row"><button type="button" data-open-second>Open its file…</button><button type="submit" class="main">Join</button></div>
-  <input type="file" class="hidden" tabindex="-1" aria-label="Open the other hut"></form><div class="result" id="joined" role="status"></div>`;
+  <form class="join"><label for="second">The other hut, as text</label>
+    <textarea id="second" rows="7" spellcheck="false"></textarea>
+    <div class="row"><button type="button" data-open-second>Open its file…</button>
+      <button type="submit" class="main">Join</button></div>
+    <input type="file" class="hidden" tabindex="-1" aria-label="Open the other hut"></form>
+  <div class="result" id="joined" role="status"></div>`;
 
-const partForm = ({ nodes, servers }) => `<h3>Part</h3><p class="lead">The first breakers and servers, so many of each, make one hut, and the rest another.</p>
-  <form class="fields part">${input('part-nodes', 'Breakers of the first', Math.max(1, Math.floor(nodes.length / 2)))}${input('part-servers', 'Servers of the first', Math.floor(servers.length / 2))}
-  <button type="submit" class="main">Part</button></form><div class="result" id="parted" role="status"></div>`;
+const partForm = ({ nodes, servers }) => `<h3>Part</h3>
+  <p class="lead">The first breakers and servers, so many of each, make one hut, and the rest another.</p>
+  <form class="fields part">
+    ${numberField('part-nodes', 'Breakers of the first', Math.max(1, Math.floor(nodes.length / 2)))}
+    ${numberField('part-servers', 'Servers of the first', Math.floor(servers.length / 2))}
+    <button type="submit" class="main">Part</button></form>
+  <div class="result" id="parted" role="status"></div>`;
 
 const sizes = hut => `${counted(hut.nodes.length, 'breaker')}, ${counted(hut.servers.length, 'server')}`;
 
@@ -67,10 +74,12 @@ function joinNow(tool, desk) {
   const result = tool.querySelector('#joined');
   const second = check(tool.querySelector('#second').value, desk.calls);
   if (second.problems) {
-    result.innerHTML = `<p class="refusal"><b>The other text is not a hut.</b> Line ${second.problems[0].span.line + 1}: ${escaped(second.problems[0].says)}</p>`;
+    const [{ span, says }] = second.problems;
+    result.innerHTML = `<p class="refusal"><b>The other text is not a hut.</b> Line ${span.line + 1}: ${escaped(says)}</p>`;
   } else if (second.refusal) {
     const { span } = second.refusal;
-    result.innerHTML = `<p>The other hut${span ? `, line ${span.line + 1}` : ''}:</p>${told(tellText(desk.table, second.refusal, second.hut, null))}`;
+    const words = told(tellText(desk.table, second.refusal, second.hut, null));
+    result.innerHTML = `<p>The other hut${span ? `, line ${span.line + 1}` : ''}:</p>${words}`;
   } else {
     const { hut, refusal } = joined(desk.good, second, desk.calls);
     result.innerHTML = refusal ? told(tellPlain(desk.table, refusal)) : `<p>Joined: ${sizes(hut)}.</p>`;
@@ -90,14 +99,13 @@ function partNow(tool, desk) {
   const result = tool.querySelector('#parted');
   const fields = ['#part-nodes', '#part-servers'].map(id => tool.querySelector(id));
   fields.forEach(field => field.removeAttribute('aria-invalid'));
-  const { first, second, refusal } = parted(desk.good, whole(fields[0]), whole(fields[1]), desk.calls);
+  const { first, second, refusal } = parted(desk.good, wholeIn(fields[0]), wholeIn(fields[1]), desk.calls);
   if (refusal) {
     if (refusal.number === 22) fields[refusal.place].setAttribute('aria-invalid', 'true');
     result.innerHTML = told(refusal.number === 23 ? tellCrossing(refusal, desk) : tellPlain(desk.table, refusal));
     return;
   }
-  const choice = (name, hut, place) => `<p>${name}: ${sizes(hut)}.</p><div class="row"><button type="button" data-keep="${place}">Into the text</button><button type="button" data-save="${place}">Save sheet</button></div>`;
-  result.innerHTML = choice('The first', first, 0) + choice('The second', second, 1);
+  result.innerHTML = partChoice('The first', first, 0) + partChoice('The second', second, 1);
   result.onclick = event => {
     const { keep, save } = event.target.dataset;
     const hut = [first, second][Number(keep ?? save)];
@@ -105,6 +113,10 @@ function partNow(tool, desk) {
     if (save !== undefined) offer('room.bin', desk.calls.write(tableOf(hut).words).sheet, 'application/octet-stream');
   };
 }
+
+const partChoice = (name, hut, place) => `<p>${name}: ${sizes(hut)}.</p>
+  <div class="row"><button type="button" data-keep="${place}">Into the text</button>
+    <button type="button" data-save="${place}">Save sheet</button></div>`;
 
 function listenToSecond(tool, desk) {
   const file = tool.querySelector('.join input[type="file"]');
@@ -121,9 +133,7 @@ export function hutsTool(tool, desk) {
   const { calls, good } = desk;
   tool.innerHTML = (calls.has('join') ? JOIN : '') + (calls.has('part') ? partForm(good.hut) : '');
   if (calls.has('join')) listenToSecond(tool, desk);
-  tool.querySelectorAll('form').forEach(form => form.addEventListener('submit', event => {
-    event.preventDefault();
-    if (form.classList.contains('join')) joinNow(tool, desk);
-    else partNow(tool, desk);
-  }));
+  tool.querySelectorAll('form').forEach(form => {
+    onSubmit(form, () => (form.classList.contains('join') ? joinNow(tool, desk) : partNow(tool, desk)));
+  });
 }

@@ -1,151 +1,167 @@
 // The picture in its pane: only the rows in sight are drawn, and the keyboard moves through all of them.
 
-import { geometryOf, labelWidth, rowSvg, rowLabel, patterns, holdsOf } from './picture.js';
+import { geometryOf, labelWidth, rowSvg, patterns, holdsOf } from './picture.js';
 import { rowsOf } from './rows.js';
 
 const SPARE_ROWS = 6;
+const LEAST_WIDTH = 300;
+const PAGE_ROWS = 10;
 const same = (row, chosen) => chosen && row.kind === chosen.kind && row.place === chosen.place;
 
+/// Everything that drawing a row needs.
+export const sceneOf = (hut, cords, figures) => ({ hut, cords, figures, holds: holdsOf(figures.held) });
+
 /// The widest label of these rows.
-const longestLabel = (rows, { hut, cords }) => rows.reduce((most, { kind, place, depth }) =>
-  Math.max(most, labelWidth(depth, kind === 'node' ? hut.nodes[place].name : hut.servers[cords[place].server].name)), 0);
+const longestLabel = (rows, { hut, cords }) => rows.reduce((most, { kind, place, depth }) => {
+  const { name } = kind === 'node' ? hut.nodes[place] : hut.servers[cords[place].server];
+  return Math.max(most, labelWidth(depth, name));
+}, 0);
 
 /// The drawing of all rows, for paper.
 export function wholePicture(scene, width) {
   const view = { folded: new Set(), search: '', onlyHeld: false, held: scene.figures.held };
   const rows = rowsOf(scene.hut, scene.cords, view);
   const geometry = geometryOf(width, longestLabel(rows, scene));
+  const height = rows.length * geometry.row;
+  // The rows of the page have the same ids.
   const lines = rows.map((row, index) => rowSvg(row, index, geometry, scene, false).replace(/ id="row-\d+"/, ''));
-  return `<svg class="drawing" xmlns="http://www.w3.org/2000/svg" width="${width}" height="${rows.length * geometry.row}" viewBox="0 0 ${width} ${rows.length * geometry.row}">${patterns('hatch-on-paper')}${lines.join('')}</svg>`;
+  return `<svg class="drawing" xmlns="http://www.w3.org/2000/svg" viewBox="0 0 ${width} ${height}">
+    ${patterns('hatch-on-paper')}${lines.join('')}</svg>`;
 }
 
-/// Everything that drawing a row needs.
-export const sceneOf = (hut, cords, figures) => ({ hut, cords, figures, holds: holdsOf(figures.held) });
+/// The pane over its element. `view` says what is folded and searched; `chosen` is told of the row that a
+/// person chooses.
+export class PicturePane {
+  constructor(pane, view, chosen) {
+    Object.assign(this, { pane, view, chosen, scene: null, rows: [], longest: 0, active: 0, selected: null });
+    this.space = pane.querySelector('.space');
+    this.svg = pane.querySelector('svg');
+    this.none = pane.querySelector('.none');
+    // Sizes are noted when they change: asking the browser for them while the page is being changed would
+    // make it lay the page out each time.
+    Object.assign(this, { width: LEAST_WIDTH, height: LEAST_WIDTH, top: 0 });
+    this.listen();
+  }
 
-/// The pane over its element. `chosen` is told of the row that a person chooses.
-export function picturePane(pane, view, chosen) {
-  const space = pane.querySelector('.space');
-  const svg = pane.querySelector('svg');
-  let scene = null;
-  let rows = [];
-  let longest = 0;
-  let active = 0;
-  let selected = null;
-  // Sizes are noted when they change: asking the browser for them while the page is being changed would make
-  // it lay the page out each time.
-  let size = { width: 300, height: 300 };
-  let top = 0;
+  listen() {
+    const { pane } = this;
+    pane.addEventListener('keydown', event => this.key(event));
+    pane.addEventListener('click', event => this.click(event));
+    pane.addEventListener('scroll', () => {
+      this.top = pane.scrollTop;
+      this.draw();
+    });
+    new ResizeObserver(() => {
+      this.width = Math.max(LEAST_WIDTH, pane.clientWidth);
+      this.height = pane.clientHeight;
+      this.draw();
+    }).observe(pane);
+  }
 
-  const geometry = () => geometryOf(Math.max(300, size.width), longest);
+  get geometry() { return geometryOf(this.width, this.longest); }
 
-  const draw = () => {
-    if (!scene) {
-      svg.innerHTML = '';
-      return;
-    }
-    const shape = geometry();
-    const first = Math.max(0, Math.floor(Math.min(top, rows.length * shape.row - size.height) / shape.row) - SPARE_ROWS);
-    const last = Math.min(rows.length, first + Math.ceil(size.height / shape.row) + 2 * SPARE_ROWS);
-    space.style.height = `${rows.length * shape.row}px`;
-    svg.setAttribute('width', shape.width);
-    svg.setAttribute('height', rows.length * shape.row);
-    svg.innerHTML = patterns('hatch') + rows.slice(first, last)
-      .map((row, index) => rowSvg(row, first + index, shape, scene, same(row, selected))).join('');
-    if (rows.length > 0) pane.setAttribute('aria-activedescendant', `row-${active}`);
-    else pane.removeAttribute('aria-activedescendant');
-  };
+  /// Shows a hut with its plan.
+  show(scene) {
+    this.scene = scene;
+    this.layOut();
+  }
 
-  const layOut = () => {
-    rows = scene ? rowsOf(scene.hut, scene.cords, { ...view, held: scene.figures.held }) : [];
-    longest = scene ? longestLabel(rows, scene) : 0;
-    active = Math.max(0, rows.findIndex(row => same(row, selected)));
-    draw();
-  };
+  /// Finds the rows anew, by what is folded and searched.
+  layOut() {
+    const { scene, view } = this;
+    this.rows = scene ? rowsOf(scene.hut, scene.cords, { ...view, held: scene.figures.held }) : [];
+    this.longest = scene ? longestLabel(this.rows, scene) : 0;
+    this.active = Math.max(0, this.rows.findIndex(row => same(row, this.selected)));
+    this.none.hidden = !scene || this.rows.length > 0;
+    this.none.textContent = view.onlyHeld && !view.search ? 'No cord is held.' : 'Nothing here has that name.';
+    this.draw();
+  }
 
-  const reveal = index => {
-    const { row } = geometry();
-    if (index * row < top) top = index * row;
-    else if ((index + 1) * row > top + size.height) top = (index + 1) * row - size.height;
+  draw() {
+    const { rows, geometry, scene } = this;
+    const all = rows.length * geometry.row;
+    const top = Math.min(this.top, Math.max(0, all - this.height));
+    const first = Math.max(0, Math.floor(top / geometry.row) - SPARE_ROWS);
+    const last = Math.min(rows.length, first + Math.ceil(this.height / geometry.row) + 2 * SPARE_ROWS);
+    this.space.style.height = `${all}px`;
+    this.svg.setAttribute('width', geometry.width);
+    this.svg.setAttribute('height', all);
+    this.svg.innerHTML = patterns('hatch') + rows.slice(first, last)
+      .map((row, index) => rowSvg(row, first + index, geometry, scene, same(row, this.selected))).join('');
+    if (rows.length > 0) this.pane.setAttribute('aria-activedescendant', `row-${this.active}`);
+    else this.pane.removeAttribute('aria-activedescendant');
+  }
+
+  /// Scrolls as far as a row needs to be seen.
+  reveal(index) {
+    const { row } = this.geometry;
+    if (index * row < this.top) this.top = index * row;
+    else if ((index + 1) * row > this.top + this.height) this.top = (index + 1) * row - this.height;
     else return;
-    pane.scrollTop = top;
-  };
+    this.pane.scrollTop = this.top;
+  }
 
-  const choose = (index, by) => {
-    if (!rows[index]) return;
-    active = index;
-    selected = { kind: rows[index].kind, place: rows[index].place };
-    reveal(index);
-    draw();
-    chosen(selected, by);
-  };
+  /// A person chooses a row.
+  choose(index, by) {
+    const row = this.rows[Math.min(Math.max(index, 0), this.rows.length - 1)];
+    if (!row) return;
+    this.select({ kind: row.kind, place: row.place });
+    this.chosen(this.selected, by);
+  }
 
-  const fold = (index, open) => {
-    const row = rows[index];
+  /// Marks a row as chosen, and brings it into sight.
+  select(what) {
+    this.selected = what;
+    const index = this.rows.findIndex(row => same(row, what));
+    if (index >= 0) {
+      this.active = index;
+      this.reveal(index);
+    }
+    this.draw();
+  }
+
+  fold(index, open) {
+    const row = this.rows[index];
     if (!row?.foldable || row.open === open) return;
-    const { name } = scene.hut.nodes[row.place];
-    if (open) view.folded.delete(name);
-    else view.folded.add(name);
-    layOut();
-  };
+    const { name } = this.scene.hut.nodes[row.place];
+    if (open) this.view.folded.delete(name);
+    else this.view.folded.add(name);
+    this.layOut();
+  }
 
-  const parentOf = index => {
-    let above = index;
-    while (above >= 0 && rows[above].depth >= rows[index].depth) above -= 1;
-    return above;
-  };
+  /// The row of the breaker above a row; the row itself if there is none.
+  parentOf(index) {
+    const { depth } = this.rows[index];
+    for (let above = index - 1; above >= 0; above--) if (this.rows[above].depth < depth) return above;
+    return index;
+  }
 
-  const KEYS = {
-    ArrowDown: () => choose(Math.min(active + 1, rows.length - 1)),
-    ArrowUp: () => choose(Math.max(active - 1, 0)),
-    Home: () => choose(0),
-    End: () => choose(rows.length - 1),
-    PageDown: () => choose(Math.min(active + 10, rows.length - 1)),
-    PageUp: () => choose(Math.max(active - 10, 0)),
-    ArrowRight: () => (rows[active]?.foldable && !rows[active].open ? fold(active, true) : choose(Math.min(active + 1, rows.length - 1))),
-    ArrowLeft: () => (rows[active]?.open ? fold(active, false) : choose(Math.max(parentOf(active), 0))),
-    Enter: () => choose(active, 'enter'),
-    ' ': () => fold(active, !rows[active]?.open),
-  };
-
-  pane.addEventListener('keydown', event => {
-    const act = KEYS[event.key];
-    if (!act || event.ctrlKey || event.metaKey || event.altKey) return;
+  key(event) {
+    if (event.ctrlKey || event.metaKey || event.altKey || this.rows.length === 0) return;
+    const at = this.active;
+    const row = this.rows[at];
+    const keys = {
+      ArrowDown: () => this.choose(at + 1),
+      ArrowUp: () => this.choose(at - 1),
+      PageDown: () => this.choose(at + PAGE_ROWS),
+      PageUp: () => this.choose(at - PAGE_ROWS),
+      Home: () => this.choose(0),
+      End: () => this.choose(this.rows.length - 1),
+      ArrowRight: () => (row.foldable && !row.open ? this.fold(at, true) : this.choose(at + 1)),
+      ArrowLeft: () => (row.open ? this.fold(at, false) : this.choose(this.parentOf(at))),
+      Enter: () => this.choose(at, 'enter'),
+      ' ': () => this.fold(at, !row.open),
+    };
+    if (!keys[event.key]) return;
     event.preventDefault();
-    act();
-  });
-  pane.addEventListener('click', event => {
+    keys[event.key]();
+  }
+
+  click(event) {
     const line = event.target.closest('[data-row]');
     if (!line) return;
     const index = Number(line.dataset.row);
-    if (event.target.closest('.sign, .fold')) fold(index, !rows[index].open);
-    choose(rows[index] ? index : 0);
-  });
-  pane.addEventListener('scroll', () => {
-    top = pane.scrollTop;
-    draw();
-  });
-  new ResizeObserver(() => {
-    size = { width: pane.clientWidth, height: pane.clientHeight };
-    draw();
-  }).observe(pane);
-
-  return {
-    show(next) {
-      scene = next;
-      layOut();
-    },
-    layOut,
-    /// Marks a row as chosen, from elsewhere, and brings it into sight.
-    select(what) {
-      selected = what;
-      const index = rows.findIndex(row => same(row, what));
-      if (index >= 0) {
-        active = index;
-        reveal(index);
-      }
-      draw();
-    },
-    describe: () => (rows[active] ? rowLabel(rows[active], scene) : ''),
-    count: () => rows.length,
-  };
+    if (event.target.closest('.sign, .fold')) this.fold(index, !this.rows[index].open);
+    this.choose(index);
+  }
 }

@@ -11,7 +11,8 @@ export function printOf(hut, plan) {
   hut.servers.forEach((server, index) => {
     lines.push(`server ${index + 1} cap ${plan.caps[index]}`);
     server.cords.forEach((cord, at) => {
-      lines.push(`cord ${at + 1} node ${cord.node} grant ${plan.grants[place]} headroom ${plan.headroom[place]} held ${plan.held[place]}`);
+      const figures = `grant ${plan.grants[place]} headroom ${plan.headroom[place]} held ${plan.held[place]}`;
+      lines.push(`cord ${at + 1} node ${cord.node} ${figures}`);
       place += 1;
     });
   });

@@ -1,4 +1,4 @@
-// The tables beside the picture: servers with their demands, and cords.
+// The tables beside the picture, and on paper: servers with their demands, and cords.
 
 import { cordState, escaped } from './picture.js';
 import { figure, watts } from './words.js';
@@ -6,30 +6,43 @@ import { percentText } from './text.js';
 
 const row = cells => `<div role="row" class="tr">${cells.join('')}</div>`;
 const cell = (kind, content) => `<span role="cell" class="td ${kind}">${content}</span>`;
-const heading = (kind, content) => `<span role="columnheader" class="th ${kind}">${content}</span>`;
+const heading = ([kind, content]) => `<span role="columnheader" class="th ${kind}">${content}</span>`;
 
-/// A server's row: its name and rank, its demand by number and slider, its cap.
+// ---- Servers
+
+/// A server's row: its name and rank, its demand by slider and number, its cap.
 function serverRow(server, place) {
   const name = escaped(server.name);
-  const range = `${figure(server.least)}–${figure(server.greatest)}`;
+  const { rank, least, greatest } = server;
+  const fixed = least === greatest ? ' disabled' : '';
   return row([
-    cell('who', `<b>${name}</b><small>rank ${server.rank} · ${range} W</small>`),
-    cell('slide', `<input type="range" min="${server.least}" max="${server.greatest}" data-slide="${place}" aria-label="Demand of ${name}, by slider"${server.least === server.greatest ? ' disabled' : ''}>`),
-    cell('ask', `<input type="number" min="0" max="16777215" step="1" data-ask="${place}" aria-label="Demand of ${name}, in watts">`),
+    cell('who', `<b>${name}</b><small>rank ${rank} · ${figure(least)}–${figure(greatest)} W</small>`),
+    cell('slide', `<input type="range" min="${least}" max="${greatest}" data-slide="${place}"${fixed}
+      aria-label="Demand of ${name}, by slider">`),
+    cell('ask', `<input type="number" min="0" max="16777215" step="1" data-ask="${place}"
+      aria-label="Demand of ${name}, in watts">`),
     cell('cap', `<output data-cap="${place}"></output>`),
   ]);
 }
 
-export function serversHtml(hut) {
-  if (hut.servers.length === 0) return '<p class="empty">This hut has no servers yet. Write one in the text: <code>server web rank 1 from 100 to 400 W</code>, and below it its cords.</p>';
-  const head = row([heading('who', 'Server'), heading('slide', 'Demand'), heading('ask', 'W'), heading('cap', 'Cap, W')]);
-  return `<div class="all" role="group" aria-label="All demands at once"><span>All ask for</span>
-    <button type="button" data-all="0">least</button><button type="button" data-all="0.5">half</button><button type="button" data-all="1">greatest</button>
-    <button type="button" data-paste>Paste…</button></div>
-    <form class="paste" hidden><label for="pasted">Demands, one a line, in the order of the servers</label><textarea id="pasted" rows="5" spellcheck="false"></textarea>
-    <p class="told" role="status"></p><div class="row"><button type="submit" class="main">Take them</button><button type="button" data-cancel>Cancel</button></div></form>
-    <div class="told" id="demands-told" role="status"></div>
-    <div class="table servers" role="table" aria-label="Servers">${head}${hut.servers.map(serverRow).join('')}</div>`;
+const NO_SERVERS = `<p class="empty">This hut has no servers yet. Write one in the text, as
+  <code>server web rank 1 from 100 to 400 W</code>, and below it its cords.</p>`;
+
+const ALL_AT_ONCE = `<div class="all" role="group" aria-label="All demands at once"><span>All ask for</span>
+    <button type="button" data-all="0">least</button><button type="button" data-all="0.5">half</button>
+    <button type="button" data-all="1">greatest</button><button type="button" data-paste>Paste…</button></div>
+  <form class="paste" hidden><label for="pasted">Demands, one a line, in the order of the servers</label>
+    <textarea id="pasted" rows="5" spellcheck="false"></textarea><div class="told" role="status"></div>
+    <div class="row"><button type="submit" class="main">Take them</button>
+    <button type="button" data-cancel>Cancel</button></div></form>
+  <div class="told" id="demands-told" role="status"></div>`;
+
+const SERVER_COLUMNS = [['who', 'Server'], ['slide', 'Demand'], ['ask', 'W'], ['cap', 'Cap, W']];
+
+export function serversHtml({ servers }) {
+  if (servers.length === 0) return NO_SERVERS;
+  const rows = row(SERVER_COLUMNS.map(heading)) + servers.map(serverRow).join('');
+  return `${ALL_AT_ONCE}<div class="table servers" role="table" aria-label="Servers">${rows}</div>`;
 }
 
 /// Makes the rows anew of those servers alone that are not as before. Gives false where their number is another.
@@ -45,12 +58,15 @@ export function renewServers(tool, before, hut) {
 
 /// Puts demands and caps into the servers' rows. The field that has the focus is left to who types in it.
 export function fillServers(tool, hut, demands, figures) {
-  const each = (kind, put) => tool.querySelectorAll(`[data-${kind}]`).forEach(element => put(element, Number(element.dataset[kind])));
-  each('slide', (element, place) => { if (element !== document.activeElement) element.value = demands[place]; });
-  each('ask', (element, place) => { if (element !== document.activeElement) element.value = demands[place]; });
+  const each = (kind, put) => tool.querySelectorAll(`[data-${kind}]`)
+    .forEach(element => put(element, Number(element.dataset[kind])));
+  const setDemand = (element, place) => { if (element !== document.activeElement) element.value = demands[place]; };
+  each('slide', setDemand);
+  each('ask', setDemand);
   each('cap', (element, place) => {
     const cap = figures?.caps[place];
-    const need = Math.min(Math.max(demands[place], hut.servers[place].least), hut.servers[place].greatest);
+    const { least, greatest } = hut.servers[place];
+    const need = Math.min(Math.max(demands[place], least), greatest);
     const short = cap !== undefined && cap < need;
     element.textContent = cap === undefined ? '' : `${short ? '◆ ' : ''}${figure(cap)}`;
     element.className = short ? 'short' : '';
@@ -58,33 +74,58 @@ export function fillServers(tool, hut, demands, figures) {
   });
 }
 
-function cordCells(hut, figures, cord, place) {
-  const holder = figures.held[place];
+// ---- Cords
+
+const CORD_COLUMNS = [['who', 'Server'], ['on', 'Breaker'], ['n', 'Share'], ['n', 'Low'], ['n', 'Want'], ['n', 'Grant'],
+  ['n', 'Head&shy;room'], ['by', 'Held by']];
+
+/// Why a cord gets less than it wants, in a word or two.
+function heldNote(hut, figures, place) {
   const state = cordState(figures, place);
-  const note = holder > 0 ? `◆ ${escaped(hut.nodes[holder - 1].name)}` : state === 'stranded' ? 'rest freed' : '';
+  if (state === 'held') return `◆ ${escaped(hut.nodes[figures.held[place] - 1].name)}`;
+  return state === 'stranded' ? 'rest freed' : '';
+}
+
+function cordCells(hut, figures, cord, place) {
+  const state = cordState(figures, place);
+  const name = escaped(hut.servers[cord.server].name);
+  const choose = `<button type="button" class="plain" data-cord="${place}">${name}</button><small> ${cord.cord + 1}</small>`;
   return row([
-    cell('who', `${escaped(hut.servers[cord.server].name)}<small> ${cord.cord + 1}</small>`),
+    cell('who', choose),
     cell('on', escaped(hut.nodes[cord.node - 1].name)),
     cell('n', percentText(cord.share, hut.version)),
     cell('n', figure(figures.lows[place])),
     cell('n', figure(figures.wants[place])),
     cell(`n grant ${state}`, figure(figures.grants[place])),
     cell('n', figure(figures.headroom[place])),
-    cell(`by ${state}`, note),
+    cell(`by ${state}`, heldNote(hut, figures, place)),
   ]);
 }
 
 export function cordsHtml(hut, cords, figures) {
   if (cords.length === 0) return '<p class="empty">No server has a cord yet.</p>';
-  const names = [['who', 'Server'], ['on', 'Breaker'], ['n', 'Share'], ['n', 'Low'], ['n', 'Want'], ['n', 'Grant'], ['n', 'Head&shy;room'], ['by', 'Held by']];
-  const head = row(names.map(([kind, name]) => heading(kind, name)));
-  return `<div class="table cords" role="table" aria-label="Cords">${head}${cords.map((cord, place) => cordCells(hut, figures, cord, place)).join('')}</div>`;
+  const rows = row(CORD_COLUMNS.map(heading)) + cords.map((cord, place) => cordCells(hut, figures, cord, place)).join('');
+  return `<div class="table cords" role="table" aria-label="Cords">${rows}</div>`;
 }
+
+// ---- Paper
+
+const paperTable = (columns, lines) => {
+  const cells = (tag, list) => `<tr>${list.map(each => `<${tag}>${each}</${tag}>`).join('')}</tr>`;
+  return `<table><thead>${cells('th', columns)}</thead><tbody>${lines.map(line => cells('td', line)).join('')}</tbody></table>`;
+};
 
 /// The tables on paper.
 export function doorTables(hut, cords, figures) {
-  const servers = hut.servers.map((server, place) => `<tr><td>${escaped(server.name)}</td><td>${server.rank}</td><td>${figure(server.least)} to ${figure(server.greatest)}</td><td>${figure(figures.demands[place])}</td><td><b>${figure(figures.caps[place])}</b></td></tr>`);
-  const lines = cords.map((cord, place) => `<tr><td>${escaped(hut.servers[cord.server].name)}, cord ${cord.cord + 1}</td><td>${escaped(hut.nodes[cord.node - 1].name)}</td><td>${percentText(cord.share, hut.version)}</td><td><b>${figure(figures.grants[place])}</b></td><td>${figure(figures.headroom[place])}</td><td>${figures.held[place] ? `held by ${escaped(hut.nodes[figures.held[place] - 1].name)}` : ''}</td></tr>`);
-  return `<table><thead><tr><th>Server</th><th>Rank</th><th>Range, W</th><th>Demand, W</th><th>Cap, W</th></tr></thead><tbody>${servers.join('')}</tbody></table>
-    <table><thead><tr><th>Cord</th><th>Breaker</th><th>Share</th><th>Grant, W</th><th>Headroom, W</th><th></th></tr></thead><tbody>${lines.join('')}</tbody></table>`;
+  const servers = hut.servers.map(({ name, rank, least, greatest }, place) => [
+    escaped(name), rank, `${figure(least)} to ${figure(greatest)}`, figure(figures.demands[place]),
+    `<b>${figure(figures.caps[place])}</b>`,
+  ]);
+  const lines = cords.map((cord, place) => [
+    `${escaped(hut.servers[cord.server].name)}, cord ${cord.cord + 1}`, escaped(hut.nodes[cord.node - 1].name),
+    percentText(cord.share, hut.version), `<b>${figure(figures.grants[place])}</b>`, figure(figures.headroom[place]),
+    heldNote(hut, figures, place),
+  ]);
+  return paperTable(['Server', 'Rank', 'Range, W', 'Demand, W', 'Cap, W'], servers)
+    + paperTable(['Cord', 'Breaker', 'Share', 'Grant, W', 'Headroom, W', 'Held by'], lines);
 }

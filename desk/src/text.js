@@ -4,10 +4,8 @@
 // A span is { line, from, to }: a line's place and a range of its characters. A problem is { span, says }:
 // the text cannot be understood there. Whether a figure is allowed is no matter of this module.
 
-import { scaleOf, hasPercents, USUAL_PERCENT } from './hut.js';
+import { scaleOf, hasPercents, MOST_WORD, USUAL_PERCENT } from './hut.js';
 
-/// The greatest word of a table. A greater number counts as this one, which every range refuses.
-const MOST_WORD = 4294967295;
 const TOKEN = /(\d+(?:\.\d+)?)|(%)|(\p{L}[\p{L}\p{N}_.\-/]*)|(\S)/gu;
 
 /// Lines whose words are known: a text is read at every keystroke, and all lines but one are as they were.
@@ -163,12 +161,13 @@ const hundredthsOf = text => {
 };
 
 /// A line of a schedule, `PARENT AMPERES VOLTS`, is kept as it is: Schedule reads it.
-function scheduleLine(hut, whole, text) {
+function scheduleLine(hut, whole, tokens, text) {
   if (hut.nodes.length > hut.schedule.length) {
     throw new Unclear(whole, 'Lines of a schedule stand before all other breakers, since they count breakers from 1.');
   }
-  hut.nodes.push({ name: `b${hut.schedule.length + 1}`, at: { line: whole, name: whole, parent: whole, rating: whole } });
-  hut.schedule.push({ text: text.replace(/#.*/, '').trimEnd(), line: whole.line });
+  const at = { line: whole, name: whole, parent: whole, rating: whole };
+  hut.nodes.push({ name: `b${hut.schedule.length + 1}`, at });
+  hut.schedule.push({ text: text.replace(/#.*/, '').trimEnd(), whole, spans: tokens.map(({ span }) => span) });
 }
 
 const LINES = { version: versionLine, breaker: breakerLine, server: serverLine, cord: cordLine };
@@ -178,12 +177,13 @@ function readLine(hut, text, line) {
   if (tokens.length === 0) return;
   const whole = across(tokens[0], tokens.at(-1));
   if (tokens[0].kind === 'number') {
-    scheduleLine(hut, whole, text);
+    scheduleLine(hut, whole, tokens, text);
     return;
   }
   const read = LINES[tokens[0].text.toLowerCase()];
   if (!read) {
-    throw new Unclear(tokens[0].span, 'A line begins with version, breaker, server or cord, or is a line of a schedule, as 0 200 240.');
+    throw new Unclear(tokens[0].span,
+      'A line begins with version, breaker, server or cord, or is a line of a schedule, as 0 200 240.');
   }
   const rest = new Line(tokens.slice(1), { line, from: whole.to, to: whole.to + 1 });
   read(rest, hut, whole);
@@ -225,7 +225,8 @@ function fitVersion(hut, problems) {
   hut.version = versionOf(hut);
   for (const node of hut.nodes) {
     if (node.percent !== undefined && !hasPercents(hut.version)) {
-      problems.push({ span: node.at.percent, says: 'Breakers have a percent from version 2 on. In version 1 all carry 80%.' });
+      const says = 'Breakers have a percent from version 2 on. In version 1 all carry 80%.';
+      problems.push({ span: node.at.percent, says });
     }
     node.percent ??= USUAL_PERCENT;
   }

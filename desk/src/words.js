@@ -1,7 +1,7 @@
 // Refusals and figures told in words. What each refusal means, and what to do, comes from
 // docs/refusals.json; here its place becomes the thing that was written.
 
-import { scaleOf } from './hut.js';
+import { partAt, scaleOf } from './hut.js';
 
 const grouped = new Intl.NumberFormat('en-GB');
 
@@ -25,16 +25,17 @@ const RANGES = {
   share: () => 'A share goes from 0 to 100%.',
 };
 
-const nodeName = (hut, place) => hut.nodes[place]?.name ?? `breaker ${place + 1}`;
-const serverName = (hut, place) => hut.servers[place]?.name ?? `server ${place + 1}`;
+const nodeName = (hut, place) => hut.nodes[place]?.name ?? place + 1;
+const serverName = (hut, place) => hut.servers[place]?.name ?? place + 1;
 
 /// The thing that a part of the table belongs to.
 export function thingOf(hut, { kind, node, server, cord }) {
-  if (kind === 'line') return `line ${node + 1} of the schedule`;
-  if (kind === 'amperes' || kind === 'lows') return `breaker ${nodeName(hut, node)}`;
+  if (kind === 'line' || kind === 'amperes' || kind === 'lows') return `breaker ${nodeName(hut, node)}`;
   if (kind === 'shares') return `server ${serverName(hut, server)}`;
   if (node !== undefined) return `the ${kind} of breaker ${nodeName(hut, node)}`;
-  if (cord !== undefined) return `the ${kind === 'node' ? 'breaker' : kind} of cord ${cord + 1} of server ${serverName(hut, server)}`;
+  if (cord !== undefined) {
+    return `the ${kind === 'node' ? 'breaker' : kind} of cord ${cord + 1} of server ${serverName(hut, server)}`;
+  }
   if (server !== undefined) return `the ${kind} of server ${serverName(hut, server)}`;
   return `the ${kind.replace('nodes', 'breakers')}`;
 }
@@ -49,7 +50,8 @@ function detail(refusal, hut, figures) {
     return `They sum to ${(100 * sum) / scaleOf(hut.version)}%.`;
   }
   if (number === 9 && figures) {
-    return `The lows beneath it sum to ${watts(figures.lowsBeneath[part.node])}, and it carries ${watts(figures.limits[part.node])}.`;
+    const [lows, limit] = [figures.lowsBeneath[part.node], figures.limits[part.node]];
+    return `The lows beneath it sum to ${watts(lows)}, and it carries ${watts(limit)}.`;
   }
   return '';
 }
@@ -64,28 +66,43 @@ export function tellText(table, refusal, hut, figures) {
   return { title: `Refused ${refusal.number}, ${name}`, says: `${where}${means}${more ? ` ${more}` : ''}`, mend };
 }
 
-/// A refusal of a sheet that was opened: its place is a byte, a word or a breaker.
+/// The numbers of a sheet up to one that was refused, with the byte where each starts: a byte below 128 ends a
+/// number, and each has seven bits of it, the lowest first.
+function numbersOn(bytes, count) {
+  const numbers = [];
+  for (let at = 0; numbers.length < count && at < bytes.length;) {
+    const start = at;
+    let [value, place] = [0, 1];
+    do {
+      value += (bytes[at] % 128) * place;
+      place *= 128;
+      at += 1;
+    } while (at < bytes.length && bytes[at - 1] >= 128);
+    numbers.push({ value, start });
+  }
+  return numbers;
+}
+
+/// Where a sheet is refused: its place is a byte, a number or a breaker.
+function sheetPlace(number, place, bytes) {
+  if (number <= 3) return `Byte ${place}, counted from 0`;
+  if (number === 4) return `Behind its ${counted(place, 'number')}`;
+  if (number === 9) return `Breaker ${place}`;
+  const numbers = numbersOn(bytes, place + 1);
+  const { start, value } = numbers[place];
+  if (number === 8) return `The number at byte ${start}`;
+  const part = partAt(numbers.map(each => each.value), place);
+  const thing = number === 7 ? `server ${part.server + 1}` : `${thingOf(NO_NAMES, part)}, ${figure(value)},`;
+  return `${sentence(thing)} at byte ${start}`;
+}
+
+/// A hut whose names are not known: its things go by their numbers.
+const NO_NAMES = { nodes: [], servers: [] };
+
+/// A refusal of a sheet that was opened.
 export function tellSheet(table, { number, place }, bytes) {
   const { name, means, cause, mend } = table[number];
   return { title: `Refused ${number}, ${name}`, says: `${sheetPlace(number, place, bytes)}: ${means} ${cause}`, mend };
-}
-
-function sheetPlace(number, place, bytes) {
-  if (number <= 3) return `At byte ${place}, counted from 0`;
-  if (number === 4) return `After ${counted(place, 'number')}`;
-  if (number === 9) return `At breaker ${place}`;
-  return `At number ${place}, counted from 0, which stands at byte ${byteOfWord(bytes, place)}`;
-}
-
-/// The byte at which a word of a sheet begins: a byte below 128 ends a number.
-function byteOfWord(bytes, word) {
-  let left = word;
-  let at = 0;
-  while (left > 0 && at < bytes.length) {
-    if (bytes[at] < 128) left -= 1;
-    at += 1;
-  }
-  return at;
 }
 
 /// A refusal of Plan: of the demands.
@@ -102,18 +119,19 @@ export function tellPlain(table, { number, place }) {
   return { title: `Refused ${number}, ${name}`, says: `${means} Place: ${place} (${what}).`, mend };
 }
 
-/// Why a cord gets what it gets, in a sentence.
+/// Why a cord gets what it gets.
 export function whyCord(hut, figures, cord, place) {
-  const grant = figures.grants[place];
-  const want = figures.wants[place];
+  const [grant, want] = [watts(figures.grants[place]), watts(figures.wants[place])];
   const holder = figures.held[place];
   if (holder > 0) {
-    const limit = figures.limits[holder - 1];
-    return `Held by ${hut.nodes[holder - 1].name}. It wants ${watts(want)} and gets ${watts(grant)}: the cords beneath ${hut.nodes[holder - 1].name} take all of its ${watts(limit)}, and those of lower ranks there have just their lows.`;
+    const { name } = hut.nodes[holder - 1];
+    return `Held by ${name}. It wants ${want} and gets ${grant}: the cords beneath ${name} take all of its \
+${watts(figures.limits[holder - 1])}, and those of lower ranks there have just their lows.`;
   }
-  if (grant < want) {
+  if (figures.grants[place] < figures.wants[place]) {
     const { name } = hut.servers[cord.server];
-    return `Of the ${watts(want)} that it would carry it keeps the ${watts(grant)} that ${name} could use after the first deal, when another of its cords carried no more. The rest was freed for others.`;
+    return `Of the ${want} that it would carry it keeps the ${grant} that ${name} could use after the first deal, \
+when another of its cords carried no more. The rest was freed for others.`;
   }
-  return `It gets all that it wants, ${watts(want)}.`;
+  return `It gets all that it wants, ${want}.`;
 }

@@ -144,16 +144,16 @@ test('a schedule is pasted as it is', async () => {
   await paste(text('samples/hut.schedule'));
   assert.match(await verdict(), /^Accepted\n3 breakers, 0 servers, 0 cords/);
   await paste('0 200 240\n1 21 120\n');
-  assert.match(await verdict(), /Refused 25, not a size\nLine 2 Line 2 of the schedule: No breaker is made for these amperes\./);
+  assert.match(await verdict(), /Refused 25, not a size\nLine 2 Breaker b2: No breaker is made for these amperes\./);
   await paste(ROOM_H);
 });
 
 test('a bad file gets a sentence, and nothing that was typed is lost', async () => {
   await drop('room.bin', 3, [1, 128, 0]);
-  await page.until(async () => /room\.bin: Refused 2, number not shortest\. At byte 1/.test(await page.text('#notice')), 'the refusal');
+  await page.until(async () => /room\.bin: Refused 2, number not shortest\. Byte 1/.test(await page.text('#notice')), 'the refusal');
   await page.shot('bad-file');
   await drop('film.mp4', 100 * 1024 * 1024);
-  await page.until(async () => /film\.mp4: Too large\. film\.mp4 has 100\.0 MB/.test(await page.text('#notice')), 'the size');
+  await page.until(async () => /film\.mp4: Too large\. It has 100\.0 MB/.test(await page.text('#notice')), 'the size');
   await drop('noise.txt', 9, [0xff, 0xfe, 0, 1, 2, 3]);
   await page.until(async () => /noise\.txt: Refused/.test(await page.text('#notice')), 'the bytes');
   assert.equal(await value(), ROOM_H);

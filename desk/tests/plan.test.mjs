@@ -97,3 +97,20 @@ test('why a cord gets what it gets', () => {
   assert.match(why(1), /^Of the 200 W that it would carry it keeps the 120 W that web could use after the first deal/);
   assert.match(why(2), /^Held by right/);
 });
+
+test('a refused sheet is told by the thing that its place means', () => {
+  const says = (...sheet) => {
+    const content = Uint8Array.from(sheet);
+    return tellSheet(refusals, calls.read(content), content).says;
+  };
+  const roomH = [...bytes('samples/room-h.bin')];
+  const spoilt = (at, byte) => roomH.map((own, place) => (place === at ? byte : own));
+  assert.match(says(9), /^The version, 9, at byte 0: /);
+  assert.match(says(...spoilt(5, 2)), /^The parent of breaker 2, 2, at byte 5: /);
+  assert.match(says(...spoilt(14, 3)), /^The breaker of cord 1 of server 1, 3, at byte 14: /);
+  assert.match(says(...spoilt(11, 1).slice(0, 13), 0), /^The greatest of server 1, /);
+  assert.match(says(...spoilt(15, 0xf5)), /^Server 1 at byte 9: /);
+  assert.match(says(...roomH, 7), /^The number at byte 28: /);
+  assert.match(says(...roomH.slice(0, 20)), /^Behind its 15 numbers: /);
+  assert.match(says(...spoilt(6, 0xbb).map((own, place) => (place === 7 ? 1 : own))), /^Breaker 2: /);
+});

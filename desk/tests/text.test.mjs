@@ -107,7 +107,7 @@ const REFUSED = [
   [`breaker b 50 W\n${SERVER} cord 60% on b\n cord 30% on b`, 7, 's'],
   [`breaker a 500 W\nbreaker b under a 12 W\n${SERVER} cord 100% on b`, 9, 'b'],
   ['0 20 120\n1  20 120', 24, '1  20 120'],
-  ['0 20 120\n1 21 120', 25, '1 21 120'],
+  ['0 20 120\n1 21 120', 25, '21'],
   ['0 20 120\n2 20 120', 26, '2 20 120'],
   ['breaker b 10000 A 120 V', 24, '10000 A 120 V'],
   ['breaker b 21 A 120 V', 25, '21'],

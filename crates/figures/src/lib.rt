@@ -22,6 +22,13 @@ pub fn short(x: u32) -> u16
     x as u16
 }
 
+// The word that an entry of 16 bits has.
+pub fn word16(x: u16) -> u32
+    ensures { λ r. ⌜ (r ≡ x) × (r < 2 ^ 16) ⌝ }
+{
+    x as u32
+}
+
 // The index, or the count, that an entry of 16 bits has.
 pub fn index(x: u16) -> usize
     ensures { λ r. ⌜ (r ≡ x) × (r < 2 ^ 16) ⌝ }

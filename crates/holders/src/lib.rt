@@ -9,7 +9,6 @@ ghost use Rattle.holders.specs.Holding.{HeldLists, CutNodes, HolderRows,
 use figures::index;
 use figures::index_word;
 use figures::place;
-use figures::word_index;
 use rooms::lists::LEVEL;
 use rooms::lists::NODE;
 
@@ -66,7 +65,7 @@ fn held_by(grant: u32, want: u32, holder: u16) -> u32
 pub fn name_holders(
     parents: &[u16],
     cuts: &[u16],
-    cords: &[[u32; 4]],
+    cords: &[[u16; 4]],
     wants: &[u32],
     grants: &[u32],
     held: &mut [u32],
@@ -77,8 +76,8 @@ pub fn name_holders(
     let mut rows = [[0u16; 16]; 513];
     fill_rows(parents, cuts, &mut rows);
     for c in 0..cords.len() {
-        let node = word_index(cords[c][NODE]);
-        let level = word_index(cords[c][LEVEL]);
+        let node = index(cords[c][NODE]);
+        let level = index(cords[c][LEVEL]);
         held[c] = held_by(grants[c], wants[c], rows[node][level]);
     }
 }

@@ -23,7 +23,7 @@ use Rattle.deals.proofs.BothDeals.{server-facts, cord-facts}
 use Rattle.deals.proofs.Bounds.{bounded}
 use Rattle.layout.specs.Lists.{CordsLent, CordsLaidOut}
 use Rattle.layout.specs.Loading.{needsFrom, CordsLoadable, CordsLoaded}
-use Rattle.layout.proofs.Rows.{cords-count, node-at, server-at, share-at, servers-count, least-at, greatest-at}
+use Rattle.layout.proofs.Rows.{cords-count, server-at, share-at, servers-count, least-at, greatest-at}
 
 -- ---- The loop over the cords
 
@@ -50,16 +50,15 @@ module _ {scale : ℕ} {servers cords : List (List ℕ)} {needed : List ℕ} whe
       }
 
   module _ {c : ℕ} {nodes lows wants ceilings : List ℕ} (loaded : Loaded scale servers cords needed c nodes lows wants ceilings) where
-    pub loaded-one : c < length cords → {v node low want ceiling : ℕ} → v ≡ cell cords c serverColumn → node ≡ cell cords c nodeColumn
-        → low ≡ carried scale (cell cords c shareColumn) (cell servers v leastColumn) → want ≡ carried scale (cell cords c shareColumn) (at needed v)
-        → ceiling ≡ carried scale (cell cords c shareColumn) (cell servers v greatestColumn)
+    pub loaded-one : c < length cords → {share v node low want ceiling : ℕ} → share ≡ cell cords c shareColumn → v ≡ cell cords c serverColumn → node ≡ cell cords c nodeColumn
+        → low ≡ carried scale share (cell servers v leastColumn) → want ≡ carried scale share (at needed v) → ceiling ≡ carried scale share (cell servers v greatestColumn)
         → Loaded scale servers cords needed (c + 1) (set nodes c node) (set lows c low) (set wants c want) (set ceilings c ceiling)
-    loaded-one h {node = node} {low = low} {want = want} {ceiling = ceiling} place n l w t =
+    loaded-one h {node = node} {low = low} {want = want} {ceiling = ceiling} part place n l w t =
         record {
           nodes-done = filled-one node (loaded .nodes-done) h n;
-          lows-done = filled-one low (loaded .lows-done) h (l ∙ ap (λ (v : ℕ). carried scale (cell cords c shareColumn) (cell servers v leastColumn)) place);
-          wants-done = filled-one want (loaded .wants-done) h (w ∙ ap (λ (v : ℕ). carried scale (cell cords c shareColumn) (at needed v)) place);
-          ceilings-done = filled-one ceiling (loaded .ceilings-done) h (t ∙ ap (λ (v : ℕ). carried scale (cell cords c shareColumn) (cell servers v greatestColumn)) place);
+          lows-done = filled-one low (loaded .lows-done) h (l ∙ ap₂ (λ (s v : ℕ). carried scale s (cell servers v leastColumn)) part place);
+          wants-done = filled-one want (loaded .wants-done) h (w ∙ ap₂ (λ (s v : ℕ). carried scale s (at needed v)) part place);
+          ceilings-done = filled-one ceiling (loaded .ceilings-done) h (t ∙ ap₂ (λ (s v : ℕ). carried scale s (cell servers v greatestColumn)) part place);
         }
 
     -- Figures that are carried of some loads, filled to the end.
@@ -110,7 +109,6 @@ module _ {r : Room} {servers cords : List (List ℕ)} (of-servers : ServerRows r
         record {
           scaled = rw scale-is (ok .scaled);
           needs-size = ap length of-needs ∙ figures-length (length servers) _;
-          hangs = λ c h. omega (arith, node-at of-cords c, cord-facts r ok c (omega arith) .2, ok .fewNodes);
           within = λ c h. omega (arith, server-at of-cords c, cord-facts r ok c (omega arith) .0);
           parts = λ c h. omega (arith, share-at of-cords c, cord-facts r ok c (omega arith) .3);
           least-most = λ v h.

@@ -4,7 +4,7 @@ use mathlib.Core.List.{List}
 use Prim.Native.Nat.{ℕ, min, max, _≤_, _<_}
 use lib.ListN.{length}
 use Rattle.figures.specs.Figures.{figures, at, cell, column}
-use Rattle.rooms.specs.Table.{IsScale, mostWatts, mostNodes}
+use Rattle.rooms.specs.Table.{IsScale, mostWatts}
 use Rattle.rooms.specs.Rows.{leastColumn, greatestColumn, nodeColumn, serverColumn, shareColumn, carriedFrom}
 
 -- The need of each server, by its row and its demand.
@@ -15,7 +15,6 @@ needsFrom servers demands = figures (length servers) (λ v. min (max (at demands
 pub record CordsLoadable (scale : ℕ) (servers cords : List (List ℕ)) (needs : List ℕ) : Type 0 where
   pub scaled : IsScale scale
   pub needs-size : length needs ≡ length servers
-  pub hangs : (c : ℕ) → c < length cords → cell cords c nodeColumn ≤ mostNodes
   pub within : (c : ℕ) → c < length cords → cell cords c serverColumn < length servers
   pub parts : (c : ℕ) → c < length cords → cell cords c shareColumn ≤ scale
   pub least-most : (v : ℕ) → v < length servers → cell servers v leastColumn ≤ mostWatts

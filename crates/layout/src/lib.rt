@@ -10,10 +10,10 @@ ghost use Rattle.rooms.specs.Lists.{parentsOf, limitsOf};
 ghost use Rattle.rooms.specs.Rows.{OfRoom, NodesFit, ServersFit};
 ghost use Rattle.layout.specs.Lists.{HasLowsBeneath, CordsLent, CordsLaidOut};
 ghost use Rattle.layout.specs.Loading.{needsFrom, CordsLoadable, CordsLoaded};
+use figures::index;
 use figures::narrow;
-use figures::short;
 use figures::wide;
-use figures::word_index;
+use figures::word16;
 use rooms::limits::carried_by;
 use rooms::lists::GREATEST;
 use rooms::lists::LEAST;
@@ -69,7 +69,7 @@ fn load_needs(servers: &[[u32; 4]], demands: &[u32], needs: &mut [u32])
 // The node of each cord, and what it carries of its server's least, need and greatest, by the rows.
 fn load_figures(
     servers: &[[u32; 4]],
-    cords: &[[u32; 4]],
+    cords: &[[u16; 4]],
     needs: &[u32],
     nodes: &mut [u16],
     lows: &mut [u32],
@@ -83,9 +83,9 @@ fn load_figures(
 {
     for c in 0..cords.len() {
         let cord = cords[c];
-        let share = cord[SHARE];
-        let v = word_index(cord[SERVER]);
-        nodes[c] = short(cord[NODE]);
+        let share = word16(cord[SHARE]);
+        let v = index(cord[SERVER]);
+        nodes[c] = cord[NODE];
         lows[c] = carried_by(share, servers[v][LEAST], scale);
         wants[c] = carried_by(share, needs[v], scale);
         ceilings[c] = carried_by(share, servers[v][GREATEST], scale);
@@ -97,7 +97,7 @@ fn load_rows(
     table: &[u32],
     demands: &[u32],
     servers: &mut [[u32; 4]],
-    cords: &mut [[u32; 4]],
+    cords: &mut [[u16; 4]],
     nodes: &mut [u16],
     lows: &mut [u32],
     wants: &mut [u32],
@@ -127,7 +127,7 @@ fn load_rows(
 pub fn load_cords(
     table: &[u32],
     demands: &[u32],
-    cords: &mut [[u32; 4]],
+    cords: &mut [[u16; 4]],
     nodes: &mut [u16],
     lows: &mut [u32],
     wants: &mut [u32],

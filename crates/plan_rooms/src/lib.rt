@@ -29,7 +29,7 @@ use rooms::lists::table_scale;
 // are not used.
 fn deal_twice(
     parents: &[u16],
-    cords: &[[u32; 4]],
+    cords: &[[u16; 4]],
     nodes: &[u16],
     lows: &[u32],
     wants: &mut [u32],
@@ -112,7 +112,7 @@ pub fn plan_room(
     let mut parents = [0u16; 512];
     let mut left = [0u32; 512];
     let mut cuts = [0u16; 512];
-    let mut cords = [[0u32; 4]; 1024];
+    let mut cords = [[0u16; 4]; 1024];
     let mut nodes = [0u16; 1024];
     let mut lows = [0u32; 1024];
     let mut wants = [0u32; 1024];

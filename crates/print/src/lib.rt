@@ -10,6 +10,7 @@ ghost use Rattle.figures.specs.Figures.{cell};
 ghost use Rattle.rooms.specs.Part.{Good};
 ghost use Rattle.rooms.specs.Limits.{checked};
 ghost use Rattle.rooms.specs.Rows.{OfRoom, ServersFit, CordsFit, nodeColumn};
+use figures::index;
 use figures::word_index;
 use rooms::lists::COUNT;
 use rooms::lists::NODE;
@@ -38,7 +39,7 @@ pub fn plan(
     ensures { λ r. ⌜ Counts r (now (buffer .exit)) ⌝ }
 {
     let mut servers = [[0u32; 4]; MOST_SERVERS];
-    let mut cords = [[0u32; 4]; MOST_CORDS];
+    let mut cords = [[0u16; 4]; MOST_CORDS];
     let server_count = rooms::lists::server_count(table);
     let cord_count = rooms::lists::cord_count(table);
     plan_by(
@@ -59,7 +60,7 @@ fn plan_by(
     freed: u64,
     table: &[u32],
     servers: &mut [[u32; 4]],
-    cords: &mut [[u32; 4]],
+    cords: &mut [[u16; 4]],
     caps: &[u32],
     grants: &[u32],
     headroom: &[u32],
@@ -80,7 +81,7 @@ fn plan_by(
 fn put_plan(
     freed: u64,
     servers: &[[u32; 4]],
-    cords: &[[u32; 4]],
+    cords: &[[u16; 4]],
     caps: &[u32],
     grants: &[u32],
     headroom: &[u32],
@@ -108,7 +109,7 @@ pub fn refusal(number: u64, place: usize, buffer: &mut [u8]) -> usize
 // The lines of all servers and their cords.
 fn put_servers(
     servers: &[[u32; 4]],
-    cords: &[[u32; 4]],
+    cords: &[[u16; 4]],
     caps: &[u32],
     grants: &[u32],
     headroom: &[u32],
@@ -136,7 +137,7 @@ fn put_servers(
 // The lines of a server's cords, whose rows and figures start at `first`.
 fn put_cords(
     count: usize,
-    cords: &[[u32; 4]],
+    cords: &[[u16; 4]],
     grants: &[u32],
     headroom: &[u32],
     held: &[u32],
@@ -165,11 +166,11 @@ fn put_cords(
 }
 
 // The node of the cord at a place; 0 past the last.
-fn node(cords: &[[u32; 4]], place: usize) -> usize
+fn node(cords: &[[u16; 4]], place: usize) -> usize
     ensures { λ r. ⌜ r ≡ cell (now (cords .entry)) place nodeColumn ⌝ }
 {
     if place < cords.len() {
-        word_index(cords[place][NODE])
+        index(cords[place][NODE])
     } else {
         0
     }

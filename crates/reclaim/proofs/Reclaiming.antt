@@ -137,12 +137,13 @@ module _ {scale : ℕ} {cords : List (List ℕ)} {usable grants first starts₀ 
 
   module _ {c freed : ℕ} {starts wants : List ℕ} (by : Reclaiming scale cords usable grants first starts₀ c freed starts wants) (sizes : (length starts₀ ≡ length cords) × (length first ≡ length cords)) where
     module _ (here : c < length cords)
-        {v x watts more : ℕ} (place-is : v ≡ cell cords c serverColumn) (used-is : x ≡ carried scale (cell cords c shareColumn) (at usable v)) (stranded-is : watts ≡ at grants c - x)
+        {share v x watts more : ℕ} (share-is : share ≡ cell cords c shareColumn) (place-is : v ≡ cell cords c serverColumn)
+        (used-is : x ≡ carried scale share (at usable v)) (stranded-is : watts ≡ at grants c - x)
         (most : watts ≤ 4294967295) (more-is : more ≡ freed + watts) where
       used-here : at (used scale cords usable) c ≡ x
       used-here =
           figures-at (length (shares cords)) c _ (omega (arith, column-length shareColumn cords))
-          ∙ ap₂ (λ (part h : ℕ). carried scale part (at usable h)) (column-at shareColumn cords c) (column-at serverColumn cords c ∙ sym place-is)
+          ∙ ap₂ (λ (part h : ℕ). carried scale part (at usable h)) (column-at shareColumn cords c ∙ sym share-is) (column-at serverColumn cords c ∙ sym place-is)
           ∙ sym used-is
 
       placed : c < length (used scale cords usable)

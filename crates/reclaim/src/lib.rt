@@ -8,26 +8,27 @@ ghost use lib.ListN.{length};
 ghost use Rattle.figures.specs.Figures.{column};
 ghost use Rattle.rooms.specs.Rows.{serverColumn, shareColumn};
 ghost use Rattle.reclaim.specs.Reclaimed.{ServerLists, usableFrom, usedFrom, freedFrom, wantsFrom};
+use figures::index;
 use figures::least;
 use figures::narrow;
 use figures::over;
 use figures::wide;
-use figures::word_index;
+use figures::word16;
 use rooms::limits::carried_by;
 use rooms::lists::SERVER;
 use rooms::lists::SHARE;
 
 // Each server's usable watts, in the place of its need: the need, or the least of floor(scale × grant / share) of its cords with a share,
 // if that is less.
-pub fn usable_of(cords: &[[u32; 4]], grants: &[u32], usable: &mut [u32], scale: u32)
+pub fn usable_of(cords: &[[u16; 4]], grants: &[u32], usable: &mut [u32], scale: u32)
     requires { ⌜ ServerLists scale (now cords) (now usable) (length (now grants)) ⌝ }
     ensures { λ _. ⌜ now (usable .exit) ≡ usableFrom scale (column shareColumn (now (cords .entry))) (column serverColumn (now (cords .entry))) (now (usable .entry)) (now (grants .entry)) ⌝ }
 {
     for c in 0..cords.len() {
         let cord = cords[c];
-        let share = wide(cord[SHARE]);
+        let share = wide(word16(cord[SHARE]));
         if share != 0 {
-            let v = word_index(cord[SERVER]);
+            let v = index(cord[SERVER]);
             usable[v] = narrow(least(wide(usable[v]), wide(scale) * wide(grants[c]) / share));
         }
     }
@@ -47,7 +48,7 @@ fn next_want(stranded: u64, used: u32, want: u32) -> u32
 // After the first deal: the next one starts from each cord's used watts, and the cords that have stranded watts want no more than
 // those; gives the watts freed.
 pub fn reclaim(
-    cords: &[[u32; 4]],
+    cords: &[[u16; 4]],
     usable: &[u32],
     grants: &[u32],
     starts: &mut [u32],
@@ -62,7 +63,7 @@ pub fn reclaim(
     let mut freed: u64 = 0;
     for c in 0..cords.len() {
         let cord = cords[c];
-        let used = carried_by(cord[SHARE], usable[word_index(cord[SERVER])], scale);
+        let used = carried_by(word16(cord[SHARE]), usable[index(cord[SERVER])], scale);
         let stranded = over(wide(grants[c]), wide(used));
         freed += stranded;
         starts[c] = used;

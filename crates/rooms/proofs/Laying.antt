@@ -2,7 +2,7 @@
 use mathlib.Core.Path.{_≡_, refl, sym, ap, _∙_}
 use mathlib.Core.Bool.{Bool, true, false}
 use mathlib.Core.List.{List, [], _∷_}
-use Prim.Native.Nat.{ℕ, _+_, _-_, _*_, _≤_, _<_}
+use Prim.Native.Nat.{ℕ, _+_, _-_, _*_, _^_, _≤_, _<_}
 use native.Mathlib.Omega.{arith}
 use lib.ListN.{length, getD, set, length-set}
 use lib.Seq.{getD-set-same, getD-set-other}
@@ -12,7 +12,7 @@ use Rattle.figures.specs.Figures.{at, column}
 use Rattle.figures.proofs.Columns.{column-length, column-set}
 use Rattle.figures.proofs.Filled.{Filled, filled-none, filled-one, filled-all}
 use Rattle.rooms.specs.Part.{good, Good}
-use Rattle.rooms.specs.Table.{Room, mostServers, mostCords, cordCount, roomCords}
+use Rattle.rooms.specs.Table.{Room, mostServers, mostCords, highestRank, cordCount, roomCords}
 use Rattle.rooms.specs.Limits.{checked}
 use Rattle.rooms.specs.Cords.{RoomCord, cordAt, serverAt, rankOf}
 use Rattle.rooms.specs.Lists.{nodesOf, levelsOf}
@@ -146,7 +146,6 @@ server-begin laying more e =
 -- What code relies on at a cord.
 pub record CordFits (table : List ℕ) (v c word : ℕ) (cords : List (List ℕ)) : Type 0 where
   pub there : word + 1 < length table
-  pub server-few : v < mostServers
   pub cord-few : c < mostCords
   pub in-cords : c < length cords
 
@@ -187,17 +186,29 @@ module _ {table : List ℕ} {v start first count c word : ℕ} {servers cords : 
     cord-fits =
         record {
           there = omega (arith, cord-here .there, at-share);
-          server-few = few-servers;
           cord-few = omega (arith, within, begun (laying .read) .cords-most);
           in-cords = omega (arith, within, corded laying);
         }
 
-    -- One cord more.
-    pub server-cord : {place : ℕ} → place ≡ v
-        → LayingServer table v start first count (c + 1) (word + 2) servers (set cords c (at table word ∷ place ∷ (at table start - 1) ∷ at table (word + 1) ∷ []))
-    server-cord {place} ep =
-        let row : List ℕ = at table word ∷ place ∷ (at table start - 1) ∷ at table (word + 1) ∷ [] in
+    -- The figures of its row fit their entries.
+    pub row-fits : (at table word < 2 ^ 16) × (v < 2 ^ 16) × (1 ≤ at table start) × (at table start ≤ highestRank) × (at table (word + 1) < 2 ^ 16)
+    row-fits =
         let standing = laying-server laying (server .more) in
+        let node : at table word ≤ length (r .nodes) = rw at-word at (cord-here .node-most) in
+        let share : at table (word + 1) ≤ r .scale = rw at-share at (cord-here .share-most) in (
+          omega (arith, node, begun (laying .read) .most),
+          omega (arith, few-servers),
+          standing .lowest,
+          standing .highest,
+          omega (arith, share, accepted table r (laying .end) (laying .read) .scaled .1),
+        )
+
+    -- One cord more.
+    pub server-cord : {row : List ℕ} → row ≡ at table word ∷ v ∷ (at table start - 1) ∷ at table (word + 1) ∷ []
+        → LayingServer table v start first count (c + 1) (word + 2) servers (set cords c row)
+    server-cord {row} e =
+        let standing = laying-server laying (server .more) in
+        let cell : (k : ℕ) → at row k ≡ at (at table word ∷ v ∷ (at table start - 1) ∷ at table (word + 1) ∷ []) k = λ k. ap (λ (l : List ℕ). at l k) e in
         record {
           laying = record {
             room = r;
@@ -209,13 +220,13 @@ module _ {table : List ℕ} {v start first count c word : ℕ} {servers cords : 
             greatests = laying .greatests;
             counts = laying .counts;
             servers-wide = laying .servers-wide;
-            nodes = column-filled cords nodeColumn row (laying .nodes) within (ap (λ (x : RoomCord). x .node) is);
-            places = column-filled cords serverColumn row (laying .places) within (ep ∙ ap (λ (x : RoomCord). x .server) is);
+            nodes = column-filled cords nodeColumn row (laying .nodes) within (cell nodeColumn ∙ ap (λ (x : RoomCord). x .node) is);
+            places = column-filled cords serverColumn row (laying .places) within (cell serverColumn ∙ ap (λ (x : RoomCord). x .server) is);
             levels =
                 column-filled cords levelColumn row (laying .levels) within
-                (ap (λ (x : ℕ). x - 1) (sym (standing .rank)) ∙ ap (λ (x : RoomCord). serverAt r (x .server) .rank - 1) is);
-            shares = column-filled cords shareColumn row (laying .shares) within (ap (λ (x : RoomCord). x .share) is);
-            cords-wide = wide-one cords c row (laying .cords-wide) (omega (arith, within, corded laying)) refl;
+                (cell levelColumn ∙ ap (λ (x : ℕ). x - 1) (sym (standing .rank)) ∙ ap (λ (x : RoomCord). serverAt r (x .server) .rank - 1) is);
+            shares = column-filled cords shareColumn row (laying .shares) within (cell shareColumn ∙ ap (λ (x : RoomCord). x .share) is);
+            cords-wide = wide-one cords c row (laying .cords-wide) (omega (arith, within, corded laying)) (ap length e);
           };
           more = server .more;
           counted = server .counted;

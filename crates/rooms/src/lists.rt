@@ -1,10 +1,12 @@
 // What a good table holds, for the crates above `rooms`: its counts, its nodes as lists, and a row a server and a row a cord. None of
 // these is an operation: what they claim, they claim of a table that passes the check.
 ghost use mathlib.Core.Path.{_≡_};
-ghost use Prim.Native.Nat.{_<_, _+_, _^_};
+ghost use mathlib.Core.List.{[], _∷_};
+ghost use Prim.Native.Nat.{_+_, _-_, _^_, _≤_, _<_};
 ghost use lib.ListN.{length};
 ghost use Rattle.figures.specs.Figures.{at};
 ghost use Rattle.rooms.specs.Part.{Good};
+ghost use Rattle.rooms.specs.Table.{highestRank};
 ghost use Rattle.rooms.specs.Limits.{checked};
 ghost use Rattle.rooms.specs.Lists.{parentsOf, limitsOf};
 ghost use Rattle.rooms.specs.Rows.{OfRoom, NodesFit, ServersFit, CordsFit, ScaleIs, ServerRows, CordRows};
@@ -13,7 +15,7 @@ use crate::form::has_percents;
 use crate::form::limit_at;
 use crate::form::node_index;
 use crate::form::scale_of;
-use figures::index_word;
+use figures::place;
 use figures::short;
 use figures::word_index;
 
@@ -104,8 +106,16 @@ pub fn lay_out_nodes(table: &[u32], parents: &mut [u16], limits: &mut [u32])
     }
 }
 
+// A cord's row, by its columns.
+fn cord_row(node: u32, server: usize, rank: u32, share: u32) -> [u16; 4]
+    requires { ⌜ (node < 2 ^ 16) × (server < 2 ^ 16) × (1 ≤ rank) × (rank ≤ highestRank) × (share < 2 ^ 16) ⌝ }
+    ensures { λ r. ⌜ r ≡ node ∷ server ∷ (rank - 1) ∷ share ∷ [] ⌝ }
+{
+    [short(node), place(server), short(rank - 1), short(share)]
+}
+
 // A row for each server and each cord of a good table.
-pub fn lay_out_servers(table: &[u32], servers: &mut [[u32; 4]], cords: &mut [[u32; 4]])
+pub fn lay_out_servers(table: &[u32], servers: &mut [[u32; 4]], cords: &mut [[u16; 4]])
     requires { ⌜ Good (checked (now table) 0) ⌝ }
     requires { ⌜ ServersFit (now table) (length (now servers)) × CordsFit (now table) (length (now cords)) ⌝ }
     ensures { λ _. ⌜ OfRoom (now (table .entry)) (λ r. ServerRows r (now (servers .exit)) × CordRows r (now (cords .exit))) ⌝ }
@@ -119,7 +129,7 @@ pub fn lay_out_servers(table: &[u32], servers: &mut [[u32; 4]], cords: &mut [[u3
         for c in first..first + count {
             let node = table[word];
             let share = table[word + 1];
-            cords[c] = [node, index_word(v), rank - 1, share];
+            cords[c] = cord_row(node, v, rank, share);
             word += 2;
         }
         servers[v] = [rank, table[start + 1], table[start + 2], table[start + 3]];

@@ -29,13 +29,13 @@ few c = omega (arith, lists c .few, c .loop-test .taken)
 
 -- The rows have a place for the cord's node and its level.
 abbrev Read : Type 0
-Read = tie.After-word-index2 Inv-loop μ-loop
+Read = tie.After-index2 Inv-loop μ-loop
 
-node-fits : (c : Read) → c .before .before .word-index .result ≤ mostNodes
-node-fits c = omega (arith, c .before .before .word-index .ensures .0, lists (c .before .before .before .before) .within (c .before .before .before .before .before .loop .c) (c .before .before .before .before .loop-test .taken), lists (c .before .before .before .before) .few-nodes)
+node-fits : (c : Read) → c .before .before .index .result ≤ mostNodes
+node-fits c = omega (arith, c .before .before .index .ensures .0, lists (c .before .before .before .before) .within (c .before .before .before .before .before .loop .c) (c .before .before .before .before .loop-test .taken), lists (c .before .before .before .before) .few-nodes)
 
-level-fits : (c : Read) → c .word-index2 .result < highestRank
-level-fits c = omega (arith, c .word-index2 .ensures .0, lists (c .before .before .before .before) .ranked (c .before .before .before .before .before .loop .c) (c .before .before .before .before .loop-test .taken))
+level-fits : (c : Read) → c .index2 .result < highestRank
+level-fits c = omega (arith, c .index2 .ensures .0, lists (c .before .before .before .before) .ranked (c .before .before .before .before .before .loop .c) (c .before .before .before .before .loop-test .taken))
 
 fill-rows-requires : tie.Need-fill-rows-requires Inv-loop μ-loop
 fill-rows-requires c κs = (cut-nodes (c .before .before .before .before .before .before .pre .0), zeros-none 513 16 refl refl)
@@ -43,29 +43,29 @@ fill-rows-requires c κs = (cut-nodes (c .before .before .before .before .before
 loop-holds : tie.Need-loop-holds Inv-loop μ-loop
 loop-holds c = filled-none _ _
 
-mul-word-index : tie.Need-mul-word-index Inv-loop μ-loop
-mul-word-index c = omega (arith, few c)
+mul-index : tie.Need-mul-index Inv-loop μ-loop
+mul-index c = omega (arith, few c)
 
-index-1-word-index : tie.Need-index-1-word-index Inv-loop μ-loop
-index-1-word-index c = c .loop-test .taken
+index-1-index : tie.Need-index-1-index Inv-loop μ-loop
+index-1-index c = c .loop-test .taken
 
-index-2-word-index : tie.Need-index-2-word-index Inv-loop μ-loop
-index-2-word-index c = omega arith
+index-2-index : tie.Need-index-2-index Inv-loop μ-loop
+index-2-index c = omega arith
 
-word-index-requires : tie.Need-word-index-requires Inv-loop μ-loop
-word-index-requires c κs = search needs
+index-requires : tie.Need-index-requires Inv-loop μ-loop
+index-requires c κs = search needs
 
-mul-word-index-2 : tie.Need-mul-word-index-2 Inv-loop μ-loop
-mul-word-index-2 c = omega (arith, few (c .before .before))
+mul-index-2 : tie.Need-mul-index-2 Inv-loop μ-loop
+mul-index-2 c = omega (arith, few (c .before .before))
 
-index-1-word-index-2 : tie.Need-index-1-word-index-2 Inv-loop μ-loop
-index-1-word-index-2 c = c .before .before .loop-test .taken
+index-1-index-2 : tie.Need-index-1-index-2 Inv-loop μ-loop
+index-1-index-2 c = c .before .before .loop-test .taken
 
-index-2-word-index-2 : tie.Need-index-2-word-index-2 Inv-loop μ-loop
-index-2-word-index-2 c = omega arith
+index-2-index-2 : tie.Need-index-2-index-2 Inv-loop μ-loop
+index-2-index-2 c = omega arith
 
-word-index-requires-2 : tie.Need-word-index-requires-2 Inv-loop μ-loop
-word-index-requires-2 c κs = search needs
+index-requires-2 : tie.Need-index-requires-2 Inv-loop μ-loop
+index-requires-2 c κs = search needs
 
 mul-held-by : tie.Need-mul-held-by Inv-loop μ-loop
 mul-held-by c = omega (arith, few (c .before .before .before .before))
@@ -110,7 +110,7 @@ loop-again : tie.Need-loop-again Inv-loop μ-loop
 loop-again c =
     let turn = c .before .before .before .before .before .before .before .before in
     filled-one _ (turn .before .loop .inv) (omega (arith, c .before .before .before .before .before .before .before .before .before .before .before .before .before .before .before .before .before .pre .1, turn .loop-test .taken))
-    (held-is (lists turn) (turn .before .before .fill-rows .ensures) (turn .loop-test .taken) (c .before .before .before .before .before .before .word-index .ensures .0) (c .before .before .before .before .word-index2 .ensures .0) (c .held-by .ensures))
+    (held-is (lists turn) (turn .before .before .fill-rows .ensures) (turn .loop-test .taken) (c .before .before .before .before .before .before .index .ensures .0) (c .before .before .before .before .index2 .ensures .0) (c .held-by .ensures))
 
 same-length : tie.Need-same-length Inv-loop μ-loop
 same-length c = c .before .loop .inv .size-is
@@ -126,14 +126,14 @@ name-holders-spec =
     μ-loop
     fill-rows-requires
     loop-holds
-    mul-word-index
-    index-1-word-index
-    index-2-word-index
-    word-index-requires
-    mul-word-index-2
-    index-1-word-index-2
-    index-2-word-index-2
-    word-index-requires-2
+    mul-index
+    index-1-index
+    index-2-index
+    index-requires
+    mul-index-2
+    index-1-index-2
+    index-2-index-2
+    index-requires-2
     mul-held-by
     shared-slice-read-held-by
     mul-held-by-2

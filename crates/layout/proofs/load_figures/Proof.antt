@@ -1,4 +1,5 @@
 -- `load_figures` meets its contract: before each turn the lists have the figures of the cords passed.
+use mathlib.Core.Path.{refl}
 use Prim.Native.Nat.{_-_, _≤_, _<_}
 use native.Mathlib.Omega.{arith}
 use lib.ListN.{length}
@@ -16,23 +17,26 @@ abbrev μ-loop : tie.MeasureT-loop
 -- ---- What is known at a turn, once the place of the cord's server is read
 
 abbrev Placed : Type 0
-Placed = tie.After-word-index Inv-loop μ-loop
+Placed = tie.After-index Inv-loop μ-loop
 
 abbrev start : Placed → tie.Start Inv-loop μ-loop
-start p = p .before .before .before .before .before .before .before .before .before
+start p = p .before .before .before .before .before .before .before .before .before .before
 
 abbrev turn : Placed → tie.In-loop Inv-loop μ-loop
-turn p = p .before .before
+turn p = p .before .before .before
 
 -- All figures of the cord are found.
 abbrev Found : Type 0
 Found = tie.After-carried-by3 Inv-loop μ-loop
 
 abbrev place : Found → Placed
-place c = c .before .before .before .before .before .before .before
+place c = c .before .before .before .before .before .before
 
-placed : (p : Placed) → p .word-index .result < length (start p .args .servers .now)
-placed p = omega (arith, start p .pre .0 .within _ (turn p .loop-test .taken), p .word-index .ensures .0)
+placed : (p : Placed) → p .index .result < length (start p .args .servers .now)
+placed p = omega (arith, start p .pre .0 .within _ (turn p .loop-test .taken), p .index .ensures .0)
+
+part : (p : Placed) → p .before .word16 .result ≤ start p .args .scale
+part p = omega (arith, start p .pre .0 .parts _ (turn p .loop-test .taken), p .before .word16 .ensures .0)
 
 loop-holds : tie.Need-loop-holds Inv-loop μ-loop
 loop-holds c = let sizes = c .before .before .before .before .before .pre .1 in (omega arith, loaded-none (sizes .0) (sizes .1) (sizes .2) (sizes .3))
@@ -43,80 +47,80 @@ mul-cord c = search needs
 shared-slice-copy-out-cord : tie.Need-shared-slice-copy-out-cord Inv-loop μ-loop
 shared-slice-copy-out-cord c = search needs
 
-array-read-share : tie.Need-array-read-share Inv-loop μ-loop
-array-read-share c = search needs
+array-read-word16 : tie.Need-array-read-word16 Inv-loop μ-loop
+array-read-word16 c = search needs
 
-array-read-word-index : tie.Need-array-read-word-index Inv-loop μ-loop
-array-read-word-index c = search needs
+word16-requires : tie.Need-word16-requires Inv-loop μ-loop
+word16-requires c κs = search needs
 
-word-index-requires : tie.Need-word-index-requires Inv-loop μ-loop
-word-index-requires c κs = search needs
+array-read-index : tie.Need-array-read-index Inv-loop μ-loop
+array-read-index c = search needs
 
-array-read-short : tie.Need-array-read-short Inv-loop μ-loop
-array-read-short c = search needs
+index-requires : tie.Need-index-requires Inv-loop μ-loop
+index-requires c κs = search needs
 
-short-requires : tie.Need-short-requires Inv-loop μ-loop
-short-requires c κs = omega (arith, start c .pre .0 .hangs _ (turn c .loop-test .taken))
+array-read-nodes : tie.Need-array-read-nodes Inv-loop μ-loop
+array-read-nodes c = search needs
 
 mul-nodes : tie.Need-mul-nodes Inv-loop μ-loop
 mul-nodes c = search needs
 
 slice-write-nodes : tie.Need-slice-write-nodes Inv-loop μ-loop
-slice-write-nodes c = omega (arith, turn (c .before) .before .loop .inv .1 .nodes-done .size-is, turn (c .before) .loop-test .taken)
+slice-write-nodes c = omega (arith, turn c .before .loop .inv .1 .nodes-done .size-is, turn c .loop-test .taken)
 
 mul-carried-by : tie.Need-mul-carried-by Inv-loop μ-loop
 mul-carried-by c = search needs
 
 index-1-carried-by : tie.Need-index-1-carried-by Inv-loop μ-loop
-index-1-carried-by c = placed (c .before)
+index-1-carried-by c = placed c
 
 index-2-carried-by : tie.Need-index-2-carried-by Inv-loop μ-loop
 index-2-carried-by c = search needs
 
 carried-by-requires : tie.Need-carried-by-requires Inv-loop μ-loop
 carried-by-requires c κs =
-    let p = c .before .before in
+    let p = c .before in
     let asked = start p .pre .0 in
-    (asked .scaled, asked .parts _ (turn p .loop-test .taken), asked .least-most _ (placed p))
+    (asked .scaled, part p, asked .least-most _ (placed p))
 
 mul-lows : tie.Need-mul-lows Inv-loop μ-loop
 mul-lows c = search needs
 
 slice-write-lows : tie.Need-slice-write-lows Inv-loop μ-loop
-slice-write-lows c = omega (arith, turn (c .before .before .before) .before .loop .inv .1 .lows-done .size-is, turn (c .before .before .before) .loop-test .taken)
+slice-write-lows c = omega (arith, turn (c .before .before) .before .loop .inv .1 .lows-done .size-is, turn (c .before .before) .loop-test .taken)
 
 mul-carried-by-2 : tie.Need-mul-carried-by-2 Inv-loop μ-loop
 mul-carried-by-2 c = search needs
 
 shared-slice-read-carried-by : tie.Need-shared-slice-read-carried-by Inv-loop μ-loop
-shared-slice-read-carried-by c = let p = c .before .before .before .before in omega (arith, placed p, start p .pre .0 .needs-size)
+shared-slice-read-carried-by c = let p = c .before .before .before in omega (arith, placed p, start p .pre .0 .needs-size)
 
 carried-by-requires-2 : tie.Need-carried-by-requires-2 Inv-loop μ-loop
 carried-by-requires-2 c κs =
-    let p = c .before .before .before .before in
+    let p = c .before .before .before in
     let asked = start p .pre .0 in
-    (asked .scaled, asked .parts _ (turn p .loop-test .taken), asked .need-most _ (placed p))
+    (asked .scaled, part p, asked .need-most _ (placed p))
 
 mul-wants : tie.Need-mul-wants Inv-loop μ-loop
 mul-wants c = search needs
 
 slice-write-wants : tie.Need-slice-write-wants Inv-loop μ-loop
-slice-write-wants c = omega (arith, turn (c .before .before .before .before .before) .before .loop .inv .1 .wants-done .size-is, turn (c .before .before .before .before .before) .loop-test .taken)
+slice-write-wants c = omega (arith, turn (c .before .before .before .before) .before .loop .inv .1 .wants-done .size-is, turn (c .before .before .before .before) .loop-test .taken)
 
 mul-carried-by-3 : tie.Need-mul-carried-by-3 Inv-loop μ-loop
 mul-carried-by-3 c = search needs
 
 index-1-carried-by-2 : tie.Need-index-1-carried-by-2 Inv-loop μ-loop
-index-1-carried-by-2 c = placed (c .before .before .before .before .before)
+index-1-carried-by-2 c = placed (c .before .before .before .before)
 
 index-2-carried-by-2 : tie.Need-index-2-carried-by-2 Inv-loop μ-loop
 index-2-carried-by-2 c = search needs
 
 carried-by-requires-3 : tie.Need-carried-by-requires-3 Inv-loop μ-loop
 carried-by-requires-3 c κs =
-    let p = c .before .before .before .before .before .before in
+    let p = c .before .before .before .before .before in
     let asked = start p .pre .0 in
-    (asked .scaled, asked .parts _ (turn p .loop-test .taken), asked .greatest-most _ (placed p))
+    (asked .scaled, part p, asked .greatest-most _ (placed p))
 
 mul-ceilings : tie.Need-mul-ceilings Inv-loop μ-loop
 mul-ceilings c = search needs
@@ -135,8 +139,8 @@ loop-again c =
     let p = place c in
     let less = turn p .loop-test .taken in (
       omega (arith, less),
-      loaded-one (turn p .before .loop .inv .1) less (p .word-index .ensures .0) (c .before .before .before .before .before .before .short .ensures) (c .before .before .before .before .carried-by .ensures) (c .before .before .carried-by2 .ensures)
-          (c .carried-by3 .ensures),
+      loaded-one (turn p .before .loop .inv .1) less (p .before .word16 .ensures .0) (p .index .ensures .0) refl
+          (c .before .before .before .before .carried-by .ensures) (c .before .before .carried-by2 .ensures) (c .carried-by3 .ensures),
     )
 
 same-length : tie.Need-same-length Inv-loop μ-loop
@@ -163,11 +167,11 @@ load-figures-spec =
     loop-holds
     mul-cord
     shared-slice-copy-out-cord
-    array-read-share
-    array-read-word-index
-    word-index-requires
-    array-read-short
-    short-requires
+    array-read-word16
+    word16-requires
+    array-read-index
+    index-requires
+    array-read-nodes
     mul-nodes
     slice-write-nodes
     mul-carried-by

@@ -9,17 +9,17 @@ use Rattle.rooms.specs.Rows.{nodeColumn}
 use Rattle.print.proofs.node.Statement.{statement}
 use Rattle.print.proofs.node.Tie as tie
 
-mul-word-index : tie.Need-mul-word-index
-mul-word-index c = search needs
+mul-index : tie.Need-mul-index
+mul-index c = search needs
 
-index-1-word-index : tie.Need-index-1-word-index
-index-1-word-index c = search needs
+index-1-index : tie.Need-index-1-index
+index-1-index c = search needs
 
-index-2-word-index : tie.Need-index-2-word-index
-index-2-word-index c = search needs
+index-2-index : tie.Need-index-2-index
+index-2-index c = search needs
 
-word-index-requires : tie.Need-word-index-requires
-word-index-requires c κs = search needs
+index-requires : tie.Need-index-requires
+index-requires c κs = search needs
 
 returns : tie.Need-returns
 returns c = search needs
@@ -32,9 +32,9 @@ pub node-spec : {M : Type 1} → statement M
 node-spec =
     tie.close
     (tie.spec
-    mul-word-index
-    index-1-word-index
-    index-2-word-index
-    word-index-requires
+    mul-index
+    index-1-index
+    index-2-index
+    index-requires
     returns
     returns-2)

@@ -17,16 +17,16 @@ abbrev μ-loop : tie.MeasureT-loop
 -- ---- What is known at a turn, once the place of the cord's server is read
 
 abbrev Placed : Type 0
-Placed = tie.After-word-index Inv-loop μ-loop
+Placed = tie.After-index Inv-loop μ-loop
 
 abbrev start : Placed → tie.Start Inv-loop μ-loop
-start p = p .before .before .before .before .before .before .before .before
+start p = p .before .before .before .before .before .before .before .before .before
 
 abbrev turn : Placed → tie.In-loop Inv-loop μ-loop
-turn p = p .before .before
+turn p = p .before .before .before
 
-placed : (p : Placed) → p .word-index .result < length (start p .args .usable .now)
-placed p = omega (arith, start p .pre .0 .within _ (turn p .loop-test .taken), p .word-index .ensures .0)
+placed : (p : Placed) → p .index .result < length (start p .args .usable .now)
+placed p = omega (arith, start p .pre .0 .within _ (turn p .loop-test .taken), p .index .ensures .0)
 
 -- There is a start and a want for the cord.
 started : (p : Placed) → turn p .before .loop .c < length (turn p .before .loop .starts)
@@ -44,14 +44,17 @@ mul-cord c = search needs
 shared-slice-copy-out-cord : tie.Need-shared-slice-copy-out-cord Inv-loop μ-loop
 shared-slice-copy-out-cord c = search needs
 
-array-read-carried-by : tie.Need-array-read-carried-by Inv-loop μ-loop
-array-read-carried-by c = search needs
+array-read-word16 : tie.Need-array-read-word16 Inv-loop μ-loop
+array-read-word16 c = search needs
 
-array-read-word-index : tie.Need-array-read-word-index Inv-loop μ-loop
-array-read-word-index c = search needs
+word16-requires : tie.Need-word16-requires Inv-loop μ-loop
+word16-requires c κs = search needs
 
-word-index-requires : tie.Need-word-index-requires Inv-loop μ-loop
-word-index-requires c κs = search needs
+array-read-index : tie.Need-array-read-index Inv-loop μ-loop
+array-read-index c = search needs
+
+index-requires : tie.Need-index-requires Inv-loop μ-loop
+index-requires c κs = search needs
 
 mul-carried-by : tie.Need-mul-carried-by Inv-loop μ-loop
 mul-carried-by c = search needs
@@ -63,7 +66,7 @@ carried-by-requires : tie.Need-carried-by-requires Inv-loop μ-loop
 carried-by-requires c κs =
     let p = c .before in
     let lists = start p .pre .0 in
-    (lists .scaled, lists .parts _ (turn p .loop-test .taken), lists .most _ (placed p))
+    (lists .scaled, omega (arith, lists .parts _ (turn p .loop-test .taken), p .before .word16 .ensures .0), lists .most _ (placed p))
 
 mul-wide : tie.Need-mul-wide Inv-loop μ-loop
 mul-wide c = search needs
@@ -121,7 +124,7 @@ loop-again c =
     let stranded = over .ensures ∙ ap₂ _-_ (wide .0) (c .before .before .before .wide2 .ensures .0) in
     let most : over .result ≤ 4294967295 = omega (arith, over .ensures, wide .1) in (
       omega (arith, less),
-      reclaiming-more (turn p .before .loop .inv .1) (start p .pre .1, start p .pre .2) less (p .word-index .ensures .0) (c .before .before .before .before .before .before .carried-by .ensures) stranded most (omega arith) (c .next-want .ensures),
+      reclaiming-more (turn p .before .loop .inv .1) (start p .pre .1, start p .pre .2) less (p .before .word16 .ensures .0) (p .index .ensures .0) (c .before .before .before .before .before .before .carried-by .ensures) stranded most (omega arith) (c .next-want .ensures),
     )
 
 same-length : tie.Need-same-length Inv-loop μ-loop
@@ -142,9 +145,10 @@ reclaim-spec =
     loop-holds
     mul-cord
     shared-slice-copy-out-cord
-    array-read-carried-by
-    array-read-word-index
-    word-index-requires
+    array-read-word16
+    word16-requires
+    array-read-index
+    index-requires
     mul-carried-by
     shared-slice-read-carried-by
     carried-by-requires

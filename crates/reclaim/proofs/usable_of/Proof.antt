@@ -18,16 +18,16 @@ abbrev μ-loop : tie.MeasureT-loop
 -- ---- What is known at a turn whose cord has a share, once the place of its server is read
 
 abbrev Placed : Type 0
-Placed = tie.After-word-index Inv-loop μ-loop
+Placed = tie.After-index Inv-loop μ-loop
 
 abbrev start : Placed → tie.Start Inv-loop μ-loop
-start p = p .before .before .before .before .before .before .before .before
+start p = p .before .before .before .before .before .before .before .before .before
 
 abbrev turn : Placed → tie.In-loop Inv-loop μ-loop
-turn p = p .before .before .before .before
+turn p = p .before .before .before .before .before
 
-placed : (p : Placed) → p .word-index .result < length (turn p .before .loop .usable)
-placed p = omega (arith, start p .pre .within _ (turn p .loop-test .taken), p .word-index .ensures .0, turn p .before .loop .inv .1 .size-is)
+placed : (p : Placed) → p .index .result < length (turn p .before .loop .usable)
+placed p = omega (arith, start p .pre .within _ (turn p .loop-test .taken), p .index .ensures .0, turn p .before .loop .inv .1 .size-is)
 
 loop-holds : tie.Need-loop-holds Inv-loop μ-loop
 loop-holds c = (omega arith, usable-none)
@@ -38,17 +38,20 @@ mul-cord c = search needs
 shared-slice-copy-out-cord : tie.Need-shared-slice-copy-out-cord Inv-loop μ-loop
 shared-slice-copy-out-cord c = search needs
 
-array-read-wide : tie.Need-array-read-wide Inv-loop μ-loop
-array-read-wide c = search needs
+array-read-word16 : tie.Need-array-read-word16 Inv-loop μ-loop
+array-read-word16 c = search needs
+
+word16-requires : tie.Need-word16-requires Inv-loop μ-loop
+word16-requires c κs = search needs
 
 wide-requires : tie.Need-wide-requires Inv-loop μ-loop
 wide-requires c κs = search needs
 
-array-read-word-index : tie.Need-array-read-word-index Inv-loop μ-loop
-array-read-word-index c = search needs
+array-read-index : tie.Need-array-read-index Inv-loop μ-loop
+array-read-index c = search needs
 
-word-index-requires : tie.Need-word-index-requires Inv-loop μ-loop
-word-index-requires c κs = search needs
+index-requires : tie.Need-index-requires Inv-loop μ-loop
+index-requires c κs = search needs
 
 mul-wide : tie.Need-mul-wide Inv-loop μ-loop
 mul-wide c = search needs
@@ -90,17 +93,17 @@ slice-write-usable : tie.Need-slice-write-usable Inv-loop μ-loop
 slice-write-usable c = placed (c .before .before .before .before .before .before .before)
 
 add-c : tie.Need-add-c Inv-loop μ-loop
-add-c c = omega (arith, c .before .before .before .loop-test .taken)
+add-c c = omega (arith, c .before .before .before .before .loop-test .taken)
 
 loop-less : tie.Need-loop-less Inv-loop μ-loop
-loop-less c = omega (arith, c .before .before .before .loop-test .taken)
+loop-less c = omega (arith, c .before .before .before .before .loop-test .taken)
 
 loop-again : tie.Need-loop-again Inv-loop μ-loop
 loop-again c =
-    let less = c .before .before .before .loop-test .taken in
-    let inv = c .before .before .before .before .loop .inv .1 in
-    let lists = c .before .before .before .before .before .before .before .pre in
-    let share = c .before .wide .ensures .0 in
+    let less = c .before .before .before .before .loop-test .taken in
+    let inv = c .before .before .before .before .before .loop .inv .1 in
+    let lists = c .before .before .before .before .before .before .before .before .pre in
+    let share = c .before .wide .ensures .0 ∙ c .before .before .word16 .ensures .0 in
     ⊎-elim
     (λ w. (omega arith, rw (w .9) (usable-lowered inv (w .1 .ensures .0) (omega (arith, lists .within _ less, w .1 .ensures .0)) share (w .0 .taken) (w .4 .ensures .0) (w .6 .ensures .0) (w .3 .ensures .0) (w .8 .ensures ∙ w .7 .ensures))))
     (λ w. (omega arith, rw (w .1) (usable-kept inv (sym share ∙ w .0 .left))))
@@ -121,10 +124,11 @@ usable-of-spec =
     loop-holds
     mul-cord
     shared-slice-copy-out-cord
-    array-read-wide
+    array-read-word16
+    word16-requires
     wide-requires
-    array-read-word-index
-    word-index-requires
+    array-read-index
+    index-requires
     mul-wide
     slice-read-wide
     wide-requires-2

@@ -6,7 +6,7 @@ use native.Mathlib.Omega.{arith}
 use lib.ListN.{length}
 use borrow.Author.Needs.{needs}
 use Rattle.rooms.proofs.Walk.{ServerHere}
-use Rattle.rooms.proofs.Laying.{Laying, LayingServer, CordFits, laying-start, laying-server, laying-end, corded, few-cords, few-servers, server-begin, cord-fits, server-cord, server-end}
+use Rattle.rooms.proofs.Laying.{Laying, LayingServer, CordFits, laying-start, laying-server, laying-end, corded, few-cords, few-servers, server-begin, cord-fits, row-fits, server-cord, server-end}
 use Rattle.rooms.proofs.lists.lay_out_servers.Statement.{statement}
 use Rattle.rooms.proofs.lists.lay_out_servers.Tie as tie
 
@@ -102,11 +102,8 @@ mul-share c = omega (arith, fits (c .before) .there)
 shared-slice-read-share : tie.Need-shared-slice-read-share Inv-loop2 μ-loop2 Inv-loop μ-loop
 shared-slice-read-share c = omega (arith, fits (c .before .before) .there)
 
-index-word-requires : tie.Need-index-word-requires Inv-loop2 μ-loop2 Inv-loop μ-loop
-index-word-requires c κs = omega (arith, fits (c .before .before) .server-few)
-
-sub-t27 : tie.Need-sub-t27 Inv-loop2 μ-loop2 Inv-loop μ-loop
-sub-t27 c = let server = standing (turn (c .before .before .before)) in omega arith
+cord-row-requires : tie.Need-cord-row-requires Inv-loop2 μ-loop2 Inv-loop μ-loop
+cord-row-requires c κs = let k = c .before .before in row-fits (k .before .loop2 .inv) (k .loop2-test .taken)
 
 mul-t22 : tie.Need-mul-t22 Inv-loop2 μ-loop2 Inv-loop μ-loop
 mul-t22 c = omega (arith, fits (c .before .before .before) .cord-few)
@@ -124,7 +121,7 @@ loop2-less : tie.Need-loop2-less Inv-loop2 μ-loop2 Inv-loop μ-loop
 loop2-less c = omega (arith, c .before .before .before .loop2-test .taken)
 
 loop2-again : tie.Need-loop2-again Inv-loop2 μ-loop2 Inv-loop μ-loop
-loop2-again c = let k = c .before .before .before in server-cord (k .before .loop2 .inv) (k .loop2-test .taken) (c .index-word .ensures)
+loop2-again c = let k = c .before .before .before in server-cord (k .before .loop2 .inv) (k .loop2-test .taken) (c .cord-row .ensures)
 
 add-t15 : tie.Need-add-t15 Inv-loop2 μ-loop2 Inv-loop μ-loop
 add-t15 c = omega (arith, standing (turn-passed c) .there)
@@ -135,26 +132,26 @@ mul-t18 c = omega (arith, standing (turn-passed c) .there)
 shared-slice-read-t17 : tie.Need-shared-slice-read-t17 Inv-loop2 μ-loop2 Inv-loop μ-loop
 shared-slice-read-t17 c = omega (arith, standing (turn-passed (c .before)) .there)
 
-add-t31 : tie.Need-add-t31 Inv-loop2 μ-loop2 Inv-loop μ-loop
-add-t31 c = omega (arith, standing (turn-passed (c .before)) .there)
+add-t30 : tie.Need-add-t30 Inv-loop2 μ-loop2 Inv-loop μ-loop
+add-t30 c = omega (arith, standing (turn-passed (c .before)) .there)
 
-mul-t32 : tie.Need-mul-t32 Inv-loop2 μ-loop2 Inv-loop μ-loop
-mul-t32 c = omega (arith, standing (turn-passed (c .before)) .there)
+mul-t31 : tie.Need-mul-t31 Inv-loop2 μ-loop2 Inv-loop μ-loop
+mul-t31 c = omega (arith, standing (turn-passed (c .before)) .there)
 
-shared-slice-read-t34 : tie.Need-shared-slice-read-t34 Inv-loop2 μ-loop2 Inv-loop μ-loop
-shared-slice-read-t34 c = omega (arith, standing (turn-passed (c .before .before)) .there)
+shared-slice-read-t33 : tie.Need-shared-slice-read-t33 Inv-loop2 μ-loop2 Inv-loop μ-loop
+shared-slice-read-t33 c = omega (arith, standing (turn-passed (c .before .before)) .there)
 
-add-t35 : tie.Need-add-t35 Inv-loop2 μ-loop2 Inv-loop μ-loop
-add-t35 c = omega (arith, standing (turn-passed (c .before .before)) .there)
+add-t34 : tie.Need-add-t34 Inv-loop2 μ-loop2 Inv-loop μ-loop
+add-t34 c = omega (arith, standing (turn-passed (c .before .before)) .there)
 
-mul-t36 : tie.Need-mul-t36 Inv-loop2 μ-loop2 Inv-loop μ-loop
-mul-t36 c = omega (arith, standing (turn-passed (c .before .before)) .there)
+mul-t35 : tie.Need-mul-t35 Inv-loop2 μ-loop2 Inv-loop μ-loop
+mul-t35 c = omega (arith, standing (turn-passed (c .before .before)) .there)
 
-shared-slice-read-t38 : tie.Need-shared-slice-read-t38 Inv-loop2 μ-loop2 Inv-loop μ-loop
-shared-slice-read-t38 c = omega (arith, standing (turn-passed (c .before .before .before)) .there)
+shared-slice-read-t37 : tie.Need-shared-slice-read-t37 Inv-loop2 μ-loop2 Inv-loop μ-loop
+shared-slice-read-t37 c = omega (arith, standing (turn-passed (c .before .before .before)) .there)
 
-mul-t40 : tie.Need-mul-t40 Inv-loop2 μ-loop2 Inv-loop μ-loop
-mul-t40 c = omega (arith, few-servers (c .before .before .before .before .loop2 .inv))
+mul-t39 : tie.Need-mul-t39 Inv-loop2 μ-loop2 Inv-loop μ-loop
+mul-t39 c = omega (arith, few-servers (c .before .before .before .before .loop2 .inv))
 
 slice-set-from-servers : tie.Need-slice-set-from-servers Inv-loop2 μ-loop2 Inv-loop μ-loop
 slice-set-from-servers c = c .before .before .before .before .loop2 .inv .more
@@ -208,8 +205,7 @@ lay-out-servers-spec =
     add-share
     mul-share
     shared-slice-read-share
-    index-word-requires
-    sub-t27
+    cord-row-requires
     mul-t22
     slice-set-from-cords
     add-word-2
@@ -219,13 +215,13 @@ lay-out-servers-spec =
     add-t15
     mul-t18
     shared-slice-read-t17
-    add-t31
-    mul-t32
-    shared-slice-read-t34
-    add-t35
-    mul-t36
-    shared-slice-read-t38
-    mul-t40
+    add-t30
+    mul-t31
+    shared-slice-read-t33
+    add-t34
+    mul-t35
+    shared-slice-read-t37
+    mul-t39
     slice-set-from-servers
     add-first
     add-v

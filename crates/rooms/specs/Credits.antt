@@ -1,5 +1,5 @@
--- Figures credited to nodes: what contracts of private functions cite, those behind refusal 9 and the metrics of a deal. No public
--- contract does.
+-- Figures credited to nodes: what contracts of private functions cite, those behind refusal 9 and those of passes over a room's nodes. No
+-- public contract does.
 use mathlib.Core.Path.{_≡_}
 use mathlib.Core.Bool.{Bool, cond}
 use mathlib.Core.List.{List, [], _∷_}

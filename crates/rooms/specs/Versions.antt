@@ -1,4 +1,4 @@
--- A table of one version made from a table of the version before it: what deals/specs/Versions.antt speaks of.
+-- A table of one version made from a table of the version before it: for statements about both.
 use mathlib.Core.List.{List, [], _∷_}
 use Prim.Native.Nat.{ℕ, zero, suc, _*_}
 

@@ -14,7 +14,7 @@ pub fn limit_of(rating: u32, percent: u32) -> u32
     narrow(wide(rating) * wide(percent) / 100)
 }
 
-// What a share carries of a load, rounded up: a cord's low by its server's least, its want by the need.
+// What a share carries of a load, rounded up: a cord's low is that of its server's least.
 pub fn carried_by(share: u32, load: u32, scale: u32) -> u32
     requires { ⌜ IsScale scale × (share ≤ scale) × (load ≤ mostWatts) ⌝ }
     ensures { λ r. ⌜ r ≡ carried scale share load ⌝ }

@@ -19,7 +19,7 @@ use figures::place;
 use figures::short;
 use figures::word_index;
 
-// The columns of a cord's row.
+// The columns of a cord's row. Its level is its rank, counted from 0 as places are.
 pub const NODE: usize = 0;
 
 pub const SERVER: usize = 1;

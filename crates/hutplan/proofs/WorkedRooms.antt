@@ -1,5 +1,5 @@
 -- The starred rooms of document 01, which has their figures by hand: one check of all, which the definitions compute. And room H with
--- demands that leave headroom (request A.1).
+-- demands that leave headroom (request A.1), and a room each of versions 2 and 3 (requests A.3 and A.11).
 use mathlib.Core.Path.{_≡_, refl}
 use mathlib.Core.List.{List, [], _∷_, _++_}
 use Prim.Native.Nat.{ℕ}
@@ -174,3 +174,39 @@ unfolding printed sheetText tableText reading number later sheetFrom
     demandsOf lines before demandOf areDigits numberAfter plan
     printOf serversPrint serverPrint linesFrom freedLine serverLine cordLine numeral
 headroomPrinted = refl
+
+-- A room of version 2, by hand: a root of 150 W at 100 percent over a node of 100 W at 80, limits 150 and 80. Server 1 has two cords on
+-- the node, with shares 400 and 600; server 2 a cord on the root with all of its load, and one on the node with a share of 0. All lows are
+-- 0, and the wants 80, 120, 100 and 0. The root splits 150 by 80 and 100, the node 66 by 80, 120 and 0: first grants 26, 40, 84, 0. Server
+-- 1 can use the lesser of 65 and 66, so that 1 W is freed, and the second cord wants 39. The root passes on 65 and 84 and splits 1 by 15
+-- and 16. It has asked for all of its limit, so that nothing is lent, and holds the two cords that want more.
+abbrev tableTwo : List ℕ
+tableTwo =
+    2 ∷ 2 ∷ 0 ∷ 150 ∷ 100 ∷ 1 ∷ 100 ∷ 80 ∷ 2 ∷ 1 ∷ 0 ∷ 200 ∷ 2 ∷ 2 ∷ 400 ∷ 2 ∷ 600
+    ∷ 1 ∷ 0 ∷ 100 ∷ 2 ∷ 1 ∷ 1000 ∷ 2 ∷ 0 ∷ []
+
+-- And one of version 3: a node of 450 W at 80 percent, limit 360, with both cords of a server of 100 to 400 W that wants 300, by shares
+-- of 3,333 and 6,667. Lows 34 and 67, wants 100 and 201, which are granted, and ceilings 134 and 267: the node's ceiling is its limit, and
+-- its 59 W are split by 34 and 66.
+abbrev tableThree : List ℕ
+tableThree = 3 ∷ 1 ∷ 0 ∷ 450 ∷ 80 ∷ 1 ∷ 1 ∷ 100 ∷ 400 ∷ 2 ∷ 1 ∷ 3333 ∷ 1 ∷ 6667 ∷ []
+
+pub versions : (plan tableTwo (200 ∷ 100 ∷ []) mostLent
+    ≡ outcomes.accepted (record {
+      freed = 1;
+      grants = 26 ∷ 39 ∷ 85 ∷ 0 ∷ [];
+      caps = 65 ∷ 85 ∷ [];
+      headroom = 0 ∷ 0 ∷ 0 ∷ 0 ∷ [];
+      held = 1 ∷ 0 ∷ 1 ∷ 0 ∷ [];
+    }))
+    × (plan tableThree (300 ∷ []) mostLent
+    ≡ outcomes.accepted (record {
+      freed = 0;
+      grants = 100 ∷ 201 ∷ [];
+      caps = 300 ∷ [];
+      headroom = 20 ∷ 39 ∷ [];
+      held = 0 ∷ 0 ∷ [];
+    }))
+unfolding plan
+    follow word ensure end many total formOf percent node cord range load server table beneath serverLows lows firstNode overloaded
+versions = (refl, refl)

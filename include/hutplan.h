@@ -115,8 +115,8 @@ enum hutplan_refusal {
 
     /* The numbers of hutplan_send, before its list. */
     HUTPLAN_NO_MESSAGES = 27,          /* m is 0; place: 0 */
-    HUTPLAN_POSITION_OUT_OF_RANGE = 28      /* the position not below the count, or the count not from 1
-                                          to 512; place: 1 */
+    HUTPLAN_POSITION_OUT_OF_RANGE = 28      /* no server has the position, or there are none or more than
+                                          512 of them; place: 1 */
 };
 
 /*
@@ -196,8 +196,8 @@ uint32_t hutplan_write(const uint8_t *table, uint64_t table_len,
  * is less than the count of cords, and 15 if held_len / 4 is.
  * Accepted, the grants, the headroom and the holding nodes stand in the table's order of cords and
  * the caps in its order of servers. A cord's headroom is watts for bursts, beyond its grant, lent
- * out of what is not requested at its root. At every node the grants and the headroom of all cords
- * beneath it, at any depth, sum to no more than its limit. A cord's headroom may follow the demands
+ * out of what is not requested at its root. No node's limit is passed by the grants and the headroom
+ * beneath it, taken together over all cords at any depth. A cord's headroom may follow the demands
  * of servers of lower ranks; its grant and its server's cap do not.
  * The held list has 0 for a cord whose grant is all that it wants in the second deal. For every other
  * cord it names the node that holds it down: of the nodes above the cord, the nearest to the root

@@ -1,4 +1,5 @@
-//! The DC cap loop of document 02, A.6, after section IV.B of the report.
+//! The DC cap loop of document 02, A.6, after section IV.B of the report. It was written from these,
+//! beside the product's own and by the same hand.
 
 use crate::Refusal;
 

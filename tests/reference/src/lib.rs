@@ -1,6 +1,6 @@
-//! Documents 01 and 02 worked a second time, by someone who has seen no other program for them: read,
-//! write, plan, the C calls and the print, for comparing answers. Requests of document 02 have
-//! modules of their own, which say how they were made.
+//! Documents 01 and 02 worked a second time, for comparing answers. Read, write, plan, the C calls
+//! and the print of document 01 are by someone who had seen no other program for them. Requests of
+//! document 02 have modules of their own, which say how they were made.
 //!
 //! The room is built as trees of owned nodes and every figure is a wide integer, so that nothing
 //! here shares a shape, or a mistake, with a program that scans its table.

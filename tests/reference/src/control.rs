@@ -1,5 +1,5 @@
 //! The DC cap loop of document 02, A.6, after section IV.B of the report. It was written from these,
-//! beside the product's own and by the same hand.
+//! and landed with the product's own: it is not to be taken for another hand's.
 
 use crate::Refusal;
 

@@ -1,5 +1,6 @@
 //! Breaker schedules (document 02, A.12): a text of lines to a table, its C call, and what the
-//! program writes. It was written from that text, beside the product's own and by the same hand.
+//! program writes. It was written from that text, and landed with the product's own: it is not to be
+//! taken for another hand's.
 
 use crate::call::{answered, put_words, WORD};
 use crate::{fits, number, Refusal};

@@ -181,10 +181,10 @@ fn print(table: &[u32], plan: &hutplan::Plan) {
 
 fn main() {
     let mut arguments = std::env::args_os().skip(1);
-    let Some(path) = arguments.next().map(PathBuf::from) else {
+    let path = arguments.next().map(PathBuf::from).unwrap_or_else(|| {
         eprintln!("usage: plan_room FILE [DEMAND]...");
         exit(2)
-    };
+    });
     let sheet = std::fs::read(&path).unwrap_or_else(|error| {
         eprintln!("{}: {error}", path.display());
         exit(2)

@@ -1,6 +1,6 @@
 // The picture in its pane: only the rows in sight are drawn, and the keyboard moves through all of them.
 
-import { geometryOf, labelWidth, rowSvg, patterns, holdsOf } from './picture.js';
+import { geometryOf, labelWidth, figuresWidth, rowSvg, patterns, holdsOf } from './picture.js';
 import { rowsOf } from './rows.js';
 
 const SPARE_ROWS = 6;
@@ -11,17 +11,20 @@ const same = (row, chosen) => chosen && row.kind === chosen.kind && row.place ==
 /// Everything that drawing a row needs.
 export const sceneOf = (hut, cords, figures) => ({ hut, cords, figures, holds: holdsOf(figures.held) });
 
-/// The widest label of these rows.
-const longestLabel = (rows, { hut, cords }) => rows.reduce((most, { kind, place, depth }) => {
-  const { name } = kind === 'node' ? hut.nodes[place] : hut.servers[cords[place].server];
-  return Math.max(most, labelWidth(depth, name));
-}, 0);
+/// How wide the labels and the figures of these rows are at most.
+function widthsOf(rows, { hut, cords, figures }) {
+  const labels = rows.reduce((most, { kind, place, depth }) => {
+    const { name } = kind === 'node' ? hut.nodes[place] : hut.servers[cords[place].server];
+    return Math.max(most, labelWidth(depth, name));
+  }, 0);
+  return [labels, figuresWidth(Math.max(...figures.limits))];
+}
 
 /// The drawing of all rows, for paper.
 export function wholePicture(scene, width) {
   const view = { folded: new Set(), search: '', onlyHeld: false, held: scene.figures.held };
   const rows = rowsOf(scene.hut, scene.cords, view);
-  const geometry = geometryOf(width, longestLabel(rows, scene));
+  const geometry = geometryOf(width, ...widthsOf(rows, scene));
   const height = rows.length * geometry.row;
   // The rows of the page have the same ids.
   const lines = rows.map((row, index) => rowSvg(row, index, geometry, scene, false).replace(/ id="row-\d+"/, ''));
@@ -33,7 +36,7 @@ export function wholePicture(scene, width) {
 /// person chooses.
 export class PicturePane {
   constructor(pane, view, chosen) {
-    Object.assign(this, { pane, view, chosen, scene: null, rows: [], longest: 0, active: 0, selected: null });
+    Object.assign(this, { pane, view, chosen, scene: null, rows: [], widths: [0, 0], active: 0, selected: null });
     this.space = pane.querySelector('.space');
     this.svg = pane.querySelector('svg');
     this.none = pane.querySelector('.none');
@@ -58,7 +61,7 @@ export class PicturePane {
     }).observe(pane);
   }
 
-  get geometry() { return geometryOf(this.width, this.longest); }
+  get geometry() { return geometryOf(this.width, ...this.widths); }
 
   /// Shows a hut with its plan.
   show(scene) {
@@ -70,7 +73,7 @@ export class PicturePane {
   layOut() {
     const { scene, view } = this;
     this.rows = scene ? rowsOf(scene.hut, scene.cords, { ...view, held: scene.figures.held }) : [];
-    this.longest = scene ? longestLabel(this.rows, scene) : 0;
+    if (scene) this.widths = widthsOf(this.rows, scene);
     this.active = Math.max(0, this.rows.findIndex(row => same(row, this.selected)));
     this.none.hidden = !scene || this.rows.length > 0;
     this.none.textContent = view.onlyHeld && !view.search ? 'No cord is held.' : 'Nothing here has that name.';

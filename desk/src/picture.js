@@ -12,23 +12,30 @@ const INDENT = 17;
 const MOST_INDENTS = 10;
 const MARGIN = 14;
 const LETTER = 7.2;
+const DIGIT = 6.5;
 const NARROW = 520;
+const LEAST_BAR = 40;
 
 const xOf = depth => MARGIN + Math.min(depth, MOST_INDENTS) * INDENT;
 
 /// The width that a row's sign and name take, with the small figure behind the name.
 export const labelWidth = (depth, name) => xOf(depth) + 13 + name.length * LETTER + 40;
 
-/// Where things stand in a row of a picture of this width whose longest label is so wide. A narrow picture
-/// has its bars on a second line of the row.
-export function geometryOf(width, longest) {
+/// The width that a breaker's figures take, granted of its limit.
+export const figuresWidth = limit => (2 * figure(limit).length + 5) * DIGIT;
+
+/// Where things stand in a row of a picture of this width, whose labels and figures are so wide at most. A
+/// narrow picture has its bars on a second line of the row.
+export function geometryOf(width, labels, figures) {
   if (width < NARROW) {
-    const bar = MARGIN + 24;
-    const end = width - MARGIN;
-    return { width, narrow: true, row: 48, nameY: 16, barY: 36, label: width - 90, bar, barWidth: end - 110 - bar, figureX: end, noteX: end };
+    const [bar, end] = [MARGIN + 24, width - MARGIN];
+    const barWidth = Math.max(LEAST_BAR, end - figures - bar);
+    return { width, narrow: true, row: 48, nameY: 16, barY: 36, label: width - 90, bar, barWidth, figureX: end, noteX: end };
   }
-  const label = Math.max(120, Math.min(width * 0.42, longest));
-  return { width, narrow: false, row: 30, nameY: 15, barY: 15, label, bar: label, barWidth: width - 228 - label, figureX: width - 126, noteX: width - 116 };
+  const noteX = width - 116;
+  const label = Math.max(120, Math.min(width * 0.4, labels));
+  const barWidth = Math.max(LEAST_BAR, noteX - 10 - figures - label);
+  return { width, narrow: false, row: 30, nameY: 15, barY: 15, label, bar: label, barWidth, figureX: noteX - 10, noteX };
 }
 
 const text = (kind, x, y, content, anchor = 'start') =>

@@ -76,8 +76,7 @@ export function fillServers(tool, hut, demands, figures) {
 
 // ---- Cords
 
-const CORD_COLUMNS = [['who', 'Server'], ['on', 'Breaker'], ['n', 'Share'], ['n', 'Low'], ['n', 'Want'], ['n', 'Grant'],
-  ['n', 'Head&shy;room'], ['by', 'Held by']];
+const CORD_COLUMNS = [['who', 'Cord'], ['n', 'Low'], ['n', 'Want'], ['n', 'Grant'], ['n', 'Head&shy;room'], ['by', 'Held by']];
 
 /// Why a cord gets less than it wants, in a word or two.
 function heldNote(hut, figures, place) {
@@ -89,11 +88,10 @@ function heldNote(hut, figures, place) {
 function cordCells(hut, figures, cord, place) {
   const state = cordState(figures, place);
   const name = escaped(hut.servers[cord.server].name);
-  const choose = `<button type="button" class="plain" data-cord="${place}">${name}</button><small> ${cord.cord + 1}</small>`;
+  const choose = `<button type="button" class="plain" data-cord="${place}">${name} ${cord.cord + 1}</button>`;
+  const hangs = `${percentText(cord.share, hut.version)} on ${escaped(hut.nodes[cord.node - 1].name)}`;
   return row([
-    cell('who', choose),
-    cell('on', escaped(hut.nodes[cord.node - 1].name)),
-    cell('n', percentText(cord.share, hut.version)),
+    cell('who', `${choose}<small>${hangs}</small>`),
     cell('n', figure(figures.lows[place])),
     cell('n', figure(figures.wants[place])),
     cell(`n grant ${state}`, figure(figures.grants[place])),

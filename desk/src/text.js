@@ -59,7 +59,7 @@ class Line {
   }
 
   name(what) {
-    if (this.next?.kind !== 'word') this.fail(`Here stands the name of ${what}. A name begins with a letter.`);
+    if (this.next?.kind !== 'word') this.fail(`The name of ${what} belongs here. A name begins with a letter.`);
     return this.take();
   }
 
@@ -71,11 +71,13 @@ class Line {
 
   whole(what) {
     const token = this.next;
-    if (token?.kind !== 'number') this.fail(`Here stands a number: ${what}.`);
-    if (token.text.includes('.')) this.fail(`Here stands a whole number: ${what}.`);
+    if (token?.kind !== 'number') this.fail(`A number belongs here: ${what}.`);
+    if (token.text.includes('.')) this.fail(`A whole number belongs here: ${what}.`);
     this.take();
     return { ...token, value: Math.min(Number(token.text), MOST_WORD) };
   }
+
+  skip() { this.at = this.tokens.length; }
 
   done() {
     if (this.next) this.fail(`The line should have ended before “${this.next.text}”.`);
@@ -108,10 +110,10 @@ function breakerLine(line, hut, whole) {
     line.take();
     node.amperes = figure;
     node.volts = line.whole('the volts');
-    node.at.rating = across(figure, line.word('v', 'Behind the volts stands V.'));
+    node.at.rating = across(figure, line.word('v', 'V belongs behind the volts.'));
   } else {
     node.rating = figure.value;
-    node.at.rating = across(figure, line.word('w', 'Behind the rating stands W (or, behind amperes, A).'));
+    node.at.rating = across(figure, line.word('w', 'W belongs behind a rating in watts, and A behind amperes.'));
   }
   if (line.is('at')) percentOf(line, node);
   hut.nodes.push(node);
@@ -121,20 +123,23 @@ function percentOf(line, node) {
   line.take();
   const percent = line.whole('the percent of the rating that the breaker may carry');
   node.percent = percent.value;
-  node.at.percent = across(percent, line.word('%', 'Behind the percent stands %.'));
+  node.at.percent = across(percent, line.word('%', '% belongs behind the percent.'));
 }
 
 /// `server NAME rank RANK from WATTS to WATTS W`
 function serverLine(line, hut, whole) {
+  hut.serverUnclear = true;
   const name = line.name('the server');
-  line.word('rank', 'Behind the name stands rank, and its number.');
+  line.word('rank', 'The word rank belongs here, and then its number.');
   const rank = line.whole('the rank');
-  line.word('from', 'Behind the rank stands from, and the least watts.');
+  line.word('from', 'The word from belongs here, and then the least watts.');
   const least = line.whole('the least watts');
-  line.word('to', 'Behind the least watts stands to, and the greatest.');
+  line.word('to', 'The word to belongs here, and then the greatest watts.');
   const greatest = line.whole('the greatest watts');
   const at = { line: whole, name: name.span, rank: rank.span, least: least.span, greatest: greatest.span };
-  line.word('w', 'Behind the greatest watts stands W.');
+  line.word('w', 'W belongs behind the greatest watts.');
+  line.done();
+  hut.serverUnclear = false;
   hut.servers.push({
     name: name.text, rank: rank.value, least: least.value, greatest: greatest.value, cords: [], at,
   });
@@ -142,14 +147,19 @@ function serverLine(line, hut, whole) {
 
 /// `cord SHARE % on BREAKER`
 function cordLine(line, hut, whole) {
+  // A server's line that is not understood is told already.
+  if (hut.serverUnclear) {
+    line.skip();
+    return;
+  }
   const server = hut.servers.at(-1);
   if (!server) throw new Unclear(whole, 'A cord stands below its server.');
   const share = line.next;
-  if (share?.kind !== 'number') line.fail('Here stands the cord’s share of its server’s load, as 50%.');
+  if (share?.kind !== 'number') line.fail('The cord’s share of its server’s load belongs here, as 50%.');
   if ((share.text.split('.')[1] ?? '').length > 2) line.fail('A share has at most two decimals.');
   line.take();
-  const percent = line.word('%', 'Behind the share stands %.');
-  line.word('on', 'Behind the share stands on, and the breaker.');
+  const percent = line.word('%', '% belongs behind the share.');
+  line.word('on', 'The word on belongs here, and then the breaker.');
   const on = line.reference();
   server.cords.push({ hundredths: hundredthsOf(share.text), on,
     at: { line: whole, share: across(share, percent), node: on.span } });

@@ -89,7 +89,7 @@ export class Browser {
   async press(...keys) {
     const actions = keys.flatMap(key => {
       const all = Array.isArray(key) ? key : [key];
-      return [...all.map(value => ({ type: 'keyDown', value })), ...all.toReversed().map(value => ({ type: 'keyUp', value }))];
+      return [...all.map(value => ({ type: 'keyDown', value })), ...[...all].reverse().map(value => ({ type: 'keyUp', value }))];
     });
     await this.call('POST', '/actions', { actions: [{ type: 'key', id: 'keyboard', actions }] });
   }

@@ -76,6 +76,7 @@ const UNCLEAR = [
   ['version 1\nversion 2', '2'],
   ['cord 50% on b', 'cord 50% on b'],
   ['breaker b 5 W\nserver s rank 1 from 1 to 2', ''],
+  ['breaker b 5 W\nserver s rank\n  cord 100% on b\n  cord what', ''],
   ['breaker b 5 W\nserver s rank 1 from 1 to 2 W\ncord 33.333% on b', '33.333'],
   ['version 2\nbreaker b 5 W\nserver s rank 1 from 1 to 2 W\ncord 33.33% on b', '33.33%'],
   ['breaker b 5 W\nserver s rank 1 from 1 to 2 W\ncord 50 on b', 'on'],

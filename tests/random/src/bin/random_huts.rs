@@ -1,6 +1,6 @@
 //! Random huts with what the reference prints for them, written out for a test in another language.
 
-use random::arguments::{option, usage};
+use random::arguments::option;
 use random::damage;
 use random::dice::Dice;
 use random::rooms;
@@ -38,7 +38,8 @@ fn hexadecimal(bytes: &[u8]) -> String {
 fn main() {
     let arguments: Vec<String> = env::args().skip(1).collect();
     if arguments.first().is_some_and(|first| first == "--help") {
-        usage("", HELP);
+        println!("{HELP}");
+        return;
     }
     let mut accepted_left = option(&arguments, "--count", HELP).unwrap_or(COUNT);
     let mut dice = Dice(option(&arguments, "--seed", HELP).unwrap_or(1));

@@ -18,6 +18,9 @@ pub fn calls() {
         for cords in [128, 256, 512, 1024] {
             all_three(&format!("{shape:?}, {cords} cords"), Kind { shape, cords, ..FULL });
         }
+        for ranks in [2, 4, 8] {
+            all_three(&format!("{shape:?}, ranks: {ranks}"), Kind { shape, ranks, ..FULL });
+        }
     }
     for shape in SHAPES {
         all_three(&format!("{shape:?}, large watts"), Kind { shape, watts: 1000, ..FULL });

@@ -1,5 +1,6 @@
-/* The hut of this example: room H, and three periods of readings that stand in for its meters. */
+/* The hut of this example: room H, three periods of readings that stand in for its meters, and a bus that is the console. */
 #include "hut.h"
+#include "board.h"
 
 const uint8_t sheet[] = {
     0x01,                               /* version 1 */
@@ -46,4 +47,13 @@ int cord_works(size_t cord)
 double cord_watts(size_t cord)
 {
     return now->watts[cord];
+}
+
+void send_cap(size_t server, double watts)
+{
+    print("sent ");
+    print_number((uint32_t)watts);
+    print(" to server ");
+    print_number((uint32_t)server + 1);
+    print("\n");
 }

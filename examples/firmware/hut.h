@@ -1,4 +1,4 @@
-/* What the program asks of its hut: the sheet, what the servers want, and what the meters on their cords read. */
+/* What the program asks of its hut: the sheet, what the servers want, what the meters on their cords read, and its bus. */
 #ifndef HUT_H
 #define HUT_H
 
@@ -18,5 +18,8 @@ uint32_t demand_of(size_t server);
 /* What a cord draws now, cords counted from 0 in the sheet's order: whether its supply works, and AC watts. */
 int cord_works(size_t cord);
 double cord_watts(size_t cord);
+
+/* Puts a server's DC cap on the bus. */
+void send_cap(size_t server, double watts);
 
 #endif

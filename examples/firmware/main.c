@@ -164,9 +164,9 @@ static void send(void)
     if (!accepted("send", answer))
         return;
     for (i = 0; i < number_at(answer + 8, 8); i++) {
-        print("sent to server ");
-        print_number(word_at(named, (size_t)i) + 1);
-        print("\n");
+        size_t server = word_at(named, (size_t)i);
+
+        send_cap(server, controllers[server].cap);
     }
     position = number_at(answer + 16, 8);
 }

@@ -307,10 +307,11 @@ function serversTool(tool, _, fresh) {
   const { hut } = desk.good;
   if (fresh || !renewServers(tool, desk.listed, hut)) tool.innerHTML = serversHtml(hut);
   desk.listed = hut;
-  fillServers(tool, hut, hut.servers.map(demandOf), desk.refusedDemands ? null : desk.figures);
+  const refused = desk.refusedDemands;
+  fillServers(tool, hut, hut.servers.map(demandOf), refused ? { wrong: refused.place } : { figures: desk.figures });
   const line = $('demands-told');
   if (!line) return;
-  line.innerHTML = desk.refusedDemands ? told(tellDemands(table, desk.refusedDemands, hut)) : '';
+  line.innerHTML = refused ? told(tellDemands(table, refused, hut)) : '';
 }
 
 function cordsTool(tool) {
@@ -538,4 +539,8 @@ async function start() {
   document.documentElement.dataset.ready = 'yes';
 }
 
-start();
+start().catch(() => notice({
+  title: 'This browser cannot run the page',
+  says: 'It has no WebAssembly, or does not allow it here.',
+  mend: 'Use a browser of the last few years.',
+}));

@@ -14,6 +14,12 @@ export const numberField = (id, label, value) =>
 /// The number in a field. What is none counts as 0, and what no word can hold as the greatest word.
 export const wholeIn = field => Math.min(Math.max(0, Math.floor(Number(field.value) || 0)), MOST_WORD);
 
+/// Marks a field as the one that a refusal means, or no longer.
+export function markField(field, wrong) {
+  if (wrong) field.setAttribute('aria-invalid', 'true');
+  else field.removeAttribute('aria-invalid');
+}
+
 /// Has a form do something when it is sent.
 export function onSubmit(form, act) {
   form.addEventListener('submit', event => {

@@ -2,7 +2,7 @@
 // the names of the texts are put beside them again.
 
 import { check, spanOf } from './check.js';
-import { numberField, onSubmit, told, wholeIn } from './forms.js';
+import { markField, numberField, onSubmit, told, wholeIn } from './forms.js';
 import { hutOf, tableOf } from './hut.js';
 import { offer, openFile } from './files.js';
 import { escaped } from './picture.js';
@@ -98,10 +98,9 @@ function tellCrossing(refusal, { good, table, mark }) {
 function partNow(tool, desk) {
   const result = tool.querySelector('#parted');
   const fields = ['#part-nodes', '#part-servers'].map(id => tool.querySelector(id));
-  fields.forEach(field => field.removeAttribute('aria-invalid'));
   const { first, second, refusal } = parted(desk.good, wholeIn(fields[0]), wholeIn(fields[1]), desk.calls);
+  fields.forEach((field, place) => markField(field, refusal?.number === 22 && refusal.place === place));
   if (refusal) {
-    if (refusal.number === 22) fields[refusal.place].setAttribute('aria-invalid', 'true');
     result.innerHTML = told(refusal.number === 23 ? tellCrossing(refusal, desk) : tellPlain(desk.table, refusal));
     return;
   }

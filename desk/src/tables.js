@@ -1,6 +1,7 @@
 // The tables beside the picture, and on paper: servers with their demands, and cords.
 
 import { cordState, escaped } from './picture.js';
+import { markField } from './forms.js';
 import { figure, watts } from './words.js';
 import { percentText } from './text.js';
 
@@ -16,7 +17,7 @@ function serverRow(server, place) {
   const { rank, least, greatest } = server;
   const fixed = least === greatest ? ' disabled' : '';
   return row([
-    cell('who', `<b>${name}</b><small>rank ${rank} · ${figure(least)}–${figure(greatest)} W</small>`),
+    cell('who', `<b>${name}</b><small>rank ${rank} · ${figure(least)}–${figure(greatest)}</small>`),
     cell('slide', `<input type="range" min="${least}" max="${greatest}" data-slide="${place}"${fixed}
       aria-label="Demand of ${name}, by slider">`),
     cell('ask', `<input type="number" min="0" max="16777215" step="1" data-ask="${place}"
@@ -56,13 +57,17 @@ export function renewServers(tool, before, hut) {
   return true;
 }
 
-/// Puts demands and caps into the servers' rows. The field that has the focus is left to who types in it.
-export function fillServers(tool, hut, demands, figures) {
+/// Puts demands and caps into the servers' rows; without figures, where the demands are refused, `wrong` is the
+/// server whose demand it is. The field that has the focus is left to who types in it.
+export function fillServers(tool, hut, demands, { figures, wrong }) {
   const each = (kind, put) => tool.querySelectorAll(`[data-${kind}]`)
     .forEach(element => put(element, Number(element.dataset[kind])));
   const setDemand = (element, place) => { if (element !== document.activeElement) element.value = demands[place]; };
   each('slide', setDemand);
-  each('ask', setDemand);
+  each('ask', (element, place) => {
+    setDemand(element, place);
+    markField(element, place === wrong);
+  });
   each('cap', (element, place) => {
     const cap = figures?.caps[place];
     const { least, greatest } = hut.servers[place];

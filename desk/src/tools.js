@@ -2,7 +2,7 @@
 // calls.
 
 import { fixedFigures } from './figures.js';
-import { numberField, onSubmit, told, wholeIn } from './forms.js';
+import { markField, numberField, onSubmit, told, wholeIn } from './forms.js';
 import { tableOf } from './hut.js';
 import { escaped } from './picture.js';
 import { printOf } from './print.js';
@@ -107,8 +107,10 @@ export function busTool(tool, desk) {
   tool.innerHTML = BUS;
   onSubmit(tool.querySelector('form'), () => {
     const { servers } = desk.good.hut;
-    const position = tool.querySelector('#bus-position');
-    const answer = desk.calls.send(servers.length, wholeIn(position), wholeIn(tool.querySelector('#bus-m')));
+    const [position, messages] = ['#bus-position', '#bus-m'].map(id => tool.querySelector(id));
+    const answer = desk.calls.send(servers.length, wholeIn(position), wholeIn(messages));
+    markField(messages, answer.number === 27);
+    markField(position, answer.number === 28);
     const item = document.createElement('li');
     if (answer.number !== 0) item.innerHTML = told(tellPlain(desk.table, answer));
     else {

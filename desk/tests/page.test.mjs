@@ -83,6 +83,7 @@ test('the plan shows what is held, and its print is that of hutplan', async () =
   assert.match(await page.text('#totals'), /Lent\n320 W\nFreed\n0 W\nHeld\n0 cords/);
   await page.type('[data-ask="1"]', '99999999');
   assert.match(await page.text('#demands-told'), /Refused 11, demand too large\. Server db:/);
+  assert.equal(await page.run('return document.querySelector("[aria-invalid]").getAttribute("aria-label")'), 'Demand of db, in watts');
   await page.click('[data-paste]');
   await page.type('#pasted', '400\n');
   await page.click('.paste [type="submit"]');
@@ -193,6 +194,7 @@ test('the bus names servers in turn', async () => {
   await page.clear('#bus-m');
   await page.click('#tool [type="submit"]');
   assert.match(await page.text('#tool li:last-child'), /Refused 27, no messages/);
+  assert.equal(await page.run('return document.querySelector("[aria-invalid]").id'), 'bus-m');
   await page.click('#tab-servers');
 });
 

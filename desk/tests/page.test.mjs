@@ -238,6 +238,12 @@ function fullHut() {
 test('a hut of full size is planned and drawn quickly', async t => {
   await paste(fullHut());
   assert.match(await verdict(), /^Accepted\n512 breakers, 512 servers, 1,024 cords/);
+  const processor = async () => {
+    const { metrics } = await page.developer('Performance.getMetrics', {});
+    return 1000 * metrics.find(({ name }) => name === 'TaskDuration').value;
+  };
+  await page.developer('Performance.enable', { timeDomain: 'threadTicks' });
+  const start = await processor();
   const times = await page.run(`
     const settled = () => new Promise(done => requestAnimationFrame(() => { const channel = new MessageChannel(); channel.port1.onmessage = done; channel.port2.postMessage(0); }));
     const timed = async act => { const from = performance.now(); act(); await settled(); return Math.round(performance.now() - from); };
@@ -251,6 +257,8 @@ test('a hut of full size is planned and drawn quickly', async t => {
       for (let k = 0; k < 5; k++) { text.push(await timed(typed)); demand.push(await timed(asked(k))); scroll.push(await timed(() => { document.getElementById("picture").scrollTop += 900; })); }
       return { text, demand, scroll };
     })()`);
+  const changes = Object.values(times).flat().length;
+  t.diagnostic(`processor milliseconds of the page's thread for a change: ${Math.round((await processor() - start) / changes)}`);
   for (const [name, all] of Object.entries(times)) t.diagnostic(`milliseconds to a drawn plan after a change (${name}): ${all.join(', ')}`);
   await page.shot('full');
   await page.type('#search', 's400');

@@ -10,24 +10,25 @@ use Rattle.words.specs.Bytes.{wordsOf, bytesOf, answered}
 use Rattle.words.proofs.Lists.{take-sets}
 use Rattle.words.proofs.Bytes.{take-loaded}
 use Rattle.words.proofs.Calls.{call-done}
-use Rattle.rooms.specs.Outcome.{Outcome, answerOf, answerNumber, answerFigure, after, reading, readingFirst, writing}
+use Rattle.outcomes.specs.Outcome.{after}
+use Rattle.rooms.specs.Outcome.{SheetOutcome, answerOf, answerNumber, answerFigure, reading, readingFirst, writing}
 use Rattle.rooms.specs.declared.Answer.{Answer}
 use Rattle.rooms.specs.declared.Answer.the-variants.{Accepted, Refused}
 use Rattle.rooms.specs.Table.{mostWords}
 use Rattle.rooms.proofs.Outcomes.{front-length, refused-told}
 use Rattle.rooms.proofs.Lent.{reading-first, reading-fits, Stands, writing-cut}
-use Rattle.capi.specs.Calls.{OutcomeCall, ReadCall, WriteCall, bytesAfter}
+use Rattle.capi.specs.Calls.{OutcomeCall, ReadCall, WriteCall}
 use Rattle.capi.specs.Counts.{writtenCount}
 
 -- ---- All calls
 
 -- An operation by way of lists of its own comes to the same outcome.
-pub outcome-done : (fill : Outcome → List ℕ → List ℕ) (output answer : List ℕ) {outcome own : Outcome} {told : Answer} {output′ answer′ : List ℕ} → own ≡ outcome
+pub outcome-done : (fill : SheetOutcome → List ℕ → List ℕ) (output answer : List ℕ) {outcome own : SheetOutcome} {told : Answer} {output′ answer′ : List ℕ} → own ≡ outcome
     → 16 ≤ length answer → told ≡ answerOf own → output′ ≡ fill own output → answer′ ≡ answered (answerNumber told) (answerFigure told) answer
     → OutcomeCall outcome fill output answer 1 output′ answer′
 outcome-done fill output answer {outcome = outcome} {told = told} same long is o a =
     let is′ : told ≡ answerOf outcome = is ∙ ap answerOf same in
-    call-done (answerNumber (answerOf outcome)) (answerFigure (answerOf outcome)) (fill outcome output) output answer long (o ∙ ap (λ (x : Outcome). fill x output) same) (rw is′ at a)
+    call-done (answerNumber (answerOf outcome)) (answerFigure (answerOf outcome)) (fill outcome output) output answer long (o ∙ ap (λ (x : SheetOutcome). fill x output) same) (rw is′ at a)
 
 -- ---- Lists that are written
 
@@ -65,18 +66,18 @@ module _ (sheet words table : List ℕ) {words′ : List ℕ} {told : Answer} {c
       go (Refused q) e = let c : count ≡ 0 = n ∙ ap writtenCount e in omega arith
 
   module _ (h : suc mostWords ≤ length words) where
-    abbrev own : Outcome
+    abbrev own : SheetOutcome
     own = readingFirst (length words) sheet (length table / 4)
 
     same-reading : own ≡ reading sheet (length table / 4)
     same-reading = reading-first sheet (length table / 4) (length words) h
 
     -- Just what is accepted is stored.
-    read-stored : {table′ : List ℕ} → table′ ≡ sets table 0 (bytesOf (take (length table / 4) (take count words′))) → table′ ≡ bytesAfter own table
+    read-stored : {table′ : List ℕ} → table′ ≡ sets table 0 (bytesOf (take (length table / 4) (take count words′))) → table′ ≡ after bytesOf own table
     unfolding bytesOf
     read-stored {table′ = table′} t = go told refl
       where
-        go : (a : Answer) → told ≡ a → table′ ≡ bytesAfter own table
+        go : (a : Answer) → told ≡ a → table′ ≡ after bytesOf own table
         go (Accepted k) e =
             let c : count ≡ k = n ∙ ap writtenCount e in
             let all = take-all (length table / 4) (take k words′) (reading-fits sheet (length table / 4) (sym same-reading ∙ stands k e .is)) in
@@ -88,7 +89,7 @@ module _ (sheet words table : List ℕ) {words′ : List ℕ} {told : Answer} {c
     pub read-done : (answer : List ℕ) {table′ answer′ : List ℕ} → 16 ≤ length answer
         → table′ ≡ sets table 0 (bytesOf (take (length table / 4) (take count words′))) → answer′ ≡ answered (answerNumber told) (answerFigure told) answer
         → ReadCall sheet table answer 1 table′ answer′
-    read-done answer long t = outcome-done bytesAfter table answer same-reading long is (read-stored t)
+    read-done answer long t = outcome-done (after bytesOf) table answer same-reading long is (read-stored t)
 
 -- ---- Write
 
@@ -101,6 +102,6 @@ module _ (table words : List ℕ) {count : ℕ} {words′ : List ℕ} (n : count
   same-writing entries h = rw (take-loaded (length words) count table words words′ refl n w) (writing-cut (wordsOf table) entries (length words) h)
 
   pub write-done : (sheet answer : List ℕ) {told : Answer} {sheet′ answer′ : List ℕ} → suc mostWords ≤ length words → 16 ≤ length answer
-      → told ≡ answerOf (writing (take count words′) (length sheet)) → sheet′ ≡ after (writing (take count words′) (length sheet)) sheet
+      → told ≡ answerOf (writing (take count words′) (length sheet)) → sheet′ ≡ after (λ bytes. bytes) (writing (take count words′) (length sheet)) sheet
       → answer′ ≡ answered (answerNumber told) (answerFigure told) answer → WriteCall table sheet answer 1 sheet′ answer′
-  write-done sheet answer h = outcome-done after sheet answer (same-writing (length sheet) h)
+  write-done sheet answer h = outcome-done (after (λ bytes. bytes)) sheet answer (same-writing (length sheet) h)

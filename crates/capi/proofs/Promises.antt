@@ -18,13 +18,14 @@ use Rattle.numbers.proofs.SheetLaws.{length-bytesOf≤}
 use Rattle.rooms.specs.Part.{Good}
 use Rattle.rooms.specs.Table.{mostWords}
 use Rattle.rooms.specs.Limits.{checked}
-use Rattle.rooms.specs.Outcome.{accepted, refused, after, reading, writing}
+use Rattle.outcomes.specs.Outcome.{accepted, after}
+use Rattle.outcomes.proofs.Outcomes.{fitting-fits}
+use Rattle.rooms.specs.Outcome.{reading, writing}
 use Rattle.rooms.specs.declared.Refusal.the-variants.{OutputTooShort}
 use Rattle.rooms.proofs.Reach.{length-small, words-small}
 use Rattle.rooms.proofs.Outcomes.{reading-is, writing-is, writing-good}
 use Rattle.rooms.proofs.Lent.{reading-fits}
 use Rattle.rooms.proofs.Promises as rooms
-use Rattle.capi.specs.Calls.{bytesAfter}
 use Rattle.capi.specs.Promises.{SheetWritesBack, TableReadsBack}
 use Rattle.capi.proofs.RoundTrip.{bytesOf-wordsOf, wrote, accepted-so}
 
@@ -45,18 +46,13 @@ front list written n e h = rw e (take-sets (length written) list written h (le-r
 
 -- What Write accepts fits the sheet.
 writing-fits : (table : List ℕ) (entries : ℕ) {written : List ℕ} → writing table entries ≡ accepted written → length written ≤ entries
-writing-fits table entries {written} e =
+writing-fits table entries e =
     let g = writing-is table entries e in
-    go (leb (length (sheets.bytesOf table)) entries) refl (g .1) (sym (writing-good table entries (g .0 .is)) ∙ e)
-  where
-    go : (t : Bool) → leb (length (sheets.bytesOf table)) entries ≡ t → sheets.bytesOf table ≡ written
-        → cond t (accepted (sheets.bytesOf table)) (refused (OutputTooShort (length (sheets.bytesOf table)))) ≡ accepted written → length written ≤ entries
-    go true l same e = rw (← same) (leb-true (length (sheets.bytesOf table)) entries l)
-    go false l same e = let z : _≡_ {A = ℕ} 0 1 = cc in absurd (omega arith)
+    fitting-fits OutputTooShort (sheets.bytesOf table) entries (sym (writing-good table entries (g .0 .is)) ∙ e)
 
 pub sheet-writes-back : SheetWritesBack
 sheet-writes-back sheet table answer r table′ answer′ words below read told copy answer₂ r₂ copy′ answer₂′ long long₂ write =
-    let w = wrote bytesAfter table answer (reading sheet (length table / 4)) read told in
+    let w = wrote (after bytesOf) table answer (reading sheet (length table / 4)) read told in
     let got = w .written in
     let g = reading-is sheet (length table / 4) (w .is) .checks in
     let few = few-words got g in
@@ -68,11 +64,11 @@ sheet-writes-back sheet table answer r table′ answer′ words below read told 
     let back = rooms.sheet-writes-back sheet got (length table / 4) (length copy) below (w .is) long in
     let same = writing-is got (length copy) back .1 in
     let short : length sheet ≤ 4 * mostWords = rw (← same) (few-bytes got g) in
-    accepted-so after copy answer₂ sheet (ap (λ (l : List ℕ). writing l (length copy)) loaded ∙ back) (omega arith) long₂ write
+    accepted-so (after (λ l. l)) copy answer₂ sheet (ap (λ (l : List ℕ). writing l (length copy)) loaded ∙ back) (omega arith) long₂ write
 
 pub table-reads-back : TableReadsBack
 table-reads-back table sheet answer r sheet′ answer′ bytes below write told copy answer₂ r₂ copy′ answer₂′ long long₂ read =
-    let w = wrote after sheet answer (writing (wordsOf table) (length sheet)) write told in
+    let w = wrote (after (λ l. l)) sheet answer (writing (wordsOf table) (length sheet)) write told in
     let got = w .written in
     let g = writing-is (wordsOf table) (length sheet) (w .is) in
     let short : length got ≤ 4 * mostWords = rw (← g .1) (few-bytes (wordsOf table) (g .0)) in
@@ -80,5 +76,5 @@ table-reads-back table sheet answer r sheet′ answer′ bytes below write told 
     let stored : take bytes sheet′ ≡ got = ap (take bytes) (w .left) ∙ front sheet got bytes count (writing-fits (wordsOf table) (length sheet) (w .is)) in
     let back = rooms.table-reads-back (wordsOf table) got (length sheet) (length copy / 4) (w .is) (omega (arith, length-wordsOf table)) in
     let few = few-words (wordsOf table) (g .0) in
-    let done = accepted-so bytesAfter copy answer₂ (wordsOf table) (ap (λ (l : List ℕ). reading l (length copy / 4)) stored ∙ back) (omega arith) long₂ read in
+    let done = accepted-so (after bytesOf) copy answer₂ (wordsOf table) (ap (λ (l : List ℕ). reading l (length copy / 4)) stored ∙ back) (omega arith) long₂ read in
     (rw (length-wordsOf table) at (done .0), done .1 ∙ ap (sets copy 0) (bytesOf-wordsOf table below))

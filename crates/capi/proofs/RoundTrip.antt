@@ -15,7 +15,8 @@ use Rattle.words.proofs.Bytes.{length-littleEndian, answered-long, holdsAnswer-
 use Rattle.numbers.specs.declared.Fault.the-variants.{TooLong, NotShortest, CutShort}
 use Rattle.rooms.specs.declared.Refusal.{Refusal}
 use Rattle.rooms.specs.declared.Refusal.the-variants.{BadNumber, WordMissing, WordOutOfRange, GreatestBelowLeast, SharesNotWhole, WordsLeftOver, LowsAboveLimit, OutputTooShort}
-use Rattle.rooms.specs.Outcome.{Outcome, accepted, refused, refusalNumber}
+use Rattle.outcomes.specs.Outcome.{accepted, refused}
+use Rattle.rooms.specs.Outcome.{SheetOutcome, refusalNumber}
 use Rattle.capi.specs.Calls.{OutcomeCall}
 use Rattle.capi.specs.Promises.{numberOf, Accepted}
 
@@ -122,14 +123,14 @@ returned-one answer c e = go (leb 16 (length answer)) refl
     go false l = let z : _≡_ {A = ℕ} 1 0 = sym e ∙ c ∙ rw (holdsAnswer-short answer (leb-false 16 (length answer) l)) in absurd (omega arith)
 
 -- What a call wrote, by its figure, and what it left of its output.
-pub record Wrote (fill : Outcome → List ℕ → List ℕ) (output output′ : List ℕ) (outcome : Outcome) (figure : ℕ) : Type 0 where
+pub record Wrote (fill : SheetOutcome → List ℕ → List ℕ) (output output′ : List ℕ) (outcome : SheetOutcome) (figure : ℕ) : Type 0 where
   pub written : List ℕ
   pub is : outcome ≡ accepted written
   pub counted : length written < 2 ^ 32 → figure ≡ length written
   pub left : output′ ≡ fill (accepted written) output
 
-module _ (fill : Outcome → List ℕ → List ℕ) (output answer : List ℕ) {r : ℕ} {output′ answer′ : List ℕ} where
-  pub wrote : (outcome : Outcome) {figure : ℕ} → OutcomeCall outcome fill output answer r output′ answer′ → Accepted r answer′ figure
+module _ (fill : SheetOutcome → List ℕ → List ℕ) (output answer : List ℕ) {r : ℕ} {output′ answer′ : List ℕ} where
+  pub wrote : (outcome : SheetOutcome) {figure : ℕ} → OutcomeCall outcome fill output answer r output′ answer′ → Accepted r answer′ figure
       → Wrote fill output output′ outcome figure
   wrote (accepted written) call a =
       let long = returned-one answer (call .returned) (a .returned) in
@@ -147,7 +148,7 @@ module _ (fill : Outcome → List ℕ → List ℕ) (output answer : List ℕ) {
       absurd (omega arith)
 
   -- And the other way round: of an outcome that is accepted, a call with space for its answer tells so.
-  pub accepted-so : {outcome : Outcome} (written : List ℕ) → outcome ≡ accepted written → length written < 2 ^ 32 → 16 ≤ length answer
+  pub accepted-so : {outcome : SheetOutcome} (written : List ℕ) → outcome ≡ accepted written → length written < 2 ^ 32 → 16 ≤ length answer
       → OutcomeCall outcome fill output answer r output′ answer′
       → Accepted r answer′ (length written) × (output′ ≡ fill (accepted written) output)
   accepted-so written e h long call = go (rw e at call)

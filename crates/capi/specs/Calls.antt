@@ -6,11 +6,10 @@ use mathlib.Core.Bool.{cond}
 use mathlib.Core.List.{List}
 use Prim.Native.Nat.{ℕ, _/_}
 use lib.ListN.{length}
-use lib.Seq.{sets}
 use Rattle.words.specs.Bytes.{wordsOf, bytesOf, holdsAnswer, answered}
 use Rattle.words.specs.Calls.{Call}
-use Rattle.rooms.specs.Outcome.{Outcome, accepted, refused, answerOf, answerNumber, answerFigure, after, reading, writing}
-use Rattle.outcomes.specs.Outcome as outcomes
+use Rattle.outcomes.specs.Outcome.{after}
+use Rattle.rooms.specs.Outcome.{SheetOutcome, answerOf, answerNumber, answerFigure, reading, writing}
 use Rattle.deals.specs.Plan.{Plan, PlanOutcome, plan, planNumber, planFigure}
 use Rattle.deals.specs.Plan as plan
 use Rattle.deals.specs.declared.Lengths.{Lengths}
@@ -18,23 +17,17 @@ use Rattle.deals.specs.declared.Lengths.{Lengths}
 -- ---- Read and Write
 
 -- The call of an operation that comes to an outcome, `fill` being what an outcome makes of the output.
-abbrev pub OutcomeCall : Outcome → (Outcome → List ℕ → List ℕ) → (output answer : List ℕ) (r : ℕ) (output′ answer′ : List ℕ) → Type 0
+abbrev pub OutcomeCall : SheetOutcome → (SheetOutcome → List ℕ → List ℕ) → (output answer : List ℕ) (r : ℕ) (output′ answer′ : List ℕ) → Type 0
 OutcomeCall outcome fill output answer r output′ answer′ =
     Call (answerNumber (answerOf outcome)) (answerFigure (answerOf outcome)) (fill outcome output) output answer r output′ answer′
 
--- The bytes of a word list after an outcome: the words written stand at its front; bytes past them, and all where refused, are
--- unchanged.
-abbrev pub bytesAfter : Outcome → List ℕ → List ℕ
-bytesAfter (accepted words) bytes = sets bytes 0 (bytesOf words)
-bytesAfter (refused refusal) bytes = bytes
-
 -- Read, called from C: the table holds a word for every four of its bytes.
 abbrev pub ReadCall : (sheet table answer : List ℕ) (r : ℕ) (table′ answer′ : List ℕ) → Type 0
-ReadCall sheet table answer r table′ answer′ = OutcomeCall (reading sheet (length table / 4)) bytesAfter table answer r table′ answer′
+ReadCall sheet table answer r table′ answer′ = OutcomeCall (reading sheet (length table / 4)) (after bytesOf) table answer r table′ answer′
 
 -- Write, called from C.
 abbrev pub WriteCall : (table sheet answer : List ℕ) (r : ℕ) (sheet′ answer′ : List ℕ) → Type 0
-WriteCall table sheet answer r sheet′ answer′ = OutcomeCall (writing (wordsOf table) (length sheet)) after sheet answer r sheet′ answer′
+WriteCall table sheet answer r sheet′ answer′ = OutcomeCall (writing (wordsOf table) (length sheet)) (after (λ bytes. bytes)) sheet answer r sheet′ answer′
 
 -- ---- Plan
 
@@ -50,7 +43,7 @@ lentBytes grants caps headroom held = record {
 -- The bytes of a list after the call of a plan that comes to an outcome, by what a plan has for the list: as after the outcome, its
 -- words as bytes; unchanged where the answer's buffer is too short.
 abbrev pub bytesPlanned : (Plan → List ℕ) → PlanOutcome → (answer bytes : List ℕ) → List ℕ
-bytesPlanned output outcome answer bytes = cond (holdsAnswer answer) (outcomes.after (λ p. bytesOf (output p)) outcome bytes) bytes
+bytesPlanned output outcome answer bytes = cond (holdsAnswer answer) (after (λ p. bytesOf (output p)) outcome bytes) bytes
 
 -- The call of a plan that comes to an outcome: as any call, with more than one list for its output.
 pub record PlannedCall (outcome : PlanOutcome) (grants caps headroom held answer : List ℕ) (r : ℕ) (grants′ caps′ headroom′ held′ answer′ : List ℕ) : Type 0 where

@@ -18,7 +18,8 @@ use Rattle.control.specs.Call.{controllerOf, controllerAt, readingsAt, figuresA
 use Rattle.control.proofs.Outcomes.{Outcome, bad-controller, bad-reading, all-sound, outcome}
 use Rattle.control.proofs.Accepted.{successor-range}
 use Rattle.control.proofs.Promises.{refused-unchanged}
-use Rattle.control_all.specs.Pass.{controllerCount, ownStep, steppedTo, numbersTo, passed, answerOf, answerNumber, answerFigure}
+use Rattle.outcomes.proofs.Outcomes.{accepted-is}
+use Rattle.control_all.specs.Pass.{Pass, controllerCount, ownStep, steppedTo, numbersTo, passed, answerOf, answerNumber, answerFigure}
 use Rattle.control_all.specs.Promises.{AcceptedPass, single, EachAsSingle, StaysInside, Fits, RefusalEighteen}
 use Rattle.control_all.proofs.Turns.{figuresAfter-other, steppedTo-ahead, length-steppedTo, length-numbersTo}
 use Rattle.control_all.proofs.Lengths.{fit, fit-fits, unfit-fits}
@@ -109,8 +110,12 @@ lists p = go (fit (p .controllers) (p .working) (p .budgets) (p .measured) (p .r
   where
     go : (b : Bool) → fit (p .controllers) (p .working) (p .budgets) (p .measured) (p .results) ≡ b → Lists p
     go true fitting =
-        let same = sym (p .is) ∙ passed-accepted (p .controllers) (p .working) (p .budgets) (p .measured) (p .results) fitting in
-        record { fits = fit-fits (p .controllers) (p .working) (p .budgets) (p .measured) (p .results) fitting; controllers-are = cc; results-are = cc }
+        let same = accepted-is (sym (p .is) ∙ passed-accepted (p .controllers) (p .working) (p .budgets) (p .measured) (p .results) fitting) in
+        record {
+          fits = fit-fits (p .controllers) (p .working) (p .budgets) (p .measured) (p .results) fitting;
+          controllers-are = ap (λ (pass : Pass). pass .controllers) same;
+          results-are = ap (λ (pass : Pass). pass .results) same;
+        }
     go false unfit =
         let n = ap answerNumber (ap answerOf (sym (p .is) ∙ passed-refused (p .controllers) (p .working) (p .budgets) (p .measured) (p .results) unfit)) in
         absurd (omega (arith, n))

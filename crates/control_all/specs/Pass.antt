@@ -2,12 +2,13 @@
 --
 -- A list of controllers has four figures for each, in a row: cap, k, low and high. One to three figures over at its end belong to none.
 -- The marks, the budgets and the measured watts have four entries for each controller, one a cord.
-use mathlib.Core.Bool.{Bool, cond, _&&_}
+use mathlib.Core.Bool.{Bool, cond, not, _&&_}
 use mathlib.Core.List.{List, [], _∷_}
 use Prim.Native.Nat.{ℕ, zero, suc, _+_, _*_, _/_}
 use lib.Dec.{eqb, leb}
 use lib.ListN.{length, set}
 use lib.Ieee.{Float}
+use Rattle.outcomes.specs.Outcome.{Outcome, accepted, refused, Reason, unless}
 use Rattle.control.specs.declared.Stepped.{Stepped}
 use Rattle.control.specs.Step.{stepNumber}
 use Rattle.control.specs.Call.{stepAt, figuresAfter}
@@ -54,33 +55,36 @@ zeros (number ∷ rest) = cond (eqb number 0) 1 0 + zeros rest
 
 -- ---- Outcomes
 
--- What a pass comes to: the controllers and the results after it; or refused, with the number of controllers.
-pub data Outcome : Type 0 where
-  accepted : List Float → List ℕ → Outcome
-  refused : ℕ → Outcome
+-- What a pass leaves: the controllers and the results, all of them.
+pub record Pass : Type 0 where
+  pub controllers : List Float
+  pub results : List ℕ
+
+-- What a pass comes to. Refused, it gives the number of controllers.
+abbrev pub PassOutcome : Type 0
+PassOutcome = Outcome Pass ℕ
+
+-- The lists do not fit (18), at the number of controllers.
+abbrev pub unfit : List Float → List ℕ → List Float → List Float → List ℕ → Reason ℕ
+unfit controllers working budgets measured results = record {
+  holds = not (fitting (controllerCount controllers) (length working) (length budgets) (length measured) (length results));
+  refusal = controllerCount controllers;
+}
 
 -- A pass: refused, before anything is stepped, where the lists do not fit.
-unfoldable pub passed : List Float → List ℕ → List Float → List Float → List ℕ → Outcome
+unfoldable pub passed : List Float → List ℕ → List Float → List Float → List ℕ → PassOutcome
 unfolding steppedTo numbersTo
 passed controllers working budgets measured results =
-    let count = controllerCount controllers in
-    cond (fitting count (length working) (length budgets) (length measured) (length results))
-    (accepted (steppedTo controllers working budgets measured count) (numbersTo controllers working budgets measured results count))
-    (refused count)
+    unless (unfit controllers working budgets measured results ∷ [])
+    (record {
+      controllers = steppedTo controllers working budgets measured (controllerCount controllers);
+      results = numbersTo controllers working budgets measured results (controllerCount controllers);
+    })
 
 -- The answer: how many results are 0, or the refusal's place.
-abbrev pub answerOf : Outcome → Answer
-answerOf (accepted controllers results) = Accepted (zeros results)
+abbrev pub answerOf : PassOutcome → Answer
+answerOf (accepted pass) = Accepted (zeros (pass .results))
 answerOf (refused count) = Refused count
-
--- The lists after an outcome; a refused pass leaves both as they were.
-abbrev pub controllersAfter : Outcome → List Float → List Float
-controllersAfter (accepted controllers results) before = controllers
-controllersAfter (refused count) before = before
-
-abbrev pub resultsAfter : Outcome → List ℕ → List ℕ
-resultsAfter (accepted controllers results) before = results
-resultsAfter (refused count) before = before
 
 -- ---- Numbers and figures
 

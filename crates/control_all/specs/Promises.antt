@@ -9,7 +9,8 @@ use lib.Ieee.{Float, nan}
 use Rattle.control.specs.declared.Stepped.{Stepped}
 use Rattle.control.specs.Step.{stepNumber, controllerAfter}
 use Rattle.control.specs.Call.{controllerAt}
-use Rattle.control_all.specs.Pass.{mostControllers, controllerCount, ownStep, accepted, passed, answerOf, answerNumber, answerFigure}
+use Rattle.outcomes.specs.Outcome.{accepted}
+use Rattle.control_all.specs.Pass.{mostControllers, controllerCount, ownStep, passed, answerOf, answerNumber, answerFigure}
 
 -- A pass that is accepted: the lists before it, and those that it changes after it.
 pub record AcceptedPass : Type 0 where
@@ -20,7 +21,7 @@ pub record AcceptedPass : Type 0 where
   pub results : List ℕ
   pub controllers′ : List Float
   pub results′ : List ℕ
-  pub is : passed controllers working budgets measured results ≡ accepted controllers′ results′
+  pub is : passed controllers working budgets measured results ≡ accepted (record { controllers = controllers′; results = results′ })
 
 -- The single step of controller i.
 abbrev pub single : AcceptedPass → ℕ → Stepped

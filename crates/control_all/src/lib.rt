@@ -4,9 +4,10 @@ ghost use mathlib.Core.Bool.{cond};
 ghost use Prim.Native.Nat.{_+_, _%_, _≤_};
 ghost use lib.Dec.{eqb};
 ghost use lib.ListN.{length};
+ghost use Rattle.outcomes.specs.Outcome.{after};
 ghost use Rattle.control.specs.Step.{stepNumber};
 ghost use Rattle.control.specs.Call.{controllerAt, readingAt, stepAt, figuresAfter};
-ghost use Rattle.control_all.specs.Pass.{fitting, steppedTo, numbersTo, zeros, answerNumber, answerFigure, passed, answerOf, controllersAfter, resultsAfter};
+ghost use Rattle.control_all.specs.Pass.{fitting, steppedTo, numbersTo, zeros, answerNumber, answerFigure, passed, answerOf};
 ghost use Rattle.control_all.specs.Fitting.{Fitting};
 use control::Controller;
 use control::Reading;
@@ -56,8 +57,8 @@ pub fn step_all(
     results: &mut [u8],
 ) -> Answer
     ensures { λ r. ⌜ r ≡ answerOf (passed (now (controllers .entry)) (now (working .entry)) (now (budgets .entry)) (now (measured .entry)) (now (results .entry))) ⌝ }
-    ensures { λ _. ⌜ now (controllers .exit) ≡ controllersAfter (passed (now (controllers .entry)) (now (working .entry)) (now (budgets .entry)) (now (measured .entry)) (now (results .entry))) (now (controllers .entry)) ⌝ }
-    ensures { λ _. ⌜ now (results .exit) ≡ resultsAfter (passed (now (controllers .entry)) (now (working .entry)) (now (budgets .entry)) (now (measured .entry)) (now (results .entry))) (now (results .entry)) ⌝ }
+    ensures { λ _. ⌜ now (controllers .exit) ≡ after (λ pass. pass .controllers) (passed (now (controllers .entry)) (now (working .entry)) (now (budgets .entry)) (now (measured .entry)) (now (results .entry))) (now (controllers .entry)) ⌝ }
+    ensures { λ _. ⌜ now (results .exit) ≡ after (λ pass. pass .results) (passed (now (controllers .entry)) (now (working .entry)) (now (budgets .entry)) (now (measured .entry)) (now (results .entry))) (now (results .entry)) ⌝ }
 {
     let count = controllers.len() / 4;
     if fitting(

@@ -51,7 +51,7 @@ module _ (r : Room) (lengths : Lengths) where
 -- Plan comes to the same of a table and demands that are cut no shorter than decides every answer.
 pub plan-inputs-cut : (table demands : List ℕ) (w m : ℕ) (lengths : Lengths) → suc mostWords ≤ w → suc mostServers ≤ m
     → plan (take w table) (take m demands) lengths ≡ plan table demands lengths
-unfolding plan planStep
+unfolding plan
 plan-inputs-cut table demands w m lengths hw hm = ap (λ (s : Step Room). planStep s (take m demands) lengths) (prefix-decides table w hw) ∙ go (checked table 0) refl
   where
     go : (s : Step Room) → checked table 0 ≡ s → planStep s (take m demands) lengths ≡ planStep s demands lengths
@@ -86,7 +86,7 @@ room-lists-cut r demands lengths spaces fewCords fewServers ample =
     planRoom-is r demands (cutTo spaces lengths) ∙ ap (λ (l : List PlanReason). unless l (planOf r demands)) all ∙ sym (planRoom-is r demands lengths)
 
 pub plan-lists-cut : (table demands : List ℕ) (lengths spaces : Lengths) → Ample spaces → plan table demands (cutTo spaces lengths) ≡ plan table demands lengths
-unfolding plan planStep
+unfolding plan
 plan-lists-cut table demands lengths spaces ample = go (checked table 0) refl
   where
     go : (s : Step Room) → checked table 0 ≡ s → planStep s demands (cutTo spaces lengths) ≡ planStep s demands lengths

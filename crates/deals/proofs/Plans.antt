@@ -9,6 +9,7 @@ use lib.Dec.{eqb, ltb}
 use lib.ListN.{length}
 use borrow.Author.Tests.{eqb-true, ltb-false}
 use Rattle.outcomes.specs.Outcome.{accepted, refused, unless}
+use Rattle.outcomes.proofs.Parts.{accepted-went}
 use Rattle.outcomes.proofs.Outcomes.{unless-back, unless-either, unless-none, unless-is}
 use Rattle.rooms.specs.Part.{Step, good, bad, Good}
 use Rattle.rooms.specs.Table.{Room, roomCords}
@@ -62,22 +63,18 @@ planRoom-is r demands lengths = refl
 
 pub plan-bad-table : (table demands : List ℕ) (lengths : Lengths) (refusal : Refusal) → checked table 0 ≡ bad refusal
     → plan table demands lengths ≡ refused (Table refusal)
-unfolding plan planStep
+unfolding plan
 plan-bad-table table demands lengths refusal e = ap (λ (s : Step Room). planStep s demands lengths) e
 
 pub plan-good-table : (table demands : List ℕ) (lengths : Lengths) (r : Room) (end : ℕ) → checked table 0 ≡ good r end
     → plan table demands lengths ≡ planRoom r demands lengths
-unfolding plan planStep
+unfolding plan
 plan-good-table table demands lengths r end e = ap (λ (s : Step Room). planStep s demands lengths) e
 
 -- An accepted plan has a good table.
 pub plan-good : (table demands : List ℕ) (lengths : Lengths) (answer : Plan) → plan table demands lengths ≡ accepted answer → Good (checked table 0)
-unfolding plan planStep
-plan-good table demands lengths answer e = go (checked table 0) refl e
-  where
-    go : (s : Step Room) → checked table 0 ≡ s → planStep s demands lengths ≡ accepted answer → Good (checked table 0)
-    go (good r end) q d = record { value = r; next = end; is = q }
-    go (bad refusal) q d = absurd (let z : _≡_ {A = ℕ} 0 1 = cc in omega arith)
+unfolding plan
+plan-good table demands lengths answer e = accepted-went Table (λ room. planRoom room demands lengths) (checked table 0) e .good-step
 
 -- ---- What an accepted plan says
 
@@ -149,7 +146,6 @@ room-other r demands lengths =
     none = subst NotNine (sym (unless-none (planOf r demands))) (record { other = λ e. omega arith })
 
 step-nine : (s : Step Room) (demands : List ℕ) (lengths : Lengths) (n : ℕ) → IsNine (answerOf (planStep s demands lengths)) n ↔ (s ≡ bad (LowsAboveLimit n))
-unfolding planStep
 step-nine (good r end) demands lengths n =
     (λ a. absurd (room-other r demands lengths .other (a .0)), λ e. absurd (let z : _≡_ {A = ℕ} 0 1 = cc in omega arith))
 step-nine (bad refusal) demands lengths n = (

@@ -29,7 +29,7 @@ use Rattle.deals.specs.Promises.{EqualPlans, EightyThroughout, SharesTen
 -- (What a plan reads of a room is all that the rooms need to have in common.)
 pub equal-plans : (w v : List ℕ) (r q : Room) (i j : ℕ) → table w 0 ≡ good r i → table v 0 ≡ good q j → overloaded r ≡ overloaded q
     → ((demands : List ℕ) (lengths : Lengths) → planRoom r demands lengths ≡ planRoom q demands lengths) → EqualPlans w v
-unfolding plan planStep checked follow ensure
+unfolding plan checked follow ensure
 equal-plans w v r q i j e d over same demands lengths = rw (e, d, over) (go (eqb (overloaded q) 0))
   where
     go : (t : Bool) → planStep (follow (ensure t (LowsAboveLimit (overloaded q)) w i) (λ _ k. good r k)) demands lengths

@@ -6,7 +6,8 @@ use lib.Dec.{eqb, ltb}
 use lib.ListN.{length}
 use Rattle.outcomes.specs.Outcome.{Outcome, accepted, refused, Reason, unless, tooShort}
 use Rattle.words.specs.Lists.{firstNotBelow}
-use Rattle.rooms.specs.Part.{Step, good, bad}
+use Rattle.outcomes.specs.Part.{whenGood}
+use Rattle.rooms.specs.Part.{Step}
 use Rattle.rooms.specs.Table.{Room, mostWatts, mostServers, mostCords, roomCords}
 use Rattle.rooms.specs.Limits.{checked}
 use Rattle.rooms.specs.Outcome.{refusalNumber, refusalPlace}
@@ -83,14 +84,12 @@ unfolding unless firstNotBelow freed secondGrants caps headroom held
 planRoom r demands lengths = unless (reasons r demands lengths) (planOf r demands)
 
 -- The plan of what the table's check gives: its refusals (4 to 9) stand.
-unfoldable pub planStep : Step Room → List ℕ → Lengths → PlanOutcome
-unfolding planRoom
-planStep (good r end) demands lengths = planRoom r demands lengths
-planStep (bad refusal) demands lengths = refused (Table refusal)
+abbrev pub planStep : Step Room → List ℕ → Lengths → PlanOutcome
+planStep step demands lengths = whenGood Table step (λ room. planRoom room demands lengths)
 
 -- Plan: a table, a demand list, and the lengths of the lists that are lent.
 unfoldable pub plan : List ℕ → List ℕ → Lengths → PlanOutcome
-unfolding planStep checked
+unfolding planRoom checked
 plan table demands lengths = planStep (checked table 0) demands lengths
 
 -- The lengths of the lists that are lent.

@@ -12,7 +12,7 @@ use Rattle.figures.specs.Figures.{at}
 use Rattle.rooms.specs.Part.{Step, good, bad}
 use Rattle.rooms.specs.Table.{Room, mostWatts, roomCords}
 use Rattle.rooms.specs.Limits.{checked}
-use Rattle.rooms.specs.Outcome.{reading}
+use Rattle.rooms.specs.Outcome.{SheetOutcome, reading}
 use Rattle.rooms.specs.Outcome as read
 use Rattle.rooms.proofs.Accepted.{accepted}
 use Rattle.deals.specs.SecondDeal.{secondDeal, secondWants}
@@ -114,9 +114,9 @@ pub sheetText-fits : (sheet demands : List ℕ) → length (sheetText sheet dema
 unfolding sheetText
 sheetText-fits sheet demands = go (reading sheet mostWords)
   where
-    go : (o : read.Outcome) → length (readText o demands) ≤ mostText
-    go (read.accepted table) = tableText-fits table demands
-    go (read.refused refusal) = omega (arith, length-refusedLine (read.refusalNumber refusal) (read.refusalPlace refusal))
+    go : (o : SheetOutcome) → length (readText o demands) ≤ mostText
+    go (outcomes.accepted table) = tableText-fits table demands
+    go (outcomes.refused refusal) = omega (arith, length-refusedLine (read.refusalNumber refusal) (read.refusalPlace refusal))
 
 -- So it stands whole in a buffer that is long enough.
 pub whole : (sheet demands : List ℕ) {a b : List ℕ} {n : ℕ} → Put a 0 b n (sheetText sheet demands) → mostText ≤ length a

@@ -14,12 +14,13 @@ use Rattle.words.proofs.Lists.{take-sets}
 use Rattle.rooms.specs.Part.{Step, good, bad, Good}
 use Rattle.rooms.specs.Table.{Room}
 use Rattle.rooms.specs.Limits.{checked}
-use Rattle.rooms.specs.Outcome.{reading, readWords, unlessRefused, refusalNumber, refusalPlace}
+use Rattle.rooms.specs.Outcome.{SheetOutcome, reading, refusalNumber, refusalPlace}
 use Rattle.rooms.specs.Outcome as read
 use Rattle.rooms.specs.declared.Refusal.{Refusal}
 use Rattle.rooms.specs.declared.Refusal.the-variants.{OutputTooShort}
 use Rattle.rooms.specs.declared.Answer.the-variants as answer
 use Rattle.rooms.proofs.Accepted.{accepted}
+use Rattle.rooms.proofs.Lent.{reading-fits}
 use Rattle.outcomes.specs.Outcome.{after}
 use Rattle.outcomes.specs.Outcome as outcomes
 use Rattle.deals.specs.Plan.{Plan, PlanOutcome, plan, planRoom, planStep, lent, mostLent, answerOf, planRefusalNumber, planRefusalPlace}
@@ -48,7 +49,7 @@ module _ (table demands grants caps headroom held : List ℕ) (most : lent grant
   -- A refused plan.
   pub table-refused : {a : Planned} {q : PlanRefusal} → a ≡ Refused q → a ≡ answerOf outcome
       → tableText table demands ≡ refusedLine (planRefusalNumber q) (planRefusalPlace q)
-  unfolding tableText plan planStep
+  unfolding tableText plan
   table-refused {q = q} told e = go (checked table 0) (rw most at (sym told ∙ e))
     where
       room : (r : Room) (o : PlanOutcome) → Refused q ≡ answerOf o
@@ -118,39 +119,24 @@ pub sheet-refused : (sheet demands : List ℕ) (n : ℕ) {q : Refusal} → n ≡
 unfolding sheetText
 sheet-refused sheet demands n {q} h e = go (reading sheet mostWords) (rw h at e)
   where
-    go : (o : read.Outcome) → answer.Refused q ≡ read.answerOf o
+    go : (o : SheetOutcome) → answer.Refused q ≡ read.answerOf o
         → readText o demands ≡ refusedLine (refusalNumber q) (refusalPlace q)
-    go (read.accepted words) e = let z : _≡_ {A = ℕ} 0 1 = cc in absurd (omega arith)
-    go (read.refused p) e = let same : q ≡ p = cc in rw same
-
--- What Read accepts fits the list.
-read-fits : (sheet : List ℕ) (n : ℕ) (words : List ℕ) → reading sheet n ≡ read.accepted words → length words ≤ n
-unfolding reading
-read-fits sheet n words e = go (sheetOf sheet .ending) e
-  where
-    fitted : (s : Step Room) (output : List ℕ) (test : Bool) → leb (length output) n ≡ test
-        → unlessRefused s (cond test (read.accepted output) (read.refused (OutputTooShort (length output)))) ≡ read.accepted words → length words ≤ n
-    fitted (good r j) output true t e = let same : output ≡ words = cc in rw (← same) (leb-true (length output) n t)
-    fitted (good r j) output false t e = let z : _≡_ {A = ℕ} 0 1 = cc in absurd (omega arith)
-    fitted (bad q) output test t e = let z : _≡_ {A = ℕ} 0 1 = cc in absurd (omega arith)
-
-    go : (ending : Ending) → readWords (sheetOf sheet .words) ending n ≡ read.accepted words → length words ≤ n
-    go whole e = fitted (checked (sheetOf sheet .words) 0) (sheetOf sheet .words) (leb (length (sheetOf sheet .words)) n) refl e
-    go (numbers.refused fault place) e = let z : _≡_ {A = ℕ} 0 1 = cc in absurd (omega arith)
+    go (outcomes.accepted words) e = let z : _≡_ {A = ℕ} 0 1 = cc in absurd (omega arith)
+    go (outcomes.refused p) e = let same : q ≡ p = cc in rw same
 
 -- An accepted sheet: its words stand at the front of the list.
 pub sheet-accepted : (sheet demands list list' : List ℕ) {count : ℕ} → length list ≡ mostWords
     → answer.Accepted count ≡ read.answerOf (reading sheet (length list))
-    → list' ≡ read.after (reading sheet (length list)) list
+    → list' ≡ after (λ l. l) (reading sheet (length list)) list
     → (count ≤ length list') × (tableText (take count list') demands ≡ sheetText sheet demands)
 unfolding sheetText
 sheet-accepted sheet demands list list' {count} h e l = go (reading sheet mostWords) refl (rw h at e) (rw h at l)
   where
-    go : (o : read.Outcome) → reading sheet mostWords ≡ o → answer.Accepted count ≡ read.answerOf o → list' ≡ read.after o list
+    go : (o : SheetOutcome) → reading sheet mostWords ≡ o → answer.Accepted count ≡ read.answerOf o → list' ≡ after (λ l. l) o list
         → (count ≤ length list') × (tableText (take count list') demands ≡ readText o demands)
-    go (read.refused q) is e l = let z : _≡_ {A = ℕ} 0 1 = cc in absurd (omega arith)
-    go (read.accepted words) is e l =
+    go (outcomes.refused q) is e l = let z : _≡_ {A = ℕ} 0 1 = cc in absurd (omega arith)
+    go (outcomes.accepted words) is e l =
         let n : count ≡ length words = cc in
-        let fits : length words ≤ length list = rw h (read-fits sheet mostWords words is) in
+        let fits : length words ≤ length list = rw h (reading-fits sheet mostWords is) in
         let size : length list' ≡ length list = ap length l ∙ length-sets list 0 words in
         (omega arith, rw (l, n, take-sets (length words) list words fits (omega arith), take-length words))

@@ -10,8 +10,7 @@ use Rattle.rooms.specs.Part.{Step, good, bad, follow, word, ensure, end, many}
 use Rattle.figures.specs.Figures.{total}
 use Rattle.rooms.specs.Table.{Room, formOf, percent, node, cord, range, load, server, table}
 use Rattle.rooms.specs.Limits.{beneath, serverLows, lows, firstNode, overloaded, checked}
-use Rattle.rooms.specs.Outcome.{reading, answerOf, answerNumber, answerFigure}
-use Rattle.rooms.specs.Outcome as read
+use Rattle.rooms.specs.Outcome.{SheetOutcome, reading, answerOf, answerNumber, answerFigure}
 use Rattle.deals.specs.SecondDeal.{firstGrants, firstUsable}
 use Rattle.outcomes.specs.Outcome.{after}
 use Rattle.outcomes.specs.Outcome as outcomes
@@ -110,7 +109,7 @@ ofRoom (good r end) figure = figure r
 ofRoom (bad refusal) figure = []
 
 -- The number and the place of the answer to Read.
-abbrev numbered : read.Outcome → ℕ × ℕ
+abbrev numbered : SheetOutcome → ℕ × ℕ
 numbered outcome = (answerNumber (answerOf outcome), answerFigure (answerOf outcome))
 
 -- The grants of a plan; none if it is refused.
@@ -120,12 +119,12 @@ grantsOf (outcomes.refused refusal) = []
 
 -- The starred items, in their order.
 pub record Starred : Type 0 where
-  pub wordsH : reading (sheetH 0xF4 0x03) 21 ≡ read.accepted (tableH 500)
+  pub wordsH : reading (sheetH 0xF4 0x03) 21 ≡ outcomes.accepted (tableH 500)
   pub countH : length (tableH 500) ≡ 21
   pub firstGrantsH : ofRoom (checked (tableH 500) 0) (λ r. firstGrants r (400 ∷ 400 ∷ [])) ≡ 120 ∷ 133 ∷ 267 ∷ []
   pub firstUsableH : ofRoom (checked (tableH 500) 0) (λ r. firstUsable r (400 ∷ 400 ∷ [])) ≡ 240 ∷ 267 ∷ []
   pub printH : printed (sheetH 0xF4 0x03) twice400 ≡ print400
-  pub rated188 : reading (sheetH 0xBC 0x01) 21 ≡ read.accepted (tableH 188)
+  pub rated188 : reading (sheetH 0xBC 0x01) 21 ≡ outcomes.accepted (tableH 188)
   pub rated187 : numbered (reading (sheetH 0xBB 0x01) 21) ≡ (9, 2)
   pub print187 : printed (sheetH 0xBB 0x01) twice400 ≡ nineAtTwo
   pub root1550 : grantsOf (plan (tableS 1550) demandsS mostLent) ≡ 430 ∷ 270 ∷ 270 ∷ 270 ∷ []

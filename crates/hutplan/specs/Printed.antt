@@ -7,8 +7,7 @@ use Rattle.rooms.specs.Part.{Step, good, bad}
 use Rattle.rooms.specs.Table.{Room, mostServers, mostCords}
 use Rattle.rooms.specs.Table as rooms
 use Rattle.rooms.specs.Limits.{checked}
-use Rattle.rooms.specs.Outcome.{reading, refusalNumber, refusalPlace}
-use Rattle.rooms.specs.Outcome as read
+use Rattle.rooms.specs.Outcome.{SheetOutcome, reading, refusalNumber, refusalPlace}
 use Rattle.outcomes.specs.Outcome.{accepted, refused}
 use Rattle.deals.specs.Plan.{PlanOutcome, planRoom, mostLent, planRefusalNumber, planRefusalPlace}
 use Rattle.demands.specs.Text.{mostLines, demandsOf}
@@ -39,9 +38,9 @@ unfoldable pub tableText : List ℕ → List ℕ → List ℕ
 tableText table demands = stepText (checked table 0) demands
 
 -- The print of what Read comes to, with demands.
-abbrev pub readText : read.Outcome → List ℕ → List ℕ
-readText (read.accepted table) demands = tableText table demands
-readText (read.refused refusal) demands = refusedLine (refusalNumber refusal) (refusalPlace refusal)
+abbrev pub readText : SheetOutcome → List ℕ → List ℕ
+readText (accepted table) demands = tableText table demands
+readText (refused refusal) demands = refusedLine (refusalNumber refusal) (refusalPlace refusal)
 
 -- The print of a sheet with demands.
 unfoldable pub sheetText : List ℕ → List ℕ → List ℕ

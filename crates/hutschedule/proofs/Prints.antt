@@ -18,7 +18,8 @@ use Rattle.rooms.specs.declared.Answer.{Answer}
 use Rattle.print.specs.Line.{refusedLine, Put}
 use Rattle.print.proofs.Putting.{put-whole}
 use Rattle.print.proofs.Size.{length-refusedLine}
-use Rattle.schedules.specs.Schedule.{Outcome, accepted, turnedBack, mostWords, refusalNumber, refusalPlace, scheduling, answerOf, after}
+use Rattle.outcomes.specs.Outcome.{accepted, refused, after}
+use Rattle.schedules.specs.Schedule.{ScheduleOutcome, mostWords, refusalNumber, refusalPlace, scheduling, answerOf}
 use Rattle.schedules.proofs.TableLaws.{written-fits}
 use Rattle.schedules.proofs.Promises.{schedule-gives-room}
 use Rattle.schedules.specs.declared.Refusal.{Refusal}
@@ -33,16 +34,16 @@ length-bytesOf (w ∷ words) = omega (arith, length-append (form w) (bytesOf wor
 
 -- ---- Refused
 
-refused-so : (outcome : Outcome) {refusal : Refusal} → Refused refusal ≡ answerOf outcome → outcome ≡ turnedBack refusal
+refused-so : (outcome : ScheduleOutcome) {refusal : Refusal} → Refused refusal ≡ answerOf outcome → outcome ≡ refused refusal
 refused-so (accepted table) e = absurd (suc-ne-zero 0 (cc))
-refused-so (turnedBack q) {refusal = refusal} e = let a : q ≡ refusal = cc in rw a
+refused-so (refused q) {refusal = refusal} e = let a : q ≡ refusal = cc in rw a
 
 pub text-refused : (text buffer : List ℕ) {buffer′ : List ℕ} {words length′ : ℕ} {refusal : Refusal} → words ≡ mostWords → mostOutput ≤ length buffer
     → Refused refusal ≡ answerOf (scheduling text words) → Put buffer 0 buffer′ length′ (refusedLine (refusalNumber refusal) (refusalPlace refusal))
     → record { refused = true; bytes = take length′ buffer′ } ≡ printed text
 unfolding printed
 text-refused text buffer {refusal = refusal} n long r p =
-    let is : scheduling text mostWords ≡ turnedBack refusal = rw n at (refused-so (scheduling text _) r) in
+    let is : scheduling text mostWords ≡ refused refusal = rw n at (refused-so (scheduling text _) r) in
     rw (is, put-whole p (omega (arith, length-refusedLine (refusalNumber refusal) (refusalPlace refusal))))
 
 -- ---- Accepted
@@ -53,20 +54,20 @@ pub record Stands (text list : List ℕ) (count : ℕ) : Type 0 where
   pub fits : count ≤ length list
 
 pub stands : (text list : List ℕ) {list′ : List ℕ} {count : ℕ} → length list ≡ mostWords → Accepted count ≡ answerOf (scheduling text (length list))
-    → list′ ≡ after (scheduling text (length list)) list → Stands text list′ count
+    → list′ ≡ after (λ words. words) (scheduling text (length list)) list → Stands text list′ count
 stands text list {list′} {count} n a e = go (scheduling text mostWords) refl (rw n at a) (rw n at e)
   where
-    go : (o : Outcome) → scheduling text mostWords ≡ o → Accepted count ≡ answerOf o → list′ ≡ after o list → Stands text list′ count
+    go : (o : ScheduleOutcome) → scheduling text mostWords ≡ o → Accepted count ≡ answerOf o → list′ ≡ after (λ words. words) o list → Stands text list′ count
     go (accepted table) s a e =
         let c : count ≡ length table = cc in
         let short : length table ≤ mostWords = rw s at (written-fits text mostWords) in
         let front : take count list′ ≡ table = rw (c, e) (take-sets (length table) list table (omega arith) (omega arith) ∙ take-length table) in
         record { is = s ∙ ap accepted (sym front); fits = omega (arith, ap length e ∙ length-sets list 0 table) }
-    go (turnedBack q) s a e = absurd (suc-ne-zero 0 (cc))
+    go (refused q) s a e = absurd (suc-ne-zero 0 (cc))
 
 -- Its sheet is written.
 pub sheet-written : (text list buffer : List ℕ) {buffer′ : List ℕ} {count length′ : ℕ} {told : Answer} → Stands text list count → mostOutput ≤ length buffer
-    → told ≡ rooms.answerOf (writing (take count list) (length buffer)) → buffer′ ≡ rooms.after (writing (take count list) (length buffer)) buffer
+    → told ≡ rooms.answerOf (writing (take count list) (length buffer)) → buffer′ ≡ after (λ bytes. bytes) (writing (take count list) (length buffer)) buffer
     → length′ ≡ answerFigure told
     → (record { refused = false; bytes = take length′ buffer′ } ≡ printed text) × Counts length′ buffer′
 unfolding printed

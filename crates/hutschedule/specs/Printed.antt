@@ -6,7 +6,8 @@ use Prim.Native.Nat.{ℕ, _≤_}
 use lib.ListN.{length, take}
 use Rattle.numbers.specs.Sheet.{bytesOf}
 use Rattle.print.specs.Line.{refusedLine}
-use Rattle.schedules.specs.Schedule.{Outcome, accepted, turnedBack, mostWords, refusalNumber, refusalPlace, scheduling}
+use Rattle.outcomes.specs.Outcome.{accepted, refused}
+use Rattle.schedules.specs.Schedule.{ScheduleOutcome, mostWords, refusalNumber, refusalPlace, scheduling}
 use Rattle.hutschedule.specs.declared.Output.{Output}
 
 -- The most bytes of standard input that are read: 514 lines of 15 bytes. The first 513 lines decide (`FirstBytesDecide`).
@@ -23,9 +24,9 @@ pub record Print : Type 0 where
   pub bytes : List ℕ
 
 -- Accepted: the sheet of the table. Refused: `refused R at P`.
-abbrev pub printOf : Outcome → Print
+abbrev pub printOf : ScheduleOutcome → Print
 printOf (accepted table) = record { refused = false; bytes = bytesOf table }
-printOf (turnedBack refusal) = record { refused = true; bytes = refusedLine (refusalNumber refusal) (refusalPlace refusal) }
+printOf (refused refusal) = record { refused = true; bytes = refusedLine (refusalNumber refusal) (refusalPlace refusal) }
 
 -- What is written of a text.
 unfoldable pub printed : List ℕ → Print

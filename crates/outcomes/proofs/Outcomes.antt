@@ -14,6 +14,10 @@ module _ {A R : Type 0} where
   pub accepted≢refused : {result : A} {refusal : R} → _≡_ {A = Outcome A R} (accepted result) (refused refusal) → ⊥
   accepted≢refused e = let z : _≡_ {A = ℕ} 0 1 = cc in omega arith
 
+  -- What is accepted is one result.
+  pub accepted-is : {result given : A} → _≡_ {A = Outcome A R} (accepted result) (accepted given) → result ≡ given
+  accepted-is e = cc
+
   module _ (reason : Reason R) (rest : List (Reason R)) (result : A) where
     -- The first reason that holds refuses, and one that does not is passed.
     pub unless-stop : reason .holds ≡ true → unless (reason ∷ rest) result ≡ refused (reason .refusal)
@@ -66,6 +70,11 @@ module _ {X R : Type 0} (refusal : ℕ → R) (output : List X) (entries : ℕ) 
 
   pub fitting-whole : length output ≤ entries → fitting refusal output entries ≡ accepted output
   fitting-whole h = unless-pass (tooShort refusal entries (length output)) [] output (le-ltb entries (length output) h) ∙ unless-none output
+
+  -- What holds of either holds.
+  pub fitting-either : (P : Outcome (List X) R → Type 0) → P (refused (refusal (length output))) → P (accepted output) → P (fitting refusal output entries)
+  fitting-either P short whole =
+      unless-either (tooShort refusal entries (length output)) [] output P (λ _. short) (λ _. subst P (sym (unless-none output)) whole)
 
   -- What is accepted is the output, and fits.
   pub fitting-is : {given : List X} → fitting refusal output entries ≡ accepted given → output ≡ given

@@ -8,11 +8,9 @@ use Rattle.outcomes.proofs.Outcomes.{accepted≢refused}
 
 module _ {R S A B : Type 0} (refusal : R → S) {step : Step R A} (k : A → Outcome B S) where
   pub good-goes-on : {a : A} {next : ℕ} → step ≡ good a next → whenGood refusal step k ≡ k a
-  unfolding whenGood
   good-goes-on e = ap (λ (s : Step R A). whenGood refusal s k) e
 
   pub bad-stands : {q : R} → step ≡ bad q → whenGood refusal step k ≡ refused (refusal q)
-  unfolding whenGood
   bad-stands e = ap (λ (s : Step R A). whenGood refusal s k) e
 
 -- What is accepted follows a good step.
@@ -22,6 +20,5 @@ module _ {R S A B : Type 0} (refusal : R → S) (k : A → Outcome B S) where
     pub is : k (good-step .value) ≡ accepted result
 
   pub accepted-went : (step : Step R A) {result : B} → whenGood refusal step k ≡ accepted result → Went step result
-  unfolding whenGood
   accepted-went (good a next) e = record { good-step = record { value = a; next = next; is = refl }; is = e }
   accepted-went (bad q) e = absurd (accepted≢refused (sym e))

@@ -33,10 +33,14 @@ fitting refusal output entries = unless (tooShort refusal entries (length output
 
 -- ---- What the caller sees
 
--- A list after an outcome, by what a result has for it: that stands at the front; entries past it, and all where refused, are unchanged.
+-- What an outcome writes to a list, by what a result has for it: nothing where refused.
+abbrev pub written : {A R X : Type 0} → (A → List X) → Outcome A R → List X
+written output (accepted result) = output result
+written output (refused refusal) = []
+
+-- A list after an outcome: what is written stands at its front; entries past that are unchanged.
 abbrev pub after : {A R X : Type 0} → (A → List X) → Outcome A R → List X → List X
-after output (accepted result) list = sets list 0 (output result)
-after output (refused refusal) list = list
+after output outcome list = sets list 0 (written output outcome)
 
 -- The numbers of an answer: 0 and the figures of the result, or the refusal's number and its place.
 abbrev pub numbersOf : {A R : Type 0} → (A → List ℕ) → (number place : R → ℕ) → Outcome A R → List ℕ

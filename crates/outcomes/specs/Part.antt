@@ -34,6 +34,6 @@ abbrev pub give : {R A : Type 0} → A → Part R A
 give a = λ w i. good a i
 
 -- What an operation comes to by the value of a good step; a step's refusal stands, as one of the operation's.
-unfoldable pub whenGood : {R S A B : Type 0} → (R → S) → Step R A → (A → Outcome B S) → Outcome B S
+abbrev pub whenGood : {R S A B : Type 0} → (R → S) → Step R A → (A → Outcome B S) → Outcome B S
 whenGood refusal (good a next) k = k a
 whenGood refusal (bad q) k = refused (refusal q)

@@ -1,14 +1,14 @@
 -- How long a list must be that is lent to Read or Write: one word more than `mostWords`, which a table may have, decides every
 -- table. A caller whose own buffers may be of any length may lend such lists in their place.
 use mathlib.Core.Path.{_≡_, refl, sym, ap, _∙_}
-use mathlib.Core.Bool.{Bool, true, false, cond}
 use mathlib.Core.List.{List}
 use Prim.Native.Nat.{ℕ, suc, _≤_, min}
 use native.Mathlib.Omega.{arith}
 use lib.ListN.{length, take}
 use lib.Seq.{sets, length-sets, length-take-le, take-all}
-use lib.Dec.{leb}
-use borrow.Author.Tests.{leb-true}
+use Rattle.outcomes.specs.Outcome.{accepted, fitting}
+use Rattle.outcomes.proofs.Outcomes.{fitting-fits}
+use Rattle.outcomes.proofs.Parts.{accepted-went}
 use Rattle.numbers.specs.Sheet.{Ending, whole, sheetOf, bytesOf}
 use Rattle.numbers.specs.Sheet as sheet
 use Rattle.rooms.specs.Part.{Step, good, bad}
@@ -17,27 +17,20 @@ use Rattle.rooms.specs.Limits.{checked}
 use Rattle.rooms.specs.declared.Refusal.the-variants.{OutputTooShort}
 use Rattle.rooms.specs.declared.Answer.{Answer}
 use Rattle.rooms.specs.declared.Answer.the-variants.{Accepted}
-use Rattle.rooms.specs.Outcome.{accepted, refused, answerOf, unlessRefused, fitting, readWords, reading, readingFirst, writing}
+use Rattle.rooms.specs.Outcome.{answerOf, ifGood, readWords, reading, readingFirst, writing}
 use Rattle.rooms.proofs.Reach.{prefix-decides, length-small}
 use Rattle.rooms.proofs.Outcomes.{accepted-told, accepted-is, front-sets, front-size}
 
 -- A table that is cut comes to the same, if it is cut no shorter than decides its check.
 table-cut : (output : List ℕ → List ℕ) (table : List ℕ) (entries k : ℕ) → suc mostWords ≤ k
-    → unlessRefused (checked (take k table) 0) (fitting (output (take k table)) entries) ≡ unlessRefused (checked table 0) (fitting (output table) entries)
+    → ifGood (checked (take k table) 0) (output (take k table)) entries ≡ ifGood (checked table 0) (output table) entries
 table-cut output table entries k h = rw (prefix-decides table k h) (go (checked table 0) refl)
   where
-    go : (s : Step Room) → checked table 0 ≡ s → unlessRefused s (fitting (output (take k table)) entries) ≡ unlessRefused s (fitting (output table) entries)
+    go : (s : Step Room) → checked table 0 ≡ s → ifGood s (output (take k table)) entries ≡ ifGood s (output table) entries
     go (good r j) e = rw (take-all k table (omega (arith, length-small table r j e)))
     go (bad q) e = refl
 
 -- ---- Read
-
-fitting-fits : (output : List ℕ) (entries : ℕ) {written : List ℕ} → fitting output entries ≡ accepted written → length written ≤ entries
-fitting-fits output entries {written = written} e = go (leb (length output) entries) refl e
-  where
-    go : (t : Bool) → leb (length output) entries ≡ t → cond t (accepted output) (refused (OutputTooShort (length output))) ≡ accepted written → length written ≤ entries
-    go true l e = let w : output ≡ written = cc in rw (← w) (leb-true (length output) entries l)
-    go false l e = let z : _≡_ {A = ℕ} 0 1 = cc in absurd (omega arith)
 
 module _ (bytes : List ℕ) (entries : ℕ) where
   abbrev words : List ℕ
@@ -57,12 +50,10 @@ module _ (bytes : List ℕ) (entries : ℕ) where
   unfolding reading
   reading-fits {written = written} e = ending (sheetOf bytes .ending) e
     where
-      table : (s : Step Room) → unlessRefused s (fitting words entries) ≡ accepted written → length written ≤ entries
-      table (good r j) e = fitting-fits words entries e
-      table (bad q) e = let z : _≡_ {A = ℕ} 0 1 = cc in absurd (omega arith)
-
       ending : (end : Ending) → readWords words end entries ≡ accepted written → length written ≤ entries
-      ending whole e = table (checked words 0) e
+      ending whole e =
+          let went = accepted-went (λ q. q) (λ room. fitting OutputTooShort words entries) (checked words 0) e in
+          fitting-fits OutputTooShort words entries (went .is)
       ending (sheet.refused fault place) e = let z : _≡_ {A = ℕ} 0 1 = cc in absurd (omega arith)
 
   -- and stands at the front of the list by way of which it is read.

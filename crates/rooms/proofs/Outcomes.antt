@@ -8,7 +8,10 @@ use native.Mathlib.Omega.{arith}
 use lib.ListN.{length, take}
 use lib.Seq.{sets, length-sets, length-take-le}
 use lib.Dec.{leb}
-use borrow.Author.Tests.{le-leb, lt-leb}
+use borrow.Author.Tests.{leb-true, leb-false}
+use Rattle.outcomes.specs.Outcome.{accepted, refused, fitting, after}
+use Rattle.outcomes.proofs.Outcomes.{fitting-short, fitting-whole, fitting-is}
+use Rattle.outcomes.proofs.Parts.{accepted-went}
 use Rattle.words.proofs.Lists.{take-sets, take-min}
 use Rattle.numbers.specs.Sheet.{Ending, whole, sheetOf, judged, answer, bytesOf, written, fitted}
 use Rattle.numbers.specs.Sheet as sheet
@@ -24,7 +27,7 @@ use Rattle.rooms.specs.Part as part
 use Rattle.rooms.specs.Table.{Room}
 use Rattle.rooms.specs.Limits.{checked}
 use Rattle.rooms.specs.Told.{told}
-use Rattle.rooms.specs.Outcome.{Outcome, accepted, refused, answerOf, after, unlessRefused, fitting, readWords, reading, readingFirst, writing}
+use Rattle.rooms.specs.Outcome.{SheetOutcome, answerOf, ifGood, readWords, reading, readingFirst, writing}
 use Rattle.rooms.proofs.Reach.{words-small}
 use Rattle.rooms.specs.declared.Refusal.{Refusal}
 use Rattle.rooms.specs.declared.Refusal.the-variants.{BadNumber, OutputTooShort}
@@ -41,45 +44,34 @@ refused-so f (good a j) d e = absurd (suc-ne-zero 0 (cc))
 refused-so f (bad m) {q = q} d e = let z : m ≡ q = cc in ap bad z
 
 -- A refused operation leaves the list; an accepted one has written its output to the front.
-pub refused-done : (outcome : Outcome) (list : List ℕ) {q : Refusal} → outcome ≡ refused q
-    → (answers.Refused q ≡ answerOf outcome) × (list ≡ after outcome list)
+pub refused-done : (outcome : SheetOutcome) (list : List ℕ) {q : Refusal} → outcome ≡ refused q
+    → (answers.Refused q ≡ answerOf outcome) × (list ≡ after (λ l. l) outcome list)
 refused-done outcome list e = rw e (refl, refl)
 
-pub accepted-done : (outcome : Outcome) (list list′ output : List ℕ) {count : ℕ} → outcome ≡ accepted output → length output ≡ count
+pub accepted-done : (outcome : SheetOutcome) (list list′ output : List ℕ) {count : ℕ} → outcome ≡ accepted output → length output ≡ count
     → list′ ≡ sets list 0 output
-    → (Accepted count ≡ answerOf outcome) × (list′ ≡ after outcome list)
+    → (Accepted count ≡ answerOf outcome) × (list′ ≡ after (λ l. l) outcome list)
 accepted-done outcome list list′ output e n w = rw e (ap Accepted (sym n), w)
 
 -- What an answer tells of its outcome: that it is refused so, or accepted with an output of so many entries.
-pub refused-told : (outcome : Outcome) {told : Answer} {q : Refusal} → told ≡ answerOf outcome → told ≡ answers.Refused q → outcome ≡ refused q
+pub refused-told : (outcome : SheetOutcome) {told : Answer} {q : Refusal} → told ≡ answerOf outcome → told ≡ answers.Refused q → outcome ≡ refused q
 refused-told (accepted output) d e = absurd (suc-ne-zero 0 (cc))
 refused-told (refused r) {q = q} d e = let z : r ≡ q = cc in ap refused z
 
-pub record Output (outcome : Outcome) (count : ℕ) : Type 0 where
+pub record Output (outcome : SheetOutcome) (count : ℕ) : Type 0 where
   pub output : List ℕ
   pub is : outcome ≡ accepted output
   pub counted : length output ≡ count
 
-pub accepted-told : (outcome : Outcome) {told : Answer} {count : ℕ} → told ≡ answerOf outcome → told ≡ Accepted count → Output outcome count
+pub accepted-told : (outcome : SheetOutcome) {told : Answer} {count : ℕ} → told ≡ answerOf outcome → told ≡ Accepted count → Output outcome count
 accepted-told (accepted output) d e = record { output = output; is = refl; counted = cc }
 accepted-told (refused refusal) d e = absurd (suc-ne-zero 0 (cc))
 
-module _ (output : List ℕ) (entries : ℕ) where
-  pub fitting-short : entries < length output → fitting output entries ≡ refused (OutputTooShort (length output))
-  fitting-short h = rw (lt-leb (length output) entries h)
-
-  pub fitting-whole : length output ≤ entries → fitting output entries ≡ accepted output
-  fitting-whole h = rw (le-leb (length output) entries h)
-
 -- What is accepted after the check of a table: the table is good, and the output is what was due.
-pub accepted-is : (step : Step Room) (output : List ℕ) (entries : ℕ) {given : List ℕ} → unlessRefused step (fitting output entries) ≡ accepted given
-    → part.Good step × (output ≡ given)
-accepted-is (bad refusal) output entries e = absurd (suc-ne-zero 0 (cc))
-accepted-is (good r j) output entries {given = given} e = go (leb (length output) entries) e
-  where
-    go : (t : Bool) → cond t (accepted output) (refused (OutputTooShort (length output))) ≡ accepted given → part.Good (good r j) × (output ≡ given)
-    go true e = (record { value = r; next = j; is = refl }, cc)
-    go false e = absurd (suc-ne-zero 0 (cc))
+pub accepted-is : (step : Step Room) (output : List ℕ) (entries : ℕ) {given : List ℕ} → ifGood step output entries ≡ accepted given → part.Good step × (output ≡ given)
+accepted-is step output entries e =
+    let went = accepted-went (λ q. q) (λ room. fitting OutputTooShort output entries) step e in
+    (went .good-step, fitting-is OutputTooShort output entries (went .is))
 
 -- ---- Read
 
@@ -130,17 +122,17 @@ module _ (bytes : List ℕ) where
 
 -- The answer on a table whose words are to go to an output of so many.
 module _ (table : List ℕ) (entries : ℕ) where
-  abbrev outcome : Outcome
-  outcome = unlessRefused (checked table 0) (fitting table entries)
+  abbrev outcome : SheetOutcome
+  outcome = ifGood (checked table 0) table entries
 
   pub table-refused : {q : Refusal} → checked table 0 ≡ bad q → answers.Refused q ≡ answerOf outcome
   table-refused c = rw c refl
 
   pub table-short : {r : Room} {j : ℕ} → checked table 0 ≡ good r j → entries < length table → answers.Refused (OutputTooShort (length table)) ≡ answerOf outcome
-  table-short c h = rw (c, fitting-short table entries h) refl
+  table-short c h = rw (c, fitting-short OutputTooShort table entries h) refl
 
   pub table-accepted : {r : Room} {j : ℕ} → checked table 0 ≡ good r j → length table ≤ entries → Accepted (length table) ≡ answerOf outcome
-  table-accepted c h = rw (c, fitting-whole table entries h) refl
+  table-accepted c h = rw (c, fitting-whole OutputTooShort table entries h) refl
 
 -- Read by way of a list, which becomes `list′`.
 module _ (bytes list : List ℕ) (entries : ℕ) where
@@ -177,7 +169,7 @@ module _ (table : List ℕ) (entries : ℕ) where
   writing-is = accepted-is (checked table 0) (bytesOf table) entries
 
   module _ {r : Room} {j : ℕ} (c : checked table 0 ≡ good r j) where
-    pub writing-good : writing table entries ≡ fitting (bytesOf table) entries
+    pub writing-good : writing table entries ≡ fitting OutputTooShort (bytesOf table) entries
     unfolding writing
     writing-good = rw c
 
@@ -191,7 +183,7 @@ module _ (table : List ℕ) (entries : ℕ) where
       where
         go : (t : Bool) → leb (length (bytesOf table)) entries ≡ t → answer ≡ cond t (Bytes (length (bytesOf table))) (TooShort (length (bytesOf table)))
             → (writing table entries ≡ accepted (bytesOf table)) × (length (bytesOf table) ≡ count)
-        go true t a = (writing-good ∙ rw t, cc)
+        go true t a = (writing-good ∙ fitting-whole OutputTooShort (bytesOf table) entries (leb-true (length (bytesOf table)) entries t), cc)
         go false t a = absurd (suc-ne-zero 0 (cc))
 
     pub writing-short : {answer : Written} {needed : ℕ} → answer ≡ written table entries → answer ≡ TooShort needed
@@ -201,7 +193,9 @@ module _ (table : List ℕ) (entries : ℕ) where
         go : (t : Bool) → leb (length (bytesOf table)) entries ≡ t → answer ≡ cond t (Bytes (length (bytesOf table))) (TooShort (length (bytesOf table)))
             → writing table entries ≡ refused (OutputTooShort needed)
         go true t a = absurd (suc-ne-zero 0 (cc))
-        go false t a = let n : length (bytesOf table) ≡ needed = cc in writing-good ∙ rw (t, n)
+        go false t a =
+            let n : length (bytesOf table) ≡ needed = cc in
+            writing-good ∙ fitting-short OutputTooShort (bytesOf table) entries (leb-false (length (bytesOf table)) entries t) ∙ ap (λ (k : ℕ). refused (OutputTooShort k)) n
 
     pub writing-large : {answer : Written} {index : ℕ} → answer ≡ written table entries → answer ≡ TooLarge index → ⊥
     writing-large {answer = answer} e f = go (leb (length (bytesOf table)) entries) (fits e)

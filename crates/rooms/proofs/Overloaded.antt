@@ -16,7 +16,9 @@ use Rattle.numbers.specs.declared.Fault.the-variants.{TooLong, NotShortest, Cut
 use Rattle.rooms.specs.Part.{Step, good, bad, Good, Part, follow, word, ensure, end, many}
 use Rattle.rooms.specs.Table.{Room, percent, node, cord, range, load, server, table}
 use Rattle.rooms.specs.Limits.{limit, nodeAt, lowsBeneath, firstNode, overloaded, checked}
-use Rattle.rooms.specs.Outcome.{accepted, refused, refusalNumber, refusalPlace, answerNumber, answerOf, unlessRefused, fitting, readWords, reading, writing}
+use Rattle.rooms.specs.Outcome.{SheetOutcome, refusalNumber, refusalPlace, answerNumber, answerOf, ifGood, readWords, reading, writing}
+use Rattle.outcomes.specs.Outcome.{fitting}
+use Rattle.outcomes.proofs.Outcomes.{fitting-either}
 use Rattle.rooms.specs.Promises.{IsNode, Within, LowestExceeding, Overloaded, IsNine, RefusalNine}
 use Rattle.rooms.specs.declared.Refusal.{Refusal}
 use Rattle.rooms.specs.declared.Refusal.the-variants.{BadNumber, WordMissing, WordOutOfRange, GreatestBelowLeast, SharesNotWhole, WordsLeftOver, LowsAboveLimit, OutputTooShort}
@@ -238,15 +240,11 @@ nine-lows (LowsAboveLimit place) n e p = ap LowsAboveLimit p
 nine-lows (OutputTooShort place) n e p = absurd (omega arith)
 
 -- An output that follows a good table is accepted, or refused by 12.
-fitting-other : (output : List ℕ) (entries : ℕ) → answerNumber (answerOf (fitting output entries)) ≡ 9 → ⊥
-fitting-other output entries = go (leb (length output) entries)
-  where
-    go : (t : Bool) → answerNumber (answerOf (cond t (accepted output) (refused (OutputTooShort (length output))))) ≡ 9 → ⊥
-    go true e = omega arith
-    go false e = omega arith
+fitting-other : (output : List ℕ) (entries : ℕ) → answerNumber (answerOf (fitting OutputTooShort output entries)) ≡ 9 → ⊥
+fitting-other output entries = fitting-either OutputTooShort output entries (λ (o : SheetOutcome). answerNumber (answerOf o) ≡ 9 → ⊥) (λ e. omega arith) (λ e. omega arith)
 
 step-nine : (s : Step Room) (output : List ℕ) (entries n : ℕ)
-    → IsNine (answerOf (unlessRefused s (fitting output entries))) n ↔ (s ≡ bad (LowsAboveLimit n))
+    → IsNine (answerOf (ifGood s output entries)) n ↔ (s ≡ bad (LowsAboveLimit n))
 step-nine (good r j) output entries n = (λ a. absurd (fitting-other output entries (a .0)), λ e. absurd (suc-ne-zero 0 (cc)))
 step-nine (bad refusal) output entries n = (
   λ a. ap bad (nine-lows refusal n (a .0) (a .1)),
@@ -254,7 +252,7 @@ step-nine (bad refusal) output entries n = (
 )
 
 output-nine : (w output : List ℕ) (entries n : ℕ)
-    → IsNine (answerOf (unlessRefused (checked w 0) (fitting output entries))) n ↔ Overloaded w n
+    → IsNine (answerOf (ifGood (checked w 0) output entries)) n ↔ Overloaded w n
 output-nine w output entries n = Iff·trans (step-nine (checked w 0) output entries n) (checked-nine w n)
 
 write-nine : (w : List ℕ) (bytes n : ℕ) → IsNine (answerOf (writing w bytes)) n ↔ Overloaded w n

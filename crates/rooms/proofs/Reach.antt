@@ -48,7 +48,7 @@ module _ (last : ℕ) (w : List ℕ) (i : ℕ) where
   give-reaches : {A : Type 0} (a : A) → i ≤ last → Reaches last (give a) w i
   give-reaches {A} a h = record { same = λ n l m. refl; taken = go }
     where
-      go : (b : A) (j : ℕ) → good a i ≡ good b j → Taken last w i j
+      go : (b : A) (j : ℕ) → _≡_ {A = Step A} (good a i) (good b j) → Taken last w i j
       go b j e = let x : i ≡ j = cc in rw (← x) (taken-none last w i h)
 
   -- One part after the other: what comes second knows of a good part before it.

@@ -1,14 +1,13 @@
 -- Read and Write: what each comes to, as an answer and in the list or buffer lent.
-use mathlib.Core.Bool.{cond}
 use mathlib.Core.List.{List}
 use Prim.Native.Nat.{ℕ}
 use lib.ListN.{length, take}
-use lib.Seq.{sets}
-use lib.Dec.{leb}
 use Rattle.numbers.specs.Number.{faultNumber}
 use Rattle.numbers.specs.Sheet.{Ending, whole, sheetOf, bytesOf}
 use Rattle.numbers.specs.Sheet as sheet
-use Rattle.rooms.specs.Part.{Step, good, bad}
+use Rattle.outcomes.specs.Outcome.{Outcome, accepted, refused, fitting}
+use Rattle.outcomes.specs.Part.{whenGood}
+use Rattle.rooms.specs.Part.{Step}
 use Rattle.rooms.specs.Table.{Room}
 use Rattle.rooms.specs.Limits.{checked}
 use Rattle.rooms.specs.declared.Refusal.{Refusal}
@@ -51,46 +50,36 @@ answerFigure (Refused refusal) = refusalPlace refusal
 
 -- ---- Outcomes
 
--- What an operation comes to: accepted with what it writes, or refused.
-pub data Outcome : Type 0 where
-  accepted : List ℕ → Outcome
-  refused : Refusal → Outcome
+-- What Read and Write come to: the words or bytes that are written, or a refusal.
+abbrev pub SheetOutcome : Type 0
+SheetOutcome = Outcome (List ℕ) Refusal
 
 -- The answer to an outcome.
-abbrev pub answerOf : Outcome → Answer
+abbrev pub answerOf : SheetOutcome → Answer
 answerOf (accepted output) = Accepted (length output)
 answerOf (refused refusal) = Refused refusal
 
--- The list or buffer after an outcome: what is written stands at its front; entries past it, and all where refused, are unchanged.
-abbrev pub after : Outcome → List ℕ → List ℕ
-after (accepted output) list = sets list 0 output
-after (refused refusal) list = list
-
--- The table's refusal, or what comes after a good table.
-abbrev pub unlessRefused : Step Room → Outcome → Outcome
-unlessRefused (good room next) outcome = outcome
-unlessRefused (bad refusal) outcome = refused refusal
-
--- An output for a list or buffer of so many entries. Refused: too short (12), at the length needed.
-abbrev pub fitting : List ℕ → ℕ → Outcome
-fitting output entries = cond (leb (length output) entries) (accepted output) (refused (OutputTooShort (length output)))
+-- An output for a list or buffer of so many entries, where the table is good. Refused: as the table is; else too short (12), at the
+-- length needed.
+abbrev pub ifGood : Step Room → List ℕ → ℕ → SheetOutcome
+ifGood step output entries = whenGood (λ refusal. refusal) step (λ room. fitting OutputTooShort output entries)
 
 -- ---- Read and Write
 
 -- The words of a sheet, all bytes judged before any word. Refused: the first number that is bad (1 to 3), where it starts.
-abbrev pub readWords : List ℕ → Ending → ℕ → Outcome
-readWords words whole entries = unlessRefused (checked words 0) (fitting words entries)
+abbrev pub readWords : List ℕ → Ending → ℕ → SheetOutcome
+readWords words whole entries = ifGood (checked words 0) words entries
 readWords words (sheet.refused fault place) entries = refused (BadNumber fault place)
 
 -- Read: sheet bytes into a list of so many words.
-unfoldable pub reading : List ℕ → ℕ → Outcome
+unfoldable pub reading : List ℕ → ℕ → SheetOutcome
 reading bytes entries = readWords (sheetOf bytes .words) (sheetOf bytes .ending) entries
 
 -- Read by way of a list that takes only so many words, the first of the sheet's: these are read as the whole table, once all
 -- bytes are judged. Where it takes one more than a table may have, this is Read (`FirstWordsDecide`, Promises.antt).
-unfoldable pub readingFirst : ℕ → List ℕ → ℕ → Outcome
+unfoldable pub readingFirst : ℕ → List ℕ → ℕ → SheetOutcome
 readingFirst taken bytes entries = readWords (take taken (sheetOf bytes .words)) (sheetOf bytes .ending) entries
 
 -- Write: a table into a buffer of so many bytes.
-unfoldable pub writing : List ℕ → ℕ → Outcome
-writing table entries = unlessRefused (checked table 0) (fitting (bytesOf table) entries)
+unfoldable pub writing : List ℕ → ℕ → SheetOutcome
+writing table entries = ifGood (checked table 0) (bytesOf table) entries

@@ -1,41 +1,22 @@
 -- Reading a table word by word: a part of a table gives a value and the index of the next word,
 -- or the first refusal that is met.
-use mathlib.Core.Path.{_≡_}
 use mathlib.Core.Bool.{Bool, true, cond, _&&_}
 use mathlib.Core.List.{List, [], _∷_}
 use Prim.Native.Nat.{ℕ, zero, suc}
 use lib.ListN.{length, getD}
 use lib.Dec.{leb, ltb}
+use Rattle.outcomes.specs.Part as outcomes
+pub use Rattle.outcomes.specs.Part.{good, bad, Good, _>>=_, give}
+unfoldable pub use Rattle.outcomes.specs.Part.{follow}
 use Rattle.rooms.specs.declared.Refusal.{Refusal}
 use Rattle.rooms.specs.declared.Refusal.the-variants.{WordMissing, WordOutOfRange, WordsLeftOver}
 
--- What a part comes to: a value and the index of the next word, or a refusal.
-pub data Step (A : Type 0) : Type 0 where
-  good : A → ℕ → Step A
-  bad : Refusal → Step A
+-- What a part of a table comes to, and a part of a table.
+abbrev pub Step : Type 0 → Type 0
+Step A = outcomes.Step Refusal A
 
--- A step that is good, with its value and the index of the next word.
-pub record Good {A : Type 0} (s : Step A) : Type 0 where
-  pub value : A
-  pub next : ℕ
-  pub is : s ≡ good value next
-
--- A part of a table, read from an index on.
 abbrev pub Part : Type 0 → Type 0
-Part A = List ℕ → ℕ → Step A
-
--- What follows a good step; a refusal stands.
-unfoldable pub follow : {A B : Type 0} → Step A → (A → ℕ → Step B) → Step B
-follow (good a j) k = k a j
-follow (bad refusal) k = bad refusal
-
--- One part after the other.
-abbrev pub _>>=_ : {A B : Type 0} → Part A → (A → Part B) → Part B
-_>>=_ p k = λ w i. follow (p w i) (λ a j. k a w j)
-
--- A value that takes no word.
-abbrev pub give : {A : Type 0} → A → Part A
-give a = λ w i. good a i
+Part A = outcomes.Part Refusal A
 
 -- The index of the next word.
 abbrev pub here : Part ℕ

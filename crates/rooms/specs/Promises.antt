@@ -12,7 +12,8 @@ use Rattle.rooms.specs.Table.{Room, mostWords, table}
 use Rattle.rooms.specs.Limits.{limit, nodeAt, lowsBeneath, checked}
 use Rattle.figures.specs.Figures.{at}
 use Rattle.rooms.specs.Words.{tableOf, RoomInRange}
-use Rattle.rooms.specs.Outcome.{accepted, answerOf, answerNumber, answerFigure, reading, readingFirst, writing}
+use Rattle.outcomes.specs.Outcome.{accepted}
+use Rattle.rooms.specs.Outcome.{answerOf, answerNumber, answerFigure, reading, readingFirst, writing}
 use Rattle.rooms.specs.declared.Answer.{Answer}
 
 -- ---- The table of a room

@@ -2,12 +2,13 @@
 ghost use mathlib.Core.Path.{_≡_};
 ghost use Prim.Native.Nat.{ℕ, suc, _≤_};
 ghost use lib.ListN.{length, replicate};
+ghost use Rattle.outcomes.specs.Outcome.{after};
 ghost use Rattle.numbers.specs.Number.{faultNumber};
 ghost use Rattle.rooms.specs.Part.{good};
 ghost use Rattle.rooms.specs.Limits.{checked, nodeLows};
 ghost use Rattle.rooms.specs.Table.{Room, mostNodes, mostWords, roomCords};
 ghost use Rattle.rooms.specs.Told.{told};
-ghost use Rattle.rooms.specs.Outcome.{refusalNumber, refusalPlace, answerNumber, answerFigure, answerOf, after, unlessRefused, fitting, reading, writing};
+ghost use Rattle.rooms.specs.Outcome.{refusalNumber, refusalPlace, answerNumber, answerFigure, answerOf, ifGood, reading, writing};
 use numbers::Fault;
 use numbers::Judged;
 use numbers::Written;
@@ -151,7 +152,7 @@ pub fn check(table: &[u32]) -> Checked
 
 // The answer on a table whose words are to go to an output of `space` words.
 fn answer_for(table: &[u32], space: usize) -> Answer
-    ensures { λ r. ⌜ r ≡ answerOf (unlessRefused (checked (now (table .entry)) 0) (fitting (now (table .entry)) space)) ⌝ }
+    ensures { λ r. ⌜ r ≡ answerOf (ifGood (checked (now (table .entry)) 0) (now (table .entry)) space) ⌝ }
 {
     let checked = check(table);
     if let Checked::Refused(refusal) = checked {
@@ -168,7 +169,7 @@ fn answer_for(table: &[u32], space: usize) -> Answer
 fn read_by(sheet: &[u8], words: &mut [u32], table: &mut [u32]) -> Answer
     requires { ⌜ suc mostWords ≤ length (now words) ⌝ }
     ensures { λ r. ⌜ r ≡ answerOf (reading (now (sheet .entry)) (length (now (table .entry)))) ⌝ }
-    ensures { λ _. ⌜ now (table .exit) ≡ after (reading (now (sheet .entry)) (length (now (table .entry)))) (now (table .entry)) ⌝ }
+    ensures { λ _. ⌜ now (table .exit) ≡ after (λ words. words) (reading (now (sheet .entry)) (length (now (table .entry)))) (now (table .entry)) ⌝ }
 {
     let read = parts::read_words(sheet, words, table.len());
     let Answer::Accepted(count) = read else {
@@ -181,7 +182,7 @@ fn read_by(sheet: &[u8], words: &mut [u32], table: &mut [u32]) -> Answer
 // Read: the words of a sheet, at the front of the table. Refused, it leaves the table unchanged.
 pub fn read(sheet: &[u8], table: &mut [u32]) -> Answer
     ensures { λ r. ⌜ r ≡ answerOf (reading (now (sheet .entry)) (length (now (table .entry)))) ⌝ }
-    ensures { λ _. ⌜ now (table .exit) ≡ after (reading (now (sheet .entry)) (length (now (table .entry)))) (now (table .entry)) ⌝ }
+    ensures { λ _. ⌜ now (table .exit) ≡ after (λ words. words) (reading (now (sheet .entry)) (length (now (table .entry)))) (now (table .entry)) ⌝ }
 {
     let mut words = [0u32; DECIDING_WORDS];
     read_by(sheet, &mut words, table)
@@ -190,7 +191,7 @@ pub fn read(sheet: &[u8], table: &mut [u32]) -> Answer
 // Write: the words of a table as numbers, at the front of the sheet. Refused, it leaves the sheet unchanged.
 pub fn write(table: &[u32], sheet: &mut [u8]) -> Answer
     ensures { λ r. ⌜ r ≡ answerOf (writing (now (table .entry)) (length (now (sheet .entry)))) ⌝ }
-    ensures { λ _. ⌜ now (sheet .exit) ≡ after (writing (now (table .entry)) (length (now (sheet .entry)))) (now (sheet .entry)) ⌝ }
+    ensures { λ _. ⌜ now (sheet .exit) ≡ after (λ bytes. bytes) (writing (now (table .entry)) (length (now (sheet .entry)))) (now (sheet .entry)) ⌝ }
 {
     let checked = check(table);
     if let Checked::Refused(refusal) = checked {

@@ -9,8 +9,8 @@ use lib.Dec.{eqb, leb}
 use lib.ListN.{length, take, length-take}
 use lib.Seq.{getD-take}
 use borrow.Author.Tests.{le-leb, lt-leb, leb-true, leb-false}
-use Rattle.schedules.specs.Text.{byteAt, digitZero, isDigit, Step, good, bad, Part, follow, _>>=_, give, byte, digits, number, field, line, space, newline}
-use Rattle.schedules.specs.Schedule.{Judgement, passed, failed, judged, whole, onto, linesFrom, scheduling}
+use Rattle.schedules.specs.Text.{byteAt, digitZero, isDigit, Step, good, bad, malformed, Part, follow, _>>=_, give, byte, digits, number, field, line, space, newline}
+use Rattle.schedules.specs.Schedule.{Judgement, judged, whole, onto, linesFrom, scheduling}
 use Rattle.schedules.proofs.LineLaws.{passed-is}
 
 -- ---- Parts
@@ -43,11 +43,11 @@ then-takes {A} {B} p q k m first second =
     go s t at h (good a n) e =
         let l = first .next s at a n e in
         second a .same s t n (λ j g. h j (omega arith))
-    go s t at h bad e = refl
+    go s t at h (bad malformed) e = refl
 
     reach : (s : List ℕ) (at : ℕ) (v : B) (n : ℕ) → (x : Step A) → p s at ≡ x → follow x (λ a n. q a s n) ≡ good v n → n ≤ at + (k + m)
     reach s at v n (good a i) e f = omega (arith, first .next s at a i e, second a .next s i v n f)
-    reach s at v n bad e f = absurd (suc-ne-zero 0 (cc))
+    reach s at v n (bad malformed) e f = absurd (suc-ne-zero 0 (cc))
 
 byte-takes : (b : ℕ) → Takes (byte b) 1
 unfolding byte
@@ -57,7 +57,7 @@ byte-takes b =
       next = λ s at v n e. go at v n (eqb (byteAt s at) b) e;
     }
   where
-    go : (at v n : ℕ) (t : Bool) → cond t (good b (suc at)) bad ≡ good v n → n ≤ at + 1
+    go : (at v n : ℕ) (t : Bool) → cond t (good b (suc at)) (bad malformed) ≡ good v n → n ≤ at + 1
     go at v n true e = let z : suc at ≡ n = cc in omega arith
     go at v n false e = absurd (suc-ne-zero 0 (cc))
 
@@ -88,12 +88,12 @@ number-takes =
     }
   where
     same : (s t : List ℕ) (at : ℕ) → Agree s t (at + 4) → (z d : Bool)
-        → cond z (good 0 (suc at)) (cond d (digits 4 0 s at) bad) ≡ cond z (good 0 (suc at)) (cond d (digits 4 0 t at) bad)
+        → cond z (good 0 (suc at)) (cond d (digits 4 0 s at) (bad malformed)) ≡ cond z (good 0 (suc at)) (cond d (digits 4 0 t at) (bad malformed))
     same s t at h true d = refl
     same s t at h false true = digits-takes 4 0 .same s t at h
     same s t at h false false = refl
 
-    reach : (s : List ℕ) (at v n : ℕ) (z d : Bool) → cond z (good 0 (suc at)) (cond d (digits 4 0 s at) bad) ≡ good v n → n ≤ at + 4
+    reach : (s : List ℕ) (at v n : ℕ) (z d : Bool) → cond z (good 0 (suc at)) (cond d (digits 4 0 s at) (bad malformed)) ≡ good v n → n ≤ at + 4
     reach s at v n true d e = let z : suc at ≡ n = cc in omega arith
     reach s at v n false true e = digits-takes 4 0 .next s at v n e
     reach s at v n false false e = absurd (suc-ne-zero 0 (cc))
@@ -129,10 +129,10 @@ linesFrom-cut taken text (suc most) place at h =
     go : (j : Judgement) → judged place (line text at) ≡ j
         → ((next : ℕ) → next + 15 * most ≤ taken → linesFrom most (take taken text) (suc place) next ≡ linesFrom most text (suc place) next)
         → onto j (λ next. linesFrom most (take taken text) (suc place) next) ≡ onto j (λ next. linesFrom most text (suc place) next)
-    go (passed e next) j further =
+    go (good e next) j further =
         let l = line-takes .next text at e next (passed-is place (line text at) e next j .is) in
         rw (further next (omega arith))
-    go (failed q) j further = refl
+    go (bad q) j further = refl
 
 -- The bytes of 513 lines decide the answer: a 513th is refused.
 pub scheduling-cut : (taken : ℕ) (text : List ℕ) (words : ℕ) → 7695 ≤ taken → scheduling (take taken text) words ≡ scheduling text words

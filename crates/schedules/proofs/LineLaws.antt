@@ -10,8 +10,8 @@ use lib.Dec.{leb, ltb}
 use borrow.Author.Tests.{leb-true, leb-false, ltb-true, lt-ltb, le-ltb, eq-eqb, ne-eqb}
 use Rattle.rooms.specs.Table.{mostNodes}
 use Rattle.schedules.specs.Sizes.{isSize}
-use Rattle.schedules.specs.Text.{Step, good, bad, follow, byteAt, space, newline, byte, number, field, line}
-use Rattle.schedules.specs.Schedule.{leastVolts, mostVolts, rating, inRange, Judgement, passed, failed, judged}
+use Rattle.schedules.specs.Text.{Step, good, bad, malformed, follow, byteAt, space, newline, byte, number, field, line}
+use Rattle.schedules.specs.Schedule.{leastVolts, mostVolts, rating, inRange, Judgement, judged}
 use Rattle.schedules.specs.Told.{toldNumber, toldLine, toldNode}
 use Rattle.schedules.proofs.SizeLaws.{and-left, and-right, size-most}
 use Rattle.schedules.specs.declared.Entry.{Entry}
@@ -32,12 +32,12 @@ number-good (good v n) {value = value} {next = next} d e =
     let a : v ≡ value = cc in
     let b : n ≡ next = cc in
     rw (a, b)
-number-good bad d e = absurd (suc-ne-zero 0 (cc))
+number-good (bad malformed) d e = absurd (suc-ne-zero 0 (cc))
 
-pub number-bad : (s : Step ℕ) {r : Number} → r ≡ toldNumber s → r ≡ Nothing → s ≡ bad
+pub number-bad : (s : Step ℕ) {r : Number} → r ≡ toldNumber s → r ≡ Nothing → s ≡ (bad malformed)
 unfolding toldNumber
 number-bad (good v n) d e = absurd (suc-ne-zero 0 (cc))
-number-bad bad d e = refl
+number-bad (bad malformed) d e = refl
 
 pub line-good : (s : Step Entry) {r : Line} {entry : Entry} {next : ℕ} → r ≡ toldLine s → r ≡ lines.Of entry next → s ≡ good entry next
 unfolding toldLine
@@ -45,17 +45,17 @@ line-good (good x n) {entry = entry} {next = next} d e =
     let a : x ≡ entry = cc in
     let b : n ≡ next = cc in
     rw (a, b)
-line-good bad d e = absurd (suc-ne-zero 0 (cc))
+line-good (bad malformed) d e = absurd (suc-ne-zero 0 (cc))
 
-pub line-bad : (s : Step Entry) {r : Line} → r ≡ toldLine s → r ≡ lines.Nothing → s ≡ bad
+pub line-bad : (s : Step Entry) {r : Line} → r ≡ toldLine s → r ≡ lines.Nothing → s ≡ (bad malformed)
 unfolding toldLine
 line-bad (good x n) d e = absurd (suc-ne-zero 0 (cc))
-line-bad bad d e = refl
+line-bad (bad malformed) d e = refl
 
 -- ---- A field
 
 module _ (text : List ℕ) (at end : ℕ) where
-  pub field-none : number text at ≡ bad → Nothing ≡ toldNumber (field end text at)
+  pub field-none : number text at ≡ (bad malformed) → Nothing ≡ toldNumber (field end text at)
   unfolding field follow toldNumber
   field-none n = rw n
 
@@ -71,17 +71,17 @@ module _ (text : List ℕ) (at end : ℕ) where
 -- ---- A line
 
 module _ (text : List ℕ) (at : ℕ) where
-  pub line-first : field space text at ≡ bad → lines.Nothing ≡ toldLine (line text at)
+  pub line-first : field space text at ≡ (bad malformed) → lines.Nothing ≡ toldLine (line text at)
   unfolding line follow toldLine
   line-first a = rw a
 
   module _ {parent at₁ : ℕ} (a : field space text at ≡ good parent at₁) where
-    pub line-second : field space text at₁ ≡ bad → lines.Nothing ≡ toldLine (line text at)
+    pub line-second : field space text at₁ ≡ (bad malformed) → lines.Nothing ≡ toldLine (line text at)
     unfolding line follow toldLine
     line-second b = rw (a, b)
 
     module _ {amperes at₂ : ℕ} (b : field space text at₁ ≡ good amperes at₂) where
-      pub line-third : field newline text at₂ ≡ bad → lines.Nothing ≡ toldLine (line text at)
+      pub line-third : field newline text at₂ ≡ (bad malformed) → lines.Nothing ≡ toldLine (line text at)
       unfolding line follow toldLine
       line-third v = rw (a, b, v)
 
@@ -132,7 +132,7 @@ pub rating-most : (place : ℕ) (e : Entry) → isSize (e .amperes) ≡ true →
 rating-most place e s t = mul-le-mul (size-most (e .amperes) s) (range-is place e t .most)
 
 module _ (place : ℕ) (s : Step Entry) where
-  pub not-a-line : s ≡ bad → Refused (NotALine place) ≡ toldNode (judged place s)
+  pub not-a-line : s ≡ (bad malformed) → Refused (NotALine place) ≡ toldNode (judged place s)
   unfolding judged toldNode
   not-a-line n = rw n
 
@@ -155,12 +155,12 @@ pub record Passed (place : ℕ) (s : Step Entry) (e : Entry) (next : ℕ) : Type
   pub size : isSize (e .amperes) ≡ true
   pub range : inRange place e ≡ true
 
-pub passed-is : (place : ℕ) (s : Step Entry) (e : Entry) (next : ℕ) → judged place s ≡ passed e next → Passed place s e next
+pub passed-is : (place : ℕ) (s : Step Entry) (e : Entry) (next : ℕ) → judged place s ≡ good e next → Passed place s e next
 unfolding judged
-passed-is place bad e next j = absurd (suc-ne-zero 0 (cc))
+passed-is place (bad malformed) e next j = absurd (suc-ne-zero 0 (cc))
 passed-is place (good x n) e next j = size (isSize (x .amperes)) refl j
   where
-    range : (t : Bool) → isSize (x .amperes) ≡ true → inRange place x ≡ t → cond t (passed x n) (failed (OutOfRange place)) ≡ passed e next
+    range : (t : Bool) → isSize (x .amperes) ≡ true → inRange place x ≡ t → cond t (good x n) (bad (OutOfRange place)) ≡ good e next
         → Passed place (good x n) e next
     range true a b j =
         let same : x ≡ e = cc in
@@ -169,7 +169,7 @@ passed-is place (good x n) e next j = size (isSize (x .amperes)) refl j
     range false a b j = absurd (suc-ne-zero 0 (cc))
 
     size : (t : Bool) → isSize (x .amperes) ≡ t
-        → cond t (cond (inRange place x) (passed x n) (failed (OutOfRange place))) (failed (NotASize place)) ≡ passed e next
+        → cond t (cond (inRange place x) (good x n) (bad (OutOfRange place))) (bad (NotASize place)) ≡ good e next
         → Passed place (good x n) e next
     size true a j = range (inRange place x) a refl j
     size false a j = absurd (suc-ne-zero 0 (cc))
@@ -177,18 +177,18 @@ passed-is place (good x n) e next j = size (isSize (x .amperes)) refl j
 -- What the answer on a line tells.
 pub record Told (j : Judgement) (parent watts next : ℕ) : Type 0 where
   pub entry : Entry
-  pub is : j ≡ passed entry next
+  pub is : j ≡ good entry next
   pub parent-is : entry .parent ≡ parent
   pub rating-is : rating entry ≡ watts
 
 pub node-told : (j : Judgement) {r : Judged} {parent watts next : ℕ} → r ≡ toldNode j → r ≡ Node parent watts next → Told j parent watts next
 unfolding toldNode
-node-told (passed x n) {next = next} d e =
+node-told (good x n) {next = next} d e =
     let b : n ≡ next = cc in
     record { entry = x; is = rw b; parent-is = cc; rating-is = cc }
-node-told (failed q) d e = absurd (suc-ne-zero 0 (cc))
+node-told (bad q) d e = absurd (suc-ne-zero 0 (cc))
 
-pub refusal-told : (j : Judgement) {r : Judged} {refusal : Refusal} → r ≡ toldNode j → r ≡ Refused refusal → j ≡ failed refusal
+pub refusal-told : (j : Judgement) {r : Judged} {refusal : Refusal} → r ≡ toldNode j → r ≡ Refused refusal → j ≡ bad refusal
 unfolding toldNode
-refusal-told (passed x n) d e = absurd (suc-ne-zero 0 (cc))
-refusal-told (failed q) {refusal = refusal} d e = let a : q ≡ refusal = cc in rw a
+refusal-told (good x n) d e = absurd (suc-ne-zero 0 (cc))
+refusal-told (bad q) {refusal = refusal} d e = let a : q ≡ refusal = cc in rw a

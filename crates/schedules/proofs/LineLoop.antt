@@ -9,7 +9,8 @@ use lib.Seq.{sets}
 use borrow.Author.Tests.{le-leb, lt-leb}
 use Rattle.rooms.specs.Table.{mostNodes}
 use Rattle.schedules.specs.Text.{line}
-use Rattle.schedules.specs.Schedule.{rating, Judgement, passed, failed, judged, whole, onto, linesFrom, linesOf, nodeWords}
+use Rattle.schedules.specs.Text.{good, bad}
+use Rattle.schedules.specs.Schedule.{rating, Judgement, judged, whole, onto, linesFrom, linesOf, nodeWords}
 use Rattle.schedules.specs.Told.{toldNode, counted, toldLines}
 use Rattle.schedules.proofs.LineLaws.{passed-is, range-is, node-told, refusal-told}
 use Rattle.schedules.specs.declared.Entry.{Entry}
@@ -72,7 +73,7 @@ module _ (text words₀ words : List ℕ) (at count : ℕ) (inv : Reading text w
         → (counts.Refused refusal ≡ toldLines (linesOf text)) × (words ≡ sets words₀ 2 (nodeWords (linesOf text .entries)))
     unfolding nodeWords
     stop {refusal = refusal} d q =
-        let e = rest (failed refusal) (refusal-told (judged count (line text at)) d q) in
+        let e = rest (bad refusal) (refusal-told (judged count (line text at)) d q) in
         (rw e at (inv .answered), rw e at (inv .stored))
 
     module _ {r : Judged} {parent watts next : ℕ} (d : r ≡ toldNode (judged count (line text at))) (q : r ≡ Node parent watts next) where
@@ -86,7 +87,7 @@ module _ (text words₀ words : List ℕ) (at count : ℕ) (inv : Reading text w
       unfolding nodeWords
       again =
           let told = node-told (judged count (line text at)) d q in
-          let e = rest (passed (told .entry) next) (told .is) in
+          let e = rest (good (told .entry) next) (told .is) in
           let after = linesFrom (mostNodes - count) text (suc count) next in
           let left : suc mostNodes - suc count ≡ mostNodes - count = omega (arith, few-lines) in
           let k : suc count + length (after .entries) ≡ count + suc (length (after .entries)) = omega arith in

@@ -1,15 +1,17 @@
 -- The promises of `schedules`, proved.
 use mathlib.Core.Path.{_≡_, refl, sym}
-use mathlib.Core.Bool.{Bool, true, false, cond, _||_}
+use mathlib.Core.Bool.{Bool, true, false, _||_}
 use mathlib.Core.List.{List, [], _∷_}
 use Prim.Native.Nat.{ℕ, zero, suc, _-_, _≤_, _<_}
 use native.Mathlib.Nat.{suc-ne-zero}
 use native.Mathlib.Omega.{arith}
 use lib.ListN.{length, getD, length-map}
-use lib.Dec.{leb, eqb}
+use lib.Dec.{eqb}
 use borrow.Author.Tests.{eqb-true, eq-eqb, eqb-false}
 use Rattle.schedules.specs.Sizes.{sizes, isIn, isSize}
-use Rattle.schedules.specs.Schedule.{Ending, whole, refused, linesOf, tableOf, accepted, turnedBack, fitting, scheduledLines, scheduling}
+use Rattle.outcomes.specs.Outcome.{accepted}
+use Rattle.outcomes.proofs.Outcomes.{unless-back, unless-is}
+use Rattle.schedules.specs.Schedule.{Ending, whole, stopped, linesOf, tableOf, noLines, scheduledLines, scheduling}
 use Rattle.schedules.specs.Promises.{SizesRise, SizesAreTheTable, AcceptedIsWritten, WrittenIsRead, AnsweredExactly, ScheduleGivesRoom, FirstBytesDecide}
 use Rattle.schedules.proofs.SizeLaws as sizes
 use Rattle.schedules.proofs.TableLaws.{few-entries}
@@ -19,7 +21,6 @@ use Rattle.schedules.proofs.ReadsText.{lines-read}
 use Rattle.schedules.proofs.WritesText.{lines-written}
 use Rattle.schedules.proofs.FirstBytes.{scheduling-cut}
 use Rattle.schedules.proofs.Answers.{tells-24, tells-25, tells-26, tells-12, tells-0}
-use Rattle.schedules.specs.declared.Refusal.the-variants.{OutOfRange, TableTooShort}
 
 -- ---- The sizes
 
@@ -71,20 +72,12 @@ accepted-is : (text table : List ℕ) (words : ℕ) → scheduling text words �
 unfolding scheduling
 accepted-is text table words e = ended (linesOf text .ending) refl e
   where
-    fits : (t : Bool) → linesOf text .ending ≡ whole → (length (linesOf text .entries) ≡ 0 → ⊥)
-        → cond t (accepted (tableOf (linesOf text .entries))) (turnedBack (TableTooShort (length (tableOf (linesOf text .entries))))) ≡ accepted table
-        → AllLines text table
-    fits true w z e = record { ends = w; is = cc; some = omega arith }
-    fits false w z e = absurd (suc-ne-zero 0 (cc))
-
-    some : (t : Bool) → linesOf text .ending ≡ whole → eqb (length (linesOf text .entries)) 0 ≡ t
-        → cond t (turnedBack (OutOfRange 0)) (fitting (tableOf (linesOf text .entries)) words) ≡ accepted table → AllLines text table
-    some true w q e = absurd (suc-ne-zero 0 (cc))
-    some false w q e = fits (leb (length (tableOf (linesOf text .entries))) words) w (eqb-false (length (linesOf text .entries)) 0 q) e
-
     ended : (ending : Ending) → linesOf text .ending ≡ ending → scheduledLines (linesOf text .entries) ending words ≡ accepted table → AllLines text table
-    ended whole w e = some (eqb (length (linesOf text .entries)) 0) w refl e
-    ended (refused q) w e = absurd (suc-ne-zero 0 (cc))
+    ended whole w e =
+        let entries = linesOf text .entries in
+        let some = unless-back (noLines entries) _ (tableOf entries) e .0 in
+        record { ends = w; is = sym (unless-is _ (tableOf entries) table e); some = omega (arith, eqb-false (length entries) 0 some) }
+    ended (stopped q) w e = absurd (suc-ne-zero 0 (cc))
 
 pub accepted-is-written : AcceptedIsWritten
 accepted-is-written text table words e =

@@ -10,8 +10,8 @@ use lib.ListN.{length, drop, List·getD-eq-default, drop-of-length-le}
 use lib.Seq.{drop-cons, append-snoc}
 use borrow.Author.Tests.{leb-true, leb-false, ltb-true, ltb-false, eqb-true, eqb-false}
 use Rattle.rooms.specs.Table.{mostNodes}
-use Rattle.schedules.specs.Text.{byteAt, digitZero, space, newline, isDigit, Step, good, bad, follow, byte, digits, number, field, line}
-use Rattle.schedules.specs.Schedule.{Judgement, passed, failed, judged, whole, onto, linesFrom}
+use Rattle.schedules.specs.Text.{byteAt, digitZero, space, newline, isDigit, Step, good, bad, malformed, follow, byte, digits, number, field, line}
+use Rattle.schedules.specs.Schedule.{Judgement, judged, whole, onto, linesFrom}
 use Rattle.schedules.specs.Written.{Decimal, digit, more, LineText, Written}
 use Rattle.schedules.specs.Written as written
 use Rattle.schedules.proofs.NumberLaws.{digit-range}
@@ -107,7 +107,7 @@ number-read text at v next e = go (eqb (byteAt text at) digitZero) (isDigit (byt
             go false q = absurd (z (omega (arith, leb-false 1 (b - 48) q)))
 
     go : (z d : Bool) → eqb (byteAt text at) digitZero ≡ z → isDigit (byteAt text at) ≡ d
-        → cond z (good 0 (suc at)) (cond d (cond d (digits 3 (0 * 10 + (byteAt text at - digitZero)) text (suc at)) (good 0 at)) bad) ≡ good v next
+        → cond z (good 0 (suc at)) (cond d (cond d (digits 3 (0 * 10 + (byteAt text at - digitZero)) text (suc at)) (good 0 at)) (bad malformed)) ≡ good v next
         → Digits text at v next
     go true d p q e =
         let a : 0 ≡ v = cc in
@@ -127,13 +127,13 @@ record Took {A B : Type 0} (s : Step A) (k : A → ℕ → Step B) (b : B) (j : 
 took : {A B : Type 0} (s : Step A) (k : A → ℕ → Step B) (b : B) (j : ℕ) → follow s k ≡ good b j → Took s k b j
 unfolding follow
 took (good a i) k b j e = record { got = a; at = i; first = refl; rest = e }
-took bad k b j e = absurd (suc-ne-zero 0 (cc))
+took (bad malformed) k b j e = absurd (suc-ne-zero 0 (cc))
 
 byte-read : (b : ℕ) (text : List ℕ) (at v next : ℕ) → byte b text at ≡ good v next → 0 < b → drop at text ≡ b ∷ drop next text
 unfolding byte
 byte-read b text at v next e h = go (eqb (byteAt text at) b) refl e
   where
-    go : (t : Bool) → eqb (byteAt text at) b ≡ t → cond t (good b (suc at)) bad ≡ good v next → drop at text ≡ b ∷ drop next text
+    go : (t : Bool) → eqb (byteAt text at) b ≡ t → cond t (good b (suc at)) (bad malformed) ≡ good v next → drop at text ≡ b ∷ drop next text
     go true q e = let a : suc at ≡ next = cc in rw (← a) (stands text at b (eqb-true (byteAt text at) b q) h)
     go false q e = absurd (suc-ne-zero 0 (cc))
 
@@ -151,7 +151,7 @@ field-read end text at v next h e =
     let b = took (byte end text (n .at)) _ v next (n .rest) in
     go (n .got) (n .at) (b .at) (number-read text at (n .got) (n .at) (n .first)) (byte-read end text (n .at) (b .got) (b .at) (b .first) h) (b .rest)
   where
-    go : (value i j : ℕ) → Digits text at value i → drop i text ≡ end ∷ drop j text → good value j ≡ good v next → Field end text at v next
+    go : (value i j : ℕ) → Digits text at value i → drop i text ≡ end ∷ drop j text → _≡_ {A = Step ℕ} (good value j) (good v next) → Field end text at v next
     go value i j d b e =
         let same : value ≡ v = cc in
         let place : j ≡ next = cc in
@@ -179,7 +179,7 @@ line-read text at e next l =
     (v .rest)
   where
     go : (parent amperes volts i j k : ℕ) → Field space text at parent i → Field space text i amperes j → Field newline text j volts k
-        → good (record { parent = parent; amperes = amperes; volts = volts }) k ≡ good e next → LineRead text at e next
+        → _≡_ {A = Step Entry} (good (record { parent = parent; amperes = amperes; volts = volts }) k) (good e next) → LineRead text at e next
     go parent amperes volts i j k p a v l =
         let same : record { parent = parent; amperes = amperes; volts = volts } ≡ e = cc in
         let place : k ≡ next = cc in
@@ -215,9 +215,9 @@ lines-read (suc most) text place at h k e =
         → Written (linesFrom most text (suc place) next .entries) (drop next text))
         → Written ((cond t (record { entries = []; ending = whole }) (onto j (λ next. linesFrom most text (suc place) next))) .entries) (drop at text)
     go true q j r e further = rw (drop-of-length-le text (leb-true (length text) at q)) written.none
-    go false q (passed x next) r e further =
+    go false q (good x next) r e further =
         let p = passed-is place (line text at) x next r in
         let one = line-read text at x next (p .is) in
         let rest = further next (range-is place x (p .range) .few) e in
         rw (one .bytes) (written.line x (linesFrom most text (suc place) next .entries) (one .s) (drop next text) (one .is) rest)
-    go false q (failed refusal) r e further = absurd (suc-ne-zero 0 (cc))
+    go false q (bad refusal) r e further = absurd (suc-ne-zero 0 (cc))

@@ -12,15 +12,17 @@ use Rattle.rooms.specs.Part.{good}
 use Rattle.rooms.specs.Table.{Node, Room, mostNodes, formOf, table}
 use Rattle.rooms.specs.Limits.{lows, nodeAt, checked}
 use Rattle.rooms.specs.Outcome.{writing}
-use Rattle.rooms.specs.Outcome as rooms
 use Rattle.rooms.proofs.Reach.{next-is-length}
 use Rattle.rooms.specs.Words.{rowWords, wordsOfNode, NodeInRange}
 use Rattle.rooms.specs.Words as words
 use Rattle.rooms.proofs.Tables.{Chain, RoomFits, Reads, table-reads}
-use Rattle.rooms.proofs.Outcomes.{writing-good, fitting-whole}
+use Rattle.outcomes.specs.Outcome.{accepted}
+use Rattle.outcomes.proofs.Outcomes.{fitting-whole}
+use Rattle.rooms.specs.declared.Refusal.the-variants.{OutputTooShort}
+use Rattle.rooms.proofs.Outcomes.{writing-good}
 use Rattle.rooms.proofs.Promises.{refusal-nine}
-use Rattle.schedules.specs.Text.{line}
-use Rattle.schedules.specs.Schedule.{rating, Judgement, passed, failed, judged, whole, onto, linesFrom, nodeWords, tableOf}
+use Rattle.schedules.specs.Text.{line, good, bad}
+use Rattle.schedules.specs.Schedule.{rating, Judgement, judged, whole, onto, linesFrom, nodeWords, tableOf}
 use Rattle.schedules.specs.Written.{Pass, none, more}
 use Rattle.schedules.proofs.LineLaws.{range-is, rating-most, passed-is}
 use Rattle.schedules.specs.declared.Entry.{Entry}
@@ -36,8 +38,8 @@ entries-pass (suc most) text place at = go (leb (length text) at) (judged place 
     go : (t : Bool) (j : Judgement) → judged place (line text at) ≡ j → ((next : ℕ) → Pass (suc place) (linesFrom most text (suc place) next .entries))
         → Pass place ((cond t (record { entries = []; ending = whole }) (onto j (λ next. linesFrom most text (suc place) next))) .entries)
     go true j e further = none
-    go false (passed x next) e further = let p = passed-is place (line text at) x next e in more (p .size) (p .range) (further next)
-    go false (failed q) e further = none
+    go false (good x next) e further = let p = passed-is place (line text at) x next e in more (p .size) (p .range) (further next)
+    go false (bad q) e further = none
 
 -- ---- The room
 
@@ -92,8 +94,8 @@ module _ (entries : List Entry) (p : Pass 0 entries) (some : 1 ≤ length entrie
       let e = refusal-nine .passed w (roomOf entries) (read .next) (read .is) (λ n h. omega arith) in
       e ∙ ap (good (roomOf entries)) (next-is-length w (roomOf entries) (read .next) e)
 
-  pub table-written : (bytes : ℕ) → length (bytesOf (tableOf entries)) ≤ bytes → writing (tableOf entries) bytes ≡ rooms.accepted (bytesOf (tableOf entries))
-  table-written bytes h = writing-good (tableOf entries) bytes table-checked ∙ fitting-whole (bytesOf (tableOf entries)) bytes h
+  pub table-written : (bytes : ℕ) → length (bytesOf (tableOf entries)) ≤ bytes → writing (tableOf entries) bytes ≡ accepted (bytesOf (tableOf entries))
+  table-written bytes h = writing-good (tableOf entries) bytes table-checked ∙ fitting-whole OutputTooShort (bytesOf (tableOf entries)) bytes h
 
 -- The parent and the rating of the node at a place are those of the entry there.
 pub node-of : (entries : List Entry) (place : ℕ)

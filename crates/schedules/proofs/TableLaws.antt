@@ -1,5 +1,5 @@
 -- The table of a schedule: how it comes to stand in a list, and what each answer says of the outcome.
-use mathlib.Core.Path.{_≡_, refl, sym, ap, _∙_}
+use mathlib.Core.Path.{_≡_, refl, sym, ap, subst, _∙_}
 use mathlib.Core.Bool.{Bool, true, false, cond}
 use mathlib.Core.List.{List, [], _∷_}
 use Prim.Native.Nat.{ℕ, zero, suc, _+_, _*_, _/_, _≤_, _<_}
@@ -8,14 +8,17 @@ use native.Mathlib.Omega.{arith}
 use lib.ListN.{length, take, set, length-append, length-take}
 use lib.Seq.{sets, set-comm, take-all, take-length}
 use lib.Dec.{leb, eqb}
-use borrow.Author.Tests.{le-leb, lt-leb, leb-true, eq-eqb, ne-eqb}
+use borrow.Author.Tests.{ltb-false, eq-eqb, ne-eqb}
 use Rattle.words.specs.Bytes.{bytesOf, answered}
 use Rattle.words.proofs.Lists.{take-sets, sets-append}
 use Rattle.words.proofs.Calls.{call-done}
 use Rattle.rooms.specs.Table.{mostNodes}
 use Rattle.schedules.specs.Text.{line}
-use Rattle.schedules.specs.Schedule.{Judgement, passed, failed, judged, Ending, whole, refused, onto, linesFrom, linesOf, nodeWords, tableOf, Outcome, accepted, turnedBack, fitting, scheduledLines, scheduling, answerOf, answerNumber, answerFigure, after, mostWords}
-use Rattle.schedules.specs.Call.{bytesAfter, OutcomeCall}
+use Rattle.outcomes.specs.Outcome.{accepted, refused, tooShort, fitting, after}
+use Rattle.outcomes.proofs.Outcomes.{unless-stop, unless-pass, unless-either, unless-none, fitting-short, fitting-whole}
+use Rattle.schedules.specs.Text.{good, bad}
+use Rattle.schedules.specs.Schedule.{Judgement, judged, Ending, whole, stopped, onto, linesFrom, linesOf, nodeWords, tableOf, ScheduleOutcome, noLines, scheduledLines, scheduling, answerOf, answerNumber, answerFigure, mostWords}
+use Rattle.schedules.specs.Call.{OutcomeCall}
 use Rattle.schedules.specs.Told.{counted, toldLines, written, InFront, writtenCount}
 use Rattle.schedules.proofs.LineLaws.{passed-is, range-is}
 use Rattle.schedules.specs.declared.Entry.{Entry}
@@ -46,10 +49,10 @@ few-from (suc most) text place at h = go (leb (length text) at) (judged place (l
         → ((next : ℕ) → suc place ≤ mostNodes → suc place + length (linesFrom most text (suc place) next .entries) ≤ mostNodes)
         → place + length ((cond t (record { entries = []; ending = whole }) (onto j (λ next. linesFrom most text (suc place) next))) .entries) ≤ mostNodes
     go true j e further = omega arith
-    go false (passed x next) e further =
+    go false (good x next) e further =
         let few = range-is place x (passed-is place (line text at) x next e .range) .few in
         omega (arith, further next few)
-    go false (failed q) e further = omega arith
+    go false (bad q) e further = omega arith
 
 pub few-entries : (text : List ℕ) → length (linesOf text .entries) ≤ mostNodes
 few-entries text = omega (arith, few-from (suc mostNodes) text 0 0 (omega arith))
@@ -83,17 +86,20 @@ whole-so text {r = r} {count = count} d e = go (linesOf text .ending) refl d
   where
     go : (ending : Ending) → linesOf text .ending ≡ ending → r ≡ counted (length (linesOf text .entries)) ending → Whole text count
     go whole is d = let n : length (linesOf text .entries) ≡ count = cc in record { ends = is; counts = n }
-    go (refused q) is d = absurd (suc-ne-zero 0 (cc))
+    go (stopped q) is d = absurd (suc-ne-zero 0 (cc))
 
 pub whole-few : {text : List ℕ} {count : ℕ} → Whole text count → count ≤ mostNodes
 whole-few {text = text} w = omega (arith, few-entries text, w .counts)
 
 module _ (text : List ℕ) (space : ℕ) where
-  abbrev outcome : Outcome
+  abbrev outcome : ScheduleOutcome
   outcome = scheduling text space
 
+  abbrev entries : List Entry
+  entries = linesOf text .entries
+
   -- A refused schedule has nothing in front.
-  refused-done : (words : List ℕ) {q : Refusal} → outcome ≡ turnedBack q → (Refused q ≡ answerOf outcome) × InFront outcome words
+  refused-done : (words : List ℕ) {q : Refusal} → outcome ≡ refused q → (Refused q ≡ answerOf outcome) × InFront outcome words
   refused-done words e = rw e (refl, record { is = refl })
 
   pub line-refused : (words : List ℕ) {r : Counted} {q : Refusal} → r ≡ toldLines (linesOf text) → r ≡ counts.Refused q
@@ -101,24 +107,24 @@ module _ (text : List ℕ) (space : ℕ) where
   unfolding scheduling
   line-refused words {r = r} {q = q} d e = refused-done words (go (linesOf text .ending) d)
     where
-      go : (ending : Ending) → r ≡ counted (length (linesOf text .entries)) ending → scheduledLines (linesOf text .entries) ending space ≡ turnedBack q
+      go : (ending : Ending) → r ≡ counted (length (linesOf text .entries)) ending → scheduledLines (linesOf text .entries) ending space ≡ refused q
       go whole d = absurd (suc-ne-zero 0 (cc))
-      go (refused p) d = let a : p ≡ q = cc in rw a
+      go (stopped p) d = let a : p ≡ q = cc in rw a
 
   module _ {count : ℕ} (w : Whole text count) where
     pub no-lines : (words : List ℕ) → count ≡ 0 → (Refused (OutOfRange 0) ≡ answerOf outcome) × InFront outcome words
     unfolding scheduling
-    no-lines words z = refused-done words (rw (w .ends, eq-eqb (length (linesOf text .entries)) 0 (w .counts ∙ z)))
+    no-lines words z = refused-done words (rw (w .ends) (unless-stop (noLines entries) _ (tableOf entries) (eq-eqb (length entries) 0 (w .counts ∙ z))))
 
     module _ (some : count ≡ 0 → ⊥) where
-      fitted : outcome ≡ fitting (tableOf (linesOf text .entries)) space
+      fitted : outcome ≡ fitting TableTooShort (tableOf entries) space
       unfolding scheduling
-      fitted = rw (w .ends, ne-eqb (length (linesOf text .entries)) 0 (λ z. some (sym (w .counts) ∙ z)))
+      fitted = rw (w .ends) (unless-pass (noLines entries) _ (tableOf entries) (ne-eqb (length entries) 0 (λ z. some (sym (w .counts) ∙ z))))
 
       pub too-short : (words : List ℕ) → space ≤ 2 + 2 * count → (Refused (TableTooShort (2 + 2 * count + 1)) ≡ answerOf outcome) × InFront outcome words
       too-short words h =
           let n : length (tableOf (linesOf text .entries)) ≡ 2 + 2 * count + 1 = omega (arith, length-tableOf (linesOf text .entries), w .counts) in
-          refused-done words (fitted ∙ rw (lt-leb (length (tableOf (linesOf text .entries))) space (omega arith), n))
+          refused-done words (fitted ∙ fitting-short TableTooShort (tableOf entries) space (omega arith) ∙ ap (λ (k : ℕ). refused (TableTooShort k)) n)
 
       -- The words of an accepted table, stored around those of the nodes.
       pub stands : (words words₁ : List ℕ) → mostWords ≤ length words → words₁ ≡ sets words 2 (nodeWords (linesOf text .entries)) → 2 + 2 * count < space
@@ -126,7 +132,7 @@ module _ (text : List ℕ) (space : ℕ) where
       stands words words₁ long s h =
           let table = tableOf (linesOf text .entries) in
           let n : length table ≡ 2 + 2 * count + 1 = omega (arith, length-tableOf (linesOf text .entries), w .counts) in
-          let is : outcome ≡ accepted table = fitted ∙ rw (le-leb (length table) space (omega arith)) in
+          let is : outcome ≡ accepted table = fitted ∙ fitting-whole TableTooShort table space (omega arith) in
           let front : take (length table) (sets words 0 table) ≡ table =
           take-sets (length table) words table (omega (arith, whole-few w)) (omega arith) ∙ take-length table in
           rw (is, s, table-sets words (linesOf text .entries) count (w .counts)) (ap Accepted (sym n), record { is = front })
@@ -134,29 +140,28 @@ module _ (text : List ℕ) (space : ℕ) where
 -- ---- What is written
 
 -- The table, where there is one, fits.
+abbrev Fits : ℕ → ScheduleOutcome → Type 0
+Fits space o = length (written o) ≤ space
+
 pub written-fits : (text : List ℕ) (space : ℕ) → length (written (scheduling text space)) ≤ space
 unfolding scheduling
 written-fits text space = go (linesOf text .ending)
   where
-    fits : (table : List ℕ) (t : Bool) → leb (length table) space ≡ t → length (written (cond t (accepted table) (turnedBack (TableTooShort (length table))))) ≤ space
-    fits table true e = leb-true (length table) space e
-    fits table false e = omega arith
-
-    some : (t : Bool) → length (written (cond t (turnedBack (OutOfRange 0)) (fitting (tableOf (linesOf text .entries)) space))) ≤ space
-    some true = omega arith
-    some false = fits (tableOf (linesOf text .entries)) (leb (length (tableOf (linesOf text .entries))) space) refl
-
     go : (ending : Ending) → length (written (scheduledLines (linesOf text .entries) ending space)) ≤ space
-    go whole = some (eqb (length (linesOf text .entries)) 0)
-    go (refused q) = omega arith
+    go whole =
+        let table = tableOf (linesOf text .entries) in
+        unless-either (noLines (linesOf text .entries)) _ table (Fits space) (λ _. omega arith) (λ _.
+        unless-either (tooShort TableTooShort space (length table)) [] table (Fits space) (λ _. omega arith) (λ h.
+        subst (Fits space) (sym (unless-none table)) (ltb-false space (length table) h)))
+    go (stopped q) = omega arith
 
-module _ (outcome : Outcome) {told : Scheduled} {count : ℕ} (is : told ≡ answerOf outcome) (n : count ≡ writtenCount told) where
+module _ (outcome : ScheduleOutcome) {told : Scheduled} {count : ℕ} (is : told ≡ answerOf outcome) (n : count ≡ writtenCount told) where
   pub count-is : count ≡ length (written outcome)
   count-is = n ∙ ap writtenCount is ∙ go outcome
     where
-      go : (o : Outcome) → writtenCount (answerOf o) ≡ length (written o)
+      go : (o : ScheduleOutcome) → writtenCount (answerOf o) ≡ length (written o)
       go (accepted table) = refl
-      go (turnedBack q) = refl
+      go (refused q) = refl
 
   module _ {words : List ℕ} (front : InFront outcome words) where
     pub count-fits : count ≤ length words
@@ -166,12 +171,8 @@ module _ (outcome : Outcome) {told : Scheduled} {count : ℕ} (is : told ≡ ans
     taken = ap (λ (k : ℕ). take k words) count-is ∙ front .is
 
     -- Copied to a list.
-    pub copied : (table : List ℕ) {table′ : List ℕ} → table′ ≡ sets table 0 (take count words) → (told ≡ answerOf outcome) × (table′ ≡ after outcome table)
-    copied table c = (is, c ∙ ap (sets table 0) taken ∙ go outcome)
-      where
-        go : (o : Outcome) → sets table 0 (written o) ≡ after o table
-        go (accepted words) = refl
-        go (turnedBack q) = refl
+    pub copied : (table : List ℕ) {table′ : List ℕ} → table′ ≡ sets table 0 (take count words) → (told ≡ answerOf outcome) × (table′ ≡ after (λ words. words) outcome table)
+    copied table c = (is, c ∙ ap (sets table 0) taken)
 
     -- Stored in bytes, with the answer.
     pub stored : (table answer : List ℕ) {table′ answer′ : List ℕ} → length (written outcome) ≤ length table / 4 → 16 ≤ length answer
@@ -180,9 +181,9 @@ module _ (outcome : Outcome) {told : Scheduled} {count : ℕ} (is : told ≡ ans
     unfolding bytesOf
     stored table answer fits long s a =
         let all : take (length table / 4) (take count words) ≡ written outcome = ap (take (length table / 4)) taken ∙ take-all (length table / 4) (written outcome) fits in
-        call-done (answerNumber (answerOf outcome)) (answerFigure (answerOf outcome)) (bytesAfter outcome table) table answer long
+        call-done (answerNumber (answerOf outcome)) (answerFigure (answerOf outcome)) (after bytesOf outcome table) table answer long
         (s ∙ ap (λ (l : List ℕ). sets table 0 (bytesOf l)) all ∙ go outcome) (rw is at a)
       where
-        go : (o : Outcome) → sets table 0 (bytesOf (written o)) ≡ bytesAfter o table
+        go : (o : ScheduleOutcome) → sets table 0 (bytesOf (written o)) ≡ after bytesOf o table
         go (accepted words) = refl
-        go (turnedBack q) = refl
+        go (refused q) = refl

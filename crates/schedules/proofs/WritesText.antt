@@ -12,8 +12,8 @@ use lib.Seq.{drop-drop, drop-append-seam, append-snoc}
 use borrow.Author.Tests.{leb-true, leb-false, le-leb, eq-eqb, ne-eqb}
 use Rattle.rooms.specs.Table.{mostNodes}
 use Rattle.schedules.specs.Sizes.{isSize}
-use Rattle.schedules.specs.Text.{byteAt, space, newline, isDigit, Step, good, bad, follow, byte, digits, number, field, line}
-use Rattle.schedules.specs.Schedule.{inRange, passed, judged, whole, Lines, linesFrom, linesOf}
+use Rattle.schedules.specs.Text.{byteAt, space, newline, isDigit, Step, good, bad, malformed, follow, byte, digits, number, field, line}
+use Rattle.schedules.specs.Schedule.{inRange, judged, whole, Lines, linesFrom, linesOf}
 use Rattle.schedules.specs.Written.{Decimal, digit, LineText, Written, Pass}
 use Rattle.schedules.specs.Written as written
 use Rattle.rooms.proofs.Fronts.{stands}
@@ -108,7 +108,7 @@ number-written {v} {s} k h text at c rest e n = go (leb 1 v) refl
     ends : isDigit (byteAt text (at + length s)) ≡ false
     ends = rw (stands text (at + length s) c rest (behind text at s (c ∷ rest) e) .is) n
 
-    go : (t : Bool) → leb 1 v ≡ t → cond (eqb (byteAt text at) 48) (good 0 (suc at)) (cond (isDigit (byteAt text at)) (digits 4 0 text at) bad) ≡ good v (at + length s)
+    go : (t : Bool) → leb 1 v ≡ t → cond (eqb (byteAt text at) 48) (good 0 (suc at)) (cond (isDigit (byteAt text at)) (digits 4 0 text at) (bad malformed)) ≡ good v (at + length s)
     go true q =
         let some = leb-true 1 v q in
         let f = head k in
@@ -161,7 +161,7 @@ line-written e s l hp ha hv text at rest d =
 pub line-size : (e : Entry) (s : List ℕ) → LineText e s → 1 ≤ length s
 line-size e s l = omega (arith, ap length (l .is), length-append (l .parent) (space ∷ (l .amperes ++ (space ∷ (l .volts ++ (newline ∷ []))))))
 
-judged-passed : (place : ℕ) (s : Step Entry) (e : Entry) (next : ℕ) → s ≡ good e next → isSize (e .amperes) ≡ true → inRange place e ≡ true → judged place s ≡ passed e next
+judged-passed : (place : ℕ) (s : Step Entry) (e : Entry) (next : ℕ) → s ≡ good e next → isSize (e .amperes) ≡ true → inRange place e ≡ true → judged place s ≡ good e next
 unfolding judged
 judged-passed place s e next g a b = rw (g, a, b)
 

@@ -4,20 +4,15 @@
 use mathlib.Core.List.{List}
 use Prim.Native.Nat.{ℕ, _/_}
 use lib.ListN.{length}
-use lib.Seq.{sets}
 use Rattle.words.specs.Bytes.{bytesOf}
 use Rattle.words.specs.Calls.{Call}
-use Rattle.schedules.specs.Schedule.{Outcome, accepted, turnedBack, scheduling, answerOf, answerNumber, answerFigure}
-
--- The bytes of the list after an outcome: the table stands at its front; bytes past it, and all where refused, are unchanged.
-abbrev pub bytesAfter : Outcome → List ℕ → List ℕ
-bytesAfter (accepted table) bytes = sets bytes 0 (bytesOf table)
-bytesAfter (turnedBack refusal) bytes = bytes
+use Rattle.outcomes.specs.Outcome.{after}
+use Rattle.schedules.specs.Schedule.{ScheduleOutcome, scheduling, answerOf, answerNumber, answerFigure}
 
 -- The call of a schedule that comes to an outcome.
-abbrev pub OutcomeCall : Outcome → (table answer : List ℕ) (r : ℕ) (table′ answer′ : List ℕ) → Type 0
+abbrev pub OutcomeCall : ScheduleOutcome → (table answer : List ℕ) (r : ℕ) (table′ answer′ : List ℕ) → Type 0
 OutcomeCall outcome table answer r table′ answer′ =
-    Call (answerNumber (answerOf outcome)) (answerFigure (answerOf outcome)) (bytesAfter outcome table) table answer r table′ answer′
+    Call (answerNumber (answerOf outcome)) (answerFigure (answerOf outcome)) (after bytesOf outcome table) table answer r table′ answer′
 
 -- A schedule, called from C: the table holds a word for every four of its bytes.
 abbrev pub ScheduleCall : (text table answer : List ℕ) (r : ℕ) (table′ answer′ : List ℕ) → Type 0

@@ -10,10 +10,10 @@ use Rattle.numbers.specs.Sheet.{bytesOf}
 use Rattle.rooms.specs.Part.{good}
 use Rattle.rooms.specs.Table.{Room}
 use Rattle.rooms.specs.Limits.{nodeAt, checked}
+use Rattle.outcomes.specs.Outcome.{accepted}
 use Rattle.rooms.specs.Outcome.{writing}
-use Rattle.rooms.specs.Outcome as rooms
 use Rattle.schedules.specs.Sizes.{sizes, isSize}
-use Rattle.schedules.specs.Schedule.{rating, inRange, whole, linesOf, tableOf, Outcome, accepted, scheduling, answerOf, answerNumber, answerFigure}
+use Rattle.schedules.specs.Schedule.{rating, inRange, whole, linesOf, tableOf, ScheduleOutcome, scheduling, answerOf, answerNumber, answerFigure}
 use Rattle.schedules.specs.Written.{Written, Pass, LineFirst, LinesFirst}
 use Rattle.schedules.specs.declared.Entry.{Entry}
 
@@ -109,7 +109,7 @@ pub record ScheduledRoom (text table : List ℕ) : Type 0 where
   pub room : Room
   pub end : ℕ
   pub checks : checked table 0 ≡ good room end
-  pub writes : (bytes : ℕ) → length (bytesOf table) ≤ bytes → writing table bytes ≡ rooms.accepted (bytesOf table)
+  pub writes : (bytes : ℕ) → length (bytesOf table) ≤ bytes → writing table bytes ≡ accepted (bytesOf table)
   pub servers : room .servers ≡ []
   pub nodes : length (room .nodes) ≡ length (linesOf text .entries)
   pub parent : (n : ℕ) → 1 ≤ n → n ≤ length (room .nodes) → nodeAt room (n - 1) .parent ≡ entryAt text (n - 1) .parent

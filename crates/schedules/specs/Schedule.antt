@@ -4,10 +4,11 @@ use mathlib.Core.List.{List, [], _∷_, _++_}
 use Prim.Native.Nat.{ℕ, zero, suc, _*_}
 use lib.Dec.{eqb, leb, ltb}
 use lib.ListN.{length}
-use lib.Seq.{sets}
+use Rattle.outcomes.specs.Outcome.{Outcome, accepted, refused, Reason, unless, tooShort}
+use Rattle.outcomes.specs.Part as outcomes
 use Rattle.rooms.specs.Table.{mostNodes}
 use Rattle.schedules.specs.Sizes.{isSize}
-use Rattle.schedules.specs.Text.{Step, good, bad, line}
+use Rattle.schedules.specs.Text.{Step, good, bad, malformed, line}
 use Rattle.schedules.specs.declared.Entry.{Entry}
 use Rattle.schedules.specs.declared.Refusal.{Refusal}
 use Rattle.schedules.specs.declared.Refusal.the-variants.{NotALine, NotASize, OutOfRange, TableTooShort}
@@ -58,24 +59,23 @@ unfoldable pub inRange : ℕ → Entry → Bool
 inRange place e = (leb leastVolts (e .volts) && leb (e .volts) mostVolts) && (leb (e .parent) place && ltb place mostNodes)
 
 -- What the line at a place comes to: an entry and where the next line starts, or a refusal.
-pub data Judgement : Type 0 where
-  passed : Entry → ℕ → Judgement
-  failed : Refusal → Judgement
+abbrev pub Judgement : Type 0
+Judgement = outcomes.Step Refusal Entry
 
 -- Refused in order: not of the form (24), amperes not a size (25), volts or parent out of range (26).
 unfoldable pub judged : ℕ → Step Entry → Judgement
-judged place bad = failed (NotALine place)
+judged place (bad malformed) = bad (NotALine place)
 judged place (good e next) =
     cond (isSize (e .amperes))
-    (cond (inRange place e) (passed e next) (failed (OutOfRange place)))
-    (failed (NotASize place))
+    (cond (inRange place e) (good e next) (bad (OutOfRange place)))
+    (bad (NotASize place))
 
 -- ---- All lines
 
 -- How the lines end: with the last byte of the text, or at a refusal.
 pub data Ending : Type 0 where
   whole : Ending
-  refused : Refusal → Ending
+  stopped : Refusal → Ending
 
 -- The lines of a text: the entries in front, in order, and how they end.
 pub record Lines : Type 0 where
@@ -84,8 +84,8 @@ pub record Lines : Type 0 where
 
 -- A line, followed by the lines after it.
 abbrev pub onto : Judgement → (ℕ → Lines) → Lines
-onto (passed e next) rest = record { entries = e ∷ rest next .entries; ending = rest next .ending }
-onto (failed refusal) rest = record { entries = []; ending = refused refusal }
+onto (good e next) rest = record { entries = e ∷ rest next .entries; ending = rest next .ending }
+onto (bad refusal) rest = record { entries = []; ending = stopped refusal }
 
 -- At most so many lines, the first of which has a place among the lines and starts at a place of the text.
 unfoldable pub linesFrom : ℕ → List ℕ → ℕ → ℕ → Lines
@@ -114,29 +114,23 @@ abbrev pub tableOf : List Entry → List ℕ
 tableOf entries = 1 ∷ length entries ∷ (nodeWords entries ++ (0 ∷ []))
 
 -- What a schedule comes to: accepted with the words of its table, or refused.
-pub data Outcome : Type 0 where
-  accepted : List ℕ → Outcome
-  turnedBack : Refusal → Outcome
+abbrev pub ScheduleOutcome : Type 0
+ScheduleOutcome = Outcome (List ℕ) Refusal
 
--- A table for a list of so many words. Refused: too short (12), at the length needed.
-abbrev pub fitting : List ℕ → ℕ → Outcome
-fitting table words = cond (leb (length table) words) (accepted table) (turnedBack (TableTooShort (length table)))
+-- There are no lines.
+abbrev pub noLines : List Entry → Reason Refusal
+noLines entries = record { holds = eqb (length entries) 0; refusal = OutOfRange 0 }
 
--- The table of lines. Refused: the first refusal of a line; no lines (26), at 0; the list too short (12).
-abbrev pub scheduledLines : List Entry → Ending → ℕ → Outcome
-scheduledLines entries whole words = cond (eqb (length entries) 0) (turnedBack (OutOfRange 0)) (fitting (tableOf entries) words)
-scheduledLines entries (refused refusal) words = turnedBack refusal
+-- The table of lines. Refused: the first refusal of a line; no lines (26), at 0; the list too short (12), at the length needed.
+abbrev pub scheduledLines : List Entry → Ending → ℕ → ScheduleOutcome
+scheduledLines entries whole words = unless (noLines entries ∷ tooShort TableTooShort words (length (tableOf entries)) ∷ []) (tableOf entries)
+scheduledLines entries (stopped refusal) words = refused refusal
 
 -- The schedule of a text, for a list of so many words.
-unfoldable pub scheduling : List ℕ → ℕ → Outcome
+unfoldable pub scheduling : List ℕ → ℕ → ScheduleOutcome
 scheduling text words = scheduledLines (linesOf text .entries) (linesOf text .ending) words
 
 -- The answer to an outcome.
-abbrev pub answerOf : Outcome → Scheduled
+abbrev pub answerOf : ScheduleOutcome → Scheduled
 answerOf (accepted table) = Accepted (length table)
-answerOf (turnedBack refusal) = Refused refusal
-
--- The list after an outcome: the table stands at its front; words past it, and all where refused, are unchanged.
-abbrev pub after : Outcome → List ℕ → List ℕ
-after (accepted table) list = sets list 0 table
-after (turnedBack refusal) list = list
+answerOf (refused refusal) = Refused refusal

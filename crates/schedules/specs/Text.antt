@@ -5,33 +5,25 @@ use mathlib.Core.List.{List}
 use Prim.Native.Nat.{ℕ, zero, suc, _+_, _-_, _*_}
 use lib.Dec.{eqb, leb}
 use lib.ListN.{getD}
+use Rattle.outcomes.specs.Part as outcomes
+pub use Rattle.outcomes.specs.Part.{good, bad, _>>=_, give}
+unfoldable pub use Rattle.outcomes.specs.Part.{follow}
 use Rattle.schedules.specs.declared.Entry.{Entry}
 
 -- The byte at a place. Past its end a text counts as bytes of 0, which stand in no line.
 abbrev pub byteAt : List ℕ → ℕ → ℕ
 byteAt text at = getD text at 0
 
--- What a part of a text comes to: a value and the place after it, or that it is not of the form.
-pub data Step (A : Type 0) : Type 0 where
-  good : A → ℕ → Step A
-  bad : Step A
+-- The one refusal of a part of a text: it is not of the form.
+pub data Malformed : Type 0 where
+  malformed : Malformed
 
--- A part of a text, read from a place on.
+-- What a part of a text comes to, with the place after it, and a part of a text.
+abbrev pub Step : Type 0 → Type 0
+Step A = outcomes.Step Malformed A
+
 abbrev pub Part : Type 0 → Type 0
-Part A = List ℕ → ℕ → Step A
-
--- What follows a good step.
-unfoldable pub follow : {A B : Type 0} → Step A → (A → ℕ → Step B) → Step B
-follow (good a next) k = k a next
-follow bad k = bad
-
--- One part after the other.
-abbrev pub _>>=_ : {A B : Type 0} → Part A → (A → Part B) → Part B
-_>>=_ p k = λ text at. follow (p text at) (λ a next. k a text next)
-
--- A value that takes no byte.
-abbrev pub give : {A : Type 0} → A → Part A
-give a = λ text at. good a at
+Part A = outcomes.Part Malformed A
 
 -- ---- Bytes and numbers
 
@@ -51,7 +43,7 @@ isDigit byte = leb digitZero byte && leb byte 57
 
 -- The next byte, which must be this one.
 unfoldable pub byte : ℕ → Part ℕ
-byte b text at = cond (eqb (byteAt text at) b) (good b (suc at)) bad
+byte b text at = cond (eqb (byteAt text at) b) (good b (suc at)) (bad malformed)
 
 -- A number by the digits that come next, at most so many, after a value that those before them gave.
 unfoldable pub digits : ℕ → ℕ → Part ℕ
@@ -68,7 +60,7 @@ mostDigits = 4
 unfoldable pub number : Part ℕ
 number text at =
     cond (eqb (byteAt text at) digitZero) (good 0 (suc at))
-    (cond (isDigit (byteAt text at)) (digits mostDigits 0 text at) bad)
+    (cond (isDigit (byteAt text at)) (digits mostDigits 0 text at) (bad malformed))
 
 -- A number and the byte behind it.
 unfoldable pub field : ℕ → Part ℕ

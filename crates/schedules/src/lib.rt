@@ -2,8 +2,9 @@
 ghost use mathlib.Core.Path.{_≡_};
 ghost use Prim.Native.Nat.{_≤_};
 ghost use lib.ListN.{length};
+ghost use Rattle.outcomes.specs.Outcome.{after};
 ghost use Rattle.words.specs.Bytes.{answered};
-ghost use Rattle.schedules.specs.Schedule.{refusalNumber, refusalPlace, answerNumber, answerFigure, mostWords, scheduling, answerOf, after};
+ghost use Rattle.schedules.specs.Schedule.{refusalNumber, refusalPlace, answerNumber, answerFigure, mostWords, scheduling, answerOf};
 ghost use Rattle.schedules.specs.Call.{ScheduleCall};
 ghost use Rattle.schedules.specs.Told.{InFront, writtenCount};
 use crate::lines::Counted;
@@ -90,7 +91,7 @@ const ANSWER_BYTES: usize = 16;
 // The table of a schedule, at the front of the list. Refused, it leaves the list unchanged.
 pub fn schedule(text: &[u8], table: &mut [u32]) -> Scheduled
     ensures { λ r. ⌜ r ≡ answerOf (scheduling (now (text .entry)) (length (now (table .entry)))) ⌝ }
-    ensures { λ _. ⌜ now (table .exit) ≡ after (scheduling (now (text .entry)) (length (now (table .entry)))) (now (table .entry)) ⌝ }
+    ensures { λ _. ⌜ now (table .exit) ≡ after (λ words. words) (scheduling (now (text .entry)) (length (now (table .entry)))) (now (table .entry)) ⌝ }
 {
     let mut words = [0u32; MOST_WORDS];
     schedule_by(text, &mut words, table)
@@ -108,7 +109,7 @@ pub fn schedule_bytes(text: &[u8], table: &mut [u8], answer: &mut [u8]) -> u32
 fn schedule_by(text: &[u8], words: &mut [u32], table: &mut [u32]) -> Scheduled
     requires { ⌜ mostWords ≤ length (now words) ⌝ }
     ensures { λ r. ⌜ r ≡ answerOf (scheduling (now (text .entry)) (length (now (table .entry)))) ⌝ }
-    ensures { λ _. ⌜ now (table .exit) ≡ after (scheduling (now (text .entry)) (length (now (table .entry)))) (now (table .entry)) ⌝ }
+    ensures { λ _. ⌜ now (table .exit) ≡ after (λ words. words) (scheduling (now (text .entry)) (length (now (table .entry)))) (now (table .entry)) ⌝ }
 {
     let told = schedule_words(text, words, table.len());
     let count = written_count(told);

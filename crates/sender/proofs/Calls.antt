@@ -10,8 +10,9 @@ use Rattle.words.specs.Bytes.{bytesOf, answerBytes, answered, numberStored}
 use Rattle.words.proofs.Lists.{sets-append}
 use Rattle.words.proofs.Bytes.{length-answerBytes, answered-long, numberStored-whole}
 use Rattle.sender.specs.Period.{serversFrom, namedCount}
-use Rattle.sender.specs.Outcome.{Outcome, sending, answerOf, sentNumber, sentFigure}
-use Rattle.sender.specs.Call.{sentBytes, listBytesAfter, OutcomeCall}
+use Rattle.outcomes.specs.Outcome.{after}
+use Rattle.sender.specs.Outcome.{SendOutcome, sending, answerOf, sentNumber, sentFigure}
+use Rattle.sender.specs.Call.{sentBytes, OutcomeCall}
 use Rattle.sender.specs.declared.Sent.{Sent}
 use Rattle.sender.specs.declared.Sent.the-variants.{Accepted, Refused}
 use Rattle.sender.specs.declared.SendRefusal.{SendRefusal}
@@ -46,7 +47,7 @@ named-fits count position words {named = named} {front = front} h f =
 
 -- ---- the call
 
-module _ (outcome : Outcome) (list answer : List ℕ) where
+module _ (outcome : SendOutcome) (list answer : List ℕ) where
   -- Where the answer's buffer is too short, nothing is changed.
   pub call-short : length answer < 24 → OutcomeCall outcome list answer 0 list answer
   call-short h =
@@ -54,7 +55,7 @@ module _ (outcome : Outcome) (list answer : List ℕ) where
       record { returned = rw short; list-after = rw short; answer-after = rw short }
 
   -- Where it is long enough, it has the answer, and the list is filled.
-  pub call-done : {list′ answer′ : List ℕ} → 24 ≤ length answer → list′ ≡ listBytesAfter outcome list → answer′ ≡ sets answer 0 (sentBytes (answerOf outcome))
+  pub call-done : {list′ answer′ : List ℕ} → 24 ≤ length answer → list′ ≡ after (λ p. bytesOf (p .named)) outcome list → answer′ ≡ sets answer 0 (sentBytes (answerOf outcome))
       → OutcomeCall outcome list answer 1 list′ answer′
   call-done h l a =
       let long = le-leb 24 (length answer) h in
@@ -62,7 +63,7 @@ module _ (outcome : Outcome) (list answer : List ℕ) where
 
 module _ (count position m : ℕ) (list answer : List ℕ) {told : Sent} {answer′ : List ℕ} (long : 24 ≤ length answer)
     (is : told ≡ answerOf (sending count position m (length list / 4))) (a : answer′ ≡ sets answer 0 (sentBytes told)) where
-  abbrev outcome : Outcome
+  abbrev outcome : SendOutcome
   outcome = sending count position m (length list / 4)
 
   pub call-refused : {q : SendRefusal} → told ≡ Refused q → OutcomeCall outcome list answer 1 list answer′

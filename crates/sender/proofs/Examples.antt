@@ -2,7 +2,8 @@
 use mathlib.Core.Path.{_≡_, refl}
 use mathlib.Core.List.{[], _∷_}
 use Rattle.sender.specs.Period.{serversFrom, positionAfter, period}
-use Rattle.sender.specs.Outcome.{refused, sending}
+use Rattle.outcomes.specs.Outcome.{refused, unless}
+use Rattle.sender.specs.Outcome.{sending}
 use Rattle.sender.specs.Promises.{run, ceilDiv}
 use Rattle.sender.specs.declared.SendRefusal.the-variants.{NoMessages, PositionOutOfRange, ListTooShort}
 
@@ -23,13 +24,13 @@ three-periods = refl
 
 -- 27 comes before 28, and 28 before 12.
 pub no-messages-first : sending 0 0 0 0 ≡ refused NoMessages
-unfolding sending
+unfolding sending unless
 no-messages-first = refl
 
 pub out-of-range-second : sending 513 0 1 0 ≡ refused PositionOutOfRange
-unfolding sending
+unfolding sending unless
 out-of-range-second = refl
 
 pub short-last : sending 5 3 4 3 ≡ refused (ListTooShort 4)
-unfolding sending
+unfolding sending unless
 short-last = refl

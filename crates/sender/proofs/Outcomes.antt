@@ -9,9 +9,10 @@ use borrow.Author.Tests.{ltb-true, ltb-false, leb-true, eqb-true, eqb-false, lt-
 use lib.Dec.{eqb, leb, ltb}
 use lib.ListN.{length, take, drop}
 use lib.Seq.{length-take-le, take-all}
+use Rattle.outcomes.specs.Outcome.{accepted, refused, unless, after}
 use Rattle.words.proofs.Lists.{sets-front}
 use Rattle.sender.specs.Period.{serversFrom, positionAfter, period, namedCount}
-use Rattle.sender.specs.Outcome.{mostServers, Outcome, accepted, refused, inRange, sending, answerOf, listAfter}
+use Rattle.sender.specs.Outcome.{mostServers, SendOutcome, inRange, sending, answerOf}
 use Rattle.sender.specs.Promises.{InRange}
 use Rattle.sender.specs.declared.Sent.{Sent}
 use Rattle.sender.specs.declared.Sent.the-variants.{Accepted, Refused}
@@ -56,14 +57,14 @@ module _ (count position : ℕ) where
 -- ---- one law for each answer
 
 module _ (count position m space : ℕ) where
-  abbrev outcome : Outcome
+  abbrev outcome : SendOutcome
   outcome = sending count position m space
 
   abbrev many : ℕ
   many = namedCount count m
 
   pub sending-no-messages : m ≡ 0 → outcome ≡ refused NoMessages
-  unfolding sending
+  unfolding sending unless
   sending-no-messages e = rw (eq-eqb m 0 e)
 
   module _ (some : 1 ≤ m) where
@@ -71,16 +72,16 @@ module _ (count position m space : ℕ) where
     not-zero = ne-eqb m 0 (λ e. omega arith)
 
     pub sending-out-of-range : not (inRange count position) ≡ true → outcome ≡ refused PositionOutOfRange
-    unfolding sending
+    unfolding sending unless
     sending-out-of-range e = rw (not-zero, e)
 
     module _ (inside : not (inRange count position) ≡ false) where
       pub sending-short : space < many → outcome ≡ refused (ListTooShort many)
-      unfolding sending
+      unfolding sending unless
       sending-short h = rw (not-zero, inside, lt-ltb space many h)
 
       pub sending-whole : many ≤ space → outcome ≡ accepted (period count position m)
-      unfolding sending
+      unfolding sending unless
       sending-whole h = rw (not-zero, inside, le-ltb space many h)
 
       -- The answers that follow, where so many are to be named.
@@ -123,12 +124,12 @@ module _ (count position m space : ℕ) where
   pub refused-told : {told : Sent} {q : SendRefusal} → told ≡ answerOf outcome → told ≡ Refused q → outcome ≡ refused q
   refused-told {told = told} {q = q} d e = go outcome refl d
     where
-      go : (o : Outcome) → outcome ≡ o → told ≡ answerOf o → outcome ≡ refused q
+      go : (o : SendOutcome) → outcome ≡ o → told ≡ answerOf o → outcome ≡ refused q
       go (accepted p) is d = absurd (suc-ne-zero 0 (cc))
       go (refused r) is d = let z : r ≡ q = cc in is ∙ ap refused z
 
   -- A refusal leaves the list.
-  pub refused-done : (list : List ℕ) {told : Sent} {q : SendRefusal} → told ≡ answerOf outcome → told ≡ Refused q → list ≡ listAfter outcome list
+  pub refused-done : (list : List ℕ) {told : Sent} {q : SendRefusal} → told ≡ answerOf outcome → told ≡ Refused q → list ≡ after (λ p. p .named) outcome list
   refused-done list d e = rw (refused-told d e) refl
 
   -- What acceptance tells, where so many servers are named.
@@ -155,7 +156,7 @@ module _ (count position m space : ℕ) where
 
   -- Servers named at the front of a list that has space for them are what the outcome leaves there.
   pub named-done : (list : List ℕ) {named : ℕ} {front : List ℕ} → space ≡ length list → Told named → front ≡ serversFrom count position (length (take named list))
-      → front ++ drop named list ≡ listAfter outcome list
+      → front ++ drop named list ≡ after (λ p. p .named) outcome list
   named-done list {named = named} {front = front} e told f =
       let names = serversFrom count position many in
       let size : length names ≡ named = length-serversFrom count position many ∙ sym (told .counted) in

@@ -10,7 +10,8 @@ use borrow.Author.Tests.{ltb-true, ltb-false}
 use lib.Dec.{ltb}
 use lib.ListN.{length, getD}
 use Rattle.sender.specs.Period.{following, serversFrom, positionAfter, namedCount, period}
-use Rattle.sender.specs.Outcome.{Outcome, accepted, refused, inRange, sending, answerOf, sentNumber, sentFigure, sentPosition}
+use Rattle.outcomes.specs.Outcome.{accepted, refused}
+use Rattle.sender.specs.Outcome.{SendOutcome, inRange, sending, answerOf, sentNumber, sentFigure, sentPosition}
 use Rattle.sender.specs.Promises.{InRange, Tells, AnsweredExactly, Kept, PeriodKept, run, ceilDiv, EachWithin}
 use Rattle.sender.specs.declared.SendRefusal.{SendRefusal}
 use Rattle.sender.proofs.Periods.{positionAfter-add, positionAfter-suc, positionAfter-below, positionAfter-once, reached, length-serversFrom, getD-serversFrom, mem-serversFrom}
@@ -19,18 +20,18 @@ use Rattle.sender.proofs.Outcomes.{inRange-true, inRange-is, sending-no
 -- ---- Answers
 
 module _ (count position m space : ℕ) where
-  abbrev outcome : Outcome
+  abbrev outcome : SendOutcome
   outcome = sending count position m space
 
   abbrev many : ℕ
   many = namedCount count m
 
   -- The outcome's number and figure, where it is known.
-  numbered : {o : Outcome} → outcome ≡ o → sentNumber (answerOf outcome) ≡ sentNumber (answerOf o)
-  numbered is = ap (λ (x : Outcome). sentNumber (answerOf x)) is
+  numbered : {o : SendOutcome} → outcome ≡ o → sentNumber (answerOf outcome) ≡ sentNumber (answerOf o)
+  numbered is = ap (λ (x : SendOutcome). sentNumber (answerOf x)) is
 
-  tells : {o : Outcome} → outcome ≡ o → Tells outcome (sentNumber (answerOf o)) (sentFigure (answerOf o))
-  tells is = (numbered is, ap (λ (x : Outcome). sentFigure (answerOf x)) is)
+  tells : {o : SendOutcome} → outcome ≡ o → Tells outcome (sentNumber (answerOf o)) (sentFigure (answerOf o))
+  tells is = (numbered is, ap (λ (x : SendOutcome). sentFigure (answerOf x)) is)
 
   -- What is in range is not out of range.
   inside : InRange count position → not (inRange count position) ≡ false

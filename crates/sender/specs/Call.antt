@@ -9,7 +9,8 @@ use lib.Dec.{leb}
 use lib.ListN.{length}
 use lib.Seq.{sets}
 use Rattle.words.specs.Bytes.{littleEndian, bytesOf, answerBytes}
-use Rattle.sender.specs.Outcome.{Outcome, accepted, refused, sending, answerOf, refusalNumber, refusalPlace}
+use Rattle.outcomes.specs.Outcome.{after}
+use Rattle.sender.specs.Outcome.{SendOutcome, sending, answerOf, refusalNumber, refusalPlace}
 use Rattle.sender.specs.declared.Sent.{Sent}
 use Rattle.sender.specs.declared.Sent.the-variants.{Accepted, Refused}
 
@@ -22,16 +23,11 @@ abbrev pub sentBytes : Sent → List ℕ
 sentBytes (Accepted named next) = answerBytes 0 named ++ littleEndian 8 next
 sentBytes (Refused refusal) = answerBytes (refusalNumber refusal) (refusalPlace refusal)
 
--- The bytes of the list after an outcome: the servers named stand at its front; bytes past them, and all where refused, are unchanged.
-abbrev pub listBytesAfter : Outcome → List ℕ → List ℕ
-listBytesAfter (accepted p) bytes = sets bytes 0 (bytesOf (p .named))
-listBytesAfter (refused refusal) bytes = bytes
-
 -- The call of Send that comes to an outcome: it returns 1, with the answer at the front of its buffer and the list filled; or 0, with
 -- nothing changed, where the answer's buffer is too short.
-pub record OutcomeCall (outcome : Outcome) (list answer : List ℕ) (r : ℕ) (list′ answer′ : List ℕ) : Type 0 where
+pub record OutcomeCall (outcome : SendOutcome) (list answer : List ℕ) (r : ℕ) (list′ answer′ : List ℕ) : Type 0 where
   pub returned : r ≡ cond (holdsSent answer) 1 0
-  pub list-after : list′ ≡ cond (holdsSent answer) (listBytesAfter outcome list) list
+  pub list-after : list′ ≡ cond (holdsSent answer) (after (λ p. bytesOf (p .named)) outcome list) list
   pub answer-after : answer′ ≡ cond (holdsSent answer) (sets answer 0 (sentBytes (answerOf outcome))) answer
 
 -- Send, called from C: the list holds a word for every four of its bytes.

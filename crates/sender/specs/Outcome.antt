@@ -1,10 +1,10 @@
 -- Send: what it comes to, as an answer and in the list lent.
-use mathlib.Core.Bool.{Bool, cond, not, _&&_}
-use mathlib.Core.List.{List}
+use mathlib.Core.Bool.{Bool, not, _&&_}
+use mathlib.Core.List.{List, [], _∷_}
 use Prim.Native.Nat.{ℕ}
 use lib.Dec.{eqb, leb, ltb}
 use lib.ListN.{length}
-use lib.Seq.{sets}
+use Rattle.outcomes.specs.Outcome.{Outcome, accepted, refused, Reason, unless, tooShort}
 use Rattle.sender.specs.Period.{Period, period, namedCount}
 use Rattle.sender.specs.declared.SendRefusal.{SendRefusal}
 use Rattle.sender.specs.declared.SendRefusal.the-variants.{NoMessages, PositionOutOfRange, ListTooShort}
@@ -16,34 +16,32 @@ abbrev pub mostServers : ℕ
 mostServers = 512
 
 -- What Send comes to: accepted with its period, or refused.
-pub data Outcome : Type 0 where
-  accepted : Period → Outcome
-  refused : SendRefusal → Outcome
+abbrev pub SendOutcome : Type 0
+SendOutcome = Outcome Period SendRefusal
 
 -- Whether the position is below the count, and the count from 1 to 512.
 abbrev pub inRange : (count position : ℕ) → Bool
 inRange count position = ltb position count && (leb 1 count && leb count mostServers)
 
--- Send, to a list of so many words. Refused in order: m is 0 (27); a position that is no server's, or a count out of its range
--- (28); the list too short (12).
-unfoldable pub sending : (count position m space : ℕ) → Outcome
-sending count position m space =
-    cond (eqb m 0) (refused NoMessages)
-    (cond (not (inRange count position)) (refused PositionOutOfRange)
-    (cond (ltb space (namedCount count m)) (refused (ListTooShort (namedCount count m)))
-    (accepted (period count position m))))
+-- The reasons to refuse, in their order: m is 0 (27); a position that is no server's, or a count out of its range (28); the list
+-- too short (12).
+abbrev pub reasons : (count position m space : ℕ) → List (Reason SendRefusal)
+reasons count position m space =
+    record { holds = eqb m 0; refusal = NoMessages }
+    ∷ record { holds = not (inRange count position); refusal = PositionOutOfRange }
+    ∷ tooShort ListTooShort space (namedCount count m)
+    ∷ []
+
+-- Send, to a list of so many words.
+unfoldable pub sending : (count position m space : ℕ) → SendOutcome
+sending count position m space = unless (reasons count position m space) (period count position m)
 
 -- ---- What the caller sees
 
 -- The answer to an outcome: how many servers were named and the new position, or the refusal.
-abbrev pub answerOf : Outcome → Sent
+abbrev pub answerOf : SendOutcome → Sent
 answerOf (accepted p) = Accepted (length (p .named)) (p .next)
 answerOf (refused refusal) = Refused refusal
-
--- The list after an outcome: the servers named stand at its front; entries past them, and all where refused, are unchanged.
-abbrev pub listAfter : Outcome → List ℕ → List ℕ
-listAfter (accepted p) list = sets list 0 (p .named)
-listAfter (refused refusal) list = list
 
 -- ---- Numbers and places
 

@@ -6,7 +6,8 @@ use mathlib.Core.Logic.{_↔_}
 use Prim.Native.Nat.{ℕ, zero, suc, _+_, _-_, _/_, _≤_, _<_}
 use lib.ListN.{length, getD}
 use Rattle.sender.specs.Period.{following, positionAfter, namedCount, Period, period}
-use Rattle.sender.specs.Outcome.{mostServers, Outcome, accepted, sending, answerOf, sentNumber, sentFigure, sentPosition}
+use Rattle.outcomes.specs.Outcome.{accepted}
+use Rattle.sender.specs.Outcome.{mostServers, SendOutcome, sending, answerOf, sentNumber, sentFigure, sentPosition}
 
 -- ---- Answers
 
@@ -17,7 +18,7 @@ pub record InRange (count position : ℕ) : Type 0 where
   pub most : count ≤ mostServers
 
 -- An outcome's answer has this number and this figure.
-abbrev pub Tells : Outcome → ℕ → ℕ → Type 0
+abbrev pub Tells : SendOutcome → ℕ → ℕ → Type 0
 Tells outcome number figure = (sentNumber (answerOf outcome) ≡ number) × (sentFigure (answerOf outcome) ≡ figure)
 
 -- Each answer comes exactly where it is due: 27 where m is 0; else 28 where position or count is out of range; else 12 where the list

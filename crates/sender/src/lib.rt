@@ -4,8 +4,9 @@ ghost use mathlib.Core.Bool.{not};
 ghost use Prim.Native.Nat.{_≤_, _<_, min};
 ghost use lib.ListN.{length};
 ghost use lib.Seq.{sets};
+ghost use Rattle.outcomes.specs.Outcome.{after};
 ghost use Rattle.sender.specs.Period.{following, serversFrom, positionAfter};
-ghost use Rattle.sender.specs.Outcome.{mostServers, inRange, sending, answerOf, listAfter, refusalNumber, refusalPlace, sentNumber, sentFigure};
+ghost use Rattle.sender.specs.Outcome.{mostServers, inRange, sending, answerOf, refusalNumber, refusalPlace, sentNumber, sentFigure};
 ghost use Rattle.sender.specs.Call.{sentBytes, SendCall};
 
 // A room has at most so many servers.
@@ -78,7 +79,7 @@ impl Sent {
 // unchanged.
 pub fn send(count: u64, position: u64, m: u64, list: &mut [u32]) -> Sent
     ensures { λ r. ⌜ r ≡ answerOf (sending count position m (length (now (list .entry)))) ⌝ }
-    ensures { λ _. ⌜ now (list .exit) ≡ listAfter (sending count position m (length (now (list .entry)))) (now (list .entry)) ⌝ }
+    ensures { λ _. ⌜ now (list .exit) ≡ after (λ p. p .named) (sending count position m (length (now (list .entry)))) (now (list .entry)) ⌝ }
 {
     let sent = answer_for(count, position, m, list.len());
     let Sent::Accepted(many, _) = sent else {

@@ -8,7 +8,6 @@ use lib.ListN.{length, getD, length-map}
 use lib.Dec.{leb}
 use Rattle.numbers.specs.Sheet.{bytesOf}
 use Rattle.figures.specs.Figures.{total}
-use Rattle.rooms.specs.Part.{good}
 use Rattle.rooms.specs.Table.{Node, Room, mostNodes, formOf, table}
 use Rattle.rooms.specs.Limits.{lows, nodeAt, checked}
 use Rattle.rooms.specs.Outcome.{writing}

@@ -52,7 +52,7 @@ WrittenIsRead = (entries : List Entry) (text : List ℕ) → Written entries tex
 -- ---- Answers
 
 -- An outcome's answer has this number and this figure.
-abbrev pub Tells : Outcome → ℕ → ℕ → Type 0
+abbrev pub Tells : ScheduleOutcome → ℕ → ℕ → Type 0
 Tells outcome number figure = (answerNumber (answerOf outcome) ≡ number) × (answerFigure (answerOf outcome) ≡ figure)
 
 -- All of the text is lines that pass, at least one, whose table has so many words.

@@ -80,8 +80,8 @@ module _ (count position m space : ℕ) where
         ((t .0, t .1 ∙ length-serversFrom count position many ∙ h .2), positioned is ∙ ap (positionAfter count position) (h .2) ∙ h .4),
   )
     where
-      positioned : {o : Outcome} → outcome ≡ o → sentPosition (answerOf outcome) ≡ sentPosition (answerOf o)
-      positioned is = ap (λ (x : Outcome). sentPosition (answerOf x)) is
+      positioned : {o : SendOutcome} → outcome ≡ o → sentPosition (answerOf outcome) ≡ sentPosition (answerOf o)
+      positioned is = ap (λ (x : SendOutcome). sentPosition (answerOf x)) is
 
       go : Tells outcome 0 named × (sentPosition (answerOf outcome) ≡ next) → Reason count position m space
           → (1 ≤ m) × InRange count position × (many ≡ named) × (named ≤ space) × (positionAfter count position named ≡ next)

@@ -1,5 +1,5 @@
 -- The print of each outcome is the one that the definition gives.
-use mathlib.Core.Path.{_≡_, refl, sym, ap, _∙_}
+use mathlib.Core.Path.{_≡_, refl, sym, ap, subst, _∙_}
 use mathlib.Core.Bool.{Bool, true, false, cond}
 use mathlib.Core.List.{List}
 use Prim.Native.Nat.{ℕ, _≤_}
@@ -50,7 +50,8 @@ module _ (table demands grants caps headroom held : List ℕ) (most : lent grant
   pub table-refused : {a : Planned} {q : PlanRefusal} → a ≡ Refused q → a ≡ answerOf outcome
       → tableText table demands ≡ refusedLine (planRefusalNumber q) (planRefusalPlace q)
   unfolding tableText plan
-  table-refused {q = q} told e = go (checked table 0) (rw most at (sym told ∙ e))
+  table-refused {q = q} told e =
+      go (checked table 0) (subst (λ (lengths : Lengths). Refused q ≡ answerOf (plan table demands lengths)) most (sym told ∙ e))
     where
       room : (r : Room) (o : PlanOutcome) → Refused q ≡ answerOf o
           → roomText r o ≡ refusedLine (planRefusalNumber q) (planRefusalPlace q)

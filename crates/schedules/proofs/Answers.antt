@@ -122,9 +122,9 @@ pub record Stopped (text : List ℕ) (place at : ℕ) (entries : List Entry) (q 
 stopped-is : (most : ℕ) (text : List ℕ) (place at : ℕ) (q : Refusal) → linesFrom most text place at .ending ≡ stopped q
     → Stopped text place at (linesFrom most text place at .entries) q
 unfolding linesFrom
-stopped zero text place at q e = absurd (suc-ne-zero 0 (cc))
-stopped (suc most) text place at q e =
-    go (leb (length text) at) refl (judged place (line text at)) refl e (λ next f. stopped most text (suc place) next q f)
+stopped-is zero text place at q e = absurd (suc-ne-zero 0 (cc))
+stopped-is (suc most) text place at q e =
+    go (leb (length text) at) refl (judged place (line text at)) refl e (λ next f. stopped-is most text (suc place) next q f)
   where
     go : (t : Bool) → leb (length text) at ≡ t → (j : Judgement) → judged place (line text at) ≡ j
         → (cond t (record { entries = []; ending = whole }) (onto j (λ next. linesFrom most text (suc place) next))) .ending ≡ stopped q

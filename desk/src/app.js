@@ -20,10 +20,11 @@ import { tellText, tellDemands, whyCord, watts, counted } from './words.js';
 const $ = id => document.getElementById(id);
 const table = Object.fromEntries(REFUSAL_TABLE.map(each => [each.number, each]));
 
-/// All that the page knows. `result` is of the text as it stands, `good` of the last text that was accepted,
-/// `figures` of the last plan that was.
+/// All that the page knows. `result` is of the text as it stands and `accepted` of the last text that was
+/// accepted; `good` and `figures` are the hut and the plan that are shown, the last that Plan accepted.
 const desk = {
-  table, calls: null, demands: new Map(), result: null, good: null, figures: null, selected: null, tab: 'servers',
+  table, calls: null, demands: new Map(), result: null, accepted: null, good: null, figures: null, selected: null,
+  tab: 'servers',
 };
 const view = { folded: new Set(), search: '', onlyHeld: false };
 
@@ -121,18 +122,21 @@ function keep() {
     : 'This browser does not keep what you type: save the text before you leave.';
 }
 
+/// Whether the picture shows the text as it stands.
+const upToDate = () => desk.good !== null && desk.result.hut === desk.good.hut && !desk.refusedDemands;
+
 function showStale() {
-  const stale = !desk.result.sheet;
-  $('stale').hidden = !stale || !desk.good;
-  $('stale').textContent = 'The picture shows the text as it was when it was last accepted.';
-  $('picture').classList.toggle('old', stale);
+  $('stale').hidden = !desk.good || upToDate();
+  $('stale').textContent = desk.result.sheet ? 'The picture shows the last plan. The demands are refused now.'
+    : 'The picture shows the text as it was when it was last accepted.';
+  $('picture').classList.toggle('old', !upToDate());
 }
 
 /// A text that was accepted: its hut is shown and planned.
 function accept(result) {
   tellAccepted(result);
-  const first = !desk.good;
-  desk.good = { ...result, cords: cordsOf(result.hut), fixed: fixedFigures(result.hut, desk.calls) };
+  const first = !desk.accepted;
+  desk.accepted = { ...result, cords: cordsOf(result.hut), fixed: fixedFigures(result.hut, desk.calls) };
   replan(first);
 }
 
@@ -142,16 +146,17 @@ const demandOf = server => desk.demands.get(server.name) ?? server.greatest;
 
 /// Plans the hut with the demands as they stand, and shows the plan.
 function replan(fresh = false) {
-  const { hut, words, fixed, cords } = desk.good;
-  const demands = hut.servers.map(demandOf);
-  const figures = planFigures(hut, words, demands, fixed, desk.calls);
+  const { hut, words, fixed } = desk.accepted;
+  const figures = planFigures(hut, words, hut.servers.map(demandOf), fixed, desk.calls);
   desk.refusedDemands = figures.number === 0 ? null : figures;
-  if (figures.number === 0) desk.figures = figures;
-  if (desk.figures?.grants.length === cords.length) {
-    picture.show(sceneOf(hut, cords, desk.figures));
+  if (!desk.refusedDemands) {
+    desk.good = desk.accepted;
+    desk.figures = figures;
+    picture.show(sceneOf(hut, desk.good.cords, figures));
     totals();
     why();
   }
+  showStale();
   showTool(fresh);
 }
 
@@ -211,7 +216,7 @@ function why() {
 
 /// The span in the text of what is chosen in the picture.
 function lineOf({ kind, place }) {
-  if (!desk.result?.sheet) return null;
+  if (!upToDate()) return null;
   const { hut, cords } = desk.good;
   if (kind === 'node') return hut.nodes[place].at.line;
   return hut.servers[cords[place].server].cords[cords[place].cord].at.line;
@@ -235,14 +240,14 @@ function select(what) {
 
 /// Lights a span's line in the text, as of a word that a tool's refusal means.
 function mark(span) {
-  if (!span || !desk.result?.sheet) return;
+  if (!span || !upToDate()) return;
   editor.refresh([span]);
   editor.reveal(span.line);
 }
 
 /// The row of the picture that the caret's line describes.
 function caretMoved() {
-  if (!desk.result?.sheet) return;
+  if (!upToDate()) return;
   const line = editor.caretLine;
   const { hut, cords } = desk.good;
   const node = hut.nodes.findIndex(each => each.at.line.line === line);
@@ -299,12 +304,13 @@ function showTool(fresh) {
   const tool = $('tool');
   tool.setAttribute('role', 'tabpanel');
   tool.setAttribute('aria-labelledby', `tab-${desk.tab}`);
-  if (!desk.good || !desk.figures) tool.innerHTML = '<p class="empty">Here the hut’s tables appear once its text is accepted.</p>';
+  const ready = desk.tab === 'servers' ? desk.accepted : desk.good;
+  if (!ready) tool.innerHTML = '<p class="empty">Here the hut’s tables appear once it is accepted.</p>';
   else if (fresh || !chosenTool.keeps) chosenTool.show(tool, desk, fresh);
 }
 
 function serversTool(tool, _, fresh) {
-  const { hut } = desk.good;
+  const { hut } = desk.accepted;
   if (fresh || !renewServers(tool, desk.listed, hut)) tool.innerHTML = serversHtml(hut);
   desk.listed = hut;
   const refused = desk.refusedDemands;
@@ -319,14 +325,14 @@ function cordsTool(tool) {
 }
 
 function setDemand(place, value) {
-  desk.demands.set(desk.good.hut.servers[place].name, value);
+  desk.demands.set(desk.accepted.hut.servers[place].name, value);
   replan();
   keep();
 }
 
 /// All servers ask for the same part of the way from least to greatest.
 function setAll(part) {
-  for (const { name, least, greatest } of desk.good.hut.servers) {
+  for (const { name, least, greatest } of desk.accepted.hut.servers) {
     desk.demands.set(name, Math.round(least + part * (greatest - least)));
   }
   replan();
@@ -335,7 +341,7 @@ function setAll(part) {
 
 /// Pasted demands are judged by Plan before they are taken.
 function takePasted(form) {
-  const { hut, words, cords } = desk.good;
+  const { hut, words, cords } = desk.accepted;
   const demands = demandsOf(form.querySelector('textarea').value);
   const answer = desk.calls.plan(words, demands, cords.length);
   if (answer.number !== 0) {

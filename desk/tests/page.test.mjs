@@ -93,6 +93,20 @@ test('the plan shows what is held, and its print is that of hutplan', async () =
   assert.match(await page.text('#totals'), /◆ 2 cords/);
 });
 
+test('refused demands leave the last plan, and say so, also where the text goes on', async () => {
+  await page.clear('[data-ask="1"]');
+  await page.type('[data-ask="1"]', '99999999');
+  assert.match(await page.text('#stale'), /The demands are refused now/);
+  await page.click('#tab-cords');
+  await paste(`${ROOM_H}server more rank 1 from 0 to 10 W\n  cord 100% on left\n`);
+  assert.match(await verdict(), /^Accepted\n2 breakers, 3 servers/);
+  assert.equal(await page.run('return document.querySelectorAll(".cords .tr").length'), 4);
+  await page.click('#tab-servers');
+  await page.click('[data-all="1"]');
+  assert.equal(await page.run('return document.querySelectorAll("#picture [data-row]").length'), 6);
+  await paste(ROOM_H);
+});
+
 test('a slider changes the plan', async () => {
   await page.click('[data-slide="0"]');
   const [slide, ask] = await page.run('return ["slide", "ask"].map(kind => Number(document.querySelector(`[data-${kind}="0"]`).value))');

@@ -91,7 +91,7 @@ const across = (first, last) => ({ ...first.span, to: last.span.to });
 
 function versionLine(line, hut) {
   const version = line.whole('the version of the sheet');
-  if (hut.version) throw new Unclear(version.span, 'The version stands once.');
+  if (hut.version !== undefined) throw new Unclear(version.span, 'The version stands once.');
   hut.version = version.value;
   hut.at.version = version.span;
 }

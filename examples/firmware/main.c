@@ -186,6 +186,7 @@ int main(void)
         print_number(period);
         print(": ");
         words = read_sheet();
+        /* Where something is refused, the caps stay as they are until the next period. */
         if (words > 0 && plan(words) && step())
             send();
         wait_for_period();

@@ -6,6 +6,7 @@ import { rowsOf } from './rows.js';
 const SPARE_ROWS = 6;
 const LEAST_WIDTH = 300;
 const PAGE_ROWS = 10;
+const PAPER_ROWS = 8;
 const same = (row, chosen) => chosen && row.kind === chosen.kind && row.place === chosen.place;
 
 /// Everything that drawing a row needs.
@@ -20,16 +21,24 @@ function widthsOf(rows, { hut, cords, figures }) {
   return [labels, figuresWidth(Math.max(...figures.limits))];
 }
 
-/// The drawing of all rows, for paper.
+/// A drawing of some rows, for paper.
+function paperDrawing(rows, geometry, scene) {
+  // The rows of the page have the same ids.
+  const lines = rows.map((row, index) => rowSvg(row, index, geometry, scene, false).replace(/ id="row-\d+"/, ''));
+  return `<svg class="drawing" xmlns="http://www.w3.org/2000/svg"
+    viewBox="0 0 ${geometry.width} ${rows.length * geometry.row}">${patterns('hatch-on-paper')}${lines.join('')}</svg>`;
+}
+
+/// The whole picture for paper, in drawings that a page can hold, so that no row is cut in two.
 export function wholePicture(scene, width) {
   const view = { folded: new Set(), search: '', onlyHeld: false, held: scene.figures.held };
   const rows = rowsOf(scene.hut, scene.cords, view);
   const geometry = geometryOf(width, ...widthsOf(rows, scene));
-  const height = rows.length * geometry.row;
-  // The rows of the page have the same ids.
-  const lines = rows.map((row, index) => rowSvg(row, index, geometry, scene, false).replace(/ id="row-\d+"/, ''));
-  return `<svg class="drawing" xmlns="http://www.w3.org/2000/svg" viewBox="0 0 ${width} ${height}">
-    ${patterns('hatch-on-paper')}${lines.join('')}</svg>`;
+  const drawings = [];
+  for (let first = 0; first < rows.length; first += PAPER_ROWS) {
+    drawings.push(paperDrawing(rows.slice(first, first + PAPER_ROWS), geometry, scene));
+  }
+  return drawings.join('');
 }
 
 /// The pane over its element. `view` says what is folded and searched; `chosen` is told of the row that a

@@ -113,10 +113,18 @@ export function cordsHtml(hut, cords, figures) {
 
 // ---- Paper
 
-const paperTable = (columns, lines) => {
-  const cells = (tag, list) => `<tr>${list.map(each => `<${tag}>${each}</${tag}>`).join('')}</tr>`;
-  return `<table><thead>${cells('th', columns)}</thead><tbody>${lines.map(line => cells('td', line)).join('')}</tbody></table>`;
-};
+/// A table of columns [kind, name], kind n for figures.
+function paperTable(columns, lines) {
+  const line = (tag, list) => {
+    const cells = list.map((each, place) => `<${tag} class="${columns[place][0]}">${each}</${tag}>`);
+    return `<tr>${cells.join('')}</tr>`;
+  };
+  const head = line('th', columns.map(([, name]) => name));
+  return `<table><thead>${head}</thead><tbody>${lines.map(list => line('td', list)).join('')}</tbody></table>`;
+}
+
+const PAPER_SERVERS = [['', 'Server'], ['n', 'Rank'], ['n', 'Range, W'], ['n', 'Demand, W'], ['n', 'Cap, W']];
+const PAPER_CORDS = [['', 'Cord'], ['', 'Breaker'], ['n', 'Share'], ['n', 'Grant, W'], ['n', 'Headroom, W'], ['', 'Held by']];
 
 /// The tables on paper.
 export function doorTables(hut, cords, figures) {
@@ -129,6 +137,5 @@ export function doorTables(hut, cords, figures) {
     percentText(cord.share, hut.version), `<b>${figure(figures.grants[place])}</b>`, figure(figures.headroom[place]),
     heldNote(hut, figures, place),
   ]);
-  return paperTable(['Server', 'Rank', 'Range, W', 'Demand, W', 'Cap, W'], servers)
-    + paperTable(['Cord', 'Breaker', 'Share', 'Grant, W', 'Headroom, W', 'Held by'], lines);
+  return paperTable(PAPER_SERVERS, servers) + paperTable(PAPER_CORDS, lines);
 }

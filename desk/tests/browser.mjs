@@ -28,7 +28,7 @@ async function startDriver() {
   const port = await freePort();
   const process = spawn('chromedriver', [`--port=${port}`], { stdio: 'ignore' });
   const base = `http://127.0.0.1:${port}`;
-  for (let trial = 0; trial < 100; trial++) {
+  for (let trial = 0; trial < 300; trial++) {
     const status = await fetch(`${base}/status`).catch(() => null);
     if (status?.ok) return { process, base };
     await pause(100);
@@ -94,9 +94,9 @@ export class Browser {
     await this.call('POST', '/actions', { actions: [{ type: 'key', id: 'keyboard', actions }] });
   }
 
-  /// Waits for something that comes a moment later.
+  /// Waits for something that comes a moment later; on a busy machine, a longer one.
   async until(test, what) {
-    for (let trial = 0; trial < 100; trial++) {
+    for (let trial = 0; trial < 600; trial++) {
       const value = await test();
       if (value) return value;
       await pause(50);

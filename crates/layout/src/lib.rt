@@ -30,7 +30,8 @@ const MOST_SERVERS: usize = 512;
 // What each node's limit has over all lows beneath it, in the place of the limit.
 fn spare_limits(beneath: &[u64], limits: &mut [u32])
     requires { ⌜ (length (now beneath) ≡ length (now limits)) × ((n : ℕ) → n < length (now limits) → at (now beneath) n ≤ at (now limits) n) ⌝ }
-    ensures { λ _. ⌜ ((n : ℕ) → n < length (now (limits .entry)) → at (now (limits .exit)) n + at (now (beneath .entry)) n ≡ at (now (limits .entry)) n) ⌝ }
+    ensures { λ _. ⌜ ((n : ℕ) → n < length (now (limits .entry))
+        → at (now (limits .exit)) n + at (now (beneath .entry)) n ≡ at (now (limits .entry)) n) ⌝ }
 {
     for n in 0..limits.len() {
         limits[n] = narrow(wide(limits[n]) - beneath[n]);
@@ -40,8 +41,10 @@ fn spare_limits(beneath: &[u64], limits: &mut [u32])
 // The parents of a good table's nodes, and what each limit has over the lows beneath it, which `beneath` has.
 pub fn load_nodes(table: &[u32], beneath: &[u64], parents: &mut [u16], spare: &mut [u32])
     requires { ⌜ Good (checked (now table) 0) ⌝ }
-    requires { ⌜ NodesFit (now table) (length (now beneath)) × NodesFit (now table) (length (now parents)) × NodesFit (now table) (length (now spare)) × HasLowsBeneath (now table) (now beneath) ⌝ }
-    ensures { λ _. ⌜ OfRoom (now (table .entry)) (λ r. (now (parents .exit) ≡ parentsOf r) × ((n : ℕ) → n < length (r .nodes) → at (now (spare .exit)) n + lowsBeneath r n ≡ at (limitsOf r) n)) ⌝ }
+    requires { ⌜ NodesFit (now table) (length (now beneath)) × NodesFit (now table) (length (now parents)) × NodesFit (now table) (length (now spare))
+        × HasLowsBeneath (now table) (now beneath) ⌝ }
+    ensures { λ _. ⌜ OfRoom (now (table .entry)) (λ r. (now (parents .exit) ≡ parentsOf r)
+        × ((n : ℕ) → n < length (r .nodes) → at (now (spare .exit)) n + lowsBeneath r n ≡ at (limitsOf r) n)) ⌝ }
 {
     lay_out_nodes(table, parents, spare);
     spare_limits(beneath, spare);
@@ -78,8 +81,10 @@ fn load_figures(
     scale: u32,
 )
     requires { ⌜ CordsLoadable scale (now servers) (now cords) (now needs) ⌝ }
-    requires { ⌜ (length (now nodes) ≡ length (now cords)) × (length (now lows) ≡ length (now cords)) × (length (now wants) ≡ length (now cords)) × (length (now ceilings) ≡ length (now cords)) ⌝ }
-    ensures { λ _. ⌜ CordsLoaded scale (now (servers .entry)) (now (cords .entry)) (now (needs .entry)) (now (nodes .exit)) (now (lows .exit)) (now (wants .exit)) (now (ceilings .exit)) ⌝ }
+    requires { ⌜ (length (now nodes) ≡ length (now cords)) × (length (now lows) ≡ length (now cords)) × (length (now wants) ≡ length (now cords))
+        × (length (now ceilings) ≡ length (now cords)) ⌝ }
+    ensures { λ _. ⌜ CordsLoaded scale (now (servers .entry)) (now (cords .entry)) (now (needs .entry))
+        (now (nodes .exit)) (now (lows .exit)) (now (wants .exit)) (now (ceilings .exit)) ⌝ }
 {
     for c in 0..cords.len() {
         let cord = cords[c];
@@ -106,7 +111,8 @@ fn load_rows(
 )
     requires { ⌜ CordsLent (now table) (now demands) (now cords) (now nodes) (now lows) (now wants) (now ceilings) (now needs) ⌝ }
     requires { ⌜ ServersFit (now table) (length (now servers)) ⌝ }
-    ensures { λ _. ⌜ OfRoom (now (table .entry)) (λ r. CordsLaidOut r (now (demands .entry)) (now (cords .exit)) (now (nodes .exit)) (now (lows .exit)) (now (wants .exit)) (now (ceilings .exit)) (now (needs .exit))) ⌝ }
+    ensures { λ _. ⌜ OfRoom (now (table .entry)) (λ r. CordsLaidOut r (now (demands .entry)) (now (cords .exit))
+        (now (nodes .exit)) (now (lows .exit)) (now (wants .exit)) (now (ceilings .exit)) (now (needs .exit))) ⌝ }
 {
     lay_out_servers(table, servers, cords);
     load_needs(servers, demands, needs);
@@ -135,7 +141,8 @@ pub fn load_cords(
     needs: &mut [u32],
 )
     requires { ⌜ CordsLent (now table) (now demands) (now cords) (now nodes) (now lows) (now wants) (now ceilings) (now needs) ⌝ }
-    ensures { λ _. ⌜ OfRoom (now (table .entry)) (λ r. CordsLaidOut r (now (demands .entry)) (now (cords .exit)) (now (nodes .exit)) (now (lows .exit)) (now (wants .exit)) (now (ceilings .exit)) (now (needs .exit))) ⌝ }
+    ensures { λ _. ⌜ OfRoom (now (table .entry)) (λ r. CordsLaidOut r (now (demands .entry)) (now (cords .exit))
+        (now (nodes .exit)) (now (lows .exit)) (now (wants .exit)) (now (ceilings .exit)) (now (needs .exit))) ⌝ }
 {
     let mut servers = [[0u32; 4]; MOST_SERVERS];
     load_rows(

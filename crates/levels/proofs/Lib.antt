@@ -2,4 +2,6 @@
 pub mod Cells
 pub mod Fronts
 pub mod Ordering
+pub mod Quarters
+pub mod Begun
 pub mod Active

@@ -5,7 +5,7 @@ use mathlib.Core.Bool.{Bool}
 use mathlib.Core.List.{List}
 use mathlib.Core.Logic.{_⊎_, inl, inr}
 use Prim.Native.Nat.{ℕ, zero, suc, _+_, _-_, _*_, _^_, _≤_, _<_}
-use native.Mathlib.Nat.{eq-or-lt-of-le}
+use native.Mathlib.Nat.{eq-or-lt-of-le, le-of-eq}
 use native.Mathlib.Numerals.{add-one}
 use native.Mathlib.Omega.{arith}
 use lib.ListN.{length, getD, set, take, replicate, length-set}
@@ -110,7 +110,7 @@ module _ {parents raised₀ left₀ : List ℕ} {m : ℕ} {raised left : List �
         → over ≡ at left m - at raised m → parent ≡ at parents m → raised′ ≡ credited parent (at raised m) raised
         → RisesTaken parents raised₀ left₀ m raised′ (set left m over)
     taken-turn raised-size left-size {over = over} over-is parent-is is = record {
-      summed = summing-at rises raised-size (inv .summed) parent-is is;
+      summed = summing-at rises (le-of-eq (sym raised-size)) (inv .summed) parent-is is;
       size = length-set left m over ∙ inv .size;
       taken = λ i h l. go i l (eq-or-lt-of-le h);
       rest = λ i l. getD-set-other left m i over 0 (λ e. omega arith) ∙ inv .rest i (omega arith);

@@ -1,5 +1,5 @@
 -- The loop over the ranks: what each pass of a rank asks, and what they leave together.
-use mathlib.Core.Path.{_≡_, refl, sym, _∙_, subst}
+use mathlib.Core.Path.{_≡_, refl, sym, ap, _∙_, subst}
 use mathlib.Core.Bool.{Bool, true, false}
 use mathlib.Core.List.{List, []}
 use Prim.Native.Nat.{ℕ, suc, _+_, _-_, _*_, _/_, _≤_, _<_}
@@ -12,15 +12,14 @@ use Rattle.figures.specs.Sums.{on, sum}
 use Rattle.figures.proofs.Sums.{sum-cong, sum-zero}
 use Rattle.rooms.specs.Table.{mostNodes, mostCords, mostWatts, highestRank}
 use Rattle.rooms.specs.Credits.{sumBeneath}
-use Rattle.rooms.proofs.Trees.{kids, down}
-use Rattle.rooms.proofs.Credits.{sumBeneath-step}
 use Rattle.figures.specs.Figures.{at, cell}
 use Rattle.deals.specs.Metrics.{dealFrom}
-use Rattle.levels.specs.Levels.{Absent, ActiveNodes, CordsActive, CordsOf, LevelLists, entries, fromColumn, toColumn, countColumn}
+use Rattle.levels.specs.Levels.{Absent, Present, ActiveNodes, CordsActive, CordsOf, LevelLists, entries, fromColumn, toColumn, countColumn}
 use Rattle.levels.proofs.Ordering.{entries-length}
-use Rattle.ranks.specs.Passes.{LevelCords, overListed, cordWeight, weightOf, overChildren, Gathered, NodesDealt, CordsDealt}
-use Rattle.ranks.proofs.NodeSums.{kids-none}
-use Rattle.deal_by_rank.specs.Ranks.{NodeLists, CordLists, DealLists, DealGiven, SomeDeal, BlankRows, Uncut, DealMade}
+use Rattle.ranks.specs.Passes.{LevelCords, overListed, cordWeight, weightOf, overChildren, FullRows, WeightsListed, Weighed, Requested, NodesDealt, CordsDealt}
+use Rattle.ranks.proofs.Requesting.{beneath-none}
+use Rattle.deal_by_rank.proofs.Gathered.{requestWeight, Gathered, gathered, weight-listed, children-cong, dealt-again}
+use Rattle.deal_by_rank.specs.Ranks.{NodeLists, CordLists, DealLists, DealGiven, SomeDeal, Uncut, DealMade}
 use Rattle.deal_by_rank.proofs.Ranks.{State, state-start, state-end, state-skip, sums-most, gather-asks, nodes-ask, cords-ask, state-turn}
 
 -- The length of the lists with a rank's figure of each node.
@@ -28,6 +27,11 @@ abbrev pub figuresLength : ℕ
 figuresLength = 520
 
 -- ---- The loop
+
+-- At each level the rows of nodes that are not active have 0.
+pub record BlankRows (nodeCount : ℕ) (levels actives requests : List (List ℕ)) : Type 0 where
+  pub full : FullRows requests
+  pub blank : (n j : ℕ) → n < nodeCount → j < highestRank → Absent (getD actives j []) (cell levels j countColumn) n → cell requests n j ≡ 0
 
 -- Before the ranks below `above`.
 pub record RankLoop (parents : List ℕ) (rows : List (List ℕ)) (order : List ℕ) (actives : List (List ℕ)) (nodes starts wants left₀ : List ℕ) (above : ℕ) (left cuts : List ℕ)
@@ -70,7 +74,7 @@ module _ {parents : List ℕ} {rows : List (List ℕ)} {order : List ℕ} {activ
       (inv : RankLoop parents rows order actives nodes starts wants left₀ above left cuts requests grants bases₀ wholes₀ amounts₀ before₀ dealt₀) where
     -- After the last rank.
     pub loop-end : above ≤ 0 → (limits levels lows : List ℕ) → DealGiven parents rows order actives nodes starts wants left₀ limits levels lows
-        → DealMade (dealFrom parents limits nodes levels lows starts wants) requests left cuts grants
+        → DealMade (dealFrom parents limits nodes levels lows starts wants) left cuts grants
     loop-end h limits levels lows given =
         let z : above ≡ 0 = omega arith in
         state-end parents limits nodes levels lows starts wants (given .lists) (inv .grants-size)
@@ -145,7 +149,7 @@ module _ {parents : List ℕ} {rows : List (List ℕ)} {order : List ℕ} {activ
         cord-within i h = omega (arith, of .within i h, cs .levels-size)
 
         -- What `sum_cords` and `deal_cords` ask of the cords.
-        level-cords : {size : ℕ} → size ≡ length parents → LevelCords size listed nodes starts wants
+        level-cords : {size : ℕ} → length parents ≤ size → LevelCords size listed nodes starts wants
         level-cords {size} e = record {
           few = omega (arith, entries-length order from to part-end, part-end, by-level .ordered .size, cs .levels-size, cs .few);
           starts-size = cs .starts-size;
@@ -158,28 +162,29 @@ module _ {parents : List ℕ} {rows : List (List ℕ)} {order : List ℕ} {activ
           most = λ i h. cs .most (at listed i) (cord-within i h);
         }
 
-        pub sum-cords-asks : {size size-w : ℕ} → size ≡ length parents → size-w ≡ length parents → LevelCords size listed nodes starts wants × (size-w ≡ size)
-        sum-cords-asks e ew = (level-cords e, ew ∙ sym e)
+        -- A node has its place in each list of figures.
+        pub enough : {size : ℕ} → size ≡ figuresLength → length parents ≤ size
+        enough e = omega (arith, ns .few)
+
+        pub sum-cords-asks : LevelCords (length parents) listed nodes starts wants × ((length parents ≤ length bases₀) × (length parents ≤ length wholes₀))
+        sum-cords-asks = (level-cords (le-refl (length parents)), (enough (inv .bases-size), enough (inv .wholes-size)))
 
         -- What it leaves.
         pub record Summed (bases wholes : List ℕ) : Type 0 where
-          pub bases-size : length bases ≡ length parents
-          pub wholes-size : length wholes ≡ length parents
+          pub bases-size : length bases ≡ figuresLength
+          pub wholes-size : length wholes ≡ figuresLength
           pub on-starts : (n : ℕ) → n < length parents → at bases n ≡ overListed listed nodes (at starts) n
           pub on-weights : (n : ℕ) → n < length parents → at wholes n ≡ overListed listed nodes (cordWeight starts wants) n
 
-        pub summed : {size : ℕ} {b w : List ℕ} → size ≡ length parents → length b ≡ length parents → length w ≡ length parents
-            → ((n : ℕ) → n < size → at b n ≡ overListed listed nodes (at starts) n)
-            → ((n : ℕ) → n < size → at w n ≡ overListed listed nodes (cordWeight starts wants) n) → Summed b w
-        summed e sb sw on-starts on-weights = record {
-          bases-size = sb;
-          wholes-size = sw;
-          on-starts = λ n l. on-starts n (omega arith);
-          on-weights = λ n l. on-weights n (omega arith);
+        pub summed : {b w : List ℕ} → length b ≡ length bases₀ → length w ≡ length wholes₀
+            → ((n : ℕ) → n < length parents → at b n ≡ overListed listed nodes (at starts) n)
+            → ((n : ℕ) → n < length parents → at w n ≡ overListed listed nodes (cordWeight starts wants) n) → Summed b w
+        summed sb sw on-starts on-weights = record {
+          bases-size = sb ∙ inv .bases-size;
+          wholes-size = sw ∙ inv .wholes-size;
+          on-starts = on-starts;
+          on-weights = on-weights;
         }
-
-        pub summed-again : {b w : List ℕ} → Summed b w → (b₁ w₁ : List ℕ) → b₁ ≡ b → w₁ ≡ w → Summed b₁ w₁
-        summed-again sums b₁ w₁ eb ew = rw (eb, ew) sums
 
         module _ {b w : List ℕ} (sums : Summed b w) where
           -- No listed cord hangs on a node that is not active.
@@ -191,131 +196,139 @@ module _ {parents : List ℕ} {rows : List (List ℕ)} {order : List ℕ} {activ
                   absurd (cords-active (some-deal .limits) (some-deal .levels) (some-deal .lows) (some-deal .given) (at listed i) n (cord-within i h) (of .ranked i h) (eqb-true (at nodes (at listed i)) (suc n) e) none)
               at-entry i h false e = refl
 
-          -- What `gather` asks.
-          pub gather-nodes : (length parents ≤ mostNodes) × (level < highestRank) × ((m : ℕ) → m < length parents → at parents m ≤ m)
-          gather-nodes = (ns .few, level-fits, ns .rises)
+          sums-fit : (sum (length parents) (at b) ≤ mostCords * mostWatts) × (sum (length parents) (at w) ≤ mostCords * mostWatts)
+          sums-fit = sums-most parents (some-deal .limits) nodes (some-deal .levels) (some-deal .lows) starts wants lists level here listed of b w (sums .on-starts) (sums .on-weights)
 
-          pub gather-sizes : (length left ≡ length parents) × (length cuts ≡ length parents) × (length b ≡ length parents) × (length w ≡ length parents)
-          gather-sizes = (inv .left-size, inv .cuts-size, sums .bases-size, sums .wholes-size)
-
-          pub gather-sums : (sum (length parents) (at b) ≤ mostCords * mostWatts) × (sum (length parents) (at w) ≤ mostCords * mostWatts)
-          gather-sums = sums-most parents (some-deal .limits) nodes (some-deal .levels) (some-deal .lows) starts wants lists level here listed of b w (sums .on-starts) (sums .on-weights)
-
-          pub gather-room : (n : ℕ) → n < length parents → at left n + sumBeneath (at parents) (length parents) (at b) n ≤ mostWatts
-          gather-room = gather-asks parents (some-deal .limits) nodes (some-deal .levels) (some-deal .lows) starts wants lists level here listed of b w (sums .on-starts) (sums .on-weights)
-
-          pub gather-idle : (n : ℕ) → n < length parents → Absent active count n → (at b n ≡ 0) × (at w n ≡ 0) × (cell requests n level ≡ 0)
-          gather-idle n l none = (
-            sums .on-starts n l ∙ none-on (at starts) n none,
-            sums .on-weights n l ∙ none-on (cordWeight starts wants) n none,
-            inv .blank .blank n level l level-fits (rw ec at none),
+          -- What `weigh` asks.
+          pub weigh-asks : (ActiveNodes parents active count × ((m : ℕ) → m < length parents → at parents m ≤ m))
+              × (((length left ≡ length parents) × (length parents ≤ length w) × (length parents ≤ length amounts₀))
+              × ((sum (length parents) (at w) ≤ mostCords * mostWatts) × ((n : ℕ) → n < length parents → Absent active count n → at w n ≡ 0)))
+          weigh-asks = (
+            (nodes-active, ns .rises),
+            ((inv .left-size, enough (sums .wholes-size), enough (inv .amounts-size)), (sums-fit .1, λ n l none. sums .on-weights n l ∙ none-on (cordWeight starts wants) n none)),
           )
 
-          pub gather-active : ActiveNodes parents active count
-          gather-active = nodes-active
+          module _ {left₁ w₁ weights : List ℕ} (weighed : Weighed parents active count left w left₁ w₁ weights) (weights-size : length weights ≡ length amounts₀) where
+            -- A weight is no more than what is left of the limit.
+            weight-most : (n : ℕ) → n < length parents → Present active count n → at weights n ≤ at left n
+            weight-most n l some = omega (arith, weighed .weights-are n l, weighed .listed .within n l some)
 
-          module _ {requests₁ : List (List ℕ)} {left₁ cuts₁ b₁ w₁ : List ℕ} (g : Gathered parents level left cuts b w requests left₁ cuts₁ b₁ w₁ requests₁) where
-            -- What `deal_nodes` asks.
-            pub nodes-room : (n : ℕ) → n < length parents → (at b₁ n ≤ cell requests₁ n level) × (cell requests₁ n level ≤ mostWatts) × (weightOf requests₁ level b₁ n ≤ at w₁ n)
-                × (at w₁ n ≤ mostCords * mostWatts) × (overChildren parents (weightOf requests₁ level b₁) n ≤ at w₁ n)
-            nodes-room =
-                nodes-ask parents (some-deal .limits) nodes (some-deal .levels) (some-deal .lows) starts wants lists level here listed of b w (sums .on-starts) (sums .on-weights)
-                requests₁ left₁ cuts₁ b₁ w₁ g
-
-            -- A node that is not active has no start beneath it, and no Request.
-            pub nodes-blank : (n : ℕ) → n < length parents → Absent active count n → cell requests₁ n level ≡ 0
-            unfolding kids
-            nodes-blank n l none =
-                down (length parents) (λ n. Absent active count n → (at b₁ n ≡ 0) × (cell requests₁ n level ≡ 0)) (λ n l below none.
-                let child : (m : ℕ) → m < length parents → at parents m ≡ suc n → (at b₁ m ≡ 0) × (cell requests₁ m level ≡ 0)
-                = λ m h e. below m h (omega (arith, ns .rises m h)) (nodes-active .closed m n h e none) in
-                let start : at b₁ n ≡ 0
-                = omega (
-                  arith,
-                  g .start n l,
-                  sumBeneath-step (length parents) (at parents) (ns .rises) (at b) n l,
-                  gather-idle n l none .0,
-                  kids-none (length parents) (at parents) n (sumBeneath (at parents) (length parents) (at b)) (λ m h e. sym (g .start m h) ∙ child m h e .0),
-                ) in (
-                  start,
-                  omega (
-                    arith,
-                    g .request n l,
-                    g .children n l,
-                    gather-idle n l none .1,
-                    kids-none (length parents) (at parents) n (weightOf requests₁ level b₁) (λ m h e. omega (arith, child m h e .1)),
+            -- What `request` asks.
+            pub request-asks : ((length parents ≤ mostNodes) × (level < highestRank) × ((m : ℕ) → m < length parents → at parents m ≤ m))
+                × (((length cuts ≡ length parents) × (length parents ≤ length b) × (sum (length parents) (at b) ≤ mostCords * mostWatts))
+                × (WeightsListed parents active count w₁ weights
+                × (((n : ℕ) → n < length parents → Present active count n → sumBeneath (at parents) (length parents) (at b) n + at weights n ≤ mostWatts)
+                × (((n : ℕ) → n < length parents → Absent active count n → (at b n ≡ 0) × (cell requests n level ≡ 0)) × FullRows requests))))
+            request-asks = (
+              (ns .few, level-fits, ns .rises),
+              (
+                (inv .cuts-size, enough (sums .bases-size), sums-fit .0),
+                (
+                  weighed .listed,
+                  (
+                    λ n l some. omega (
+                      arith,
+                      weight-most n l some,
+                      gather-asks parents (some-deal .limits) nodes (some-deal .levels) (some-deal .lows) starts wants lists level here listed of b w (sums .on-starts) (sums .on-weights) n l,
+                    ),
+                    (
+                      λ n l none. (sums .on-starts n l ∙ none-on (at starts) n none, inv .blank .blank n level l level-fits (rw ec at none)),
+                      inv .blank .full,
+                    ),
                   ),
-                )) n l none .1
+                ),
+              ),
+            )
 
-            -- The same of lists that are equal.
-            pub deal-nodes-asks : (b₂ w₂ : List ℕ) → b₂ ≡ b₁ → w₂ ≡ w₁ → length b₁ ≡ length parents → length w₁ ≡ length parents
-                → {size-a size-e size-d : ℕ} → size-a ≡ length parents → size-e ≡ length parents → size-d ≡ length parents
-                → ((length parents ≤ mostNodes) × (level < highestRank) × ((m : ℕ) → m < length parents → at parents m ≤ m))
-                × (((length b₂ ≡ length parents) × (length w₂ ≡ length parents) × (size-a ≡ length parents) × (size-e ≡ length parents) × (size-d ≡ length parents))
-                × (((n : ℕ) → n < length parents → (at b₂ n ≤ cell requests₁ n level) × (cell requests₁ n level ≤ mostWatts) × (weightOf requests₁ level b₂ n ≤ at w₂ n)
-                × (at w₂ n ≤ mostCords * mostWatts) × (overChildren parents (weightOf requests₁ level b₂) n ≤ at w₂ n))
-                × (ActiveNodes parents active count × ((n : ℕ) → n < length parents → Absent active count n → cell requests₁ n level ≡ 0))))
-            deal-nodes-asks b₂ w₂ eb ew sb sw sa se sd = rw (eb, ew) (gather-nodes, ((sb, sw, sa, se, sd), (nodes-room, (nodes-active, nodes-blank))))
+            module _ {requests₁ : List (List ℕ)} {cuts₁ b₁ amounts₁ : List ℕ} (requested : Requested parents level w₁ cuts b weights requests cuts₁ b₁ requests₁) (same : amounts₁ ≡ weights) where
+              abbrev g : Gathered parents level left cuts b w requests left₁ cuts₁ b₁ w₁ requests₁
+              g = gathered weighed requested
 
-            module _ {amounts before dealt : List ℕ} (nd : NodesDealt parents active count level requests₁ b₁ w₁ amounts before dealt) where
-              -- What `deal_cords` asks.
-              pub cords-room : (i n : ℕ) → i < length listed → at nodes (at listed i) ≡ suc n → (at amounts n ≤ mostWatts) × (at amounts n ≤ at w₁ n) × (at w₁ n ≤ mostCords * mostWatts)
-                  × (at dealt n ≡ at amounts n * at before n / at w₁ n)
-                  × (at before n + overListed listed nodes (cordWeight starts wants) n ≤ at w₁ n)
-              cords-room =
-                  cords-ask parents (some-deal .limits) nodes (some-deal .levels) (some-deal .lows) starts wants lists level here listed of b w (sums .on-starts) (sums .on-weights)
-                  requests₁ left₁ cuts₁ b₁ w₁ g active count nodes-active (cords-active (some-deal .limits) (some-deal .levels) (some-deal .lows) (some-deal .given)) amounts before dealt nd
+              weight-is : (n : ℕ) → n < length parents → requestWeight requests₁ level b₁ n ≡ weightOf amounts₁ w₁ n
+              weight-is n l = weight-listed weighed requested n l ∙ ap (λ (list : List ℕ). weightOf list w₁ n) (sym same)
 
-              pub deal-cords-asks : (w₂ a₂ e₂ d₂ : List ℕ) → w₂ ≡ w₁ → a₂ ≡ amounts → e₂ ≡ before → d₂ ≡ dealt
-                  → length w₁ ≡ length parents → length amounts ≡ length parents → length before ≡ length parents → length dealt ≡ length parents
-                  → LevelCords (length a₂) listed nodes starts wants
-                  × (((length w₂ ≡ length a₂) × (length e₂ ≡ length a₂) × (length d₂ ≡ length a₂) × (length grants ≡ length nodes))
-                  × ((i n : ℕ) → i < length listed → at nodes (at listed i) ≡ suc n → (at a₂ n ≤ mostWatts) × (at a₂ n ≤ at w₂ n) × (at w₂ n ≤ mostCords * mostWatts)
-                  × (at d₂ n ≡ at a₂ n * at e₂ n / at w₂ n)
-                  × (at e₂ n + overListed listed nodes (cordWeight starts wants) n ≤ at w₂ n)))
-              deal-cords-asks w₂ a₂ e₂ d₂ ew ea ee ed sw sa se sd =
-                  rw (ew, ea, ee, ed) (
-                    level-cords sa,
-                    ((sw ∙ sym sa, se ∙ sym sa, sd ∙ sym sa, inv .grants-size), cords-room),
-                  )
+              room : (n : ℕ) → n < length parents → (at b₁ n ≤ cell requests₁ n level) × (cell requests₁ n level ≤ mostWatts) × (requestWeight requests₁ level b₁ n ≤ at w₁ n)
+                  × (at w₁ n ≤ mostCords * mostWatts) × (overChildren parents (requestWeight requests₁ level b₁) n ≤ at w₁ n)
+              room =
+                  nodes-ask parents (some-deal .limits) nodes (some-deal .levels) (some-deal .lows) starts wants lists level here listed of b w (sums .on-starts) (sums .on-weights)
+                  requests₁ left₁ cuts₁ b₁ w₁ g
 
-              module _ {grants₁ : List ℕ} (cd : CordsDealt listed nodes starts wants w₁ amounts before grants grants₁) where
-                -- The next rank.
-                pub loop-turn : {bases₂ wholes₂ amounts₂ before₂ dealt₂ : List ℕ} → length left₁ ≡ length left → length cuts₁ ≡ length cuts → length grants₁ ≡ length grants
-                    → length bases₂ ≡ figuresLength → length wholes₂ ≡ figuresLength
-                    → length amounts₂ ≡ figuresLength → length before₂ ≡ figuresLength → length dealt₂ ≡ figuresLength
-                    → RankLoop parents rows order actives nodes starts wants left₀ level left₁ cuts₁ requests₁ grants₁ bases₂ wholes₂ amounts₂ before₂ dealt₂
-                loop-turn el eu eg sb sw sa se sd = record {
-                  within = omega (arith, inv .within);
-                  left-size = el ∙ inv .left-size;
-                  cuts-size = eu ∙ inv .cuts-size;
-                  grants-size = eg ∙ inv .grants-size;
-                  bases-size = sb;
-                  wholes-size = sw;
-                  amounts-size = sa;
-                  before-size = se;
-                  dealt-size = sd;
-                  blank = record { full = g .full; blank = λ n j h u absent. kept n j h u absent (eqb j level) refl };
-                  state = λ limits levels lows given.
-                      state-turn parents limits nodes levels lows starts wants (given .lists) level (at-level limits levels lows given) listed (listed-of limits levels lows given) b w
-                      (sums .on-starts) (sums .on-weights) requests₁ left₁ cuts₁ b₁ w₁ g active count nodes-active (cords-active limits levels lows given) amounts before dealt nd grants₁ cd;
-                }
-                  where
-                    kept : (n j : ℕ) → n < length parents → j < highestRank → Absent (getD actives j []) (cell rows j countColumn) n → (t : Bool) → eqb j level ≡ t → cell requests₁ n j ≡ 0
-                    kept n j h u absent true e =
-                        let q = eqb-true j level e in
-                        rw q (nodes-blank n h (rw ec (rw q at absent)))
-                    kept n j h u absent false e = g .others n j (eqb-false j level e) ∙ inv .blank .blank n j h u absent
+              -- A node that is not active has no Request.
+              nodes-blank : (n : ℕ) → n < length parents → Absent active count n → cell requests₁ n level ≡ 0
+              nodes-blank n l none =
+                  let start : at b₁ n ≡ 0
+                  = requested .start n l ∙ beneath-none nodes-active (ns .rises) b (λ m h away. sums .on-starts m h ∙ none-on (at starts) m away) n l none in
+                  omega (arith, requested .request n l, weighed .listed .idle n l none)
 
--- What is said of lists is said of equal ones.
-pub nodes-again : {parents active : List ℕ} {count level : ℕ} {rows : List (List ℕ)} {b w amounts before dealt b₁ w₁ : List ℕ}
-    → NodesDealt parents active count level rows b w amounts before dealt → b ≡ b₁ → w ≡ w₁ → NodesDealt parents active count level rows b₁ w₁ amounts before dealt
-nodes-again nd eb ew = rw (sym eb, sym ew) nd
+              -- What `deal_nodes` asks.
+              pub deal-nodes-asks : ((length parents ≤ length before₀) × (length dealt₀ ≡ length before₀) × ((m : ℕ) → m < length parents → at parents m ≤ m))
+                  × (WeightsListed parents active count w₁ amounts₁
+                  × ((n : ℕ) → n < length parents → (weightOf amounts₁ w₁ n ≤ mostWatts) × (at w₁ n ≤ mostCords * mostWatts) × (overChildren parents (weightOf amounts₁ w₁) n ≤ at w₁ n)))
+              deal-nodes-asks = (
+                (enough (inv .before-size), inv .dealt-size ∙ sym (inv .before-size), ns .rises),
+                (
+                  subst (WeightsListed parents active count w₁) (sym same) (weighed .listed),
+                  λ n l.
+                      let r = room n l in
+                      let c = children-cong parents (requestWeight requests₁ level b₁) (weightOf amounts₁ w₁) n (length parents) weight-is in
+                      (omega (arith, r .1, weight-is n l), r .3, omega (arith, r .4)),
+                ),
+              )
 
-pub cords-again : {listed nodes starts wants w amounts before grants grants₁ w₁ amounts₁ before₁ : List ℕ}
-    → CordsDealt listed nodes starts wants w amounts before grants grants₁ → w ≡ w₁ → amounts ≡ amounts₁ → before ≡ before₁
-    → CordsDealt listed nodes starts wants w₁ amounts₁ before₁ grants grants₁
-cords-again cd ew ea eb = rw (sym ew, sym ea, sym eb) cd
+              module _ {amounts before dealt : List ℕ} (by-weights : NodesDealt parents active count (weightOf amounts₁ w₁) w₁ amounts before dealt)
+                  (wholes-size : length w₁ ≡ length w) (amounts-size : length amounts ≡ length amounts₁) (before-size : length before ≡ length before₀) (dealt-size : length dealt ≡ length dealt₀) where
+                abbrev nd : NodesDealt parents active count (requestWeight requests₁ level b₁) w₁ amounts before dealt
+                nd = dealt-again (λ h l. sym (weight-is h l)) by-weights
+
+                sizes : (length w₁ ≡ figuresLength) × (length amounts ≡ figuresLength) × (length before ≡ figuresLength) × (length dealt ≡ figuresLength)
+                sizes = (
+                  wholes-size ∙ sums .wholes-size,
+                  amounts-size ∙ ap length same ∙ weights-size ∙ inv .amounts-size,
+                  before-size ∙ inv .before-size,
+                  dealt-size ∙ inv .dealt-size,
+                )
+
+                -- What `deal_cords` asks.
+                pub deal-cords-asks : LevelCords (length amounts) listed nodes starts wants
+                    × (((length w₁ ≡ length amounts) × (length before ≡ length amounts) × (length dealt ≡ length amounts) × (length grants ≡ length nodes))
+                    × ((i n : ℕ) → i < length listed → at nodes (at listed i) ≡ suc n → (at amounts n ≤ mostWatts) × (at amounts n ≤ at w₁ n) × (at w₁ n ≤ mostCords * mostWatts)
+                    × (at dealt n ≡ at amounts n * at before n / at w₁ n)
+                    × (at before n + overListed listed nodes (cordWeight starts wants) n ≤ at w₁ n)))
+                deal-cords-asks = (
+                  level-cords (enough (sizes .1)),
+                  (
+                    (sizes .0 ∙ sym (sizes .1), sizes .2 ∙ sym (sizes .1), sizes .3 ∙ sym (sizes .1), inv .grants-size),
+                    cords-ask parents (some-deal .limits) nodes (some-deal .levels) (some-deal .lows) starts wants lists level here listed of b w (sums .on-starts) (sums .on-weights)
+                        requests₁ left₁ cuts₁ b₁ w₁ g active count nodes-active (cords-active (some-deal .limits) (some-deal .levels) (some-deal .lows) (some-deal .given)) amounts before dealt nd,
+                  ),
+                )
+
+                module _ {grants₁ before₁ dealt₁ : List ℕ} (cd : CordsDealt listed nodes starts wants w₁ amounts before grants grants₁) where
+                  -- The next rank.
+                  pub loop-turn : length left₁ ≡ length left → length cuts₁ ≡ length cuts → length grants₁ ≡ length grants
+                      → length b₁ ≡ length b → length before₁ ≡ length before → length dealt₁ ≡ length dealt
+                      → RankLoop parents rows order actives nodes starts wants left₀ level left₁ cuts₁ requests₁ grants₁ b₁ w₁ amounts before₁ dealt₁
+                  loop-turn el eu eg eb ee ed = record {
+                    within = omega (arith, inv .within);
+                    left-size = el ∙ inv .left-size;
+                    cuts-size = eu ∙ inv .cuts-size;
+                    grants-size = eg ∙ inv .grants-size;
+                    bases-size = eb ∙ sums .bases-size;
+                    wholes-size = sizes .0;
+                    amounts-size = sizes .1;
+                    before-size = ee ∙ sizes .2;
+                    dealt-size = ed ∙ sizes .3;
+                    blank = record { full = requested .full; blank = λ n j h u absent. kept n j h u absent (eqb j level) refl };
+                    state = λ limits levels lows given.
+                        state-turn parents limits nodes levels lows starts wants (given .lists) level (at-level limits levels lows given) listed (listed-of limits levels lows given) b w
+                        (sums .on-starts) (sums .on-weights) requests₁ left₁ cuts₁ b₁ w₁ g active count nodes-active (cords-active limits levels lows given) amounts before dealt nd grants₁ cd;
+                  }
+                    where
+                      kept : (n j : ℕ) → n < length parents → j < highestRank → Absent (getD actives j []) (cell rows j countColumn) n → (t : Bool) → eqb j level ≡ t → cell requests₁ n j ≡ 0
+                      kept n j h u absent true e =
+                          let q = eqb-true j level e in
+                          rw q (nodes-blank n h (rw ec (rw q at absent)))
+                      kept n j h u absent false e = requested .others n j (eqb-false j level e) ∙ inv .blank .blank n j h u absent
 
 -- Before the first rank.
 pub loop-start : {parents : List ℕ} {rows : List (List ℕ)} {order : List ℕ} {actives : List (List ℕ)} {nodes starts wants left cuts : List ℕ} {requests : List (List ℕ)}

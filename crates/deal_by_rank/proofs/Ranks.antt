@@ -24,7 +24,8 @@ use Rattle.deals.specs.Dealing.{granted, reached}
 use Rattle.deals.specs.Held.{cutAt}
 use Rattle.deal_by_rank.specs.Ranks.{NodeLists, CordLists, DealLists, Spare, Uncut, wattsUnder, DealMade}
 use Rattle.deal_by_rank.proofs.Cuts.{Marked, ltb-cong, marked-start, marked-turn, marked-skip}
-use Rattle.ranks.specs.Passes.{listedBefore, overListed, cordWeight, childrenBefore, overChildren, weightOf, Gathered, NodesDealt, CordsDealt}
+use Rattle.ranks.specs.Passes.{listedBefore, overListed, cordWeight, childrenBefore, overChildren, NodesDealt, CordsDealt}
+use Rattle.deal_by_rank.proofs.Gathered.{requestWeight, Gathered}
 use Rattle.levels.specs.Levels.{Present, ActiveNodes, CordsActive, CordsOf}
 use Rattle.levels.proofs.Ordering.{listed-before, listed-all}
 use Rattle.figures.proofs.Lists.{figures-length}
@@ -200,11 +201,10 @@ module _ (parents limits nodes levels lows starts wants : List ℕ) (lists : Dea
   }
 
   -- After the last.
-  pub state-end : {rows : List (List ℕ)} {left cuts grants : List ℕ} → length grants ≡ length nodes → State 0 rows left cuts grants → DealMade theDeal rows left cuts grants
+  pub state-end : {rows : List (List ℕ)} {left cuts grants : List ℕ} → length grants ≡ length nodes → State 0 rows left cuts grants → DealMade theDeal left cuts grants
   unfolding dealFrom granted request
   state-end {grants = grants} size s = record {
     grants-are = ext-getD 0 grants (granted theDeal) (size ∙ sym (figures-length (length nodes) _)) (λ c l. s .grants-are c (omega arith) (omega arith));
-    requests-are = λ n j l b. s .filled n j l (omega arith) b;
     left-is = λ n l. omega (arith, s .left-is n l, sum-none (base n), requestTotal-is theDeal n l (s .higher) 0 (s .sum-is));
     cuts-are = λ n j l b. s .cuts-are n l .cut-is j (omega arith) (omega arith);
   }
@@ -307,7 +307,7 @@ module _ (parents limits nodes levels lows starts wants : List ℕ) (lists : Dea
         whole-by : (n : ℕ) → n < length parents → ((m : ℕ) → m < length parents → n < m → cell rows′ m j ≡ req m j) → at wholes n ≡ weights theDeal base req n j
         unfolding dealFrom weights kids own
         whole-by n l ih =
-            let c : overChildren parents (weightOf rows′ j bases) n ≡ overChildren parents (λ m. req m j - base m j) n
+            let c : overChildren parents (requestWeight rows′ j bases) n ≡ overChildren parents (λ m. req m j - base m j) n
             = kids-cong (length parents) (at parents) n _ _ (λ m lm q. ap₂ _-_ (ih m lm (subst (λ (z : ℕ). z ≤ m) q (ns .rises m lm))) (bases-are m lm)) in
             omega (arith, g .children n l, own-weights n l, listed-level (cordWeight starts wants) n)
 
@@ -318,7 +318,7 @@ module _ (parents limits nodes levels lows starts wants : List ℕ) (lists : Dea
         requests-are = down (length parents) (λ n. cell rows′ n j ≡ req n j) (λ n l ih.
             g .request n l ∙ ap₂ (λ (b w : ℕ). b + min (at left n) w) (bases-are n l) (whole-by n l ih) ∙ sym (request-left n l))
 
-        weight-is : (n : ℕ) → n < length parents → weightOf rows′ j bases n ≡ req n j - base n j
+        weight-is : (n : ℕ) → n < length parents → requestWeight rows′ j bases n ≡ req n j - base n j
         weight-is n l = ap₂ _-_ (requests-are n l) (bases-are n l)
 
         whole-is : (n : ℕ) → n < length parents → at wholes n ≡ weights theDeal base req n j
@@ -332,11 +332,11 @@ module _ (parents limits nodes levels lows starts wants : List ℕ) (lists : Dea
             (λ h. omega (arith, request-left n l, asked-is n j l level-fits, whole-is n l))
             (λ h. omega (arith, request-left n l, asked-is n j l level-fits, whole-is n l))
 
-        children-is : (n m : ℕ) → m ≤ length parents → childrenBefore parents (weightOf rows′ j bases) n m ≡ sum m (λ h. on (eqb (at parents h) (suc n)) (req h j - base h j))
+        children-is : (n m : ℕ) → m ≤ length parents → childrenBefore parents (requestWeight rows′ j bases) n m ≡ sum m (λ h. on (eqb (at parents h) (suc n)) (req h j - base h j))
         children-is n m h = sum-cong m _ _ (λ i l. ap (λ (z : ℕ). on (eqb (at parents i) (suc n)) z) (weight-is i (omega arith)))
 
-        pub nodes-ask : (n : ℕ) → n < length parents → (at bases n ≤ cell rows′ n j) × (cell rows′ n j ≤ mostWatts) × (weightOf rows′ j bases n ≤ at wholes n)
-            × (at wholes n ≤ mostCords * mostWatts) × (overChildren parents (weightOf rows′ j bases) n ≤ at wholes n)
+        pub nodes-ask : (n : ℕ) → n < length parents → (at bases n ≤ cell rows′ n j) × (cell rows′ n j ≤ mostWatts) × (requestWeight rows′ j bases n ≤ at wholes n)
+            × (at wholes n ≤ mostCords * mostWatts) × (overChildren parents (requestWeight rows′ j bases) n ≤ at wholes n)
         unfolding dealFrom request
         nodes-ask n l =
             let r = requests-are n l in
@@ -348,7 +348,7 @@ module _ (parents limits nodes levels lows starts wants : List ℕ) (lists : Dea
             (omega arith, omega arith, omega arith, omega arith, omega (arith, g .children n l))
 
         module _ (active : List ℕ) (count : ℕ) (nodes-active : ActiveNodes parents active count) (cords-active : CordsActive nodes levels j active count)
-            (amounts before dealts : List ℕ) (nd : NodesDealt parents active count j rows′ bases wholes amounts before dealts) where
+            (amounts before dealts : List ℕ) (nd : NodesDealt parents active count (requestWeight rows′ j bases) wholes amounts before dealts) where
           -- From each parent to its children: the parent of an active node is active too.
           amounts-are : (m : ℕ) → m < length parents → Present active count m → at amounts m ≡ amountOf theDeal m j
           unfolding dealFrom
@@ -359,7 +359,7 @@ module _ (parents limits nodes levels lows starts wants : List ℕ) (lists : Dea
               go m l ih some (suc n) e =
                   let u : n < m = subst (λ (z : ℕ). z ≤ m) e (ns .rises m l) in
                   nd .inner m n l some e
-                  ∙ ap (λ (z : ℕ). part (at amounts n) (at wholes n) (childrenBefore parents (weightOf rows′ j bases) n m) z) (weight-is m l)
+                  ∙ ap (λ (z : ℕ). part (at amounts n) (at wholes n) (childrenBefore parents (requestWeight rows′ j bases) n m) z) (weight-is m l)
                   ∙ ap (λ (z : ℕ). part (at amounts n) (at wholes n) z (req m j - base m j)) (children-is n m (omega arith))
                   ∙ ap₂ (λ (x w : ℕ). part x w (sum m (λ h. on (eqb (at parents h) (suc n)) (req h j - base h j))) (req m j - base m j)) (ih n u (λ none. some (nodes-active .closed m n l e none))) (whole-is n (omega arith))
                   ∙ sym (equations .inner m n j l e)

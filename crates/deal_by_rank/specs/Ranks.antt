@@ -1,9 +1,9 @@
 -- One deal, rank by rank: what the contract of `deal_by_rank` cites. Figures stand in lists, by the places of nodes or cords.
 use mathlib.Core.Path.{_≡_}
-use mathlib.Core.List.{List, []}
+use mathlib.Core.List.{List}
 use Prim.Native.Nat.{ℕ, _+_, _≤_, _<_}
 use lib.Dec.{ltb}
-use lib.ListN.{length, getD}
+use lib.ListN.{length}
 use Rattle.figures.specs.Sums.{on, sum}
 use Rattle.rooms.specs.Table.{mostNodes, mostCords, mostWatts, highestRank}
 use Rattle.rooms.specs.Limits.{beneath}
@@ -13,8 +13,7 @@ use Rattle.deals.specs.Dealing.{granted}
 use Rattle.deals.specs.Headroom.{requestsAt}
 use Rattle.deals.specs.Held.{cutFrom}
 use Rattle.deals.specs.Properties.{StartsFit}
-use Rattle.levels.specs.Levels.{Absent, LevelLists, countColumn}
-use Rattle.ranks.specs.Passes.{FullRows}
+use Rattle.levels.specs.Levels.{LevelLists}
 
 -- The nodes of a room: for each its parent's number and its limit.
 pub record NodeLists (parents limits : List ℕ) : Type 0 where
@@ -71,21 +70,15 @@ pub record SomeDeal (parents : List ℕ) (rows : List (List ℕ)) (order : List 
   pub lows : List ℕ
   pub given : DealGiven parents rows order actives nodes starts wants spare limits levels lows
 
--- At each level the rows of nodes that are not active have 0, before a deal and after it: the rows of one serve the next.
-pub record BlankRows (nodeCount : ℕ) (levels actives requests : List (List ℕ)) : Type 0 where
-  pub full : FullRows requests
-  pub blank : (n j : ℕ) → n < nodeCount → j < highestRank → Absent (getD actives j []) (cell levels j countColumn) n → cell requests n j ≡ 0
-
 -- No node is marked as cut.
 pub record Uncut (nodeCount : ℕ) (cuts : List ℕ) : Type 0 where
   pub size : length cuts ≡ nodeCount
   pub none : (n : ℕ) → n < nodeCount → at cuts n ≡ 0
 
--- A deal is made: its grants, its Requests in their rows, what each limit has over them, and for each node the highest rank at which it
--- is cut, 0 if there is none (a rank is its level + 1).
-pub record DealMade (d : Deal) (requests : List (List ℕ)) (left cuts grants : List ℕ) : Type 0 where
+-- A deal is made: its grants, what each limit has over the Requests, and for each node the highest rank at which it is cut, 0 if there is
+-- none (a rank is its level + 1).
+pub record DealMade (d : Deal) (left cuts grants : List ℕ) : Type 0 where
   pub grants-are : grants ≡ granted d
-  pub requests-are : (n j : ℕ) → n < d .nodes → j < highestRank → cell requests n j ≡ cell (metrics d .requests) n j
   pub left-is : (n : ℕ) → n < d .nodes → at left n + requestsAt (metrics d) n ≡ d .limit n
   pub cuts-are : (n j : ℕ) → n < d .nodes → j < highestRank → cutFrom d (metrics d) j n ≡ ltb j (at cuts n)
 

@@ -5,15 +5,16 @@ ghost use mathlib.Core.List.{List};
 ghost use Prim.Native.Nat.{ℕ};
 ghost use lib.ListN.{length};
 ghost use Rattle.deals.specs.Metrics.{dealFrom};
-ghost use Rattle.deal_by_rank.specs.Ranks.{SomeDeal, DealGiven, DealMade, BlankRows, Uncut};
+ghost use Rattle.deal_by_rank.specs.Ranks.{SomeDeal, DealGiven, DealMade, Uncut};
 use figures::index;
 use levels::COUNT;
 use levels::FROM;
 use levels::TO;
 use ranks::dealing::deal_cords;
 use ranks::dealing::deal_nodes;
-use ranks::metrics::gather;
+use ranks::metrics::request;
 use ranks::metrics::sum_cords;
+use ranks::metrics::weigh;
 
 pub mod raise;
 
@@ -24,8 +25,9 @@ const FIGURES: usize = 520;
 
 // The grants of a deal, rank by rank from the highest, over each rank's cords and active nodes, which `levels` lists. `left` comes with
 // what each limit has over all starts; before each rank it has what the Requests dealt and the starts to come leave, and in the end what
-// the Requests leave. `cuts` come with 0 and leave with the highest rank at which each node is cut, 0 if there is none. `requests` come with 0 where a node is not active at a rank, and leave so.
-// `bases` (the starts beneath) and `wholes` (the children's weights) have a rank's figure of each node; `amounts`, `before` (weights
+// the Requests leave. `cuts` come with 0 and leave with the highest rank at which each node is cut, 0 if there is none. The Requests
+// stand in `requests`, a row a node and a column a rank; only those of active nodes are filled. `bases` (the starts beneath) and `wholes`
+// (the children's weights) have a rank's figure of each node; `amounts` (its weight, and then what it has to give), `before` (weights
 // served) and `dealt` that of each active one.
 pub fn deal(
     parents: &[u16],
@@ -37,14 +39,12 @@ pub fn deal(
     wants: &[u32],
     left: &mut [u32],
     cuts: &mut [u16],
-    requests: &mut [[u32; 16]; 512],
     grants: &mut [u32],
 )
     requires { ⌜ SomeDeal (now parents) (now levels) (now order) (now actives) (now nodes) (now starts) (now wants) (now left) × Uncut (length (now parents)) (now cuts) × (length (now grants) ≡ length (now nodes)) ⌝ }
-    requires { ⌜ BlankRows (length (now parents)) (now levels) (now actives) (now requests) ⌝ }
-    ensures { λ _. ⌜ ((limits ranks lows : List ℕ) → DealGiven (now (parents .entry)) (now (levels .entry)) (now (order .entry)) (now (actives .entry)) (now (nodes .entry)) (now (starts .entry)) (now (wants .entry)) (now (left .entry)) limits ranks lows → DealMade (dealFrom (now (parents .entry)) limits (now (nodes .entry)) ranks lows (now (starts .entry)) (now (wants .entry))) (now (requests .exit)) (now (left .exit)) (now (cuts .exit)) (now (grants .exit))) ⌝ }
-    ensures { λ _. ⌜ BlankRows (length (now (parents .entry))) (now (levels .entry)) (now (actives .entry)) (now (requests .exit)) ⌝ }
+    ensures { λ _. ⌜ ((limits ranks lows : List ℕ) → DealGiven (now (parents .entry)) (now (levels .entry)) (now (order .entry)) (now (actives .entry)) (now (nodes .entry)) (now (starts .entry)) (now (wants .entry)) (now (left .entry)) limits ranks lows → DealMade (dealFrom (now (parents .entry)) limits (now (nodes .entry)) ranks lows (now (starts .entry)) (now (wants .entry))) (now (left .exit)) (now (cuts .exit)) (now (grants .exit))) ⌝ }
 {
+    let mut requests = [[0u32; 16]; 512];
     let mut bases = [0u64; FIGURES];
     let mut wholes = [0u64; FIGURES];
     let mut amounts = [0u32; FIGURES];
@@ -59,45 +59,51 @@ pub fn deal(
         if from < to {
             let count = index(levels[level][COUNT]);
             sum_cords(
+                n,
                 &order[from..to],
                 nodes,
                 starts,
                 wants,
-                &mut bases[..n],
-                &mut wholes[..n],
+                &mut bases,
+                &mut wholes,
             );
-            gather(
+            weigh(
+                parents,
+                &actives[level],
+                count,
+                left,
+                &mut wholes,
+                &mut amounts,
+            );
+            request(
                 parents,
                 &actives[level],
                 count,
                 level,
-                left,
+                &wholes,
                 cuts,
-                &mut bases[..n],
-                &mut wholes[..n],
-                requests,
+                &mut bases,
+                &mut amounts,
+                &mut requests,
             );
             deal_nodes(
                 parents,
                 &actives[level],
                 count,
-                level,
-                requests,
-                &bases[..n],
-                &wholes[..n],
-                &mut amounts[..n],
-                &mut before[..n],
-                &mut dealt[..n],
+                &wholes,
+                &mut amounts,
+                &mut before,
+                &mut dealt,
             );
             deal_cords(
                 &order[from..to],
                 nodes,
                 starts,
                 wants,
-                &wholes[..n],
-                &amounts[..n],
-                &mut before[..n],
-                &mut dealt[..n],
+                &wholes,
+                &amounts,
+                &mut before,
+                &mut dealt,
                 grants,
             );
         }

@@ -8,25 +8,17 @@ use lib.Dec.{eqb}
 use lib.ListN.{length, take}
 use lib.Seq.{getD-take, length-take-le}
 use Rattle.figures.specs.Sums.{on, sum}
-use Rattle.figures.specs.Figures.{at, cell}
-use Rattle.figures.proofs.Sums.{sum-cong, sum-zero}
-use Rattle.rooms.specs.Table.{mostNodes, mostCords, mostWatts, highestRank}
+use Rattle.figures.specs.Figures.{at}
+use Rattle.figures.proofs.Sums.{sum-cong}
+use Rattle.rooms.specs.Table.{mostCords, mostWatts}
 use Rattle.rooms.specs.Credits.{sumBeneath}
 use Rattle.rooms.proofs.Trees.{kids, own, kids-cong, kids-le, down}
 use Rattle.rooms.proofs.Credits.{sumBeneath-most, sumBeneath-step}
 use Rattle.splits.specs.Split.{part}
 use Rattle.deals.proofs.Amounts.{own-sum}
 use Rattle.levels.specs.Levels.{Absent, Present, ActiveNodes}
-use Rattle.ranks.specs.Passes.{LevelCords, listedBefore, overListed, cordWeight, childrenBefore, overChildren, weightOf, FullRows, Gathered, NodesDealt, CordsDealt}
-use Rattle.headroom.specs.Passes.{AllPlaces, Zeros, LendLists, cordsBefore, nodeWeight, Weighed, Cut, DealtOut}
-
--- ---- Zeros
-
-zeros-sum : {count : ℕ} {list : List ℕ} → Zeros count list → sum count (at list) ≡ 0
-zeros-sum {count} z = sum-cong count _ _ (z .none) ∙ sum-zero count
-
-zeros-beneath : (parents : List ℕ) {list : List ℕ} → Zeros (length parents) list → (n : ℕ) → sumBeneath (at parents) (length parents) (at list) n ≡ 0
-zeros-beneath parents {list} z n = omega (arith, sumBeneath-most (length parents) (at parents) (at list) n, zeros-sum z)
+use Rattle.ranks.specs.Passes.{LevelCords, listedBefore, overListed, cordWeight, childrenBefore, overChildren, weightOf, WeightsListed, Weighed, NodesDealt, CordsDealt}
+use Rattle.headroom.specs.Passes.{AllPlaces, LendLists, cordsBefore, LendWeights, DealtOut}
 
 module _ {parents nodes wants ceilings all : List ℕ} (lists : LendLists parents nodes wants ceilings) (places : AllPlaces all) where
   abbrev weight : ℕ → ℕ
@@ -67,7 +59,7 @@ module _ {parents nodes wants ceilings all : List ℕ} (lists : LendLists parent
   each : (P : ℕ → Type 0) → ((c : ℕ) → c < length nodes → P c) → (i : ℕ) → i < length listed → P (at listed i)
   each P p i h = subst P (sym (listed-at i (listed-within i h))) (p i (listed-within i h))
 
-  all-cords : {count : ℕ} → count ≡ length parents → LevelCords count listed nodes wants ceilings
+  all-cords : {count : ℕ} → length parents ≤ count → LevelCords count listed nodes wants ceilings
   all-cords {count} e = record {
     few = omega (arith, listed-length, lists .few);
     starts-size = lists .wants-size;
@@ -89,9 +81,9 @@ module _ {parents nodes wants ceilings all : List ℕ} (lists : LendLists parent
 
   -- ---- The weights
 
-  pub sum-cords-asks : {count count-w : ℕ} → count ≡ length parents → count-w ≡ length parents
-      → LevelCords count listed nodes wants ceilings × (count-w ≡ count)
-  sum-cords-asks e ew = (all-cords e, ew ∙ sym e)
+  pub sum-cords-asks : {bases-length wholes-length : ℕ} → length parents ≤ bases-length → length parents ≤ wholes-length
+      → LevelCords (length parents) listed nodes wants ceilings × ((length parents ≤ bases-length) × (length parents ≤ wholes-length))
+  sum-cords-asks eb ew = (all-cords (le-refl (length parents)), (eb, ew))
 
   -- What is summed on the nodes are the weights of all cords.
   abbrev pub OnNodes : List ℕ → Type 0
@@ -104,48 +96,24 @@ module _ {parents nodes wants ceilings all : List ℕ} (lists : LendLists parent
       (le-trans (own-sum (length parents) (length nodes) (at nodes) (lists .hangs) (lists .within) weight mostWatts (λ c l. omega (arith, lists .most c l)))
       (mul-le-mul-right mostWatts (lists .few)))
 
-  pub gather-asks : (left marks bases sums : List ℕ) (rows : List (List ℕ)) → length left ≡ length parents → ((n : ℕ) → n < length parents → at left n ≤ mostWatts)
-      → Zeros (length parents) bases → OnNodes sums → length marks ≡ length parents → length sums ≡ length parents → FullRows rows
-      → ((length parents ≤ mostNodes) × (0 < highestRank) × ((m : ℕ) → m < length parents → at parents m ≤ m))
-      × (((length left ≡ length parents) × (length marks ≡ length parents) × (length bases ≡ length parents) × (length sums ≡ length parents))
-      × (((sum (length parents) (at bases) ≤ mostCords * mostWatts) × (sum (length parents) (at sums) ≤ mostCords * mostWatts))
-      × (((n : ℕ) → n < length parents → at left n + sumBeneath (at parents) (length parents) (at bases) n ≤ mostWatts)
-      × (ActiveNodes parents all (length parents)
-      × (((n : ℕ) → n < length parents → Absent all (length parents) n → (at bases n ≡ 0) × (at sums n ≡ 0) × (cell rows n 0 ≡ 0))
-      × FullRows rows)))))
-  gather-asks left marks bases sums rows left-size left-most zeros on-nodes marks-size sums-size full = (
-    (lists .few-nodes, omega arith, lists .rises),
-    (
-      (left-size, marks-size, zeros .size, sums-size),
-      (
-        (omega (arith, zeros-sum zeros), sums-most sums on-nodes),
-        (
-          λ n l. omega (arith, left-most n l, zeros-beneath parents zeros n),
-          (all-nodes, (λ n l none. absurd (here n l none), full)),
-        ),
-      ),
-    ),
+  pub weigh-asks : (left sums : List ℕ) {weights-length : ℕ} → length left ≡ length parents → OnNodes sums → length parents ≤ length sums → length parents ≤ weights-length
+      → (ActiveNodes parents all (length parents) × ((m : ℕ) → m < length parents → at parents m ≤ m))
+      × (((length left ≡ length parents) × (length parents ≤ length sums) × (length parents ≤ weights-length))
+      × ((sum (length parents) (at sums) ≤ mostCords * mostWatts) × ((n : ℕ) → n < length parents → Absent all (length parents) n → at sums n ≡ 0)))
+  weigh-asks left sums left-size on-nodes sums-size weights-size = (
+    (all-nodes, lists .rises),
+    ((left-size, sums-size, weights-size), (sums-most sums on-nodes, λ n l none. absurd (here n l none))),
   )
 
-  module _ {left marks bases sums : List ℕ} {rows : List (List ℕ)} {left′ marks′ bases′ wholes : List ℕ} {rows′ : List (List ℕ)}
-      (g : Gathered parents 0 left marks bases sums rows left′ marks′ bases′ wholes rows′)
-      (left-most : (n : ℕ) → n < length parents → at left n ≤ mostWatts) (zeros : Zeros (length parents) bases) (on-nodes : OnNodes sums) where
-    bases-are : (n : ℕ) → n < length parents → at bases′ n ≡ 0
-    bases-are n l = g .start n l ∙ zeros-beneath parents zeros n
-
-    pub zeros-kept : length bases′ ≡ length bases → Zeros (length parents) bases′
-    zeros-kept e = record { size = e ∙ zeros .size; none = bases-are }
-
-    pub cut : Cut parents left rows′ wholes
-    cut n l = omega (arith, g .request n l, bases-are n l)
-
-    children-are : (n : ℕ) → n < length parents → at wholes n ≡ overChildren parents (nodeWeight rows′) n + at sums n
+  module _ {left sums left′ wholes weights : List ℕ} (g : Weighed parents all (length parents) left sums left′ wholes weights)
+      (left-most : (n : ℕ) → n < length parents → at left n ≤ mostWatts) (on-nodes : OnNodes sums) where
+    children-are : (n : ℕ) → n < length parents → at wholes n ≡ overChildren parents (weightOf weights wholes) n + at sums n
     unfolding kids
     children-are n l =
         omega (
           arith,
           g .children n l,
-          kids-cong (length parents) (at parents) n (weightOf rows′ 0 bases′) (nodeWeight rows′) (λ m lm q. omega (arith, bases-are m lm)),
+          kids-cong (length parents) (at parents) n (weightOf left wholes) (weightOf weights wholes) (λ m lm q. sym (g .weights-are m lm)),
         )
 
     -- No node's children weight more than all cords beneath it.
@@ -155,77 +123,63 @@ module _ {parents nodes wants ceilings all : List ℕ} (lists : LendLists parent
         omega (
           arith,
           children-are n l,
-          kids-le (length parents) (at parents) n (nodeWeight rows′) (sumBeneath (at parents) (length parents) (at sums)) (λ m lm q.
-              omega (arith, cut m lm, ih m lm (subst (λ (z : ℕ). z ≤ m) q (lists .rises m lm)))),
+          kids-le (length parents) (at parents) n (weightOf weights wholes) (sumBeneath (at parents) (length parents) (at sums)) (λ m lm q.
+              omega (arith, ih m lm (subst (λ (z : ℕ). z ≤ m) q (lists .rises m lm)))),
           sumBeneath-step (length parents) (at parents) (lists .rises) (at sums) n l,
         ))
 
-    pub weighed : Weighed parents nodes wants ceilings rows′ wholes
-    weighed = record {
+    pub lend-weights : LendWeights parents nodes wants ceilings weights wholes
+    lend-weights = record {
       whole = λ n l. omega (arith, children-are n l, on-nodes n l, listed-all n);
-      enough = λ n l. omega (arith, cut n l);
-      most = λ n l. omega (arith, cut n l, left-most n l);
+      enough = λ n l. g .listed .within n l (here n l);
+      most = λ n l. omega (arith, g .weights-are n l, left-most n l);
       wholes-most = λ n l. omega (arith, wholes-beneath n l, sumBeneath-most (length parents) (at parents) (at sums) n, sums-most sums on-nodes);
     }
 
   -- ---- What is dealt by them
 
-  module _ {rows : List (List ℕ)} {bases wholes : List ℕ} (zeros : Zeros (length parents) bases) (weights : Weighed parents nodes wants ceilings rows wholes) where
-    weight-is : (n : ℕ) → n < length parents → weightOf rows 0 bases n ≡ nodeWeight rows n
-    weight-is n l = omega (arith, zeros .none n l)
-
-    before-is : (n m : ℕ) → m ≤ length parents → childrenBefore parents (weightOf rows 0 bases) n m ≡ childrenBefore parents (nodeWeight rows) n m
-    before-is n m h = sum-cong m _ _ (λ i l. ap (λ (z : ℕ). on (eqb (at parents i) (suc n)) z) (weight-is i (omega arith)))
-
-    children-is : (n : ℕ) → overChildren parents (weightOf rows 0 bases) n ≡ overChildren parents (nodeWeight rows) n
-    children-is n = before-is n (length parents) (le-refl (length parents))
-
-    pub deal-nodes-asks : length wholes ≡ length parents → {size-a size-e size-d : ℕ} → size-a ≡ length parents → size-e ≡ length parents → size-d ≡ length parents
-        → ((length parents ≤ mostNodes) × (0 < highestRank) × ((m : ℕ) → m < length parents → at parents m ≤ m))
-        × (((length bases ≡ length parents) × (length wholes ≡ length parents) × (size-a ≡ length parents) × (size-e ≡ length parents) × (size-d ≡ length parents))
-        × (((n : ℕ) → n < length parents → (at bases n ≤ cell rows n 0) × (cell rows n 0 ≤ mostWatts) × (weightOf rows 0 bases n ≤ at wholes n)
-        × (at wholes n ≤ mostCords * mostWatts) × (overChildren parents (weightOf rows 0 bases) n ≤ at wholes n))
-        × (ActiveNodes parents all (length parents) × ((n : ℕ) → n < length parents → Absent all (length parents) n → cell rows n 0 ≡ 0))))
-    deal-nodes-asks sw sa se sd = (
-      (lists .few-nodes, omega arith, lists .rises),
+  module _ {weights wholes : List ℕ} (weighed : LendWeights parents nodes wants ceilings weights wholes) where
+    pub deal-nodes-asks : length parents ≤ length weights → length wholes ≡ length weights → {size-e size-d : ℕ} → size-e ≡ length weights → size-d ≡ length weights
+        → ((length parents ≤ size-e) × (size-d ≡ size-e) × ((m : ℕ) → m < length parents → at parents m ≤ m))
+        × (WeightsListed parents all (length parents) wholes weights
+        × ((n : ℕ) → n < length parents → (weightOf weights wholes n ≤ mostWatts) × (at wholes n ≤ mostCords * mostWatts) × (overChildren parents (weightOf weights wholes) n ≤ at wholes n)))
+    deal-nodes-asks sa sw se sd = (
+      (omega arith, sd ∙ sym se, lists .rises),
       (
-        (zeros .size, sw, sa, se, sd),
-        (
-          λ n l. (
-            omega (arith, zeros .none n l),
-            weights .most n l,
-            omega (arith, weights .enough n l),
-            weights .wholes-most n l,
-            omega (arith, weights .whole n l, children-is n),
-          ),
-          (all-nodes, λ n l none. absurd (here n l none)),
-        ),
+        record {
+          nodes = all-nodes;
+          wholes-size = omega arith;
+          weights-size = sa;
+          within = λ n l some. weighed .enough n l;
+          idle = λ n l none. absurd (here n l none);
+        },
+        λ n l. (weighed .most n l, weighed .wholes-most n l, omega (arith, weighed .whole n l)),
       ),
     )
 
-    module _ {amounts before dealt : List ℕ} (nd : NodesDealt parents all (length parents) 0 rows bases wholes amounts before dealt) where
+    module _ {amounts before dealt : List ℕ} (nd : NodesDealt parents all (length parents) (weightOf weights wholes) wholes amounts before dealt) where
       there : (i n : ℕ) → i < length listed → at nodes (at listed i) ≡ suc n → n < length parents
       there i n h e = omega (arith, each (λ c. at nodes c ≤ length parents) (lists .within) i h)
 
-      pub deal-cords-asks : {size-t : ℕ} → length wholes ≡ length parents → length amounts ≡ length parents → length before ≡ length parents → length dealt ≡ length parents
+      pub deal-cords-asks : {size-t : ℕ} → length parents ≤ length amounts → length wholes ≡ length amounts → length before ≡ length amounts → length dealt ≡ length amounts
           → size-t ≡ length nodes
           → LevelCords (length amounts) listed nodes wants ceilings
           × (((length wholes ≡ length amounts) × (length before ≡ length amounts) × (length dealt ≡ length amounts) × (size-t ≡ length nodes))
           × ((i n : ℕ) → i < length listed → at nodes (at listed i) ≡ suc n → (at amounts n ≤ mostWatts) × (at amounts n ≤ at wholes n) × (at wholes n ≤ mostCords * mostWatts)
           × (at dealt n ≡ at amounts n * at before n / at wholes n)
           × (at before n + overListed listed nodes weight n ≤ at wholes n)))
-      deal-cords-asks sw sa se sd st = (
+      deal-cords-asks sa sw se sd st = (
         all-cords sa,
         (
-          (sw ∙ sym sa, se ∙ sym sa, sd ∙ sym sa, st),
+          (sw, se, sd, st),
           λ i n h e.
               let l = there i n h e in
               let most = nd .most n l (here n l) in (
-                omega (arith, most, weight-is n l, weights .most n l),
-                omega (arith, most, weight-is n l, weights .enough n l),
-                weights .wholes-most n l,
+                omega (arith, most, weighed .most n l),
+                omega (arith, most),
+                weighed .wholes-most n l,
                 nd .dealt-is n l (here n l),
-                omega (arith, nd .served n l (here n l), children-is n, weights .whole n l, listed-all n),
+                omega (arith, nd .served n l (here n l), weighed .whole n l, listed-all n),
               ),
         ),
       )
@@ -233,13 +187,13 @@ module _ {parents nodes wants ceilings all : List ℕ} (lists : LendLists parent
       module _ {tops tops′ : List ℕ} (cd : CordsDealt listed nodes wants ceilings wholes amounts before tops tops′) where
         -- A cord's top is its want and its part.
         top-is : (c n : ℕ) → c < length nodes → at nodes c ≡ suc n
-            → at tops′ c ≡ at wants c + part (at amounts n) (at wholes n) (overChildren parents (nodeWeight rows) n + cordsBefore nodes wants ceilings n c) (weight c)
+            → at tops′ c ≡ at wants c + part (at amounts n) (at wholes n) (overChildren parents (weightOf weights wholes) n + cordsBefore nodes wants ceilings n c) (weight c)
         top-is c n l e =
             let q : n < length parents = omega (arith, lists .within c l) in
             let s : at listed c ≡ c = listed-at c l in
-            let b : at before n ≡ overChildren parents (nodeWeight rows) n = nd .served n q (here n q) ∙ children-is n in
+            let b : at before n ≡ overChildren parents (weightOf weights wholes) n = nd .served n q (here n q) in
             subst
-            (λ (h : ℕ). at tops′ h ≡ at wants h + part (at amounts n) (at wholes n) (overChildren parents (nodeWeight rows) n + cordsBefore nodes wants ceilings n c) (weight h)) s
+            (λ (h : ℕ). at tops′ h ≡ at wants h + part (at amounts n) (at wholes n) (overChildren parents (weightOf weights wholes) n + cordsBefore nodes wants ceilings n c) (weight h)) s
             (cd .ours c n (omega (arith, listed-length)) (ap (at nodes) s ∙ e)
             ∙ ap₂ (λ (a b : ℕ). at wants (at listed c) + part (at amounts n) (at wholes n) (a + b) (weight (at listed c))) b (listed-before n c (omega arith)))
 
@@ -260,17 +214,10 @@ module _ {parents nodes wants ceilings all : List ℕ} (lists : LendLists parent
         )
 
         pub shared : {headroom : List ℕ} {size : ℕ} → size ≡ length nodes → ((c : ℕ) → c < size → at headroom c ≡ at tops′ c - at wants c)
-            → DealtOut parents nodes wants ceilings rows wholes headroom
+            → DealtOut parents nodes wants ceilings weights wholes headroom
         shared e taken = record {
           lends = at amounts;
-          root = λ m l r. nd .root m l (here m l) r ∙ weight-is m l;
-          inner = λ m n l q. nd .inner m n l (here m l) q
-              ∙ ap₂ (λ (a b : ℕ). part (at amounts n) (at wholes n) a b) (before-is n m (omega arith)) (weight-is m l);
+          root = λ m l r. nd .root m l (here m l) r;
+          inner = λ m n l q. nd .inner m n l (here m l) q;
           leaf = λ c n l q. taken c (omega arith) ∙ omega (arith, top-is c n l q);
         }
-
--- What is said of lists is said of equal ones.
-pub nodes-again : {parents active : List ℕ} {count level : ℕ} {rows : List (List ℕ)} {bases wholes amounts before dealt : List ℕ}
-    → NodesDealt parents active count level rows bases wholes amounts before dealt → (amounts₁ dealt₁ : List ℕ) → amounts₁ ≡ amounts → dealt₁ ≡ dealt
-    → NodesDealt parents active count level rows bases wholes amounts₁ before dealt₁
-nodes-again nd amounts₁ dealt₁ ea ed = rw (ea, ed) nd

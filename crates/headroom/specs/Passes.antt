@@ -1,24 +1,19 @@
 -- The passes of headroom over lists: what the contracts of private functions of `headroom` cite. No other contract does.
 use mathlib.Core.Path.{_≡_}
 use mathlib.Core.List.{List}
-use Prim.Native.Nat.{ℕ, suc, _+_, _*_, _≤_, _<_, min}
+use Prim.Native.Nat.{ℕ, suc, _+_, _*_, _≤_, _<_}
 use lib.Dec.{eqb}
 use lib.ListN.{length}
 use Rattle.figures.specs.Sums.{on, sum}
-use Rattle.figures.specs.Figures.{at, cell}
+use Rattle.figures.specs.Figures.{at}
 use Rattle.rooms.specs.Table.{mostNodes, mostCords, mostWatts}
 use Rattle.splits.specs.Split.{part}
-use Rattle.ranks.specs.Passes.{cordWeight, childrenBefore, overChildren}
+use Rattle.ranks.specs.Passes.{cordWeight, childrenBefore, overChildren, weightOf}
 
 -- A list of all places, enough for the most cords and the most nodes: each entry is its own place.
 pub record AllPlaces (list : List ℕ) : Type 0 where
   pub size : length list ≡ mostCords
   pub own : (i : ℕ) → i < mostCords → at list i ≡ i
-
--- Zeros, one a node.
-pub record Zeros (nodeCount : ℕ) (list : List ℕ) : Type 0 where
-  pub size : length list ≡ nodeCount
-  pub none : (n : ℕ) → n < nodeCount → at list n ≡ 0
 
 -- The nodes by their parents' numbers, and for each cord its node's number, its want and its ceiling.
 pub record LendLists (parents nodes wants ceilings : List ℕ) : Type 0 where
@@ -36,27 +31,19 @@ pub record LendLists (parents nodes wants ceilings : List ℕ) : Type 0 where
 abbrev pub cordsBefore : List ℕ → List ℕ → List ℕ → ℕ → ℕ → ℕ
 cordsBefore nodes wants ceilings n c = sum c (λ h. on (eqb (at nodes h) (suc n)) (cordWeight wants ceilings h))
 
--- The weight of each node, in the first column of its row, and its children's weights, summed: enough for it, and within the bounds of
--- what is dealt.
-abbrev pub nodeWeight : List (List ℕ) → ℕ → ℕ
-nodeWeight rows m = cell rows m 0
-
-pub record Weighed (parents nodes wants ceilings : List ℕ) (rows : List (List ℕ)) (wholes : List ℕ) : Type 0 where
-  pub whole : (n : ℕ) → n < length parents → at wholes n ≡ overChildren parents (nodeWeight rows) n + cordsBefore nodes wants ceilings n (length nodes)
-  pub enough : (n : ℕ) → n < length parents → nodeWeight rows n ≤ at wholes n
-  pub most : (n : ℕ) → n < length parents → nodeWeight rows n ≤ mostWatts
+-- The weights of the nodes, as they are listed, and of each node's children, summed: enough for it, and within the bounds of what is dealt.
+pub record LendWeights (parents nodes wants ceilings weights wholes : List ℕ) : Type 0 where
+  pub whole : (n : ℕ) → n < length parents → at wholes n ≡ overChildren parents (weightOf weights wholes) n + cordsBefore nodes wants ceilings n (length nodes)
+  pub enough : (n : ℕ) → n < length parents → at weights n ≤ at wholes n
+  pub most : (n : ℕ) → n < length parents → weightOf weights wholes n ≤ mostWatts
   pub wholes-most : (n : ℕ) → n < length parents → at wholes n ≤ mostCords * mostWatts
 
--- A node's weight is its children's, cut to what is left of its limit.
-abbrev pub Cut : List ℕ → List ℕ → List (List ℕ) → List ℕ → Type 0
-Cut parents left rows wholes = (n : ℕ) → n < length parents → nodeWeight rows n ≡ min (at left n) (at wholes n)
-
 -- The headroom is dealt by these weights, from what each node has to lend: a root all of its weight, any other its part of its parent's.
-pub record DealtOut (parents nodes wants ceilings : List ℕ) (rows : List (List ℕ)) (wholes headroom : List ℕ) : Type 0 where
+pub record DealtOut (parents nodes wants ceilings weights wholes headroom : List ℕ) : Type 0 where
   pub lends : ℕ → ℕ
-  pub root : (m : ℕ) → m < length parents → at parents m ≡ 0 → lends m ≡ nodeWeight rows m
+  pub root : (m : ℕ) → m < length parents → at parents m ≡ 0 → lends m ≡ weightOf weights wholes m
   pub inner : (m n : ℕ) → m < length parents → at parents m ≡ suc n
-      → lends m ≡ part (lends n) (at wholes n) (childrenBefore parents (nodeWeight rows) n m) (nodeWeight rows m)
+      → lends m ≡ part (lends n) (at wholes n) (childrenBefore parents (weightOf weights wholes) n m) (weightOf weights wholes m)
   pub leaf : (c n : ℕ) → c < length nodes → at nodes c ≡ suc n
       → at headroom c
-      ≡ part (lends n) (at wholes n) (overChildren parents (nodeWeight rows) n + cordsBefore nodes wants ceilings n c) (cordWeight wants ceilings c)
+      ≡ part (lends n) (at wholes n) (overChildren parents (weightOf weights wholes) n + cordsBefore nodes wants ceilings n c) (cordWeight wants ceilings c)

@@ -5,17 +5,16 @@ ghost use mathlib.Core.List.{List};
 ghost use Prim.Native.Nat.{ℕ, _-_, _≤_, _<_};
 ghost use lib.ListN.{length};
 ghost use Rattle.figures.specs.Figures.{at};
-ghost use Rattle.rooms.specs.Table.{mostCords, mostWatts};
+ghost use Rattle.rooms.specs.Table.{mostCords};
 ghost use Rattle.deals.specs.Metrics.{dealFrom};
 ghost use Rattle.deals.specs.Headroom.{headroomOver};
-ghost use Rattle.ranks.specs.Passes.{FullRows};
 ghost use Rattle.headroom.specs.Lending.{LendGiven, SomeLending};
-ghost use Rattle.headroom.specs.Passes.{AllPlaces, Zeros, LendLists, Weighed, Cut, DealtOut};
+ghost use Rattle.headroom.specs.Passes.{AllPlaces, LendLists, LendWeights, DealtOut};
 use figures::place;
 use ranks::dealing::deal_cords;
 use ranks::dealing::deal_nodes;
-use ranks::metrics::gather;
 use ranks::metrics::sum_cords;
+use ranks::metrics::weigh;
 
 // The length of the lists with a figure of each node: a little more than the most nodes, so that no two start at the same place of
 // their pages, as in `deal_by_rank`.
@@ -31,43 +30,6 @@ fn list_all(all: &mut [u16])
     }
 }
 
-// The weights of all nodes, in the first column of their rows, and of each node's children. The wants are in no Request that is made
-// here: `gather` has zeros for the starts beneath each node, so that its Request is its weight. The sums of the wants, which
-// `sum_cords` makes too, are not used: `before` has room for them. Nor are the marks of cuts, which `gather` makes.
-fn weigh(
-    parents: &[u16],
-    all: &[u16],
-    nodes: &[u16],
-    wants: &[u32],
-    ceilings: &[u32],
-    left: &mut [u32],
-    zeros: &mut [u64],
-    wholes: &mut [u64],
-    before: &mut [u64],
-    requests: &mut [[u32; 16]; 512],
-)
-    requires { ⌜ LendLists (now parents) (now nodes) (now wants) (now ceilings) ⌝ }
-    requires { ⌜ AllPlaces (now all) ⌝ }
-    requires { ⌜ (length (now left) ≡ length (now parents)) × ((n : ℕ) → n < length (now parents) → at (now left) n ≤ mostWatts) ⌝ }
-    requires { ⌜ Zeros (length (now parents)) (now zeros) × (length (now wholes) ≡ length (now parents)) × (length (now before) ≡ length (now parents)) × FullRows (now requests) ⌝ }
-    ensures { λ _. ⌜ Zeros (length (now (parents .entry))) (now (zeros .exit)) × Weighed (now (parents .entry)) (now (nodes .entry)) (now (wants .entry)) (now (ceilings .entry)) (now (requests .exit)) (now (wholes .exit)) × Cut (now (parents .entry)) (now (left .entry)) (now (requests .exit)) (now (wholes .exit)) ⌝ }
-{
-    let mut marks = [0u16; 512];
-    let n = parents.len();
-    sum_cords(&all[..nodes.len()], nodes, wants, ceilings, before, wholes);
-    gather(
-        parents,
-        all,
-        n,
-        0,
-        left,
-        &mut marks[..n],
-        zeros,
-        wholes,
-        requests,
-    );
-}
-
 // What each cord has over its want, of lists with a figure a cord.
 fn take_wants(wants: &[u32], tops: &[u32], headroom: &mut [u32])
     requires { ⌜ (length (now wants) ≡ length (now headroom)) × (length (now tops) ≡ length (now headroom)) × ((c : ℕ) → c < length (now headroom) → at (now wants) c ≤ at (now tops) c) ⌝ }
@@ -79,49 +41,35 @@ fn take_wants(wants: &[u32], tops: &[u32], headroom: &mut [u32])
     }
 }
 
-// The headroom of each cord, in the place of its ceiling, dealt by these weights.
+// The headroom of each cord, in the place of its ceiling, dealt by the nodes' weights, which come in `amounts`.
 fn deal_out(
     parents: &[u16],
     all: &[u16],
     nodes: &[u16],
     wants: &[u32],
-    bases: &[u64],
     wholes: &[u64],
+    amounts: &mut [u32],
     before: &mut [u64],
-    requests: &[[u32; 16]; 512],
+    dealt: &mut [u32],
     tops: &mut [u32],
     headroom: &mut [u32],
 )
     requires { ⌜ LendLists (now parents) (now nodes) (now wants) (now headroom) ⌝ }
     requires { ⌜ AllPlaces (now all) × (length (now tops) ≡ length (now nodes)) ⌝ }
-    requires { ⌜ Zeros (length (now parents)) (now bases) × (length (now wholes) ≡ length (now parents)) × (length (now before) ≡ length (now parents)) ⌝ }
-    requires { ⌜ Weighed (now parents) (now nodes) (now wants) (now headroom) (now requests) (now wholes) ⌝ }
-    ensures { λ _. ⌜ DealtOut (now (parents .entry)) (now (nodes .entry)) (now (wants .entry)) (now (headroom .entry)) (now (requests .entry)) (now (wholes .entry)) (now (headroom .exit)) ⌝ }
+    requires { ⌜ (length (now parents) ≤ length (now amounts)) × (length (now wholes) ≡ length (now amounts)) × (length (now before) ≡ length (now amounts)) × (length (now dealt) ≡ length (now amounts)) ⌝ }
+    requires { ⌜ LendWeights (now parents) (now nodes) (now wants) (now headroom) (now amounts) (now wholes) ⌝ }
+    ensures { λ _. ⌜ DealtOut (now (parents .entry)) (now (nodes .entry)) (now (wants .entry)) (now (headroom .entry)) (now (amounts .entry)) (now (wholes .entry)) (now (headroom .exit)) ⌝ }
 {
-    let mut amounts = [0u32; FIGURES];
-    let mut dealt = [0u32; FIGURES];
-    let n = parents.len();
-    deal_nodes(
-        parents,
-        all,
-        n,
-        0,
-        requests,
-        bases,
-        wholes,
-        &mut amounts[..n],
-        before,
-        &mut dealt[..n],
-    );
+    deal_nodes(parents, all, parents.len(), wholes, amounts, before, dealt);
     deal_cords(
         &all[..nodes.len()],
         nodes,
         wants,
         headroom,
         wholes,
-        &amounts[..n],
+        amounts,
         before,
-        &mut dealt[..n],
+        dealt,
         tops,
     );
     take_wants(wants, tops, headroom);
@@ -130,46 +78,45 @@ fn deal_out(
 // The headroom of each cord, in the place of its ceiling. It is dealt as one more rank would be, after all others: every cord is of that
 // rank, with its second want for its start and its ceiling for its want. For a node's ceiling less its Requests is the lesser of two
 // figures: what these leave of its limit, and its children's ceilings less their Requests, summed. `left` has what the Requests leave of
-// each limit. The rows of Requests and `tops` (want plus headroom) are lent for the figures on the way.
+// each limit; `tops` (want plus headroom) are lent for the figures on the way. The sums of the wants, which `sum_cords` makes too, are not
+// used: `before` has room for them.
 pub fn lend(
     parents: &[u16],
     nodes: &[u16],
     wants: &[u32],
     left: &mut [u32],
-    requests: &mut [[u32; 16]; 512],
     tops: &mut [u32],
     headroom: &mut [u32],
 )
-    requires { ⌜ SomeLending (now parents) (now nodes) (now wants) (now left) (now headroom) × (length (now tops) ≡ length (now nodes)) × FullRows (now requests) ⌝ }
+    requires { ⌜ SomeLending (now parents) (now nodes) (now wants) (now left) (now headroom) × (length (now tops) ≡ length (now nodes)) ⌝ }
     ensures { λ _. ⌜ ((limits levels lows starts : List ℕ) → LendGiven (now (parents .entry)) (now (nodes .entry)) (now (wants .entry)) (now (left .entry)) (now (headroom .entry)) limits levels lows starts → now (headroom .exit) ≡ headroomOver (dealFrom (now (parents .entry)) limits (now (nodes .entry)) levels lows starts (now (wants .entry))) (at (now (headroom .entry)))) ⌝ }
 {
     let mut all = [0u16; 1024];
-    let mut bases = [0u64; FIGURES];
     let mut wholes = [0u64; FIGURES];
+    let mut amounts = [0u32; FIGURES];
     let mut before = [0u64; FIGURES];
+    let mut dealt = [0u32; FIGURES];
     let n = parents.len();
     list_all(&mut all);
-    weigh(
-        parents,
-        &all,
+    sum_cords(
+        n,
+        &all[..nodes.len()],
         nodes,
         wants,
         headroom,
-        left,
-        &mut bases[..n],
-        &mut wholes[..n],
-        &mut before[..n],
-        requests,
+        &mut before,
+        &mut wholes,
     );
+    weigh(parents, &all, n, left, &mut wholes, &mut amounts);
     deal_out(
         parents,
         &all,
         nodes,
         wants,
-        &bases[..n],
-        &wholes[..n],
-        &mut before[..n],
-        requests,
+        &wholes,
+        &mut amounts,
+        &mut before,
+        &mut dealt,
         tops,
         headroom,
     );

@@ -1,13 +1,13 @@
 -- What follows both deals in a room's lists: what naming the holders and lending the headroom ask, and that the plan they leave is what
--- its definition says. And the rows of Requests, as they are lent to the deals.
+-- its definition says.
 use mathlib.Core.Path.{_≡_, sym, ap, _∙_}
 use mathlib.Core.List.{List}
 use Prim.Native.Nat.{ℕ}
 use native.Mathlib.Omega.{arith}
-use lib.ListN.{length, replicate}
+use lib.ListN.{length}
 use Rattle.figures.specs.Figures.{at}
 use Rattle.figures.proofs.Lists.{figures-length}
-use Rattle.rooms.specs.Table.{Room, roomCords, mostNodes, highestRank}
+use Rattle.rooms.specs.Table.{Room, roomCords}
 use Rattle.rooms.specs.Lists.{limitsOf, nodesOf, levelsOf, lowsOf}
 use Rattle.rooms.proofs.Accepted.{Accepted}
 use Rattle.deals.specs.Metrics.{dealFrom, dealOf}
@@ -19,24 +19,19 @@ use Rattle.deals.specs.Held as holding
 use Rattle.deals.proofs.RoomDeals.{nodesOf-length}
 use Rattle.deals.proofs.BothDeals.{cord-facts}
 use Rattle.deals.proofs.RoomHeadroom.{ceilings-count, ceilings-most, wants-ceilings}
-use Rattle.levels.proofs.Cells.{zeros-rows, zeros-cells}
 use Rattle.headroom.specs.Lending.{LendGiven}
 use Rattle.holders.specs.Holding.{HeldLists, heldFrom}
 use Rattle.holders.proofs.Naming.{held-second}
 use Rattle.layout.proofs.Rows.{cords-count, node-at}
-use Rattle.plan_rooms.specs.Planning.{RoomLists, NoRequests, DealtTwice, PlanMade}
+use Rattle.plan_rooms.specs.Planning.{RoomLists, DealtTwice, PlanMade}
 use Rattle.plan_rooms.proofs.Planning.{lists-second, levels-nodes, levels-cords, second-dealt}
-
--- No Request is gathered in rows of zeros.
-pub blank-requests : NoRequests (replicate mostNodes (replicate highestRank 0))
-blank-requests = record { full = zeros-rows mostNodes highestRank; none = zeros-cells mostNodes highestRank }
 
 -- ---- After both deals
 
 module _ {r : Room} (ok : Accepted r) {demands parents spare : List ℕ} {cords : List (List ℕ)} {nodes lows wants needed : List ℕ} {scale : ℕ}
     (of : RoomLists r demands parents spare cords nodes lows wants needed scale)
-    {watts : ℕ} {given left cuts : List ℕ} {requests : List (List ℕ)} {grants caps : List ℕ}
-    (dealt : DealtTwice r demands watts given left cuts requests grants caps) where
+    {watts : ℕ} {given left cuts grants caps : List ℕ}
+    (dealt : DealtTwice r demands watts given left cuts grants caps) where
   given-count : length given ≡ length cords
   unfolding secondWants wantsAfter
   given-count = ap length (dealt .wants-are) ∙ figures-length (roomCords r) _ ∙ sym (cords-count (of .cords-are .rows-are))

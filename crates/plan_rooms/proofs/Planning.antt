@@ -217,22 +217,22 @@ module _ {r : Room} (ok : Accepted r) {demands parents spare : List ℕ} {cords 
         record { lists = rw (of .parents-are, l .nodes-are, l .lows-are, es, ew) lists-second; by-level = by-level; spared = over }
 
   -- What each leaves.
-  module _ {requests : List (List ℕ)} {left cuts grants : List ℕ} where
-    pub first-made : DealMade (dealFrom parents (limitsOf r) nodes (levelsOf r) lows lows wants) requests left cuts grants → grants ≡ firstGrants r demands
+  module _ {left cuts grants : List ℕ} where
+    pub first-made : DealMade (dealFrom parents (limitsOf r) nodes (levelsOf r) lows lows wants) left cuts grants → grants ≡ firstGrants r demands
     unfolding firstGrants firstDeal dealOf
     first-made made =
         let l = of .cords-are in
         made .grants-are ∙ rw (of .parents-are, l .nodes-are, l .lows-are, l .wants-are)
 
     pub second-made : {starts given : List ℕ} → starts ≡ firstUsed r demands → given ≡ secondWants r demands
-        → DealMade (dealFrom parents (limitsOf r) nodes (levelsOf r) lows starts given) requests left cuts grants → DealMade (secondDeal r demands) requests left cuts grants
+        → DealMade (dealFrom parents (limitsOf r) nodes (levelsOf r) lows starts given) left cuts grants → DealMade (secondDeal r demands) left cuts grants
     unfolding secondDeal dealOf
     second-made {starts} {given} es ew made =
         let l = of .cords-are in
         let same : dealFrom parents (limitsOf r) nodes (levelsOf r) lows starts given ≡ secondDeal r demands = rw (of .parents-are, l .nodes-are, l .lows-are, es, ew) in
-        subst (λ (d : Deal). DealMade d requests left cuts grants) same made
+        subst (λ (d : Deal). DealMade d left cuts grants) same made
 
-    pub second-dealt : DealMade (secondDeal r demands) requests left cuts grants → grants ≡ secondGrants r demands
+    pub second-dealt : DealMade (secondDeal r demands) left cuts grants → grants ≡ secondGrants r demands
     unfolding secondGrants
     second-dealt made = made .grants-are
 

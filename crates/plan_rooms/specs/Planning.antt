@@ -7,13 +7,12 @@ use Rattle.rooms.specs.Part.{good}
 use Rattle.rooms.specs.Table.{Room}
 use Rattle.rooms.specs.Limits.{checked, lowsBeneath}
 use Rattle.rooms.specs.Lists.{parentsOf, limitsOf}
-use Rattle.figures.specs.Figures.{at, cell}
+use Rattle.figures.specs.Figures.{at}
 use Rattle.deals.specs.SecondDeal.{freed, secondDeal, secondGrants, secondWants}
 use Rattle.deals.specs.SecondDeal as second
 use Rattle.deals.specs.Headroom as lending
 use Rattle.deals.specs.Held as holding
 use Rattle.rooms.specs.Rows.{OfRoom}
-use Rattle.ranks.specs.Passes.{FullRows}
 use Rattle.deal_by_rank.specs.Ranks.{DealMade}
 use Rattle.layout.specs.Lists.{CordsLaidOut}
 
@@ -35,17 +34,11 @@ pub record SomeRoom (parents spare : List ℕ) (cords : List (List ℕ)) (nodes 
   pub is : checked table 0 ≡ good room end
   pub lists : RoomLists room demands parents spare cords nodes lows wants needed scale
 
--- Rows of Requests before any is gathered.
-pub record NoRequests (rows : List (List ℕ)) : Type 0 where
-  pub full : FullRows rows
-  pub none : (n j : ℕ) → cell rows n j ≡ 0
-
 -- Both deals of a room are made: the freed watts, the second wants, what the second deal leaves in its lists, and the caps.
-pub record DealtTwice (r : Room) (demands : List ℕ) (watts : ℕ) (wants left cuts : List ℕ) (requests : List (List ℕ)) (grants caps : List ℕ) : Type 0 where
+pub record DealtTwice (r : Room) (demands : List ℕ) (watts : ℕ) (wants left cuts grants caps : List ℕ) : Type 0 where
   pub freed-is : watts ≡ freed r demands
   pub wants-are : wants ≡ secondWants r demands
-  pub made : DealMade (secondDeal r demands) requests left cuts grants
-  pub full : FullRows requests
+  pub made : DealMade (secondDeal r demands) left cuts grants
   pub caps-are : caps ≡ second.caps r demands
 
 -- The plan of a room with given demands.

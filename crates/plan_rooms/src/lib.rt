@@ -7,7 +7,7 @@ ghost use lib.ListN.{length};
 ghost use Rattle.rooms.specs.Part.{Good, good};
 ghost use Rattle.rooms.specs.Table.{Room, mostNodes};
 ghost use Rattle.rooms.specs.Limits.{checked};
-ghost use Rattle.plan_rooms.specs.Planning.{RoomLists, SomeRoom, NoRequests, DealtTwice, Planning};
+ghost use Rattle.plan_rooms.specs.Planning.{RoomLists, SomeRoom, DealtTwice, Planning};
 ghost use Rattle.deal_by_rank.specs.Ranks.{Uncut};
 ghost use Rattle.layout.specs.Lists.{HasLowsBeneath};
 ghost use Rattle.rooms.specs.Rows.{ServersFit, CordsFit};
@@ -25,8 +25,7 @@ use rooms::lists::table_scale;
 
 // Both deals, in turn: the first starts from the cords' lows, the second from the watts in use after it. Gives the watts freed between
 // them. `left` comes with what each limit has over the lows beneath it, and leaves with what it has over the second deal's Requests;
-// `wants`, `cuts` and `requests` end as those of the second deal, and `caps` come with the servers' needs. The first deal's marks of cuts
-// are not used.
+// `wants` and `cuts` end as those of the second deal, and `caps` come with the servers' needs. The first deal's marks of cuts are not used.
 fn deal_twice(
     parents: &[u16],
     cords: &[[u16; 4]],
@@ -35,14 +34,13 @@ fn deal_twice(
     wants: &mut [u32],
     left: &mut [u32],
     cuts: &mut [u16],
-    requests: &mut [[u32; 16]; 512],
     grants: &mut [u32],
     caps: &mut [u32],
     scale: u32,
 ) -> u64
     requires { ⌜ SomeRoom (now parents) (now left) (now cords) (now nodes) (now lows) (now wants) (now caps) scale ⌝ }
-    requires { ⌜ Uncut (length (now parents)) (now cuts) × NoRequests (now requests) × (length (now grants) ≡ length (now nodes)) ⌝ }
-    ensures { λ freed. ⌜ ((table demands : List ℕ) (r : Room) (end : ℕ) → checked table 0 ≡ good r end → RoomLists r demands (now (parents .entry)) (now (left .entry)) (now (cords .entry)) (now (nodes .entry)) (now (lows .entry)) (now (wants .entry)) (now (caps .entry)) scale → DealtTwice r demands freed (now (wants .exit)) (now (left .exit)) (now (cuts .exit)) (now (requests .exit)) (now (grants .exit)) (now (caps .exit))) ⌝ }
+    requires { ⌜ Uncut (length (now parents)) (now cuts) × (length (now grants) ≡ length (now nodes)) ⌝ }
+    ensures { λ freed. ⌜ ((table demands : List ℕ) (r : Room) (end : ℕ) → checked table 0 ≡ good r end → RoomLists r demands (now (parents .entry)) (now (left .entry)) (now (cords .entry)) (now (nodes .entry)) (now (lows .entry)) (now (wants .entry)) (now (caps .entry)) scale → DealtTwice r demands freed (now (wants .exit)) (now (left .exit)) (now (cuts .exit)) (now (grants .exit)) (now (caps .exit))) ⌝ }
 {
     let mut levels = [[0u16; 4]; 16];
     let mut order = [0u16; 1024];
@@ -67,7 +65,6 @@ fn deal_twice(
         wants,
         left,
         &mut marks[..n],
-        requests,
         grants,
     );
     usable_of(cords, grants, &mut usable[..v], scale);
@@ -84,7 +81,6 @@ fn deal_twice(
         wants,
         left,
         cuts,
-        requests,
         grants,
     );
     usable_of(cords, grants, caps, scale);
@@ -93,8 +89,8 @@ fn deal_twice(
 
 // The plan of a good table with a demand for each server, in lists with one entry for each cord, and of the caps for each server; gives
 // the freed watts. `beneath` has the lows beneath each node, as the check of the table leaves them. Until the deals are made, `caps` have
-// the servers' needs, and `headroom` the cords' ceilings until it is lent. After the deals the rows of Requests and the lows are lent to
-// `lend` for its own figures.
+// the servers' needs, and `headroom` the cords' ceilings until it is lent. After the deals the lows are lent to `lend` for figures of its
+// own.
 pub fn plan_room(
     table: &[u32],
     demands: &[u32],
@@ -116,7 +112,6 @@ pub fn plan_room(
     let mut nodes = [0u16; 1024];
     let mut lows = [0u32; 1024];
     let mut wants = [0u32; 1024];
-    let mut requests = [[0u32; 16]; 512];
     let n = node_count(table);
     let k = grants.len();
     load_nodes(table, &beneath[..n], &mut parents[..n], &mut left[..n]);
@@ -138,7 +133,6 @@ pub fn plan_room(
         &mut wants[..k],
         &mut left[..n],
         &mut cuts[..n],
-        &mut requests,
         grants,
         caps,
         table_scale(table),
@@ -156,7 +150,6 @@ pub fn plan_room(
         &nodes[..k],
         &wants[..k],
         &mut left[..n],
-        &mut requests,
         &mut lows[..k],
         headroom,
     );

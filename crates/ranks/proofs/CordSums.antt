@@ -1,17 +1,16 @@
 -- Laws of a rank's listed cords, and of their figures summed on the cords' nodes, cord by cord.
-use mathlib.Core.Path.{_≡_, sym, ap, ap₂, subst, _∙_}
+use mathlib.Core.Path.{_≡_, sym, ap, ap₂, _∙_}
 use mathlib.Core.Bool.{Bool, true, false}
 use mathlib.Core.List.{List}
 use Prim.Native.Nat.{ℕ, suc, _+_, _-_, _*_, _^_, _≤_, _<_}
 use native.Mathlib.Numerals.{add-one}
 use native.Mathlib.Omega.{arith}
 use lib.Dec.{eqb}
-use lib.ListN.{length, replicate, length-replicate}
+use lib.ListN.{length}
 use Rattle.figures.specs.Sums.{on, sum}
 use Rattle.rooms.specs.Table.{mostWatts}
 use Rattle.rooms.specs.Credits.{credited}
 use Rattle.figures.proofs.Sums.{sum-suc, sum-none, sum-le}
-use Rattle.figures.proofs.Filled.{zeros-at}
 use Rattle.rooms.proofs.Credits.{credited-at, credited-length}
 use Rattle.figures.specs.Figures.{at}
 use Rattle.figures.proofs.Lists.{sum-most}
@@ -36,7 +35,7 @@ module _ {count : ℕ} {listed nodes starts wants : List ℕ} (cords : LevelCord
 
 -- The figures of the cords of the first i entries are summed on their nodes.
 pub record Credited (count : ℕ) (listed nodes : List ℕ) (figure : ℕ → ℕ) (i : ℕ) (sums : List ℕ) : Type 0 where
-  pub size : length sums ≡ count
+  pub size : count ≤ length sums
   pub sums-are : (n : ℕ) → n < count → at sums n ≡ listedBefore listed nodes figure n i
 
 on-most : (t : Bool) (a : ℕ) → on t a ≤ a
@@ -48,31 +47,32 @@ listed-most : (listed nodes : List ℕ) (figure : ℕ → ℕ) (n i : ℕ) → l
 listed-most listed nodes figure n i = sum-le i _ _ (λ h l. on-most (eqb (at nodes (at listed h)) (suc n)) (figure (at listed h)))
 
 -- Before the first entry the sums are cleared.
-credited-start : (listed nodes : List ℕ) (figure : ℕ → ℕ) (count : ℕ) {sums : List ℕ} → sums ≡ replicate count 0 → Credited count listed nodes figure 0 sums
-credited-start listed nodes figure count e =
+pub credited-start : (listed nodes : List ℕ) (figure : ℕ → ℕ) (count : ℕ) {sums : List ℕ} → count ≤ length sums → ((n : ℕ) → n < count → at sums n ≡ 0)
+    → Credited count listed nodes figure 0 sums
+credited-start listed nodes figure count size zeros =
     record {
-      size = ap length e ∙ length-replicate {A = ℕ} count 0;
-      sums-are = λ n l. ap (λ (x : List ℕ). at x n) e ∙ zeros-at count n ∙ sym (sum-none (λ h. on (eqb (at nodes (at listed h)) (suc n)) (figure (at listed h))));
+      size = size;
+      sums-are = λ n l. zeros n l ∙ sym (sum-none (λ h. on (eqb (at nodes (at listed h)) (suc n)) (figure (at listed h))));
     }
 
 module _ {count : ℕ} {listed nodes starts wants : List ℕ} (cords : LevelCords count listed nodes starts wants) {i : ℕ} (more : i < length listed) {c : ℕ} (c-is : c ≡ at listed i)
     {figure : ℕ → ℕ} {sums : List ℕ} (inv : Credited count listed nodes figure i sums) {x a : ℕ} (x-is : x ≡ at nodes c) where
   -- The figure of the cord of entry i is credited to its node.
-  credited-more : {sums′ : List ℕ} → a ≡ figure c → sums′ ≡ credited x a sums → Credited count listed nodes figure (i + 1) sums′
+  pub credited-more : {sums′ : List ℕ} → a ≡ figure c → sums′ ≡ credited x a sums → Credited count listed nodes figure (i + 1) sums′
   credited-more {sums′} a-is e =
       let node : ℕ = at nodes (at listed i) in
       let added : ℕ = figure (at listed i) in
       let r : sums′ ≡ credited node added sums = e ∙ ap₂ (λ (y b : ℕ). credited y b sums) (x-is ∙ ap (at nodes) c-is) (a-is ∙ ap figure c-is) in
       rw (add-one, r)
       (record {
-        size = credited-length node added sums ∙ inv .size;
+        size = omega (arith, credited-length node added sums, inv .size);
         sums-are = λ n l. credited-at node added sums n (omega (arith, inv .size, cords .there i more))
             ∙ ap (λ (z : ℕ). z + on (eqb node (suc n)) added) (inv .sums-are n l)
             ∙ sym (sum-suc i (λ h. on (eqb (at nodes (at listed h)) (suc n)) (figure (at listed h))));
       })
 
   -- A credit has a place and does not overflow: no sum passes the most that so many cords have.
-  credited-fits : ((h : ℕ) → h < length listed → figure (at listed h) ≤ mostWatts) → a ≤ mostWatts → (x ≤ length sums) × (at sums (x - 1) + a < 2 ^ 64)
+  pub credited-fits : ((h : ℕ) → h < length listed → figure (at listed h) ≤ mostWatts) → a ≤ mostWatts → (x ≤ length sums) × (at sums (x - 1) + a < 2 ^ 64)
   credited-fits most little =
       let hangs = cord-hangs cords more c-is in
       let own : listedBefore listed nodes figure (x - 1) i ≤ i * mostWatts
@@ -83,27 +83,29 @@ module _ {count : ℕ} {listed nodes starts wants : List ℕ} (cords : LevelCord
 
 -- ---- Their starts and weights
 
--- Before the turn of entry i.
-pub record SumTurn (count : ℕ) (listed nodes starts wants : List ℕ) (i : ℕ) (bases wholes : List ℕ) : Type 0 where
+-- Before the turn of entry i, in lists of some lengths.
+pub record SumTurn (count : ℕ) (listed nodes starts wants : List ℕ) (bases-length wholes-length i : ℕ) (bases wholes : List ℕ) : Type 0 where
   pub cords : LevelCords count listed nodes starts wants
   pub reached : i ≤ length listed
+  pub bases-size : length bases ≡ bases-length
+  pub wholes-size : length wholes ≡ wholes-length
   pub bases-are : Credited count listed nodes (at starts) i bases
   pub wholes-are : Credited count listed nodes (cordWeight starts wants) i wholes
 
-module _ {listed nodes starts wants : List ℕ} where
+module _ {listed nodes starts wants : List ℕ} {x y : ℕ} where
   pub sums-start : {count : ℕ} {bases wholes : List ℕ} → LevelCords count listed nodes starts wants
-      → bases ≡ replicate count 0 → wholes ≡ replicate count 0
-      → SumTurn (length bases) listed nodes starts wants 0 bases wholes
-  sums-start {count} {bases} {wholes} cords eb ew =
-      subst (λ (k : ℕ). SumTurn k listed nodes starts wants 0 bases wholes) (sym (ap length eb ∙ length-replicate {A = ℕ} count 0))
-      (record {
-        cords = cords;
-        reached = omega arith;
-        bases-are = credited-start listed nodes (at starts) count eb;
-        wholes-are = credited-start listed nodes (cordWeight starts wants) count ew;
-      })
+      → length bases ≡ x → length wholes ≡ y → count ≤ x → count ≤ y → ((n : ℕ) → n < count → at bases n ≡ 0) → ((n : ℕ) → n < count → at wholes n ≡ 0)
+      → SumTurn count listed nodes starts wants x y 0 bases wholes
+  sums-start {count} cords sb sw eb ew zb zw = record {
+    cords = cords;
+    reached = omega arith;
+    bases-size = sb;
+    wholes-size = sw;
+    bases-are = credited-start listed nodes (at starts) count (omega arith) zb;
+    wholes-are = credited-start listed nodes (cordWeight starts wants) count (omega arith) zw;
+  }
 
-  module _ {count i : ℕ} {bases wholes : List ℕ} (turn : SumTurn count listed nodes starts wants i bases wholes) where
+  module _ {count i : ℕ} {bases wholes : List ℕ} (turn : SumTurn count listed nodes starts wants x y i bases wholes) where
     pub sums-end : length listed ≤ i → (n : ℕ) → n < count
         → (at bases n ≡ overListed listed nodes (at starts) n) × (at wholes n ≡ overListed listed nodes (cordWeight starts wants) n)
     sums-end end n l =
@@ -121,10 +123,12 @@ module _ {listed nodes starts wants : List ℕ} where
 
       pub sums-next : {start weight : ℕ} {bases′ wholes′ : List ℕ} → start ≡ at starts c → weight ≡ cordWeight starts wants c
           → bases′ ≡ credited node start bases → wholes′ ≡ credited node weight wholes
-          → SumTurn count listed nodes starts wants (i + 1) bases′ wholes′
-      sums-next es ew cb cw = record {
+          → SumTurn count listed nodes starts wants x y (i + 1) bases′ wholes′
+      sums-next {start = start} {weight = weight} es ew cb cw = record {
         cords = turn .cords;
         reached = omega arith;
+        bases-size = ap length cb ∙ credited-length node start bases ∙ turn .bases-size;
+        wholes-size = ap length cw ∙ credited-length node weight wholes ∙ turn .wholes-size;
         bases-are = credited-more (turn .cords) more c-is (turn .bases-are) node-is es cb;
         wholes-are = credited-more (turn .cords) more c-is (turn .wholes-are) node-is ew cw;
       }

@@ -1,6 +1,7 @@
 -- The laws of `ranks`: sums on nodes, and the turns of its loops.
 pub mod NodeSums
-pub mod Gathering
+pub mod Weighing
+pub mod Requesting
 pub mod NodeTurns
 pub mod CordSums
 pub mod CordTurns

@@ -34,7 +34,7 @@ Rises parents = (m : ℕ) → m < length parents → at parents m ≤ m
 
 -- Figures of the nodes that together are no more than the most cords' watts, so that no sum of them overflows.
 abbrev pub Fits : List ℕ → List ℕ → Type 0
-Fits parents start = (length start ≡ length parents) × (sum (length parents) (at start) ≤ mostCords * mostWatts)
+Fits parents start = (length parents ≤ length start) × (sum (length parents) (at start) ≤ mostCords * mostWatts)
 
 -- Crediting nothing changes nothing.
 pub credited-nothing : (node : ℕ) (l : List ℕ) → credited node 0 l ≡ l
@@ -96,7 +96,7 @@ module _ {parents start : List ℕ} (rises : Rises parents) where
       ∙ sym (sumBeneath-step (length parents) (at parents) rises (at start) m (omega (arith, inv .all)))
 
   -- A node's turn.
-  pub summing-at : {m : ℕ} {sums : List ℕ} {parent : ℕ} {sums′ : List ℕ} → length start ≡ length parents → Summing parents start (suc m) sums
+  pub summing-at : {m : ℕ} {sums : List ℕ} {parent : ℕ} {sums′ : List ℕ} → length parents ≤ length start → Summing parents start (suc m) sums
       → parent ≡ at parents m → sums′ ≡ credited parent (at sums m) sums → Summing parents start m sums′
   summing-at {m} {sums} {sums′ = sums′} h inv ep es =
       let r = rises m (omega (arith, inv .all)) in
@@ -114,7 +114,7 @@ module _ {parents start : List ℕ} (rises : Rises parents) where
       })
 
   -- The turn of a node that has nothing to pass on.
-  pub summing-idle : {m : ℕ} {sums : List ℕ} → length start ≡ length parents → beneathAll parents start m ≡ 0 → Summing parents start (suc m) sums → Summing parents start m sums
+  pub summing-idle : {m : ℕ} {sums : List ℕ} → length parents ≤ length start → beneathAll parents start m ≡ 0 → Summing parents start (suc m) sums → Summing parents start m sums
   summing-idle {m} {sums} h none inv =
       summing-at h inv refl (sym (ap (λ (x : ℕ). credited (at parents m) x sums) (whole-at inv ∙ none) ∙ credited-nothing (at parents m) sums))
 

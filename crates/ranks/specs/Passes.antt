@@ -9,7 +9,7 @@ use Rattle.rooms.specs.Table.{mostNodes, mostCords, mostWatts, highestRank}
 use Rattle.rooms.specs.Credits.{sumBeneath}
 use Rattle.figures.specs.Figures.{at, cell}
 use Rattle.splits.specs.Split.{part}
-use Rattle.levels.specs.Levels.{Absent, Present, Full}
+use Rattle.levels.specs.Levels.{Absent, Present, Full, ActiveNodes}
 
 -- The cords of a level, listed by their places, in a room of so many nodes; and for each cord its node's number, its start and its
 -- want.
@@ -40,10 +40,6 @@ cordWeight starts wants c = at wants c - at starts c
 abbrev pub FullRows : List (List ℕ) → Type 0
 FullRows = Full mostNodes highestRank
 
--- At a level the rows of nodes that are not active have 0.
-abbrev pub BlankColumn : ℕ → ℕ → List ℕ → ℕ → List (List ℕ) → Type 0
-BlankColumn nodeCount level active count rows = (n : ℕ) → n < nodeCount → Absent active count n → cell rows n level ≡ 0
-
 -- A figure of the nodes, summed over the child nodes of the node at place n that stand before place m.
 abbrev pub childrenBefore : List ℕ → (ℕ → ℕ) → ℕ → ℕ → ℕ
 childrenBefore parents figure n m = sum m (λ h. on (eqb (at parents h) (suc n)) (figure h))
@@ -52,34 +48,48 @@ childrenBefore parents figure n m = sum m (λ h. on (eqb (at parents h) (suc n))
 abbrev pub overChildren : List ℕ → (ℕ → ℕ) → ℕ → ℕ
 overChildren parents figure n = childrenBefore parents figure n (length parents)
 
--- The weight of the node at place m in the split at its parent: its Request at this rank less the starts beneath it.
-abbrev pub weightOf : List (List ℕ) → ℕ → List ℕ → ℕ → ℕ
-weightOf rows level starts m = cell rows m level - at starts m
+-- The weight of the node at place m in the split at its parent: its children's weights, cut to what is left of its limit. Where the cut
+-- weights stand in a list, cutting them again changes none.
+abbrev pub weightOf : List ℕ → List ℕ → ℕ → ℕ
+weightOf left wholes m = min (at left m) (at wholes m)
 
--- The mark of a node's cuts after a level: the highest rank at which what was left of its limit was less than its children's weights; 0 if
--- there was none. (A rank is its level + 1; the levels come from the highest down.)
+-- The mark of a node's cuts after a level: the highest rank at which what was left of its limit, or its weight, was less than its
+-- children's weights; 0 if there was none. (A rank is its level + 1; the levels come from the highest down.)
 abbrev pub cutMark : (mark level left whole : ℕ) → ℕ
 cutMark mark level left whole = max mark (on (ltb left whole) (suc level))
 
--- From what is left of each limit over the Requests of higher ranks and the starts of this rank and those below, and the cords' starts
--- and weights on each node: the starts beneath and the children's weights at this rank, the Requests in their column of the rows, what
--- is left for the next, and the marks of the cuts.
-pub record Gathered (parents : List ℕ) (level : ℕ) (left cuts starts weights : List ℕ) (rows : List (List ℕ)) (left′ cuts′ starts′ wholes : List ℕ) (rows′ : List (List ℕ)) : Type 0 where
-  pub start : (n : ℕ) → n < length parents → at starts′ n ≡ sumBeneath (at parents) (length parents) (at starts) n
-  pub children : (n : ℕ) → n < length parents → at wholes n ≡ at weights n + overChildren parents (weightOf rows′ level starts′) n
-  pub request : (n : ℕ) → n < length parents → cell rows′ n level ≡ at starts′ n + min (at left n) (at wholes n)
-  pub others : (n j : ℕ) → (j ≡ level → ⊥) → cell rows′ n j ≡ cell rows n j
+-- The active nodes have their weights in a list; a node that is not active has no children with weight.
+pub record WeightsListed (parents active : List ℕ) (count : ℕ) (wholes weights : List ℕ) : Type 0 where
+  pub nodes : ActiveNodes parents active count
+  pub wholes-size : length parents ≤ length wholes
+  pub weights-size : length parents ≤ length weights
+  pub within : (n : ℕ) → n < length parents → Present active count n → at weights n ≤ at wholes n
+  pub idle : (n : ℕ) → n < length parents → Absent active count n → at wholes n ≡ 0
+
+-- From what is left of each limit over the Requests of higher ranks and the starts of this rank and those below, and the weights of the
+-- cords on each node: the children's weights at this rank, the active nodes' weights, and what is left for the next.
+pub record Weighed (parents active : List ℕ) (count : ℕ) (left own left′ wholes weights : List ℕ) : Type 0 where
+  pub children : (n : ℕ) → n < length parents → at wholes n ≡ at own n + overChildren parents (weightOf left wholes) n
   pub left-is : (n : ℕ) → n < length parents → at left′ n ≡ at left n - at wholes n
-  pub cuts-are : (n : ℕ) → n < length parents → at cuts′ n ≡ cutMark (at cuts n) level (at left n) (at wholes n)
+  pub weights-are : (n : ℕ) → n < length parents → weightOf weights wholes n ≡ weightOf left wholes n
+  pub listed : WeightsListed parents active count wholes weights
+
+-- From the nodes' weights and the cords' starts on each node: the starts beneath, the Requests in their column of the rows, and the marks
+-- of the cuts.
+pub record Requested (parents : List ℕ) (level : ℕ) (wholes cuts starts weights : List ℕ) (rows : List (List ℕ)) (cuts′ starts′ : List ℕ) (rows′ : List (List ℕ)) : Type 0 where
+  pub start : (n : ℕ) → n < length parents → at starts′ n ≡ sumBeneath (at parents) (length parents) (at starts) n
+  pub request : (n : ℕ) → n < length parents → cell rows′ n level ≡ at starts′ n + weightOf weights wholes n
+  pub others : (n j : ℕ) → (j ≡ level → ⊥) → cell rows′ n j ≡ cell rows n j
+  pub cuts-are : (n : ℕ) → n < length parents → at cuts′ n ≡ cutMark (at cuts n) level (weightOf weights wholes n) (at wholes n)
   pub full : FullRows rows′
 
 -- What each active node has to give, the weights of its child nodes, and what these were dealt together.
-pub record NodesDealt (parents active : List ℕ) (count level : ℕ) (rows : List (List ℕ)) (starts wholes amounts before dealt : List ℕ) : Type 0 where
-  pub root : (m : ℕ) → m < length parents → Present active count m → at parents m ≡ 0 → at amounts m ≡ weightOf rows level starts m
+pub record NodesDealt (parents active : List ℕ) (count : ℕ) (weight : ℕ → ℕ) (wholes amounts before dealt : List ℕ) : Type 0 where
+  pub root : (m : ℕ) → m < length parents → Present active count m → at parents m ≡ 0 → at amounts m ≡ weight m
   pub inner : (m n : ℕ) → m < length parents → Present active count m → at parents m ≡ suc n
-      → at amounts m ≡ part (at amounts n) (at wholes n) (childrenBefore parents (weightOf rows level starts) n m) (weightOf rows level starts m)
-  pub most : (m : ℕ) → m < length parents → Present active count m → at amounts m ≤ weightOf rows level starts m
-  pub served : (n : ℕ) → n < length parents → Present active count n → at before n ≡ overChildren parents (weightOf rows level starts) n
+      → at amounts m ≡ part (at amounts n) (at wholes n) (childrenBefore parents weight n m) (weight m)
+  pub most : (m : ℕ) → m < length parents → Present active count m → at amounts m ≤ weight m
+  pub served : (n : ℕ) → n < length parents → Present active count n → at before n ≡ overChildren parents weight n
   pub dealt-is : (n : ℕ) → n < length parents → Present active count n → at dealt n ≡ at amounts n * at before n / at wholes n
 
 -- The grants after a rank: a listed cord has its start and its part of its node's amount, every other what it had.

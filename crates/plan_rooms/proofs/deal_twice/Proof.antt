@@ -114,19 +114,19 @@ abbrev First : Type 0
 First = tie.After-deal
 
 abbrev listed-f : First → Listed
-listed-f f = f .before .before .before .before .before .before .before .before .before .before
+listed-f f = f .before .before .before .before .before .before .before .before .before
 
 abbrev start-f : First → Start
 start-f f = start-l (listed-f f)
 
 abbrev grants-f : First → List ℕ
-grants-f f = f .deal .last .1 .1 .1 .1 .1 .1 .1 .1 .1 .1 .0
+grants-f f = f .deal .last .1 .1 .1 .1 .1 .1 .1 .1 .1 .0
 
 first-grants : (f : First) {r : Room} → Accepted r → {demands : List ℕ} → RoomOf (start-f f) r demands → grants-f f ≡ firstGrants r demands
-first-grants f {r} ok of = first-made ok of (f .deal .ensures .0 (limitsOf r) (levelsOf r) (start-f f .args .lows .now) (first-given ok of (listed-at (listed-f f))))
+first-grants f {r} ok of = first-made ok of (f .deal .ensures (limitsOf r) (levelsOf r) (start-f f .args .lows .now) (first-given ok of (listed-at (listed-f f))))
 
 grants-size : (f : First) → length (grants-f f) ≡ cords-s (start-f f)
-grants-size f = f .deal .kept .1 .1 .1 .1 .1 .1 .1 .1 .1 .1 .0 ∙ start-f f .pre .1 .2
+grants-size f = f .deal .kept .1 .1 .1 .1 .1 .1 .1 .1 .1 .0 ∙ start-f f .pre .1 .1
 
 -- After what the servers can use of it.
 abbrev Used : Type 0
@@ -232,7 +232,7 @@ abbrev Second : Type 0
 Second = tie.After-deal2
 
 abbrev raised-d : Second → Raised
-raised-d d = d .before .before .before .before .before .before .before .before .before .before .before .before
+raised-d d = d .before .before .before .before .before .before .before .before .before .before .before
 
 abbrev start-d : Second → Start
 start-d d = start-e (raised-d d)
@@ -243,19 +243,16 @@ left-d d = d .deal2 .last .1 .1 .1 .1 .1 .1 .1 .0
 abbrev cuts-d : Second → List ℕ
 cuts-d d = d .deal2 .last .1 .1 .1 .1 .1 .1 .1 .1 .0
 
-abbrev requests-d : Second → List (List ℕ)
-requests-d d = d .deal2 .last .1 .1 .1 .1 .1 .1 .1 .1 .1 .0
-
 abbrev grants-d : Second → List ℕ
-grants-d d = d .deal2 .last .1 .1 .1 .1 .1 .1 .1 .1 .1 .1 .0
+grants-d d = d .deal2 .last .1 .1 .1 .1 .1 .1 .1 .1 .1 .0
 
-second-deal : (d : Second) {r : Room} → Accepted r → {demands : List ℕ} → RoomOf (start-d d) r demands → DealMade (secondDeal r demands) (requests-d d) (left-d d) (cuts-d d) (grants-d d)
+second-deal : (d : Second) {r : Room} → Accepted r → {demands : List ℕ} → RoomOf (start-d d) r demands → DealMade (secondDeal r demands) (left-d d) (cuts-d d) (grants-d d)
 second-deal d {r} ok of =
     second-made ok of (starts-are (reclaimed-e (raised-d d)) ok of) (wants-are (reclaimed-e (raised-d d)) ok of)
-    (d .deal2 .ensures .0 (limitsOf r) (levelsOf r) (start-d d .args .lows .now) (second-lent (raised-d d) ok of))
+    (d .deal2 .ensures (limitsOf r) (levelsOf r) (start-d d .args .lows .now) (second-lent (raised-d d) ok of))
 
 grants-size-d : (d : Second) → length (grants-d d) ≡ cords-s (start-d d)
-grants-size-d d = d .deal2 .kept .1 .1 .1 .1 .1 .1 .1 .1 .1 .1 .0 ∙ grants-size (first-a (again-e (raised-d d)))
+grants-size-d d = d .deal2 .kept .1 .1 .1 .1 .1 .1 .1 .1 .1 .0 ∙ grants-size (first-a (again-e (raised-d d)))
 
 -- After what the servers can use of it: the caps.
 abbrev Capped : Type 0
@@ -313,9 +310,9 @@ slice-aggregate-deal-2 c = sym (zeros-front mostNodes _ (nodes-few (start-l (c .
 
 deal-requires : tie.Need-deal-requires
 deal-requires c κs =
-    let l : Listed = c .before .before .before .before .before .before .before .before .before in
+    let l : Listed = c .before .before .before .before .before .before .before .before in
     let s : Start = start-l l in
-    ((record { limits = limitsOf (s .pre .0 .room); levels = levelsOf (s .pre .0 .room); lows = s .args .lows .now; given = first-given (room s) (lists s) (listed-at l) }, blank-marks (nodes-few s) refl, s .pre .1 .2), record { full = s .pre .1 .1 .full; blank = λ n j _ _ _. s .pre .1 .1 .none n j })
+    (record { limits = limitsOf (s .pre .0 .room); levels = levelsOf (s .pre .0 .room); lows = s .args .lows .now; given = first-given (room s) (lists s) (listed-at l) }, blank-marks (nodes-few s) refl, s .pre .1 .1)
 
 array-borrow-prefix-usable-2 : tie.Need-array-borrow-prefix-usable-2
 array-borrow-prefix-usable-2 c = lent-few (usable-lent (copied-l (listed-f (c .before .before .before .before .before .before))))
@@ -381,10 +378,10 @@ slice-aggregate-deal-4 c = lent-front (starts-lent (reclaimed-e (c .before .befo
 
 deal-requires-2 : tie.Need-deal-requires-2
 deal-requires-2 c κs =
-    let e : Raised = c .before .before .before .before .before .before .before .before .before .before .before in
+    let e : Raised = c .before .before .before .before .before .before .before .before .before .before in
     let s : Start = start-e e in
     let f : First = first-a (again-e e) in
-    ((record { limits = limitsOf (s .pre .0 .room); levels = levelsOf (s .pre .0 .room); lows = s .args .lows .now; given = second-lent e (room s) (lists s) }, s .pre .1 .0, grants-size f), f .deal .ensures .1)
+    (record { limits = limitsOf (s .pre .0 .room); levels = levelsOf (s .pre .0 .room); lows = s .args .lows .now; given = second-lent e (room s) (lists s) }, s .pre .1 .0, grants-size f)
 
 usable-of-requires-2 : tie.Need-usable-of-requires-2
 usable-of-requires-2 c κs =
@@ -401,7 +398,7 @@ same-length-3 : tie.Need-same-length-3
 same-length-3 c = search needs
 
 same-length-4 : tie.Need-same-length-4
-same-length-4 c = grants-size-d (second-z (c .before .before)) ∙ sym (start-z (c .before .before) .pre .1 .2)
+same-length-4 c = grants-size-d (second-z (c .before .before)) ∙ sym (start-z (c .before .before) .pre .1 .1)
 
 same-length-5 : tie.Need-same-length-5
 same-length-5 c = search needs
@@ -417,7 +414,6 @@ returns c =
       freed-is = freed-q q ok of;
       wants-are = wants-are q ok of;
       made = second-deal d ok of;
-      full = d .deal2 .ensures .1 .full;
       caps-are = caps-are ok of (second-dealt ok of (second-deal d ok of)) (z .usable-of2 .ensures);
     }
 

@@ -19,7 +19,7 @@ use Rattle.headroom.specs.Lending.{LendGiven}
 use Rattle.holders.specs.Holding.{HeldLists}
 use Rattle.plan_rooms.specs.Planning.{RoomLists, DealtTwice}
 use Rattle.plan_rooms.proofs.Planning.{nodes-few, blank-marks}
-use Rattle.plan_rooms.proofs.Following.{blank-requests, held-lists, lend-given, plan-made}
+use Rattle.plan_rooms.proofs.Following.{held-lists, lend-given, plan-made}
 use borrow.Author.Needs.{needs}
 use Rattle.plan_rooms.proofs.plan_room.Statement.{statement}
 use Rattle.plan_rooms.proofs.plan_room.Tie as tie
@@ -156,7 +156,7 @@ abbrev Dealt : Type 0
 Dealt = tie.After-deal-twice
 
 abbrev cords-z : Dealt → Cords
-cords-z z = cords-6 (z .before .before .before .before .before .before .before .before .before .before .before .before)
+cords-z z = cords-6 (z .before .before .before .before .before .before .before .before .before .before .before)
 
 abbrev nodes-z : Dealt → Nodes
 nodes-z z = nodes-y (cords-z z)
@@ -188,7 +188,7 @@ lists-z z = lists-at (cords-z z) (z .before .table-scale .result) (z .before .ta
 -- What the deals leave, as it is lent to what follows them.
 dealt-z : (z : Dealt) (r : Room) (end : ℕ) → checked (table-of (start-z z)) 0 ≡ good r end
     → DealtTwice r (start-z z .args .demands .now) (z .deal-twice .result) (take (cords-k (start-z z)) (wants-dealt z)) (take (count-n (nodes-z z)) (left-dealt z))
-    (take (count-n (nodes-z z)) (cuts-dealt z)) (z .deal-twice .last .1 .1 .1 .1 .1 .1 .1 .0) (z .deal-twice .last .1 .1 .1 .1 .1 .1 .1 .1 .0) (z .deal-twice .last .1 .1 .1 .1 .1 .1 .1 .1 .1 .0)
+    (take (count-n (nodes-z z)) (cuts-dealt z)) (z .deal-twice .last .1 .1 .1 .1 .1 .1 .1 .0) (z .deal-twice .last .1 .1 .1 .1 .1 .1 .1 .1 .0)
 dealt-z z r end is =
     rw (lent-again (wants-again z), lent-again (left-again z), lent-again (cuts-again z))
     (z .deal-twice .ensures (table-of (start-z z)) (start-z z .args .demands .now) r end is (lists-z z r end is))
@@ -199,7 +199,7 @@ accepted-z z = accepted (table-of (start-z z))
 -- What `name_holders` asks of them, and `lend`.
 held-z : (z : Dealt) (r : Room) (end : ℕ) → checked (table-of (start-z z)) 0 ≡ good r end
     → HeldLists (take (count-n (nodes-z z)) (parents-after (nodes-z z))) (take (count-n (nodes-z z)) (cuts-dealt z)) (take (cords-k (start-z z)) (cords-after (cords-z z)))
-    (take (cords-k (start-z z)) (wants-dealt z)) (z .deal-twice .last .1 .1 .1 .1 .1 .1 .1 .1 .0)
+    (take (cords-k (start-z z)) (wants-dealt z)) (z .deal-twice .last .1 .1 .1 .1 .1 .1 .1 .0)
 held-z z r end is =
     held-lists (accepted-z z r end is) (lists-z z r end is) (dealt-z z r end is) (sym (lent-front (cuts-again z)) ∙ lent-front (parents-lent (nodes-z z)))
 
@@ -333,19 +333,18 @@ table-scale-requires c κs = search needs
 
 deal-twice-requires : tie.Need-deal-twice-requires
 deal-twice-requires c κs =
-    let g = good-of (start-y (cords-6 (c .before .before .before .before .before .before .before .before .before .before .before))) in (
+    let g = good-of (start-y (cords-6 (c .before .before .before .before .before .before .before .before .before .before))) in (
       record {
-        table = table-of (start-y (cords-6 (c .before .before .before .before .before .before .before .before .before .before .before)));
-        demands = start-y (cords-6 (c .before .before .before .before .before .before .before .before .before .before .before)) .args .demands .now;
+        table = table-of (start-y (cords-6 (c .before .before .before .before .before .before .before .before .before .before)));
+        demands = start-y (cords-6 (c .before .before .before .before .before .before .before .before .before .before)) .args .demands .now;
         room = g .value;
         end = g .next;
         is = g .is;
-        lists = lists-at (cords-6 (c .before .before .before .before .before .before .before .before .before .before .before)) (c .table-scale .result) (c .table-scale .ensures) (g .value) (g .next) (g .is);
+        lists = lists-at (cords-6 (c .before .before .before .before .before .before .before .before .before .before)) (c .table-scale .result) (c .table-scale .ensures) (g .value) (g .next) (g .is);
       },
       (
-        blank-marks (nodes-fit (counted-x (nodes-y (cords-6 (c .before .before .before .before .before .before .before .before .before .before .before))))) (lent-front (parents-lent (nodes-y (cords-6 (c .before .before .before .before .before .before .before .before .before .before .before))))),
-        blank-requests,
-        lent-front (nodes-lent (cords-6 (c .before .before .before .before .before .before .before .before .before .before .before))),
+        blank-marks (nodes-fit (counted-x (nodes-y (cords-6 (c .before .before .before .before .before .before .before .before .before .before))))) (lent-front (parents-lent (nodes-y (cords-6 (c .before .before .before .before .before .before .before .before .before .before))))),
+        lent-front (nodes-lent (cords-6 (c .before .before .before .before .before .before .before .before .before .before))),
       ),
     )
 
@@ -406,43 +405,42 @@ slice-aggregate-lend-4 : tie.Need-slice-aggregate-lend-4
 slice-aggregate-lend-4 c = lent-front (left-again (dealt-9 (c .before .before .before .before)))
 
 array-borrow-prefix-lows-2 : tie.Need-array-borrow-prefix-lows-2
-array-borrow-prefix-lows-2 c = lent-few (lows-lent (cords-z (dealt-9 (c .before .before .before .before .before))))
+array-borrow-prefix-lows-2 c = lent-few (lows-lent (cords-z (dealt-9 (c .before .before .before .before))))
 
 slice-aggregate-lend-5 : tie.Need-slice-aggregate-lend-5
-slice-aggregate-lend-5 c = lent-front (lows-lent (cords-z (dealt-9 (c .before .before .before .before .before .before))))
+slice-aggregate-lend-5 c = lent-front (lows-lent (cords-z (dealt-9 (c .before .before .before .before .before))))
 
 lend-requires : tie.Need-lend-requires
 lend-requires c κs =
-    let g = good-of (start-z (dealt-9 (c .before .before .before .before .before .before .before))) in (
+    let g = good-of (start-z (dealt-9 (c .before .before .before .before .before .before))) in (
       record {
         limits = limitsOf (g .value);
         levels = levelsOf (g .value);
         lows = lowsOf (g .value);
-        starts = firstUsed (g .value) (start-z (dealt-9 (c .before .before .before .before .before .before .before)) .args .demands .now);
-        given = lend-z (dealt-9 (c .before .before .before .before .before .before .before)) (g .value) (g .next) (g .is);
+        starts = firstUsed (g .value) (start-z (dealt-9 (c .before .before .before .before .before .before)) .args .demands .now);
+        given = lend-z (dealt-9 (c .before .before .before .before .before .before)) (g .value) (g .next) (g .is);
       },
-      sym (lent-front (lows-lent (cords-z (dealt-9 (c .before .before .before .before .before .before .before))))) ∙ lent-front (nodes-lent (cords-z (dealt-9 (c .before .before .before .before .before .before .before)))),
-      dealt-z (dealt-9 (c .before .before .before .before .before .before .before)) (g .value) (g .next) (g .is) .full,
+      sym (lent-front (lows-lent (cords-z (dealt-9 (c .before .before .before .before .before .before))))) ∙ lent-front (nodes-lent (cords-z (dealt-9 (c .before .before .before .before .before .before)))),
     )
 
 same-length : tie.Need-same-length
 same-length c = search needs
 
 same-length-2 : tie.Need-same-length-2
-same-length-2 c = dealt-9 (c .before .before .before .before .before .before .before .before .before .before .before .before) .deal-twice .kept .1 .1 .1 .1 .1 .1 .1 .1 .1 .0 ∙ cords-z (dealt-9 (c .before .before .before .before .before .before .before .before .before .before .before .before)) .load-cords .kept .1 .1 .1 .1 .1 .1 .1 .0
+same-length-2 c = dealt-9 (c .before .before .before .before .before .before .before .before .before .before .before) .deal-twice .kept .1 .1 .1 .1 .1 .1 .1 .1 .0 ∙ cords-z (dealt-9 (c .before .before .before .before .before .before .before .before .before .before .before)) .load-cords .kept .1 .1 .1 .1 .1 .1 .1 .0
 
 same-length-3 : tie.Need-same-length-3
-same-length-3 c = (c .before .before .before .before) .lend .kept .1 .1 .1 .1 .1 .1 .0 ∙ cords-z (dealt-9 (c .before .before .before .before .before .before .before .before .before .before .before .before)) .load-cords .kept .1 .1 .1 .1 .1 .1 .0
+same-length-3 c = (c .before .before .before .before) .lend .kept .1 .1 .1 .1 .1 .0 ∙ cords-z (dealt-9 (c .before .before .before .before .before .before .before .before .before .before .before)) .load-cords .kept .1 .1 .1 .1 .1 .1 .0
 
 same-length-4 : tie.Need-same-length-4
 same-length-4 c = search needs
 
 returns : tie.Need-returns
 returns c = λ r end is.
-    plan-made (accepted-z (dealt-9 (c .before .before .before .before .before .before .before .before .before .before .before .before)) r end is) (lists-z (dealt-9 (c .before .before .before .before .before .before .before .before .before .before .before .before)) r end is) (dealt-z (dealt-9 (c .before .before .before .before .before .before .before .before .before .before .before .before)) r end is) (held-z (dealt-9 (c .before .before .before .before .before .before .before .before .before .before .before .before)) r end is)
-    (cords-z (dealt-9 (c .before .before .before .before .before .before .before .before .before .before .before .before)) .load-cords .ensures r end is .ceilings-are)
-    ((c .before .before .before .before) .lend .ensures (limitsOf r) (levelsOf r) (lowsOf r) (firstUsed r (start-z (dealt-9 (c .before .before .before .before .before .before .before .before .before .before .before .before)) .args .demands .now)) (lend-z (dealt-9 (c .before .before .before .before .before .before .before .before .before .before .before .before)) r end is))
-    ((c .before .before .before .before .before .before .before .before .before .before .before .before .before .before) .name-holders .ensures)
+    plan-made (accepted-z (dealt-9 (c .before .before .before .before .before .before .before .before .before .before .before)) r end is) (lists-z (dealt-9 (c .before .before .before .before .before .before .before .before .before .before .before)) r end is) (dealt-z (dealt-9 (c .before .before .before .before .before .before .before .before .before .before .before)) r end is) (held-z (dealt-9 (c .before .before .before .before .before .before .before .before .before .before .before)) r end is)
+    (cords-z (dealt-9 (c .before .before .before .before .before .before .before .before .before .before .before)) .load-cords .ensures r end is .ceilings-are)
+    ((c .before .before .before .before) .lend .ensures (limitsOf r) (levelsOf r) (lowsOf r) (firstUsed r (start-z (dealt-9 (c .before .before .before .before .before .before .before .before .before .before .before)) .args .demands .now)) (lend-z (dealt-9 (c .before .before .before .before .before .before .before .before .before .before .before)) r end is))
+    ((c .before .before .before .before .before .before .before .before .before .before .before .before .before) .name-holders .ensures)
 
 pub plan-room-spec : {M : Type 1} → statement M
 plan-room-spec =

@@ -79,7 +79,7 @@ credit-requires : tie.Need-credit-requires Inv-loop μ-loop
 credit-requires c κs =
     let t = c .before .before .before .before .before .before .before in
     let asked = begun t .pre in
-    summing-fits (asked .1 .0) (asked .0 .0, asked .0 .2) (taken t .summed) (c .index .ensures .0)
+    summing-fits (asked .1 .0) (omega (arith, asked .0 .0), asked .0 .2) (taken t .summed) (c .index .ensures .0)
 
 loop-less : tie.Need-loop-less Inv-loop μ-loop
 loop-less c = search needs

@@ -86,16 +86,16 @@ mul-start c = search needs
 shared-slice-read-start : tie.Need-shared-slice-read-start Inv-loop μ-loop
 shared-slice-read-start c = omega (arith, cord-there (cord (c .before)), start (turn (cord (c .before)) .before) .pre .0 .starts-size)
 
-mul-serve : tie.Need-mul-serve Inv-loop μ-loop
+mul-serve : tie.Need-mul-serve-by-division Inv-loop μ-loop
 mul-serve c = search needs
 
-shared-slice-read-serve : tie.Need-shared-slice-read-serve Inv-loop μ-loop
+shared-slice-read-serve : tie.Need-shared-slice-read-serve-by-division Inv-loop μ-loop
 shared-slice-read-serve c = omega (arith, node-there (c .before .before))
 
-mul-serve-2 : tie.Need-mul-serve-2 Inv-loop μ-loop
+mul-serve-2 : tie.Need-mul-serve-by-division-2 Inv-loop μ-loop
 mul-serve-2 c = search needs
 
-shared-slice-read-serve-2 : tie.Need-shared-slice-read-serve-2 Inv-loop μ-loop
+shared-slice-read-serve-2 : tie.Need-shared-slice-read-serve-by-division-2 Inv-loop μ-loop
 shared-slice-read-serve-2 c = omega (arith, node-there (c .before .before .before), start (turn (cord (c .before .before .before)) .before) .pre .1 .0 .0)
 
 mul-wide : tie.Need-mul-wide Inv-loop μ-loop
@@ -112,7 +112,7 @@ sub-wide c =
 wide-requires : tie.Need-wide-requires Inv-loop μ-loop
 wide-requires c κs = search needs
 
-serve-requires : tie.Need-serve-requires Inv-loop μ-loop
+serve-requires : tie.Need-serve-by-division-requires Inv-loop μ-loop
 serve-requires c κs =
     let weighed = c .before .before in
     let at-node = node weighed in
@@ -123,7 +123,7 @@ add-grants : tie.Need-add-grants Inv-loop μ-loop
 add-grants c =
     let at-node = node (weight c) in
     let at-cord = cord at-node in
-    let most = grant-most (turn at-cord .before .loop .inv) (turn at-cord .loop-test .taken) (at-cord .index .ensures .0) (at-node .index2 .ensures .0) _ (weight c .wide .ensures .0) (c .before .before .before .before .serve .ensures) in
+    let most = grant-most (turn at-cord .before .loop .inv) (turn at-cord .loop-test .taken) (at-cord .index .ensures .0) (at-node .index2 .ensures .0) _ (weight c .wide .ensures .0) (c .before .before .before .before .serve-by-division .ensures) in
     record { fits = omega (arith, most) }
 
 mul-grants : tie.Need-mul-grants Inv-loop μ-loop
@@ -144,7 +144,7 @@ loop-again : tie.Need-loop-again Inv-loop μ-loop
 loop-again c =
     let at-node = node (weight c) in
     let at-cord = cord at-node in
-    cord-next (turn at-cord .before .loop .inv) (turn at-cord .loop-test .taken) (at-cord .index .ensures .0) (at-node .index2 .ensures .0) _ (weight c .wide .ensures .0) (c .before .before .before .before .serve .ensures) refl
+    cord-next (turn at-cord .before .loop .inv) (turn at-cord .loop-test .taken) (at-cord .index .ensures .0) (at-node .index2 .ensures .0) _ (weight c .wide .ensures .0) (c .before .before .before .before .serve-by-division .ensures) refl
 
 same-length : tie.Need-same-length Inv-loop μ-loop
 same-length c = c .before .loop .inv .served .before-size ∙ sym (start (c .before) .pre .1 .0 .1)

@@ -1,6 +1,6 @@
--- `deal_nodes` meets its contract: before each turn the active nodes passed have their amounts and are served as children; a node that
--- is not active has no weight.
-use mathlib.Core.Path.{_≡_, sym, ap, _∙_}
+-- `deal_nodes` meets its contract: before each turn the active nodes passed have their amounts and are served as children, and the others
+-- their weights; a node that is not active has none.
+use mathlib.Core.Path.{_≡_, refl, sym, ap, _∙_}
 use mathlib.Core.Logic.{⊎-elim}
 use Prim.Native.Nat.{_-_, _<_}
 use native.Mathlib.Omega.{arith}
@@ -11,15 +11,15 @@ use Rattle.ranks.proofs.dealing.deal_nodes.Statement.{statement}
 use Rattle.ranks.proofs.dealing.deal_nodes.Tie as tie
 
 abbrev Inv-loop : tie.InvT-loop
-Inv-loop parents active count level requests bases wholes amounts₀ before₀ dealt₀ i₀ amounts before dealt i =
-    DealTurn parents active count level requests bases wholes i amounts before dealt
+Inv-loop parents active count wholes amounts₀ before₀ dealt₀ i₀ amounts before dealt i =
+    DealTurn parents active count amounts₀ wholes (length before₀) i amounts before dealt
 
 abbrev μ-loop : tie.MeasureT-loop
-μ-loop parents active count level requests bases wholes amounts₀ before₀ dealt₀ i₀ amounts before dealt i = count - i
+μ-loop parents active count wholes amounts₀ before₀ dealt₀ i₀ amounts before dealt i = count - i
 
--- The steps that the needs cite: the start; and of a turn its test, the node's place, its Request and its parent's number.
+-- The steps that the needs cite: the start; and of a turn its test, the node's place, its weight and its parent's number.
 abbrev start : tie.At-loop Inv-loop μ-loop → tie.Start Inv-loop μ-loop
-start c = c .before .before .before .before .before .before .before .before
+start c = c .before .before .before .before .before .before .before
 
 abbrev turn : tie.After-index Inv-loop μ-loop → tie.In-loop Inv-loop μ-loop
 turn c = c .before .before
@@ -27,42 +27,36 @@ turn c = c .before .before
 abbrev node : tie.After-wide Inv-loop μ-loop → tie.After-index Inv-loop μ-loop
 node c = c .before .before
 
-abbrev request : tie.After-index2 Inv-loop μ-loop → tie.After-wide Inv-loop μ-loop
-request c = c .before .before .before
+abbrev weight : tie.After-index2 Inv-loop μ-loop → tie.After-wide Inv-loop μ-loop
+weight c = c .before .before
 
 -- The node stands in the lists of nodes, and its parent too if it has one.
 node-there : (c : tie.After-index Inv-loop μ-loop) → c .index .result < length (start (turn c .before) .args .parents .now)
 node-there c = deal-within (turn c .before .loop .inv) (turn c .loop-test .taken) (c .index .ensures .0)
 
-parent-there : (c : tie.After-index2 Inv-loop μ-loop) → (c .index2 .result ≡ 0 → ⊥) → c .index2 .result - 1 < length (start (turn (node (request c)) .before) .args .parents .now)
+parent-there : (c : tie.After-index2 Inv-loop μ-loop) → (c .index2 .result ≡ 0 → ⊥) → c .index2 .result - 1 < length (start (turn (node (weight c)) .before) .args .parents .now)
 parent-there c some =
-    let at-node = node (request c) in
+    let at-node = node (weight c) in
     let t = turn at-node .before .loop .inv in
     let more = turn at-node .loop-test .taken in
     let is = at-node .index .ensures .0 in
-    parent-within (deal-here t more is) (deal-within t more is) _ _ (request c .wide .ensures .0) (c .index2 .ensures .0) (deal-present t more is) some
+    parent-within (deal-here t more is) (deal-within t more is) (deal-present t more is) _ _ (weight c .wide .ensures .0) (c .index2 .ensures .0) some
 
 loop-holds : tie.Need-loop-holds Inv-loop μ-loop
 loop-holds c =
-    let pre = c .before .before .before .before .before .before .before .pre in
-    let sizes = pre .1 .0 in
+    let pre = c .before .before .before .before .before .before .pre in
     deal-start
     (nodes-start
-    (record {
-      rises = pre .0 .2;
-      bounds = pre .1 .1 .0;
-      nodes = pre .1 .1 .1 .0;
-      blank = pre .1 .1 .1 .1;
-    })
-    (sizes .2)
-    (sizes .3)
-    (sizes .4))
+    (record { rises = pre .0 .2; listed = pre .1 .0; bounds = pre .1 .1 })
+    (pre .0 .0)
+    refl
+    (pre .0 .1))
 
 mul-index : tie.Need-mul-index Inv-loop μ-loop
 mul-index c = search needs
 
 shared-slice-read-index : tie.Need-shared-slice-read-index Inv-loop μ-loop
-shared-slice-read-index c = omega (arith, c .before .before .loop .inv .turn .ready .nodes .few, c .before .loop-test .taken)
+shared-slice-read-index c = omega (arith, c .before .before .loop .inv .turn .ready .listed .nodes .few, c .before .loop-test .taken)
 
 index-requires : tie.Need-index-requires Inv-loop μ-loop
 index-requires c κs = search needs
@@ -71,59 +65,31 @@ mul-before : tie.Need-mul-before Inv-loop μ-loop
 mul-before c = search needs
 
 slice-write-before : tie.Need-slice-write-before Inv-loop μ-loop
-slice-write-before c = omega (arith, node-there c, turn c .before .loop .inv .turn .served .before-size)
+slice-write-before c = omega (arith, node-there c, turn c .before .loop .inv .turn .served .before-size, turn c .before .loop .inv .turn .enough)
 
 mul-dealt : tie.Need-mul-dealt Inv-loop μ-loop
 mul-dealt c = search needs
 
 slice-write-dealt : tie.Need-slice-write-dealt Inv-loop μ-loop
-slice-write-dealt c = omega (arith, node-there c, turn c .before .loop .inv .turn .served .dealt-size)
+slice-write-dealt c = omega (arith, node-there c, turn c .before .loop .inv .turn .served .dealt-size, turn c .before .loop .inv .turn .enough)
 
 mul-wide : tie.Need-mul-wide Inv-loop μ-loop
-mul-wide c = omega (arith, node-there c, start (turn c .before) .pre .0 .0)
+mul-wide c = search needs
 
-mul-wide-2 : tie.Need-mul-wide-2 Inv-loop μ-loop
-mul-wide-2 c = omega (arith, node-there c, start (turn c .before) .pre .0 .0)
-
-index-1-wide : tie.Need-index-1-wide Inv-loop μ-loop
-index-1-wide c = omega (arith, node-there c, start (turn c .before) .pre .0 .0)
-
-index-2-wide : tie.Need-index-2-wide Inv-loop μ-loop
-index-2-wide c = start (turn c .before) .pre .0 .1
+slice-read-wide : tie.Need-slice-read-wide Inv-loop μ-loop
+slice-read-wide c = omega (arith, node-there (c .before), turn (c .before) .before .loop .inv .turn .amounts-size, turn (c .before) .before .loop .inv .turn .ready .listed .weights-size)
 
 wide-requires : tie.Need-wide-requires Inv-loop μ-loop
 wide-requires c κs = search needs
-
-mul-weight : tie.Need-mul-weight Inv-loop μ-loop
-mul-weight c = search needs
-
-shared-slice-read-weight : tie.Need-shared-slice-read-weight Inv-loop μ-loop
-shared-slice-read-weight c = omega (arith, node-there (node (c .before)), start (turn (node (c .before)) .before) .pre .1 .0 .0)
-
-sub-weight : tie.Need-sub-weight Inv-loop μ-loop
-sub-weight c =
-    let at-node = node (c .before) in
-    omega (arith, start (turn at-node .before) .pre .1 .1 .0 (at-node .index .result) (node-there at-node) .0, c .before .wide .ensures .0)
 
 mul-index-2 : tie.Need-mul-index-2 Inv-loop μ-loop
 mul-index-2 c = search needs
 
 shared-slice-read-index-2 : tie.Need-shared-slice-read-index-2 Inv-loop μ-loop
-shared-slice-read-index-2 c = node-there (node (c .before .before))
+shared-slice-read-index-2 c = node-there (node (c .before))
 
 index-requires-2 : tie.Need-index-requires-2 Inv-loop μ-loop
 index-requires-2 c κs = search needs
-
-narrow-requires : tie.Need-narrow-requires Inv-loop μ-loop
-narrow-requires c κs = omega (arith, request (c .before) .wide .ensures .1)
-
-mul-amounts : tie.Need-mul-amounts Inv-loop μ-loop
-mul-amounts c = search needs
-
-slice-write-amounts : tie.Need-slice-write-amounts Inv-loop μ-loop
-slice-write-amounts c =
-    let at-node = node (request (c .before .before)) in
-    omega (arith, node-there at-node, turn at-node .before .loop .inv .turn .amounts-size)
 
 sub-p : tie.Need-sub-p Inv-loop μ-loop
 sub-p c = search needs
@@ -134,7 +100,8 @@ mul-serve c = search needs
 slice-read-serve : tie.Need-slice-read-serve Inv-loop μ-loop
 slice-read-serve c =
     let parent = c .before .before in
-    omega (arith, parent-there parent (c .before .if1 .left), turn (node (request parent)) .before .loop .inv .turn .amounts-size)
+    let t = turn (node (weight parent)) .before .loop .inv .turn in
+    omega (arith, parent-there parent (c .before .if1 .taken), t .amounts-size, t .ready .listed .weights-size)
 
 mul-serve-2 : tie.Need-mul-serve-2 Inv-loop μ-loop
 mul-serve-2 c = search needs
@@ -142,24 +109,26 @@ mul-serve-2 c = search needs
 shared-slice-read-serve : tie.Need-shared-slice-read-serve Inv-loop μ-loop
 shared-slice-read-serve c =
     let parent = c .before .before .before in
-    omega (arith, parent-there parent (c .before .before .if1 .left), start (turn (node (request parent)) .before) .pre .1 .0 .1)
+    let t = turn (node (weight parent)) .before .loop .inv .turn in
+    omega (arith, parent-there parent (c .before .before .if1 .taken), t .ready .listed .wholes-size)
 
 serve-requires : tie.Need-serve-requires Inv-loop μ-loop
 serve-requires c κs =
     let parent = c .before .before .before .before .before in
-    let at-node = node (request parent) in
+    let at-node = node (weight parent) in
     let t = turn at-node .before .loop .inv in
     let more = turn at-node .loop-test .taken in
     let is = at-node .index .ensures .0 in
-    node-may-serve (deal-here t more is) (deal-within t more is) _ _ (request parent .wide .ensures .0) (parent .index2 .ensures .0) (deal-present t more is) (c .before .before .before .before .if1 .left)
+    node-may-serve (deal-here t more is) (deal-within t more is) (deal-present t more is) _ _ (weight parent .wide .ensures .0) (parent .index2 .ensures .0) (c .before .before .before .before .if1 .taken)
 
-mul-amounts-2 : tie.Need-mul-amounts-2 Inv-loop μ-loop
-mul-amounts-2 c = search needs
+mul-amounts : tie.Need-mul-amounts Inv-loop μ-loop
+mul-amounts c = search needs
 
-slice-write-amounts-2 : tie.Need-slice-write-amounts-2 Inv-loop μ-loop
-slice-write-amounts-2 c =
-    let at-node = node (request (c .before .before .before .before .before .before .before .before .before .before)) in
-    omega (arith, node-there at-node, turn at-node .before .loop .inv .turn .amounts-size)
+slice-write-amounts : tie.Need-slice-write-amounts Inv-loop μ-loop
+slice-write-amounts c =
+    let at-node = node (weight (c .before .before .before .before .before .before .before .before .before .before)) in
+    let t = turn at-node .before .loop .inv .turn in
+    omega (arith, node-there at-node, t .amounts-size, t .ready .listed .weights-size)
 
 add-i : tie.Need-add-i Inv-loop μ-loop
 add-i c = search needs
@@ -170,27 +139,28 @@ loop-less c = search needs
 loop-again : tie.Need-loop-again Inv-loop μ-loop
 loop-again c =
     let parent = c .before .index2 .ensures .0 in
-    let asked = request (c .before) in
-    let at-node = node asked in
+    let weighed = weight (c .before) in
+    let at-node = node weighed in
     let t = turn at-node .before .loop .inv in
     let more = turn at-node .loop-test .taken in
     let is = at-node .index .ensures .0 in
     let here = deal-here t more is in
     let within = deal-within t more is in
-    let request-is = asked .wide .ensures .0 in
+    let some = deal-present t more is in
+    let weight-is = weighed .wide .ensures .0 in
     ⊎-elim
-    (λ w. deal-next t more is (root-next here within _ _ request-is parent (w .0 .taken) (w .2 ∙ ap (set (turn at-node .before .loop .amounts) (at-node .index .result)) (w .1 .ensures)) (w .3) (w .4)))
-    (λ w. deal-next t more is (inner-next here within _ _ request-is parent (deal-present t more is) (w .0 .left) _ (record { watts-are = w .5 .ensures .watts-are; before-is = w .11 ∙ w .5 .ensures .before-is; dealt-is = w .12 ∙ w .5 .ensures .dealt-is }) (w .10)))
+    (λ w. deal-next t more is (inner-next here within some _ _ weight-is parent (w .0 .taken) _ (record { watts-are = w .5 .ensures .watts-are; before-is = w .11 ∙ w .5 .ensures .before-is; dealt-is = w .12 ∙ w .5 .ensures .dealt-is }) (w .10)))
+    (λ w. deal-next t more is (root-next here within some _ _ weight-is parent (w .0 .left) (w .1) (w .2) (w .3)))
     (c .if1 .came)
 
 same-length : tie.Need-same-length Inv-loop μ-loop
-same-length c = c .before .loop .inv .turn .amounts-size ∙ sym (start (c .before) .pre .1 .0 .2)
+same-length c = c .before .loop .inv .turn .amounts-size
 
 same-length-2 : tie.Need-same-length-2 Inv-loop μ-loop
-same-length-2 c = c .before .loop .inv .turn .served .before-size ∙ sym (start (c .before) .pre .1 .0 .3)
+same-length-2 c = c .before .loop .inv .turn .served .before-size
 
 same-length-3 : tie.Need-same-length-3 Inv-loop μ-loop
-same-length-3 c = c .before .loop .inv .turn .served .dealt-size ∙ sym (start (c .before) .pre .1 .0 .4)
+same-length-3 c = c .before .loop .inv .turn .served .dealt-size ∙ sym (start (c .before) .pre .0 .1)
 
 returns : tie.Need-returns Inv-loop μ-loop
 returns c = deal-end (c .before .loop .inv) (c .loop-test .left)
@@ -210,27 +180,19 @@ deal-nodes-spec =
     mul-dealt
     slice-write-dealt
     mul-wide
-    mul-wide-2
-    index-1-wide
-    index-2-wide
+    slice-read-wide
     wide-requires
-    mul-weight
-    shared-slice-read-weight
-    sub-weight
     mul-index-2
     shared-slice-read-index-2
     index-requires-2
-    narrow-requires
-    mul-amounts
-    slice-write-amounts
     sub-p
     mul-serve
     slice-read-serve
     mul-serve-2
     shared-slice-read-serve
     serve-requires
-    mul-amounts-2
-    slice-write-amounts-2
+    mul-amounts
+    slice-write-amounts
     add-i
     loop-less
     loop-again

@@ -1,9 +1,9 @@
 -- `sum_cords` meets its contract: before each turn the cords of the entries passed are summed on their nodes.
-use mathlib.Core.Path.{ap, _∙_}
-use Prim.Native.Nat.{ℕ, _-_, _≤_, _<_}
+use mathlib.Core.Path.{refl, _∙_}
+use Prim.Native.Nat.{_-_, _≤_, _<_}
 use native.Mathlib.Omega.{arith}
 use borrow.Author.Needs.{needs}
-use lib.ListN.{length, replicate}
+use lib.ListN.{length}
 use Rattle.figures.specs.Figures.{at}
 use Rattle.rooms.specs.Table.{mostWatts}
 use Rattle.ranks.proofs.CordSums.{cord-within, cord-bounds, SumTurn, sums-start, sums-end, start-fits, weight-fits, sums-next}
@@ -11,11 +11,11 @@ use Rattle.ranks.proofs.metrics.sum_cords.Statement.{statement}
 use Rattle.ranks.proofs.metrics.sum_cords.Tie as tie
 
 abbrev Inv-loop : tie.InvT-loop
-Inv-loop listed nodes starts wants bases₀ wholes₀ i₀ i-end bases wholes i =
-    SumTurn (length bases₀) listed nodes starts wants i bases wholes
+Inv-loop count listed nodes starts wants bases₀ wholes₀ i₀ i-end bases wholes i =
+    SumTurn count listed nodes starts wants (length bases₀) (length wholes₀) i bases wholes
 
 abbrev μ-loop : tie.MeasureT-loop
-μ-loop listed nodes starts wants bases₀ wholes₀ i₀ i-end bases wholes i = length listed - i
+μ-loop count listed nodes starts wants bases₀ wholes₀ i₀ i-end bases wholes i = length listed - i
 
 -- The steps that the needs cite: the lists cleared, the last one first, and the start before them.
 abbrev wholes-cleared : tie.At-loop Inv-loop μ-loop → tie.After-clear2 Inv-loop μ-loop
@@ -73,7 +73,8 @@ loop-holds c =
     let second = c .before .before in
     let first = bases-cleared second in
     let pre = first .before .before .before .before .before .before .before .before .pre in
-    sums-start (pre .0) (first .clear .ensures) (second .clear2 .ensures ∙ ap (λ (k : ℕ). replicate {A = ℕ} k 0) (pre .1))
+    sums-start (pre .0) refl refl (omega (arith, pre .1 .0, first .clear .kept .0)) (omega (arith, pre .1 .1, second .clear2 .kept .0))
+    (first .clear .ensures) (second .clear2 .ensures)
 
 mul-index : tie.Need-mul-index Inv-loop μ-loop
 mul-index c = search needs
@@ -144,16 +145,15 @@ loop-again c =
     (weighed .before .before .before .before .before .credit .ensures) (c .before .before .credit2 .ensures)
 
 same-length : tie.Need-same-length Inv-loop μ-loop
-same-length c = c .before .loop .inv .bases-are .size ∙ cleared (c .before) .clear .kept .0
+same-length c = c .before .loop .inv .bases-size ∙ cleared (c .before) .clear .kept .0
 
 same-length-2 : tie.Need-same-length-2 Inv-loop μ-loop
-same-length-2 c = omega (arith, c .before .loop .inv .wholes-are .size, cleared (c .before) .clear .kept .0, start (c .before) .pre .1)
+same-length-2 c = c .before .loop .inv .wholes-size ∙ wholes-cleared (c .before) .clear2 .kept .0
 
 returns : tie.Need-returns Inv-loop μ-loop
 returns c =
     let all = sums-end (c .before .loop .inv) (c .loop-test .left) in
-    let kept = cleared (c .before) .clear .kept .0 in
-    (λ n l. all n (omega (arith, kept)) .0, λ n l. all n (omega (arith, kept)) .1)
+    (λ n l. all n l .0, λ n l. all n l .1)
 
 pub sum-cords-spec : {M : Type 1} → statement M
 sum-cords-spec =

@@ -32,6 +32,7 @@ fn main() {
     println!("Microseconds a call: the least of {ROUNDS} rounds, product and baseline in turn, {ROOMS} rooms a round.");
     println!();
     full_rooms();
+    small_rooms();
     growth();
     large_watts();
     steps::times();
@@ -54,7 +55,7 @@ fn compared_rooms(kind: Kind) -> Vec<Inputs> {
 fn full_rooms() {
     println!("512 nodes, 512 servers, 1,024 cords      product  baseline     ratio");
     for shape in SHAPES {
-        for ranks in [1, 16] {
+        for ranks in [1, 4, 16] {
             let rooms = compared_rooms(Kind { shape, ranks, ..FULL });
             for (name, product, baseline) in CALLS {
                 let (ours, theirs) = times(product, baseline, &rooms);
@@ -96,6 +97,17 @@ fn growth() {
         }
         for ranks in [1, 2, 4, 8, 16] {
             grown(&format!("{shape:?}, ranks: {ranks}"), Kind { shape, ranks, ..FULL });
+        }
+    }
+    println!();
+}
+
+/// Plan in rooms such as most huts have: what does not grow with the room counts most.
+fn small_rooms() {
+    println!("Plan, 10 nodes, 20 servers, 40 cords     product  baseline     ratio");
+    for shape in SHAPES {
+        for ranks in [1, 4] {
+            grown(&format!("{shape:?}, ranks: {ranks}"), Kind { shape, ranks, nodes: 10, cords: 40, ..FULL });
         }
     }
     println!();

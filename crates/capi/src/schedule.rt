@@ -7,7 +7,7 @@ ghost use Rattle.schedules.specs.Call.{ScheduleCall};
 
 #[no_mangle]
 pub extern "C" fn hutplan_schedule(text: &[u8], table: &mut [u8], answer: &mut [u8]) -> u32
-    ensures { λ r. ⌜ ScheduleCall (now (text .entry)) (now (table .entry)) (now (answer .entry)) r (now (table .exit)) (now (answer .exit)) ⌝ }
+    ensures called { λ r. ⌜ ScheduleCall (now (text .entry)) (now (table .entry)) (now (answer .entry)) r (now (table .exit)) (now (answer .exit)) ⌝ }
 {
     schedules::schedule_bytes(text, table, answer)
 }

@@ -14,7 +14,7 @@ pub extern "C" fn hutplan_send(
     list: &mut [u8],
     answer: &mut [u8],
 ) -> u32
-    ensures { λ r. ⌜ SendCall count position m (now (list .entry)) (now (answer .entry)) r (now (list .exit)) (now (answer .exit)) ⌝ }
+    ensures called { λ r. ⌜ SendCall count position m (now (list .entry)) (now (answer .entry)) r (now (list .exit)) (now (answer .exit)) ⌝ }
 {
     sender::send_bytes(count, position, m, list, answer)
 }

@@ -22,7 +22,8 @@ pub extern "C" fn hutplan_step(
     measured: &[f64; 4],
     answer: &mut [u8],
 ) -> u32
-    ensures { λ r. ⌜ StepCall (now (controller .entry)) (now (working .entry)) (now (budgets .entry)) (now (measured .entry)) (now (answer .entry)) r (now (controller .exit)) (now (answer .exit)) ⌝ }
+    ensures called { λ r. ⌜ StepCall (now (controller .entry)) (now (working .entry)) (now (budgets .entry)) (now (measured .entry)) (now (answer .entry))
+        r (now (controller .exit)) (now (answer .exit)) ⌝ }
 {
     control::call::step_in_place(controller, working, budgets, measured, answer)
 }
@@ -37,7 +38,9 @@ pub extern "C" fn hutplan_step_all(
     results: &mut [u8],
     answer: &mut [u8],
 ) -> u32
-    ensures { λ r. ⌜ PassCall (now (controllers .entry)) (now (working .entry)) (now (budgets .entry)) (now (measured .entry)) (now (results .entry)) (now (answer .entry)) r (now (controllers .exit)) (now (results .exit)) (now (answer .exit)) ⌝ }
+    ensures called { λ r. ⌜ PassCall (now (controllers .entry)) (now (working .entry)) (now (budgets .entry)) (now (measured .entry))
+        (now (results .entry)) (now (answer .entry))
+        r (now (controllers .exit)) (now (results .exit)) (now (answer .exit)) ⌝ }
 {
     control_all::call::step_all_in_place(controllers, working, budgets, measured, results, answer)
 }

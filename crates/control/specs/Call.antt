@@ -1,14 +1,13 @@
 -- A step called from C: a controller and its cords' readings as plain numbers, and what the call returns and leaves in every entry.
 --
 -- Lists are read at a place, so that the same words serve a list of many controllers. What stands past a list's end counts as 0 or NaN.
-use mathlib.Core.Path.{_≡_}
 use mathlib.Core.Bool.{cond}
 use mathlib.Core.List.{List, [], _∷_}
 use Prim.Native.Nat.{ℕ, _+_}
 use lib.Dec.{eqb}
 use lib.ListN.{getD, set}
 use lib.Ieee.{Float, nan}
-use Rattle.words.specs.Bytes.{holdsAnswer, answered}
+use Rattle.calls.specs.Call.{Call, Left}
 use Rattle.control.specs.declared.Reading.{Reading}
 use Rattle.control.specs.declared.Reading.the-variants.{Working, Failed}
 use Rattle.control.specs.declared.Controller.{Controller}
@@ -53,14 +52,13 @@ figuresAfter (Refused why unchanged) figures at = figures
 
 -- ---- The call
 
--- What the call of a step returns and leaves: 1, with the answer stored and the new cap kept; or 0, with nothing changed, where the
--- answer's buffer is too short.
-pub record SteppedCall (step : Stepped) (controller : List Float) (answer : List ℕ) (r : ℕ) (controller′ : List Float) (answer′ : List ℕ) : Type 0 where
-  pub returned : r ≡ cond (holdsAnswer answer) 1 0
-  pub controller-after : controller′ ≡ cond (holdsAnswer answer) (figuresAfter step controller 0) controller
-  pub answer-after : answer′ ≡ answered (stepNumber step) (stepPlace step) answer
+-- A step, called from C, that comes to a step.
+abbrev pub SteppedCall : Stepped → (controller : List Float) (answer : List ℕ) (r : ℕ) (controller′ : List Float) (answer′ : List ℕ) → Type 0
+SteppedCall step controller answer r controller′ answer′ =
+    Call 2 (stepNumber step ∷ stepPlace step ∷ []) answer (Left (figuresAfter step controller 0) controller controller′) r answer′
 
 -- A step, called from C. The marks, the budgets and the measured watts are not written.
-abbrev pub StepCall : (controller : List Float) (working : List ℕ) (budgets measured : List Float) (answer : List ℕ) (r : ℕ) (controller′ : List Float) (answer′ : List ℕ) → Type 0
+abbrev pub StepCall : (controller : List Float) (working : List ℕ) (budgets measured : List Float) (answer : List ℕ) (r : ℕ)
+    (controller′ : List Float) (answer′ : List ℕ) → Type 0
 StepCall controller working budgets measured answer r controller′ answer′ =
     SteppedCall (stepAt controller working budgets measured 0) controller answer r controller′ answer′

@@ -90,7 +90,8 @@ NoneWorkingKeepsCap = (s : AcceptedStep) → working (s .readings) ≡ 0 → s .
 
 -- A refused step leaves the controller unchanged.
 abbrev pub RefusedUnchanged : Type 0
-RefusedUnchanged = (c : Controller) (readings : List Reading) (why : Refusal) (after : Controller) → stepped c readings ≡ Refused why after → after ≡ c
+RefusedUnchanged = (c : Controller) (readings : List Reading) (why : Refusal) (after : Controller) → stepped c readings ≡ Refused why after
+    → after ≡ c
 
 -- What refusal 16 asks of a controller, in document 02's words.
 pub record Sound (c : Controller) : Type 0 where

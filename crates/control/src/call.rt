@@ -6,14 +6,12 @@ use crate::Controller;
 use crate::DcWatts;
 use crate::Reading;
 use crate::Stepped;
-
-// An answer is two numbers of eight bytes each.
-const ANSWER_BYTES: usize = 16;
+use calls::ANSWER_BYTES;
 
 impl Controller {
     // The controller of four figures.
     pub fn of(cap: f64, k: f64, low: f64, high: f64) -> Controller
-        ensures { λ r. ⌜ r ≡ controllerOf cap k low high ⌝ }
+        ensures result { λ r. ⌜ r ≡ controllerOf cap k low high ⌝ }
     {
         Controller {
             cap: DcWatts(cap),
@@ -27,7 +25,7 @@ impl Controller {
 impl Reading {
     // The reading of a mark, 0 for a cord that failed or is not fitted, and two figures.
     pub fn of(mark: u8, budget: f64, measured: f64) -> Reading
-        ensures { λ r. ⌜ r ≡ readingOf mark budget measured ⌝ }
+        ensures result { λ r. ⌜ r ≡ readingOf mark budget measured ⌝ }
     {
         if mark == 0 {
             Reading::Failed
@@ -39,7 +37,7 @@ impl Reading {
 
 // The readings of four cords.
 fn readings(working: &[u8; 4], budgets: &[f64; 4], measured: &[f64; 4]) -> [Reading; 4]
-    ensures { λ r. ⌜ r ≡ readingsAt (now (working .entry)) (now (budgets .entry)) (now (measured .entry)) 0 ⌝ }
+    ensures result { λ r. ⌜ r ≡ readingsAt (now (working .entry)) (now (budgets .entry)) (now (measured .entry)) 0 ⌝ }
 {
     let first = Reading::of(working[0], budgets[0], measured[0]);
     let second = Reading::of(working[1], budgets[1], measured[1]);
@@ -50,7 +48,7 @@ fn readings(working: &[u8; 4], budgets: &[f64; 4], measured: &[f64; 4]) -> [Read
 
 // Stores the new cap of an accepted step. After a refused one nothing is stored, so that also a NaN keeps its bits.
 fn keep_cap(stepped: Stepped, controller: &mut [f64; 4])
-    ensures { λ _. ⌜ now (controller .exit) ≡ figuresAfter stepped (now (controller .entry)) 0 ⌝ }
+    ensures controller { λ _. ⌜ now (controller .exit) ≡ figuresAfter stepped (now (controller .entry)) 0 ⌝ }
 {
     match stepped {
         Stepped::Next(next) => {
@@ -68,7 +66,8 @@ pub fn step_in_place(
     measured: &[f64; 4],
     answer: &mut [u8],
 ) -> u32
-    ensures { λ r. ⌜ StepCall (now (controller .entry)) (now (working .entry)) (now (budgets .entry)) (now (measured .entry)) (now (answer .entry)) r (now (controller .exit)) (now (answer .exit)) ⌝ }
+    ensures called { λ r. ⌜ StepCall (now (controller .entry)) (now (working .entry)) (now (budgets .entry)) (now (measured .entry)) (now (answer .entry))
+        r (now (controller .exit)) (now (answer .exit)) ⌝ }
 {
     if answer.len() < ANSWER_BYTES {
         return 0;
@@ -76,6 +75,6 @@ pub fn step_in_place(
     let before = Controller::of(controller[0], controller[1], controller[2], controller[3]);
     let stepped = before.step(readings(working, budgets, measured));
     keep_cap(stepped, controller);
-    words::store_answer(stepped.number(), stepped.place(), answer);
+    calls::store_answer(stepped.number(), stepped.place(), answer);
     1
 }

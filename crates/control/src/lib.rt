@@ -4,7 +4,8 @@
 ghost use mathlib.Core.Path.{_≡_};
 ghost use mathlib.Core.Bool.{_&&_};
 ghost use Prim.Native.Nat.{_+_, min};
-ghost use Rattle.control.specs.Step.{float0, mostWatts, ordered, isEfficiency, difference, lesserFigure, lesser, dcChange, sum, cutFigure, cut, goodReading, goodController, moved, stepped, refusal, stepNumber, stepPlace, controllerAfter};
+ghost use Rattle.control.specs.Step.{float0, mostWatts, ordered, isEfficiency, difference, lesserFigure, lesser, dcChange, sum, cutFigure};
+ghost use Rattle.control.specs.Step.{cut, goodReading, goodController, moved, stepped, refusal, stepNumber, stepPlace, controllerAfter};
 ghost use Rattle.control.specs.declared.Judged.the-variants.{Bad};
 ghost use Rattle.control.specs.Judged.{greaterFigure, noTally, tallied, movedBy, judgedFirst, judgedWith, steppedBy};
 
@@ -64,14 +65,14 @@ pub enum Judged {
 
 // Whether low ≤ x ≤ high, which no NaN does.
 fn ordered(low: f64, x: f64, high: f64) -> bool
-    ensures { λ r. ⌜ r ≡ ordered low x high ⌝ }
+    ensures result { λ r. ⌜ r ≡ ordered low x high ⌝ }
 {
     low <= x && x <= high
 }
 
 // Whether k lies above 0 and up to 1.
 fn is_efficiency(k: f64) -> bool
-    ensures { λ r. ⌜ r ≡ isEfficiency k ⌝ }
+    ensures result { λ r. ⌜ r ≡ isEfficiency k ⌝ }
 {
     0.0 < k && k <= 1.0
 }
@@ -79,21 +80,21 @@ fn is_efficiency(k: f64) -> bool
 impl AcWatts {
     // A budget less what is measured.
     fn less(self, measured: AcWatts) -> AcWatts
-        ensures { λ r. ⌜ r ≡ difference self measured ⌝ }
+        ensures result { λ r. ⌜ r ≡ difference self measured ⌝ }
     {
         AcWatts(self.0 - measured.0)
     }
 
     // The lesser of two errors, and the first of equals.
     fn lesser(self, second: AcWatts) -> AcWatts
-        ensures { λ r. ⌜ r ≡ lesser self second ⌝ }
+        ensures result { λ r. ⌜ r ≡ lesser self second ⌝ }
     {
         AcWatts(lesser(self.0, second.0))
     }
 
     // The DC change for an AC error of so many working cords: the one place where AC watts become DC watts.
     fn dc_change(self, k: f64, working: u32) -> DcWatts
-        ensures { λ r. ⌜ r ≡ dcChange self k working ⌝ }
+        ensures result { λ r. ⌜ r ≡ dcChange self k working ⌝ }
     {
         let count = working as f64;
         DcWatts((self.0 * k) * count)
@@ -103,7 +104,7 @@ impl AcWatts {
 impl DcWatts {
     // A cap with a change added, and the sum cut to a range.
     fn moved(self, change: DcWatts, low: DcWatts, high: DcWatts) -> DcWatts
-        ensures { λ r. ⌜ r ≡ cut (sum self change) low high ⌝ }
+        ensures result { λ r. ⌜ r ≡ cut (sum self change) low high ⌝ }
     {
         let sum = DcWatts(self.0 + change.0);
         sum.cut(low, high)
@@ -111,7 +112,7 @@ impl DcWatts {
 
     // A cap cut to a range.
     fn cut(self, low: DcWatts, high: DcWatts) -> DcWatts
-        ensures { λ r. ⌜ r ≡ cut self low high ⌝ }
+        ensures result { λ r. ⌜ r ≡ cut self low high ⌝ }
     {
         DcWatts(cut(self.0, low.0, high.0))
     }
@@ -119,14 +120,14 @@ impl DcWatts {
 
 // The lesser of two figures, and the first of equals. They are chosen as floats: a choice between structs goes through integer registers.
 fn lesser(first: f64, second: f64) -> f64
-    ensures { λ r. ⌜ r ≡ lesserFigure first second ⌝ }
+    ensures result { λ r. ⌜ r ≡ lesserFigure first second ⌝ }
 {
     if second < first { second } else { first }
 }
 
 // The greater of two figures, and the second of equals: whichever of them is not the lesser.
 fn greater(first: f64, second: f64) -> f64
-    ensures { λ r. ⌜ r ≡ greaterFigure first second ⌝ }
+    ensures result { λ r. ⌜ r ≡ greaterFigure first second ⌝ }
 {
     if second < first { first } else { second }
 }
@@ -134,14 +135,14 @@ fn greater(first: f64, second: f64) -> f64
 // Whether two figures are numbers from 0 to the greatest watts, by two bounds in place of four. Each figure, a NaN too, is either the lesser or the
 // greater, and a NaN is within no bound.
 fn in_range(first: f64, second: f64) -> bool
-    ensures { λ r. ⌜ r ≡ ordered float0 first mostWatts && ordered float0 second mostWatts ⌝ }
+    ensures result { λ r. ⌜ r ≡ ordered float0 first mostWatts && ordered float0 second mostWatts ⌝ }
 {
     0.0 <= lesser(first, second) && greater(first, second) <= MOST_WATTS
 }
 
 // A figure cut to a range.
 fn cut(x: f64, low: f64, high: f64) -> f64
-    ensures { λ r. ⌜ r ≡ cutFigure x low high ⌝ }
+    ensures result { λ r. ⌜ r ≡ cutFigure x low high ⌝ }
 {
     if x < low {
         low
@@ -155,7 +156,7 @@ fn cut(x: f64, low: f64, high: f64) -> f64
 impl Reading {
     // Whether a cord's figures are good: a failed cord has none.
     fn is_good(self) -> bool
-        ensures { λ r. ⌜ r ≡ goodReading self ⌝ }
+        ensures result { λ r. ⌜ r ≡ goodReading self ⌝ }
     {
         match self {
             Reading::Working(budget, measured) => in_range(budget.0, measured.0),
@@ -166,7 +167,7 @@ impl Reading {
 
 // A count with one cord more, of the four that a server has.
 fn one_more(count: u32) -> u32
-    ensures { λ r. ⌜ r ≡ min (count + 1) 4 ⌝ }
+    ensures result { λ r. ⌜ r ≡ min (count + 1) 4 ⌝ }
 {
     if count < 4 { count + 1 } else { 4 }
 }
@@ -174,7 +175,7 @@ fn one_more(count: u32) -> u32
 impl Tally {
     // The tally of no cord: the error is infinite, so that any cord's is the lesser.
     fn none() -> Tally
-        ensures { λ r. ⌜ r ≡ noTally ⌝ }
+        ensures result { λ r. ⌜ r ≡ noTally ⌝ }
     {
         Tally {
             least: AcWatts(1.0 / 0.0),
@@ -184,7 +185,7 @@ impl Tally {
 
     // The tally with one cord more.
     fn with(self, reading: Reading) -> Tally
-        ensures { λ r. ⌜ r ≡ tallied self reading ⌝ }
+        ensures result { λ r. ⌜ r ≡ tallied self reading ⌝ }
     {
         match reading {
             Reading::Working(budget, measured) => {
@@ -201,7 +202,7 @@ impl Tally {
 
 // The judgement of what is not good.
 fn refused(number: u64, place: u64) -> Judged
-    ensures { λ r. ⌜ r ≡ Bad (refusal number place) ⌝ }
+    ensures result { λ r. ⌜ r ≡ Bad (refusal number place) ⌝ }
 {
     Judged::Bad(Refusal { number, place })
 }
@@ -209,7 +210,7 @@ fn refused(number: u64, place: u64) -> Judged
 impl Judged {
     // The judgement with one cord more, which is judged if all before it are good.
     pub fn with(self, place: u64, reading: Reading) -> Judged
-        ensures { λ r. ⌜ r ≡ judgedWith self place reading ⌝ }
+        ensures result { λ r. ⌜ r ≡ judgedWith self place reading ⌝ }
     {
         match self {
             Judged::Good(tally) => {
@@ -226,10 +227,10 @@ impl Judged {
 impl Controller {
     // One step: the successor, by the readings of the server's four cords.
     //
-    // It is made of small parts, so that each is compiled into this and into a pass over many controllers, which is made of them too: a step that both
-    // called would be compiled apart, and its readings and what it gives would go through memory.
+    // It is made of small parts, so that each is compiled into this and into a pass over many controllers, which is made of them too: a
+    // step that both called would be compiled apart, and its readings and what it gives would go through memory.
     pub fn step(self, readings: [Reading; 4]) -> Stepped
-        ensures { λ r. ⌜ r ≡ stepped self readings ⌝ }
+        ensures result { λ r. ⌜ r ≡ stepped self readings ⌝ }
     {
         let none = self.judged();
         let one = none.with(0, readings[0]);
@@ -241,7 +242,7 @@ impl Controller {
 
     // The controller judged, before its cords.
     pub fn judged(self) -> Judged
-        ensures { λ r. ⌜ r ≡ judgedFirst self ⌝ }
+        ensures result { λ r. ⌜ r ≡ judgedFirst self ⌝ }
     {
         if !self.is_good() {
             return refused(BAD_CONTROLLER, 0);
@@ -251,7 +252,7 @@ impl Controller {
 
     // The step, once the controller and its cords are judged. It moves whatever controller it is given: the caller hands over the judgement of this one.
     pub fn step_by(self, judged: Judged) -> Stepped
-        ensures { λ r. ⌜ r ≡ steppedBy self judged ⌝ }
+        ensures result { λ r. ⌜ r ≡ steppedBy self judged ⌝ }
     {
         match judged {
             Judged::Good(tally) => Stepped::Next(self.moved_by(tally)),
@@ -261,7 +262,7 @@ impl Controller {
 
     // The successor, by the tally of all cords. With none working, the cap stays.
     fn moved_by(self, tally: Tally) -> Controller
-        ensures { λ r. ⌜ r ≡ movedBy self tally ⌝ }
+        ensures result { λ r. ⌜ r ≡ movedBy self tally ⌝ }
     {
         if tally.working == 0 {
             return self;
@@ -272,7 +273,7 @@ impl Controller {
 
     // Whether k is an efficiency, and 0 ≤ low ≤ cap ≤ high ≤ the greatest watts.
     fn is_good(self) -> bool
-        ensures { λ r. ⌜ r ≡ goodController self ⌝ }
+        ensures result { λ r. ⌜ r ≡ goodController self ⌝ }
     {
         if !is_efficiency(self.k) {
             return false;
@@ -282,7 +283,7 @@ impl Controller {
 
     // The controller with its cap moved by the least error of so many working cords.
     fn moved(self, error: AcWatts, working: u32) -> Controller
-        ensures { λ r. ⌜ r ≡ moved self error working ⌝ }
+        ensures result { λ r. ⌜ r ≡ moved self error working ⌝ }
     {
         let cap = self.cap;
         let low = self.low;
@@ -300,7 +301,7 @@ impl Controller {
 impl Stepped {
     // The refusal's number, or 0.
     pub fn number(self) -> u64
-        ensures { λ r. ⌜ r ≡ stepNumber self ⌝ }
+        ensures result { λ r. ⌜ r ≡ stepNumber self ⌝ }
     {
         match self {
             Stepped::Next(_) => 0,
@@ -310,7 +311,7 @@ impl Stepped {
 
     // The refusal's place, or 0.
     pub fn place(self) -> u64
-        ensures { λ r. ⌜ r ≡ stepPlace self ⌝ }
+        ensures result { λ r. ⌜ r ≡ stepPlace self ⌝ }
     {
         match self {
             Stepped::Next(_) => 0,
@@ -320,7 +321,7 @@ impl Stepped {
 
     // The controller after the step.
     pub fn controller(self) -> Controller
-        ensures { λ r. ⌜ r ≡ controllerAfter self ⌝ }
+        ensures result { λ r. ⌜ r ≡ controllerAfter self ⌝ }
     {
         match self {
             Stepped::Next(successor) => successor,

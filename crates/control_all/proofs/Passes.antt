@@ -1,15 +1,16 @@
 -- What a pass, and its C call, give and leave, from what the functions that they call ensure.
 use mathlib.Core.Path.{_≡_, refl, sym, ap, _∙_}
 use mathlib.Core.Bool.{Bool, true, false, not}
-use mathlib.Core.List.{List, []}
+use mathlib.Core.List.{List, [], _∷_}
 use Prim.Native.Nat.{ℕ, _≤_, _<_}
+use native.Mathlib.Omega.{arith}
 use lib.ListN.{length}
 use lib.Ieee.{Float}
 use Rattle.outcomes.specs.Outcome.{accepted, refused, after}
 use Rattle.outcomes.proofs.Outcomes.{unless-stop, unless-pass, unless-none}
-use Rattle.words.specs.Bytes.{answered}
+use Rattle.calls.specs.Call.{answered}
+use Rattle.calls.proofs.Calls as calls
 use Rattle.words.proofs.Lists.{sets-all}
-use Rattle.words.proofs.Bytes.{holdsAnswer-short, holdsAnswer-long, answered-short}
 use Rattle.control_all.specs.declared.Answer.{Answer}
 use Rattle.control_all.specs.declared.Answer.the-variants.{Accepted, Refused}
 use Rattle.control_all.specs.Pass.{controllerCount, steppedTo, numbersTo, zeros, Pass, PassOutcome, unfit, passed, answerOf, answerNumber, answerFigure}
@@ -65,20 +66,13 @@ module _ (controllers : List Float) (working : List ℕ) (budgets measured : Lis
 -- Where the answer's buffer is too short, nothing is changed.
 pub call-short : (outcome : PassOutcome) (controllers : List Float) (results answer : List ℕ) → length answer < 16
     → PassedCall outcome controllers results answer 0 controllers results answer
-call-short outcome controllers results answer h =
-    let short = holdsAnswer-short answer h in
-    record {
-      returned = rw short;
-      controllers-after = rw short;
-      results-after = rw short;
-      answer-after = sym (answered-short (answerNumber (answerOf outcome)) (answerFigure (answerOf outcome)) answer h);
-    }
+call-short outcome controllers results answer h = calls.call-short _ answer _ (omega arith) (record { controllers-after = refl; results-after = refl })
 
 -- Where it is long enough, it has the answer of the pass.
 pub call-done : (outcome : PassOutcome) (controllers : List Float) (results answer : List ℕ) {told : Answer} {controllers′ : List Float} {results′ answer′ : List ℕ} {number figure : ℕ}
     → 16 ≤ length answer → told ≡ answerOf outcome → controllers′ ≡ after (λ pass. pass .controllers) outcome controllers → results′ ≡ after (λ pass. pass .results) outcome results
-    → number ≡ answerNumber told → figure ≡ answerFigure told → answer′ ≡ answered number figure answer
+    → number ≡ answerNumber told → figure ≡ answerFigure told → answer′ ≡ answered 2 (number ∷ figure ∷ []) answer
     → PassedCall outcome controllers results answer 1 controllers′ results′ answer′
 call-done outcome controllers results answer h t c r n f a =
-    let long = holdsAnswer-long answer h in
-    record { returned = rw long; controllers-after = rw long c; results-after = rw long r; answer-after = rw (n, f, t) at a }
+    calls.call-done _ answer _ (omega arith) (record { controllers-after = c; results-after = r })
+    (calls.answer-told answer (n ∙ ap answerNumber t) (f ∙ ap answerFigure t) a)

@@ -1,8 +1,6 @@
 // A pass called from C: figures as doubles, marks and results as bytes, and the answer.
 ghost use Rattle.control_all.specs.Call.{PassCall};
-
-// An answer is two numbers of eight bytes each.
-const ANSWER_BYTES: usize = 16;
+use calls::ANSWER_BYTES;
 
 // Every controller stepped in place, with the answer of a C call.
 pub fn step_all_in_place(
@@ -13,12 +11,14 @@ pub fn step_all_in_place(
     results: &mut [u8],
     answer: &mut [u8],
 ) -> u32
-    ensures { λ r. ⌜ PassCall (now (controllers .entry)) (now (working .entry)) (now (budgets .entry)) (now (measured .entry)) (now (results .entry)) (now (answer .entry)) r (now (controllers .exit)) (now (results .exit)) (now (answer .exit)) ⌝ }
+    ensures called { λ r. ⌜ PassCall (now (controllers .entry)) (now (working .entry)) (now (budgets .entry)) (now (measured .entry))
+        (now (results .entry)) (now (answer .entry))
+        r (now (controllers .exit)) (now (results .exit)) (now (answer .exit)) ⌝ }
 {
     if answer.len() < ANSWER_BYTES {
         return 0;
     }
     let told = crate::step_all(controllers, working, budgets, measured, results);
-    words::store_answer(told.number(), told.figure() as u64, answer);
+    calls::store_answer(told.number(), told.figure() as u64, answer);
     1
 }

@@ -27,7 +27,7 @@ pub enum Answer {
 impl Answer {
     // The refusal's number, or 0.
     pub fn number(self) -> u64
-        ensures { λ r. ⌜ r ≡ answerNumber self ⌝ }
+        ensures result { λ r. ⌜ r ≡ answerNumber self ⌝ }
     {
         match self {
             Answer::Accepted(_) => 0,
@@ -37,7 +37,7 @@ impl Answer {
 
     // How many controllers were stepped, or the refusal's place.
     pub fn figure(self) -> usize
-        ensures { λ r. ⌜ r ≡ answerFigure self ⌝ }
+        ensures result { λ r. ⌜ r ≡ answerFigure self ⌝ }
     {
         match self {
             Answer::Accepted(count) => count,
@@ -56,9 +56,14 @@ pub fn step_all(
     measured: &[f64],
     results: &mut [u8],
 ) -> Answer
-    ensures { λ r. ⌜ r ≡ answerOf (passed (now (controllers .entry)) (now (working .entry)) (now (budgets .entry)) (now (measured .entry)) (now (results .entry))) ⌝ }
-    ensures { λ _. ⌜ now (controllers .exit) ≡ after (λ pass. pass .controllers) (passed (now (controllers .entry)) (now (working .entry)) (now (budgets .entry)) (now (measured .entry)) (now (results .entry))) (now (controllers .entry)) ⌝ }
-    ensures { λ _. ⌜ now (results .exit) ≡ after (λ pass. pass .results) (passed (now (controllers .entry)) (now (working .entry)) (now (budgets .entry)) (now (measured .entry)) (now (results .entry))) (now (results .entry)) ⌝ }
+    ensures answer { λ r. ⌜ r ≡ answerOf
+        (passed (now (controllers .entry)) (now (working .entry)) (now (budgets .entry)) (now (measured .entry)) (now (results .entry))) ⌝ }
+    ensures controllers { λ _. ⌜ now (controllers .exit) ≡ after (λ pass. pass .controllers)
+        (passed (now (controllers .entry)) (now (working .entry)) (now (budgets .entry)) (now (measured .entry)) (now (results .entry)))
+        (now (controllers .entry)) ⌝ }
+    ensures results { λ _. ⌜ now (results .exit) ≡ after (λ pass. pass .results)
+        (passed (now (controllers .entry)) (now (working .entry)) (now (budgets .entry)) (now (measured .entry)) (now (results .entry)))
+        (now (results .entry)) ⌝ }
 {
     let count = controllers.len() / 4;
     if fitting(
@@ -81,7 +86,7 @@ fn fitting(
     measured: usize,
     results: usize,
 ) -> bool
-    ensures { λ r. ⌜ r ≡ fitting controllers working budgets measured results ⌝ }
+    ensures result { λ r. ⌜ r ≡ fitting controllers working budgets measured results ⌝ }
 {
     if MOST_CONTROLLERS < controllers {
         return false;
@@ -107,10 +112,12 @@ fn step_each(
     measured: &[f64],
     results: &mut [u8],
 ) -> usize
-    requires { ⌜ Fitting (now controllers) (now working) (now budgets) (now measured) (now results) ⌝ }
-    ensures { λ _. ⌜ now (controllers .exit) ≡ steppedTo (now (controllers .entry)) (now (working .entry)) (now (budgets .entry)) (now (measured .entry)) (length (now (results .entry))) ⌝ }
-    ensures { λ _. ⌜ now (results .exit) ≡ numbersTo (now (controllers .entry)) (now (working .entry)) (now (budgets .entry)) (now (measured .entry)) (now (results .entry)) (length (now (results .entry))) ⌝ }
-    ensures { λ r. ⌜ r ≡ zeros (now (results .exit)) ⌝ }
+    requires fitting_lists { ⌜ Fitting (now controllers) (now working) (now budgets) (now measured) (now results) ⌝ }
+    ensures controllers { λ _. ⌜ now (controllers .exit) ≡ steppedTo (now (controllers .entry)) (now (working .entry)) (now (budgets .entry))
+        (now (measured .entry)) (length (now (results .entry))) ⌝ }
+    ensures results { λ _. ⌜ now (results .exit) ≡ numbersTo (now (controllers .entry)) (now (working .entry)) (now (budgets .entry)) (now (measured .entry))
+        (now (results .entry)) (length (now (results .entry))) ⌝ }
+    ensures result { λ r. ⌜ r ≡ zeros (now (results .exit)) ⌝ }
 {
     let count = results.len();
     let mut stepped = 0usize;
@@ -123,8 +130,8 @@ fn step_each(
     stepped
 }
 
-// The step of the controller whose figures, and whose cords', stand from a place on, made of the parts of `Controller::step`: each reading is judged as
-// it is read.
+// The step of the controller whose figures, and whose cords', stand from a place on, made of the parts of `Controller::step`: each
+// reading is judged as it is read.
 fn step_at(
     controllers: &[f64],
     working: &[u8],
@@ -132,8 +139,9 @@ fn step_at(
     measured: &[f64],
     at: usize,
 ) -> Stepped
-    requires { ⌜ (at + 4 ≤ length (now controllers)) × (at + 4 ≤ length (now working)) × (at + 4 ≤ length (now budgets)) × (at + 4 ≤ length (now measured)) ⌝ }
-    ensures { λ r. ⌜ r ≡ stepAt (now (controllers .entry)) (now (working .entry)) (now (budgets .entry)) (now (measured .entry)) at ⌝ }
+    requires lists_long { ⌜ (at + 4 ≤ length (now controllers)) × (at + 4 ≤ length (now working)) × (at + 4 ≤ length (now budgets))
+        × (at + 4 ≤ length (now measured)) ⌝ }
+    ensures result { λ r. ⌜ r ≡ stepAt (now (controllers .entry)) (now (working .entry)) (now (budgets .entry)) (now (measured .entry)) at ⌝ }
 {
     let controller = controller_at(controllers, at);
     let none = controller.judged();
@@ -146,8 +154,8 @@ fn step_at(
 
 // The controller whose figures stand from a place on.
 fn controller_at(controllers: &[f64], at: usize) -> Controller
-    requires { ⌜ at + 4 ≤ length (now controllers) ⌝ }
-    ensures { λ r. ⌜ r ≡ controllerAt (now (controllers .entry)) at ⌝ }
+    requires controllers_long { ⌜ at + 4 ≤ length (now controllers) ⌝ }
+    ensures result { λ r. ⌜ r ≡ controllerAt (now (controllers .entry)) at ⌝ }
 {
     Controller::of(
         controllers[at],
@@ -159,17 +167,17 @@ fn controller_at(controllers: &[f64], at: usize) -> Controller
 
 // The reading of the cord at a place.
 fn reading_at(working: &[u8], budgets: &[f64], measured: &[f64], at: usize) -> Reading
-    requires { ⌜ (at + 1 ≤ length (now working)) × (at + 1 ≤ length (now budgets)) × (at + 1 ≤ length (now measured)) ⌝ }
-    ensures { λ r. ⌜ r ≡ readingAt (now (working .entry)) (now (budgets .entry)) (now (measured .entry)) at ⌝ }
+    requires lists_long { ⌜ (at + 1 ≤ length (now working)) × (at + 1 ≤ length (now budgets)) × (at + 1 ≤ length (now measured)) ⌝ }
+    ensures result { λ r. ⌜ r ≡ readingAt (now (working .entry)) (now (budgets .entry)) (now (measured .entry)) at ⌝ }
 {
     Reading::of(working[at], budgets[at], measured[at])
 }
 
 // Stores the cap of an accepted step at the controller's place, and gives the step's number. After a refused one nothing is stored.
 fn keep_at(step: Stepped, controllers: &mut [f64], at: usize) -> u8
-    requires { ⌜ at + 4 ≤ length (now controllers) ⌝ }
-    ensures { λ _. ⌜ now (controllers .exit) ≡ figuresAfter step (now (controllers .entry)) at ⌝ }
-    ensures { λ r. ⌜ r ≡ stepNumber step % 256 ⌝ }
+    requires controllers_long { ⌜ at + 4 ≤ length (now controllers) ⌝ }
+    ensures controllers { λ _. ⌜ now (controllers .exit) ≡ figuresAfter step (now (controllers .entry)) at ⌝ }
+    ensures result { λ r. ⌜ r ≡ stepNumber step % 256 ⌝ }
 {
     match step {
         Stepped::Next(next) => {
@@ -182,8 +190,8 @@ fn keep_at(step: Stepped, controllers: &mut [f64], at: usize) -> u8
 
 // What a number adds to the count of those that are 0.
 fn one_if_zero(number: u8) -> usize
-    ensures { λ r. ⌜ r ≡ cond (eqb number 0) 1 0 ⌝ }
-    ensures { λ r. ⌜ r ≤ 1 ⌝ }
+    ensures result { λ r. ⌜ r ≡ cond (eqb number 0) 1 0 ⌝ }
+    ensures bounded { λ r. ⌜ r ≤ 1 ⌝ }
 {
     if number == 0 { 1 } else { 0 }
 }

@@ -9,16 +9,18 @@ use lib.ListN.{length, take, set, length-append, length-take}
 use lib.Seq.{sets, set-comm, take-all, take-length}
 use lib.Dec.{leb, eqb}
 use borrow.Author.Tests.{ltb-false, eq-eqb, ne-eqb}
-use Rattle.words.specs.Bytes.{bytesOf, answered}
+use Rattle.words.specs.Bytes.{bytesOf}
 use Rattle.words.proofs.Lists.{take-sets, sets-append}
-use Rattle.words.proofs.Calls.{call-done}
+use Rattle.calls.specs.Call.{answered, OutcomeCall}
+use Rattle.calls.proofs.Calls.{answer-told, call-done}
+use Rattle.calls.proofs.Fronts.{bytes-after}
 use Rattle.rooms.specs.Table.{mostNodes}
 use Rattle.schedules.specs.Text.{line}
 use Rattle.outcomes.specs.Outcome.{accepted, refused, tooShort, fitting, after}
 use Rattle.outcomes.proofs.Outcomes.{unless-stop, unless-pass, unless-either, unless-none, fitting-short, fitting-whole}
 use Rattle.schedules.specs.Text.{good, bad}
 use Rattle.schedules.specs.Schedule.{Judgement, judged, Ending, whole, stopped, onto, linesFrom, linesOf, nodeWords, tableOf, ScheduleOutcome, noLines, scheduledLines, scheduling, answerOf, answerNumber, answerFigure, mostWords}
-use Rattle.schedules.specs.Call.{OutcomeCall}
+use Rattle.schedules.specs.Call.{numbersOf}
 use Rattle.schedules.specs.Told.{counted, toldLines, written, InFront, writtenCount}
 use Rattle.schedules.proofs.LineLaws.{passed-is, range-is}
 use Rattle.schedules.specs.declared.Entry.{Entry}
@@ -175,15 +177,11 @@ module _ (outcome : ScheduleOutcome) {told : Scheduled} {count : ℕ} (is : told
     copied table c = (is, c ∙ ap (sets table 0) taken)
 
     -- Stored in bytes, with the answer.
-    pub stored : (table answer : List ℕ) {table′ answer′ : List ℕ} → length (written outcome) ≤ length table / 4 → 16 ≤ length answer
-        → table′ ≡ sets table 0 (bytesOf (take (length table / 4) (take count words))) → answer′ ≡ answered (answerNumber told) (answerFigure told) answer
-        → OutcomeCall outcome table answer 1 table′ answer′
-    unfolding bytesOf
-    stored table answer fits long s a =
+    pub stored : (table answer : List ℕ) {table′ answer′ : List ℕ} {number figure : ℕ} → length (written outcome) ≤ length table / 4 → 16 ≤ length answer
+        → table′ ≡ sets table 0 (bytesOf (take (length table / 4) (take count words)))
+        → number ≡ answerNumber told → figure ≡ answerFigure told → answer′ ≡ answered 2 (number ∷ figure ∷ []) answer
+        → OutcomeCall 2 numbersOf bytesOf outcome table answer 1 table′ answer′
+    stored table answer fits long s k v a =
         let all : take (length table / 4) (take count words) ≡ written outcome = ap (take (length table / 4)) taken ∙ take-all (length table / 4) (written outcome) fits in
-        call-done (answerNumber (answerOf outcome)) (answerFigure (answerOf outcome)) (after bytesOf outcome table) table answer long
-        (s ∙ ap (λ (l : List ℕ). sets table 0 (bytesOf l)) all ∙ go outcome) (rw is at a)
-      where
-        go : (o : ScheduleOutcome) → sets table 0 (bytesOf (written o)) ≡ after bytesOf o table
-        go (accepted words) = refl
-        go (refused q) = refl
+        call-done _ answer _ (omega arith) (s ∙ ap (λ (l : List ℕ). sets table 0 (bytesOf l)) all ∙ bytes-after (λ words. words) outcome table)
+        (answer-told answer (k ∙ ap answerNumber is) (v ∙ ap answerFigure is) a)

@@ -32,7 +32,8 @@ pub data Written : List Entry → List ℕ → Type 0 where
 -- Each entry has a size, and is in range at its place, the first being at a given one.
 pub data Pass : ℕ → List Entry → Type 0 where
   none : {place : ℕ} → Pass place []
-  more : {place : ℕ} {e : Entry} {rest : List Entry} → isSize (e .amperes) ≡ true → inRange place e ≡ true → Pass (suc place) rest → Pass place (e ∷ rest)
+  more : {place : ℕ} {e : Entry} {rest : List Entry} → isSize (e .amperes) ≡ true → inRange place e ≡ true → Pass (suc place) rest
+      → Pass place (e ∷ rest)
 
 -- ---- What a text begins with
 

@@ -3,11 +3,11 @@ ghost use mathlib.Core.Path.{_≡_};
 ghost use Prim.Native.Nat.{_≤_};
 ghost use lib.ListN.{length};
 ghost use Rattle.outcomes.specs.Outcome.{after};
-ghost use Rattle.words.specs.Bytes.{answered};
 ghost use Rattle.schedules.specs.Schedule.{refusalNumber, refusalPlace, answerNumber, answerFigure, mostWords, scheduling, answerOf};
 ghost use Rattle.schedules.specs.Call.{ScheduleCall};
 ghost use Rattle.schedules.specs.Told.{InFront, writtenCount};
 use crate::lines::Counted;
+use calls::ANSWER_BYTES;
 
 mod lines;
 mod sizes;
@@ -37,7 +37,7 @@ pub enum Scheduled {
 impl Refusal {
     // The refusal's number.
     pub fn number(self) -> u64
-        ensures { λ r. ⌜ r ≡ refusalNumber self ⌝ }
+        ensures result { λ r. ⌜ r ≡ refusalNumber self ⌝ }
     {
         match self {
             Refusal::NotALine(_) => 24,
@@ -49,7 +49,7 @@ impl Refusal {
 
     // The refusal's place.
     pub fn place(self) -> usize
-        ensures { λ r. ⌜ r ≡ refusalPlace self ⌝ }
+        ensures result { λ r. ⌜ r ≡ refusalPlace self ⌝ }
     {
         match self {
             Refusal::NotALine(place) => place,
@@ -63,7 +63,7 @@ impl Refusal {
 impl Scheduled {
     // The refusal's number, or 0.
     pub fn number(self) -> u64
-        ensures { λ r. ⌜ r ≡ answerNumber self ⌝ }
+        ensures result { λ r. ⌜ r ≡ answerNumber self ⌝ }
     {
         match self {
             Scheduled::Accepted(_) => 0,
@@ -73,7 +73,7 @@ impl Scheduled {
 
     // The count of words, or the refusal's place.
     pub fn figure(self) -> usize
-        ensures { λ r. ⌜ r ≡ answerFigure self ⌝ }
+        ensures result { λ r. ⌜ r ≡ answerFigure self ⌝ }
     {
         match self {
             Scheduled::Accepted(count) => count,
@@ -85,13 +85,10 @@ impl Scheduled {
 // The words of the longest table without servers.
 const MOST_WORDS: usize = 1027;
 
-// An answer of a C call is two numbers of eight bytes each.
-const ANSWER_BYTES: usize = 16;
-
 // The table of a schedule, at the front of the list. Refused, it leaves the list unchanged.
 pub fn schedule(text: &[u8], table: &mut [u32]) -> Scheduled
-    ensures { λ r. ⌜ r ≡ answerOf (scheduling (now (text .entry)) (length (now (table .entry)))) ⌝ }
-    ensures { λ _. ⌜ now (table .exit) ≡ after (λ words. words) (scheduling (now (text .entry)) (length (now (table .entry)))) (now (table .entry)) ⌝ }
+    ensures answer { λ r. ⌜ r ≡ answerOf (scheduling (now (text .entry)) (length (now (table .entry)))) ⌝ }
+    ensures table { λ _. ⌜ now (table .exit) ≡ after (λ words. words) (scheduling (now (text .entry)) (length (now (table .entry)))) (now (table .entry)) ⌝ }
 {
     let mut words = [0u32; MOST_WORDS];
     schedule_by(text, &mut words, table)
@@ -99,7 +96,7 @@ pub fn schedule(text: &[u8], table: &mut [u32]) -> Scheduled
 
 // The same, called from C: the table in bytes, and the answer in its buffer.
 pub fn schedule_bytes(text: &[u8], table: &mut [u8], answer: &mut [u8]) -> u32
-    ensures { λ r. ⌜ ScheduleCall (now (text .entry)) (now (table .entry)) (now (answer .entry)) r (now (table .exit)) (now (answer .exit)) ⌝ }
+    ensures called { λ r. ⌜ ScheduleCall (now (text .entry)) (now (table .entry)) (now (answer .entry)) r (now (table .exit)) (now (answer .exit)) ⌝ }
 {
     let mut words = [0u32; MOST_WORDS];
     schedule_bytes_by(text, &mut words, table, answer)
@@ -107,9 +104,9 @@ pub fn schedule_bytes(text: &[u8], table: &mut [u8], answer: &mut [u8]) -> u32
 
 // A schedule by way of a list of its own, which takes the words until all is checked.
 fn schedule_by(text: &[u8], words: &mut [u32], table: &mut [u32]) -> Scheduled
-    requires { ⌜ mostWords ≤ length (now words) ⌝ }
-    ensures { λ r. ⌜ r ≡ answerOf (scheduling (now (text .entry)) (length (now (table .entry)))) ⌝ }
-    ensures { λ _. ⌜ now (table .exit) ≡ after (λ words. words) (scheduling (now (text .entry)) (length (now (table .entry)))) (now (table .entry)) ⌝ }
+    requires words_long { ⌜ mostWords ≤ length (now words) ⌝ }
+    ensures answer { λ r. ⌜ r ≡ answerOf (scheduling (now (text .entry)) (length (now (table .entry)))) ⌝ }
+    ensures table { λ _. ⌜ now (table .exit) ≡ after (λ words. words) (scheduling (now (text .entry)) (length (now (table .entry)))) (now (table .entry)) ⌝ }
 {
     let told = schedule_words(text, words, table.len());
     let count = written_count(told);
@@ -119,8 +116,8 @@ fn schedule_by(text: &[u8], words: &mut [u32], table: &mut [u32]) -> Scheduled
 
 // The C call by way of a list of words, of which those of an accepted table are stored.
 fn schedule_bytes_by(text: &[u8], words: &mut [u32], table: &mut [u8], answer: &mut [u8]) -> u32
-    requires { ⌜ mostWords ≤ length (now words) ⌝ }
-    ensures { λ r. ⌜ ScheduleCall (now (text .entry)) (now (table .entry)) (now (answer .entry)) r (now (table .exit)) (now (answer .exit)) ⌝ }
+    requires words_long { ⌜ mostWords ≤ length (now words) ⌝ }
+    ensures called { λ r. ⌜ ScheduleCall (now (text .entry)) (now (table .entry)) (now (answer .entry)) r (now (table .exit)) (now (answer .exit)) ⌝ }
 {
     if answer.len() < ANSWER_BYTES {
         return 0;
@@ -128,15 +125,15 @@ fn schedule_bytes_by(text: &[u8], words: &mut [u32], table: &mut [u8], answer: &
     let told = schedule_words(text, words, table.len() / 4);
     let count = written_count(told);
     words::store(&words[..count], table);
-    tell(told, answer);
+    calls::store_answer(told.number(), told.figure() as u64, answer);
     1
 }
 
 // The answer on a text whose table is to go to a list of `space` words. An accepted table stands at the front of `words`.
 fn schedule_words(text: &[u8], words: &mut [u32], space: usize) -> Scheduled
-    requires { ⌜ mostWords ≤ length (now words) ⌝ }
-    ensures { λ r. ⌜ r ≡ answerOf (scheduling (now (text .entry)) space) ⌝ }
-    ensures { λ _. ⌜ InFront (scheduling (now (text .entry)) space) (now (words .exit)) ⌝ }
+    requires words_long { ⌜ mostWords ≤ length (now words) ⌝ }
+    ensures answer { λ r. ⌜ r ≡ answerOf (scheduling (now (text .entry)) space) ⌝ }
+    ensures words { λ _. ⌜ InFront (scheduling (now (text .entry)) space) (now (words .exit)) ⌝ }
 {
     let counted = lines::read_lines(text, words);
     let count = match counted {
@@ -160,19 +157,10 @@ fn schedule_words(text: &[u8], words: &mut [u32], space: usize) -> Scheduled
 
 // How many words an answer says are written: none where refused.
 fn written_count(told: Scheduled) -> usize
-    ensures { λ r. ⌜ r ≡ writtenCount told ⌝ }
+    ensures result { λ r. ⌜ r ≡ writtenCount told ⌝ }
 {
     match told {
         Scheduled::Accepted(count) => count,
         Scheduled::Refused(_) => 0,
     }
-}
-
-// The answer's number and figure, into its buffer.
-fn tell(told: Scheduled, answer: &mut [u8])
-    ensures { λ _. ⌜ now (answer .exit) ≡ answered (answerNumber told) (answerFigure told) (now (answer .entry)) ⌝ }
-{
-    let number = told.number();
-    let figure = told.figure() as u64;
-    words::store_answer(number, figure, answer);
 }

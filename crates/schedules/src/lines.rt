@@ -32,7 +32,7 @@ const MOST_VOLTS: u32 = 480;
 
 // Whether volts and parent of the line at a place are in range, and the line is no 513th.
 fn in_range(entry: Entry, place: usize) -> bool
-    ensures { λ r. ⌜ r ≡ inRange place entry ⌝ }
+    ensures result { λ r. ⌜ r ≡ inRange place entry ⌝ }
 {
     let parent = entry.parent as usize;
     let volts = entry.volts;
@@ -51,7 +51,7 @@ fn in_range(entry: Entry, place: usize) -> bool
 
 // The line that starts at `at`, judged as the one at a place.
 fn judge_line(text: &[u8], at: usize, place: usize) -> Judged
-    ensures { λ r. ⌜ r ≡ toldNode (judged place (line (now (text .entry)) at)) ⌝ }
+    ensures result { λ r. ⌜ r ≡ toldNode (judged place (line (now (text .entry)) at)) ⌝ }
 {
     let read = read_line(text, at);
     let Line::Of(entry, next) = read else {
@@ -68,9 +68,9 @@ fn judge_line(text: &[u8], at: usize, place: usize) -> Judged
 
 // Judges all lines. The words of their nodes go to the list from index 2 on.
 pub fn read_lines(text: &[u8], words: &mut [u32]) -> Counted
-    requires { ⌜ mostWords ≤ length (now words) ⌝ }
-    ensures { λ r. ⌜ r ≡ toldLines (linesOf (now (text .entry))) ⌝ }
-    ensures { λ _. ⌜ now (words .exit) ≡ sets (now (words .entry)) 2 (nodeWords (linesOf (now (text .entry)) .entries)) ⌝ }
+    requires words_long { ⌜ mostWords ≤ length (now words) ⌝ }
+    ensures result { λ r. ⌜ r ≡ toldLines (linesOf (now (text .entry))) ⌝ }
+    ensures words { λ _. ⌜ now (words .exit) ≡ sets (now (words .entry)) 2 (nodeWords (linesOf (now (text .entry)) .entries)) ⌝ }
 {
     let mut at = 0;
     let mut count = 0;

@@ -46,7 +46,7 @@ const SIZES: [u32; COUNT] = [
 
 // Whether amperes are a size. The sizes rise, so the first that is not below the amperes decides.
 pub fn is_size(amperes: u32) -> bool
-    ensures { λ r. ⌜ r ≡ isSize amperes ⌝ }
+    ensures result { λ r. ⌜ r ≡ isSize amperes ⌝ }
 {
     for i in 0..COUNT {
         let size = SIZES[i];

@@ -22,22 +22,22 @@ const MOST_DIGITS: u32 = 4;
 
 // The byte at a place; 0 past the end of the text.
 fn byte_at(text: &[u8], at: usize) -> u8
-    ensures { λ r. ⌜ r ≡ byteAt (now (text .entry)) at ⌝ }
-    ensures { λ r. ⌜ (0 < r → at < length (now (text .entry))) ⌝ }
+    ensures result { λ r. ⌜ r ≡ byteAt (now (text .entry)) at ⌝ }
+    ensures bounded { λ r. ⌜ (0 < r → at < length (now (text .entry))) ⌝ }
 {
     if at < text.len() { text[at] } else { 0 }
 }
 
 // Whether a byte is a digit.
 fn is_digit(byte: u8) -> bool
-    ensures { λ r. ⌜ r ≡ isDigit byte ⌝ }
+    ensures result { λ r. ⌜ r ≡ isDigit byte ⌝ }
 {
     b'0' <= byte && byte <= b'9'
 }
 
 // The number that starts at a place.
 fn read_number(text: &[u8], at: usize) -> Number
-    ensures { λ r. ⌜ r ≡ toldNumber (number (now (text .entry)) at) ⌝ }
+    ensures result { λ r. ⌜ r ≡ toldNumber (number (now (text .entry)) at) ⌝ }
 {
     let first = byte_at(text, at);
     if first == b'0' {
@@ -63,8 +63,8 @@ fn read_number(text: &[u8], at: usize) -> Number
 
 // The number that starts at a place, with the byte that must stand behind it.
 fn read_field(text: &[u8], at: usize, end: u8) -> Number
-    requires { ⌜ 0 < end ⌝ }
-    ensures { λ r. ⌜ r ≡ toldNumber (field end (now (text .entry)) at) ⌝ }
+    requires end_given { ⌜ 0 < end ⌝ }
+    ensures result { λ r. ⌜ r ≡ toldNumber (field end (now (text .entry)) at) ⌝ }
 {
     let read = read_number(text, at);
     let Number::Value(value, next) = read else {
@@ -78,7 +78,7 @@ fn read_field(text: &[u8], at: usize, end: u8) -> Number
 
 // The line that starts at a place.
 pub fn read_line(text: &[u8], at: usize) -> Line
-    ensures { λ r. ⌜ r ≡ toldLine (line (now (text .entry)) at) ⌝ }
+    ensures result { λ r. ⌜ r ≡ toldLine (line (now (text .entry)) at) ⌝ }
 {
     let first = read_field(text, at, b' ');
     let Number::Value(parent, at_amperes) = first else {

@@ -3,17 +3,15 @@ ghost use mathlib.Core.Path.{_≡_};
 ghost use mathlib.Core.Bool.{not};
 ghost use Prim.Native.Nat.{_≤_, _<_, min};
 ghost use lib.ListN.{length};
-ghost use lib.Seq.{sets};
 ghost use Rattle.outcomes.specs.Outcome.{after};
 ghost use Rattle.sender.specs.Period.{following, serversFrom, positionAfter};
 ghost use Rattle.sender.specs.Outcome.{mostServers, inRange, sending, answerOf, refusalNumber, refusalPlace, sentNumber, sentFigure};
-ghost use Rattle.sender.specs.Call.{sentBytes, SendCall};
+ghost use Rattle.calls.specs.Call.{answered};
+ghost use Rattle.sender.specs.Call.{sentNumbers, SendCall};
+use calls::LONG_ANSWER_BYTES;
 
 // A room has at most so many servers.
 const MOST_SERVERS: u64 = 512;
-
-// The answer of the C call is three numbers of eight bytes each.
-const ANSWER_BYTES: usize = 24;
 
 // Why a period is turned back: m is 0; the position or the count is out of range; or the list is too short for as many servers as would
 // be named.
@@ -32,7 +30,7 @@ pub enum Sent {
 impl SendRefusal {
     // The refusal's number.
     pub fn number(self) -> u64
-        ensures { λ r. ⌜ r ≡ refusalNumber self ⌝ }
+        ensures result { λ r. ⌜ r ≡ refusalNumber self ⌝ }
     {
         match self {
             SendRefusal::NoMessages => 27,
@@ -43,7 +41,7 @@ impl SendRefusal {
 
     // The refusal's place.
     pub fn place(self) -> u64
-        ensures { λ r. ⌜ r ≡ refusalPlace self ⌝ }
+        ensures result { λ r. ⌜ r ≡ refusalPlace self ⌝ }
     {
         match self {
             SendRefusal::NoMessages => 0,
@@ -56,7 +54,7 @@ impl SendRefusal {
 impl Sent {
     // The refusal's number, or 0.
     pub fn number(self) -> u64
-        ensures { λ r. ⌜ r ≡ sentNumber self ⌝ }
+        ensures result { λ r. ⌜ r ≡ sentNumber self ⌝ }
     {
         match self {
             Sent::Accepted(_, _) => 0,
@@ -66,7 +64,7 @@ impl Sent {
 
     // How many servers were named, or the refusal's place.
     pub fn figure(self) -> u64
-        ensures { λ r. ⌜ r ≡ sentFigure self ⌝ }
+        ensures result { λ r. ⌜ r ≡ sentFigure self ⌝ }
     {
         match self {
             Sent::Accepted(named, _) => named,
@@ -78,8 +76,8 @@ impl Sent {
 // Send: the next m of `count` servers, from the position on, at the front of the list, none of them twice. Refused, it leaves the list
 // unchanged.
 pub fn send(count: u64, position: u64, m: u64, list: &mut [u32]) -> Sent
-    ensures { λ r. ⌜ r ≡ answerOf (sending count position m (length (now (list .entry)))) ⌝ }
-    ensures { λ _. ⌜ now (list .exit) ≡ after (λ p. p .named) (sending count position m (length (now (list .entry)))) (now (list .entry)) ⌝ }
+    ensures answer { λ r. ⌜ r ≡ answerOf (sending count position m (length (now (list .entry)))) ⌝ }
+    ensures list { λ _. ⌜ now (list .exit) ≡ after (λ p. p .named) (sending count position m (length (now (list .entry)))) (now (list .entry)) ⌝ }
 {
     let sent = answer_for(count, position, m, list.len());
     let Sent::Accepted(many, _) = sent else {
@@ -92,7 +90,7 @@ pub fn send(count: u64, position: u64, m: u64, list: &mut [u32]) -> Sent
 
 // Send, called from C: the list in bytes, and the answer in a buffer of its own. Returns 1; or 0 where that buffer is too short.
 pub fn send_bytes(count: u64, position: u64, m: u64, list: &mut [u8], answer: &mut [u8]) -> u32
-    ensures { λ r. ⌜ SendCall count position m (now (list .entry)) (now (answer .entry)) r (now (list .exit)) (now (answer .exit)) ⌝ }
+    ensures called { λ r. ⌜ SendCall count position m (now (list .entry)) (now (answer .entry)) r (now (list .exit)) (now (answer .exit)) ⌝ }
 {
     let mut servers = [0u32; 512];
     send_by(count, position, m, &mut servers, list, answer)
@@ -107,10 +105,10 @@ fn send_by(
     list: &mut [u8],
     answer: &mut [u8],
 ) -> u32
-    requires { ⌜ mostServers ≤ length (now servers) ⌝ }
-    ensures { λ r. ⌜ SendCall count position m (now (list .entry)) (now (answer .entry)) r (now (list .exit)) (now (answer .exit)) ⌝ }
+    requires servers_long { ⌜ mostServers ≤ length (now servers) ⌝ }
+    ensures called { λ r. ⌜ SendCall count position m (now (list .entry)) (now (answer .entry)) r (now (list .exit)) (now (answer .exit)) ⌝ }
 {
-    if answer.len() < ANSWER_BYTES {
+    if answer.len() < LONG_ANSWER_BYTES {
         return 0;
     }
     let sent = answer_for(count, position, m, list.len() / 4);
@@ -126,18 +124,22 @@ fn send_by(
 
 // The answer, at the front of its buffer, which has space for it.
 fn tell(sent: Sent, answer: &mut [u8])
-    requires { ⌜ 24 ≤ length (now answer) ⌝ }
-    ensures { λ _. ⌜ now (answer .exit) ≡ sets (now (answer .entry)) 0 (sentBytes sent) ⌝ }
+    requires long { ⌜ 24 ≤ length (now answer) ⌝ }
+    ensures told { λ _. ⌜ now (answer .exit) ≡ answered 3 (sentNumbers sent) (now (answer .entry)) ⌝ }
 {
-    words::store_answer(sent.number(), sent.figure(), answer);
-    if let Sent::Accepted(_, next) = sent {
-        words::store_number(next, answer, 16);
+    match sent {
+        Sent::Accepted(named, next) => {
+            calls::store_long_answer(0, named, next, answer);
+        }
+        Sent::Refused(refusal) => {
+            calls::store_answer(refusal.number(), refusal.place(), answer);
+        }
     }
 }
 
 // The answer on a list of so many words.
 fn answer_for(count: u64, position: u64, m: u64, space: usize) -> Sent
-    ensures { λ r. ⌜ r ≡ answerOf (sending count position m space) ⌝ }
+    ensures answer { λ r. ⌜ r ≡ answerOf (sending count position m space) ⌝ }
 {
     let outside = out_of_range(count, position);
     if m == 0 {
@@ -155,16 +157,16 @@ fn answer_for(count: u64, position: u64, m: u64, space: usize) -> Sent
 
 // Whether no server has the position, or there are more servers than a room has. With a count of 0 no server has any position.
 fn out_of_range(count: u64, position: u64) -> bool
-    ensures { λ r. ⌜ r ≡ not (inRange count position) ⌝ }
+    ensures result { λ r. ⌜ r ≡ not (inRange count position) ⌝ }
 {
     count <= position || MOST_SERVERS < count
 }
 
 // The position after so many servers, no more than there are.
 fn position_after(count: u64, position: u64, named: u64) -> u64
-    requires { ⌜ position < count ⌝ }
-    requires { ⌜ named ≤ count ⌝ }
-    ensures { λ r. ⌜ r ≡ positionAfter count position named ⌝ }
+    requires position_bounded { ⌜ position < count ⌝ }
+    requires named_bounded { ⌜ named ≤ count ⌝ }
+    ensures result { λ r. ⌜ r ≡ positionAfter count position named ⌝ }
 {
     // So many servers are left up to the last; then the first follows.
     let left = count - position;
@@ -177,9 +179,9 @@ fn position_after(count: u64, position: u64, named: u64) -> u64
 
 // Fills the list with servers, from the position on.
 fn name_servers(count: u64, position: u64, list: &mut [u32])
-    requires { ⌜ position < count ⌝ }
-    requires { ⌜ count ≤ mostServers ⌝ }
-    ensures { λ _. ⌜ now (list .exit) ≡ serversFrom count position (length (now (list .entry))) ⌝ }
+    requires position_bounded { ⌜ position < count ⌝ }
+    requires count_bounded { ⌜ count ≤ mostServers ⌝ }
+    ensures list { λ _. ⌜ now (list .exit) ≡ serversFrom count position (length (now (list .entry))) ⌝ }
 {
     let mut server = position;
     for i in 0..list.len() {
@@ -190,15 +192,15 @@ fn name_servers(count: u64, position: u64, list: &mut [u32])
 
 // The server that follows one.
 fn follow(count: u64, server: u64) -> u64
-    requires { ⌜ server < count ⌝ }
-    ensures { λ r. ⌜ (r ≡ following count server) × (r < count) ⌝ }
+    requires server_bounded { ⌜ server < count ⌝ }
+    ensures result { λ r. ⌜ (r ≡ following count server) × (r < count) ⌝ }
 {
     if server + 1 < count { server + 1 } else { 0 }
 }
 
 // The lesser of two counts.
 fn least(a: u64, b: u64) -> u64
-    ensures { λ r. ⌜ r ≡ min a b ⌝ }
+    ensures result { λ r. ⌜ r ≡ min a b ⌝ }
 {
     if a < b { a } else { b }
 }

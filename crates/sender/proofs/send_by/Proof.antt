@@ -1,17 +1,18 @@
 -- `send_by` meets its contract: the answer is told, and where it accepts, just the servers named are stored.
-use mathlib.Core.Path.{sym}
+use mathlib.Core.Path.{refl, sym}
 use Prim.Native.Nat.{_/_, _≤_}
 use native.Mathlib.Omega.{arith}
 use lib.ListN.{length}
 use lib.Seq.{length-take-le}
 use Rattle.sender.proofs.Outcomes.{Told, accepted-told}
-use Rattle.sender.proofs.Calls.{named-fits, call-short, call-refused, call-accepted}
+use Rattle.calls.proofs.Calls.{call-short}
+use Rattle.sender.proofs.Calls.{named-fits, call-refused, call-accepted}
 use borrow.Author.Needs.{needs}
 use Rattle.sender.proofs.send_by.Statement.{statement}
 use Rattle.sender.proofs.send_by.Tie as tie
 
 returns : tie.Need-returns
-returns c = call-short _ _ _ (omega arith)
+returns c = call-short _ _ _ (omega arith) refl
 
 answer-for-requires : tie.Need-answer-for-requires
 answer-for-requires c κs = search needs

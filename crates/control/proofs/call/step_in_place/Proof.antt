@@ -1,12 +1,14 @@
 -- `step_in_place` meets its contract: the step of what the lists hold, its cap kept and its answer told.
 use borrow.Author.Needs.{needs}
 use native.Mathlib.Omega.{arith}
-use Rattle.control.proofs.Calls.{call-short, call-done}
+use mathlib.Core.Path.{refl}
+use Rattle.calls.proofs.Calls.{call-short}
+use Rattle.control.proofs.Calls.{call-done}
 use Rattle.control.proofs.call.step_in_place.Statement.{statement}
 use Rattle.control.proofs.call.step_in_place.Tie as tie
 
 returns : tie.Need-returns
-returns c = call-short _ _ _ (omega arith)
+returns c = call-short _ _ _ (omega arith) refl
 
 element-copy-out-of : tie.Need-element-copy-out-of
 element-copy-out-of c = search needs
@@ -53,7 +55,7 @@ returns-2 c =
     let readings = step .before in
     let before = readings .before in
     call-done _ _ (omega (arith, before .before .before .before .before .before .if1 .left)) (before .of .ensures) (readings .readings .ensures) (step .step .ensures)
-    (kept .keep-cap .ensures) (number .number .ensures) (stored .before .before .place .ensures) (stored .store-answer .ensures .1)
+    (kept .keep-cap .ensures) (number .number .ensures) (stored .before .before .place .ensures) (stored .store-answer .ensures)
 
 pub step-in-place-spec : {M : Type 1} → statement M
 step-in-place-spec = tie.close (tie.spec returns element-copy-out-of element-copy-out-of-2 element-copy-out-of-3 element-copy-out-of-4 of-requires readings-requires step-requires keep-cap-requires number-requires place-requires store-answer-requires same-length returns-2)

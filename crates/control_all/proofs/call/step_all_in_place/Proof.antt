@@ -36,7 +36,7 @@ returns-2 c =
     let number = figure .before in
     let pass = number .before .before .before .before .before in
     call-done _ _ _ _ (omega (arith, pass .before .before .before .if1 .left)) (pass .step-all .ensures .0) (pass .step-all .ensures .1 .0) (pass .step-all .ensures .1 .1)
-    (number .number .ensures) (figure .figure .ensures) (stored .store-answer .ensures .1)
+    (number .number .ensures) (figure .figure .ensures) (stored .store-answer .ensures)
 
 pub step-all-in-place-spec : {M : Type 1} → statement M
 step-all-in-place-spec = tie.close (tie.spec returns step-all-requires number-requires figure-requires store-answer-requires same-length same-length-2 same-length-3 returns-2)

@@ -1,0 +1,2 @@
+-- What a reader must believe of every C call.
+pub mod Call

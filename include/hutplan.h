@@ -177,7 +177,7 @@ uint32_t hutplan_read(const uint8_t *sheet, uint64_t sheet_len,
  *
  * Refusals: 4 to 9 of the table; then 12 if sheet_len is less than the count of bytes.
  *
- * There and back, as it is proved of the two calls in bytes (crates/capi/specs/Promises.antt):
+ * There and back, as it is proved of the two calls in bytes (crates/sheet_bytes/specs/Promises.antt):
  *   - where hutplan_read was accepted with n words, hutplan_write of the first 4 * n bytes of that
  *     table, into a buffer no shorter than the sheet, is accepted and gives the sheet's bytes;
  *   - where hutplan_write was accepted with n bytes, hutplan_read of the first n bytes of that

@@ -29,6 +29,7 @@ use rooms::DECIDING_WORDS;
 use rooms::lists::cord_count;
 use words::least;
 
+pub mod joins;
 pub mod schedule;
 pub mod send;
 pub mod steps;

@@ -5,6 +5,7 @@ use Rattle.deals.proofs.Promises as deals
 use Rattle.deals.proofs.Versions as versions
 use Rattle.deals.proofs.Judged as judged
 use Rattle.join.proofs.Promises as join
+use Rattle.part.proofs.Promises as part
 use Rattle.control.proofs.Promises as control
 use Rattle.control_all.proofs.Promises as control_all
 use Rattle.schedules.proofs.Promises as schedules
@@ -51,6 +52,8 @@ promises = record {
   first-grants-join = join.first-grants-join;
   judged-exactly = judged.judged-exactly;
   first-grants-pass = judged.first-grants-pass;
+  joined-parts = part.joined-parts;
+  parts-are-good = part.parts-are-good;
   used-granted = deals.used-granted;
   usable-in-range = deals.usable-in-range;
   caps-in-range = deals.caps-in-range;

@@ -9,6 +9,7 @@ use Rattle.splits.specs.Promises as splits
 use Rattle.rooms.specs.Promises as rooms
 use Rattle.deals.specs.Promises as deals
 use Rattle.join.specs.Promises as join
+use Rattle.part.specs.Promises as part
 use Rattle.control.specs.Promises as control
 use Rattle.control_all.specs.Promises as control_all
 use Rattle.schedules.specs.Promises as schedules
@@ -74,6 +75,10 @@ pub record Promises : Type 0 where
   -- A.9: each verdict exactly where what it says is so; our own first grants pass.
   pub judged-exactly : deals.JudgedExactly
   pub first-grants-pass : deals.FirstGrantsPass
+  -- A.10: a joined room, parted at its first half's counts, gives both halves; both parts of a good room pass every check, and joined they are
+  -- the whole.
+  pub joined-parts : part.JoinedParts
+  pub parts-are-good : part.PartsAreGood
   -- A.11, over the scale: used never above grant, usable never below least (the cap too); equal plans with every share tenfold.
   pub used-granted : deals.UsedGranted
   pub usable-in-range : deals.UsableInRange

@@ -23,8 +23,8 @@
  * The answer is sixteen bytes, two numbers of eight bytes each, low byte first:
  *   bytes 0 to 7    0 if the input was accepted, else the number of the refusal (see below);
  *   bytes 8 to 15   refused: the refusal's place;
- *                   accepted: the count written, of words (hutplan_read, hutplan_schedule) or bytes
- *                   (hutplan_write), the freed watts (hutplan_plan), 0 (hutplan_step), or how many
+ *                   accepted: the count written, of words (hutplan_read, hutplan_join,
+ *                   hutplan_schedule) or bytes (hutplan_write), the freed watts (hutplan_plan), 0 (hutplan_step), or how many
  *                   controllers were stepped (hutplan_step_all).
  * Bytes past the sixteenth are not touched. If the answer buffer is shorter than sixteen bytes, a
  * call returns 0 and changes nothing. In every other case it returns 1. The answer of hutplan_send
@@ -74,7 +74,8 @@ enum hutplan_refusal {
     HUTPLAN_NUMBER_NOT_SHORTEST = 2,   /* longer than one byte, and its last byte is 0 */
     HUTPLAN_NUMBER_CUT_SHORT = 3,      /* the bytes end inside a number */
 
-    /* Words of a table, word by word (hutplan_read, hutplan_write, hutplan_plan, hutplan_judge). */
+    /* Words of a table, word by word (hutplan_read, hutplan_write, hutplan_plan, hutplan_judge;
+       hutplan_join, of the first table and then of the second). */
     HUTPLAN_WORD_MISSING = 4,          /* place: the table's length in words */
     HUTPLAN_WORD_OUT_OF_RANGE = 5,     /* place: the word's index */
     HUTPLAN_GREATEST_BELOW_LEAST = 6,  /* place: the index of the word `greatest` */
@@ -90,7 +91,7 @@ enum hutplan_refusal {
 
     /* The output buffers. */
     HUTPLAN_OUTPUT_TOO_SHORT = 12,     /* place: the length needed, in words (hutplan_read,
-                                          hutplan_schedule), bytes (hutplan_write), grants
+                                          hutplan_join, hutplan_schedule), bytes (hutplan_write), grants
                                           (hutplan_plan) or servers named (hutplan_send) */
     HUTPLAN_CAPS_TOO_SHORT = 13,       /* the cap list; place: the count of servers */
     HUTPLAN_HEADROOM_TOO_SHORT = 14,   /* the headroom list; place: the count of cords */
@@ -106,6 +107,11 @@ enum hutplan_refusal {
     /* A step of every controller (hutplan_step_all), before any is stepped. */
     HUTPLAN_CONTROLLERS_UNFIT = 18,       /* more than 512 controllers, or a list whose length does
                                              not fit their number; place: that number */
+
+    /* Two good tables together (hutplan_join), before 12. */
+    HUTPLAN_VERSIONS_DIFFER = 19,      /* place: 0 */
+    HUTPLAN_JOINED_TOO_LARGE = 20,     /* more than 512 nodes (place 0), 512 servers (1) or 1,024
+                                          cords (2); place: the first of these that is too large */
 
     /* A list of grants to be judged (hutplan_judge). */
     HUTPLAN_GRANT_COUNT = 21,          /* not one grant a cord; place: the count of cords */
@@ -155,6 +161,7 @@ enum hutplan_refusal {
 #define HUTPLAN_WRITE_STACK 27136
 #define HUTPLAN_JUDGE_STACK 88064
 #define HUTPLAN_PLAN_STACK 147968
+#define HUTPLAN_JOIN_STACK 27648
 #define HUTPLAN_SCHEDULE_STACK 4608
 #define HUTPLAN_STEP_STACK 256
 #define HUTPLAN_STEP_ALL_STACK 256
@@ -218,6 +225,24 @@ uint32_t hutplan_plan(const uint8_t *table, uint64_t table_len,
                       uint8_t *caps, uint64_t caps_len,
                       uint8_t *headroom, uint64_t headroom_len,
                       uint8_t *held, uint64_t held_len,
+                      uint8_t *answer, uint64_t answer_len);
+
+/*
+ * Join: makes one table of two, where one hut's racks move into another.
+ *
+ * The second's nodes stand behind the first's, and its servers behind the first's. The numbers of its
+ * nodes are raised by the first's count of nodes: the parents that are not 0, and the nodes of cords.
+ * The table has as many words as both together, less three; hutplan_write and hutplan_plan accept it.
+ * Its plan, with the first's demands followed by the second's, has each list of the first's plan
+ * followed by that of the second's, with the holding nodes raised likewise, 0 staying 0, and the
+ * freed watts of both added up.
+ *
+ * Refusals: 4 to 9 of the first table, with its own places; 4 to 9 of the second, with its own; 19;
+ * 20; then 12 if table_len / 4 is less than the count of words.
+ */
+uint32_t hutplan_join(const uint8_t *first, uint64_t first_len,
+                      const uint8_t *second, uint64_t second_len,
+                      uint8_t *table, uint64_t table_len,
                       uint8_t *answer, uint64_t answer_len);
 
 /*

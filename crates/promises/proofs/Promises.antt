@@ -4,6 +4,8 @@ use Rattle.rooms.proofs.Promises as rooms
 use Rattle.deals.proofs.Promises as deals
 use Rattle.deals.proofs.Versions as versions
 use Rattle.deals.proofs.Judged as judged
+use Rattle.join.proofs.Promises as join
+use Rattle.part.proofs.Promises as part
 use Rattle.control.proofs.Promises as control
 use Rattle.control_all.proofs.Promises as control_all
 use Rattle.schedules.proofs.Promises as schedules
@@ -45,8 +47,13 @@ promises = record {
   refused-unchanged = control.refused-unchanged;
   each-as-single = control_all.each-as-single;
   refusal-eighteen = control_all.refusal-eighteen;
+  join-gives-room = join.join-gives-room;
+  join-plans-both = join.join-plans-both;
+  first-grants-join = join.first-grants-join;
   judged-exactly = judged.judged-exactly;
   first-grants-pass = judged.first-grants-pass;
+  joined-parts = part.joined-parts;
+  parts-are-good = part.parts-are-good;
   used-granted = deals.used-granted;
   usable-in-range = deals.usable-in-range;
   caps-in-range = deals.caps-in-range;

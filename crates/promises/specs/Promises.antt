@@ -8,6 +8,8 @@
 use Rattle.splits.specs.Promises as splits
 use Rattle.rooms.specs.Promises as rooms
 use Rattle.deals.specs.Promises as deals
+use Rattle.join.specs.Promises as join
+use Rattle.part.specs.Promises as part
 use Rattle.control.specs.Promises as control
 use Rattle.control_all.specs.Promises as control_all
 use Rattle.schedules.specs.Promises as schedules
@@ -65,9 +67,18 @@ pub record Promises : Type 0 where
   -- A.7: each controller as its single step leaves it, and refusal 18.
   pub each-as-single : control_all.EachAsSingle
   pub refusal-eighteen : control_all.RefusalEighteen
+  -- A.8: the joined table passes every check; its plan has the first's lists followed by the second's, and tells the refusals of demands; the
+  -- first deal's grants too.
+  pub join-gives-room : join.JoinGivesRoom
+  pub join-plans-both : join.JoinPlansBoth
+  pub first-grants-join : join.FirstGrantsJoin
   -- A.9: each verdict exactly where what it says is so; our own first grants pass.
   pub judged-exactly : deals.JudgedExactly
   pub first-grants-pass : deals.FirstGrantsPass
+  -- A.10: a joined room, parted at its first half's counts, gives both halves; both parts of a good room pass every check, and joined they are
+  -- the whole.
+  pub joined-parts : part.JoinedParts
+  pub parts-are-good : part.PartsAreGood
   -- A.11, over the scale: used never above grant, usable never below least (the cap too); equal plans with every share tenfold.
   pub used-granted : deals.UsedGranted
   pub usable-in-range : deals.UsableInRange

@@ -1,0 +1,65 @@
+-- `join_by` meets its contract: just what is accepted is stored.
+use mathlib.Core.Path.{sym}
+use native.Mathlib.Omega.{arith}
+use lib.Seq.{length-take-le}
+use Rattle.words.proofs.Calls.{call-short}
+use Rattle.join.proofs.Together.{written-fits, count-fits, stored}
+use borrow.Author.Needs.{needs}
+use Rattle.join.proofs.join_by.Statement.{statement}
+use Rattle.join.proofs.join_by.Tie as tie
+
+returns : tie.Need-returns
+returns c = call-short _ _ _ _ _ (omega arith)
+
+join-words-requires : tie.Need-join-words-requires
+join-words-requires c κs = search needs
+
+written-count-requires : tie.Need-written-count-requires
+written-count-requires c κs = search needs
+
+slice-reshare-prefix-store : tie.Need-slice-reshare-prefix-store
+slice-reshare-prefix-store c =
+    let call = c .before .before .before .join-words .ensures in
+    count-fits _ (call .0) (c .written-count .ensures) (call .1)
+
+slice-aggregate-store : tie.Need-slice-aggregate-store
+slice-aggregate-store c = sym (length-take-le _ _ (slice-reshare-prefix-store (c .before)))
+
+store-requires : tie.Need-store-requires
+store-requires c κs = search needs
+
+tell-requires : tie.Need-tell-requires
+tell-requires c κs = search needs
+
+same-length : tie.Need-same-length
+same-length c = search needs
+
+same-length-2 : tie.Need-same-length-2
+same-length-2 c = search needs
+
+same-length-3 : tie.Need-same-length-3
+same-length-3 c = search needs
+
+returns-2 : tie.Need-returns-2
+returns-2 c =
+    let counted = c .before .before .before .before .before .before .before .before .before in
+    let call = counted .before .before .before in
+    let answer = call .join-words .ensures in
+    stored _ (answer .0) (counted .written-count .ensures) (answer .1) _ _ (written-fits _ _ _) (omega (arith, call .before .before .if1 .left))
+    (c .before .before .before .before .before .before .store .ensures) (c .before .before .tell .ensures)
+
+pub join-by-spec : {M : Type 1} → statement M
+join-by-spec =
+    tie.close
+    (tie.spec
+    returns
+    join-words-requires
+    written-count-requires
+    slice-reshare-prefix-store
+    slice-aggregate-store
+    store-requires
+    tell-requires
+    same-length
+    same-length-2
+    same-length-3
+    returns-2)

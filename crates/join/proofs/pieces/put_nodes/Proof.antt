@@ -1,0 +1,53 @@
+-- `put_nodes` meets its contract: what was put is changed in its place.
+use mathlib.Core.Path.{refl}
+use Rattle.words.specs.Bytes.{wordsOf}
+use Prim.Native.Nat.{_-_}
+use Rattle.join.specs.Pieces.{renumberedEvery}
+use native.Mathlib.Omega.{arith}
+use Rattle.join.proofs.PieceLaws.{every-length, piece-below, put-changed}
+use borrow.Author.Needs.{needs}
+use Rattle.join.proofs.pieces.put_nodes.Statement.{statement}
+use Rattle.join.proofs.pieces.put_nodes.Tie as tie
+
+put-words-requires : tie.Need-put-words-requires
+put-words-requires c κs = search needs
+
+mul-renumber-every : tie.Need-mul-renumber-every
+mul-renumber-every c = search needs
+
+sub-renumber-every : tie.Need-sub-renumber-every
+sub-renumber-every c = search needs
+
+part-renumber-every-start : tie.Need-part-renumber-every-start
+part-renumber-every-start c = search needs
+
+part-renumber-every-end : tie.Need-part-renumber-every-end
+part-renumber-every-end c =
+    let put = c .before .before .put-words .ensures in
+    omega (arith, put .within, put .size)
+
+renumber-every-requires : tie.Need-renumber-every-requires
+renumber-every-requires c κs =
+    let pre = c .before .before .before .before .before .before .before .pre in
+    (pre .1 .0, pre .1 .1, pre .1 .2, piece-below 2147483648 (c .before .before .before .before .before .before .before .args .from) (c .before .before .before .before .before .before .before .args .to) (wordsOf (c .before .before .before .before .before .before .before .args .bytes .now)) (c .before .before .before .put-words .ensures) (pre .1 .3))
+
+same-length : tie.Need-same-length
+same-length c = search needs
+
+returns : tie.Need-returns
+returns c =
+    put-changed (c .before .before .before .before .before .before .put-words .ensures) (renumberedEvery (c .before .before .before .before .before .before .before .before .before .before .args .width - 1) (c .before .before .before .before .before .before .before .before .before .before .args .up) (c .before .before .before .before .before .before .before .before .before .before .args .down) 0)
+    (every-length (c .before .before .before .before .before .before .before .before .before .before .args .width - 1) (c .before .before .before .before .before .before .before .before .before .before .args .up) (c .before .before .before .before .before .before .before .before .before .before .args .down) 0 _) (c .before .before .renumber-every .ensures) refl
+
+pub put-nodes-spec : {M : Type 1} → statement M
+put-nodes-spec =
+    tie.close
+    (tie.spec
+    put-words-requires
+    mul-renumber-every
+    sub-renumber-every
+    part-renumber-every-start
+    part-renumber-every-end
+    renumber-every-requires
+    same-length
+    returns)

@@ -1,0 +1,50 @@
+-- `put_servers` meets its contract: what was put is changed in its place.
+use mathlib.Core.Path.{refl}
+use Rattle.words.specs.Bytes.{wordsOf}
+use Rattle.join.specs.Pieces.{renumberedCords}
+use native.Mathlib.Omega.{arith}
+use Rattle.join.proofs.PieceLaws.{cords-length, piece-below, put-changed}
+use borrow.Author.Needs.{needs}
+use Rattle.join.proofs.pieces.put_servers.Statement.{statement}
+use Rattle.join.proofs.pieces.put_servers.Tie as tie
+
+put-words-requires : tie.Need-put-words-requires
+put-words-requires c κs = search needs
+
+mul-renumber-cords : tie.Need-mul-renumber-cords
+mul-renumber-cords c = search needs
+
+sub-renumber-cords : tie.Need-sub-renumber-cords
+sub-renumber-cords c = search needs
+
+part-renumber-cords-start : tie.Need-part-renumber-cords-start
+part-renumber-cords-start c = search needs
+
+part-renumber-cords-end : tie.Need-part-renumber-cords-end
+part-renumber-cords-end c =
+    let put = c .before .before .put-words .ensures in
+    omega (arith, put .within, put .size)
+
+renumber-cords-requires : tie.Need-renumber-cords-requires
+renumber-cords-requires c κs =
+    let pre = c .before .before .before .before .before .before .before .pre in
+    (pre .1 .0, piece-below 2147483648 (c .before .before .before .before .before .before .before .args .from) (c .before .before .before .before .before .before .before .args .to) (wordsOf (c .before .before .before .before .before .before .before .args .bytes .now)) (c .before .before .before .put-words .ensures) (pre .1 .1))
+
+same-length : tie.Need-same-length
+same-length c = search needs
+
+returns : tie.Need-returns
+returns c = put-changed (c .before .before .before .before .before .before .put-words .ensures) (renumberedCords (c .before .before .before .before .before .before .before .before .before .before .args .up) (c .before .before .before .before .before .before .before .before .before .before .args .down) 0) (cords-length (c .before .before .before .before .before .before .before .before .before .before .args .up) (c .before .before .before .before .before .before .before .before .before .before .args .down) 0 _) (c .before .before .renumber-cords .ensures) refl
+
+pub put-servers-spec : {M : Type 1} → statement M
+put-servers-spec =
+    tie.close
+    (tie.spec
+    put-words-requires
+    mul-renumber-cords
+    sub-renumber-cords
+    part-renumber-cords-start
+    part-renumber-cords-end
+    renumber-cords-requires
+    same-length
+    returns)

@@ -1,0 +1,89 @@
+-- `renumber_cords` meets its contract: what stands behind i is as it was, and starts with the cords that are left.
+use mathlib.Core.Path.{sym, subst}
+use Prim.Native.Nat.{ℕ, _-_, _<_}
+use native.Mathlib.Omega.{arith}
+use lib.ListN.{length, length-set}
+use borrow.Author.Needs.{needs}
+use Rattle.join.specs.Pieces.{renumberedCords}
+use Rattle.join.proofs.PieceLaws.{Turning, turning-begin, turning-end, turning-at, cords-none, server-again, cord-again}
+use Rattle.join.proofs.pieces.renumber_cords.Statement.{statement}
+use Rattle.join.proofs.pieces.renumber_cords.Tie as tie
+
+abbrev Inv-loop : tie.InvT-loop
+Inv-loop words₀ up down i₀ left₀ words i left = Turning (renumberedCords up down left) (renumberedCords up down 0 words₀) words₀ words i
+
+abbrev μ-loop : tie.MeasureT-loop
+μ-loop words₀ up down i₀ left₀ words i left = length words - i
+
+loop-holds : tie.Need-loop-holds Inv-loop μ-loop
+loop-holds c = turning-begin _ _
+
+count-at-requires : tie.Need-count-at-requires Inv-loop μ-loop
+count-at-requires c κs = search needs
+
+add-i : tie.Need-add-i Inv-loop μ-loop
+add-i c = search needs
+
+loop-less : tie.Need-loop-less Inv-loop μ-loop
+loop-less c = search needs
+
+loop-again : tie.Need-loop-again Inv-loop μ-loop
+loop-again c = server-again _ _ (c .before .before .if1 .taken) (c .count-at .ensures) (c .before .before .before .before .loop .inv)
+
+mul-renumbered : tie.Need-mul-renumbered Inv-loop μ-loop
+mul-renumbered c = search needs
+
+slice-read-renumbered : tie.Need-slice-read-renumbered Inv-loop μ-loop
+slice-read-renumbered c = search needs
+
+renumbered-requires : tie.Need-renumbered-requires Inv-loop μ-loop
+renumbered-requires c κs =
+    let pre = c .before .before .before .before .before .pre in
+    (subst (λ (v : ℕ). v < 2147483648) (sym (turning-at (c .before .before .before .loop .inv))) (pre .1 _), pre .0)
+
+mul-words : tie.Need-mul-words Inv-loop μ-loop
+mul-words c = search needs
+
+slice-write-words : tie.Need-slice-write-words Inv-loop μ-loop
+slice-write-words c = search needs
+
+add-i-2 : tie.Need-add-i-2 Inv-loop μ-loop
+add-i-2 c = search needs
+
+sub-left : tie.Need-sub-left Inv-loop μ-loop
+sub-left c = search needs
+
+loop-less-2 : tie.Need-loop-less-2 Inv-loop μ-loop
+loop-less-2 c = simp length-set (search needs)
+
+loop-again-2 : tie.Need-loop-again-2 Inv-loop μ-loop
+loop-again-2 c = cord-again _ _ (search needs) (search needs) (c .renumbered .ensures) (c .before .before .before .before .loop .inv)
+
+same-length : tie.Need-same-length Inv-loop μ-loop
+same-length c = c .before .loop .inv .size
+
+returns : tie.Need-returns Inv-loop μ-loop
+returns c = turning-end (cords-none _ _ _) (omega (arith, c .loop-test .left)) (c .before .loop .inv)
+
+pub renumber-cords-spec : {M : Type 1} → statement M
+renumber-cords-spec =
+    tie.close
+    (tie.spec
+    Inv-loop
+    μ-loop
+    loop-holds
+    count-at-requires
+    add-i
+    loop-less
+    loop-again
+    mul-renumbered
+    slice-read-renumbered
+    renumbered-requires
+    mul-words
+    slice-write-words
+    add-i-2
+    sub-left
+    loop-less-2
+    loop-again-2
+    same-length
+    returns)

@@ -1,0 +1,4 @@
+-- The laws of a room parted in two.
+pub mod PartLaws
+pub mod PartTables
+pub mod Promises

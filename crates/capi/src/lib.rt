@@ -1,19 +1,19 @@
 // The C calls of Read, Write and Plan. Each is exported here alone: its contract, of every byte, is that of the function that it calls.
 //
 // A slice passes as a pointer and a length:
-//     uint32_t hutplan_read(const uint8_t *sheet, size_t sheet_len,
-//                           uint8_t *table, size_t table_len,
-//                           uint8_t *answer, size_t answer_len);
-//     uint32_t hutplan_write(const uint8_t *table, size_t table_len,
-//                            uint8_t *sheet, size_t sheet_len,
-//                            uint8_t *answer, size_t answer_len);
-//     uint32_t hutplan_plan(const uint8_t *table, size_t table_len,
-//                           const uint8_t *demands, size_t demands_len,
-//                           uint8_t *grants, size_t grants_len,
-//                           uint8_t *caps, size_t caps_len,
-//                           uint8_t *headroom, size_t headroom_len,
-//                           uint8_t *held, size_t held_len,
-//                           uint8_t *answer, size_t answer_len);
+//     uint32_t hutplan_read(const uint8_t *sheet, uint64_t sheet_len,
+//                           uint8_t *table, uint64_t table_len,
+//                           uint8_t *answer, uint64_t answer_len);
+//     uint32_t hutplan_write(const uint8_t *table, uint64_t table_len,
+//                            uint8_t *sheet, uint64_t sheet_len,
+//                            uint8_t *answer, uint64_t answer_len);
+//     uint32_t hutplan_plan(const uint8_t *table, uint64_t table_len,
+//                           const uint8_t *demands, uint64_t demands_len,
+//                           uint8_t *grants, uint64_t grants_len,
+//                           uint8_t *caps, uint64_t caps_len,
+//                           uint8_t *headroom, uint64_t headroom_len,
+//                           uint8_t *held, uint64_t held_len,
+//                           uint8_t *answer, uint64_t answer_len);
 ghost use Rattle.words.specs.Bytes.{wordsOf};
 ghost use Rattle.sheet_bytes.specs.Call.{ReadCall, WriteCall};
 ghost use Rattle.plan_bytes.specs.Call.{PlanCall};

@@ -1,8 +1,8 @@
 // The C call of a breaker schedule: its text to the words of a table.
 //
-//     uint32_t hutplan_schedule(const uint8_t *text, size_t text_len,
-//                               uint8_t *table, size_t table_len,
-//                               uint8_t *answer, size_t answer_len);
+//     uint32_t hutplan_schedule(const uint8_t *text, uint64_t text_len,
+//                               uint8_t *table, uint64_t table_len,
+//                               uint8_t *answer, uint64_t answer_len);
 ghost use Rattle.schedules.specs.Call.{ScheduleCall};
 
 #[no_mangle]

@@ -1,8 +1,8 @@
 // The C call of Send. Its contract, of every byte, is that of `sender::send_bytes`.
 //
 //     uint32_t hutplan_send(uint64_t count, uint64_t position, uint64_t m,
-//                           uint8_t *list, size_t list_len,
-//                           uint8_t *answer, size_t answer_len);
+//                           uint8_t *list, uint64_t list_len,
+//                           uint8_t *answer, uint64_t answer_len);
 ghost use Rattle.sender.specs.Call.{SendCall};
 
 // Send: the servers that a period names, at the front of the list.

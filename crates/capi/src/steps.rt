@@ -3,13 +3,13 @@
 // An array passes as a pointer, and a slice as a pointer and a length:
 //     uint32_t hutplan_step(double controller[4],
 //                           const uint8_t working[4], const double budgets[4], const double measured[4],
-//                           uint8_t *answer, size_t answer_len);
-//     uint32_t hutplan_step_all(double *controllers, size_t controllers_len,
-//                               const uint8_t *working, size_t working_len,
-//                               const double *budgets, size_t budgets_len,
-//                               const double *measured, size_t measured_len,
-//                               uint8_t *results, size_t results_len,
-//                               uint8_t *answer, size_t answer_len);
+//                           uint8_t *answer, uint64_t answer_len);
+//     uint32_t hutplan_step_all(double *controllers, uint64_t controllers_len,
+//                               const uint8_t *working, uint64_t working_len,
+//                               const double *budgets, uint64_t budgets_len,
+//                               const double *measured, uint64_t measured_len,
+//                               uint8_t *results, uint64_t results_len,
+//                               uint8_t *answer, uint64_t answer_len);
 ghost use Rattle.control.specs.Call.{StepCall};
 ghost use Rattle.control_all.specs.Call.{PassCall};
 

@@ -28,7 +28,7 @@
  *                   controllers were stepped (hutplan_step_all).
  * Bytes past the sixteenth are not touched. If the answer buffer is shorter than sixteen bytes, a
  * call returns 0 and changes nothing. In every other case it returns 1. The answer of hutplan_send
- * has eight bytes more (see there).
+ * has eight bytes more, and that of hutplan_judge sixteen (see there).
  *
  * Accepted: what is written stands at the front of each output buffer; bytes past it are not
  * touched. Refused: nothing but the answer is changed.
@@ -74,8 +74,8 @@ enum hutplan_refusal {
     HUTPLAN_NUMBER_NOT_SHORTEST = 2,   /* longer than one byte, and its last byte is 0 */
     HUTPLAN_NUMBER_CUT_SHORT = 3,      /* the bytes end inside a number */
 
-    /* Words of a table, word by word (hutplan_read, hutplan_write, hutplan_plan; hutplan_join, of the
-       first table and then of the second). */
+    /* Words of a table, word by word (hutplan_read, hutplan_write, hutplan_plan, hutplan_judge;
+       hutplan_join, of the first table and then of the second). */
     HUTPLAN_WORD_MISSING = 4,          /* place: the table's length in words */
     HUTPLAN_WORD_OUT_OF_RANGE = 5,     /* place: the word's index */
     HUTPLAN_GREATEST_BELOW_LEAST = 6,  /* place: the index of the word `greatest` */
@@ -85,7 +85,7 @@ enum hutplan_refusal {
     HUTPLAN_LOWS_ABOVE_LIMIT = 9,      /* the lows of the cords beneath a node, at any depth, exceed
                                           its limit; place: the lowest number of such a node */
 
-    /* Demands (hutplan_plan). */
+    /* Demands (hutplan_plan, hutplan_judge). */
     HUTPLAN_DEMAND_COUNT = 10,         /* not one demand a server; place: the count of servers */
     HUTPLAN_DEMAND_TOO_LARGE = 11,     /* a demand above 16,777,215; place: the first such index */
 
@@ -112,6 +112,9 @@ enum hutplan_refusal {
     HUTPLAN_VERSIONS_DIFFER = 19,      /* place: 0 */
     HUTPLAN_JOINED_TOO_LARGE = 20,     /* more than 512 nodes (place 0), 512 servers (1) or 1,024
                                           cords (2); place: the first of these that is too large */
+
+    /* A list of grants to be judged (hutplan_judge). */
+    HUTPLAN_GRANT_COUNT = 21,          /* not one grant a cord; place: the count of cords */
 
     /* Lines of a schedule, line by line (hutplan_schedule), all before 12. Place: the line. */
     HUTPLAN_NOT_A_LINE = 24,           /* not of the form, or a number above 9,999 */
@@ -148,6 +151,7 @@ enum hutplan_refusal {
 #define HUTPLAN_SEND_LIST_BYTES 2048
 #define HUTPLAN_ANSWER_BYTES 16
 #define HUTPLAN_SEND_ANSWER_BYTES 24
+#define HUTPLAN_JUDGE_ANSWER_BYTES 32
 
 /*
  * Stack of each call in bytes, no less than the most that it can use on any of the chips.
@@ -156,6 +160,7 @@ enum hutplan_refusal {
 #define HUTPLAN_READ_STACK 27136
 #define HUTPLAN_WRITE_STACK 27136
 #define HUTPLAN_PLAN_STACK 115200
+#define HUTPLAN_JUDGE_STACK 86528
 #define HUTPLAN_JOIN_STACK 27648
 #define HUTPLAN_SCHEDULE_STACK 4608
 #define HUTPLAN_STEP_STACK 256
@@ -325,6 +330,37 @@ uint32_t hutplan_step_all(double *controllers, uint64_t controllers_len,
 uint32_t hutplan_send(uint64_t count, uint64_t position, uint64_t m,
                       uint8_t *list, uint64_t list_len,
                       uint8_t *answer, uint64_t answer_len);
+
+/* The verdicts of hutplan_judge. */
+enum {
+    HUTPLAN_PASSES = 0,
+    HUTPLAN_BELOW_LOW = 1,   /* a cord has less than its low; named: the cord, from 0 */
+    HUTPLAN_ABOVE_WANT = 2,  /* a cord has more than it wants; named: the cord, from 0 */
+    HUTPLAN_OVER_LIMIT = 3,  /* the grants beneath a node pass its limit; named: the node */
+    HUTPLAN_SHORT = 4        /* a tree could have more; named: its root, and the rank */
+};
+
+/*
+ * Judge: what is wrong with grants that somebody else made, one a cord, by what the servers' demands
+ * make the cords want in the first deal. No list is written.
+ *
+ * The answer has 32 bytes: four numbers of eight bytes each, low byte first. The first two are as in
+ * the other calls, the second of an accepted list being the verdict. Accepted, the third is the cord,
+ * node or root that the verdict names, and the fourth the rank of verdict 4; a number that a verdict
+ * does not use is 0. Refused, bytes 16 to 31 are not touched. If answer_len is less than 32, the
+ * call returns 0 and changes nothing.
+ *
+ * The verdict is the first that holds, of the lowest cord or node of its kind. A tree is short at a
+ * rank if some way of dealing it, within lows, wants and limits, gives the cords of that rank and
+ * above more in sum; the lowest such root is named with its highest such rank. The grants of
+ * hutplan_plan are the second deal's, which goes by other wants, and need not pass.
+ *
+ * Refusals: 4 to 9 of the table; 10 and 11 of the demands; then 21.
+ */
+uint32_t hutplan_judge(const uint8_t *table, uint64_t table_len,
+                       const uint8_t *demands, uint64_t demands_len,
+                       const uint8_t *grants, uint64_t grants_len,
+                       uint8_t *answer, uint64_t answer_len);
 
 /*
  * Example: reads a sheet and plans it with the demands given, a list of words. The result is 0, or

@@ -1,4 +1,4 @@
-//! The three calls as both sides make them, over buffers that a caller lends.
+//! The four calls as both sides make them, over buffers that a caller lends.
 
 use crate::plain;
 
@@ -14,14 +14,20 @@ extern "C" {
         grants: Out, grants_len: usize, caps: Out, caps_len: usize, headroom: Out, headroom_len: usize,
         held: Out, held_len: usize, answer: Out, answer_len: usize,
     ) -> u32;
+    fn hutplan_judge(
+        table: In, table_len: usize, demands: In, demands_len: usize, grants: In, grants_len: usize,
+        answer: Out, answer_len: usize,
+    ) -> u32;
 }
 
 /// What the calls of one room take.
-#[derive(Clone)]
+#[derive(Clone, Default)]
 pub struct Inputs {
     pub sheet: Vec<u8>,
     pub table: Vec<u8>,
     pub demands: Vec<u8>,
+    /// Those that Judge is asked about.
+    pub grants: Vec<u8>,
 }
 
 /// What a call may write: the table, the sheet or the grants, Plan's other lists, and the answer.
@@ -37,10 +43,11 @@ pub struct Outputs {
 pub type Call = fn(&Inputs, &mut Outputs) -> u32;
 
 /// Each call's name, the product's and the baseline's.
-pub const CALLS: [(&str, Call, Call); 3] = [
+pub const CALLS: [(&str, Call, Call); 4] = [
     ("Read", product_read, |given, out| plain::read(&given.sheet, &mut out.first, &mut out.answer)),
     ("Write", product_write, |given, out| plain::write(&given.table, &mut out.first, &mut out.answer)),
     ("Plan", product_plan, plain_plan),
+    ("Judge", product_judge, |given, out| plain::judge(&given.table, &given.demands, &given.grants, &mut out.answer)),
 ];
 
 impl Outputs {
@@ -57,7 +64,7 @@ impl Outputs {
 
     /// Buffers a little longer than any accepted input needs.
     pub fn lent() -> Outputs {
-        Outputs::of_lengths(4 * plain::DECIDING_WORDS, 2_052, [4_100; 2], 24)
+        Outputs::of_lengths(4 * plain::DECIDING_WORDS, 2_052, [4_100; 2], 40)
     }
 
     /// The answer's two numbers.
@@ -92,6 +99,19 @@ fn product_plan(given: &Inputs, out: &mut Outputs) -> u32 {
             out.caps.as_mut_ptr(), out.caps.len(),
             out.headroom.as_mut_ptr(), out.headroom.len(),
             out.held.as_mut_ptr(), out.held.len(),
+            out.answer.as_mut_ptr(), out.answer.len(),
+        )
+    }
+}
+
+#[rustfmt::skip] // As above.
+fn product_judge(given: &Inputs, out: &mut Outputs) -> u32 {
+    // SAFETY: as for Read.
+    unsafe {
+        hutplan_judge(
+            given.table.as_ptr(), given.table.len(),
+            given.demands.as_ptr(), given.demands.len(),
+            given.grants.as_ptr(), given.grants.len(),
             out.answer.as_mut_ptr(), out.answer.len(),
         )
     }

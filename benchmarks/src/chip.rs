@@ -56,5 +56,5 @@ fn one_node(want: u32) -> Inputs {
     for _ in 0..512 {
         words.extend([1, 0, 2 * want, 2, 1, 500, 1, 500]);
     }
-    Inputs { sheet: Vec::new(), table: bytes(&words), demands: bytes(&[2 * want; 512]) }
+    Inputs { table: bytes(&words), demands: bytes(&[2 * want; 512]), ..Inputs::default() }
 }

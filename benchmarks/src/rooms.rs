@@ -55,8 +55,9 @@ impl Shape {
     }
 }
 
-/// A room of the kind, in one of the versions: its table, its demands and the sheet that Write makes of the table. From
-/// version 2 on every second node may carry all of its rating, and in version 3 shares are of 10,000.
+/// A room of the kind, in one of the versions: its table, its demands, the sheet that Write makes of the table and the grants
+/// that the baseline plans. From version 2 on every second node may carry all of its rating, and in version 3 shares are of
+/// 10,000.
 pub fn room(kind: Kind, version: u32, chance: &mut Chance) -> Inputs {
     let whole = if version > 2 { 10_000 } else { 1_000 };
     let servers = servers(kind, whole, chance);
@@ -73,14 +74,16 @@ pub fn room(kind: Kind, version: u32, chance: &mut Chance) -> Inputs {
         words.extend(server.cords.iter().flat_map(|&(node, share)| [node, share]));
     }
     let mut given = Inputs {
-        sheet: Vec::new(),
         table: bytes(&words),
         demands: bytes(&servers.iter().map(|s| s.demand).collect::<Vec<_>>()),
+        ..Inputs::default()
     };
     let mut out = Outputs::lent();
     (CALLS[1].1)(&given, &mut out);
     assert_eq!(out.told().0, 0, "a room that was made is refused");
     given.sheet = out.first[..out.told().1 as usize].to_vec();
+    (CALLS[2].2)(&given, &mut out);
+    given.grants = out.first[..4 * kind.cords].to_vec();
     given
 }
 

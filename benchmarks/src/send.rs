@@ -53,7 +53,7 @@ fn plain(count: u64, position: u64, m: u64, list: &mut [u8], answer: &mut [u8]) 
 }
 
 pub fn periods() {
-    let rooms = vec![Inputs { sheet: vec![], table: vec![], demands: vec![] }; 8];
+    let rooms = vec![Inputs::default(); 8];
     println!("Send                                     product  baseline     ratio");
     for (name, product, baseline) in PERIODS {
         let out = both(name, product, baseline, &rooms[0], Outputs::lent());
@@ -72,6 +72,6 @@ pub fn periods() {
 pub fn once() {
     for (name, product, _) in PERIODS {
         println!("{name}");
-        product(&Inputs { sheet: vec![], table: vec![], demands: vec![] }, &mut Outputs::lent());
+        product(&Inputs::default(), &mut Outputs::lent());
     }
 }

@@ -17,6 +17,7 @@
 #include <string.h>
 
 #include "hutplan.h"
+#include "lists.h"
 #include "refusal_names.h"
 
 /* More watts than a demand may have. */
@@ -33,30 +34,6 @@ static uint8_t caps[HUTPLAN_CAPS_BYTES];
 static uint8_t headroom[HUTPLAN_HEADROOM_BYTES];
 static uint8_t held[HUTPLAN_HELD_BYTES];
 static uint8_t answer[HUTPLAN_ANSWER_BYTES];
-
-/* A number of `count` bytes, low byte first, whatever the byte order of the machine. */
-static uint64_t number_at(const uint8_t *bytes, size_t count)
-{
-    uint64_t value = 0;
-
-    while (count > 0)
-        value = 256 * value + bytes[--count];
-    return value;
-}
-
-/* The word at a place of a list. */
-static uint32_t word_at(const uint8_t *list, size_t place)
-{
-    return (uint32_t)number_at(list + 4 * place, 4);
-}
-
-static void put_word(uint8_t *list, size_t place, uint32_t word)
-{
-    size_t i;
-
-    for (i = 0; i < 4; i++)
-        list[4 * place + i] = (uint8_t)(word >> (8 * i));
-}
 
 /* The watts that an argument says. What is not one to eight digits counts as too many watts, so
    that Plan refuses it and tells its place. */

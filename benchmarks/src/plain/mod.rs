@@ -1,12 +1,14 @@
-//! The baseline: Read, Write and Plan of document 01 with the requests of document 02, and the pass of its A.7, in plain Rust,
-//! over what a C caller lends.
+//! The baseline: Read, Write and Plan of document 01 with the requests of document 02, Judge of its A.9 and the pass of its
+//! A.7, in plain Rust, over what a C caller lends.
 
 mod deal;
+mod judge;
 mod number;
 mod plan;
 mod steps;
 mod table;
 
+pub use judge::judge;
 pub use plan::{plan, Lists};
 pub use steps::step_all;
 

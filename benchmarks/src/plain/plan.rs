@@ -22,15 +22,21 @@ pub fn plan(table: &[u8], demands: &[u8], lists: Lists, answer: &mut [u8]) -> u3
     })
 }
 
+/// Refusals 10 and 11.
+pub fn check_demands(room: &Room, demands: Table) -> Outcome<()> {
+    if demands.len() != room.server_count {
+        return Err(Refusal(10, room.server_count as u64));
+    }
+    match demands.words().position(|demand| demand > MOST_WATTS) {
+        Some(large) => Err(Refusal(11, large as u64)),
+        None => Ok(()),
+    }
+}
+
 /// Refusals 10 to 15.
 fn check_lists(room: &Room, demands: Table, lists: &Lists) -> Outcome<()> {
+    check_demands(room, demands)?;
     let (cords, servers) = (room.cord_count, room.server_count);
-    if demands.len() != servers {
-        return Err(Refusal(10, servers as u64));
-    }
-    if let Some(large) = demands.words().position(|demand| demand > MOST_WATTS) {
-        return Err(Refusal(11, large as u64));
-    }
     let lists = [
         (12, &lists.grants, cords),
         (13, &lists.caps, servers),
@@ -47,10 +53,7 @@ fn check_lists(room: &Room, demands: Table, lists: &Lists) -> Outcome<()> {
 
 /// The plan, into lists long enough; the freed watts.
 fn plan_room(room: &Room, demands: Table, lists: Lists) -> u64 {
-    let mut needs = [0; MOST_SERVERS];
-    for ((need, demand), (least, greatest)) in needs.iter_mut().zip(demands.words()).zip(room.ranges) {
-        *need = demand.max(least).min(greatest);
-    }
+    let needs = needs(room, demands);
     let mut wants = [0; MOST_CORDS];
     let mut ceilings = [0; MOST_CORDS];
     for c in 0..room.cord_count {
@@ -68,6 +71,15 @@ fn plan_room(room: &Room, demands: Table, lists: Lists) -> u64 {
     put(&lend(room, &left.slack, &wants, &ceilings)[..room.cord_count], lists.headroom);
     put(&name_holders(room, &left.cuts, &wants, &granted)[..room.cord_count], lists.held);
     freed
+}
+
+/// Each server's need.
+pub fn needs(room: &Room, demands: Table) -> [u32; MOST_SERVERS] {
+    let mut needs = [0; MOST_SERVERS];
+    for ((need, demand), (least, greatest)) in needs.iter_mut().zip(demands.words()).zip(room.ranges) {
+        *need = demand.max(least).min(greatest);
+    }
+    needs
 }
 
 /// Each server's usable watts, by its need and its cords' grants.

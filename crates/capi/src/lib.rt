@@ -19,6 +19,7 @@ ghost use Rattle.sheet_bytes.specs.Call.{ReadCall, WriteCall};
 ghost use Rattle.plan_bytes.specs.Call.{PlanCall};
 
 pub mod joins;
+pub mod judging;
 pub mod schedule;
 pub mod send;
 pub mod steps;

@@ -1,4 +1,4 @@
--- Laws of lists: a run of stores, `sets`, that starts at the front or follows another run, and lists of bounded numbers.
+-- Laws of lists: a run of stores, `sets`, that starts at the front or follows another run.
 --
 -- A store past the end of a list changes nothing, so `sets` speaks for a list that is too short as well.
 use mathlib.Core.Path.{_≡_, refl, sym, ap, _∙_}
@@ -7,8 +7,7 @@ use Prim.Native.Nat.{ℕ, zero, suc, _+_, _≤_, _<_, min}
 use native.Mathlib.Omega.{arith}
 use native.Mathlib.Numerals.{add-one}
 use lib.ListN.{length, getD, set, take, drop}
-use lib.Seq.{sets, take-suc, take-nil, length-take-le, drop-nil, getD-drop}
-use Rattle.words.specs.Lists.{AllBelow}
+use lib.Seq.{sets, take-suc, take-nil, length-take-le, drop-nil}
 
 module _ {ℓ} {A : Type ℓ} where
   -- ---- a run of stores
@@ -86,19 +85,3 @@ module _ {ℓ} {A : Type ℓ} where
   take-min (suc n) (x ∷ l) =
       let e : min (suc (length l)) (suc n) ≡ suc (min (length l) n) = omega arith in
       rw e (ap (λ (r : List A). x ∷ r) (take-min n l))
-
--- ---- lists of bounded numbers
-
-pub nil-below : (bound : ℕ) → 0 < bound → AllBelow bound []
-nil-below bound h i = h
-
-pub cons-below : (bound a : ℕ) (l : List ℕ) → a < bound → AllBelow bound l → AllBelow bound (a ∷ l)
-cons-below bound a l h all zero = h
-cons-below bound a l h all (suc i) = all i
-
-pub append-below : (bound : ℕ) (s t : List ℕ) → AllBelow bound s → AllBelow bound t → AllBelow bound (s ++ t)
-append-below bound [] t h k = k
-append-below bound (a ∷ s) t h k = cons-below bound a (s ++ t) (h 0) (append-below bound s t (λ i. h (suc i)) k)
-
-pub drop-below : (bound : ℕ) (l : List ℕ) (n : ℕ) → AllBelow bound l → AllBelow bound (drop n l)
-drop-below bound l n all i = rw (getD-drop n l i 0) (all (n + i))

@@ -2,9 +2,9 @@
 use borrow.Author.Needs.{needs}
 use Prim.Native.Nat.{_-_}
 use lib.ListN.{length}
-use Rattle.words.proofs.Search.{Searching, searching-begin, searching-again, searching-stop, searching-end}
-use Rattle.words.proofs.first_not_below.Statement.{statement}
-use Rattle.words.proofs.first_not_below.Tie as tie
+use Rattle.figures.proofs.Search.{Searching, searching-begin, searching-again, searching-stop, searching-end}
+use Rattle.figures.proofs.first_not_below.Statement.{statement}
+use Rattle.figures.proofs.first_not_below.Tie as tie
 
 abbrev Inv-loop : tie.InvT-loop
 Inv-loop bound list index₀ index = Searching bound list index

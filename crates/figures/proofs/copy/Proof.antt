@@ -1,13 +1,13 @@
--- `words::copy` meets its contract: a turn takes the stores of i words to those of i + 1, and the count leaves out only what does not fit.
+-- `copy` meets its contract: a turn takes the stores of i words to those of i + 1, and the count leaves out only what does not fit.
 use borrow.Author.Needs.{needs}
 use native.Mathlib.Omega.{arith}
 use Prim.Native.Nat.{_-_, _≤_}
 use mathlib.Core.Path.{_≡_, refl}
 use lib.ListN.{length, take, length-set}
 use lib.Seq.{sets}
-use Rattle.words.proofs.Lists.{sets-turn, sets-take}
-use Rattle.words.proofs.copy.Statement.{statement}
-use Rattle.words.proofs.copy.Tie as tie
+use Rattle.figures.proofs.Stores.{sets-turn, sets-take}
+use Rattle.figures.proofs.copy.Statement.{statement}
+use Rattle.figures.proofs.copy.Tie as tie
 
 abbrev Inv-loop : tie.InvT-loop
 Inv-loop from to₀ count i₀ to i = (i ≤ count) × (to ≡ sets to₀ 0 (take i from)) × (length to ≡ length to₀)

@@ -9,8 +9,8 @@ use lib.Dec.{ltb}
 use lib.ListN.{length, getD, drop, drop-of-length-le}
 use lib.Seq.{drop-cons}
 use borrow.Author.Tests.{ltb-true, lt-ltb, le-ltb}
-use Rattle.words.specs.Lists.{AllBelow, firstNotBelow}
-use Rattle.words.proofs.Lists.{cons-below}
+use Rattle.figures.specs.Bounds.{AllBelow, firstNotBelow}
+use Rattle.figures.proofs.Bounds.{cons-below}
 
 -- There is none where all entries are below the bound, and only there.
 pub none-below : (bound : ℕ) → 0 < bound → (list : List ℕ) → length list ≤ firstNotBelow bound list → AllBelow bound list

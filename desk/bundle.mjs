@@ -44,11 +44,16 @@ checkNames(sources);
 const script = sources.join('\n');
 if (script.includes('</script')) throw new Error('a module has the end of a script in it');
 
+/// The release's mark, which the page has as text too, since the code stands in it in base64.
+const mark = readFileSync(wasm).toString('latin1').match(/hutplan release \d{4} by Yerkozan/)?.[0];
+if (!mark) throw new Error('the proved code has no mark of its release');
+
 const hash = createHash('sha256').update(script).digest('base64');
 const parts = {
   // Nothing is fetched, and no script but this one runs.
   policy: [`default-src 'none'`, `script-src 'sha256-${hash}' 'wasm-unsafe-eval'`, `style-src 'unsafe-inline'`,
     `form-action 'none'`, `base-uri 'none'`].join('; '),
+  mark,
   style: here('style.css'),
   script,
 };

@@ -24,11 +24,13 @@
  *   bytes 0 to 7    0 if the input was accepted, else the number of the refusal (see below);
  *   bytes 8 to 15   refused: the refusal's place;
  *                   accepted: the count written, of words (hutplan_read, hutplan_join,
- *                   hutplan_schedule) or bytes (hutplan_write), the freed watts (hutplan_plan), 0 (hutplan_step), or how many
- *                   controllers were stepped (hutplan_step_all).
+ *                   hutplan_schedule; hutplan_part, of the first part) or bytes (hutplan_write),
+ *                   the freed watts (hutplan_plan), 0 (hutplan_step), or how many controllers were
+ *                   stepped (hutplan_step_all).
  * Bytes past the sixteenth are not touched. If the answer buffer is shorter than sixteen bytes, a
- * call returns 0 and changes nothing. In every other case it returns 1. The answer of hutplan_send
- * has eight bytes more, and that of hutplan_judge sixteen (see there).
+ * call returns 0 and changes nothing. In every other case it returns 1. The answers of
+ * hutplan_send, hutplan_part and hutplan_release have eight bytes more, and that of hutplan_judge
+ * sixteen (see there).
  *
  * Accepted: what is written stands at the front of each output buffer; bytes past it are not
  * touched. Refused: nothing but the answer is changed.
@@ -74,8 +76,8 @@ enum hutplan_refusal {
     HUTPLAN_NUMBER_NOT_SHORTEST = 2,   /* longer than one byte, and its last byte is 0 */
     HUTPLAN_NUMBER_CUT_SHORT = 3,      /* the bytes end inside a number */
 
-    /* Words of a table, word by word (hutplan_read, hutplan_write, hutplan_plan, hutplan_judge;
-       hutplan_join, of the first table and then of the second). */
+    /* Words of a table, word by word (hutplan_read, hutplan_write, hutplan_plan, hutplan_judge,
+       hutplan_part; hutplan_join, of the first table and then of the second). */
     HUTPLAN_WORD_MISSING = 4,          /* place: the table's length in words */
     HUTPLAN_WORD_OUT_OF_RANGE = 5,     /* place: the word's index */
     HUTPLAN_GREATEST_BELOW_LEAST = 6,  /* place: the index of the word `greatest` */
@@ -91,8 +93,9 @@ enum hutplan_refusal {
 
     /* The output buffers. */
     HUTPLAN_OUTPUT_TOO_SHORT = 12,     /* place: the length needed, in words (hutplan_read,
-                                          hutplan_join, hutplan_schedule), bytes (hutplan_write), grants
-                                          (hutplan_plan) or servers named (hutplan_send) */
+                                          hutplan_join, hutplan_part, hutplan_schedule), bytes
+                                          (hutplan_write), grants (hutplan_plan) or servers named
+                                          (hutplan_send) */
     HUTPLAN_CAPS_TOO_SHORT = 13,       /* the cap list; place: the count of servers */
     HUTPLAN_HEADROOM_TOO_SHORT = 14,   /* the headroom list; place: the count of cords */
     HUTPLAN_HELD_TOO_SHORT = 15,       /* the list of holding nodes; place: the count of cords */
@@ -115,6 +118,12 @@ enum hutplan_refusal {
 
     /* A list of grants to be judged (hutplan_judge). */
     HUTPLAN_GRANT_COUNT = 21,          /* not one grant a cord; place: the count of cords */
+
+    /* The counts at which a good table is parted (hutplan_part), before 12. */
+    HUTPLAN_CUT_OUT_OF_RANGE = 22,     /* the count of nodes is not from 1 to the table's less 1
+                                          (place 0); that of servers is above the table's (1) */
+    HUTPLAN_LINK_ACROSS_THE_CUT = 23,  /* a parent or a cord's node is on the other side of the cut;
+                                          place: the index of the first such word */
 
     /* Lines of a schedule, line by line (hutplan_schedule), all before 12. Place: the line. */
     HUTPLAN_NOT_A_LINE = 24,           /* not of the form, or a number above 9,999 */
@@ -151,7 +160,9 @@ enum hutplan_refusal {
 #define HUTPLAN_SEND_LIST_BYTES 2048
 #define HUTPLAN_ANSWER_BYTES 16
 #define HUTPLAN_SEND_ANSWER_BYTES 24
+#define HUTPLAN_PART_ANSWER_BYTES 24
 #define HUTPLAN_JUDGE_ANSWER_BYTES 32
+#define HUTPLAN_RELEASE_ANSWER_BYTES 24
 
 /*
  * Stack of each call in bytes, no less than the most that it can use on any of the chips.
@@ -159,13 +170,15 @@ enum hutplan_refusal {
  */
 #define HUTPLAN_READ_STACK 27136
 #define HUTPLAN_WRITE_STACK 27136
-#define HUTPLAN_PLAN_STACK 115200
-#define HUTPLAN_JUDGE_STACK 86528
-#define HUTPLAN_JOIN_STACK 27648
+#define HUTPLAN_PLAN_STACK 92416
+#define HUTPLAN_JUDGE_STACK 73216
+#define HUTPLAN_JOIN_STACK 27392
+#define HUTPLAN_PART_STACK 27648
 #define HUTPLAN_SCHEDULE_STACK 4608
 #define HUTPLAN_STEP_STACK 256
 #define HUTPLAN_STEP_ALL_STACK 256
 #define HUTPLAN_SEND_STACK 2304
+#define HUTPLAN_RELEASE_STACK 256
 
 /* Controllers of one hutplan_step_all, figures of a controller, and cords of a controller. */
 #define HUTPLAN_CONTROLLERS 512
@@ -243,6 +256,29 @@ uint32_t hutplan_plan(const uint8_t *table, uint64_t table_len,
 uint32_t hutplan_join(const uint8_t *first, uint64_t first_len,
                       const uint8_t *second, uint64_t second_len,
                       uint8_t *table, uint64_t table_len,
+                      uint8_t *answer, uint64_t answer_len);
+
+/*
+ * Part: makes two tables of one, where racks move back out of a hut.
+ *
+ * The first has so many of the table's first nodes and so many of its first servers, and the second
+ * has the others. The numbers of nodes in the second are lowered by the first's count of nodes: the
+ * parents that are not 0, and the nodes of cords. Any two numbers may be given. A table that
+ * hutplan_join made, parted at the counts of the first table, gives both tables again; and
+ * hutplan_join makes of both parts the table that was parted. Both parts are accepted by hutplan_write
+ * and hutplan_plan, and the plan of the table is that of both parts, as hutplan_join has it.
+ *
+ * The answer is twenty-four bytes, HUTPLAN_PART_ANSWER_BYTES. Accepted: 0, the count of words of the
+ * first part, and that of the second, eight bytes each. Refused: the number of the refusal and its
+ * place; bytes from 16 on are not touched. Shorter, the call returns 0 and changes nothing.
+ *
+ * Refusals: 4 to 9; 22; 23; then 12 if first_len / 4 is less than the count of words of the first
+ * part, and then if second_len / 4 is less than that of the second.
+ */
+uint32_t hutplan_part(const uint8_t *table, uint64_t table_len,
+                      uint64_t nodes, uint64_t servers,
+                      uint8_t *first, uint64_t first_len,
+                      uint8_t *second, uint64_t second_len,
                       uint8_t *answer, uint64_t answer_len);
 
 /*
@@ -361,6 +397,30 @@ uint32_t hutplan_judge(const uint8_t *table, uint64_t table_len,
                        const uint8_t *demands, uint64_t demands_len,
                        const uint8_t *grants, uint64_t grants_len,
                        uint8_t *answer, uint64_t answer_len);
+
+/*
+ * Release: which release the archive is of, and the newest version of the sheet that it reads; the
+ * versions before it are read too. It never refuses.
+ *
+ * The answer has 24 bytes, three numbers of eight bytes each: 0; the number of the release; the
+ * version. If the answer buffer is shorter, the call returns 0 and changes nothing.
+ *
+ * HUTPLAN_RELEASE is the release that this header is of. Compare the two once, when the program
+ * starts, so that a header is never used with another release's archive:
+ *
+ *     uint8_t answer[HUTPLAN_RELEASE_ANSWER_BYTES];
+ *
+ *     hutplan_release(answer, sizeof answer);
+ *     if (number_at(answer + 8, 8) != HUTPLAN_RELEASE)
+ *         stop();
+ *
+ * (number_at is in the example below.) A program that makes this call has the release's mark among
+ * its constant bytes, "hutplan release NNNN by Yerkozan", by which the release is found in a unit's
+ * image; one that does not make it has none.
+ */
+#define HUTPLAN_RELEASE 1
+
+uint32_t hutplan_release(uint8_t *answer, uint64_t answer_len);
 
 /*
  * Example: reads a sheet and plans it with the demands given, a list of words. The result is 0, or

@@ -3,43 +3,48 @@
 
 use crate::calls::{Inputs, Outputs, CALLS};
 use crate::rooms::{bytes, room, Chance, Kind, Shape};
-use crate::{send, steps, FULL, SHAPES};
+use crate::{joins, send, steps, FULL, SHAPES};
 
 pub fn calls() {
     for shape in SHAPES {
         for ranks in [1, 16] {
-            all_three(&format!("{shape:?}, ranks: {ranks}"), Kind { shape, ranks, ..FULL });
+            all_four(&format!("{shape:?}, ranks: {ranks}"), Kind { shape, ranks, ..FULL });
         }
     }
     for shape in [Shape::Chain, Shape::Binary] {
         for nodes in [64, 128, 256, 512] {
-            all_three(&format!("{shape:?}, {nodes} nodes"), Kind { shape, nodes, ..FULL });
+            all_four(&format!("{shape:?}, {nodes} nodes"), Kind { shape, nodes, ..FULL });
         }
         for cords in [128, 256, 512, 1024] {
-            all_three(&format!("{shape:?}, {cords} cords"), Kind { shape, cords, ..FULL });
+            all_four(&format!("{shape:?}, {cords} cords"), Kind { shape, cords, ..FULL });
         }
         for ranks in [2, 4, 8] {
-            all_three(&format!("{shape:?}, ranks: {ranks}"), Kind { shape, ranks, ..FULL });
+            all_four(&format!("{shape:?}, ranks: {ranks}"), Kind { shape, ranks, ..FULL });
         }
     }
     for shape in SHAPES {
-        all_three(&format!("{shape:?}, large watts"), Kind { shape, watts: 1000, ..FULL });
+        all_four(&format!("{shape:?}, large watts"), Kind { shape, watts: 1000, ..FULL });
     }
-    all_three("20 servers, 4 ranks", Kind { shape: Shape::Binary, nodes: 15, cords: 40, ranks: 4, watts: 1 });
+    all_four("20 servers, 4 ranks", Kind { shape: Shape::Binary, nodes: 15, cords: 40, ranks: 4, watts: 1 });
     for (way, want) in [("short", 63), ("long", 65)] {
         plan(&format!("1,024 cords of one node, the {way} way"), &one_node(want));
     }
+    joins::once();
     steps::once();
     send::once();
 }
 
-/// Write, which the making of a room calls, then Read and Plan.
-fn all_three(label: &str, kind: Kind) {
+/// Write, which the making of a room calls, then Read, Plan and Judge.
+fn all_four(label: &str, kind: Kind) {
     println!("Write, {label}");
     let given = room(kind, 3, &mut Chance(0x9E37_79B9_7F4A_7C15));
     println!("Read, {label}");
     (CALLS[0].1)(&given, &mut Outputs::lent());
     plan(label, &given);
+    println!("Judge, {label}");
+    let mut out = Outputs::lent();
+    (CALLS[3].1)(&given, &mut out);
+    assert_eq!(out.told().0, 0, "{label}: refused");
 }
 
 fn plan(label: &str, given: &Inputs) {

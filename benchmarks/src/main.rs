@@ -3,6 +3,7 @@
 mod calls;
 mod chip;
 mod compare;
+mod joins;
 mod plain;
 mod rooms;
 mod send;
@@ -35,6 +36,7 @@ fn main() {
     small_rooms();
     growth();
     large_watts();
+    joins::huts();
     steps::times();
     stack_depths();
     send::periods();
@@ -69,11 +71,15 @@ fn full_rooms() {
 
 /// The least time of a call on each side, a room.
 fn times(product: Call, baseline: Call, rooms: &[Inputs]) -> (f64, f64) {
-    let mut out = Outputs::lent();
+    times_into(&mut Outputs::lent(), product, baseline, rooms)
+}
+
+/// The same, into lists of other lengths.
+fn times_into(out: &mut Outputs, product: Call, baseline: Call, rooms: &[Inputs]) -> (f64, f64) {
     let mut least = (f64::MAX, f64::MAX);
     for _ in 0..ROUNDS {
-        least.0 = least.0.min(sample(product, rooms, &mut out));
-        least.1 = least.1.min(sample(baseline, rooms, &mut out));
+        least.0 = least.0.min(sample(product, rooms, out));
+        least.1 = least.1.min(sample(baseline, rooms, out));
     }
     least
 }
@@ -87,7 +93,7 @@ fn sample(call: Call, rooms: &[Inputs], out: &mut Outputs) -> f64 {
 }
 
 fn growth() {
-    println!("Plan; what is not told is of full size   product  baseline     ratio");
+    println!("What is not told is of full size         product  baseline     ratio");
     for shape in [Shape::Chain, Shape::Binary] {
         for nodes in [64, 128, 256, 512] {
             grown(&format!("{shape:?}, {nodes} nodes"), Kind { shape, nodes, ..FULL });
@@ -102,9 +108,9 @@ fn growth() {
     println!();
 }
 
-/// Plan in rooms such as most huts have: what does not grow with the room counts most.
+/// Plan and Judge in rooms such as most huts have: what does not grow with the room counts most.
 fn small_rooms() {
-    println!("Plan, 10 nodes, 20 servers, 40 cords     product  baseline     ratio");
+    println!("10 nodes, 20 servers, 40 cords           product  baseline     ratio");
     for shape in SHAPES {
         for ranks in [1, 4] {
             grown(&format!("{shape:?}, ranks: {ranks}"), Kind { shape, ranks, nodes: 10, cords: 40, ..FULL });
@@ -113,9 +119,9 @@ fn small_rooms() {
     println!();
 }
 
-/// Plan where the weights of a node's children mostly sum to 65,536 or more, so that the split goes its long way.
+/// Plan, and Judge beside it, where the weights of a node's children mostly sum to 65,536 or more, so that the split goes its long way.
 fn large_watts() {
-    println!("Plan, full size, large watts             product  baseline     ratio");
+    println!("Full size, large watts                   product  baseline     ratio");
     for shape in SHAPES {
         for ranks in [1, 16] {
             grown(&format!("{shape:?}, ranks: {ranks}"), Kind { shape, ranks, watts: 1000, ..FULL });
@@ -126,9 +132,11 @@ fn large_watts() {
 
 fn grown(label: &str, kind: Kind) {
     let rooms = compared_rooms(kind);
-    let (_, product, baseline) = CALLS[2];
-    let (ours, theirs) = times(product, baseline, &rooms);
-    println!("{label:36} {ours:11.2} {theirs:9.2} {:9.2}", ours / theirs);
+    for (name, product, baseline) in &CALLS[2..] {
+        let (ours, theirs) = times(*product, *baseline, &rooms);
+        let label = format!("{name}, {label}");
+        println!("{label:36} {ours:11.2} {theirs:9.2} {:9.2}", ours / theirs);
+    }
 }
 
 /// The deepest stack of each call over the rooms of every shape.

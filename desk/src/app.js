@@ -397,6 +397,7 @@ function replaceText(text, says) {
 async function open(file) {
   const result = await openFile(file, table, desk.calls);
   if (result.refused) notice({ ...result.refused, title: `${file.name}: ${result.refused.title}` });
+  else if (result.text === undefined) notice(result.says);
   else replaceText(result.text, result.says);
 }
 
@@ -527,9 +528,19 @@ function fillSamples() {
 const editor = new Editor({ area: $('text'), paint: $('paint'), lines: $('lines') });
 const picture = new PicturePane($('picture'), view, chosen);
 
+/// Which release of the calls the page has in it, as they tell.
+function showRelease() {
+  if (!desk.calls.has('release')) return;
+  const { release, version } = desk.calls.release();
+  $('release').textContent = `release ${release}`;
+  $('release').title = `Release ${release} of hutplan, which reads sheets up to version ${version}`;
+  $('release').hidden = false;
+}
+
 async function start() {
   Object.assign(desk, { notice, replaceText, select, mark, text: () => $('text').value });
   desk.calls = await load(Uint8Array.from(atob(MODULE), letter => letter.charCodeAt(0)));
+  showRelease();
   const kept = store.load();
   $('text').value = kept?.text ?? Object.values(SAMPLE_HUTS)[0];
   desk.demands = kept?.demands ?? new Map();

@@ -93,6 +93,7 @@ export function callsOf(instance) {
     join: (first, second) => call('join', [bytesOf(first), bytesOf(second), table], asTable),
     part: (words, nodes, servers) => call('part', [bytesOf(words), BigInt(nodes), BigInt(servers), table, table],
       ([first, second], count, further) => ({ first: wordsOf(first, count), second: wordsOf(second, further) }), 24),
+    release: () => call('release', [], (_, release, version) => ({ release, version }), 24),
     judge: (words, demands, grants) => call('judge', [bytesOf(words), bytesOf(demands), bytesOf(grants)],
       (_, verdict, what, rank) => ({ verdict, what, rank }), 32),
   };

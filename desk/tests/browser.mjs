@@ -57,7 +57,7 @@ export class Browser {
     const url = `${this.base}${whole ? '' : this.session}${path}`;
     const response = await fetch(url, { method, body: body === undefined ? undefined : JSON.stringify(body) });
     const { value } = await response.json();
-    if (!response.ok) throw new Error(`${path}: ${value.message}`);
+    if (!response.ok) throw Object.assign(new Error(`${path}: ${value.message}`), { kind: value.error });
     return value;
   }
 
@@ -77,13 +77,30 @@ export class Browser {
 
   async find(selector) { return (await this.call('POST', '/element', { using: 'css selector', value: selector }))[ELEMENT]; }
 
-  async text(selector) { return this.call('GET', `/element/${await this.find(selector)}/text`); }
+  /// Does something with an element. The page may draw it anew after it was found and before it is used, as it does after
+  /// a scroll; then what stands there now is meant, as a person would mean it.
+  async on(selector, method, act, body) {
+    for (let trial = 0; ; trial++) {
+      try {
+        return await this.call(method, `/element/${await this.find(selector)}/${act}`, body);
+      } catch (error) {
+        if (error.kind !== 'stale element reference' || trial === 20) throw error;
+        await pause(50);
+      }
+    }
+  }
 
-  async click(selector) { return this.call('POST', `/element/${await this.find(selector)}/click`, {}); }
+  text(selector) { return this.on(selector, 'GET', 'text'); }
 
-  async type(selector, text) { return this.call('POST', `/element/${await this.find(selector)}/value`, { text }); }
+  /// A click on a page that stands still: scrolls and sizes are told to it, and drawn, with its next frame.
+  async click(selector) {
+    await this.run('return new Promise(done => requestAnimationFrame(() => requestAnimationFrame(() => done())))');
+    await this.on(selector, 'POST', 'click', {});
+  }
 
-  async clear(selector) { return this.call('POST', `/element/${await this.find(selector)}/clear`, {}); }
+  type(selector, text) { return this.on(selector, 'POST', 'value', { text }); }
+
+  clear(selector) { return this.on(selector, 'POST', 'clear', {}); }
 
   /// Keys for whatever has the focus; an array of several are pressed together.
   async press(...keys) {

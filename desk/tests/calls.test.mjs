@@ -3,7 +3,7 @@
 import test from 'node:test';
 import assert from 'node:assert/strict';
 import { readsBack } from '../src/check.js';
-import { bytes, calls } from './desk.mjs';
+import { bytes, calls, text } from './desk.mjs';
 
 test('a sheet of a megabyte is judged to its last byte', () => {
   const long = new Uint8Array(1 << 20).fill(1);
@@ -55,6 +55,11 @@ request('judge', () => {
   assert.deepEqual(calls.judge(ROOM_H, [400, 400], [120, 134, 267]), { number: 0, verdict: 3, what: 2, rank: 0 });
   assert.deepEqual(calls.judge(ROOM_H, [400, 400], [120, 133, 266]), { number: 0, verdict: 4, what: 2, rank: 1 });
   assert.deepEqual(calls.judge(ROOM_H, [400, 400], [120, 133]), { number: 21, place: 3 });
+});
+
+request('release', () => {
+  const header = Number(text('include/hutplan.h').match(/^#define HUTPLAN_RELEASE (\d+)$/m)[1]);
+  assert.deepEqual(calls.release(), { number: 0, release: header, version: 3 });
 });
 
 test('the build tells which calls it has', () => {

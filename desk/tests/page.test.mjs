@@ -175,6 +175,21 @@ test('a bad file gets a sentence, and nothing that was typed is lost', async () 
   assert.match(await page.text('#notice'), /Your text is as it was/);
 });
 
+test('the page shows its release, and tells which one a dropped image has', async () => {
+  const own = await page.text('#release');
+  assert.match(own, /^release [1-9]\d*$/);
+  const letters = number => [...`\x7fELF\0\0hutplan release ${number} by Yerkozan\0`].map(letter => letter.charCodeAt(0));
+  await drop('unit.elf', 3 * 1024 * 1024, letters('0907'));
+  const told = `unit.elf has release 907 of hutplan in it; this page is of ${own}.`;
+  await page.until(async () => (await page.text('#notice')).includes(told), 'the release of another firmware');
+  await page.shot('image');
+  await drop('unit.bin', 100, letters(own.slice(8).padStart(4, '0')));
+  await page.until(async () => (await page.text('#notice')).includes('the release of this page'), 'the release of this page');
+  await drop('film.mp4', 3 * 1024 * 1024);
+  await page.until(async () => /film\.mp4: Too large\. It has 3\.0 MB/.test(await page.text('#notice')), 'an image without a mark');
+  assert.equal(await value(), ROOM_H);
+});
+
 test('what was typed survives a reload, and can be forgotten', async () => {
   await page.open(PAGE);
   assert.equal(await value(), ROOM_H);

@@ -7,6 +7,7 @@ import { cordsOf } from '../src/hut.js';
 import { fixedFigures, planFigures } from '../src/figures.js';
 import { grantsOf, tellVerdict } from '../src/judging.js';
 import { opened } from '../src/files.js';
+import { releasesIn } from '../src/release.js';
 import { rowsOf } from '../src/rows.js';
 import { howMany, tryCount } from '../src/tries.js';
 import { bytes, calls, refusals, ROOM_H } from './desk.mjs';
@@ -73,4 +74,54 @@ test('a file is a sheet or a text, or is told why it is neither', () => {
   assert.match(opened('x', bytes('samples/room-h.bin'), refusals, calls).text, /^version 1\n\nbreaker b1 150 W\n/);
   assert.match(opened('room.bin', new Uint8Array(), refusals, calls).refused.title, /^Refused 4, /);
   assert.match(opened('photo.png', Uint8Array.of(0x89, 0x50, 0x4e, 0x47), refusals, calls).refused.title, /^Refused /);
+});
+
+// ---- Releases
+
+const mark = number => `hutplan release ${String(number).padStart(4, '0')} by Yerkozan`;
+const image = (...parts) => Uint8Array.from(Buffer.concat(parts.map(part => Buffer.from(part, 'latin1'))));
+
+/// Bytes as a file of Intel HEX: sixteen a line, from an address on, and the line that ends it.
+function hexOf(bytes) {
+  const line = record => {
+    const sum = record.reduce((all, byte) => all + byte, 0);
+    return `:${Buffer.from([...record, -sum & 255]).toString('hex').toUpperCase()}\r\n`;
+  };
+  const lines = [];
+  for (let at = 0; at < bytes.length; at += 16) {
+    const part = bytes.slice(at, at + 16);
+    lines.push(line([part.length, at >> 8, at & 255, 0, ...part]));
+  }
+  return lines.join('') + line([0, 0, 0, 1]);
+}
+
+test('a release is found in an image by its mark, and nowhere else', () => {
+  assert.deepEqual(releasesIn(image('\x7fELF\0\0', mark(7), '\0\xff')), [7]);
+  assert.deepEqual(releasesIn(image(mark(1234))), [1234]);
+  assert.deepEqual(releasesIn(image(mark(2), '\0', mark(1), mark(2))), [1, 2]);
+  assert.deepEqual(releasesIn(image('hutplan release 00x1 by Yerkozan hutplan release 1 by Yerkozan')), []);
+  assert.deepEqual(releasesIn(image('')), []);
+});
+
+test('a release is found in a file of Intel HEX, also across lines', () => {
+  const bytes = image('\0'.repeat(21), mark(42), '\xff'.repeat(9));
+  assert.deepEqual(releasesIn(image(hexOf(bytes))), [42]);
+  assert.deepEqual(releasesIn(image(hexOf(image('\0'.repeat(64))))), []);
+});
+
+test('the proved code carries the mark of the release that it tells', { skip: !calls.has('release') && 'not in this build' }, () => {
+  assert.deepEqual(releasesIn(bytes('target/chips/wasm32/hutplan.wasm')), [calls.release().release]);
+  assert.deepEqual(releasesIn(bytes('target/desk/hutplan.html')), [calls.release().release]);
+});
+
+test('an image that is opened gets a sentence on its release, and a hut is still a hut', { skip: !calls.has('release') && 'not in this build' }, () => {
+  const own = calls.release().release;
+  const told = (name, content) => opened(name, content, refusals, calls);
+  assert.deepEqual(told('unit.elf', image('\x7fELF\0', mark(own))), { says: `unit.elf has release ${own} of hutplan in it; the release of this page.` });
+  assert.deepEqual(told('unit.bin', image('\0\x01', mark(own + 1))),
+    { says: `unit.bin has release ${own + 1} of hutplan in it; this page is of release ${own}.` });
+  assert.match(told('unit.hex', image(hexOf(image('\0', mark(3))))).says, /^unit\.hex has release 3 of hutplan in it/);
+  assert.match(told('two.bin', image('\0', mark(1), '\0', mark(2))).says, /the marks of several releases of hutplan: 1, 2\.$/);
+  assert.match(told('old.elf', image('\x7fELF\0\0')).refused.title, /^Refused /);
+  assert.equal(told('hut.txt', image(`# ${mark(9)}\nbreaker a 5 W\n`)).text, `# ${mark(9)}\nbreaker a 5 W\n`);
 });

@@ -1,8 +1,8 @@
 /*
- * A unit's main program, in small. Once a period it reads the hut's sheet from flash, plans the hut by
- * what its servers want, turns each server's DC cap towards its cords' budgets by what the meters
- * read, and sends as many caps as the bus carries. It has no operating system and no heap. What it
- * does it tells on the console.
+ * A unit's main program, in small. It starts only with the release of the calls that its header is of.
+ * Then, once a period, it reads the hut's sheet from flash, plans the hut by what its servers want,
+ * turns each server's DC cap towards its cords' budgets by what the meters read, and sends as many caps
+ * as the bus carries. It has no operating system and no heap. What it does it tells on the console.
  */
 #include "board.h"
 #include "hut.h"
@@ -79,6 +79,22 @@ static size_t servers_place(void)
 static size_t server_count(void)
 {
     return word_at(table, servers_place());
+}
+
+/* ---- The start */
+
+/* Tells the release of the code on the console. Whether it is the one that the header is of. */
+static int right_release(void)
+{
+    uint8_t answer[HUTPLAN_RELEASE_ANSWER_BYTES];
+
+    hutplan_release(answer, sizeof answer);
+    print("release ");
+    print_number((uint32_t)number_at(answer + 8, 8));
+    print(", sheets up to version ");
+    print_number((uint32_t)number_at(answer + 16, 8));
+    print("\n");
+    return number_at(answer + 8, 8) == HUTPLAN_RELEASE;
 }
 
 /* ---- A period */
@@ -176,6 +192,11 @@ int main(void)
     uint32_t period;
     size_t i;
 
+    /* With another release's code nothing is planned: the lists may not be those that it wants. */
+    if (!right_release()) {
+        print("the header is of another release\n");
+        return 1;
+    }
     for (i = 0; i < SERVERS; i++)
         controllers[i] = (struct controller){.cap = 200, .k = 0.75, .low = 50, .high = 300};
     start_clock();

@@ -1,9 +1,11 @@
 //! Judge: what is wrong with grants that somebody else made.
 
-use super::deal::Deals;
-use super::plan::{check_demands, needs};
+use super::deal::Nodes;
+use super::plan::{check_demands, needs, Cords};
 use super::table::{carried, Room, Table};
-use super::{Outcome, Refusal, MOST_CORDS, MOST_NODES};
+use super::{Outcome, Refusal};
+
+const HIGHEST_RANK: u8 = 16;
 
 /// Judge: the refusal and its place; or 0, the verdict, what it names and its rank.
 pub fn judge(table: &[u8], demands: &[u8], grants: &[u8], answer: &mut [u8]) -> u32 {
@@ -29,12 +31,12 @@ fn judged(table: &[u8], demands: Table, grants: Table) -> Outcome<[u64; 3]> {
 
 /// The first failure, each kind looked for in the whole room before the next.
 fn verdict(room: &Room, demands: Table, list: Table) -> [u64; 3] {
-    let mut grants = [0; MOST_CORDS];
-    for (grant, word) in grants.iter_mut().zip(list.words()) {
-        *grant = word;
+    let mut grants = Cords::new();
+    for (cord, word) in list.words().enumerate() {
+        grants[cord] = word;
     }
     let needs = needs(room, demands);
-    let mut wants = [0; MOST_CORDS];
+    let mut wants = Cords::new();
     for c in 0..room.cord_count {
         wants[c] = carried(room.shares[c].into(), needs[usize::from(room.servers[c])], room.whole);
     }
@@ -45,30 +47,61 @@ fn verdict(room: &Room, demands: Table, list: Table) -> [u64; 3] {
     if let Some(cord) = cords.clone().find(|&c| grants[c] > wants[c]) {
         return [2, cord as u64, 0];
     }
-    match over_limit(room, &grants) {
-        0 => {}
-        node => return [3, node as u64, 0],
+    judge_nodes(room, &wants, &grants)
+}
+
+/// What stands on a node and beneath it.
+#[derive(Clone, Copy)]
+struct Notes {
+    /// The watts that are given there over the lows.
+    given: u64,
+    /// The lowest rank that these are of; the highest of all if there are none.
+    lowest: u8,
+    /// The highest rank that could have more, 0 if none could.
+    wanting: u8,
+}
+
+/// The verdict on grants within lows and wants. A cord can have more at the cost of lower ranks alone exactly if every node above it
+/// has watts to spare or carries such watts of a lower rank; so each node's lowest and highest ranks tell.
+fn judge_nodes(room: &Room, wants: &Cords, grants: &Cords) -> [u64; 3] {
+    let mut notes = Nodes::new();
+    notes.fill(room.node_count + 1, Notes { given: 0, lowest: HIGHEST_RANK, wanting: 0 });
+    for c in 0..room.cord_count {
+        let rank = room.ranks[c];
+        notes[usize::from(room.nodes[c])].add(Notes {
+            given: u64::from(grants[c] - room.lows[c]),
+            lowest: if room.lows[c] < grants[c] { rank } else { HIGHEST_RANK },
+            wanting: if grants[c] < wants[c] { rank } else { 0 },
+        });
     }
-    match Deals::of(room).short_root(room, &wants, &grants) {
-        Some((root, rank)) => [4, root as u64, rank as u64],
-        None => [0; 3],
+    let (mut over, mut short) = (0, (0, 0));
+    for n in (1..=room.node_count).rev() {
+        let mut own = notes[n];
+        let slack = u64::from(room.slack[n]);
+        if slack < own.given {
+            over = n;
+        }
+        if slack <= own.given && own.wanting <= own.lowest {
+            own.wanting = 0;
+        }
+        if room.parents[n] == 0 && own.wanting != 0 {
+            short = (n, own.wanting);
+        }
+        notes[usize::from(room.parents[n])].add(own);
+    }
+    match (over, short) {
+        (0, (0, _)) => [0; 3],
+        (0, (root, rank)) => [4, root as u64, rank.into()],
+        (node, _) => [3, node as u64, 0],
     }
 }
 
-/// The lowest node whose limit is passed by the grants beneath it; 0 if there is none.
-fn over_limit(room: &Room, grants: &[u32; MOST_CORDS]) -> usize {
-    let mut sums = [0_u64; MOST_NODES + 1];
-    for c in 0..room.cord_count {
-        sums[usize::from(room.nodes[c])] += u64::from(grants[c] - room.lows[c]);
+impl Notes {
+    fn add(&mut self, more: Notes) {
+        self.given += more.given;
+        self.lowest = self.lowest.min(more.lowest);
+        self.wanting = self.wanting.max(more.wanting);
     }
-    let mut over = 0;
-    for n in (1..=room.node_count).rev() {
-        if u64::from(room.slack[n]) < sums[n] {
-            over = n;
-        }
-        sums[usize::from(room.parents[n])] += sums[n];
-    }
-    over
 }
 
 fn put(numbers: &[u64], bytes: &mut [u8]) {

@@ -1,13 +1,16 @@
-//! The baseline: Read, Write and Plan of document 01 with the requests of document 02, Judge of its A.9 and the pass of its
-//! A.7, in plain Rust, over what a C caller lends.
+//! The baseline: Read, Write and Plan of document 01 with the requests of document 02, Join, Judge and Part of its A.8 to A.10 and the
+//! pass of its A.7, in plain Rust, over what a C caller lends.
 
 mod deal;
+mod join;
 mod judge;
+mod list;
 mod number;
 mod plan;
 mod steps;
 mod table;
 
+pub use join::{join, part};
 pub use judge::judge;
 pub use plan::{plan, Lists};
 pub use steps::step_all;

@@ -1,8 +1,13 @@
 //! Plan: the demands, both deals and what servers can use of them.
 
-use super::deal::{lend, name_holders, Deals, Starts};
+use super::deal::{name_holders, Deals, Starts};
+use super::list::List;
 use super::table::{carried, Room, Table};
 use super::{tell, Outcome, Refusal, MOST_CORDS, MOST_SERVERS, MOST_WATTS};
+
+/// A figure a cord, with room for three more, and a figure a server.
+pub type Cords = List<u32, { MOST_CORDS + 3 }>;
+pub type Servers = List<u32, MOST_SERVERS>;
 
 /// The lists that a plan is written to.
 pub struct Lists<'a> {
@@ -54,37 +59,45 @@ fn check_lists(room: &Room, demands: Table, lists: &Lists) -> Outcome<()> {
 /// The plan, into lists long enough; the freed watts.
 fn plan_room(room: &Room, demands: Table, lists: Lists) -> u64 {
     let needs = needs(room, demands);
-    let mut wants = [0; MOST_CORDS];
-    let mut ceilings = [0; MOST_CORDS];
+    let mut wants = Cords::new();
+    let mut ceilings = Cords::new();
     for c in 0..room.cord_count {
         let server = usize::from(room.servers[c]);
         wants[c] = carried(room.shares[c].into(), needs[server], room.whole);
         ceilings[c] = carried(room.shares[c].into(), room.ranges[server].1, room.whole);
     }
     let deals = Deals::of(room);
-    let mut granted = [0; MOST_CORDS];
-    deals.deal(room, &Starts::lows(room), &wants, &mut granted);
-    let (freed, used) = reclaim(room, &usable(room, &needs, &granted), &granted, &mut wants);
-    let left = deals.deal(room, &Starts::used(room, used), &wants, &mut granted);
-    put(&granted[..room.cord_count], lists.grants);
-    put(&usable(room, &needs, &granted)[..room.server_count], lists.caps);
-    put(&lend(room, &left.slack, &wants, &ceilings)[..room.cord_count], lists.headroom);
-    put(&name_holders(room, &left.cuts, &wants, &granted)[..room.cord_count], lists.held);
+    let mut granted = Cords::new();
+    deals.deal(room, Starts::lows(room), &wants, &mut granted);
+    let mut used = Cords::new();
+    let freed = reclaim(room, &usable(room, &needs, &granted), &granted, &mut wants, &mut used);
+    let left = deals.deal(room, Starts::used(room, &used), &wants, &mut granted);
+    put(granted.front(room.cord_count), lists.grants);
+    put(usable(room, &needs, &granted).front(room.server_count), lists.caps);
+    deals.lend(room, &left.slack, &wants, &mut ceilings);
+    put(ceilings.front(room.cord_count), lists.headroom);
+    // The grants are stored: their list takes the holders.
+    name_holders(room, &left.cuts, &wants, &mut granted);
+    put(granted.front(room.cord_count), lists.held);
     freed
 }
 
 /// Each server's need.
-pub fn needs(room: &Room, demands: Table) -> [u32; MOST_SERVERS] {
-    let mut needs = [0; MOST_SERVERS];
-    for ((need, demand), (least, greatest)) in needs.iter_mut().zip(demands.words()).zip(room.ranges) {
-        *need = demand.max(least).min(greatest);
+pub fn needs(room: &Room, demands: Table) -> Servers {
+    let mut needs = Servers::new();
+    for (server, demand) in demands.words().enumerate() {
+        let (least, greatest) = room.ranges[server];
+        needs[server] = demand.max(least).min(greatest);
     }
     needs
 }
 
 /// Each server's usable watts, by its need and its cords' grants.
-fn usable(room: &Room, needs: &[u32; MOST_SERVERS], granted: &[u32; MOST_CORDS]) -> [u32; MOST_SERVERS] {
-    let mut usable = *needs;
+fn usable(room: &Room, needs: &Servers, granted: &Cords) -> Servers {
+    let mut usable = Servers::new();
+    for server in 0..room.server_count {
+        usable[server] = needs[server];
+    }
     for c in 0..room.cord_count {
         let share = u64::from(room.shares[c]);
         let server = usize::from(room.servers[c]);
@@ -97,21 +110,18 @@ fn usable(room: &Room, needs: &[u32; MOST_SERVERS], granted: &[u32; MOST_CORDS])
 }
 
 /// A cord with stranded watts wants its used watts from now on; the sum of stranded watts, and each cord's used watts.
-fn reclaim(
-    room: &Room,
-    usable: &[u32; MOST_SERVERS],
-    granted: &[u32; MOST_CORDS],
-    wants: &mut [u32; MOST_CORDS],
-) -> (u64, [u32; MOST_CORDS]) {
+fn reclaim(room: &Room, usable: &Servers, granted: &Cords, wants: &mut Cords, used: &mut Cords) -> u64 {
     let mut freed = 0;
-    let mut used = [0; MOST_CORDS];
     for c in 0..room.cord_count {
-        used[c] = carried(room.shares[c].into(), usable[usize::from(room.servers[c])], room.whole);
-        let stranded = granted[c] - used[c];
+        let watts = carried(room.shares[c].into(), usable[usize::from(room.servers[c])], room.whole);
+        let stranded = granted[c] - watts;
         freed += u64::from(stranded);
-        wants[c] = if stranded > 0 { used[c] } else { wants[c] };
+        used[c] = watts;
+        // Without a branch, which would be predicted badly.
+        let some = u32::from(stranded > 0);
+        wants[c] = some * watts + (1 - some) * wants[c];
     }
-    (freed, used)
+    freed
 }
 
 fn put(list: &[u32], bytes: &mut [u8]) {

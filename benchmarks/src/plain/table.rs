@@ -2,6 +2,8 @@
 
 use std::array::from_fn;
 
+use super::list::List;
+use super::plan::Cords;
 use super::{Outcome, Refusal, MOST_CORDS, MOST_NODES, MOST_SERVERS, MOST_WATTS};
 
 const NEWEST_VERSION: u32 = 3;
@@ -20,16 +22,16 @@ pub struct Room {
     pub node_count: usize,
     pub server_count: usize,
     pub cord_count: usize,
-    pub parents: [u16; MOST_NODES + 1],
+    pub parents: List<u16, { MOST_NODES + 1 }>,
     /// What a node's limit leaves above all lows beneath it.
-    pub slack: [u32; MOST_NODES + 1],
-    pub ranges: [(u32, u32); MOST_SERVERS],
+    pub slack: List<u32, { MOST_NODES + 1 }>,
+    pub ranges: List<(u32, u32), MOST_SERVERS>,
     /// Every server puts four cords down; the next one's lie over those it doesn't have.
-    pub nodes: [u16; MOST_CORDS + 3],
-    pub shares: [u16; MOST_CORDS + 3],
-    pub lows: [u32; MOST_CORDS + 3],
-    pub servers: [u16; MOST_CORDS + 3],
-    pub ranks: [u8; MOST_CORDS + 3],
+    pub nodes: List<u16, { MOST_CORDS + 3 }>,
+    pub shares: List<u16, { MOST_CORDS + 3 }>,
+    pub lows: Cords,
+    pub servers: List<u16, { MOST_CORDS + 3 }>,
+    pub ranks: List<u8, { MOST_CORDS + 3 }>,
 }
 
 fn is_percent(word: u32) -> bool {
@@ -40,9 +42,9 @@ fn is_percent(word: u32) -> bool {
 pub fn carried(share: u32, load: u32, whole: u32) -> u32 {
     let product = u64::from(share) * u64::from(load);
     if whole == 1000 {
-        product.div_ceil(1000) as u32
+        ((product + 999) / 1000) as u32
     } else {
-        product.div_ceil(10_000) as u32
+        ((product + 9_999) / 10_000) as u32
     }
 }
 
@@ -167,11 +169,6 @@ fn low_first(bytes: &[u8], i: usize) -> u32 {
     u32::from_le_bytes(*bytes[4 * i..].first_chunk().unwrap())
 }
 
-/// Four entries of a list of cords.
-fn four<T>(list: &mut [T], from: usize) -> &mut [T; 4] {
-    list[from..].first_chunk_mut().unwrap()
-}
-
 impl Room {
     pub fn empty() -> Room {
         Room {
@@ -179,14 +176,14 @@ impl Room {
             node_count: 0,
             server_count: 0,
             cord_count: 0,
-            parents: [0; MOST_NODES + 1],
-            slack: [0; MOST_NODES + 1],
-            ranges: [(0, 0); MOST_SERVERS],
-            nodes: [0; MOST_CORDS + 3],
-            shares: [0; MOST_CORDS + 3],
-            lows: [0; MOST_CORDS + 3],
-            servers: [0; MOST_CORDS + 3],
-            ranks: [0; MOST_CORDS + 3],
+            parents: List::new(),
+            slack: List::new(),
+            ranges: List::new(),
+            nodes: List::new(),
+            shares: List::new(),
+            lows: List::new(),
+            servers: List::new(),
+            ranks: List::new(),
         }
     }
 
@@ -225,18 +222,19 @@ impl Room {
             sum += u64::from(share);
         }
         let from = self.cord_count;
-        *four(&mut self.nodes, from) = nodes.map(|node| node as u16);
-        *four(&mut self.shares, from) = shares.map(|share| share as u16);
-        *four(&mut self.lows, from) = shares.map(|share| carried(share, least, whole));
-        *four(&mut self.servers, from) = [server as u16; 4];
-        *four(&mut self.ranks, from) = [rank as u8; 4];
+        self.nodes.put_four(from, nodes.map(|node| node as u16));
+        self.shares.put_four(from, shares.map(|share| share as u16));
+        self.lows.put_four(from, shares.map(|share| carried(share, least, whole)));
+        self.servers.put_four(from, [server as u16; 4]);
+        self.ranks.put_four(from, [rank as u8; 4]);
         self.cord_count += cords as usize;
         (!bad & (sum == u64::from(whole))).then_some(cords as usize)
     }
 
     /// The lows beneath each node, taken from its limit; refusal 9 where they exceed it.
     fn settle_lows(&mut self) -> Outcome<()> {
-        let mut sums = [0_u64; MOST_NODES + 1];
+        let mut sums = List::<u64, { MOST_NODES + 1 }>::new();
+        sums.fill(self.node_count + 1, 0);
         for c in 0..self.cord_count {
             sums[usize::from(self.nodes[c])] += u64::from(self.lows[c]);
         }

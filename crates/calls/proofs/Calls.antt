@@ -8,7 +8,7 @@ use borrow.Author.Tests.{le-leb, lt-leb}
 use lib.ListN.{length, length-append}
 use lib.Seq.{sets, length-sets}
 use Rattle.words.specs.Bytes.{littleEndian, numberStored}
-use Rattle.words.proofs.Lists.{sets-append}
+use Rattle.figures.proofs.Stores.{sets-append}
 use Rattle.words.proofs.Bytes.{length-littleEndian, numberStored-whole}
 use Rattle.calls.specs.Call.{answerBytes, holdsAnswer, answered, Call}
 

@@ -7,7 +7,7 @@ use native.Mathlib.Omega.{arith}
 use lib.ListN.{length, take, drop, length-append}
 use lib.Seq.{sets, length-sets, length-take-le, take-all, take-length, take-append-le}
 use Rattle.words.specs.Bytes.{wordsOf, bytesOf}
-use Rattle.words.proofs.Lists.{take-sets}
+use Rattle.figures.proofs.Stores.{take-sets}
 use Rattle.outcomes.specs.Outcome.{Outcome, accepted, refused, written, after}
 
 -- What `load` took of some bytes.

@@ -13,7 +13,8 @@ pub extern "C" fn hutplan_join(
     table: &mut [u8],
     answer: &mut [u8],
 ) -> u32
-    ensures call { λ r. ⌜ JoinCall (now (first .entry)) (now (second .entry)) (now (table .entry)) (now (answer .entry)) r (now (table .exit)) (now (answer .exit)) ⌝ }
+    ensures call { λ r. ⌜ JoinCall (now (first .entry)) (now (second .entry)) (now (table .entry)) (now (answer .entry)) r (now (table .exit))
+        (now (answer .exit)) ⌝ }
 {
     join::join(first, second, table, answer)
 }

@@ -14,7 +14,8 @@ pub extern "C" fn hutplan_judge(
     grants: &[u8],
     answer: &mut [u8],
 ) -> u32
-    ensures called { λ r. ⌜ JudgeCall (now (table .entry)) (now (demands .entry)) (now (grants .entry)) (now (answer .entry)) r (now (answer .exit)) ⌝ }
+    ensures called { λ r. ⌜ JudgeCall (now (table .entry)) (now (demands .entry)) (now (grants .entry)) (now (answer .entry)) r
+        (now (answer .exit)) ⌝ }
 {
     judge::judge_bytes(table, demands, grants, answer)
 }

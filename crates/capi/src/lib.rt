@@ -20,6 +20,8 @@ ghost use Rattle.plan_bytes.specs.Call.{PlanCall};
 
 pub mod joins;
 pub mod judging;
+pub mod parts;
+pub mod releases;
 pub mod schedule;
 pub mod send;
 pub mod steps;

@@ -22,7 +22,8 @@ pub extern "C" fn hutplan_step(
     measured: &[f64; 4],
     answer: &mut [u8],
 ) -> u32
-    ensures called { λ r. ⌜ StepCall (now (controller .entry)) (now (working .entry)) (now (budgets .entry)) (now (measured .entry)) (now (answer .entry))
+    ensures called { λ r. ⌜ StepCall (now (controller .entry)) (now (working .entry)) (now (budgets .entry)) (now (measured .entry))
+        (now (answer .entry))
         r (now (controller .exit)) (now (answer .exit)) ⌝ }
 {
     control::call::step_in_place(controller, working, budgets, measured, answer)

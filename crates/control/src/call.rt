@@ -66,7 +66,8 @@ pub fn step_in_place(
     measured: &[f64; 4],
     answer: &mut [u8],
 ) -> u32
-    ensures called { λ r. ⌜ StepCall (now (controller .entry)) (now (working .entry)) (now (budgets .entry)) (now (measured .entry)) (now (answer .entry))
+    ensures called { λ r. ⌜ StepCall (now (controller .entry)) (now (working .entry)) (now (budgets .entry)) (now (measured .entry))
+        (now (answer .entry))
         r (now (controller .exit)) (now (answer .exit)) ⌝ }
 {
     if answer.len() < ANSWER_BYTES {

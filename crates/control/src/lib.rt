@@ -250,7 +250,8 @@ impl Controller {
         Judged::Good(Tally::none())
     }
 
-    // The step, once the controller and its cords are judged. It moves whatever controller it is given: the caller hands over the judgement of this one.
+    // The step, once the controller and its cords are judged. It moves whatever controller it is given: the caller hands over the
+    // judgement of this one.
     pub fn step_by(self, judged: Judged) -> Stepped
         ensures result { λ r. ⌜ r ≡ steppedBy self judged ⌝ }
     {

@@ -10,7 +10,7 @@ use Rattle.outcomes.specs.Outcome.{accepted, refused, after}
 use Rattle.outcomes.proofs.Outcomes.{unless-stop, unless-pass, unless-none}
 use Rattle.calls.specs.Call.{answered}
 use Rattle.calls.proofs.Calls as calls
-use Rattle.words.proofs.Lists.{sets-all}
+use Rattle.figures.proofs.Stores.{sets-all}
 use Rattle.control_all.specs.declared.Answer.{Answer}
 use Rattle.control_all.specs.declared.Answer.the-variants.{Accepted, Refused}
 use Rattle.control_all.specs.Pass.{controllerCount, steppedTo, numbersTo, zeros, Pass, PassOutcome, unfit, passed, answerOf, answerNumber, answerFigure}

@@ -115,7 +115,8 @@ fn step_each(
     requires fitting_lists { ⌜ Fitting (now controllers) (now working) (now budgets) (now measured) (now results) ⌝ }
     ensures controllers { λ _. ⌜ now (controllers .exit) ≡ steppedTo (now (controllers .entry)) (now (working .entry)) (now (budgets .entry))
         (now (measured .entry)) (length (now (results .entry))) ⌝ }
-    ensures results { λ _. ⌜ now (results .exit) ≡ numbersTo (now (controllers .entry)) (now (working .entry)) (now (budgets .entry)) (now (measured .entry))
+    ensures results { λ _. ⌜ now (results .exit) ≡ numbersTo (now (controllers .entry)) (now (working .entry)) (now (budgets .entry))
+        (now (measured .entry))
         (now (results .entry)) (length (now (results .entry))) ⌝ }
     ensures result { λ r. ⌜ r ≡ zeros (now (results .exit)) ⌝ }
 {

@@ -38,3 +38,20 @@ pub mod Promises
 pub mod Judged
 pub mod JudgedTotals
 pub mod Versions
+-- The code of metrics and dealing: the cords and active nodes of a level.
+pub mod Ordering
+pub mod Quarters
+pub mod Begun
+pub mod Active
+-- The passes of a rank: sums on nodes, and the turns of their loops.
+pub mod NodeSums
+pub mod Weighing
+pub mod Requesting
+pub mod NodeTurns
+pub mod CordSums
+pub mod CordTurns
+-- A deal, rank by rank.
+pub mod Cuts
+pub mod Gathered
+pub mod Ranks
+pub mod RankLoop

@@ -18,3 +18,8 @@ pub mod Promises
 pub mod Judge
 -- What else is proved of every plan.
 pub mod Properties
+-- Cited by contracts that are private to Plan: no operation has them.
+pub mod Levels
+pub mod Quarters
+pub mod Passes
+pub mod Ranks

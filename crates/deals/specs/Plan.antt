@@ -5,7 +5,7 @@ use Prim.Native.Nat.{ℕ, suc}
 use lib.Dec.{eqb, ltb}
 use lib.ListN.{length}
 use Rattle.outcomes.specs.Outcome.{Outcome, accepted, refused, Reason, unless, tooShort}
-use Rattle.words.specs.Lists.{firstNotBelow}
+use Rattle.figures.specs.Bounds.{firstNotBelow}
 use Rattle.outcomes.specs.Part.{whenGood}
 use Rattle.rooms.specs.Part.{Step}
 use Rattle.rooms.specs.Table.{Room, mostWatts, mostServers, mostCords, roomCords}

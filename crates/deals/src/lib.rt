@@ -1,8 +1,14 @@
-// What Plan answers. The definitions of both deals and of the whole plan, and its promises, stand in specs/, their proofs in proofs/;
-// the operation itself is `plans::plan`.
+// Metrics and dealing, and what Plan answers. The definitions of both deals and of the whole plan, and its promises, stand in specs/,
+// their proofs in proofs/; the operation itself is `plans::plan`. The modules are private to Plan: no operation stands there.
 ghost use mathlib.Core.Path.{_≡_};
 ghost use Rattle.deals.specs.Plan.{planListNumber, planRefusalNumber, planRefusalPlace, planNumber, planFigure};
 ghost use Rattle.deals.specs.Judge.{verdictNumber, verdictNames, verdictRank};
+
+// The lists by level, a rank's metrics, its dealing, and the deal, rank by rank.
+pub mod by_rank;
+pub mod dealing;
+pub mod levels;
+pub mod metrics;
 
 // The lists that a plan is written to.
 pub enum PlanList {
@@ -38,7 +44,7 @@ pub enum Planned {
 impl PlanList {
     // The number of the refusal where the list is too short.
     pub fn number(self) -> u64
-        ensures { λ r. ⌜ r ≡ planListNumber self ⌝ }
+        ensures result { λ r. ⌜ r ≡ planListNumber self ⌝ }
     {
         match self {
             PlanList::Grants => 12,
@@ -52,7 +58,7 @@ impl PlanList {
 impl PlanRefusal {
     // The refusal's number.
     pub fn number(self) -> u64
-        ensures { λ r. ⌜ r ≡ planRefusalNumber self ⌝ }
+        ensures result { λ r. ⌜ r ≡ planRefusalNumber self ⌝ }
     {
         match self {
             PlanRefusal::Table(refusal) => refusal.number(),
@@ -64,7 +70,7 @@ impl PlanRefusal {
 
     // The refusal's place.
     pub fn place(self) -> usize
-        ensures { λ r. ⌜ r ≡ planRefusalPlace self ⌝ }
+        ensures result { λ r. ⌜ r ≡ planRefusalPlace self ⌝ }
     {
         match self {
             PlanRefusal::Table(refusal) => refusal.place(),
@@ -78,7 +84,7 @@ impl PlanRefusal {
 impl Planned {
     // The refusal's number, or 0.
     pub fn number(self) -> u64
-        ensures { λ r. ⌜ r ≡ planNumber self ⌝ }
+        ensures result { λ r. ⌜ r ≡ planNumber self ⌝ }
     {
         match self {
             Planned::Accepted(_) => 0,
@@ -88,7 +94,7 @@ impl Planned {
 
     // The freed watts, or the refusal's place.
     pub fn figure(self) -> u64
-        ensures { λ r. ⌜ r ≡ planFigure self ⌝ }
+        ensures result { λ r. ⌜ r ≡ planFigure self ⌝ }
     {
         match self {
             Planned::Accepted(freed) => freed,
@@ -110,7 +116,7 @@ pub enum Verdict {
 impl Verdict {
     // The verdict's number, 0 if the list passes.
     pub fn number(self) -> u64
-        ensures { λ r. ⌜ r ≡ verdictNumber self ⌝ }
+        ensures result { λ r. ⌜ r ≡ verdictNumber self ⌝ }
     {
         match self {
             Verdict::Passes => 0,
@@ -123,7 +129,7 @@ impl Verdict {
 
     // The cord, the node or the root that it names, or 0.
     pub fn names(self) -> usize
-        ensures { λ r. ⌜ r ≡ verdictNames self ⌝ }
+        ensures result { λ r. ⌜ r ≡ verdictNames self ⌝ }
     {
         match self {
             Verdict::Passes => 0,
@@ -136,7 +142,7 @@ impl Verdict {
 
     // The rank that it names, or 0.
     pub fn rank(self) -> usize
-        ensures { λ r. ⌜ r ≡ verdictRank self ⌝ }
+        ensures result { λ r. ⌜ r ≡ verdictRank self ⌝ }
     {
         match self {
             Verdict::Passes => 0,

@@ -1,6 +1,6 @@
 -- Laws of a reading, byte by byte: the outcomes of each step, and one turn of the loop over a piece.
 use mathlib.Core.Path.{_≡_, refl, ap, _∙_}
-use mathlib.Core.Bool.{Bool, true, false, _&&_}
+use mathlib.Core.Bool.{true, false}
 use mathlib.Core.List.{List, _∷_}
 use Prim.Native.Nat.{ℕ, _+_, _≤_, _<_}
 use native.Mathlib.Omega.{arith}
@@ -11,10 +11,6 @@ use lib.Seq.{drop-cons}
 use Rattle.demands.specs.Text.{newline}
 use Rattle.demands.specs.Reading.{Held, held, with, emptyLine, extended, lineDemand, hasByte, space, closed, fedByte, fed, finished}
 use Rattle.demands.specs.declared.Reading.{Reading}
-
-pub and-false : (test : Bool) → test && false ≡ false
-and-false true = refl
-and-false false = refl
 
 -- ---- the outcomes of a step
 

@@ -14,7 +14,7 @@ use Rattle.demands.specs.Text.{mostDigits, noDemand, before, isDigit, ar
 use Rattle.demands.specs.Reading.{emptyLine, extended, hasByte, lineDemand}
 use Rattle.demands.specs.declared.Line.{Line}
 use Rattle.demands.specs.declared.Line.the-variants.{Digits, Other}
-use Rattle.demands.proofs.Bytes.{and-false}
+use Rattle.figures.proofs.Tests.{and-false}
 
 -- ---- one line
 

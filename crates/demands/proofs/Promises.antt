@@ -9,7 +9,7 @@ use borrow.Author.Tests.{leb-true, ltb-true, ltb-false}
 use lib.Dec.{eqb, ltb}
 use lib.ListN.{length, take, set, length-append, length-take}
 use lib.Seq.{sets, length-sets, take-nil, take-all, take-take, take-length, take-append-le}
-use Rattle.words.proofs.Lists.{sets-append, sets-take, take-sets}
+use Rattle.figures.proofs.Stores.{sets-append, sets-take, take-sets}
 use Rattle.demands.specs.Text.{mostLines, newline, before, lines, demandOf, demandsOf}
 use Rattle.demands.specs.Reading.{Held, held, with, emptyLine, extended, hasByte, lineDemand, space, closed, fedByte, fed, fedPieces, finished, countIn}
 use Rattle.demands.specs.Promises.{joined, ReadsDemands}

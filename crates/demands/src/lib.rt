@@ -2,7 +2,7 @@
 ghost use mathlib.Core.Path.{_≡_};
 ghost use Prim.Native.Nat.{};
 ghost use Rattle.demands.specs.Reading.{emptyLine, extended, hasByte, lineDemand, held, with, closed, fedByte, fed, finished, countIn, isFull};
-use words::least;
+use figures::counts::least;
 
 // One demand more than a room may have servers: so many decide every demand list, and no more lines are read.
 pub const DECIDING_DEMANDS: usize = 513;
@@ -30,7 +30,7 @@ pub struct Reading {
 impl Line {
     // The line with a byte more.
     fn extend(self, byte: u8) -> Line
-        ensures { λ r. ⌜ r ≡ extended self byte ⌝ }
+        ensures result { λ r. ⌜ r ≡ extended self byte ⌝ }
     {
         match self {
             Line::Digits(count, number) => {
@@ -54,7 +54,7 @@ impl Line {
 
     // Whether the line has a byte.
     fn has_byte(self) -> bool
-        ensures { λ r. ⌜ r ≡ hasByte self ⌝ }
+        ensures result { λ r. ⌜ r ≡ hasByte self ⌝ }
     {
         match self {
             Line::Digits(count, _) => 1 <= count,
@@ -64,7 +64,7 @@ impl Line {
 
     // The line's demand.
     fn demand(self) -> u32
-        ensures { λ r. ⌜ r ≡ lineDemand self ⌝ }
+        ensures result { λ r. ⌜ r ≡ lineDemand self ⌝ }
     {
         match self {
             Line::Digits(count, number) => { if 1 <= count { number } else { NO_DEMAND } }
@@ -76,7 +76,7 @@ impl Line {
 impl Reading {
     // A reading before the first byte.
     pub fn start() -> Reading
-        ensures { λ r. ⌜ r ≡ with 0 emptyLine ⌝ }
+        ensures result { λ r. ⌜ r ≡ with 0 emptyLine ⌝ }
     {
         Reading {
             count: 0,
@@ -86,7 +86,7 @@ impl Reading {
 
     // The reading after a piece of the text, whose lines that end go into the list.
     pub fn feed(self, piece: &[u8], list: &mut [u32]) -> Reading
-        ensures { λ r. ⌜ held r (now (list .exit)) ≡ fed (held self (now (list .entry))) (now (piece .entry)) ⌝ }
+        ensures fed { λ r. ⌜ held r (now (list .exit)) ≡ fed (held self (now (list .entry))) (now (piece .entry)) ⌝ }
     {
         let mut reading = self;
         for i in 0..piece.len() {
@@ -98,8 +98,8 @@ impl Reading {
 
     // The end of the text: how many demands stand at the front of the list.
     pub fn finish(self, list: &mut [u32]) -> usize
-        ensures { λ r. ⌜ now (list .exit) ≡ finished (held self (now (list .entry))) .list ⌝ }
-        ensures { λ r. ⌜ r ≡ countIn (finished (held self (now (list .entry)))) ⌝ }
+        ensures list { λ r. ⌜ now (list .exit) ≡ finished (held self (now (list .entry))) .list ⌝ }
+        ensures count { λ r. ⌜ r ≡ countIn (finished (held self (now (list .entry)))) ⌝ }
     {
         let line = self.line;
         if line.has_byte() {
@@ -111,14 +111,14 @@ impl Reading {
 
     // Whether 513 lines are read, so that no further byte makes a difference.
     pub fn is_full(self) -> bool
-        ensures { λ r. ⌜ r ≡ isFull self ⌝ }
+        ensures result { λ r. ⌜ r ≡ isFull self ⌝ }
     {
         DECIDING_DEMANDS <= self.count
     }
 
     // The reading after a byte.
     fn feed_byte(self, byte: u8, list: &mut [u32]) -> Reading
-        ensures { λ r. ⌜ held r (now (list .exit)) ≡ fedByte (held self (now (list .entry))) byte ⌝ }
+        ensures fed { λ r. ⌜ held r (now (list .exit)) ≡ fedByte (held self (now (list .entry))) byte ⌝ }
     {
         if byte == b'\n' {
             return self.close(list);
@@ -132,7 +132,7 @@ impl Reading {
 
     // The reading after the open line's end.
     fn close(self, list: &mut [u32]) -> Reading
-        ensures { λ r. ⌜ held r (now (list .exit)) ≡ closed (held self (now (list .entry))) ⌝ }
+        ensures closed { λ r. ⌜ held r (now (list .exit)) ≡ closed (held self (now (list .entry))) ⌝ }
     {
         let count = self.count;
         let line = self.line;

@@ -17,6 +17,11 @@ on-yes t a e = ap (λ (b : Bool). on b a) e
 pub on-no : (t : Bool) (a : ℕ) → t ≡ false → on t a ≡ 0
 on-no t a e = ap (λ (b : Bool). on b a) e
 
+pub on-comm : (s t : Bool) (a : ℕ) → on s (on t a) ≡ on t (on s a)
+on-comm true t a = refl
+on-comm false true a = refl
+on-comm false false a = refl
+
 pub on-add : (t : Bool) (a b : ℕ) → on t (a + b) ≡ on t a + on t b
 on-add true a b = refl
 on-add false a b = refl

@@ -1,3 +1,7 @@
--- Lists of figures, and sums over them.
+-- Lists of figures, sums over them, and lists of bounded numbers.
 pub mod Figures
 pub mod Sums
+pub mod Bounds
+-- Cited by contracts that are private: no operation has them.
+pub mod Places
+pub mod Credits

@@ -7,7 +7,7 @@ use native.Mathlib.Omega.{arith}
 use borrow.Author.Tests.{ltb-true, ltb-false}
 use lib.Dec.{ltb}
 use lib.ListN.{length, take, getD, List·getD-eq-default}
-use Rattle.words.specs.Lists.{AllBelow}
+use Rattle.figures.specs.Bounds.{AllBelow}
 use Rattle.figures.specs.Figures.{at}
 use Rattle.rooms.specs.Part.{Step, good, bad}
 use Rattle.rooms.specs.Table.{Room, mostWatts, roomCords}

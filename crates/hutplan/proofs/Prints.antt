@@ -10,7 +10,7 @@ use lib.Seq.{sets, length-sets, take-length}
 use borrow.Author.Tests.{leb-true}
 use Rattle.numbers.specs.Sheet.{Ending, whole, sheetOf}
 use Rattle.numbers.specs.Sheet as numbers
-use Rattle.words.proofs.Lists.{take-sets}
+use Rattle.figures.proofs.Stores.{take-sets}
 use Rattle.rooms.specs.Part.{Step, good, bad, Good}
 use Rattle.rooms.specs.Table.{Room}
 use Rattle.rooms.specs.Limits.{checked}

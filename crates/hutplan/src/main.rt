@@ -28,8 +28,8 @@ struct Turn {
 
 // The file's bytes, at most 32,768, at the front of the buffer; how many. A missing file is empty.
 fn read_sheet(sheet: &mut [u8]) -> usize
-    requires { ⌜ length (now sheet) ≡ mostBytes ⌝ }
-    ensures { λ r. ⌜ Counts r (now (sheet .exit)) ⌝ }
+    requires size { ⌜ length (now sheet) ≡ mostBytes ⌝ }
+    ensures counts { λ r. ⌜ Counts r (now (sheet .exit)) ⌝ }
 {
     let file = os::open_read(b"room.bin");
     if file < 0 {
@@ -42,7 +42,7 @@ fn read_sheet(sheet: &mut [u8]) -> usize
 
 // One piece of standard input. No more is asked for once the last line that counts is read.
 fn read_piece(reading: Reading, list: &mut [u32]) -> Turn
-    ensures { λ r. ⌜ FedPiece (held reading (now (list .entry))) (held (r .reading) (now (list .exit))) ⌝ }
+    ensures fed { λ r. ⌜ FedPiece (held reading (now (list .entry))) (held (r .reading) (now (list .exit))) ⌝ }
 {
     let mut piece = io::buffer();
     let got = libc::read(STDIN_FILENO, &mut piece);
@@ -62,9 +62,9 @@ fn read_piece(reading: Reading, list: &mut [u32]) -> Turn
 
 // The demands of standard input, at the front of the list; how many.
 fn read_demands(list: &mut [u32]) -> usize
-    requires { ⌜ length (now list) ≡ mostLines ⌝ }
-    ensures { λ r. ⌜ ReadText (now (list .exit)) r ⌝ }
-    ensures { λ r. ⌜ Counts r (now (list .exit)) ⌝ }
+    requires size { ⌜ length (now list) ≡ mostLines ⌝ }
+    ensures text { λ r. ⌜ ReadText (now (list .exit)) r ⌝ }
+    ensures counts { λ r. ⌜ Counts r (now (list .exit)) ⌝ }
 {
     let mut reading = Reading::start();
     // A loop has to end, and nothing says that the input does: no run uses up so many turns.
@@ -92,10 +92,10 @@ fn print_table(
     held: &mut [u32],
     buffer: &mut [u8],
 ) -> usize
-    requires { ⌜ lent (now grants) (now caps) (now headroom) (now held) ≡ mostLent ⌝ }
-    ensures { λ r. ⌜ Put (now (buffer .entry)) 0 (now (buffer .exit)) r
+    requires sizes { ⌜ lent (now grants) (now caps) (now headroom) (now held) ≡ mostLent ⌝ }
+    ensures put { λ r. ⌜ Put (now (buffer .entry)) 0 (now (buffer .exit)) r
         (tableText (now (table .entry)) (now (demands .entry))) ⌝ }
-    ensures { λ r. ⌜ Counts r (now (buffer .exit)) ⌝ }
+    ensures counts { λ r. ⌜ Counts r (now (buffer .exit)) ⌝ }
 {
     let planned = plans::plan(table, demands, grants, caps, headroom, held);
     match planned {
@@ -106,9 +106,9 @@ fn print_table(
 
 // The print of a sheet with demands, whole, by way of a list for the words of any table.
 fn print_sheet(sheet: &[u8], demands: &[u32], table: &mut [u32], buffer: &mut [u8]) -> usize
-    requires { ⌜ (length (now table) ≡ mostWords) × (mostText ≤ length (now buffer)) ⌝ }
-    ensures { λ r. ⌜ take r (now (buffer .exit)) ≡ sheetText (now (sheet .entry)) (now (demands .entry)) ⌝ }
-    ensures { λ r. ⌜ Counts r (now (buffer .exit)) ⌝ }
+    requires sizes { ⌜ (length (now table) ≡ mostWords) × (mostText ≤ length (now buffer)) ⌝ }
+    ensures printed { λ r. ⌜ take r (now (buffer .exit)) ≡ sheetText (now (sheet .entry)) (now (demands .entry)) ⌝ }
+    ensures counts { λ r. ⌜ Counts r (now (buffer .exit)) ⌝ }
 {
     let answer = rooms::read(sheet, table);
     let count = match answer {
@@ -141,10 +141,10 @@ fn print_input(
     table: &mut [u32],
     buffer: &mut [u8],
 ) -> usize
-    requires { ⌜ Lent (now sheet) (now demands) (now table) (now buffer) ⌝ }
-    requires { ⌜ Counts bytes (now sheet) × Counts count (now demands) ⌝ }
-    ensures { λ r. ⌜ take r (now (buffer .exit)) ≡ inputText (now (sheet .entry)) bytes (now (demands .entry)) count ⌝ }
-    ensures { λ r. ⌜ Counts r (now (buffer .exit)) ⌝ }
+    requires lists { ⌜ Lent (now sheet) (now demands) (now table) (now buffer) ⌝ }
+    requires counted { ⌜ Counts bytes (now sheet) × Counts count (now demands) ⌝ }
+    ensures printed { λ r. ⌜ take r (now (buffer .exit)) ≡ inputText (now (sheet .entry)) bytes (now (demands .entry)) count ⌝ }
+    ensures counts { λ r. ⌜ Counts r (now (buffer .exit)) ⌝ }
 {
     print_sheet(&sheet[..bytes], &demands[..count], table, buffer)
 }

@@ -8,7 +8,7 @@ use native.Mathlib.Omega.{arith}
 use lib.ListN.{length, take, length-append}
 use lib.Seq.{sets, length-sets, take-length, length-take-le}
 use Rattle.io.specs.Counts.{Counts}
-use Rattle.words.proofs.Lists.{take-sets}
+use Rattle.figures.proofs.Stores.{take-sets}
 use Rattle.numbers.specs.Number.{form}
 use Rattle.numbers.specs.Sheet.{bytesOf}
 use Rattle.numbers.proofs.NumberLaws.{length-form≤4}

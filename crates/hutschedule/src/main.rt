@@ -18,9 +18,9 @@ struct Output {
 
 // What is written of a text, by way of a list for the words of any table without servers.
 fn print_text(text: &[u8], table: &mut [u32], buffer: &mut [u8]) -> Output
-    requires { ⌜ (length (now table) ≡ mostWords) × (mostOutput ≤ length (now buffer)) ⌝ }
-    ensures { λ r. ⌜ at r (now (buffer .exit)) ≡ printed (now (text .entry)) ⌝ }
-    ensures { λ r. ⌜ Counts (r .length) (now (buffer .exit)) ⌝ }
+    requires sizes { ⌜ (length (now table) ≡ mostWords) × (mostOutput ≤ length (now buffer)) ⌝ }
+    ensures printed { λ r. ⌜ at r (now (buffer .exit)) ≡ printed (now (text .entry)) ⌝ }
+    ensures counts { λ r. ⌜ Counts (r .length) (now (buffer .exit)) ⌝ }
 {
     let scheduled = schedules::schedule(text, table);
     let count = match scheduled {
@@ -43,9 +43,9 @@ fn print_text(text: &[u8], table: &mut [u32], buffer: &mut [u8]) -> Output
 
 // What is written of the text that was read: so many bytes at its front.
 fn print_input(text: &[u8], count: usize, table: &mut [u32], buffer: &mut [u8]) -> Output
-    requires { ⌜ Lent (now text) (now table) (now buffer) × Counts count (now text) ⌝ }
-    ensures { λ r. ⌜ at r (now (buffer .exit)) ≡ printed (take count (now (text .entry))) ⌝ }
-    ensures { λ r. ⌜ Counts (r .length) (now (buffer .exit)) ⌝ }
+    requires lists { ⌜ Lent (now text) (now table) (now buffer) × Counts count (now text) ⌝ }
+    ensures printed { λ r. ⌜ at r (now (buffer .exit)) ≡ printed (take count (now (text .entry))) ⌝ }
+    ensures counts { λ r. ⌜ Counts (r .length) (now (buffer .exit)) ⌝ }
 {
     print_text(&text[..count], table, buffer)
 }

@@ -9,7 +9,7 @@ use lib.Dec.{eqb, ltb}
 use borrow.Author.Tests.{eqb-true, eq-eqb, ne-eqb, ltb-true, ltb-false, lt-ltb, le-ltb}
 use Rattle.outcomes.specs.Outcome.{accepted, refused, unless, tooShort}
 use Rattle.outcomes.proofs.Outcomes.{accepted≢refused, unless-stop, unless-pass, unless-none, unless-back, unless-either}
-use Rattle.words.specs.Lists.{firstNotBelow}
+use Rattle.figures.specs.Bounds.{firstNotBelow}
 use Rattle.rooms.specs.Table.{Room, roomCords}
 use Rattle.deals.specs.Plan.{Plan, planOf, PlanOutcome, PlanReason, firstTooLarge, countDiffers, demandTooLarge, planRoom}
 use Rattle.deals.specs.declared.Lengths.{Lengths}

@@ -13,10 +13,9 @@ use Rattle.outcomes.specs.Outcome.{accepted, refused, unless, tooShort}
 use Rattle.outcomes.specs.Part.{whenGood}
 use Rattle.outcomes.proofs.Outcomes.{unless-stop, unless-pass, unless-none}
 use Rattle.figures.specs.Figures.{at}
-use Rattle.words.specs.Bytes.{wordsOf, bytesOf, answered}
-use Rattle.words.specs.Lists.{AllBelow}
+use Rattle.words.specs.Bytes.{wordsOf}
+use Rattle.figures.specs.Bounds.{AllBelow}
 use Rattle.words.proofs.Bytes.{take-loaded}
-use Rattle.words.proofs.Calls.{call-done}
 use Rattle.rooms.specs.Part.{Step, good, bad}
 use Rattle.rooms.specs.Table.{raised, Room, mostNodes, mostServers, mostCords, mostWords, formOf, nodeWords, roomCords}
 use Rattle.rooms.specs.Limits.{checked}
@@ -31,7 +30,6 @@ use Rattle.rooms.proofs.Accepted as rooms
 use Rattle.rooms.proofs.Reach.{prefix-decides, length-is, length-small, words-small}
 use Rattle.join.specs.Joined.{raisedNode, raisedServer, joined}
 use Rattle.join.specs.Outcome.{JoinOutcome, JoinReason, reasons, joinRooms, joining, answerOf, joinNumber, joinFigure}
-use Rattle.join.specs.Call.{bytesAfter, OutcomeCall}
 use Rattle.join.specs.Pieces.{renumbered, renumberedEvery, renumberedCords, Put}
 use Rattle.join.specs.Huts.{hutOf, examinedStep, examined, HutOf, Small, MayPutTogether, JoinedInFront, written, InFront, writtenCount}
 use Rattle.join.specs.declared.Hut.{Hut}

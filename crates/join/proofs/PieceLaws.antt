@@ -9,8 +9,9 @@ use lib.ListN.{length, getD, take, drop, set, length-append, length-take, length
 use lib.Seq.{sets, length-take-le, take-nil, drop-nil, take-suc-set, drop-set-lt, drop-cons, take-add, drop-drop, take-take, getD-drop, take-at, drop-at, take-all}
 use Rattle.words.specs.Bytes.{word, wordsOf}
 use Rattle.words.proofs.Bytes.{length-wordsOf}
-use Rattle.words.specs.Lists.{AllBelow}
-use Rattle.words.proofs.Lists.{sets-all, drop-below}
+use Rattle.figures.specs.Bounds.{AllBelow}
+use Rattle.figures.proofs.Stores.{sets-all}
+use Rattle.figures.proofs.Bounds.{drop-below}
 use Rattle.rooms.specs.Table.{nodeWords}
 use Rattle.join.specs.Pieces.{renumbered, renumberedEvery, renumberedCords, piece, MayPut, Put}
 
@@ -211,7 +212,7 @@ wordsOf-take (suc k) (a ∷ b ∷ c ∷ d ∷ bytes) = ap (λ (n : ℕ). wordsOf
 
 -- ---- One piece behind another
 
-drop-take : (at end : ℕ) (l : List ℕ) → drop at (take end l) ≡ take (end - at) (drop at l)
+pub drop-take : (at end : ℕ) (l : List ℕ) → drop at (take end l) ≡ take (end - at) (drop at l)
 drop-take zero end l = ap (λ (k : ℕ). take k l) (let q : end ≡ end - 0 = omega arith in q)
 drop-take (suc at) zero l = ap (λ (k : ℕ). take k (drop (suc at) l)) (let q : 0 ≡ 0 - suc at = omega arith in q)
 drop-take (suc at) (suc end) [] = sym (take-nil (suc end - suc at))

@@ -64,7 +64,7 @@ module _ (w : List ℕ) (r : Room) (j : ℕ) (e : checked w 0 ≡ good r j) wher
       ap₂ take (let q : serversIndex w - 2 ≡ length nodeRow = omega (arith, middle-is) in q) behind-head
       ∙ take-at nodeRow (length (r .servers) ∷ serverRow) (length nodeRow) refl
 
-  behind-middle : drop (serversIndex w + 1) w ≡ serverRow
+  pub behind-middle : drop (serversIndex w + 1) w ≡ serverRow
   behind-middle =
       ap (λ (k : ℕ). drop k w) (let q : serversIndex w + 1 ≡ 2 + (length nodeRow + 1) = omega (arith, middle-is) in q)
       ∙ sym (drop-drop (length nodeRow + 1) 2 w)

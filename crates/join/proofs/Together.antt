@@ -8,12 +8,13 @@ use native.Mathlib.Omega.{arith}
 use lib.ListN.{length, take, drop, set, length-take, length-set}
 use lib.Seq.{sets, take-all}
 use borrow.Author.Tests.{ltb-false}
-use Rattle.outcomes.specs.Outcome.{accepted, refused, unless}
+use Rattle.outcomes.specs.Outcome.{accepted, refused, unless, after}
 use Rattle.outcomes.proofs.Outcomes.{accepted≢refused, unless-back, unless-is, unless-none, unless-either}
 use Rattle.figures.specs.Figures.{at}
-use Rattle.words.specs.Bytes.{wordsOf, bytesOf, answered}
+use Rattle.words.specs.Bytes.{wordsOf, bytesOf}
 use Rattle.words.proofs.Bytes.{length-wordsOf}
-use Rattle.words.proofs.Calls.{call-done}
+use Rattle.calls.specs.Call.{answered, OutcomeCall}
+use Rattle.calls.proofs.Calls.{call-done}
 use Rattle.rooms.specs.Part.{Step, good, bad}
 use Rattle.rooms.specs.Table.{Room, mostNodes, mostServers, mostCords, mostWords, formOf, nodeWords, roomCords}
 use Rattle.rooms.specs.Limits.{checked}
@@ -23,7 +24,7 @@ use Rattle.rooms.proofs.Accepted as rooms
 use Rattle.rooms.proofs.Reach.{length-is}
 use Rattle.join.specs.Joined.{joined}
 use Rattle.join.specs.Outcome.{JoinOutcome, reasons, joining, answerOf, joinNumber, joinFigure}
-use Rattle.join.specs.Call.{bytesAfter, OutcomeCall}
+use Rattle.join.specs.Call.{joinNumbers}
 use Rattle.join.specs.Pieces.{renumberedEvery, renumberedCords, piece, MayPut, Put}
 use Rattle.join.specs.Huts.{hutOf, HutOf, MayPutTogether, JoinedInFront, written, InFront, writtenCount}
 use Rattle.join.specs.declared.Hut.{Hut}
@@ -146,15 +147,15 @@ module _ (outcome : JoinOutcome) {told : JoinAnswer} {count : ℕ} (is : told �
 
     -- Stored in bytes, with the answer.
     pub stored : (table answer : List ℕ) {table′ answer′ : List ℕ} → length (written outcome) ≤ length table / 4 → 16 ≤ length answer
-        → table′ ≡ sets table 0 (bytesOf (take (length table / 4) (take count words))) → answer′ ≡ answered (joinNumber told) (joinFigure told) answer
-        → OutcomeCall outcome table answer 1 table′ answer′
+        → table′ ≡ sets table 0 (bytesOf (take (length table / 4) (take count words))) → answer′ ≡ answered 2 (joinNumber told ∷ joinFigure told ∷ []) answer
+        → OutcomeCall 2 joinNumbers bytesOf outcome table answer 1 table′ answer′
     unfolding bytesOf
     stored table answer fits long s a =
         let all : take (length table / 4) (take count words) ≡ written outcome = ap (take (length table / 4)) taken ∙ take-all (length table / 4) (written outcome) fits in
-        call-done (joinNumber (answerOf outcome)) (joinFigure (answerOf outcome)) (bytesAfter outcome table) table answer long
+        call-done _ answer _ (omega arith)
         (s ∙ ap (λ (l : List ℕ). sets table 0 (bytesOf l)) all ∙ go outcome) (rw is at a)
       where
-        go : (o : JoinOutcome) → sets table 0 (bytesOf (written o)) ≡ bytesAfter o table
+        go : (o : JoinOutcome) → sets table 0 (bytesOf (written o)) ≡ after bytesOf o table
         go (accepted words) = refl
         go (refused q) = refl
 

@@ -13,7 +13,8 @@ use Rattle.rooms.specs.Words.{tableOf}
 use Rattle.rooms.specs.Outcome.{refusalNumber, refusalPlace}
 use Rattle.join.specs.Joined.{joined}
 use Rattle.join.specs.declared.JoinRefusal.{JoinRefusal}
-use Rattle.join.specs.declared.JoinRefusal.the-variants.{First, Second, VersionsDiffer, TooManyNodes, TooManyServers, TooManyCords, TableTooShort}
+use Rattle.join.specs.declared.JoinRefusal.the-variants.{First, Second, VersionsDiffer, TooManyNodes, TooManyServers, TooManyCords}
+use Rattle.join.specs.declared.JoinRefusal.the-variants.{TableTooShort}
 use Rattle.join.specs.declared.JoinAnswer.{JoinAnswer}
 use Rattle.join.specs.declared.JoinAnswer.the-variants.{Accepted, Refused}
 

@@ -3,10 +3,11 @@
 // The tables come in bytes, as C hands them over. They pass through one list of words, one after the other, and the joined table is put
 // together there last: so the call needs the stack of Read, and not that of three tables.
 ghost use mathlib.Core.Path.{_≡_};
-ghost use mathlib.Core.List.{List};
 ghost use Prim.Native.Nat.{ℕ, suc, _≤_};
 ghost use lib.ListN.{length};
-ghost use Rattle.words.specs.Bytes.{wordsOf, answered};
+ghost use mathlib.Core.List.{List, [], _∷_};
+ghost use Rattle.words.specs.Bytes.{wordsOf};
+ghost use Rattle.calls.specs.Call.{answered};
 ghost use Rattle.rooms.specs.Table.{mostWords};
 ghost use Rattle.join.specs.Outcome.{joinRefusalNumber, joinRefusalPlace, joinNumber, joinFigure, joining, answerOf};
 ghost use Rattle.join.specs.Call.{JoinCall};
@@ -15,6 +16,7 @@ use crate::pieces::node_width;
 use crate::pieces::put_nodes;
 use crate::pieces::put_servers;
 use crate::pieces::put_words;
+use calls::ANSWER_BYTES;
 use figures::index_word;
 use figures::word_index;
 use rooms::Checked;
@@ -58,8 +60,6 @@ pub enum Examined {
     Good(Hut),
     Refused(Refusal),
 }
-
-const ANSWER_BYTES: usize = 16;
 
 const MOST_NODES: usize = 512;
 
@@ -175,7 +175,7 @@ fn join_words(first: &[u8], second: &[u8], words: &mut [u32], space: usize) -> J
 }
 
 // The check of a table in bytes, by way of a list that takes its words.
-pub fn examine_bytes(bytes: &[u8], words: &mut [u32]) -> Examined
+fn examine_bytes(bytes: &[u8], words: &mut [u32]) -> Examined
     requires { ⌜ suc mostWords ≤ length (now words) ⌝ }
     ensures is { λ r. ⌜ r ≡ examined (wordsOf (now (bytes .entry))) ⌝ }
 {
@@ -184,7 +184,7 @@ pub fn examine_bytes(bytes: &[u8], words: &mut [u32]) -> Examined
 }
 
 // The check of a table, with what is kept of it.
-fn examine(table: &[u32]) -> Examined
+pub fn examine(table: &[u32]) -> Examined
     ensures is { λ r. ⌜ r ≡ examined (now (table .entry)) ⌝ }
 {
     let checked = rooms::check(table);
@@ -255,9 +255,9 @@ fn written_count(told: JoinAnswer) -> usize
 
 // The answer's number and figure, into its buffer.
 fn tell(told: JoinAnswer, answer: &mut [u8])
-    ensures told { λ _. ⌜ now (answer .exit) ≡ answered (joinNumber told) (joinFigure told) (now (answer .entry)) ⌝ }
+    ensures told { λ _. ⌜ now (answer .exit) ≡ answered 2 (joinNumber told ∷ joinFigure told ∷ []) (now (answer .entry)) ⌝ }
 {
     let number = told.number();
     let figure = told.figure() as u64;
-    words::store_answer(number, figure, answer);
+    calls::store_answer(number, figure, answer);
 }

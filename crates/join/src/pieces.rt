@@ -4,7 +4,7 @@ ghost use mathlib.Core.Path.{_≡_};
 ghost use Prim.Native.Nat.{_+_, _-_, _*_, _^_, _≤_, _<_};
 ghost use lib.ListN.{length, getD};
 ghost use Rattle.words.specs.Bytes.{wordsOf};
-ghost use Rattle.words.specs.Lists.{AllBelow};
+ghost use Rattle.figures.specs.Bounds.{AllBelow};
 ghost use Rattle.rooms.specs.Table.{nodeWords, formOf};
 ghost use Rattle.join.specs.Pieces.{renumbered, renumberedEvery, renumberedCords, piece, Put, MayPut};
 use figures::word_index;
@@ -61,7 +61,7 @@ fn renumber_cords(words: &mut [u32], up: u32, down: u32)
 }
 
 // The count of cords of the server whose words start at i; 0 where they are not all there.
-fn count_at(words: &[u32], i: usize) -> usize
+pub fn count_at(words: &[u32], i: usize) -> usize
     requires { ⌜ i < length (now words) ⌝ }
     ensures is { λ r. ⌜ r ≡ getD (now (words .entry)) (i + 3) 0 ⌝ }
 {

@@ -2,12 +2,13 @@
 use mathlib.Core.Path.{_≡_, refl, sym, ap, _∙_}
 use mathlib.Core.Bool.{Bool, true, false, not}
 use mathlib.Core.List.{List, [], _∷_}
-use Prim.Native.Nat.{ℕ, _≤_, _<_}
+use Prim.Native.Nat.{ℕ}
 use native.Mathlib.Omega.{arith}
 use lib.Dec.{eqb}
 use lib.ListN.{length}
-use borrow.Author.Tests.{eqb-true, eq-eqb, ne-eqb, lt-ltb, le-ltb}
+use borrow.Author.Tests.{eqb-true}
 use Rattle.outcomes.specs.Outcome.{accepted, refused, Reason, unless}
+use Rattle.outcomes.specs.Part.{whenGood}
 use Rattle.outcomes.proofs.Outcomes.{unless-stop, unless-pass, unless-back, unless-none, unless-is, accepted≢refused}
 use Rattle.figures.specs.Figures.{at}
 use Rattle.rooms.specs.Part.{Step, good, bad, Good}
@@ -23,13 +24,11 @@ use Rattle.rooms.proofs.Accepted as rooms
 use Rattle.rooms.proofs.Steps.{known}
 use Rattle.rooms.proofs.Outcomes.{refused-so}
 use Rattle.layout.specs.Lists.{HasLowsBeneath}
-use Rattle.deals.specs.Plan.{firstTooLarge}
 use Rattle.deals.specs.Judge.{verdict}
-use Rattle.deals.specs.declared.Verdict.{Verdict}
-use Rattle.judge.specs.Outcome.{JudgeOutcome, reasons, judgeRoom, judgeStep, judging, answerOf}
+use Rattle.judge.specs.Outcome.{JudgeOutcome, reasons, judgeRoom, judging, answerOf}
 use Rattle.judge.specs.Lists.{admission}
 use Rattle.judge.specs.declared.JudgeRefusal.{JudgeRefusal}
-use Rattle.judge.specs.declared.JudgeRefusal.the-variants.{Table, DemandCount, DemandTooLarge, GrantCount}
+use Rattle.judge.specs.declared.JudgeRefusal.the-variants.{Table}
 use Rattle.judge.specs.declared.Judged.the-variants as judged
 use Rattle.judge.specs.declared.Admission.the-variants as admitted
 
@@ -55,12 +54,12 @@ lows-told table list e r end is n l =
 
 module _ (table demands grants : List ℕ) where
   judging-bad : (q : Refusal) → checked table 0 ≡ bad q → judging table demands grants ≡ refused (Table q)
-  unfolding judging judgeStep
-  judging-bad q e = ap (λ (s : Step Room). judgeStep s demands grants) e
+  unfolding judging
+  judging-bad q e = ap (λ (s : Step Room). whenGood Table s (λ r. judgeRoom r demands grants)) e
 
   judging-good : (r : Room) (end : ℕ) → checked table 0 ≡ good r end → judging table demands grants ≡ unless (reasons r demands grants) (verdict r demands grants)
-  unfolding judging judgeStep judgeRoom
-  judging-good r end e = ap (λ (s : Step Room). judgeStep s demands grants) e
+  unfolding judging judgeRoom
+  judging-good r end e = ap (λ (s : Step Room). whenGood Table s (λ q. judgeRoom q demands grants)) e
 
   -- A refusal is told.
   refused-told : {q : JudgeRefusal} → judging table demands grants ≡ refused q → admitted.Refused q ≡ admission (judging table demands grants)

@@ -1,28 +1,30 @@
 -- What the C call of Judge returns and leaves, from what the functions that it calls ensure.
 use mathlib.Core.Path.{_≡_, refl, sym, ap, ap₂, _∙_}
-use mathlib.Core.Bool.{Bool, true, false, cond, not}
-use mathlib.Core.List.{List, [], _∷_, _++_}
-use Prim.Native.Nat.{ℕ, suc, _+_, _/_, _≤_, _<_, min}
+use mathlib.Core.Bool.{Bool, true, false, not}
+use mathlib.Core.List.{List, [], _∷_}
+use Prim.Native.Nat.{ℕ, suc, _/_, _≤_, _<_, min}
 use native.Mathlib.Omega.{arith}
-use borrow.Author.Tests.{eqb-true, eqb-false, ne-eqb, leb-true, leb-false, le-leb, lt-leb}
+use borrow.Author.Tests.{eqb-true, eqb-false, ne-eqb, leb-true, leb-false}
 use lib.Dec.{eqb, leb}
 use lib.ListN.{length, take}
 use lib.Seq.{sets, length-sets, length-take-le, take-all}
 use Rattle.outcomes.specs.Outcome.{refused, unless}
-use Rattle.words.specs.Bytes.{littleEndian, wordsOf, answerBytes, answered, numberStored}
-use Rattle.words.proofs.Lists.{sets-append}
-use Rattle.words.proofs.Bytes.{length-littleEndian, length-answerBytes, answered-long, numberStored-whole, take-loaded}
+use Rattle.outcomes.specs.Part.{whenGood}
+use Rattle.words.specs.Bytes.{wordsOf, numberStored}
+use Rattle.calls.specs.Call.{answered}
+use Rattle.calls.proofs.Calls.{answered-long, number-more, call-done}
+use Rattle.words.proofs.Bytes.{take-loaded}
 use Rattle.rooms.specs.Part.{Step, good, bad}
 use Rattle.rooms.specs.Table.{Room, mostServers, mostCords, mostWords, roomCords}
 use Rattle.rooms.specs.Limits.{checked}
 use Rattle.rooms.proofs.Accepted as rooms
 use Rattle.rooms.proofs.Reach.{prefix-decides}
-use Rattle.deals.specs.Judge.{verdict, verdictNumber, verdictNames, verdictRank}
+use Rattle.deals.specs.Judge.{verdictNumber, verdictNames, verdictRank}
 use Rattle.deals.specs.declared.Verdict.{Verdict}
-use Rattle.judge.specs.Outcome.{JudgeOutcome, reasons, judgeRoom, judgeStep, judging, answerOf, judgeRefusalNumber, judgeRefusalPlace}
-use Rattle.judge.specs.Call.{judgedBytes, OutcomeCall}
+use Rattle.judge.specs.Outcome.{judgeRoom, judging, answerOf, judgeRefusalNumber, judgeRefusalPlace}
+use Rattle.judge.specs.Call.{judgedNumbers, JudgeCall}
 use Rattle.judge.specs.declared.JudgeRefusal.{JudgeRefusal}
-use Rattle.judge.specs.declared.JudgeRefusal.the-variants.{DemandCount, GrantCount}
+use Rattle.judge.specs.declared.JudgeRefusal.the-variants.{Table, DemandCount}
 use Rattle.judge.specs.declared.Judged.{Judged}
 use Rattle.judge.specs.declared.Judged.the-variants.{Accepted, Refused}
 
@@ -67,11 +69,12 @@ module _ (r : Room) where
 -- Judge comes to the same of lists that are cut no shorter than decides every answer.
 judging-cut : (table demands grants : List ℕ) (w m k : ℕ) → suc mostWords ≤ w → suc mostServers ≤ m → suc mostCords ≤ k
     → judging (take w table) (take m demands) (take k grants) ≡ judging table demands grants
-unfolding judging judgeStep
+unfolding judging
 judging-cut table demands grants w m k hw hm hk =
-    ap (λ (s : Step Room). judgeStep s (take m demands) (take k grants)) (prefix-decides table w hw) ∙ go (checked table 0) refl
+    ap (λ (s : Step Room). whenGood Table s (λ r. judgeRoom r (take m demands) (take k grants))) (prefix-decides table w hw) ∙ go (checked table 0) refl
   where
-    go : (s : Step Room) → checked table 0 ≡ s → judgeStep s (take m demands) (take k grants) ≡ judgeStep s demands grants
+    go : (s : Step Room) → checked table 0 ≡ s
+        → whenGood Table s (λ r. judgeRoom r (take m demands) (take k grants)) ≡ whenGood Table s (λ r. judgeRoom r demands grants)
     go (good r end) e =
         let few = rooms.accepted table r end e in
         room-cut r demands grants m k (omega (arith, few .fewServers)) (omega (arith, few .fewCords))
@@ -84,38 +87,18 @@ loaded-front bytes list list′ {n = n} e s = sym (length-take-le n list′ (ome
 -- ---- The answer
 
 module _ (answer : List ℕ) (long : 32 ≤ length answer) where
-  pub refused-bytes : (q : JudgeRefusal) {number place : ℕ} {answer′ : List ℕ} → number ≡ judgeRefusalNumber q → place ≡ judgeRefusalPlace q
-      → answer′ ≡ answered number place answer → answer′ ≡ sets answer 0 (judgedBytes (Refused q))
-  refused-bytes q n p a = a ∙ rw (n, p) (answered-long (judgeRefusalNumber q) (judgeRefusalPlace q) answer (omega arith))
+  pub refused-numbers : (q : JudgeRefusal) {number place : ℕ} {answer′ : List ℕ} → number ≡ judgeRefusalNumber q → place ≡ judgeRefusalPlace q
+      → answer′ ≡ answered 2 (number ∷ place ∷ []) answer → answer′ ≡ answered 4 (judgedNumbers (Refused q)) answer
+  refused-numbers q n p a =
+      a ∙ rw (n, p) (answered-long 2 answer (judgedNumbers (Refused q)) (omega arith) ∙ sym (answered-long 4 answer (judgedNumbers (Refused q)) (omega arith)))
 
-  pub accepted-bytes : (v : Verdict) {number names rank : ℕ} {a b c : List ℕ} → number ≡ verdictNumber v → names ≡ verdictNames v → rank ≡ verdictRank v
-      → a ≡ answered 0 number answer → b ≡ numberStored names a 16 → c ≡ numberStored rank b 24 → c ≡ sets answer 0 (judgedBytes (Accepted v))
-  accepted-bytes v {a = a} {b = b} {c = c} n m k ea eb ec =
-      let front : List ℕ = answerBytes 0 (verdictNumber v) in
-      let middle : List ℕ = littleEndian 8 (verdictNames v) in
-      let last : List ℕ = littleEndian 8 (verdictRank v) in
-      let first : a ≡ sets answer 0 front = ea ∙ rw n (answered-long 0 (verdictNumber v) answer (omega arith)) in
-      let size-a : length a ≡ length answer = ap length first ∙ length-sets answer 0 front in
-      let second : b ≡ sets a 16 middle = eb ∙ rw m (numberStored-whole (verdictNames v) a 16 (omega (arith, size-a, long))) in
-      let size-b : length b ≡ length answer = ap length second ∙ length-sets a 16 middle ∙ size-a in
-      let third : c ≡ sets b 24 last = ec ∙ rw k (numberStored-whole (verdictRank v) b 24 (omega (arith, size-b, long))) in
-      let at-16 : 0 + length front ≡ 16 = omega (arith, length-answerBytes 0 (verdictNumber v)) in
-      let at-24 : 16 + length middle ≡ 24 = omega (arith, length-littleEndian 8 (verdictNames v)) in
-      third
-      ∙ ap (λ (l : List ℕ). sets l 24 last) second
-      ∙ ap (λ (i : ℕ). sets (sets a 16 middle) i last) (sym at-24)
-      ∙ sym (sets-append a 16 middle last)
-      ∙ ap₂ (λ (l : List ℕ) (i : ℕ). sets l i (middle ++ last)) first (sym at-16)
-      ∙ sym (sets-append answer 0 front (middle ++ last))
+  pub accepted-numbers : (v : Verdict) {number names rank : ℕ} {a b : List ℕ} → number ≡ verdictNumber v → names ≡ verdictNames v → rank ≡ verdictRank v
+      → a ≡ answered 3 (0 ∷ number ∷ names ∷ []) answer → b ≡ numberStored rank a 24 → b ≡ answered 4 (judgedNumbers (Accepted v)) answer
+  accepted-numbers v {number} {names} {rank} n m k ea eb =
+      number-more answer (0 ∷ number ∷ names ∷ []) rank 24 refl (omega arith) (ea ∙ answered-long 3 answer (0 ∷ number ∷ names ∷ []) (omega arith)) eb
+      ∙ rw (n, m, k) (sym (answered-long 4 answer (judgedNumbers (Accepted v)) (omega arith)))
 
 -- ---- The call
-
-module _ (outcome : JudgeOutcome) (answer : List ℕ) where
-  pub call-short : length answer < 32 → OutcomeCall outcome answer 0 answer
-  call-short h = let short = lt-leb 32 (length answer) h in record { returned = rw short; answer-after = rw short }
-
-  call-done : {answer′ : List ℕ} → 32 ≤ length answer → answer′ ≡ sets answer 0 (judgedBytes (answerOf outcome)) → OutcomeCall outcome answer 1 answer′
-  call-done h a = let long = le-leb 32 (length answer) h in record { returned = rw long; answer-after = rw long a }
 
 -- The first words of each list are loaded, and decide.
 module _ (table words demands figures grants watts answer : List ℕ) (w : suc mostWords ≤ length words) (f : suc mostServers ≤ length figures) (k : suc mostCords ≤ length watts)
@@ -133,5 +116,5 @@ module _ (table words demands figures grants watts answer : List ℕ) (w : suc m
       (judging-cut (wordsOf table) (wordsOf demands) (wordsOf grants) (length words) (length figures) (length watts) w f k)
 
   pub call-told : {told : Judged} {answer′ : List ℕ} → 32 ≤ length answer → told ≡ answerOf (judging (take wn words′) (take fn figures′) (take kn watts′))
-      → answer′ ≡ sets answer 0 (judgedBytes told) → OutcomeCall (judging (wordsOf table) (wordsOf demands) (wordsOf grants)) answer 1 answer′
-  call-told h t a = call-done _ answer h (a ∙ ap (λ (x : Judged). sets answer 0 (judgedBytes x)) (t ∙ ap answerOf loaded))
+      → answer′ ≡ answered 4 (judgedNumbers told) answer → JudgeCall table demands grants answer 1 answer′
+  call-told h t a = call-done _ answer _ h tt (a ∙ ap (λ (x : Judged). answered 4 (judgedNumbers x) answer) (t ∙ ap answerOf loaded))

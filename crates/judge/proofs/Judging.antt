@@ -3,19 +3,17 @@ use mathlib.Core.Path.{_≡_, refl, sym, ap, ap₂, _∙_}
 use mathlib.Core.Bool.{Bool, true, false, cond, _&&_}
 use mathlib.Core.List.{List}
 use Prim.Native.Nat.{ℕ, zero, suc, _+_, _-_, _≤_, _<_, min, zero-le}
-use native.Mathlib.Nat.{le-trans, le-of-eq}
 use native.Mathlib.Omega.{arith}
 use lib.Dec.{eqb, leb, ltb, leb·zero}
 use lib.ListN.{length}
 use borrow.Author.Tests.{eqb-true, ltb-true, ltb-false, lt-ltb, le-ltb}
-use Rattle.figures.specs.Figures.{at, cell, column}
+use Rattle.figures.specs.Figures.{at, cell}
 use Rattle.figures.specs.Sums.{on, sum}
 use Rattle.figures.proofs.Columns.{column-at}
 use Rattle.figures.proofs.Sums.{on-yes, on-add, sum-cong, sum-add}
 use Rattle.rooms.specs.Table.{Room, mostWatts, highestRank, roomCords}
 use Rattle.rooms.specs.Limits.{limit, nodeAt, parentOf, beneath, lowsBeneath, firstNode}
-use Rattle.rooms.specs.Cords.{cordAt}
-use Rattle.rooms.specs.Lists.{parentsOf, limitsOf, nodesOf, levelsOf, lowsOf}
+use Rattle.rooms.specs.Lists.{limitsOf, levelsOf, lowsOf}
 use Rattle.rooms.specs.Rows.{nodeColumn, levelColumn}
 use Rattle.rooms.specs.Credits as credits
 use Rattle.rooms.proofs.Accepted.{Accepted}
@@ -33,12 +31,12 @@ use Rattle.deals.specs.declared.Verdict.{Verdict}
 use Rattle.deals.specs.declared.Verdict.the-variants.{Passes, BelowLow, AboveWant, OverLimit, Short}
 use Rattle.deals.proofs.Requests.{Dealable, sumBelow, sumBelow-unique}
 use Rattle.deals.proofs.RoomDeals.{dealOf-is, parentsOf-length, parentsOf-at, limitsOf-at, nodesOf-length}
-use Rattle.deals.proofs.BothDeals.{parents-below, cord-facts, lowsOf-length, carriedBy-length, lows-under}
+use Rattle.deals.proofs.BothDeals.{parents-below, lowsOf-length, carriedBy-length, lows-under}
 use Rattle.deals.proofs.Bounds.{bounded}
 use Rattle.deals.proofs.Judged.{atFirst-none, atFirst-some}
 use Rattle.deals.proofs.JudgedTotals.{mostOver, most-step, first, first-dealable, shortAt-is}
 use Rattle.deals.proofs.JudgedTotals as totals
-use Rattle.judge_totals.specs.Totals.{NodeLists, CordLists, overLow, onNode, fromLevel, IsMost, overFrom, IsMostFrom, lessThan, Compared}
+use Rattle.judge_totals.specs.Totals.{NodeLists, CordLists, overLow, onNode, fromLevel, overFrom, IsMostFrom, lessThan, Compared}
 use Rattle.judge.specs.Lists.{RoomLists}
 
 -- ---- Searches
@@ -224,11 +222,11 @@ module _ (r : Room) (ok : Accepted r) (demands : List ℕ) {parents spare : List
           = ap (λ (x : ℕ). x + sumBelow d n (d .low)) over ∙ sym (over-and-lows n) in
           sym (ltb-add (at spare n) (overFrom parents cords lows grants 0 n) (sumBelow d n (d .low))) ∙ ap₂ ltb (spare-is n l) given
 
-      short-rank : {over : ℕ} {short : List ℕ} → Compared parents spare cords lows wants grants over short
+      short-rank : {over : ℕ} {short : List ℕ} → Compared parents spare cords lows wants grants over short → over ≡ 0
           → (n : ℕ) → n < length (r .nodes) → parentOf r n ≡ 0 → at short n ≡ shortRank r demands grants n
       unfolding shortRank
-      short-rank compared n l top =
-          compared .short-is (mostOver d able) most-lists n (omega (arith, nodes-are))
+      short-rank compared none n l top =
+          compared .short-is (mostOver d able) most-lists none n (omega (arith, nodes-are))
           ∙ highest-cong (lessThan parents cords lows grants (mostOver d able) n) (shortAt r demands grants n) highestRank (λ j h.
           let e : suc j - 1 ≡ j = omega arith in
           let less : lessThan parents cords lows grants (mostOver d able) n (suc j) ≡ ltb (sumBelow d n (dealing.fromLevel d j (totals.overLow d able (at grants)))) (mostOver d able j n)
@@ -242,14 +240,14 @@ module _ (r : Room) (ok : Accepted r) (demands : List ℕ) {parents spare : List
             ∙ ap (λ (k : ℕ). firstNode k 0 (λ n. ltb (at spare n) (overFrom parents cords lows grants 0 n))) nodes-are
             ∙ firstNode-cong (length (r .nodes)) 0 _ _ (λ n l. over-limit n (omega arith))
 
-        pub root-found : {root : ℕ} → root ≡ firstNode (length parents) 0 (λ n. eqb (at parents n) 0 && ltb 0 (at short n))
+        pub root-found : over ≡ 0 → {root : ℕ} → root ≡ firstNode (length parents) 0 (λ n. eqb (at parents n) 0 && ltb 0 (at short n))
             → root ≡ firstNode (length (r .nodes)) 0 (shortRoot r demands grants)
-        root-found f =
+        root-found none f =
             f ∙ ap (λ (k : ℕ). firstNode k 0 (λ n. eqb (at parents n) 0 && ltb 0 (at short n))) nodes-are
             ∙ firstNode-cong (length (r .nodes)) 0 _ _ (λ n l.
             ap (λ (x : ℕ). eqb x 0 && ltb 0 (at short n)) (parent-at n)
             ∙ and-cong (eqb (parentOf r n) 0) (ltb 0 (at short n)) (ltb 0 (shortRank r demands grants n))
-            (λ t. ap (ltb 0) (short-rank compared n (omega arith) (eqb-true (parentOf r n) 0 t))))
+            (λ t. ap (ltb 0) (short-rank compared none n (omega arith) (eqb-true (parentOf r n) 0 t))))
 
         -- ---- The verdict, where no cord fails
 
@@ -281,11 +279,11 @@ module _ (r : Room) (ok : Accepted r) (demands : List ℕ) {parents spare : List
             → {rank : ℕ} → rank ≡ at short (root - 1) → Short root rank ≡ verdict r demands grants
         is-short z {root = zero} f n k = absurd (n refl)
         is-short z {root = suc p} f n {rank = rank} k =
-            let g = root-found f in
+            let g = root-found z f in
             let first-at = firstNode-first (length (r .nodes)) 0 (shortRoot r demands grants) p (sym g) in
             let e : suc p - 1 ≡ p = omega arith in
             let top = eqb-true (parentOf r p) 0 (and-left (eqb (parentOf r p) 0) (ltb 0 (shortRank r demands grants p)) (first-at .holds)) in
-            let is : rank ≡ shortRank r demands grants p = k ∙ ap (at short) e ∙ short-rank compared p (omega (arith, first-at .within)) top in
+            let is : rank ≡ shortRank r demands grants p = k ∙ ap (at short) e ∙ short-rank compared z p (omega (arith, first-at .within)) top in
             ap (Short (suc p)) is
             ∙ sym (atFirst-some (length (r .nodes)) 0 (shortRoot r demands grants) (λ n. Short (suc n) (shortRank r demands grants n)) Passes p first-at)
             ∙ sym (past-limits z)
@@ -296,7 +294,7 @@ module _ (r : Room) (ok : Accepted r) (demands : List ℕ) {parents spare : List
 
         pub is-passes : over ≡ 0 → {root : ℕ} → root ≡ firstNode (length parents) 0 (λ n. eqb (at parents n) 0 && ltb 0 (at short n)) → root ≡ 0
             → Passes ≡ verdict r demands grants
-        is-passes z f n = sym (atFirst-zero (length (r .nodes)) (shortRoot r demands grants) (λ n. Short (suc n) (shortRank r demands grants n)) Passes (root-found f) n) ∙ sym (past-limits z)
+        is-passes z f n = sym (atFirst-zero (length (r .nodes)) (shortRoot r demands grants) (λ n. Short (suc n) (shortRank r demands grants n)) Passes (root-found z f) n) ∙ sym (past-limits z)
 
     -- ---- The verdict, where a cord fails
 

@@ -5,8 +5,8 @@ use Prim.Native.Nat.{ℕ}
 use lib.Dec.{eqb, ltb}
 use lib.ListN.{length}
 use Rattle.outcomes.specs.Outcome.{Outcome, accepted, refused, Reason, unless}
-use Rattle.words.specs.Lists.{firstNotBelow}
-use Rattle.rooms.specs.Part.{Step, good, bad}
+use Rattle.outcomes.specs.Part.{whenGood}
+use Rattle.figures.specs.Bounds.{firstNotBelow}
 use Rattle.rooms.specs.Table.{Room, roomCords}
 use Rattle.rooms.specs.Limits.{checked}
 use Rattle.rooms.specs.Outcome.{refusalNumber, refusalPlace}
@@ -36,16 +36,10 @@ unfoldable pub judgeRoom : Room → List ℕ → List ℕ → JudgeOutcome
 unfolding unless firstNotBelow verdict
 judgeRoom r demands grants = unless (reasons r demands grants) (verdict r demands grants)
 
--- Those of what the table's check gives: its refusals (4 to 9) stand.
-unfoldable pub judgeStep : Step Room → List ℕ → List ℕ → JudgeOutcome
-unfolding judgeRoom
-judgeStep (good r end) demands grants = judgeRoom r demands grants
-judgeStep (bad refusal) demands grants = refused (Table refusal)
-
--- Judge: a table, a demand list and a grant list.
+-- Judge: a table, a demand list and a grant list. The refusals of the table (4 to 9) stand.
 unfoldable pub judging : (table demands grants : List ℕ) → JudgeOutcome
-unfolding judgeStep checked
-judging table demands grants = judgeStep (checked table 0) demands grants
+unfolding judgeRoom checked
+judging table demands grants = whenGood Table (checked table 0) (λ r. judgeRoom r demands grants)
 
 -- ---- What the caller sees
 

@@ -3,7 +3,6 @@ ghost use mathlib.Core.Path.{_≡_};
 ghost use mathlib.Core.List.{List};
 ghost use Prim.Native.Nat.{ℕ, suc, _≤_};
 ghost use lib.ListN.{length};
-ghost use lib.Seq.{sets};
 ghost use Rattle.rooms.specs.Part.{Good, good};
 ghost use Rattle.rooms.specs.Table.{Room, mostNodes, mostServers, mostCords, mostWords};
 ghost use Rattle.rooms.specs.Limits.{checked, lowsTold};
@@ -11,9 +10,11 @@ ghost use Rattle.rooms.specs.Rows.{OfRoom, ServersFit, CordsFit};
 ghost use Rattle.layout.specs.Lists.{HasLowsBeneath};
 ghost use Rattle.deals.specs.Judge.{verdict};
 ghost use Rattle.judge.specs.Outcome.{judging, answerOf, judgeRefusalNumber, judgeRefusalPlace};
-ghost use Rattle.judge.specs.Call.{judgedBytes, JudgeCall};
+ghost use Rattle.calls.specs.Call.{answered};
+ghost use Rattle.judge.specs.Call.{judgedNumbers, JudgeCall};
 ghost use Rattle.judge.specs.Lists.{RoomLists, SomeRoom, admission};
 use deals::Verdict;
+use figures::first_not_below;
 use figures::index;
 use figures::word_index;
 use judge_totals::compare;
@@ -25,7 +26,6 @@ use rooms::Checked;
 use rooms::DECIDING_WORDS;
 use rooms::lists::node_count;
 use rooms::lists::server_count;
-use words::first_not_below;
 
 // One more than the most watts of a demand.
 const TOO_MANY_WATTS: u32 = 16_777_216;
@@ -61,7 +61,7 @@ enum Admission {
 impl JudgeRefusal {
     // The refusal's number.
     pub fn number(self) -> u64
-        ensures { λ r. ⌜ r ≡ judgeRefusalNumber self ⌝ }
+        ensures result { λ r. ⌜ r ≡ judgeRefusalNumber self ⌝ }
     {
         match self {
             JudgeRefusal::Table(refusal) => refusal.number(),
@@ -73,7 +73,7 @@ impl JudgeRefusal {
 
     // The refusal's place.
     pub fn place(self) -> usize
-        ensures { λ r. ⌜ r ≡ judgeRefusalPlace self ⌝ }
+        ensures result { λ r. ⌜ r ≡ judgeRefusalPlace self ⌝ }
     {
         match self {
             JudgeRefusal::Table(refusal) => refusal.place(),
@@ -86,8 +86,8 @@ impl JudgeRefusal {
 
 // All checks, in their order. Of a good table, `beneath` gets the lows beneath each node.
 fn admit(table: &[u32], demands: &[u32], grants: &[u32], beneath: &mut [u64; 512]) -> Admission
-    ensures { λ r. ⌜ r ≡ admission (judging (now (table .entry)) (now (demands .entry)) (now (grants .entry))) ⌝ }
-    ensures { λ _. ⌜ now (beneath .exit) ≡ lowsTold (checked (now (table .entry)) 0) ⌝ }
+    ensures result { λ r. ⌜ r ≡ admission (judging (now (table .entry)) (now (demands .entry)) (now (grants .entry))) ⌝ }
+    ensures beneath { λ _. ⌜ now (beneath .exit) ≡ lowsTold (checked (now (table .entry)) 0) ⌝ }
 {
     let checked = rooms::parts::check_lows(table, beneath);
     let count = match checked {
@@ -118,8 +118,10 @@ fn judge_lists(
     wants: &[u32],
     grants: &[u32],
 ) -> Verdict
-    requires { ⌜ SomeRoom (now parents) (now spare) (now cords) (now lows) (now wants) × (length (now grants) ≡ length (now cords)) ⌝ }
-    ensures { λ v. ⌜ ((table demands : List ℕ) (r : Room) (end : ℕ) → checked table 0 ≡ good r end → RoomLists r demands (now (parents .entry)) (now (spare .entry)) (now (cords .entry)) (now (lows .entry)) (now (wants .entry)) → v ≡ verdict r demands (now (grants .entry))) ⌝ }
+    requires lists { ⌜ SomeRoom (now parents) (now spare) (now cords) (now lows) (now wants) × (length (now grants) ≡ length (now cords)) ⌝ }
+    ensures result { λ v. ⌜ ((table demands : List ℕ) (r : Room) (end : ℕ) → checked table 0 ≡ good r end
+        → RoomLists r demands (now (parents .entry)) (now (spare .entry)) (now (cords .entry)) (now (lows .entry)) (now (wants .entry))
+        → v ≡ verdict r demands (now (grants .entry))) ⌝ }
 {
     let mut short = [0u16; 512];
     let below = first_below(grants, lows);
@@ -142,17 +144,16 @@ fn judge_lists(
 }
 
 // The verdict on a good table with a demand for each server and a grant for each cord. `beneath` has the lows beneath each node, as the
-// check of the table leaves them. The nodes, ceilings and needs that are laid out too are not used.
+// check of the table leaves them. The ceilings and needs that are laid out too are not used.
 fn judge_room(table: &[u32], demands: &[u32], grants: &[u32], beneath: &[u64]) -> Verdict
-    requires { ⌜ Good (checked (now table) 0) ⌝ }
-    requires { ⌜ ServersFit (now table) (length (now demands)) × CordsFit (now table) (length (now grants)) ⌝ }
-    requires { ⌜ (mostNodes ≤ length (now beneath)) × HasLowsBeneath (now table) (now beneath) ⌝ }
-    ensures { λ v. ⌜ OfRoom (now (table .entry)) (λ r. v ≡ verdict r (now (demands .entry)) (now (grants .entry))) ⌝ }
+    requires good { ⌜ Good (checked (now table) 0) ⌝ }
+    requires sizes { ⌜ ServersFit (now table) (length (now demands)) × CordsFit (now table) (length (now grants)) ⌝ }
+    requires beneath { ⌜ (mostNodes ≤ length (now beneath)) × HasLowsBeneath (now table) (now beneath) ⌝ }
+    ensures result { λ v. ⌜ OfRoom (now (table .entry)) (λ r. v ≡ verdict r (now (demands .entry)) (now (grants .entry))) ⌝ }
 {
     let mut parents = [0u16; 512];
     let mut spare = [0u32; 512];
     let mut cords = [[0u16; 4]; 1024];
-    let mut nodes = [0u16; 1024];
     let mut lows = [0u32; 1024];
     let mut wants = [0u32; 1024];
     let mut ceilings = [0u32; 1024];
@@ -165,7 +166,6 @@ fn judge_room(table: &[u32], demands: &[u32], grants: &[u32], beneath: &[u64]) -
         table,
         demands,
         &mut cords[..k],
-        &mut nodes[..k],
         &mut lows[..k],
         &mut wants[..k],
         &mut ceilings[..k],
@@ -183,7 +183,7 @@ fn judge_room(table: &[u32], demands: &[u32], grants: &[u32], beneath: &[u64]) -
 
 // Judge: the verdict on a list of grants, of a table and its servers' demands; or why it is turned back.
 pub fn judge(table: &[u32], demands: &[u32], grants: &[u32]) -> Judged
-    ensures { λ r. ⌜ r ≡ answerOf (judging (now (table .entry)) (now (demands .entry)) (now (grants .entry))) ⌝ }
+    ensures result { λ r. ⌜ r ≡ answerOf (judging (now (table .entry)) (now (demands .entry)) (now (grants .entry))) ⌝ }
 {
     let mut beneath = [0u64; 512];
     let admission = admit(table, demands, grants, &mut beneath);
@@ -195,7 +195,8 @@ pub fn judge(table: &[u32], demands: &[u32], grants: &[u32]) -> Judged
 
 // Judge, called from C: lists in bytes, and the answer in a buffer of its own. Returns 1; or 0 where that buffer is too short.
 pub fn judge_bytes(table: &[u8], demands: &[u8], grants: &[u8], answer: &mut [u8]) -> u32
-    ensures { λ r. ⌜ JudgeCall (now (table .entry)) (now (demands .entry)) (now (grants .entry)) (now (answer .entry)) r (now (answer .exit)) ⌝ }
+    ensures called { λ r. ⌜ JudgeCall (now (table .entry)) (now (demands .entry)) (now (grants .entry)) (now (answer .entry)) r
+        (now (answer .exit)) ⌝ }
 {
     let mut words = [0u32; DECIDING_WORDS];
     let mut figures = [0u32; DECIDING_DEMANDS];
@@ -221,8 +222,9 @@ fn judge_by(
     watts: &mut [u32],
     answer: &mut [u8],
 ) -> u32
-    requires { ⌜ (suc mostWords ≤ length (now words)) × (suc mostServers ≤ length (now figures)) × (suc mostCords ≤ length (now watts)) ⌝ }
-    ensures { λ r. ⌜ JudgeCall (now (table .entry)) (now (demands .entry)) (now (grants .entry)) (now (answer .entry)) r (now (answer .exit)) ⌝ }
+    requires space { ⌜ (suc mostWords ≤ length (now words)) × (suc mostServers ≤ length (now figures)) × (suc mostCords ≤ length (now watts)) ⌝ }
+    ensures called { λ r. ⌜ JudgeCall (now (table .entry)) (now (demands .entry)) (now (grants .entry)) (now (answer .entry)) r
+        (now (answer .exit)) ⌝ }
 {
     if answer.len() < ANSWER_BYTES {
         return 0;
@@ -241,17 +243,16 @@ fn judge_by(
 
 // The answer, at the front of its buffer, which has space for it.
 fn tell(judged: Judged, answer: &mut [u8])
-    requires { ⌜ 32 ≤ length (now answer) ⌝ }
-    ensures { λ _. ⌜ now (answer .exit) ≡ sets (now (answer .entry)) 0 (judgedBytes judged) ⌝ }
+    requires long { ⌜ 32 ≤ length (now answer) ⌝ }
+    ensures told { λ _. ⌜ now (answer .exit) ≡ answered 4 (judgedNumbers judged) (now (answer .entry)) ⌝ }
 {
     match judged {
         Judged::Accepted(verdict) => {
-            words::store_answer(0, verdict.number(), answer);
-            words::store_number(verdict.names() as u64, answer, 16);
+            calls::store_long_answer(0, verdict.number(), verdict.names() as u64, answer);
             words::store_number(verdict.rank() as u64, answer, 24);
         }
         Judged::Refused(refusal) => {
-            words::store_answer(refusal.number(), refusal.place() as u64, answer);
+            calls::store_answer(refusal.number(), refusal.place() as u64, answer);
         }
     }
 }

@@ -1,5 +1,4 @@
--- The laws of `judge_totals`: a search, and the turns of its loops.
+-- The laws of `judge_totals`: a search, what is noted on nodes, and the turns of the loops that note it.
 pub mod Searching
-pub mod Adding
-pub mod Marking
-pub mod Levels
+pub mod Notes
+pub mod Noting

@@ -1,11 +1,11 @@
 -- Totals over the trees of a room, by lists: what the contracts of `judge_totals` cite. Nodes and cords stand at their places; a parent,
 -- and a cord's node, is a number: a place plus one, or 0 for none.
 use mathlib.Core.Path.{_≡_}
-use mathlib.Core.Bool.{Bool, false, cond}
+use mathlib.Core.Bool.{Bool, cond}
 use mathlib.Core.List.{List, []}
-use Prim.Native.Nat.{ℕ, suc, _+_, _-_, _*_, _≤_, _<_, min}
+use Prim.Native.Nat.{ℕ, zero, suc, _+_, _-_, _≤_, _<_, min}
 use lib.Dec.{eqb, leb, ltb}
-use lib.ListN.{length, getD}
+use lib.ListN.{length, getD, set}
 use Rattle.figures.specs.Figures.{at, cell}
 use Rattle.figures.specs.Sums.{on, sum}
 use Rattle.rooms.specs.Table.{mostNodes, mostCords, mostWatts, highestRank}
@@ -47,24 +47,48 @@ overLow lows watts c = at watts c - at lows c
 unfoldable pub onNode : List (List ℕ) → (ℕ → ℕ) → ℕ → ℕ
 onNode cords figure n = sum (length cords) (λ c. on (eqb (cell cords c nodeColumn) (suc n)) (figure c))
 
--- A figure of the cords of a level, and of a level and above; 0 for the others.
-abbrev pub ofLevel : List (List ℕ) → ℕ → (ℕ → ℕ) → ℕ → ℕ
-ofLevel cords j figure c = on (eqb (cell cords c levelColumn) j) (figure c)
-
+-- A figure of the cords of a level and above; 0 for the others.
 abbrev pub fromLevel : List (List ℕ) → ℕ → (ℕ → ℕ) → ℕ → ℕ
 fromLevel cords j figure c = on (leb j (cell cords c levelColumn)) (figure c)
 
--- No figure of a list is above the most that all cords can have together.
-abbrev pub Small : List ℕ → Type 0
-Small sums = (n : ℕ) → at sums n ≤ mostCords * mostWatts
+-- ---- What is noted on nodes
 
--- A figure of the cords of a level was added to the sums, which stand on the nodes.
-abbrev pub Added : List (List ℕ) → ℕ → (ℕ → ℕ) → List ℕ → List ℕ → Type 0
-Added cords level figure sums sums′ = (n : ℕ) → at sums′ n ≡ at sums n + onNode cords (ofLevel cords level figure) n
+-- What is noted of a cord or of a node: the watts that are given there, the lowest rank that these are of, and the highest rank that could
+-- have more. `given` and `most` are by level: what the cords of the level and above have, and the most that they could have.
+pub record Noted (given most : ℕ → ℕ) (watts raised wanting : ℕ) : Type 0 where
+  pub watts-are : watts ≡ given 0
+  pub falls : (j : ℕ) → j < highestRank → given j ≤ given 0
+  -- The levels below j have watts exactly where the lowest rank is one of theirs. For no watts it may be the highest rank.
+  pub none-lower : (j : ℕ) → j < highestRank → j < raised → given j ≡ given 0
+  pub some-lower : (j : ℕ) → j < highestRank → raised ≤ j → given j < given 0
+  pub within : (j : ℕ) → j < highestRank → given j ≤ most j
+  -- From the highest rank that could have more, 0 for none, the levels above have the most; and its own has less.
+  pub rank : wanting ≤ highestRank
+  pub none-higher : (j : ℕ) → j < highestRank → wanting ≤ j → given j ≡ most j
+  pub less : (j : ℕ) → wanting ≡ suc j → given j < most j
 
--- `some` is false only if no cord is of the level.
-abbrev pub NoneOfLevel : List (List ℕ) → ℕ → Bool → Type 0
-NoneOfLevel cords level some = some ≡ false → (c : ℕ) → c < length cords → eqb (cell cords c levelColumn) level ≡ false
+-- It is noted of each of so many nodes.
+abbrev pub AllNoted : ℕ → (given most : ℕ → ℕ → ℕ) → (watts raised wanting : List ℕ) → Type 0
+AllNoted count given most watts raised wanting =
+    (n : ℕ) → n < count → Noted (λ j. given j n) (λ j. most j n) (at watts n) (at raised n) (at wanting n)
+
+-- Nothing is noted of any.
+abbrev pub Unnoted : ℕ → (watts raised wanting : List ℕ) → Type 0
+Unnoted count = AllNoted count (λ j n. 0) (λ j n. 0)
+
+-- The cords' own notes on their nodes.
+abbrev pub CordsNoted : ℕ → List (List ℕ) → (lows wants grants watts raised wanting : List ℕ) → Type 0
+CordsNoted count cords lows wants grants =
+    AllNoted count (λ j. onNode cords (fromLevel cords j (overLow lows grants))) (λ j. onNode cords (fromLevel cords j (overLow lows wants)))
+
+-- A rank merged with the one that stands on a node, by the node's number; 0 is no node.
+unfoldable pub merged : (ℕ → ℕ → ℕ) → ℕ → ℕ → List ℕ → List ℕ
+merged with zero rank l = l
+merged with (suc m) rank l = set l m (with (at l m) rank)
+
+-- The highest rank that could have more, with the node's limit.
+abbrev pub heldBack : ℕ → ℕ → ℕ → ℕ → ℕ
+heldBack limit has raised wanting = cond (ltb has limit) wanting (cond (ltb raised wanting) wanting 0)
 
 -- ---- Totals beneath nodes
 
@@ -79,15 +103,13 @@ IsMost parents spare own most =
 abbrev pub beneath : List ℕ → (ℕ → ℕ) → ℕ → ℕ
 beneath parents figure n = sumBeneath (at parents) (length parents) figure n
 
--- The mark of a node after a level: the rank, if the node had no mark and has less than it could.
-abbrev pub marked : ℕ → ℕ → ℕ → ℕ → ℕ
-marked mark level has most = cond (eqb mark 0) (on (ltb has most) (suc level)) mark
-
--- What a level's pass over the nodes leaves: the mark of each node, by what it is given and by the most that it can have.
-abbrev pub Marked : List ℕ → List ℕ → ℕ → List ℕ → List ℕ → List ℕ → List ℕ → Type 0
-Marked parents spare level asked given short short′ =
-    (most : ℕ → ℕ) → IsMost parents spare (at asked) most
-    → (n : ℕ) → n < length parents → at short′ n ≡ marked (at short n) level (beneath parents (at given) n) (most n)
+-- What the pass over the nodes leaves, where no node is given more than it has to spare: of the notes of the nodes' own cords, whatever
+-- these are, those of all that is beneath each node.
+abbrev pub NodesNoted : (parents spare : List ℕ) (over : ℕ) (watts raised wanting watts′ raised′ wanting′ : List ℕ) → Type 0
+NodesNoted parents spare over watts raised wanting watts′ raised′ wanting′ =
+    (given own most : ℕ → ℕ → ℕ) → AllNoted (length parents) given own watts raised wanting
+    → ((j : ℕ) → j < highestRank → IsMost parents spare (own j) (most j)) → over ≡ 0
+    → AllNoted (length parents) (λ j. beneath parents (given j)) most watts′ raised′ wanting′
 
 -- What the cords of a level and above, beneath the node at place n, have over their lows.
 unfoldable pub overFrom : List ℕ → List (List ℕ) → List ℕ → List ℕ → ℕ → ℕ → ℕ
@@ -103,9 +125,9 @@ IsMostFrom parents spare cords lows wants most =
 abbrev pub lessThan : List ℕ → List (List ℕ) → List ℕ → List ℕ → (ℕ → ℕ → ℕ) → ℕ → ℕ → Bool
 lessThan parents cords lows grants most n rank = ltb (overFrom parents cords lows grants (rank - 1) n) (most (rank - 1) n)
 
--- What the passes over all levels come to: the lowest node that is given more than it has to spare, 0 if there is none; and each node's
+-- What the passes come to: the lowest node that is given more than it has to spare, 0 if there is none; and, if there is none, each node's
 -- mark, the highest rank at which it has less than the most.
 pub record Compared (parents spare : List ℕ) (cords : List (List ℕ)) (lows wants grants : List ℕ) (over : ℕ) (short : List ℕ) : Type 0 where
   pub over-is : over ≡ firstNode (length parents) 0 (λ n. ltb (at spare n) (overFrom parents cords lows grants 0 n))
-  pub short-is : (most : ℕ → ℕ → ℕ) → IsMostFrom parents spare cords lows wants most
+  pub short-is : (most : ℕ → ℕ → ℕ) → IsMostFrom parents spare cords lows wants most → over ≡ 0
       → (n : ℕ) → n < length parents → at short n ≡ highest (lessThan parents cords lows grants most n) highestRank

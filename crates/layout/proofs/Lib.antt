@@ -2,3 +2,4 @@
 pub mod Spare
 pub mod Rows
 pub mod Loading
+pub mod Loads

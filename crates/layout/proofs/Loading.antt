@@ -4,7 +4,6 @@ use mathlib.Core.List.{List}
 use Prim.Native.Nat.{ℕ, _+_, _≤_, _<_, min, max}
 use native.Mathlib.Omega.{arith}
 use lib.ListN.{length, set}
-use lib.Seq.{ext-getD}
 use Rattle.figures.specs.Figures.{figures, at, cell, column}
 use Rattle.figures.proofs.Lists.{figures-at, figures-length}
 use Rattle.figures.proofs.Columns.{column-length, column-at}
@@ -15,7 +14,7 @@ use Rattle.rooms.specs.Limits.{checked, carried}
 use Rattle.rooms.specs.Cords.{cordAt, serverAt}
 use Rattle.rooms.specs.Lists.{carriedBy, lowsOf, sharesOf, serversOf}
 use Rattle.rooms.proofs.Accepted.{Accepted, accepted}
-use Rattle.rooms.specs.Rows.{nodeColumn, serverColumn, shareColumn, leastColumn, greatestColumn, carriedFrom, OfRoom, ScaleIs, ServerRows, CordRows}
+use Rattle.rooms.specs.Rows.{serverColumn, shareColumn, leastColumn, greatestColumn, carriedFrom, OfRoom, ScaleIs, ServerRows, CordRows}
 use Rattle.deals.specs.Wants.{need, needs, firstWants}
 use Rattle.deals.specs.Headroom.{ceilingsOf}
 use Rattle.deals.proofs.RoomDeals.{sharesOf-at, serversOf-at}
@@ -32,30 +31,27 @@ abbrev carriedAt : ℕ → List (List ℕ) → (ℕ → ℕ) → ℕ → ℕ
 carriedAt scale cords load c = carried scale (cell cords c shareColumn) (load (cell cords c serverColumn))
 
 -- The lists have the figures of the cords before place c.
-pub record Loaded (scale : ℕ) (servers cords : List (List ℕ)) (needed : List ℕ) (c : ℕ) (nodes lows wants ceilings : List ℕ) : Type 0 where
-  pub nodes-done : Filled (λ h. cell cords h nodeColumn) (length cords) c nodes
+pub record Loaded (scale : ℕ) (servers cords : List (List ℕ)) (needed : List ℕ) (c : ℕ) (lows wants ceilings : List ℕ) : Type 0 where
   pub lows-done : Filled (carriedAt scale cords (λ v. cell servers v leastColumn)) (length cords) c lows
   pub wants-done : Filled (carriedAt scale cords (at needed)) (length cords) c wants
   pub ceilings-done : Filled (carriedAt scale cords (λ v. cell servers v greatestColumn)) (length cords) c ceilings
 
 module _ {scale : ℕ} {servers cords : List (List ℕ)} {needed : List ℕ} where
-  pub loaded-none : {nodes lows wants ceilings : List ℕ} → length nodes ≡ length cords → length lows ≡ length cords → length wants ≡ length cords → length ceilings ≡ length cords
-      → Loaded scale servers cords needed 0 nodes lows wants ceilings
-  loaded-none {nodes} {lows} {wants} {ceilings} n l w t =
+  pub loaded-none : {lows wants ceilings : List ℕ} → length lows ≡ length cords → length wants ≡ length cords → length ceilings ≡ length cords
+      → Loaded scale servers cords needed 0 lows wants ceilings
+  loaded-none {lows} {wants} {ceilings} l w t =
       record {
-        nodes-done = rw (← n) (filled-none _ nodes);
         lows-done = rw (← l) (filled-none _ lows);
         wants-done = rw (← w) (filled-none _ wants);
         ceilings-done = rw (← t) (filled-none _ ceilings);
       }
 
-  module _ {c : ℕ} {nodes lows wants ceilings : List ℕ} (loaded : Loaded scale servers cords needed c nodes lows wants ceilings) where
-    pub loaded-one : c < length cords → {share v node low want ceiling : ℕ} → share ≡ cell cords c shareColumn → v ≡ cell cords c serverColumn → node ≡ cell cords c nodeColumn
+  module _ {c : ℕ} {lows wants ceilings : List ℕ} (loaded : Loaded scale servers cords needed c lows wants ceilings) where
+    pub loaded-one : c < length cords → {share v low want ceiling : ℕ} → share ≡ cell cords c shareColumn → v ≡ cell cords c serverColumn
         → low ≡ carried scale share (cell servers v leastColumn) → want ≡ carried scale share (at needed v) → ceiling ≡ carried scale share (cell servers v greatestColumn)
-        → Loaded scale servers cords needed (c + 1) (set nodes c node) (set lows c low) (set wants c want) (set ceilings c ceiling)
-    loaded-one h {node = node} {low = low} {want = want} {ceiling = ceiling} part place n l w t =
+        → Loaded scale servers cords needed (c + 1) (set lows c low) (set wants c want) (set ceilings c ceiling)
+    loaded-one h {low = low} {want = want} {ceiling = ceiling} part place l w t =
         record {
-          nodes-done = filled-one node (loaded .nodes-done) h n;
           lows-done = filled-one low (loaded .lows-done) h (l ∙ ap₂ (λ (s v : ℕ). carried scale s (cell servers v leastColumn)) part place);
           wants-done = filled-one want (loaded .wants-done) h (w ∙ ap₂ (λ (s v : ℕ). carried scale s (at needed v)) part place);
           ceilings-done = filled-one ceiling (loaded .ceilings-done) h (t ∙ ap₂ (λ (s v : ℕ). carried scale s (cell servers v greatestColumn)) part place);
@@ -69,13 +65,9 @@ module _ {scale : ℕ} {servers cords : List (List ℕ)} {needed : List ℕ} whe
         filled-all (length (column shareColumn cords)) _ filled (sym n) (omega arith)
         (λ i q. ap₂ (λ (x y : ℕ). carried scale x y) (sym (column-at shareColumn cords i)) (same (cell cords i serverColumn) ∙ ap (at loads) (sym (column-at serverColumn cords i))))
 
-    pub loaded-all : length cords ≤ c → CordsLoaded scale servers cords needed nodes lows wants ceilings
+    pub loaded-all : length cords ≤ c → CordsLoaded scale servers cords needed lows wants ceilings
     loaded-all h =
-        let n = column-length nodeColumn cords in
         record {
-          nodes-are =
-              ext-getD 0 nodes (column nodeColumn cords) (loaded .nodes-done .size-is ∙ sym n)
-              (λ i q. loaded .nodes-done .done i (omega (arith, loaded .nodes-done .size-is)) ∙ sym (column-at nodeColumn cords i));
           lows-are = carried-all (column leastColumn servers) (loaded .lows-done) h (λ v. sym (column-at leastColumn servers v));
           wants-are = carried-all needed (loaded .wants-done) h (λ v. refl);
           ceilings-are = carried-all (column greatestColumn servers) (loaded .ceilings-done) h (λ v. sym (column-at greatestColumn servers v));
@@ -120,14 +112,13 @@ module _ {r : Room} {servers cords : List (List ℕ)} (of-servers : ServerRows r
               omega (arith, greatest-at of-servers v there, server-facts r ok v there .greatestTo);
         }
 
-    pub laid-out : {nodes lows wants ceilings : List ℕ} → CordsLoaded scale servers cords needed nodes lows wants ceilings → CordsLaidOut r demands cords nodes lows wants ceilings needed
+    pub laid-out : {lows wants ceilings : List ℕ} → CordsLoaded scale servers cords needed lows wants ceilings → CordsLaidOut r demands cords lows wants ceilings needed
     unfolding lowsOf firstWants ceilingsOf
     laid-out loaded =
         let least : List ℕ = figures (length (r .servers)) (λ v. serverAt r v .least) in
         let greatest : List ℕ = figures (length (r .servers)) (λ v. serverAt r v .greatest) in
         record {
           rows-are = of-cords;
-          nodes-are = loaded .nodes-are ∙ of-cords .nodes;
           lows-are = loaded .lows-are ∙ rw (scale-is, of-cords .shares, of-cords .servers, of-servers .leasts) (carried-is r least);
           wants-are = loaded .wants-are ∙ rw (scale-is, of-cords .shares, of-cords .servers, needs-is) (carried-is r (needs r demands));
           ceilings-are = loaded .ceilings-are ∙ rw (scale-is, of-cords .shares, of-cords .servers, of-servers .greatests) (carried-is r greatest);
@@ -136,7 +127,7 @@ module _ {r : Room} {servers cords : List (List ℕ)} (of-servers : ServerRows r
 
 -- ---- What the calls ask and leave, of a good table
 
-module _ {table demands : List ℕ} {cords₀ : List (List ℕ)} {nodes₀ lows₀ wants₀ ceilings₀ needs₀ : List ℕ} (lent : CordsLent table demands cords₀ nodes₀ lows₀ wants₀ ceilings₀ needs₀)
+module _ {table demands : List ℕ} {cords₀ : List (List ℕ)} {lows₀ wants₀ ceilings₀ needs₀ : List ℕ} (lent : CordsLent table demands cords₀ lows₀ wants₀ ceilings₀ needs₀)
     {servers cords : List (List ℕ)} (rows : OfRoom table (λ r. ServerRows r servers × CordRows r cords)) where
   abbrev room : Room
   room = lent .good-table .value
@@ -151,13 +142,13 @@ module _ {table demands : List ℕ} {cords₀ : List (List ℕ)} {nodes₀ lows�
 
   module _ {needed : List ℕ} (of-needs : needed ≡ needsFrom servers demands) {scale : ℕ} (scaled : ScaleIs table scale) where
     pub figures-asked : CordsLoadable scale servers cords needed
-        × ((length nodes₀ ≡ length cords) × (length lows₀ ≡ length cords) × (length wants₀ ≡ length cords) × (length ceilings₀ ≡ length cords))
+        × ((length lows₀ ≡ length cords) × (length wants₀ ≡ length cords) × (length ceilings₀ ≡ length cords))
     figures-asked =
         let k = cords-count (rows room _ read .1) in (
           loadable (rows room _ read .0) (rows room _ read .1) demands of-needs (accepted table room _ read) (scaled room _ read),
-          (lent .nodes-fit room _ read ∙ sym k, lent .lows-fit room _ read ∙ sym k, lent .wants-fit room _ read ∙ sym k, lent .ceilings-fit room _ read ∙ sym k),
+          (lent .lows-fit room _ read ∙ sym k, lent .wants-fit room _ read ∙ sym k, lent .ceilings-fit room _ read ∙ sym k),
         )
 
-    pub all-laid-out : {nodes lows wants ceilings : List ℕ} → CordsLoaded scale servers cords needed nodes lows wants ceilings
-        → OfRoom table (λ r. CordsLaidOut r demands cords nodes lows wants ceilings needed)
+    pub all-laid-out : {lows wants ceilings : List ℕ} → CordsLoaded scale servers cords needed lows wants ceilings
+        → OfRoom table (λ r. CordsLaidOut r demands cords lows wants ceilings needed)
     all-laid-out loaded r end is = laid-out (rows r end is .0) (rows r end is .1) demands of-needs (accepted table r end is) (scaled r end is) loaded

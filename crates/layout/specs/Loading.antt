@@ -5,7 +5,7 @@ use Prim.Native.Nat.{ℕ, min, max, _≤_, _<_}
 use lib.ListN.{length}
 use Rattle.figures.specs.Figures.{figures, at, cell, column}
 use Rattle.rooms.specs.Table.{IsScale, mostWatts}
-use Rattle.rooms.specs.Rows.{leastColumn, greatestColumn, nodeColumn, serverColumn, shareColumn, carriedFrom}
+use Rattle.rooms.specs.Rows.{leastColumn, greatestColumn, serverColumn, shareColumn, carriedFrom}
 
 -- The need of each server, by its row and its demand.
 abbrev pub needsFrom : List (List ℕ) → List ℕ → List ℕ
@@ -21,9 +21,8 @@ pub record CordsLoadable (scale : ℕ) (servers cords : List (List ℕ)) (needs 
   pub need-most : (v : ℕ) → v < length servers → at needs v ≤ mostWatts
   pub greatest-most : (v : ℕ) → v < length servers → cell servers v greatestColumn ≤ mostWatts
 
--- The lists have the node of each cord, and what it carries of its server's least, need and greatest.
-pub record CordsLoaded (scale : ℕ) (servers cords : List (List ℕ)) (needs nodes lows wants ceilings : List ℕ) : Type 0 where
-  pub nodes-are : nodes ≡ column nodeColumn cords
+-- The lists have what each cord carries of its server's least, need and greatest.
+pub record CordsLoaded (scale : ℕ) (servers cords : List (List ℕ)) (needs lows wants ceilings : List ℕ) : Type 0 where
   pub lows-are : lows ≡ carriedFrom scale (column shareColumn cords) (column serverColumn cords) (column leastColumn servers)
   pub wants-are : wants ≡ carriedFrom scale (column shareColumn cords) (column serverColumn cords) needs
   pub ceilings-are : ceilings ≡ carriedFrom scale (column shareColumn cords) (column serverColumn cords) (column greatestColumn servers)

@@ -3,11 +3,11 @@
 ghost use mathlib.Core.Path.{_≡_};
 ghost use Prim.Native.Nat.{ℕ, _+_, _≤_, _<_, min, max};
 ghost use lib.ListN.{length};
-ghost use Rattle.figures.specs.Figures.{at};
+ghost use Rattle.figures.specs.Figures.{at, column};
 ghost use Rattle.rooms.specs.Part.{Good};
 ghost use Rattle.rooms.specs.Limits.{lowsBeneath, checked};
 ghost use Rattle.rooms.specs.Lists.{parentsOf, limitsOf};
-ghost use Rattle.rooms.specs.Rows.{OfRoom, NodesFit, ServersFit};
+ghost use Rattle.rooms.specs.Rows.{OfRoom, NodesFit, ServersFit, nodeColumn};
 ghost use Rattle.layout.specs.Lists.{HasLowsBeneath, CordsLent, CordsLaidOut};
 ghost use Rattle.layout.specs.Loading.{needsFrom, CordsLoadable, CordsLoaded};
 use figures::index;
@@ -23,6 +23,8 @@ use rooms::lists::SHARE;
 use rooms::lists::lay_out_nodes;
 use rooms::lists::lay_out_servers;
 use rooms::lists::table_scale;
+
+pub mod room;
 
 // The most servers of a room.
 const MOST_SERVERS: usize = 512;
@@ -69,28 +71,26 @@ fn load_needs(servers: &[[u32; 4]], demands: &[u32], needs: &mut [u32])
     }
 }
 
-// The node of each cord, and what it carries of its server's least, need and greatest, by the rows.
+// What each cord carries of its server's least, need and greatest, by the rows.
 fn load_figures(
     servers: &[[u32; 4]],
     cords: &[[u16; 4]],
     needs: &[u32],
-    nodes: &mut [u16],
     lows: &mut [u32],
     wants: &mut [u32],
     ceilings: &mut [u32],
     scale: u32,
 )
     requires { ⌜ CordsLoadable scale (now servers) (now cords) (now needs) ⌝ }
-    requires { ⌜ (length (now nodes) ≡ length (now cords)) × (length (now lows) ≡ length (now cords)) × (length (now wants) ≡ length (now cords))
+    requires { ⌜ (length (now lows) ≡ length (now cords)) × (length (now wants) ≡ length (now cords))
         × (length (now ceilings) ≡ length (now cords)) ⌝ }
     ensures { λ _. ⌜ CordsLoaded scale (now (servers .entry)) (now (cords .entry)) (now (needs .entry))
-        (now (nodes .exit)) (now (lows .exit)) (now (wants .exit)) (now (ceilings .exit)) ⌝ }
+        (now (lows .exit)) (now (wants .exit)) (now (ceilings .exit)) ⌝ }
 {
     for c in 0..cords.len() {
         let cord = cords[c];
         let share = word16(cord[SHARE]);
         let v = index(cord[SERVER]);
-        nodes[c] = cord[NODE];
         lows[c] = carried_by(share, servers[v][LEAST], scale);
         wants[c] = carried_by(share, needs[v], scale);
         ceilings[c] = carried_by(share, servers[v][GREATEST], scale);
@@ -103,16 +103,15 @@ fn load_rows(
     demands: &[u32],
     servers: &mut [[u32; 4]],
     cords: &mut [[u16; 4]],
-    nodes: &mut [u16],
     lows: &mut [u32],
     wants: &mut [u32],
     ceilings: &mut [u32],
     needs: &mut [u32],
 )
-    requires { ⌜ CordsLent (now table) (now demands) (now cords) (now nodes) (now lows) (now wants) (now ceilings) (now needs) ⌝ }
+    requires { ⌜ CordsLent (now table) (now demands) (now cords) (now lows) (now wants) (now ceilings) (now needs) ⌝ }
     requires { ⌜ ServersFit (now table) (length (now servers)) ⌝ }
     ensures { λ _. ⌜ OfRoom (now (table .entry)) (λ r. CordsLaidOut r (now (demands .entry)) (now (cords .exit))
-        (now (nodes .exit)) (now (lows .exit)) (now (wants .exit)) (now (ceilings .exit)) (now (needs .exit))) ⌝ }
+        (now (lows .exit)) (now (wants .exit)) (now (ceilings .exit)) (now (needs .exit))) ⌝ }
 {
     lay_out_servers(table, servers, cords);
     load_needs(servers, demands, needs);
@@ -120,7 +119,6 @@ fn load_rows(
         servers,
         cords,
         needs,
-        nodes,
         lows,
         wants,
         ceilings,
@@ -128,21 +126,20 @@ fn load_rows(
     );
 }
 
-// The rows of a good table's cords, their nodes, lows, wants and ceilings, and its servers' needs by the demands, one a server; the wants are
+// The rows of a good table's cords, their lows, wants and ceilings, and its servers' needs by the demands, one a server; the wants are
 // those of the first deal.
 pub fn load_cords(
     table: &[u32],
     demands: &[u32],
     cords: &mut [[u16; 4]],
-    nodes: &mut [u16],
     lows: &mut [u32],
     wants: &mut [u32],
     ceilings: &mut [u32],
     needs: &mut [u32],
 )
-    requires { ⌜ CordsLent (now table) (now demands) (now cords) (now nodes) (now lows) (now wants) (now ceilings) (now needs) ⌝ }
+    requires { ⌜ CordsLent (now table) (now demands) (now cords) (now lows) (now wants) (now ceilings) (now needs) ⌝ }
     ensures { λ _. ⌜ OfRoom (now (table .entry)) (λ r. CordsLaidOut r (now (demands .entry)) (now (cords .exit))
-        (now (nodes .exit)) (now (lows .exit)) (now (wants .exit)) (now (ceilings .exit)) (now (needs .exit))) ⌝ }
+        (now (lows .exit)) (now (wants .exit)) (now (ceilings .exit)) (now (needs .exit))) ⌝ }
 {
     let mut servers = [[0u32; 4]; MOST_SERVERS];
     load_rows(
@@ -150,10 +147,19 @@ pub fn load_cords(
         demands,
         &mut servers[..demands.len()],
         cords,
-        nodes,
         lows,
         wants,
         ceilings,
         needs,
     )
+}
+
+// The node of each cord, by the rows.
+pub fn list_nodes(cords: &[[u16; 4]], nodes: &mut [u16])
+    requires { ⌜ length (now nodes) ≡ length (now cords) ⌝ }
+    ensures { λ _. ⌜ now (nodes .exit) ≡ column nodeColumn (now (cords .entry)) ⌝ }
+{
+    for c in 0..cords.len() {
+        nodes[c] = cords[c][NODE];
+    }
 }

@@ -10,7 +10,7 @@ use lib.Seq.{take-at}
 use lib.Dec.{ltb, eqb}
 use borrow.Author.Tests.{lt-ltb, le-ltb, ne-eqb, ltb-true, ltb-false, eqb-false}
 use Rattle.numbers.specs.Number.{Front, good, bad, above, later, number, groups, form}
-use Rattle.words.specs.Lists.{AllBelow}
+use Rattle.figures.specs.Bounds.{AllBelow}
 use Rattle.numbers.specs.declared.Fault.the-variants.{NotShortest}
 
 -- ---- the form

@@ -10,7 +10,7 @@ use lib.ListN.{length, set}
 use lib.Seq.{sets, set-set}
 use lib.Dec.{ltb}
 use borrow.Author.Tests.{ltb-true, ltb-false}
-use Rattle.words.proofs.Lists.{sets-append}
+use Rattle.figures.proofs.Stores.{sets-append}
 use Rattle.numbers.specs.Number.{form}
 use Rattle.numbers.specs.Followed.{Followed}
 use Rattle.numbers.proofs.NumberLaws.{groups-last, groups-more}

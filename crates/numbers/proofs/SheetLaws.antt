@@ -6,9 +6,9 @@ use native.Mathlib.Omega.{arith}
 use lib.ListN.{length, getD, drop, length-append, length-drop}
 use lib.Seq.{drop-append-seam, drop-cons}
 use borrow.Author.Tests.{lt-ltb, le-ltb, le-leb, lt-leb}
-use Rattle.words.specs.Lists.{AllBelow}
-use Rattle.words.proofs.Lists.{cons-below, drop-below, append-below}
-use Rattle.words.proofs.Search.{none-below, below-none}
+use Rattle.figures.specs.Bounds.{AllBelow}
+use Rattle.figures.proofs.Bounds.{cons-below, drop-below, append-below}
+use Rattle.figures.proofs.Search.{none-below, below-none}
 use Rattle.numbers.specs.Number.{Front, good, bad, number, form}
 use Rattle.numbers.specs.Sheet.{whole, Sheet, onto, sheetFrom, sheetOf, bytesOf, firstTooLarge, fitted, written}
 use Rattle.numbers.specs.declared.Written.the-variants.{Bytes, TooLarge, TooShort}

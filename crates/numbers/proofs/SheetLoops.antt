@@ -8,12 +8,13 @@ use lib.ListN.{length, getD, drop, set, length-append, length-drop, length-set, 
 use lib.Seq.{sets, length-sets, drop-drop}
 use Rattle.numbers.specs.Number.{Front, good, bad, number, decoded, form}
 use Rattle.numbers.specs.Sheet.{whole, onto, sheetFrom, sheetOf, answer, judged, bytesOf}
-use Rattle.words.specs.Lists.{AllBelow}
+use Rattle.figures.specs.Bounds.{AllBelow}
 use Rattle.numbers.specs.declared.Fault.{Fault}
 use Rattle.numbers.specs.declared.Decoded.the-variants.{Number, Refused}
 use Rattle.numbers.specs.declared.Judged.the-variants.{Words, Refused as Turned}
 use Rattle.numbers.proofs.NumberLaws.{Good, number-good, 1≤length-form, length-form≤4}
-use Rattle.words.proofs.Lists.{drop-below, sets-append}
+use Rattle.figures.proofs.Bounds.{drop-below}
+use Rattle.figures.proofs.Stores.{sets-append}
 use Rattle.numbers.proofs.SheetLaws.{sheetFrom-end, sheetFrom-some, bytesOf-drop}
 
 -- ---- `decode_sheet`: the numbers in front of `at` are stored; those from there on complete the answer and the list

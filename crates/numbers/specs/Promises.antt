@@ -4,7 +4,7 @@ use mathlib.Core.Path.{_≡_}
 use mathlib.Core.List.{List, _++_}
 use Prim.Native.Nat.{ℕ, _^_, _<_}
 use lib.ListN.{length, take}
-use Rattle.words.specs.Lists.{AllBelow}
+use Rattle.figures.specs.Bounds.{AllBelow}
 use Rattle.numbers.specs.Number.{good, number, form}
 use Rattle.numbers.specs.Sheet.{whole, sheetOf, bytesOf}
 

@@ -5,7 +5,7 @@ use Prim.Native.Nat.{ℕ, zero, suc, _+_}
 use lib.ListN.{length, drop}
 use lib.Seq.{sets}
 use lib.Dec.{ltb, leb}
-use Rattle.words.specs.Lists.{firstNotBelow}
+use Rattle.figures.specs.Bounds.{firstNotBelow}
 use Rattle.numbers.specs.declared.Fault.{Fault}
 use Rattle.numbers.specs.declared.Judged.{Judged}
 use Rattle.numbers.specs.declared.Judged.the-variants.{Words, Refused}

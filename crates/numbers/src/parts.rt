@@ -8,8 +8,8 @@ use crate::Judged;
 
 // Reads a sheet to its end or its first fault. The numbers go to the front of `words`, as many as it has space for.
 pub fn decode_sheet(sheet: &[u8], words: &mut [u32]) -> Judged
-    ensures { λ r. ⌜ r ≡ judged (sheetOf (now (sheet .entry))) ⌝ }
-    ensures { λ r. ⌜ now (words .exit) ≡ sets (now (words .entry)) 0 (sheetOf (now (sheet .entry)) .words) ⌝ }
+    ensures result { λ r. ⌜ r ≡ judged (sheetOf (now (sheet .entry))) ⌝ }
+    ensures words { λ r. ⌜ now (words .exit) ≡ sets (now (words .entry)) 0 (sheetOf (now (sheet .entry)) .words) ⌝ }
 {
     let mut at = 0;
     let mut count = 0;

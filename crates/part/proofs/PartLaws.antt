@@ -34,7 +34,7 @@ raised-lower n v (inr h) = go (v - n) refl
 -- ---- Lists
 
 module _ {A : Type 0} (f : A → A) where
-  map-same : ((x : A) → f x ≡ x) → (l : List A) → map f l ≡ l
+  pub map-same : ((x : A) → f x ≡ x) → (l : List A) → map f l ≡ l
   map-same e [] = refl
   map-same e (x ∷ l) = ap₂ _∷_ (e x) (map-same e l)
 

@@ -1,101 +1,107 @@
 -- What the call of Plan returns and leaves, from what the functions that it calls ensure.
-use mathlib.Core.Path.{_≡_, refl, sym, ap, ap₂, _∙_}
-use mathlib.Core.List.{List, [], _∷_, _++_}
-use Prim.Native.Nat.{ℕ, suc, _/_, _≤_, _<_, min}
+use mathlib.Core.Path.{_≡_, refl, sym, ap, _∙_}
+use mathlib.Core.List.{List, [], _∷_}
+use Prim.Native.Nat.{ℕ, _/_, _≤_, _<_}
 use native.Mathlib.Omega.{arith}
-use lib.ListN.{length, take, drop}
-use lib.Seq.{sets, length-take-le}
-use Rattle.words.specs.Bytes.{wordsOf, bytesOf}
-use Rattle.words.proofs.Bytes.{take-loaded}
+use lib.ListN.{length, take}
+use lib.Seq.{sets, length-sets, length-take-le, take-all}
+use Rattle.words.specs.Bytes.{bytesOf}
+use Rattle.figures.proofs.Stores.{take-sets}
 use Rattle.calls.specs.Call.{answered}
 use Rattle.calls.proofs.Calls.{answer-told, call-short, call-done}
-use Rattle.calls.proofs.Fronts.{bytes-after, count-fits, written-stored}
-use Rattle.rooms.specs.Table.{mostWords, mostServers, roomCords}
-use Rattle.rooms.proofs.Outcomes.{front-length}
-use Rattle.rooms.specs.Rows.{CordsFit}
+use Rattle.calls.proofs.Fronts.{bytes-after}
 use Rattle.outcomes.specs.Outcome.{accepted, refused, written, after}
-use Rattle.deals.specs.Plan.{Plan, PlanOutcome, plan, lent, answerOf, planNumber, planFigure}
+use Rattle.deals.specs.Plan.{Plan, planOf, PlanOutcome, plan, answerOf, planNumber, planFigure}
 use Rattle.deals.specs.declared.Lengths.{Lengths}
 use Rattle.deals.specs.declared.Planned.{Planned}
-use Rattle.deals.proofs.Plans.{Fits}
-use Rattle.deals.proofs.Lent.{plan-inputs-cut, Ample, plan-lists-cut, Written, plan-written}
-use Rattle.plan_bytes.specs.Call.{lentBytes, PlannedCall}
-use Rattle.plan_bytes.specs.Counts.{plannedCount}
+use Rattle.deals.specs.declared.Planned.the-variants as planned
+use Rattle.deals.specs.declared.PlanRefusal.{PlanRefusal}
+use Rattle.deals.proofs.Plans.{secondGrants-length, caps-length, headroom-length, held-length}
+use Rattle.deals.proofs.Lent.{Written, plan-written}
+use Rattle.rooms.specs.Table.{Room}
+use Rattle.layout.specs.declared.room.Counts.{Counts}
+use Rattle.layout.proofs.Loads.{servers-count, cords-count}
+use Rattle.plan_rooms.specs.Planning.{PlanLeft}
+use Rattle.plans.proofs.PlanCall.{Admitted}
+use Rattle.plan_bytes.specs.Call.{PlannedCall}
+use Rattle.plan_bytes.specs.Figures.{Front, FiguresLeft}
 
--- ---- What an outcome writes to a list
+-- ---- A plan in lists of words
 
--- It is as many entries as the count says, and fits the list.
-pub record Counted (output : Plan → List ℕ) (o : PlanOutcome) (count entries : ℕ) : Type 0 where
-  pub counts : length (written output o) ≡ plannedCount (answerOf o) count
-  pub fits : length (written output o) ≤ entries
-
-counted : (output : Plan → List ℕ) (count entries : ℕ) (o : PlanOutcome) → ((plan : Plan) → o ≡ accepted plan → Fits (output plan) count entries) → Counted output o count entries
-counted output count entries (accepted plan) h = let f = h plan refl in record { counts = f .count; fits = omega (arith, f .count, f .within) }
-counted output count entries (refused q) h = record { counts = refl; fits = omega arith }
-
--- So it is with each list of Plan: an entry for each cord, or for each demand.
-module _ (table demands : List ℕ) (lengths : Lengths) where
-  cords-counted : (output : Plan → List ℕ) (entries : ℕ) → ((p : Plan) (w : Written table demands lengths p) → Fits (output p) (roomCords (w .room)) entries)
-      → (cords : ℕ) → CordsFit table cords → Counted output (plan table demands lengths) cords entries
-  cords-counted output entries fits cords fit =
-      counted output cords entries (plan table demands lengths)
-      (λ p e. let w = plan-written table demands lengths e in rw (fit (w .room) (w .end) (w .isRoom)) (fits p w))
-
-  pub grants-counted : (cords : ℕ) → CordsFit table cords → Counted (λ p. p .grants) (plan table demands lengths) cords (lengths .grants)
-  grants-counted = cords-counted (λ p. p .grants) (lengths .grants) (λ p w. w .planning .grants)
-
-  pub caps-counted : Counted (λ p. p .caps) (plan table demands lengths) (length demands) (lengths .caps)
-  caps-counted =
-      counted (λ p. p .caps) (length demands) (lengths .caps) (plan table demands lengths)
-      (λ p e. let w = plan-written table demands lengths e in rw (w .planning .demandCount) (w .planning .caps))
-
-  pub headroom-counted : (cords : ℕ) → CordsFit table cords → Counted (λ p. p .headroom) (plan table demands lengths) cords (lengths .headroom)
-  headroom-counted = cords-counted (λ p. p .headroom) (lengths .headroom) (λ p w. w .planning .headroom)
-
-  pub held-counted : (cords : ℕ) → CordsFit table cords → Counted (λ p. p .held) (plan table demands lengths) cords (lengths .held)
-  held-counted = cords-counted (λ p. p .held) (lengths .held) (λ p w. w .planning .held)
-
--- ---- A list by way of words
-
--- As much of a list of words is lent as there is space in the bytes that it stands for.
-abbrev pub Space : (bytes list : List ℕ) (space : ℕ) → Type 0
-Space bytes list space = space ≡ min (length bytes / 4) (length list)
-
--- What Plan does with a list of words, of which the front is lent and becomes `front′`, and how much of it is stored as bytes.
-pub record Listed (output : Plan → List ℕ) (o : PlanOutcome) (bytes list : List ℕ) : Type 0 where
-  pub space : ℕ
-  pub front′ : List ℕ
-  pub stored : ℕ
-  pub spaceIs : Space bytes list space
-  pub frontIs : front′ ≡ sets (take space list) 0 (written output o)
-  pub fits : length (written output o) ≤ length (take space list)
-  pub storedIs : stored ≡ length (written output o)
-
-abbrev pub listed : {output : Plan → List ℕ} {o : PlanOutcome} {bytes list : List ℕ} {space count stored : ℕ} {planned : Planned} {front′ : List ℕ}
-    → Space bytes list space → Counted output o count (length (take space list)) → planned ≡ answerOf o → front′ ≡ after output o (take space list) → stored ≡ plannedCount planned count
-    → Listed output o bytes list
-listed {output} {o} {bytes} {list} {space} {count} {stored} {planned} {front′} r c is f n = record {
-  space = space;
-  front′ = front′;
-  stored = stored;
-  spaceIs = r;
-  frontIs = f;
-  fits = c .fits;
-  storedIs = n ∙ ap (λ (p : Planned). plannedCount p count) is ∙ sym (c .counts);
+-- What is stored at the front of a list stands there.
+front-stored : {n : ℕ} (list out : List ℕ) {list′ : List ℕ} → list′ ≡ sets list 0 out → n ≡ length out → n ≤ length list → Front n list′ out
+front-stored {n} list out is size h = record {
+  few = omega (arith, ap length is ∙ length-sets list 0 out);
+  is = ap (take n) is ∙ take-sets n list out h (omega (arith, size)) ∙ take-all n out (omega (arith, size));
 }
 
--- Just what was written is stored.
-module _ {output : Plan → List ℕ} {o : PlanOutcome} {bytes list : List ℕ} (l : Listed output o bytes list) where
-  pub list-fits : l .stored ≤ length (l .front′ ++ drop (l .space) list)
-  list-fits = count-fits list (l .space) (written output o) (l .fits) (l .frontIs) (l .storedIs)
+-- Accepted, the lists have the plan's at their fronts, so many as the room's counts say.
+module _ {table demands : List ℕ} {lengths : Lengths} {counts : Counts} (a : Admitted table demands lengths counts) where
+  abbrev room : Room
+  room = a .room-found .room
 
-  pub list-counted : l .stored ≡ length (take (l .stored) (l .front′ ++ drop (l .space) list))
-  list-counted = sym (length-take-le (l .stored) (l .front′ ++ drop (l .space) list) list-fits)
+  pub figures-accepted : {freed : ℕ} {granted capped lent holders granted′ capped′ lent′ holders′ : List ℕ} → PlanLeft room demands freed granted capped lent holders granted′ capped′ lent′ holders′
+      → counts .cords ≤ length granted → counts .servers ≤ length capped → counts .cords ≤ length lent → counts .cords ≤ length holders
+      → FiguresLeft (plan table demands lengths) (record { answer = planned.Accepted freed; cords = counts .cords; servers = counts .servers }) granted′ capped′ lent′ holders′
+  figures-accepted {freed} {granted} {capped} {lent} {holders} left hg hc hl hh =
+      let cords = cords-count (a .room-found) in
+      rw (a .is)
+      (record {
+        answer-is = ap planned.Accepted (left .freed-is);
+        grants-are = front-stored granted _ (left .grants-are) (cords ∙ sym (secondGrants-length room demands)) hg;
+        caps-are = front-stored capped _ (left .caps-are) (servers-count (a .room-found) ∙ sym (caps-length room demands)) hc;
+        headroom-is = front-stored lent _ (left .headroom-is) (cords ∙ sym (headroom-length room demands)) hl;
+        held-are = front-stored holders _ (left .held-are) (cords ∙ sym (held-length room demands)) hh;
+      })
 
-  pub list-stored : {bytes′ : List ℕ} → bytes′ ≡ sets bytes 0 (bytesOf (take (length bytes / 4) (take (l .stored) (l .front′ ++ drop (l .space) list))))
-      → bytes′ ≡ after (λ p. bytesOf (output p)) o bytes
-  list-stored b =
-      written-stored list (l .space) (written output o) (l .fits) (l .frontIs) (l .storedIs) bytes (l .spaceIs) b ∙ bytes-after output o bytes
+-- Refused, nothing is written.
+pub figures-refused : (outcome : PlanOutcome) {q : PlanRefusal} → outcome ≡ refused q → (granted capped lent holders : List ℕ)
+    → FiguresLeft outcome (record { answer = planned.Refused q; cords = 0; servers = 0 }) granted capped lent holders
+figures-refused outcome e granted capped lent holders =
+    rw e
+    (record {
+      answer-is = refl;
+      grants-are = none granted;
+      caps-are = none capped;
+      headroom-is = none lent;
+      held-are = none holders;
+    })
+  where
+    none : (list : List ℕ) → Front 0 list []
+    none list = record { few = omega arith; is = refl }
+
+-- ---- Its lists in bytes
+
+-- What an outcome writes to a list fits the list.
+module _ (table demands : List ℕ) (lengths : Lengths) where
+  fitting : (output : Plan → List ℕ) (entries : ℕ) → ((p : Plan) → Written table demands lengths p → length (output p) ≤ entries)
+      → length (written output (plan table demands lengths)) ≤ entries
+  fitting output entries fits = go (plan table demands lengths) refl
+    where
+      go : (o : PlanOutcome) → plan table demands lengths ≡ o → length (written output o) ≤ entries
+      go (accepted p) e = fits p (plan-written table demands lengths e)
+      go (refused q) e = omega arith
+
+  pub grants-fit : length (written (λ p. p .grants) (plan table demands lengths)) ≤ lengths .grants
+  grants-fit = fitting (λ p. p .grants) (lengths .grants) (λ p w. omega (arith, w .planning .grants .count, w .planning .grants .within))
+
+  pub caps-fit : length (written (λ p. p .caps) (plan table demands lengths)) ≤ lengths .caps
+  caps-fit = fitting (λ p. p .caps) (lengths .caps) (λ p w. omega (arith, w .planning .caps .count, w .planning .caps .within))
+
+  pub headroom-fits : length (written (λ p. p .headroom) (plan table demands lengths)) ≤ lengths .headroom
+  headroom-fits = fitting (λ p. p .headroom) (lengths .headroom) (λ p w. omega (arith, w .planning .headroom .count, w .planning .headroom .within))
+
+  pub held-fit : length (written (λ p. p .held) (plan table demands lengths)) ≤ lengths .held
+  held-fit = fitting (λ p. p .held) (lengths .held) (λ p w. omega (arith, w .planning .held .count, w .planning .held .within))
+
+-- Just what is written is stored.
+pub list-stored : (output : Plan → List ℕ) (o : PlanOutcome) (bytes : List ℕ) {n : ℕ} {list bytes′ : List ℕ} → Front n list (written output o)
+    → length (written output o) ≤ length bytes / 4 → bytes′ ≡ sets bytes 0 (bytesOf (take (length bytes / 4) (take n list)))
+    → bytes′ ≡ after (λ p. bytesOf (output p)) o bytes
+list-stored output o bytes f fits b =
+    b
+    ∙ ap (λ (l : List ℕ). sets bytes 0 (bytesOf l)) (ap (take (length bytes / 4)) (f .is) ∙ take-all (length bytes / 4) (written output o) fits)
+    ∙ bytes-after output o bytes
 
 -- ---- The call
 
@@ -117,35 +123,3 @@ pub plan-done : (outcome : PlanOutcome) (grants caps headroom held answer : List
 plan-done outcome grants caps headroom held answer long is g c h d k v a =
     call-done _ answer _ (omega arith) (record { grants-after = g; caps-after = c; headroom-after = h; held-after = d })
     (answer-told answer (k ∙ ap planNumber is) (v ∙ ap planFigure is) a)
-
--- A call of the same outcome.
-pub call-same : {own outcome : PlanOutcome} {grants caps headroom held answer grants′ caps′ headroom′ held′ answer′ : List ℕ} {r : ℕ} → own ≡ outcome
-    → PlannedCall own grants caps headroom held answer r grants′ caps′ headroom′ held′ answer′ → PlannedCall outcome grants caps headroom held answer r grants′ caps′ headroom′ held′ answer′
-call-same same call = rw same at call
-
--- What is lent of a list of words is as long as the list, cut to the space in its bytes.
-space-length : (bytes list : List ℕ) {space : ℕ} → Space bytes list space → length (take space list) ≡ min (length bytes / 4) (length list)
-space-length bytes list r = sym (front-length (length bytes / 4) list r) ∙ r
-
--- Plan in lists of words that take every answer comes to the same as in the bytes.
-pub same-plan : (table demands grants granted caps capped headroom lentWords held holders : List ℕ) {grantsSpace capsSpace headroomSpace heldSpace : ℕ}
-    → Ample (lent granted capped lentWords holders)
-    → Space grants granted grantsSpace → Space caps capped capsSpace → Space headroom lentWords headroomSpace → Space held holders heldSpace
-    → plan table demands (lent (take grantsSpace granted) (take capsSpace capped) (take headroomSpace lentWords) (take heldSpace holders))
-    ≡ plan table demands (lentBytes grants caps headroom held)
-same-plan table demands grants granted caps capped headroom lentWords held holders ample g c h d =
-    rw (space-length grants granted g, space-length caps capped c, space-length headroom lentWords h, space-length held holders d)
-    (plan-lists-cut table demands (lentBytes grants caps headroom held) (lent granted capped lentWords holders) ample)
-
--- ---- Its table and demands
-
--- Plan of what `load` takes of a table and of demands.
-pub plan-loaded : (table words demands figures : List ℕ) (lengths : Lengths) {wordCount figureCount : ℕ} {words′ figures′ : List ℕ}
-    → suc mostWords ≤ length words → suc mostServers ≤ length figures
-    → wordCount ≡ min (length table / 4) (length words) → words′ ≡ sets words 0 (wordsOf table)
-    → figureCount ≡ min (length demands / 4) (length figures) → figures′ ≡ sets figures 0 (wordsOf demands)
-    → plan (take wordCount words′) (take figureCount figures′) lengths ≡ plan (wordsOf table) (wordsOf demands) lengths
-plan-loaded table words demands figures lengths {wordCount} {figureCount} {words′} {figures′} hw hf nw w nf f =
-    ap₂ (λ (t d : List ℕ). plan t d lengths)
-    (take-loaded (length words) wordCount table words words′ refl nw w) (take-loaded (length figures) figureCount demands figures figures′ refl nf f)
-    ∙ plan-inputs-cut (wordsOf table) (wordsOf demands) (length words) (length figures) lengths hw hf

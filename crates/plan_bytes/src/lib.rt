@@ -1,17 +1,18 @@
 // Plan called from C: bytes to words, the operation, words and the answer to bytes.
-ghost use mathlib.Core.Path.{_≡_};
-ghost use Prim.Native.Nat.{suc, _≤_};
+ghost use Prim.Native.Nat.{_≤_};
 ghost use lib.ListN.{length};
 ghost use Rattle.words.specs.Bytes.{wordsOf};
-ghost use Rattle.rooms.specs.Table.{mostServers, mostCords, mostWords};
+ghost use Rattle.rooms.specs.Table.{mostServers, mostCords};
+ghost use Rattle.deals.specs.Plan.{plan};
 ghost use Rattle.plan_bytes.specs.Call.{PlanCall};
-ghost use Rattle.plan_bytes.specs.Counts.{plannedCount};
+ghost use Rattle.plan_bytes.specs.Figures.{FiguresLeft};
 use calls::ANSWER_BYTES;
+use deals::Lengths;
 use deals::Planned;
-use demands::DECIDING_DEMANDS;
-use rooms::DECIDING_WORDS;
-use rooms::lists::cord_count;
-use words::least;
+use layout::room::load_bytes;
+use plan_rooms::plan_loaded;
+use plans::Admission;
+use plans::admit;
 
 // A plan writes at most one entry a cord, or one a server, to each list.
 const MOST_CORDS: usize = 1024;
@@ -33,124 +34,31 @@ pub fn plan_bytes(
         (now (grants .entry)) (now (caps .entry)) (now (headroom .entry)) (now (held .entry)) (now (answer .entry))
         r (now (grants .exit)) (now (caps .exit)) (now (headroom .exit)) (now (held .exit)) (now (answer .exit)) ⌝ }
 {
-    let mut words = [0u32; DECIDING_WORDS];
-    let mut figures = [0u32; DECIDING_DEMANDS];
-    plan_loaded(
-        table,
-        &mut words,
-        demands,
-        &mut figures,
-        grants,
-        caps,
-        headroom,
-        held,
-        answer,
-    )
-}
-
-// Plan by way of lists of words, which take the first of the table and of the demands.
-fn plan_loaded(
-    table: &[u8],
-    words: &mut [u32],
-    demands: &[u8],
-    figures: &mut [u32],
-    grants: &mut [u8],
-    caps: &mut [u8],
-    headroom: &mut [u8],
-    held: &mut [u8],
-    answer: &mut [u8],
-) -> u32
-    requires words { ⌜ suc mostWords ≤ length (now words) ⌝ }
-    requires figures { ⌜ suc mostServers ≤ length (now figures) ⌝ }
-    ensures called { λ r. ⌜ PlanCall (wordsOf (now (table .entry))) (wordsOf (now (demands .entry)))
-        (now (grants .entry)) (now (caps .entry)) (now (headroom .entry)) (now (held .entry)) (now (answer .entry))
-        r (now (grants .exit)) (now (caps .exit)) (now (headroom .exit)) (now (held .exit)) (now (answer .exit)) ⌝ }
-{
-    let word_count = words::load(table, words);
-    let figure_count = words::load(demands, figures);
-    plan_words(
-        &words[..word_count],
-        &figures[..figure_count],
-        grants,
-        caps,
-        headroom,
-        held,
-        answer,
-    )
-}
-
-// Plan of a table and demands in words.
-fn plan_words(
-    table: &[u32],
-    demands: &[u32],
-    grants: &mut [u8],
-    caps: &mut [u8],
-    headroom: &mut [u8],
-    held: &mut [u8],
-    answer: &mut [u8],
-) -> u32
-    ensures called { λ r. ⌜ PlanCall (now (table .entry)) (now (demands .entry))
-        (now (grants .entry)) (now (caps .entry)) (now (headroom .entry)) (now (held .entry)) (now (answer .entry))
-        r (now (grants .exit)) (now (caps .exit)) (now (headroom .exit)) (now (held .exit)) (now (answer .exit)) ⌝ }
-{
+    if answer.len() < ANSWER_BYTES {
+        return 0;
+    }
     let mut granted = [0u32; MOST_CORDS];
     let mut capped = [0u32; MOST_SERVERS];
     let mut lent = [0u32; MOST_CORDS];
     let mut holders = [0u32; MOST_CORDS];
-    plan_by(
+    let lengths = Lengths {
+        grants: grants.len() / 4,
+        caps: caps.len() / 4,
+        headroom: headroom.len() / 4,
+        held: held.len() / 4,
+    };
+    let figures = plan_figures(
         table,
         demands,
+        lengths,
         &mut granted,
-        grants,
         &mut capped,
-        caps,
         &mut lent,
-        headroom,
         &mut holders,
-        held,
-        answer,
-    )
-}
-
-// Plan by way of a list of words for each of the caller's, of which no more are lent than that has space for.
-fn plan_by(
-    table: &[u32],
-    demands: &[u32],
-    granted: &mut [u32],
-    grants: &mut [u8],
-    capped: &mut [u32],
-    caps: &mut [u8],
-    lent: &mut [u32],
-    headroom: &mut [u8],
-    holders: &mut [u32],
-    held: &mut [u8],
-    answer: &mut [u8],
-) -> u32
-    requires granted { ⌜ mostCords ≤ length (now granted) ⌝ }
-    requires capped { ⌜ mostServers ≤ length (now capped) ⌝ }
-    requires lent { ⌜ mostCords ≤ length (now lent) ⌝ }
-    requires holders { ⌜ mostCords ≤ length (now holders) ⌝ }
-    ensures called { λ r. ⌜ PlanCall (now (table .entry)) (now (demands .entry))
-        (now (grants .entry)) (now (caps .entry)) (now (headroom .entry)) (now (held .entry)) (now (answer .entry))
-        r (now (grants .exit)) (now (caps .exit)) (now (headroom .exit)) (now (held .exit)) (now (answer .exit)) ⌝ }
-{
-    if answer.len() < ANSWER_BYTES {
-        return 0;
-    }
-    let grants_space = least(grants.len() / 4, granted.len());
-    let caps_space = least(caps.len() / 4, capped.len());
-    let headroom_space = least(headroom.len() / 4, lent.len());
-    let held_space = least(held.len() / 4, holders.len());
-    let planned = plans::plan(
-        table,
-        demands,
-        &mut granted[..grants_space],
-        &mut capped[..caps_space],
-        &mut lent[..headroom_space],
-        &mut holders[..held_space],
     );
-    let cords = planned_count(planned, cord_count(table));
-    let servers = planned_count(planned, demands.len());
+    let planned = figures.answer;
+    let cords = figures.cords;
+    let servers = figures.servers;
     words::store(&granted[..cords], grants);
     words::store(&capped[..servers], caps);
     words::store(&lent[..cords], headroom);
@@ -159,12 +67,70 @@ fn plan_by(
     1
 }
 
-// How many entries a plan wrote to a list with one for each of `count` cords or servers: none where refused.
-fn planned_count(planned: Planned, count: usize) -> usize
-    ensures { λ r. ⌜ r ≡ plannedCount planned count ⌝ }
+// What a plan in lists of words comes to: its answer, and how many cords and servers these have figures of, none where refused.
+struct PlannedFigures {
+    answer: Planned,
+    cords: usize,
+    servers: usize,
+}
+
+// Plan of a table and demands in bytes, at the fronts of lists of words that take any plan, for lists of given lengths. No word of the
+// table or of the demands stands in memory while the deals are made.
+fn plan_figures(
+    table: &[u8],
+    demands: &[u8],
+    lengths: Lengths,
+    granted: &mut [u32],
+    capped: &mut [u32],
+    lent: &mut [u32],
+    holders: &mut [u32],
+) -> PlannedFigures
+    requires cords { ⌜ (mostCords ≤ length (now granted)) × (mostCords ≤ length (now lent)) × (mostCords ≤ length (now holders)) ⌝ }
+    requires servers { ⌜ mostServers ≤ length (now capped) ⌝ }
+    ensures planned { λ r. ⌜ FiguresLeft (plan (wordsOf (now (table .entry))) (wordsOf (now (demands .entry))) lengths) r
+        (now (granted .exit)) (now (capped .exit)) (now (lent .exit)) (now (holders .exit)) ⌝ }
 {
-    match planned {
-        Planned::Accepted(_) => count,
-        Planned::Refused(_) => 0,
+    let mut parents = [0u16; 512];
+    let mut left = [0u32; 512];
+    let mut cords = [[0u16; 4]; 1024];
+    let mut lows = [0u32; 1024];
+    let mut wants = [0u32; 1024];
+    let loaded = load_bytes(
+        table,
+        demands,
+        &mut parents,
+        &mut left,
+        &mut cords,
+        &mut lows,
+        &mut wants,
+        lent,
+        capped,
+    );
+    let admission = admit(loaded, lengths);
+    match admission {
+        Admission::Good(counts) => {
+            let freed = plan_loaded(
+                counts,
+                &parents,
+                &cords,
+                &mut lows,
+                &mut wants,
+                &mut left,
+                granted,
+                capped,
+                lent,
+                holders,
+            );
+            PlannedFigures {
+                answer: Planned::Accepted(freed),
+                cords: counts.cords,
+                servers: counts.servers,
+            }
+        }
+        Admission::Refused(refusal) => PlannedFigures {
+            answer: Planned::Refused(refusal),
+            cords: 0,
+            servers: 0,
+        },
     }
 }

@@ -19,31 +19,31 @@ use Rattle.deals.specs.Held as holding
 use Rattle.deals.proofs.RoomDeals.{nodesOf-length}
 use Rattle.deals.proofs.BothDeals.{cord-facts}
 use Rattle.deals.proofs.RoomHeadroom.{ceilings-count, ceilings-most, wants-ceilings}
-use Rattle.headroom.specs.Lending.{LendGiven}
-use Rattle.holders.specs.Holding.{HeldLists, heldFrom}
-use Rattle.holders.proofs.Naming.{held-second}
+use Rattle.plan_headroom.specs.Lending.{LendGiven}
+use Rattle.plan_holders.specs.Holding.{HeldLists, heldFrom}
+use Rattle.plan_holders.proofs.Naming.{held-second}
 use Rattle.layout.proofs.Rows.{cords-count, node-at}
-use Rattle.plan_rooms.specs.Planning.{RoomLists, DealtTwice, PlanMade}
+use Rattle.plan_rooms.specs.Planning.{RoomToDeal, DealtTwice, PlanMade}
 use Rattle.plan_rooms.proofs.Planning.{lists-second, levels-nodes, levels-cords, second-dealt}
 
 -- ---- After both deals
 
 module _ {r : Room} (ok : Accepted r) {demands parents spare : List ℕ} {cords : List (List ℕ)} {nodes lows wants needed : List ℕ} {scale : ℕ}
-    (of : RoomLists r demands parents spare cords nodes lows wants needed scale)
+    (of : RoomToDeal r demands parents spare cords nodes lows wants needed scale)
     {watts : ℕ} {given left cuts grants caps : List ℕ}
     (dealt : DealtTwice r demands watts given left cuts grants caps) where
   given-count : length given ≡ length cords
   unfolding secondWants wantsAfter
-  given-count = ap length (dealt .wants-are) ∙ figures-length (roomCords r) _ ∙ sym (cords-count (of .cords-are .rows-are))
+  given-count = ap length (dealt .wants-are) ∙ figures-length (roomCords r) _ ∙ sym (cords-count (of .lists .cords-are .rows-are))
 
   grants-count : length grants ≡ length cords
   unfolding secondDeal dealOf dealFrom granted
-  grants-count = ap length (dealt .made .grants-are) ∙ figures-length (length (nodesOf r)) _ ∙ nodesOf-length r ∙ sym (cords-count (of .cords-are .rows-are))
+  grants-count = ap length (dealt .made .grants-are) ∙ figures-length (length (nodesOf r)) _ ∙ nodesOf-length r ∙ sym (cords-count (of .lists .cords-are .rows-are))
 
   -- What naming the holders asks.
   pub held-lists : length cuts ≡ length parents → HeldLists parents cuts cords given grants
   held-lists size =
-      let rows = of .cords-are .rows-are in
+      let rows = of .lists .cords-are .rows-are in
       let of-nodes = levels-nodes ok of in
       let of-cords = levels-cords ok of in
       record {
@@ -64,10 +64,10 @@ module _ {r : Room} (ok : Accepted r) {demands parents spare : List ℕ} {cords 
   unfolding secondDeal dealOf dealFrom
   lend-given e size =
       let n = nodesOf-length r in
-      rw (e, of .parents-are, of .cords-are .nodes-are, dealt .wants-are)
+      rw (e, of .lists .parents-are, of .nodes-are, dealt .wants-are)
       (record {
         lists = lists-second ok of;
-        left-size = size ∙ ap length (of .parents-are);
+        left-size = size ∙ ap length (of .lists .parents-are);
         left-is = dealt .made .left-is;
         ceilings-size = ceilings-count r ok demands ∙ sym n;
         wanted = λ c l. wants-ceilings r ok demands c (omega (arith, n));
@@ -77,8 +77,8 @@ module _ {r : Room} (ok : Accepted r) {demands parents spare : List ℕ} {cords 
   -- The plan, from what both leave.
   held-are : HeldLists parents cuts cords given grants → heldFrom parents cuts cords given grants ≡ holding.held r demands
   held-are =
-      rw (of .parents-are, dealt .wants-are)
-      (λ lists. held-second r demands lists (of .cords-are .rows-are) (second-dealt ok of (dealt .made)) (dealt .made .cuts-are))
+      rw (of .lists .parents-are, dealt .wants-are)
+      (λ lists. held-second r demands lists (of .lists .cords-are .rows-are) (second-dealt ok of (dealt .made)) (dealt .made .cuts-are))
 
   pub plan-made : {ceilings headroom held : List ℕ} → HeldLists parents cuts cords given grants → ceilings ≡ ceilingsOf r
       → headroom ≡ headroomOver (dealFrom parents (limitsOf r) nodes (levelsOf r) (lowsOf r) (firstUsed r demands) given) (at ceilings)
@@ -89,6 +89,6 @@ module _ {r : Room} (ok : Accepted r) {demands parents spare : List ℕ} {cords 
     freed-is = dealt .freed-is;
     grants-are = second-dealt ok of (dealt .made);
     caps-are = dealt .caps-are;
-    headroom-is = lent ∙ rw (e, of .parents-are, of .cords-are .nodes-are, dealt .wants-are);
+    headroom-is = lent ∙ rw (e, of .lists .parents-are, of .nodes-are, dealt .wants-are);
     held-are = named ∙ held-are lists;
   }

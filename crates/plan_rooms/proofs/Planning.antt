@@ -9,9 +9,8 @@ use lib.Dec.{eqb, ltb}
 use lib.ListN.{length, take, replicate}
 use lib.Seq.{getD-take}
 use Rattle.rooms.specs.Table.{Room, roomCords, mostNodes}
-use Rattle.rooms.specs.Part.{Good}
-use Rattle.rooms.specs.Limits.{checked, hangsBeneath}
-use Rattle.rooms.proofs.Accepted.{Accepted, accepted}
+use Rattle.rooms.specs.Limits.{hangsBeneath}
+use Rattle.rooms.proofs.Accepted.{Accepted}
 use Rattle.rooms.proofs.Trees.{under}
 use Rattle.figures.specs.Figures.{figures, at, column, sumOf}
 use Rattle.figures.proofs.Columns.{column-at}
@@ -30,19 +29,16 @@ use Rattle.deals.proofs.RoomDeals.{dealOf-is, parentsOf-length, limitsOf-length
 use Rattle.deals.proofs.BothDeals.{cord-facts, lowsOf-length, carriedBy-length, lows-under, grants-way, firstWants-lows, first-starts, firstUsed-granted, first-dealable, second-dealable}
 use Rattle.deals.proofs.Bounds.{bounded}
 use Rattle.deals.proofs.StartsFit.{first-fit, second-fit}
-use Rattle.levels.specs.Levels.{LevelLists, RoomCords}
-use Rattle.levels.proofs.Cells.{zeros-front}
-use Rattle.deal_by_rank.specs.Ranks.{DealLists, wattsUnder, Spare, Raisable, DealGiven, DealMade, Uncut}
-use Rattle.reclaim.specs.Reclaimed.{ServerLists, usableFrom, usedFrom, strandedFrom, wantsFrom, freedFrom}
-use Rattle.reclaim.proofs.Reclaiming.{usable-lists}
-use Rattle.rooms.specs.Rows.{NodesFit, CordRows, nodeColumn, serverColumn, levelColumn, shareColumn}
+use Rattle.deals.specs.Levels.{LevelLists, RoomCords}
+use Rattle.figures.proofs.Cells.{zeros-front}
+use Rattle.deals.specs.Ranks.{DealLists, wattsUnder, Spare, DealGiven, DealMade, Uncut}
+use Rattle.plan_reclaim.specs.Raising.{Raisable}
+use Rattle.plan_reclaim.specs.Reclaimed.{ServerLists, usableFrom, usedFrom, strandedFrom, wantsFrom, freedFrom}
+use Rattle.plan_reclaim.proofs.Reclaiming.{usable-lists}
+use Rattle.rooms.specs.Rows.{CordRows, nodeColumn, serverColumn, levelColumn, shareColumn}
 use Rattle.layout.proofs.Rows.{cords-count, server-at, share-at}
 use Rattle.layout.proofs.Loading.{carried-is}
-use Rattle.plan_rooms.specs.Planning.{RoomLists}
-
--- A good table has no more nodes than a room may have.
-pub nodes-few : (table : List ℕ) → Good (checked table 0) → {n : ℕ} → NodesFit table n → n ≤ mostNodes
-nodes-few table g fit = omega (arith, fit (g .value) (g .next) (g .is), accepted table (g .value) (g .next) (g .is) .fewNodes)
+use Rattle.plan_rooms.specs.Planning.{RoomToDeal}
 
 -- No node is marked as cut in a list of zeros.
 pub blank-marks : {n size : ℕ} → n ≤ mostNodes → n ≡ size → Uncut size (take n (replicate mostNodes 0))
@@ -116,20 +112,20 @@ module _ (r : Room) where
 -- ---- Both deals
 
 module _ {r : Room} (ok : Accepted r) {demands parents spare : List ℕ} {cords : List (List ℕ)} {nodes lows wants needed : List ℕ} {scale : ℕ}
-    (of : RoomLists r demands parents spare cords nodes lows wants needed scale) where
+    (of : RoomToDeal r demands parents spare cords nodes lows wants needed scale) where
   abbrev rows : CordRows r cords
-  rows = of .cords-are .rows-are
+  rows = of .lists .cords-are .rows-are
 
   pub needs-size : length needed ≡ length (r .servers)
   unfolding needs
-  needs-size = ap length (of .cords-are .needs-are) ∙ figures-length (length (r .servers)) _
+  needs-size = ap length (of .lists .cords-are .needs-are) ∙ figures-length (length (r .servers)) _
 
   pub cord-count : length cords ≡ length nodes
-  cord-count = cords-count rows ∙ sym (ap length (of .cords-are .nodes-are) ∙ nodesOf-length r)
+  cord-count = cords-count rows ∙ sym (ap length (of .nodes-are) ∙ nodesOf-length r)
 
   pub wants-count : length wants ≡ length nodes
   unfolding firstWants
-  wants-count = ap length (of .cords-are .wants-are) ∙ carriedBy-length r (needs r demands) ∙ sym (ap length (of .cords-are .nodes-are) ∙ nodesOf-length r)
+  wants-count = ap length (of .lists .cords-are .wants-are) ∙ carriedBy-length r (needs r demands) ∙ sym (ap length (of .nodes-are) ∙ nodesOf-length r)
 
   pub lists-first : DealLists (parentsOf r) (limitsOf r) (nodesOf r) (levelsOf r) (lowsOf r) (lowsOf r) (firstWants r demands)
   unfolding firstDeal firstWants
@@ -147,13 +143,13 @@ module _ {r : Room} (ok : Accepted r) {demands parents spare : List ℕ} {cords 
 
   -- What is asked of the levels, and what they leave.
   pub levels-nodes : (length parents ≤ mostNodes) × ((m : ℕ) → m < length parents → at parents m ≤ m)
-  levels-nodes = rw (of .parents-are) (lists-first .of-nodes .few, lists-first .of-nodes .rises)
+  levels-nodes = rw (of .lists .parents-are) (lists-first .of-nodes .few, lists-first .of-nodes .rises)
 
   pub levels-cords : RoomCords (length parents) cords
   levels-cords =
       let n = nodesOf-length r in
       let count : (c : ℕ) → c < length cords → c < length (nodesOf r) = λ c l. omega (arith, cords-count rows) in
-      rw (of .parents-are)
+      rw (of .lists .parents-are)
       (record {
         few = omega (arith, cords-count rows, ok .fewCords);
         within = λ c l.
@@ -165,23 +161,23 @@ module _ {r : Room} (ok : Accepted r) {demands parents spare : List ℕ} {cords 
   -- What the limits have over the lows.
   spared : Spare parents (limitsOf r) nodes lows spare
   spared =
-      rw (of .parents-are, of .cords-are .nodes-are, of .cords-are .lows-are)
+      rw (of .lists .parents-are, of .nodes-are, of .lists .cords-are .lows-are)
       (record {
-        size = of .spare-size ∙ ap length (of .parents-are);
-        over = λ n l. omega (arith, of .spare-is n (omega (arith, parentsOf-length r)), lows-under r ok n);
+        size = of .lists .spare-size ∙ ap length (of .lists .parents-are);
+        over = λ n l. omega (arith, of .lists .spare-is n (omega (arith, parentsOf-length r)), lows-under r ok n);
       })
 
   module _ {left starts : List ℕ} (spare-again : left ≡ spare) (used : starts ≡ firstUsed r demands) where
     -- It is enough for the used watts.
     pub raisable : Raisable parents nodes lows starts left
     raisable =
-        let l = of .cords-are in
-        let lists : DealLists parents (limitsOf r) nodes (levelsOf r) lows starts (secondWants r demands) = rw (of .parents-are, l .nodes-are, l .lows-are, used) lists-second in
-        let within : (n : ℕ) → n < length parents → wattsUnder parents nodes starts n ≤ at (limitsOf r) n = rw (of .parents-are, l .nodes-are, used) (used-within r ok demands) in
+        let l = of .lists .cords-are in
+        let lists : DealLists parents (limitsOf r) nodes (levelsOf r) lows starts (secondWants r demands) = rw (of .lists .parents-are, of .nodes-are, l .lows-are, used) lists-second in
+        let within : (n : ℕ) → n < length parents → wattsUnder parents nodes starts n ≤ at (limitsOf r) n = rw (of .lists .parents-are, of .nodes-are, used) (used-within r ok demands) in
         record {
           few-nodes = lists .of-nodes .few;
           few = lists .of-cords .few;
-          left-size = ap length spare-again ∙ of .spare-size;
+          left-size = ap length spare-again ∙ of .lists .spare-size;
           lows-size = lists .of-cords .lows-size;
           starts-size = lists .of-cords .starts-size;
           rises = lists .of-nodes .rises;
@@ -196,40 +192,40 @@ module _ {r : Room} (ok : Accepted r) {demands parents spare : List ℕ} {cords 
     pub raised : {after : List ℕ} → length after ≡ length left → ((n : ℕ) → n < length parents → at after n + wattsUnder parents nodes starts n ≡ at left n + wattsUnder parents nodes lows n)
         → Spare parents (limitsOf r) nodes starts after
     raised kept over = record {
-      size = kept ∙ ap length spare-again ∙ of .spare-size;
+      size = kept ∙ ap length spare-again ∙ of .lists .spare-size;
       over = λ n l. over n l ∙ ap (λ (s : List ℕ). at s n + wattsUnder parents nodes lows n) spare-again ∙ spared .over n l;
     }
 
   module _ {bounds : List (List ℕ)} {order : List ℕ} {actives : List (List ℕ)} (listed : LevelLists parents (column nodeColumn cords) (column levelColumn cords) bounds order actives) where
     by-level : LevelLists parents nodes (levelsOf r) bounds order actives
-    by-level = rw (of .cords-are .nodes-are, sym (rows .nodes), sym (rows .levels)) listed
+    by-level = rw (of .nodes-are, sym (rows .nodes), sym (rows .levels)) listed
 
     -- What each deal asks.
     pub first-given : DealGiven parents bounds order actives nodes lows wants spare (limitsOf r) (levelsOf r) lows
     first-given =
-        let l = of .cords-are in
-        record { lists = rw (of .parents-are, l .nodes-are, l .lows-are, l .wants-are) lists-first; by-level = by-level; spared = spared }
+        let l = of .lists .cords-are in
+        record { lists = rw (of .lists .parents-are, of .nodes-are, l .lows-are, l .wants-are) lists-first; by-level = by-level; spared = spared }
 
     pub second-given : {left starts given : List ℕ} → starts ≡ firstUsed r demands → given ≡ secondWants r demands → Spare parents (limitsOf r) nodes starts left
         → DealGiven parents bounds order actives nodes starts given left (limitsOf r) (levelsOf r) lows
     second-given es ew over =
-        let l = of .cords-are in
-        record { lists = rw (of .parents-are, l .nodes-are, l .lows-are, es, ew) lists-second; by-level = by-level; spared = over }
+        let l = of .lists .cords-are in
+        record { lists = rw (of .lists .parents-are, of .nodes-are, l .lows-are, es, ew) lists-second; by-level = by-level; spared = over }
 
   -- What each leaves.
   module _ {left cuts grants : List ℕ} where
     pub first-made : DealMade (dealFrom parents (limitsOf r) nodes (levelsOf r) lows lows wants) left cuts grants → grants ≡ firstGrants r demands
     unfolding firstGrants firstDeal dealOf
     first-made made =
-        let l = of .cords-are in
-        made .grants-are ∙ rw (of .parents-are, l .nodes-are, l .lows-are, l .wants-are)
+        let l = of .lists .cords-are in
+        made .grants-are ∙ rw (of .lists .parents-are, of .nodes-are, l .lows-are, l .wants-are)
 
     pub second-made : {starts given : List ℕ} → starts ≡ firstUsed r demands → given ≡ secondWants r demands
         → DealMade (dealFrom parents (limitsOf r) nodes (levelsOf r) lows starts given) left cuts grants → DealMade (secondDeal r demands) left cuts grants
     unfolding secondDeal dealOf
     second-made {starts} {given} es ew made =
-        let l = of .cords-are in
-        let same : dealFrom parents (limitsOf r) nodes (levelsOf r) lows starts given ≡ secondDeal r demands = rw (of .parents-are, l .nodes-are, l .lows-are, es, ew) in
+        let l = of .lists .cords-are in
+        let same : dealFrom parents (limitsOf r) nodes (levelsOf r) lows starts given ≡ secondDeal r demands = rw (of .lists .parents-are, of .nodes-are, l .lows-are, es, ew) in
         subst (λ (d : Deal). DealMade d left cuts grants) same made
 
     pub second-dealt : DealMade (secondDeal r demands) left cuts grants → grants ≡ secondGrants r demands
@@ -246,12 +242,12 @@ module _ {r : Room} (ok : Accepted r) {demands parents spare : List ℕ} {cords 
         grants-size = g ∙ sym cord-count;
         within = λ c h. omega (arith, server-at rows c, cord-facts r ok c (omega arith) .0, needs-size);
         parts = λ c h. omega (arith, of .scale-is, share-at rows c, cord-facts r ok c (omega arith) .3);
-        most = λ v h. rw (of .cords-are .needs-are) (bounded r ok demands .needs v (omega (arith, needs-size)));
+        most = λ v h. rw (of .lists .cords-are .needs-are) (bounded r ok demands .needs v (omega (arith, needs-size)));
       }
 
   pub usable-are : (grants : List ℕ) {watts : List ℕ} → watts ≡ usableFrom scale (column shareColumn cords) (column serverColumn cords) needed grants → watts ≡ usable r (needs r demands) grants
   usable-are grants e =
-      e ∙ rw (of .scale-is, rows .shares, rows .servers) (usable-is r needed grants needs-size) ∙ ap (λ (n : List ℕ). usable r n grants) (of .cords-are .needs-are)
+      e ∙ rw (of .scale-is, rows .shares, rows .servers) (usable-is r needed grants needs-size) ∙ ap (λ (n : List ℕ). usable r n grants) (of .lists .cords-are .needs-are)
 
   -- After the first deal, with its grants and what the servers can use of them.
   module _ {grants watts : List ℕ} (dealt : grants ≡ firstGrants r demands) (by : watts ≡ usableFrom scale (column shareColumn cords) (column serverColumn cords) needed grants) where
@@ -270,7 +266,7 @@ module _ {r : Room} (ok : Accepted r) {demands parents spare : List ℕ} {cords 
     pub second-wants : {given : List ℕ} → given ≡ wantsFrom (usedFrom scale (column shareColumn cords) (column serverColumn cords) watts) grants wants → given ≡ secondWants r demands
     unfolding secondWants
     second-wants e =
-        e ∙ rw (first-used refl, dealt, of .cords-are .wants-are) (wants-is r (firstUsed r demands) (firstGrants r demands) used-size (firstWants r demands))
+        e ∙ rw (first-used refl, dealt, of .lists .cords-are .wants-are) (wants-is r (firstUsed r demands) (firstGrants r demands) used-size (firstWants r demands))
 
   -- After the second: the caps.
   pub caps-are : {grants caps : List ℕ} → grants ≡ secondGrants r demands → caps ≡ usableFrom scale (column shareColumn cords) (column serverColumn cords) needed grants

@@ -1,27 +1,23 @@
-// Both deals of a good table with its servers' demands, and what follows them.
+// Both deals of a room that is loaded, and what follows them.
 // Private to Plan: no operation stands here.
 ghost use mathlib.Core.Path.{_≡_};
 ghost use mathlib.Core.List.{List};
 ghost use Prim.Native.Nat.{ℕ, _≤_};
 ghost use lib.ListN.{length};
-ghost use Rattle.rooms.specs.Part.{Good, good};
-ghost use Rattle.rooms.specs.Table.{Room, mostNodes};
+ghost use Rattle.rooms.specs.Part.{good};
+ghost use Rattle.rooms.specs.Table.{Room};
 ghost use Rattle.rooms.specs.Limits.{checked};
-ghost use Rattle.plan_rooms.specs.Planning.{RoomLists, SomeRoom, DealtTwice, Planning};
-ghost use Rattle.deal_by_rank.specs.Ranks.{Uncut};
-ghost use Rattle.layout.specs.Lists.{HasLowsBeneath};
-ghost use Rattle.rooms.specs.Rows.{ServersFit, CordsFit};
-use deal_by_rank::deal;
-use deal_by_rank::raise::raise_starts;
-use headroom::lend;
-use holders::name_holders;
-use layout::load_cords;
-use layout::load_nodes;
-use levels::list_levels;
-use reclaim::reclaim;
-use reclaim::usable_of;
-use rooms::lists::node_count;
-use rooms::lists::table_scale;
+ghost use Rattle.plan_rooms.specs.Planning.{RoomToDeal, SomeRoom, DealtTwice, PlanGiven, SomePlan, PlanLeft};
+ghost use Rattle.deals.specs.Ranks.{Uncut};
+use deals::by_rank::deal;
+use deals::levels::list_levels;
+use layout::list_nodes;
+use layout::room::Counts;
+use plan_headroom::lend;
+use plan_holders::name_holders;
+use plan_reclaim::raise::raise_starts;
+use plan_reclaim::reclaim;
+use plan_reclaim::usable_of;
 
 // Both deals, in turn: the first starts from the cords' lows, the second from the watts in use after it. Gives the watts freed between
 // them. `left` comes with what each limit has over the lows beneath it, and leaves with what it has over the second deal's Requests;
@@ -38,9 +34,12 @@ fn deal_twice(
     caps: &mut [u32],
     scale: u32,
 ) -> u64
-    requires { ⌜ SomeRoom (now parents) (now left) (now cords) (now nodes) (now lows) (now wants) (now caps) scale ⌝ }
-    requires { ⌜ Uncut (length (now parents)) (now cuts) × (length (now grants) ≡ length (now nodes)) ⌝ }
-    ensures { λ freed. ⌜ ((table demands : List ℕ) (r : Room) (end : ℕ) → checked table 0 ≡ good r end → RoomLists r demands (now (parents .entry)) (now (left .entry)) (now (cords .entry)) (now (nodes .entry)) (now (lows .entry)) (now (wants .entry)) (now (caps .entry)) scale → DealtTwice r demands freed (now (wants .exit)) (now (left .exit)) (now (cuts .exit)) (now (grants .exit)) (now (caps .exit))) ⌝ }
+    requires room { ⌜ SomeRoom (now parents) (now left) (now cords) (now nodes) (now lows) (now wants) (now caps) scale ⌝ }
+    requires blank { ⌜ Uncut (length (now parents)) (now cuts) × (length (now grants) ≡ length (now nodes)) ⌝ }
+    ensures dealt { λ freed. ⌜ ((table demands : List ℕ) (r : Room) (end : ℕ) → checked table 0 ≡ good r end
+        → RoomToDeal r demands (now (parents .entry)) (now (left .entry)) (now (cords .entry)) (now (nodes .entry)) (now (lows .entry))
+        (now (wants .entry)) (now (caps .entry)) scale
+        → DealtTwice r demands freed (now (wants .exit)) (now (left .exit)) (now (cuts .exit)) (now (grants .exit)) (now (caps .exit))) ⌝ }
 {
     let mut levels = [[0u16; 4]; 16];
     let mut order = [0u16; 1024];
@@ -52,8 +51,8 @@ fn deal_twice(
     let n = parents.len();
     let k = nodes.len();
     let v = caps.len();
-    words::copy(left, &mut spare[..n]);
-    words::copy(caps, &mut usable[..v]);
+    figures::copy(left, &mut spare[..n]);
+    figures::copy(caps, &mut usable[..v]);
     list_levels(parents, cords, &mut levels, &mut order[..k], &mut actives);
     deal(
         parents,
@@ -69,7 +68,7 @@ fn deal_twice(
     );
     usable_of(cords, grants, &mut usable[..v], scale);
     let freed = reclaim(cords, &usable[..v], grants, &mut used[..k], wants, scale);
-    words::copy(&spare[..n], left);
+    figures::copy(&spare[..n], left);
     raise_starts(parents, nodes, lows, &used[..k], left);
     deal(
         parents,
@@ -87,44 +86,34 @@ fn deal_twice(
     freed
 }
 
-// The plan of a good table with a demand for each server, in lists with one entry for each cord, and of the caps for each server; gives
-// the freed watts. `beneath` has the lows beneath each node, as the check of the table leaves them. Until the deals are made, `caps` have
-// the servers' needs, and `headroom` the cords' ceilings until it is lent. After the deals the lows are lent to `lend` for figures of its
-// own.
-pub fn plan_room(
-    table: &[u32],
-    demands: &[u32],
-    beneath: &[u64],
+// The plan of a room that is loaded, at the fronts of lists with an entry for each cord, and of the caps for each server; gives the freed
+// watts. `caps` come with the servers' needs, and `headroom` with the cords' ceilings. Once both deals are made, the lows are lent to
+// `lend` for figures of its own.
+pub fn plan_loaded(
+    counts: Counts,
+    parents: &[u16],
+    cords: &[[u16; 4]],
+    lows: &mut [u32],
+    wants: &mut [u32],
+    left: &mut [u32],
     grants: &mut [u32],
     caps: &mut [u32],
     headroom: &mut [u32],
     held: &mut [u32],
 ) -> u64
-    requires { ⌜ Good (checked (now table) 0) ⌝ }
-    requires { ⌜ ServersFit (now table) (length (now demands)) × CordsFit (now table) (length (now grants)) × ServersFit (now table) (length (now caps)) × CordsFit (now table) (length (now headroom)) × CordsFit (now table) (length (now held)) ⌝ }
-    requires { ⌜ (mostNodes ≤ length (now beneath)) × HasLowsBeneath (now table) (now beneath) ⌝ }
-    ensures { λ r. ⌜ Planning (now (table .entry)) (now (demands .entry)) r (now (grants .exit)) (now (caps .exit)) (now (headroom .exit)) (now (held .exit)) ⌝ }
+    requires room { ⌜ SomePlan counts (now parents) (now left) (now cords) (now lows) (now wants) (now headroom) (now caps) ⌝ }
+    requires space { ⌜ (counts .cords ≤ length (now grants)) × (counts .cords ≤ length (now held)) ⌝ }
+    ensures planned { λ freed. ⌜ ((table demands : List ℕ) (r : Room) → PlanGiven table demands r counts (now (parents .entry))
+        (now (left .entry)) (now (cords .entry)) (now (lows .entry)) (now (wants .entry)) (now (headroom .entry)) (now (caps .entry))
+        → PlanLeft r demands freed (now (grants .entry)) (now (caps .entry)) (now (headroom .entry)) (now (held .entry))
+        (now (grants .exit)) (now (caps .exit)) (now (headroom .exit)) (now (held .exit))) ⌝ }
 {
-    let mut parents = [0u16; 512];
-    let mut left = [0u32; 512];
-    let mut cuts = [0u16; 512];
-    let mut cords = [[0u16; 4]; 1024];
     let mut nodes = [0u16; 1024];
-    let mut lows = [0u32; 1024];
-    let mut wants = [0u32; 1024];
-    let n = node_count(table);
-    let k = grants.len();
-    load_nodes(table, &beneath[..n], &mut parents[..n], &mut left[..n]);
-    load_cords(
-        table,
-        demands,
-        &mut cords[..k],
-        &mut nodes[..k],
-        &mut lows[..k],
-        &mut wants[..k],
-        headroom,
-        caps,
-    );
+    let mut cuts = [0u16; 512];
+    let n = counts.nodes;
+    let v = counts.servers;
+    let k = counts.cords;
+    list_nodes(&cords[..k], &mut nodes[..k]);
     let freed = deal_twice(
         &parents[..n],
         &cords[..k],
@@ -133,17 +122,17 @@ pub fn plan_room(
         &mut wants[..k],
         &mut left[..n],
         &mut cuts[..n],
-        grants,
-        caps,
-        table_scale(table),
+        &mut grants[..k],
+        &mut caps[..v],
+        counts.scale,
     );
     name_holders(
         &parents[..n],
         &cuts[..n],
         &cords[..k],
         &wants[..k],
-        grants,
-        held,
+        &grants[..k],
+        &mut held[..k],
     );
     lend(
         &parents[..n],
@@ -151,7 +140,7 @@ pub fn plan_room(
         &wants[..k],
         &mut left[..n],
         &mut lows[..k],
-        headroom,
+        &mut headroom[..k],
     );
     freed
 }

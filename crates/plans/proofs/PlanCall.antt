@@ -1,169 +1,228 @@
 -- Plan in the code's terms: what its checks come to, in their order, and what it leaves in its lists.
-use mathlib.Core.Path.{_≡_, refl, sym, ap, _∙_}
-use mathlib.Core.Bool.{true, false, not}
+use mathlib.Core.Path.{_≡_, refl, sym, ap, ap₂, _∙_}
+use mathlib.Core.Bool.{Bool, true, false, not}
 use mathlib.Core.List.{List, [], _∷_, _++_}
 use Prim.Native.Nat.{ℕ, _≤_, _<_}
 use native.Mathlib.Omega.{arith}
-use lib.ListN.{length, drop}
-use lib.Seq.{take-all}
-use borrow.Author.Tests.{eq-eqb, ne-eqb, lt-ltb, le-ltb}
-use Rattle.outcomes.specs.Outcome.{accepted, refused, tooShort, unless, after}
-use Rattle.outcomes.proofs.Outcomes.{unless-stop, unless-pass}
-use Rattle.words.proofs.Lists.{sets-front}
-use Rattle.rooms.specs.Part.{good, Good}
-use Rattle.rooms.specs.Table.{Room, mostNodes, roomCords}
-use Rattle.rooms.specs.Limits.{checked, lowsTold}
-use Rattle.rooms.specs.Told.{told}
-use Rattle.rooms.specs.declared.Checked.{Checked}
-use Rattle.rooms.specs.declared.Checked.the-variants as checks
-use Rattle.rooms.specs.declared.Refusal.{Refusal}
-use Rattle.rooms.proofs.Found.{nodeLows-at, lowsTold-length}
-use Rattle.rooms.proofs.Accepted as rooms
-use Rattle.rooms.proofs.Steps.{known}
-use Rattle.rooms.proofs.Outcomes.{refused-so}
-use Rattle.figures.specs.Figures.{at}
-use Rattle.deals.specs.Plan.{Plan, planOf, PlanOutcome, firstTooLarge, PlanReason, countDiffers, demandTooLarge, reasons, plan, answerOf}
-use Rattle.rooms.specs.Rows.{ServersFit, CordsFit}
-use Rattle.layout.specs.Lists.{HasLowsBeneath}
+use lib.Dec.{eqb, ltb}
+use lib.ListN.{length, take, drop}
+use lib.Seq.{sets, length-sets, take-all}
+use borrow.Author.Tests.{ltb-false, lt-ltb, le-ltb}
+use Rattle.outcomes.specs.Outcome.{Outcome, accepted, refused, Reason, tooShort, unless, after}
+use Rattle.outcomes.proofs.Outcomes.{accepted≢refused, accepted-is, unless-stop, unless-pass, unless-back, unless-none, unless-is}
+use Rattle.figures.proofs.Lists.{figures-length}
+use Rattle.figures.proofs.Stores.{sets-front, take-sets, drop-sets}
+use Rattle.rooms.specs.Part.{Step, good, bad}
+use Rattle.rooms.specs.Table.{Room, roomCords}
+use Rattle.rooms.specs.Limits.{checked}
+use Rattle.rooms.proofs.Accepted.{Accepted}
+use Rattle.deals.specs.Wants.{needs}
+use Rattle.deals.specs.Plan.{Plan, planOf, PlanOutcome, PlanReason, firstTooLarge, countDiffers, demandTooLarge, reasons, plan, answerOf}
 use Rattle.deals.specs.declared.Lengths.{Lengths}
 use Rattle.deals.specs.declared.PlanList.{PlanList}
 use Rattle.deals.specs.declared.PlanRefusal.{PlanRefusal}
-use Rattle.deals.specs.declared.PlanRefusal.the-variants.{Table, DemandCount, DemandTooLarge, ListTooShort}
+use Rattle.deals.specs.declared.PlanRefusal.the-variants.{ListTooShort}
 use Rattle.deals.specs.declared.Planned.the-variants as planned
-use Rattle.deals.proofs.Plans.{planRoom-is, plan-bad-table, plan-good-table, secondGrants-length, caps-length}
-use Rattle.deals.proofs.Lent.{plan-written}
-use Rattle.plans.specs.Admission.{admission}
+use Rattle.deals.proofs.RoomHeadroom.{ceilings-count}
+use Rattle.deals.proofs.Plans.{planRoom-is, plan-bad-table, plan-good-table}
+use Rattle.layout.specs.Room.{LoadOutcome, loadReasons, loading, countsOf, loadedOf, RoomLoaded}
+use Rattle.layout.specs.declared.room.Counts.{Counts}
+use Rattle.layout.specs.declared.room.Loaded.{Loaded}
+use Rattle.layout.specs.declared.room.Loaded.the-variants as loads
+use Rattle.layout.specs.declared.room.LoadRefusal.{LoadRefusal}
+use Rattle.layout.proofs.Loads.{loading-good, loading-bad, RoomFound, outcome-found}
+use Rattle.plan_rooms.specs.Planning.{PlanGiven}
+use Rattle.plans.specs.Admission.{refusalOf, listReasons, admitting, admission}
 use Rattle.plans.specs.declared.Admission.the-variants as admitted
 
--- ---- What the table's check tells
+-- ---- The checks behind the loading, in their order
 
--- The check tells a good table and the count of its cords.
-pub table-good : (table : List ℕ) {answer : Checked} {v j : ℕ} → answer ≡ told roomCords (checked table 0) → answer ≡ checks.Good v j → Good (checked table 0)
-table-good table d e = let k = known roomCords (checked table 0) d e in record { value = k .got; next = _; is = k .is }
+module _ (loaded : Loaded) (lengths : Lengths) where
+  -- These reasons to refuse are left, and decide.
+  pub record Left (counts : Counts) (rest : List PlanReason) : Type 0 where
+    pub is : admitting loaded lengths ≡ unless rest counts
 
-pub cords-told : (table : List ℕ) {answer : Checked} {v j : ℕ} → answer ≡ told roomCords (checked table 0) → answer ≡ checks.Good v j → CordsFit table v
-unfolding told
-cords-told table {answer = answer} {v = v} d e r end is = let t : answer ≡ checks.Good (roomCords r) end = d ∙ rw is in cc
+  -- A refusal of the loading stands.
+  pub loading-told : {q : LoadRefusal} {p : PlanRefusal} → loaded ≡ loads.Refused q → p ≡ refusalOf q → admitted.Refused p ≡ admission (admitting loaded lengths)
+  unfolding admitting
+  loading-told e is = rw (e, is) refl
 
--- The list that the check hands out has a place for each node, and there the lows beneath it.
-pub lows-long : (table list : List ℕ) → list ≡ lowsTold (checked table 0) → mostNodes ≡ length list
-lows-long table list e = sym (ap length e ∙ lowsTold-length (checked table 0))
+  -- Of a room that is loaded all reasons are left.
+  pub loading-passed : {counts : Counts} → loaded ≡ loads.Good counts → Left counts (listReasons counts lengths)
+  unfolding admitting
+  loading-passed e = record { is = ap (λ (l : Loaded). admitting l lengths) e }
 
-pub lows-told : (table list : List ℕ) → list ≡ lowsTold (checked table 0) → HasLowsBeneath table list
-unfolding lowsTold
-lows-told table list e r end is n l =
-    ap (λ (x : List ℕ). at x n) (e ∙ ap lowsTold is) ∙ nodeLows-at r n (omega (arith, rooms.accepted table r end is .fewNodes))
+  -- A list is too short, and that is told; or it is not, and the others are left.
+  module _ {counts : Counts} {list : PlanList} {entries needed : ℕ} {rest : List PlanReason} (left : Left counts (tooShort (ListTooShort list) entries needed ∷ rest)) where
+    pub short-told : entries < needed → admitted.Refused (ListTooShort list needed) ≡ admission (admitting loaded lengths)
+    short-told h = rw (left .is ∙ unless-stop (tooShort (ListTooShort list) entries needed) rest counts (lt-ltb entries needed h)) refl
 
--- A list as long as another one that fits.
-pub cords-fit : (table : List ℕ) {m n : ℕ} → m ≡ n → CordsFit table n → CordsFit table m
-cords-fit table e h r end is = e ∙ h r end is
-
-pub servers-fit : (table : List ℕ) {m n : ℕ} → m ≡ n → ServersFit table n → ServersFit table m
-servers-fit table e h r end is = e ∙ h r end is
-
--- ---- The checks, in their order
-
--- A refusal is told.
-refused-told : (outcome : PlanOutcome) {q : PlanRefusal} → outcome ≡ refused q → admitted.Refused q ≡ admission outcome
-refused-told outcome e = rw e refl
-
--- The table's refusal stands.
-pub table-told : (table demands : List ℕ) (lengths : Lengths) {answer : Checked} {q : Refusal} → answer ≡ told roomCords (checked table 0)
-    → answer ≡ checks.Refused q → admitted.Refused (Table q) ≡ admission (plan table demands lengths)
-table-told table demands lengths d e = refused-told _ (plan-bad-table table demands lengths _ (refused-so roomCords (checked table 0) d e))
-
--- These reasons to refuse are left, of those of a good table's room, and decide.
-pub record Left (table demands : List ℕ) (lengths : Lengths) (room : Room) (rest : List PlanReason) : Type 0 where
-  pub is : plan table demands lengths ≡ unless rest (planOf room demands)
-
-module _ {table demands : List ℕ} {lengths : Lengths} where
-  -- Of a good table all are left.
-  pub table-passed : (g : Good (checked table 0)) → Left table demands lengths (g .value) (reasons (g .value) demands lengths)
-  table-passed g = record { is = plan-good-table table demands lengths (g .value) (g .next) (g .is) ∙ planRoom-is (g .value) demands lengths }
-
-  -- A reason holds, and its refusal is told; or it does not, and the others are left.
-  module _ {room : Room} {reason : PlanReason} {rest : List PlanReason} (left : Left table demands lengths room (reason ∷ rest)) where
-    stopped : reason .holds ≡ true → admitted.Refused (reason .refusal) ≡ admission (plan table demands lengths)
-    stopped h = refused-told (plan table demands lengths) (left .is ∙ unless-stop reason rest (planOf room demands) h)
-
-    passed : reason .holds ≡ false → Left table demands lengths room rest
-    passed h = record { is = left .is ∙ unless-pass reason rest (planOf room demands) h }
-
-  -- The count of demands.
-  module _ {room : Room} {rest : List PlanReason} (left : Left table demands lengths room (countDiffers room demands ∷ rest)) (n : ℕ) (is : n ≡ length (room .servers)) where
-    pub count-told : (length demands ≡ n → ⊥) → admitted.Refused (DemandCount n) ≡ admission (plan table demands lengths)
-    count-told h = ap (λ (k : ℕ). admitted.Refused (DemandCount k)) is ∙ stopped left (ap not (ne-eqb (length demands) (length (room .servers)) (λ e. h (e ∙ sym is))))
-
-    pub count-passed : length demands ≡ n → Left table demands lengths room rest
-    count-passed h = passed left (ap not (eq-eqb (length demands) (length (room .servers)) (h ∙ is)))
-
-  -- The demands themselves.
-  module _ {room : Room} {rest : List PlanReason} (left : Left table demands lengths room (demandTooLarge demands ∷ rest)) (n : ℕ) (is : n ≡ firstTooLarge demands) where
-    pub large-told : n < length demands → admitted.Refused (DemandTooLarge n) ≡ admission (plan table demands lengths)
-    large-told h = ap (λ (k : ℕ). admitted.Refused (DemandTooLarge k)) is ∙ stopped left (lt-ltb (firstTooLarge demands) (length demands) (omega arith))
-
-    pub large-passed : length demands ≤ n → Left table demands lengths room rest
-    large-passed h = passed left (le-ltb (firstTooLarge demands) (length demands) (omega arith))
-
-  -- Any list.
-  module _ {room : Room} {list : PlanList} {entries needed : ℕ} {rest : List PlanReason} (left : Left table demands lengths room (tooShort (ListTooShort list) entries needed ∷ rest)) (n : ℕ)
-      (is : n ≡ needed) where
-    pub short-told : entries < n → admitted.Refused (ListTooShort list n) ≡ admission (plan table demands lengths)
-    short-told h = ap (λ (k : ℕ). admitted.Refused (ListTooShort list k)) is ∙ stopped left (lt-ltb entries needed (omega arith))
-
-    pub list-passed : n ≤ entries → Left table demands lengths room rest
-    list-passed h = passed left (le-ltb entries needed (omega arith))
+    pub list-passed : needed ≤ entries → Left counts rest
+    list-passed h = record { is = left .is ∙ unless-pass (tooShort (ListTooShort list) entries needed) rest counts (le-ltb entries needed h) }
 
   -- No reason is left.
-  pub all-passed : {room : Room} → Left table demands lengths room [] → (cords servers : ℕ) → cords ≡ roomCords room → servers ≡ length (room .servers)
-      → admitted.Good cords servers ≡ admission (plan table demands lengths)
-  unfolding unless
-  all-passed {room} left cords servers cordCount serverCount =
-      let grants : length (planOf room demands .grants) ≡ cords = secondGrants-length room demands ∙ sym cordCount in
-      let caps : length (planOf room demands .caps) ≡ servers = caps-length room demands ∙ sym serverCount in
-      rw (left .is, grants, caps) refl
+  pub all-passed : {counts : Counts} → Left counts [] → admitted.Good counts ≡ admission (admitting loaded lengths)
+  all-passed {counts} left = rw (left .is ∙ unless-none counts) refl
+
+-- ---- Plan, by what was loaded and admitted
+
+-- What reasons come to, they come to whatever is to be accepted.
+module _ {A B R : Type 0} (a : A) (b : B) where
+  other-accepted : (reasons : List (Reason R)) {given : A} → unless reasons a ≡ accepted given → unless reasons b ≡ accepted b
+  other-accepted [] e = unless-none b
+  other-accepted (reason ∷ rest) e =
+      let u = unless-back reason rest a e in
+      unless-pass reason rest b (u .0) ∙ other-accepted rest (u .1)
+
+  other-refused : (reasons : List (Reason R)) {q : R} → unless reasons a ≡ refused q → unless reasons b ≡ refused q
+  other-refused [] e = absurd (accepted≢refused (sym (unless-none a) ∙ e))
+  other-refused (reason ∷ rest) {q} e = go (reason .holds) refl (λ h. other-refused rest h)
+    where
+      go : (t : Bool) → reason .holds ≡ t → (unless rest a ≡ refused q → unless rest b ≡ refused q) → unless (reason ∷ rest) b ≡ refused q
+      go true h others =
+          let same : _≡_ {A = Outcome A R} (refused (reason .refusal)) (refused q) = sym (unless-stop reason rest a h) ∙ e in
+          let is : reason .refusal ≡ q = cc in
+          unless-stop reason rest b h ∙ ap refused is
+      go false h others = unless-pass reason rest b h ∙ others (sym (unless-pass reason rest a h) ∙ e)
+
+-- Plan, where a room is loaded: the other reasons decide. Where it is not, its refusal stands.
+module _ (table demands : List ℕ) (lengths : Lengths) where
+  room-planned : {r : Room} → loading table demands ≡ accepted r → plan table demands lengths ≡ unless (listReasons (countsOf r) lengths) (planOf r demands)
+  room-planned {r} e =
+      let f = outcome-found table demands e in
+      let is : checked table 0 ≡ good r (f .end) = f .is ∙ ap (λ (x : Room). good x (f .end)) (accepted-is (sym (f .accepts) ∙ e)) in
+      let first = unless-back _ _ r (sym (loading-good table demands is) ∙ e) in
+      let second = unless-back _ _ r (first .1) in
+      plan-good-table table demands lengths r (f .end) is
+      ∙ planRoom-is r demands lengths
+      ∙ unless-pass (countDiffers r demands) _ (planOf r demands) (first .0)
+      ∙ unless-pass (demandTooLarge demands) _ (planOf r demands) (second .0)
+
+  refusal-planned : {q : LoadRefusal} → loading table demands ≡ refused q → plan table demands lengths ≡ refused (refusalOf q)
+  refusal-planned {q} e = go (checked table 0) refl
+    where
+      same : {p : LoadRefusal} → loading table demands ≡ refused p → p ≡ q
+      same d = let h : _≡_ {A = LoadOutcome} (refused _) (refused q) = sym d ∙ e in cc
+
+      in-room : (r : Room) (end : ℕ) → checked table 0 ≡ good r end → (count large : Bool) → not (eqb (length demands) (length (r .servers))) ≡ count
+          → ltb (firstTooLarge demands) (length demands) ≡ large → unless (reasons r demands lengths) (planOf r demands) ≡ refused (refusalOf q)
+      in-room r end is true large c l =
+          unless-stop (countDiffers r demands) _ (planOf r demands) c ∙ ap (λ (p : LoadRefusal). refused (refusalOf p)) (same (loading-good table demands is ∙ unless-stop _ _ r c))
+      in-room r end is false true c l =
+          unless-pass (countDiffers r demands) _ (planOf r demands) c
+          ∙ unless-stop (demandTooLarge demands) _ (planOf r demands) l
+          ∙ ap (λ (p : LoadRefusal). refused (refusalOf p)) (same (loading-good table demands is ∙ unless-pass _ _ r c ∙ unless-stop _ _ r l))
+      in-room r end is false false c l =
+          absurd (accepted≢refused (sym (loading-good table demands is ∙ unless-pass _ _ r c ∙ unless-pass _ _ r l ∙ unless-none r) ∙ e))
+
+      go : (s : Step Room) → checked table 0 ≡ s → plan table demands lengths ≡ refused (refusalOf q)
+      go (good r end) is =
+          plan-good-table table demands lengths r end is ∙ planRoom-is r demands lengths ∙ in-room r end is _ _ refl refl
+      go (bad p) is = plan-bad-table table demands lengths p is ∙ ap (λ (p : LoadRefusal). refused (refusalOf p)) (same (loading-bad table demands is))
 
 -- ---- What is admitted
 
--- The plan is that of the table's room, and these are the counts of its cords and of its servers; every list has space for it.
-pub record Admitted (table demands : List ℕ) (lengths : Lengths) (cords servers : ℕ) : Type 0 where
-  pub room : Good (checked table 0)
-  pub is : plan table demands lengths ≡ accepted (planOf (room .value) demands)
-  pub cordsFit : CordsFit table cords
-  pub serversFit : ServersFit table servers
-  pub demandsFit : ServersFit table (length demands)
-  pub grantsLong : cords ≤ lengths .grants
-  pub capsLong : servers ≤ lengths .caps
-  pub headroomLong : cords ≤ lengths .headroom
-  pub heldLong : cords ≤ lengths .held
+-- A room is found, the plan is that of the room, and every list has space for it.
+pub record Admitted (table demands : List ℕ) (lengths : Lengths) (counts : Counts) : Type 0 where
+  pub room-found : RoomFound table demands counts
+  pub is : plan table demands lengths ≡ accepted (planOf (room-found .room) demands)
+  pub grantsLong : counts .cords ≤ lengths .grants
+  pub capsLong : counts .servers ≤ lengths .caps
+  pub headroomLong : counts .cords ≤ lengths .headroom
+  pub heldLong : counts .cords ≤ lengths .held
 
-pub admitted-good : (table demands : List ℕ) (lengths : Lengths) {answer : admitted.the-data} {cords servers : ℕ}
-    → answer ≡ admission (plan table demands lengths) → answer ≡ admitted.Good cords servers → Admitted table demands lengths cords servers
-admitted-good table demands lengths {answer} {cords} {servers} d e = go (plan table demands lengths) refl (sym e ∙ d)
-  where
-    go : (o : PlanOutcome) → plan table demands lengths ≡ o → admitted.Good cords servers ≡ admission o → Admitted table demands lengths cords servers
-    go (refused q) is told = absurd (let z : _≡_ {A = ℕ} 0 1 = cc in omega arith)
-    go (accepted answer) is told =
-        let w = plan-written table demands lengths is in
-        let grants : cords ≡ length (answer .grants) = cc in
-        let caps : servers ≡ length (answer .caps) = cc in
-        let same : (r : Room) (end : ℕ) → checked table 0 ≡ good r end → w .room ≡ r = λ r end q. let h : good (w .room) (w .end) ≡ good r end = sym (w .isRoom) ∙ q in cc in
-        record {
-          room = record { value = w .room; next = w .end; is = w .isRoom };
-          is = is ∙ ap accepted (w .planning .is);
-          cordsFit = λ r end q. grants ∙ w .planning .grants .count ∙ ap roomCords (same r end q);
-          serversFit = λ r end q. caps ∙ w .planning .caps .count ∙ ap (λ (x : Room). length (x .servers)) (same r end q);
-          demandsFit = λ r end q. w .planning .demandCount ∙ ap (λ (x : Room). length (x .servers)) (same r end q);
-          grantsLong = omega (arith, grants, w .planning .grants .count, w .planning .grants .within);
-          capsLong = omega (arith, caps, w .planning .caps .count, w .planning .caps .within);
-          headroomLong = omega (arith, grants, w .planning .grants .count, w .planning .headroom .count, w .planning .headroom .within);
-          heldLong = omega (arith, grants, w .planning .grants .count, w .planning .held .count, w .planning .held .within);
-        }
+module _ (table demands : List ℕ) (lengths : Lengths) {loaded : Loaded} {answer : admitted.the-data} (l : loaded ≡ loadedOf (loading table demands)) (d : answer ≡ admission (admitting loaded lengths)) where
+  -- What the checks behind the loading come to.
+  by-room : {r : Room} → loading table demands ≡ accepted r → admitting loaded lengths ≡ unless (listReasons (countsOf r) lengths) (countsOf r)
+  unfolding admitting
+  by-room e = ap (λ (x : Loaded). admitting x lengths) (l ∙ ap loadedOf e)
 
--- What is not admitted, Plan refuses.
-pub admitted-refused : (outcome : PlanOutcome) {answer : admitted.the-data} {q : PlanRefusal} → answer ≡ admission outcome → answer ≡ admitted.Refused q → outcome ≡ refused q
-admitted-refused (accepted plan) d e = let h = sym d ∙ e in absurd (let z : _≡_ {A = ℕ} 0 1 = cc in omega arith)
-admitted-refused (refused p) d e = let h = sym d ∙ e in cc
+  by-refusal : {q : LoadRefusal} → loading table demands ≡ refused q → admitting loaded lengths ≡ refused (refusalOf q)
+  unfolding admitting
+  by-refusal e = ap (λ (x : Loaded). admitting x lengths) (l ∙ ap loadedOf e)
+
+  pub admitted-good : {counts : Counts} → answer ≡ admitted.Good counts → Admitted table demands lengths counts
+  admitted-good {counts} e = go (loading table demands) refl (admitting loaded lengths) refl (sym e ∙ d)
+    where
+      go : (o : LoadOutcome) → loading table demands ≡ o → (a : Outcome Counts PlanRefusal) → admitting loaded lengths ≡ a → admitted.Good counts ≡ admission a
+          → Admitted table demands lengths counts
+      go o is (refused q) u told = absurd (let z : _≡_ {A = ℕ} 0 1 = cc in omega arith)
+      go (refused q) is (accepted given) u told = absurd (accepted≢refused (sym u ∙ by-refusal is))
+      go (accepted r) is (accepted given) u told =
+          let all = sym (by-room is) ∙ u in
+          let counted : counts ≡ countsOf r = (let t : counts ≡ given = cc in t) ∙ unless-is (listReasons (countsOf r) lengths) (countsOf r) given all in
+          let grants = unless-back _ _ (countsOf r) all in
+          let caps = unless-back _ _ (countsOf r) (grants .1) in
+          let headroom = unless-back _ _ (countsOf r) (caps .1) in
+          let held = unless-back _ _ (countsOf r) (headroom .1) in
+          let f = outcome-found table demands is in
+          rw counted
+          (record {
+            room-found = f;
+            is = room-planned table demands lengths is
+                ∙ other-accepted (countsOf r) (planOf r demands) (listReasons (countsOf r) lengths) all
+                ∙ ap (λ (x : Room). accepted (planOf x demands)) (accepted-is (sym is ∙ f .accepts));
+            grantsLong = ltb-false (lengths .grants) (roomCords r) (grants .0);
+            capsLong = ltb-false (lengths .caps) (length (r .servers)) (caps .0);
+            headroomLong = ltb-false (lengths .headroom) (roomCords r) (headroom .0);
+            heldLong = ltb-false (lengths .held) (roomCords r) (held .0);
+          })
+
+  -- What is not admitted, Plan refuses.
+  pub admitted-refused : {q : PlanRefusal} → answer ≡ admitted.Refused q → plan table demands lengths ≡ refused q
+  admitted-refused {q} e = go (loading table demands) refl (admitting loaded lengths) refl (sym e ∙ d)
+    where
+      go : (o : LoadOutcome) → loading table demands ≡ o → (a : Outcome Counts PlanRefusal) → admitting loaded lengths ≡ a → admitted.Refused q ≡ admission a
+          → plan table demands lengths ≡ refused q
+      go o is (accepted given) u told = absurd (let z : _≡_ {A = ℕ} 0 1 = cc in omega arith)
+      go (accepted r) is (refused p) u told =
+          let same : p ≡ q = cc in
+          room-planned table demands lengths is ∙ other-refused (countsOf r) (planOf r demands) (listReasons (countsOf r) lengths) (sym (by-room is) ∙ u) ∙ ap refused same
+      go (refused x) is (refused p) u told =
+          let same : refusalOf x ≡ q = (let h : _≡_ {A = Outcome Counts PlanRefusal} (refused (refusalOf x)) (refused p) = sym (by-refusal is) ∙ u in let t : p ≡ q = cc in cc) in
+          refusal-planned table demands lengths is ∙ ap refused same
+
+-- What `plan_loaded` asks of a room's lists.
+pub plan-given : {table demands : List ℕ} {lengths : Lengths} {counts : Counts} (a : Admitted table demands lengths counts)
+    {parents spare : List ℕ} {cords : List (List ℕ)} {lows wants headroom caps : List ℕ}
+    → RoomLoaded (a .room-found .room) demands parents spare cords lows wants headroom caps
+    → PlanGiven table demands (a .room-found .room) counts parents spare cords lows wants headroom caps
+plan-given a lists = let f = a .room-found in record { end = f .end; is = f .is; counted = f .counted; loaded = lists }
+
+-- ---- Lists that are copied before they are planned in
+
+module _ {r : Room} {demands : List ℕ} (parents spare : List ℕ) (cords : List (List ℕ)) (lows wants ceilings needed : List ℕ)
+    (ok : Accepted r) (lists : RoomLoaded r demands parents spare cords lows wants ceilings needed) where
+  pub ceilings-size : length (take (roomCords r) ceilings) ≡ roomCords r
+  ceilings-size = ap length (lists .cords-are .ceilings-are) ∙ ceilings-count r ok demands
+
+  pub needs-size : length (take (length (r .servers)) needed) ≡ length (r .servers)
+  unfolding needs
+  needs-size = ap length (lists .cords-are .needs-are) ∙ figures-length (length (r .servers)) _
+
+  -- The ceilings and the needs stand at the fronts of the lists that they were copied to.
+  pub copied-loaded : {k v : ℕ} (headroom caps headroom′ caps′ : List ℕ) → k ≡ roomCords r → v ≡ length (r .servers) → k ≤ length headroom → v ≤ length caps
+      → headroom′ ≡ sets headroom 0 (take k ceilings) → caps′ ≡ sets caps 0 (take v needed)
+      → RoomLoaded r demands parents spare cords lows wants headroom′ caps′
+  copied-loaded headroom caps headroom′ caps′ k v hk hv eh ec =
+      rw (copied ceilings headroom k hk ceilings-size eh, copied needed caps v hv needs-size ec) lists
+    where
+      copied : {n m : ℕ} (from list : List ℕ) {list′ : List ℕ} → n ≡ m → n ≤ length list → length (take m from) ≡ m → list′ ≡ sets list 0 (take n from)
+          → take m list′ ≡ take m from
+      copied {n} {m} from list is h size e =
+          ap (take m) (e ∙ ap (λ (x : ℕ). sets list 0 (take x from)) is)
+          ∙ take-sets m list (take m from) (omega (arith, is)) (omega (arith, size))
+          ∙ take-all m (take m from) (omega (arith, size))
+
+-- A list that is stored to twice, as much each time.
+pub stored-again : (list first second : List ℕ) {list′ list″ : List ℕ} → length first ≡ length second → list′ ≡ sets list 0 first → list″ ≡ sets list′ 0 second
+    → list″ ≡ sets list 0 second
+stored-again list first second {list′} same e f =
+    f ∙ ap (λ (x : List ℕ). sets x 0 second) e
+    ∙ sets-front (sets list 0 first) second
+    ∙ ap₂ (λ (n : ℕ) (rest : List ℕ). take n second ++ rest) (length-sets list 0 first)
+    (ap (λ (n : ℕ). drop n (sets list 0 first)) (sym same) ∙ drop-sets list first ∙ ap (λ (n : ℕ). drop n list) same)
+    ∙ sym (sets-front list second)
 
 -- ---- What is told, and what is left in the lists
 
@@ -179,9 +238,6 @@ module _ (outcome : PlanOutcome) {plan : Plan} (e : outcome ≡ accepted plan) w
   pub freed-told : {watts : ℕ} → watts ≡ plan .freed → planned.Accepted watts ≡ answerOf outcome
   freed-told is = rw (e, is) refl
 
-  -- A list has what the plan has for it at its front, which is as long.
-  pub written : (output : Plan → List ℕ) (list front : List ℕ) (n : ℕ) → front ≡ output plan → length front ≡ n → n ≤ length list
-      → front ++ drop n list ≡ after output outcome list
-  written output list front n is size h =
-      let s : length (output plan) ≡ n = ap length (sym is) ∙ size in
-      rw e (sym (sets-front list (output plan) ∙ rw (take-all (length list) (output plan) (omega arith), s, ← is)))
+  -- A list has what the plan has for it at its front.
+  pub written : (output : Plan → List ℕ) (list : List ℕ) {list′ : List ℕ} → list′ ≡ sets list 0 (output plan) → list′ ≡ after output outcome list
+  written output list is = rw e is

@@ -1,11 +1,42 @@
--- What the checks of Plan come to. Only the private function `admit` cites this: the contract of `plan` rests on deals/specs/Plan.antt.
-use lib.ListN.{length}
-use Rattle.outcomes.specs.Outcome.{accepted, refused}
-use Rattle.deals.specs.Plan.{PlanOutcome}
+-- What the checks of Plan come to, once a room is loaded: its lists may still be too short. The contract of `plan` rests on
+-- deals/specs/Plan.antt: only private functions, and those that lead to it, cite this.
+use mathlib.Core.List.{List, [], _∷_}
+use Rattle.outcomes.specs.Outcome.{Outcome, accepted, refused, unless, tooShort}
+use Rattle.deals.specs.Plan.{PlanReason}
+use Rattle.deals.specs.declared.Lengths.{Lengths}
+use Rattle.deals.specs.declared.PlanList.the-variants.{Grants, Caps, Headroom, Held}
+use Rattle.deals.specs.declared.PlanRefusal.{PlanRefusal}
+use Rattle.deals.specs.declared.PlanRefusal.the-variants.{Table, DemandCount, DemandTooLarge, ListTooShort}
+use Rattle.layout.specs.declared.room.Counts.{Counts}
+use Rattle.layout.specs.declared.room.Loaded.{Loaded}
+use Rattle.layout.specs.declared.room.Loaded.the-variants as loads
+use Rattle.layout.specs.declared.room.LoadRefusal.{LoadRefusal}
+use Rattle.layout.specs.declared.room.LoadRefusal.the-variants as refusals
 use Rattle.plans.specs.declared.Admission.{Admission}
 use Rattle.plans.specs.declared.Admission.the-variants.{Good, Refused}
 
--- The counts of grants and of caps that an outcome writes, or its refusal.
-abbrev pub admission : PlanOutcome → Admission
-admission (accepted plan) = Good (length (plan .grants)) (length (plan .caps))
+-- A refusal of the loading, as one of Plan's.
+abbrev pub refusalOf : LoadRefusal → PlanRefusal
+refusalOf (refusals.Table refusal) = Table refusal
+refusalOf (refusals.DemandCount place) = DemandCount place
+refusalOf (refusals.DemandTooLarge place) = DemandTooLarge place
+
+-- The reasons to refuse the plan of a room with these counts, in their order (12 to 15): a list is too short.
+abbrev pub listReasons : Counts → Lengths → List PlanReason
+listReasons counts lengths =
+    tooShort (ListTooShort Grants) (lengths .grants) (counts .cords)
+    ∷ tooShort (ListTooShort Caps) (lengths .caps) (counts .servers)
+    ∷ tooShort (ListTooShort Headroom) (lengths .headroom) (counts .cords)
+    ∷ tooShort (ListTooShort Held) (lengths .held) (counts .cords)
+    ∷ []
+
+-- What is admitted of what was loaded: the room's counts, or a refusal.
+unfoldable pub admitting : Loaded → Lengths → Outcome Counts PlanRefusal
+unfolding unless
+admitting (loads.Good counts) lengths = unless (listReasons counts lengths) counts
+admitting (loads.Refused refusal) lengths = refused (refusalOf refusal)
+
+-- The answer to it.
+abbrev pub admission : Outcome Counts PlanRefusal → Admission
+admission (accepted counts) = Good counts
 admission (refused refusal) = Refused refusal

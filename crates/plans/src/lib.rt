@@ -1,47 +1,45 @@
-// Plan: the checks of its inputs, and then the plan of a good room.
+// Plan: a room is loaded, its lists are checked, and then it is planned.
 ghost use mathlib.Core.Path.{_≡_};
-ghost use Rattle.rooms.specs.Limits.{checked, lowsTold};
 ghost use Rattle.outcomes.specs.Outcome.{after};
 ghost use Rattle.deals.specs.Plan.{plan, lent, answerOf};
-ghost use Rattle.plans.specs.Admission.{admission};
+ghost use Rattle.plans.specs.Admission.{refusalOf, admitting, admission};
 use deals::Lengths;
 use deals::PlanList;
 use deals::PlanRefusal;
 use deals::Planned;
-use figures::word_index;
-use plan_rooms::plan_room;
-use rooms::Checked;
-use rooms::lists::server_count;
-use words::first_not_below;
+use layout::room::Counts;
+use layout::room::LoadRefusal;
+use layout::room::Loaded;
+use layout::room::load_room;
+use plan_rooms::plan_loaded;
 
-// One more than the most watts of a demand.
-const TOO_MANY_WATTS: u32 = 16_777_216;
-
-// What the checks come to: the counts of cords and of servers, or why a plan is turned back.
-enum Admission {
-    Good(usize, usize),
+// What the checks come to: the room's counts, or why a plan is turned back.
+pub enum Admission {
+    Good(Counts),
     Refused(PlanRefusal),
 }
 
-// All checks of Plan, in their order. Of a good table, `beneath` gets the lows beneath each node.
-fn admit(table: &[u32], demands: &[u32], lengths: Lengths, beneath: &mut [u64; 512]) -> Admission
-    ensures { λ r. ⌜ r ≡ admission (plan (now (table .entry)) (now (demands .entry)) lengths) ⌝ }
-    ensures { λ _. ⌜ now (beneath .exit) ≡ lowsTold (checked (now (table .entry)) 0) ⌝ }
+// A refusal of the loading, as one of Plan's.
+fn refusal_of(refusal: LoadRefusal) -> PlanRefusal
+    ensures same { λ r. ⌜ r ≡ refusalOf refusal ⌝ }
 {
-    let checked = rooms::parts::check_lows(table, beneath);
-    let count = match checked {
-        Checked::Good(cords, _) => cords,
-        Checked::Refused(refusal) => return Admission::Refused(PlanRefusal::Table(refusal)),
+    match refusal {
+        LoadRefusal::Table(refusal) => PlanRefusal::Table(refusal),
+        LoadRefusal::DemandCount(servers) => PlanRefusal::DemandCount(servers),
+        LoadRefusal::DemandTooLarge(place) => PlanRefusal::DemandTooLarge(place),
+    }
+}
+
+// The checks of Plan behind the loading, in their order: no list is too short. A part of the operation, for its C call too.
+pub fn admit(loaded: Loaded, lengths: Lengths) -> Admission
+    ensures admitted { λ r. ⌜ r ≡ admission (admitting loaded lengths) ⌝ }
+{
+    let counts = match loaded {
+        Loaded::Good(counts) => counts,
+        Loaded::Refused(refusal) => return Admission::Refused(refusal_of(refusal)),
     };
-    let cords = word_index(count);
-    let servers = server_count(table);
-    if demands.len() != servers {
-        return Admission::Refused(PlanRefusal::DemandCount(servers));
-    }
-    let large = first_not_below(TOO_MANY_WATTS, demands);
-    if large < demands.len() {
-        return Admission::Refused(PlanRefusal::DemandTooLarge(large));
-    }
+    let cords = counts.cords;
+    let servers = counts.servers;
     if lengths.grants < cords {
         return Admission::Refused(PlanRefusal::ListTooShort(PlanList::Grants, cords));
     }
@@ -54,7 +52,7 @@ fn admit(table: &[u32], demands: &[u32], lengths: Lengths, beneath: &mut [u64; 5
     if lengths.held < cords {
         return Admission::Refused(PlanRefusal::ListTooShort(PlanList::Held, cords));
     }
-    Admission::Good(cords, servers)
+    Admission::Good(counts)
 }
 
 // Plan: of a table and its servers' demands, for each cord a grant, its headroom and the number of the node that holds it (0 for none),
@@ -68,30 +66,59 @@ pub fn plan(
     headroom: &mut [u32],
     held: &mut [u32],
 ) -> Planned
-    ensures { λ r. ⌜ r ≡ answerOf (plan (now (table .entry)) (now (demands .entry)) (lent (now (grants .entry)) (now (caps .entry)) (now (headroom .entry)) (now (held .entry)))) ⌝ }
-    ensures { λ _. ⌜ now (grants .exit) ≡ after (λ p. p .grants) (plan (now (table .entry)) (now (demands .entry)) (lent (now (grants .entry)) (now (caps .entry)) (now (headroom .entry)) (now (held .entry)))) (now (grants .entry)) ⌝ }
-    ensures { λ _. ⌜ now (caps .exit) ≡ after (λ p. p .caps) (plan (now (table .entry)) (now (demands .entry)) (lent (now (grants .entry)) (now (caps .entry)) (now (headroom .entry)) (now (held .entry)))) (now (caps .entry)) ⌝ }
-    ensures { λ _. ⌜ now (headroom .exit) ≡ after (λ p. p .headroom) (plan (now (table .entry)) (now (demands .entry)) (lent (now (grants .entry)) (now (caps .entry)) (now (headroom .entry)) (now (held .entry)))) (now (headroom .entry)) ⌝ }
-    ensures { λ _. ⌜ now (held .exit) ≡ after (λ p. p .held) (plan (now (table .entry)) (now (demands .entry)) (lent (now (grants .entry)) (now (caps .entry)) (now (headroom .entry)) (now (held .entry)))) (now (held .entry)) ⌝ }
+    ensures answer { λ r. ⌜ r ≡ answerOf (plan (now (table .entry)) (now (demands .entry))
+        (lent (now (grants .entry)) (now (caps .entry)) (now (headroom .entry)) (now (held .entry)))) ⌝ }
+    ensures grants { λ _. ⌜ now (grants .exit) ≡ after (λ p. p .grants) (plan (now (table .entry)) (now (demands .entry))
+        (lent (now (grants .entry)) (now (caps .entry)) (now (headroom .entry)) (now (held .entry)))) (now (grants .entry)) ⌝ }
+    ensures caps { λ _. ⌜ now (caps .exit) ≡ after (λ p. p .caps) (plan (now (table .entry)) (now (demands .entry))
+        (lent (now (grants .entry)) (now (caps .entry)) (now (headroom .entry)) (now (held .entry)))) (now (caps .entry)) ⌝ }
+    ensures headroom { λ _. ⌜ now (headroom .exit) ≡ after (λ p. p .headroom) (plan (now (table .entry)) (now (demands .entry))
+        (lent (now (grants .entry)) (now (caps .entry)) (now (headroom .entry)) (now (held .entry)))) (now (headroom .entry)) ⌝ }
+    ensures held { λ _. ⌜ now (held .exit) ≡ after (λ p. p .held) (plan (now (table .entry)) (now (demands .entry))
+        (lent (now (grants .entry)) (now (caps .entry)) (now (headroom .entry)) (now (held .entry)))) (now (held .entry)) ⌝ }
 {
-    let mut beneath = [0u64; 512];
+    let mut parents = [0u16; 512];
+    let mut left = [0u32; 512];
+    let mut cords = [[0u16; 4]; 1024];
+    let mut lows = [0u32; 1024];
+    let mut wants = [0u32; 1024];
+    let mut ceilings = [0u32; 1024];
+    let mut needs = [0u32; 512];
+    let loaded = load_room(
+        table,
+        demands,
+        &mut parents,
+        &mut left,
+        &mut cords,
+        &mut lows,
+        &mut wants,
+        &mut ceilings,
+        &mut needs,
+    );
     let lengths = Lengths {
         grants: grants.len(),
         caps: caps.len(),
         headroom: headroom.len(),
         held: held.len(),
     };
-    let admission = admit(table, demands, lengths, &mut beneath);
+    let admission = admit(loaded, lengths);
     match admission {
-        Admission::Good(cords, servers) => {
-            let freed = plan_room(
-                table,
-                demands,
-                &beneath,
-                &mut grants[..cords],
-                &mut caps[..servers],
-                &mut headroom[..cords],
-                &mut held[..cords],
+        Admission::Good(counts) => {
+            let k = counts.cords;
+            let v = counts.servers;
+            figures::copy(&ceilings[..k], headroom);
+            figures::copy(&needs[..v], caps);
+            let freed = plan_loaded(
+                counts,
+                &parents,
+                &cords,
+                &mut lows,
+                &mut wants,
+                &mut left,
+                grants,
+                caps,
+                headroom,
+                held,
             );
             Planned::Accepted(freed)
         }

@@ -9,7 +9,7 @@ use borrow.Author.Tests.{leb-true, leb-false}
 use lib.Dec.{leb}
 use lib.ListN.{length, getD, set, take, drop, length-set, length-append, take-append-drop}
 use lib.Seq.{sets, length-sets, set-out, take-suc, take-all, take-length, length-take-le}
-use Rattle.words.proofs.Lists.{sets-append, take-sets}
+use Rattle.figures.proofs.Stores.{sets-append, take-sets}
 use Rattle.io.specs.Counts.{Counts}
 use Rattle.print.specs.Line.{Put}
 

@@ -6,7 +6,7 @@ use native.Mathlib.Omega.{arith}
 use native.Mathlib.Numerals.{add-one}
 use lib.ListN.{length, getD, drop, List·getD-append}
 use lib.Seq.{sets, getD-take, take-length, drop-cons, drop-drop, drop-at, getD-drop}
-use Rattle.words.proofs.Lists.{take-sets}
+use Rattle.figures.proofs.Stores.{take-sets}
 use Rattle.figures.specs.Figures.{total, cell}
 use Rattle.figures.proofs.Lists.{figures-at}
 use Rattle.figures.proofs.Columns.{column-at}

@@ -8,7 +8,7 @@ use native.Mathlib.Omega.{arith}
 use borrow.Author.Tests.{lt-ltb}
 use lib.Dec.{ltb}
 use lib.ListN.{length, length-append}
-use Rattle.words.specs.Lists.{AllBelow}
+use Rattle.figures.specs.Bounds.{AllBelow}
 use Rattle.figures.specs.Figures.{total}
 use Rattle.rooms.specs.Table.{Server, Room, mostServers, mostNodes, mostCords, cordCount}
 use Rattle.rooms.proofs.All.{All, all-head, all-tail, all-at}

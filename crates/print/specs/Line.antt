@@ -69,7 +69,8 @@ serverLine number cap = labelled serverWord number ++ (labelled capWord cap ++ n
 unfoldable pub cordLine : ℕ → ℕ → ℕ → ℕ → ℕ → List ℕ
 unfolding labelled
 cordLine number node grant headroom held =
-    labelled cordWord number ++ (labelled nodeWord node ++ (labelled grantWord grant ++ (labelled headroomWord headroom ++ (labelled heldWord held ++ newline))))
+    labelled cordWord number
+    ++ (labelled nodeWord node ++ (labelled grantWord grant ++ (labelled headroomWord headroom ++ (labelled heldWord held ++ newline))))
 
 -- `refused R at P`.
 unfoldable pub refusedLine : ℕ → ℕ → List ℕ

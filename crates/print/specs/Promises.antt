@@ -12,6 +12,7 @@ use Rattle.print.specs.Walk.{planPrint}
 -- Of a good table, the walk over the rows of its room's servers and cords prints `freed F`, and then each server and each of the
 -- server's cords.
 abbrev pub PrintsRoom : Type 0
-PrintsRoom = (table : List ℕ) (room : Room) (end freed : ℕ) (servers cords : List (List ℕ)) (caps grants headroom held : List ℕ) → checked table 0 ≡ good room end
+PrintsRoom = (table : List ℕ) (room : Room) (end freed : ℕ) (servers cords : List (List ℕ)) (caps grants headroom held : List ℕ)
+    → checked table 0 ≡ good room end
     → ServerRows room servers → CordRows room cords
     → planPrint freed servers cords caps grants headroom held ≡ printOf freed (room .servers) caps grants headroom held

@@ -10,17 +10,15 @@ ghost use Rattle.figures.specs.Figures.{cell};
 ghost use Rattle.rooms.specs.Part.{Good};
 ghost use Rattle.rooms.specs.Limits.{checked};
 ghost use Rattle.rooms.specs.Rows.{OfRoom, ServersFit, CordsFit, nodeColumn};
+use figures::counts::least;
 use figures::index;
 use figures::word_index;
+use rooms::MOST_CORDS;
+use rooms::MOST_SERVERS;
 use rooms::lists::COUNT;
 use rooms::lists::NODE;
-use words::least;
 
-// The most servers and cords of a room, and the most cords of a server.
-const MOST_SERVERS: usize = 512;
-
-const MOST_CORDS: usize = 1024;
-
+// The most cords of a server.
 const MOST_SERVER_CORDS: usize = 4;
 
 // The print of a good table's plan, at the front of the buffer: as much as fits. The result is how many bytes that is.
@@ -33,10 +31,10 @@ pub fn plan(
     held: &[u32],
     buffer: &mut [u8],
 ) -> usize
-    requires { ⌜ Good (checked (now table) 0) ⌝ }
-    ensures { λ r. ⌜ OfRoom (now (table .entry)) (λ room. Put (now (buffer .entry)) 0 (now (buffer .exit)) r
+    requires good { ⌜ Good (checked (now table) 0) ⌝ }
+    ensures put { λ r. ⌜ OfRoom (now (table .entry)) (λ room. Put (now (buffer .entry)) 0 (now (buffer .exit)) r
         (printOf freed (room .servers) (now (caps .entry)) (now (grants .entry)) (now (headroom .entry)) (now (held .entry)))) ⌝ }
-    ensures { λ r. ⌜ Counts r (now (buffer .exit)) ⌝ }
+    ensures counts { λ r. ⌜ Counts r (now (buffer .exit)) ⌝ }
 {
     let mut servers = [[0u32; 4]; MOST_SERVERS];
     let mut cords = [[0u16; 4]; MOST_CORDS];
@@ -67,11 +65,11 @@ fn plan_by(
     held: &[u32],
     buffer: &mut [u8],
 ) -> usize
-    requires { ⌜ Good (checked (now table) 0) ⌝ }
-    requires { ⌜ ServersFit (now table) (length (now servers)) × CordsFit (now table) (length (now cords)) ⌝ }
-    ensures { λ r. ⌜ OfRoom (now (table .entry)) (λ room. Put (now (buffer .entry)) 0 (now (buffer .exit)) r
+    requires good { ⌜ Good (checked (now table) 0) ⌝ }
+    requires sizes { ⌜ ServersFit (now table) (length (now servers)) × CordsFit (now table) (length (now cords)) ⌝ }
+    ensures put { λ r. ⌜ OfRoom (now (table .entry)) (λ room. Put (now (buffer .entry)) 0 (now (buffer .exit)) r
         (printOf freed (room .servers) (now (caps .entry)) (now (grants .entry)) (now (headroom .entry)) (now (held .entry)))) ⌝ }
-    ensures { λ r. ⌜ Counts r (now (buffer .exit)) ⌝ }
+    ensures counts { λ r. ⌜ Counts r (now (buffer .exit)) ⌝ }
 {
     rooms::lists::lay_out_servers(table, servers, cords);
     put_plan(freed, servers, cords, caps, grants, headroom, held, buffer)
@@ -88,9 +86,10 @@ fn put_plan(
     held: &[u32],
     buffer: &mut [u8],
 ) -> usize
-    ensures { λ r. ⌜ Put (now (buffer .entry)) 0 (now (buffer .exit)) r
-        (planPrint freed (now (servers .entry)) (now (cords .entry)) (now (caps .entry)) (now (grants .entry)) (now (headroom .entry)) (now (held .entry))) ⌝ }
-    ensures { λ r. ⌜ Counts r (now (buffer .exit)) ⌝ }
+    ensures put { λ r. ⌜ Put (now (buffer .entry)) 0 (now (buffer .exit)) r
+        (planPrint freed (now (servers .entry)) (now (cords .entry)) (now (caps .entry)) (now (grants .entry)) (now (headroom .entry))
+        (now (held .entry))) ⌝ }
+    ensures counts { λ r. ⌜ Counts r (now (buffer .exit)) ⌝ }
 {
     let next = put_freed(freed as usize, buffer, 0);
     put_servers(servers, cords, caps, grants, headroom, held, buffer, next)
@@ -98,8 +97,8 @@ fn put_plan(
 
 // The print of a refusal, at the front of the buffer: as much as fits. The result is how many bytes that is.
 pub fn refusal(number: u64, place: usize, buffer: &mut [u8]) -> usize
-    ensures { λ r. ⌜ Put (now (buffer .entry)) 0 (now (buffer .exit)) r (refusedLine number place) ⌝ }
-    ensures { λ r. ⌜ Counts r (now (buffer .exit)) ⌝ }
+    ensures put { λ r. ⌜ Put (now (buffer .entry)) 0 (now (buffer .exit)) r (refusedLine number place) ⌝ }
+    ensures counts { λ r. ⌜ Counts r (now (buffer .exit)) ⌝ }
 {
     let a = put_figure(b"refused ", number as usize, buffer, 0);
     let b = put_figure(b" at ", place, buffer, a);
@@ -117,9 +116,10 @@ fn put_servers(
     buffer: &mut [u8],
     start: usize,
 ) -> usize
-    requires { ⌜ start ≤ length (now buffer) ⌝ }
-    ensures { λ r. ⌜ Put (now (buffer .entry)) start (now (buffer .exit)) r
-        (walkPrint (now (servers .entry)) (now (cords .entry)) (now (caps .entry)) (planLine (now (grants .entry)) (now (headroom .entry)) (now (held .entry)))) ⌝ }
+    requires start { ⌜ start ≤ length (now buffer) ⌝ }
+    ensures put { λ r. ⌜ Put (now (buffer .entry)) start (now (buffer .exit)) r
+        (walkPrint (now (servers .entry)) (now (cords .entry)) (now (caps .entry))
+        (planLine (now (grants .entry)) (now (headroom .entry)) (now (held .entry)))) ⌝ }
 {
     let count = least(servers.len(), MOST_SERVERS);
     let mut first = 0usize;
@@ -145,8 +145,8 @@ fn put_cords(
     buffer: &mut [u8],
     start: usize,
 ) -> usize
-    requires { ⌜ (count ≤ 4) × (first < 2 ^ 34) × (start ≤ length (now buffer)) ⌝ }
-    ensures { λ r. ⌜ Put (now (buffer .entry)) start (now (buffer .exit)) r
+    requires in_range { ⌜ (count ≤ 4) × (first < 2 ^ 34) × (start ≤ length (now buffer)) ⌝ }
+    ensures put { λ r. ⌜ Put (now (buffer .entry)) start (now (buffer .exit)) r
         (linesFrom count 0 (cordLineAt (now (cords .entry)) (planLine (now (grants .entry)) (now (headroom .entry)) (now (held .entry))) first)) ⌝ }
 {
     let mut next = start;
@@ -167,7 +167,7 @@ fn put_cords(
 
 // The node of the cord at a place; 0 past the last.
 fn node(cords: &[[u16; 4]], place: usize) -> usize
-    ensures { λ r. ⌜ r ≡ cell (now (cords .entry)) place nodeColumn ⌝ }
+    ensures result { λ r. ⌜ r ≡ cell (now (cords .entry)) place nodeColumn ⌝ }
 {
     if place < cords.len() {
         index(cords[place][NODE])
@@ -178,8 +178,8 @@ fn node(cords: &[[u16; 4]], place: usize) -> usize
 
 // `freed F`.
 fn put_freed(watts: usize, buffer: &mut [u8], start: usize) -> usize
-    requires { ⌜ start ≤ length (now buffer) ⌝ }
-    ensures { λ r. ⌜ Put (now (buffer .entry)) start (now (buffer .exit)) r (freedLine watts) ⌝ }
+    requires start { ⌜ start ≤ length (now buffer) ⌝ }
+    ensures put { λ r. ⌜ Put (now (buffer .entry)) start (now (buffer .exit)) r (freedLine watts) ⌝ }
 {
     let a = put_figure(b"freed ", watts, buffer, start);
     put(b"\n", buffer, a)
@@ -187,8 +187,8 @@ fn put_freed(watts: usize, buffer: &mut [u8], start: usize) -> usize
 
 // `server N cap W`.
 fn put_server(number: usize, cap: usize, buffer: &mut [u8], start: usize) -> usize
-    requires { ⌜ start ≤ length (now buffer) ⌝ }
-    ensures { λ r. ⌜ Put (now (buffer .entry)) start (now (buffer .exit)) r (serverLine number cap) ⌝ }
+    requires start { ⌜ start ≤ length (now buffer) ⌝ }
+    ensures put { λ r. ⌜ Put (now (buffer .entry)) start (now (buffer .exit)) r (serverLine number cap) ⌝ }
 {
     let a = put_figure(b"server ", number, buffer, start);
     let b = put_figure(b" cap ", cap, buffer, a);
@@ -205,8 +205,8 @@ fn put_cord(
     buffer: &mut [u8],
     start: usize,
 ) -> usize
-    requires { ⌜ start ≤ length (now buffer) ⌝ }
-    ensures { λ r. ⌜ Put (now (buffer .entry)) start (now (buffer .exit)) r (cordLine number node grant headroom held) ⌝ }
+    requires start { ⌜ start ≤ length (now buffer) ⌝ }
+    ensures put { λ r. ⌜ Put (now (buffer .entry)) start (now (buffer .exit)) r (cordLine number node grant headroom held) ⌝ }
 {
     let a = put_figure(b"cord ", number, buffer, start);
     let b = put_figure(b" node ", node, buffer, a);
@@ -218,8 +218,8 @@ fn put_cord(
 
 // A word of a line and the figure after it, from a place on.
 fn put_figure(word: &[u8], figure: usize, buffer: &mut [u8], start: usize) -> usize
-    requires { ⌜ start ≤ length (now buffer) ⌝ }
-    ensures { λ r. ⌜ Put (now (buffer .entry)) start (now (buffer .exit)) r (labelled (now (word .entry)) figure) ⌝ }
+    requires start { ⌜ start ≤ length (now buffer) ⌝ }
+    ensures put { λ r. ⌜ Put (now (buffer .entry)) start (now (buffer .exit)) r (labelled (now (word .entry)) figure) ⌝ }
 {
     let next = put(word, buffer, start);
     put_decimal(figure, buffer, next)
@@ -227,8 +227,8 @@ fn put_figure(word: &[u8], figure: usize, buffer: &mut [u8], start: usize) -> us
 
 // A number in decimal, from a place on.
 fn put_decimal(number: usize, buffer: &mut [u8], start: usize) -> usize
-    requires { ⌜ start ≤ length (now buffer) ⌝ }
-    ensures { λ r. ⌜ Put (now (buffer .entry)) start (now (buffer .exit)) r (decimal number) ⌝ }
+    requires start { ⌜ start ≤ length (now buffer) ⌝ }
+    ensures put { λ r. ⌜ Put (now (buffer .entry)) start (now (buffer .exit)) r (decimal number) ⌝ }
 {
     let mut digits = [0u8; 20];
     let count = io::decimal(number as u64, &mut digits);
@@ -237,8 +237,8 @@ fn put_decimal(number: usize, buffer: &mut [u8], start: usize) -> usize
 
 // Some bytes, from a place on: as many as fit.
 fn put(text: &[u8], buffer: &mut [u8], start: usize) -> usize
-    requires { ⌜ start ≤ length (now buffer) ⌝ }
-    ensures { λ r. ⌜ Put (now (buffer .entry)) start (now (buffer .exit)) r (now (text .entry)) ⌝ }
+    requires start { ⌜ start ≤ length (now buffer) ⌝ }
+    ensures put { λ r. ⌜ Put (now (buffer .entry)) start (now (buffer .exit)) r (now (text .entry)) ⌝ }
 {
     let count = least(text.len(), buffer.len() - start);
     for i in 0..count {
@@ -249,7 +249,7 @@ fn put(text: &[u8], buffer: &mut [u8], start: usize) -> usize
 
 // A word of a list; 0 past its end.
 fn word(list: &[u32], place: usize) -> usize
-    ensures { λ r. ⌜ (r ≡ at (now (list .entry)) place) × (r < 4294967296) ⌝ }
+    ensures result { λ r. ⌜ (r ≡ at (now (list .entry)) place) × (r < 4294967296) ⌝ }
 {
     if place < list.len() {
         list[place] as usize

@@ -79,6 +79,11 @@ pub record Promises : Type 0 where
   -- the whole.
   pub joined-parts : part.JoinedParts
   pub parts-are-good : part.PartsAreGood
+  -- A.10, of the operation: the parts that it gives pass every check and joined are the table, word for word; a joined table, parted at its
+  -- first half's counts, gives both tables; the plans of the parts are the parts of the plan.
+  pub part-gives-parts : part.PartGivesParts
+  pub parts-joined : part.PartsJoined
+  pub part-plans-both : part.PartPlansBoth
   -- A.11, over the scale: used never above grant, usable never below least (the cap too); equal plans with every share tenfold.
   pub used-granted : deals.UsedGranted
   pub usable-in-range : deals.UsableInRange

@@ -9,7 +9,8 @@ use Rattle.figures.specs.Sums.{sum}
 use Rattle.rooms.specs.Part.{Step, good, bad, Part, follow, many, word, within}
 use Rattle.rooms.specs.Table.{Cord, Server, Range, IsScale, mostWatts, mostServerCords, highestRank, cord, cords, range, load, server, servers, shareOf, cordCount}
 use Rattle.rooms.specs.Limits.{low, carried}
-use Rattle.rooms.specs.Credits.{credited, creditedCords, creditedServer, creditedServers, LowsCredited}
+use Rattle.figures.specs.Credits.{credited}
+use Rattle.rooms.specs.Credits.{creditedCords, creditedServer, creditedServers, LowsCredited}
 use Rattle.figures.specs.Figures.{at}
 use Rattle.rooms.specs.Told.{told}
 use Rattle.rooms.specs.declared.Refusal.{Refusal}
@@ -18,7 +19,7 @@ use Rattle.rooms.specs.declared.Checked.the-variants.{Good, Refused}
 use Rattle.rooms.proofs.Inversion.{took, said, cord-is, load-is}
 use Rattle.rooms.proofs.Steps.{known}
 use Rattle.rooms.proofs.Carried.{carried-most}
-use Rattle.rooms.proofs.Credits.{credited-length, sum-credited, figure-in-sum}
+use Rattle.figures.proofs.Credits.{credited-length, sum-credited, figure-in-sum}
 
 -- Where a part is refused, nothing is claimed of the sums.
 pub credits-refused : {A : Type 0} (f : A → ℕ) (s : Step A) {credit : A → List ℕ → List ℕ} {nodeCount most : ℕ} {sums sums′ : List ℕ} {r : Checked} {q : Refusal}

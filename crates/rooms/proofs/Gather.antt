@@ -10,11 +10,13 @@ use lib.Dec.{eqb, ltb}
 use borrow.Author.Tests.{ne-eqb}
 use Rattle.figures.specs.Sums.{on, sum}
 use Rattle.rooms.specs.Limits.{firstNode}
-use Rattle.rooms.specs.Credits.{sumBeneath, exceeds, credited, SumsGathered}
+use Rattle.rooms.specs.Credits.{sumBeneath, exceeds, SumsGathered}
+use Rattle.figures.specs.Credits.{credited}
 use Rattle.figures.specs.Figures.{at}
 use Rattle.figures.proofs.Sums.{on-no, sum-cong, sum-zero, sum-none, up, sum-up}
 use Rattle.rooms.proofs.Trees.{kids}
-use Rattle.rooms.proofs.Credits.{credited-at, credited-length, credited-past, sumBeneath-step, sumBeneath-most}
+use Rattle.figures.proofs.Credits.{credited-at, credited-length, credited-past}
+use Rattle.rooms.proofs.Credits.{sumBeneath-step, sumBeneath-most}
 
 -- ---- What stands on the nodes, where each has its own figure and passes `passed` on to its parent
 

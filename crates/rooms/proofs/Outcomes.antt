@@ -12,7 +12,7 @@ use borrow.Author.Tests.{leb-true, leb-false}
 use Rattle.outcomes.specs.Outcome.{accepted, refused, fitting, after}
 use Rattle.outcomes.proofs.Outcomes.{fitting-short, fitting-whole, fitting-is}
 use Rattle.outcomes.proofs.Parts.{accepted-went}
-use Rattle.words.proofs.Lists.{take-sets, take-min}
+use Rattle.figures.proofs.Stores.{take-sets, take-min}
 use Rattle.numbers.specs.Sheet.{Ending, whole, sheetOf, judged, answer, bytesOf, written, fitted}
 use Rattle.numbers.specs.Sheet as sheet
 use Rattle.numbers.specs.declared.Fault.{Fault}

@@ -10,7 +10,7 @@ use lib.Dec.{eqb, eqb·zero-suc, eqb·suc-suc}
 use borrow.Author.Tests.{eqb-true, ne-eqb}
 use Rattle.figures.specs.Sums.{on, sum}
 use Rattle.rooms.specs.Limits.{beneath}
-use Rattle.figures.proofs.Sums.{on-add, on-le, on-cong, on-mul, on-no, sum-cong, sum-le, sum-add, sum-mul, sum-on, sum-zero, sum-swap, sum-one}
+use Rattle.figures.proofs.Sums.{on-comm, on-add, on-le, on-cong, on-mul, on-no, sum-cong, sum-le, sum-add, sum-mul, sum-on, sum-zero, sum-swap, sum-one}
 
 -- How often the climb from the number v meets the node at place n: the test `beneath` as a count, which adds up.
 unfoldable pub meets : (ℕ → ℕ) → ℕ → ℕ → ℕ → ℕ
@@ -34,11 +34,6 @@ pub below-cong : (count : ℕ) (parent : ℕ → ℕ) (cords : ℕ) (node : ℕ 
     → below count parent cords node n f ≡ below count parent cords node n g
 unfolding below
 below-cong count parent cords node n f g e = sum-cong cords _ _ (λ c l. ap (λ (z : ℕ). meets parent count n (node c) * z) (e c l))
-
-on-comm : (s t : Bool) (a : ℕ) → on s (on t a) ≡ on t (on s a)
-on-comm true t a = refl
-on-comm false true a = refl
-on-comm false false a = refl
 
 on-zero : (t : Bool) → on t 0 ≡ 0
 on-zero true = refl

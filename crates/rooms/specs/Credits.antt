@@ -3,9 +3,10 @@
 use mathlib.Core.Path.{_≡_}
 use mathlib.Core.Bool.{Bool, cond}
 use mathlib.Core.List.{List, [], _∷_}
-use Prim.Native.Nat.{ℕ, zero, suc, _+_, _*_, _≤_, _<_}
-use lib.ListN.{length, getD, set}
+use Prim.Native.Nat.{ℕ, suc, _+_, _*_, _≤_, _<_}
+use lib.ListN.{length, getD}
 use lib.Dec.{ltb}
+use Rattle.figures.specs.Credits.{credited}
 use Rattle.figures.specs.Figures.{at}
 use Rattle.figures.specs.Sums.{on, sum}
 use Rattle.rooms.specs.Part.{Step, good}
@@ -40,11 +41,6 @@ sumBeneath parent count figure n = sum count (λ m. on (beneath parent count n (
 -- Whether what stands on a node and beneath it exceeds its limit.
 abbrev pub exceeds : (ℕ → ℕ) → (ℕ → ℕ) → ℕ → List ℕ → ℕ → Bool
 exceeds parent limit count sums n = ltb (limit n) (sumBeneath parent count (at sums) n)
-
--- A figure added to the one that stands on a node, by the node's number; 0 is no node.
-unfoldable pub credited : ℕ → ℕ → List ℕ → List ℕ
-credited zero figure l = l
-credited (suc m) figure l = set l m (getD l m 0 + figure)
 
 -- The lows of a server's cords, by the scale and its least, credited to the cords' nodes; and those of all servers, of a room.
 unfoldable pub creditedCords : ℕ → ℕ → List Cord → List ℕ → List ℕ

@@ -11,7 +11,8 @@ use Rattle.rooms.specs.Part.{Step}
 use Rattle.rooms.specs.Table.{Room}
 use Rattle.rooms.specs.Limits.{checked}
 use Rattle.rooms.specs.declared.Refusal.{Refusal}
-use Rattle.rooms.specs.declared.Refusal.the-variants.{BadNumber, WordMissing, WordOutOfRange, GreatestBelowLeast, SharesNotWhole, WordsLeftOver, LowsAboveLimit, OutputTooShort}
+use Rattle.rooms.specs.declared.Refusal.the-variants.{BadNumber, WordMissing, WordOutOfRange, GreatestBelowLeast, SharesNotWhole, WordsLeftOver}
+use Rattle.rooms.specs.declared.Refusal.the-variants.{LowsAboveLimit, OutputTooShort}
 use Rattle.rooms.specs.declared.Answer.{Answer}
 use Rattle.rooms.specs.declared.Answer.the-variants.{Accepted, Refused}
 

@@ -5,7 +5,8 @@ use mathlib.Core.List.{List, [], _∷_, _++_}
 use Prim.Native.Nat.{ℕ, suc, _-_, _≤_, _<_}
 use lib.ListN.{length, getD}
 use lib.Dec.{eqb}
-use Rattle.rooms.specs.Table.{Node, Cord, Server, Room, newestVersion, formOf, mostWatts, mostNodes, mostServers, mostCords, mostServerCords, highestRank, cordCount, roomCords, shareSum}
+use Rattle.rooms.specs.Table.{Node, Cord, Server, Room, newestVersion, formOf, mostWatts, mostNodes, mostServers, mostCords, mostServerCords}
+use Rattle.rooms.specs.Table.{highestRank, cordCount, roomCords, shareSum}
 use Rattle.rooms.specs.Limits.{nodeAt}
 use Rattle.rooms.specs.Cords.{serverAt}
 

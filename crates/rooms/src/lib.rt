@@ -44,16 +44,23 @@ pub enum Answer {
     Refused(Refusal),
 }
 
+// The most nodes, servers and cords of a room (specs/Table.antt).
+pub const MOST_NODES: usize = 512;
+
+pub const MOST_SERVERS: usize = 512;
+
+pub const MOST_CORDS: usize = 1024;
+
 // The most words of a table, of whatever version: version, count of nodes, three words a node, count of servers, four a server and
 // two a cord (`mostWords`, specs/Table.antt).
-pub const MOST_WORDS: usize = 2 + 3 * 512 + 1 + 4 * 512 + 2 * 1024;
+pub const MOST_WORDS: usize = 2 + 3 * MOST_NODES + 1 + 4 * MOST_SERVERS + 2 * MOST_CORDS;
 
 // One word more than a table may have: so many decide every check.
 pub const DECIDING_WORDS: usize = MOST_WORDS + 1;
 
 // The number of a fault.
 fn fault_number(fault: Fault) -> u64
-    ensures { λ r. ⌜ r ≡ faultNumber fault ⌝ }
+    ensures result { λ r. ⌜ r ≡ faultNumber fault ⌝ }
 {
     match fault {
         Fault::TooLong => 1,
@@ -65,7 +72,7 @@ fn fault_number(fault: Fault) -> u64
 impl Refusal {
     // The refusal's number.
     pub fn number(self) -> u64
-        ensures { λ r. ⌜ r ≡ refusalNumber self ⌝ }
+        ensures result { λ r. ⌜ r ≡ refusalNumber self ⌝ }
     {
         match self {
             Refusal::BadNumber(fault, _) => fault_number(fault),
@@ -81,7 +88,7 @@ impl Refusal {
 
     // The refusal's place.
     pub fn place(self) -> usize
-        ensures { λ r. ⌜ r ≡ refusalPlace self ⌝ }
+        ensures result { λ r. ⌜ r ≡ refusalPlace self ⌝ }
     {
         match self {
             Refusal::BadNumber(_, place) => place,
@@ -99,7 +106,7 @@ impl Refusal {
 impl Answer {
     // The refusal's number, or 0.
     pub fn number(self) -> u64
-        ensures { λ r. ⌜ r ≡ answerNumber self ⌝ }
+        ensures result { λ r. ⌜ r ≡ answerNumber self ⌝ }
     {
         match self {
             Answer::Accepted(_) => 0,
@@ -109,7 +116,7 @@ impl Answer {
 
     // The count written, or the refusal's place.
     pub fn figure(self) -> usize
-        ensures { λ r. ⌜ r ≡ answerFigure self ⌝ }
+        ensures result { λ r. ⌜ r ≡ answerFigure self ⌝ }
     {
         match self {
             Answer::Accepted(count) => count,
@@ -120,16 +127,16 @@ impl Answer {
 
 // Sets all lows to 0.
 fn clear(lows: &mut [u64; 512])
-    ensures { λ _. ⌜ now (lows .exit) ≡ replicate mostNodes 0 ⌝ }
+    ensures zeros { λ _. ⌜ now (lows .exit) ≡ replicate mostNodes 0 ⌝ }
 {
     *lows = [0u64; 512];
 }
 
 // The whole check of a table. `lows` come as zeros; a good table leaves those beneath each node there, a refused one may leave anything.
 fn check_summing(table: &[u32], lows: &mut [u64; 512]) -> Checked
-    requires { ⌜ now lows ≡ replicate mostNodes 0 ⌝ }
-    ensures { λ r. ⌜ r ≡ told roomCords (checked (now (table .entry)) 0) ⌝ }
-    ensures { λ _. ⌜ ((q : Room) (j : ℕ) → checked (now (table .entry)) 0 ≡ good q j → now (lows .exit) ≡ nodeLows q) ⌝ }
+    requires zeros { ⌜ now lows ≡ replicate mostNodes 0 ⌝ }
+    ensures result { λ r. ⌜ r ≡ told roomCords (checked (now (table .entry)) 0) ⌝ }
+    ensures lows { λ _. ⌜ ((q : Room) (j : ℕ) → checked (now (table .entry)) 0 ≡ good q j → now (lows .exit) ≡ nodeLows q) ⌝ }
 {
     let words = table::check_table(table, lows);
     let Checked::Good(cords, length) = words else {
@@ -144,7 +151,7 @@ fn check_summing(table: &[u32], lows: &mut [u64; 512]) -> Checked
 
 // The whole check of a table: the count of its cords and its length, or its refusal.
 pub fn check(table: &[u32]) -> Checked
-    ensures { λ r. ⌜ r ≡ told roomCords (checked (now (table .entry)) 0) ⌝ }
+    ensures result { λ r. ⌜ r ≡ told roomCords (checked (now (table .entry)) 0) ⌝ }
 {
     let mut lows = [0u64; 512];
     parts::check_lows(table, &mut lows)
@@ -152,7 +159,7 @@ pub fn check(table: &[u32]) -> Checked
 
 // The answer on a table whose words are to go to an output of `space` words.
 fn answer_for(table: &[u32], space: usize) -> Answer
-    ensures { λ r. ⌜ r ≡ answerOf (ifGood (checked (now (table .entry)) 0) (now (table .entry)) space) ⌝ }
+    ensures result { λ r. ⌜ r ≡ answerOf (ifGood (checked (now (table .entry)) 0) (now (table .entry)) space) ⌝ }
 {
     let checked = check(table);
     if let Checked::Refused(refusal) = checked {
@@ -167,22 +174,24 @@ fn answer_for(table: &[u32], space: usize) -> Answer
 
 // Read by way of a list of its own, which takes the words until all is checked.
 fn read_by(sheet: &[u8], words: &mut [u32], table: &mut [u32]) -> Answer
-    requires { ⌜ suc mostWords ≤ length (now words) ⌝ }
-    ensures { λ r. ⌜ r ≡ answerOf (reading (now (sheet .entry)) (length (now (table .entry)))) ⌝ }
-    ensures { λ _. ⌜ now (table .exit) ≡ after (λ words. words) (reading (now (sheet .entry)) (length (now (table .entry)))) (now (table .entry)) ⌝ }
+    requires space { ⌜ suc mostWords ≤ length (now words) ⌝ }
+    ensures result { λ r. ⌜ r ≡ answerOf (reading (now (sheet .entry)) (length (now (table .entry)))) ⌝ }
+    ensures table { λ _. ⌜ now (table .exit) ≡ after (λ words. words) (reading (now (sheet .entry)) (length (now (table .entry))))
+        (now (table .entry)) ⌝ }
 {
     let read = parts::read_words(sheet, words, table.len());
     let Answer::Accepted(count) = read else {
         return read;
     };
-    words::copy(&words[..count], table);
+    figures::copy(&words[..count], table);
     read
 }
 
 // Read: the words of a sheet, at the front of the table. Refused, it leaves the table unchanged.
 pub fn read(sheet: &[u8], table: &mut [u32]) -> Answer
-    ensures { λ r. ⌜ r ≡ answerOf (reading (now (sheet .entry)) (length (now (table .entry)))) ⌝ }
-    ensures { λ _. ⌜ now (table .exit) ≡ after (λ words. words) (reading (now (sheet .entry)) (length (now (table .entry)))) (now (table .entry)) ⌝ }
+    ensures result { λ r. ⌜ r ≡ answerOf (reading (now (sheet .entry)) (length (now (table .entry)))) ⌝ }
+    ensures table { λ _. ⌜ now (table .exit) ≡ after (λ words. words) (reading (now (sheet .entry)) (length (now (table .entry))))
+        (now (table .entry)) ⌝ }
 {
     let mut words = [0u32; DECIDING_WORDS];
     read_by(sheet, &mut words, table)
@@ -190,8 +199,9 @@ pub fn read(sheet: &[u8], table: &mut [u32]) -> Answer
 
 // Write: the words of a table as numbers, at the front of the sheet. Refused, it leaves the sheet unchanged.
 pub fn write(table: &[u32], sheet: &mut [u8]) -> Answer
-    ensures { λ r. ⌜ r ≡ answerOf (writing (now (table .entry)) (length (now (sheet .entry)))) ⌝ }
-    ensures { λ _. ⌜ now (sheet .exit) ≡ after (λ bytes. bytes) (writing (now (table .entry)) (length (now (sheet .entry)))) (now (sheet .entry)) ⌝ }
+    ensures result { λ r. ⌜ r ≡ answerOf (writing (now (table .entry)) (length (now (sheet .entry)))) ⌝ }
+    ensures sheet { λ _. ⌜ now (sheet .exit) ≡ after (λ bytes. bytes) (writing (now (table .entry)) (length (now (sheet .entry))))
+        (now (sheet .entry)) ⌝ }
 {
     let checked = check(table);
     if let Checked::Refused(refusal) = checked {

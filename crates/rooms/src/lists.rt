@@ -39,51 +39,51 @@ pub const COUNT: usize = 3;
 
 // The word at an index; 0 past the table's end.
 fn word(table: &[u32], i: usize) -> u32
-    ensures { λ r. ⌜ r ≡ at (now (table .entry)) i ⌝ }
+    ensures result { λ r. ⌜ r ≡ at (now (table .entry)) i ⌝ }
 {
     if i < table.len() { table[i] } else { 0 }
 }
 
 // A table's scale.
 pub fn table_scale(table: &[u32]) -> u32
-    ensures { λ r. ⌜ ScaleIs (now (table .entry)) r ⌝ }
+    ensures scale { λ r. ⌜ ScaleIs (now (table .entry)) r ⌝ }
 {
     scale_of(word(table, 0))
 }
 
 // A table's count of nodes.
 pub fn node_count(table: &[u32]) -> usize
-    ensures { λ r. ⌜ NodesFit (now (table .entry)) r ⌝ }
-    ensures { λ r. ⌜ (r ≡ at (now (table .entry)) 1) × (r < 2 ^ 32) ⌝ }
+    ensures count { λ r. ⌜ NodesFit (now (table .entry)) r ⌝ }
+    ensures word { λ r. ⌜ (r ≡ at (now (table .entry)) 1) × (r < 2 ^ 32) ⌝ }
 {
     word_index(word(table, 1))
 }
 
 // The index of a table's count of servers.
 pub fn servers_index(table: &[u32]) -> usize
-    ensures { λ r. ⌜ (r ≡ serversIndex (now (table .entry))) × (r < 2 ^ 34) ⌝ }
+    ensures result { λ r. ⌜ (r ≡ serversIndex (now (table .entry))) × (r < 2 ^ 34) ⌝ }
 {
     node_index(has_percents(word(table, 0)), node_count(table))
 }
 
 // A table's count of servers.
 pub fn server_count(table: &[u32]) -> usize
-    ensures { λ r. ⌜ ServersFit (now (table .entry)) r ⌝ }
-    ensures { λ r. ⌜ r < 2 ^ 32 ⌝ }
+    ensures count { λ r. ⌜ ServersFit (now (table .entry)) r ⌝ }
+    ensures bound { λ r. ⌜ r < 2 ^ 32 ⌝ }
 {
     word_index(word(table, servers_index(table)))
 }
 
 // The index of a table's first server, where it has one.
 pub fn first_server(table: &[u32]) -> usize
-    ensures { λ r. ⌜ (r ≡ serversIndex (now (table .entry)) + 1) × (r < 2 ^ 35) ⌝ }
+    ensures result { λ r. ⌜ (r ≡ serversIndex (now (table .entry)) + 1) × (r < 2 ^ 35) ⌝ }
 {
     servers_index(table) + 1
 }
 
 // A table's count of cords: its length tells it, which is cheaper than a walk.
 pub fn cord_count(table: &[u32]) -> usize
-    ensures { λ r. ⌜ CordsFit (now (table .entry)) r ⌝ }
+    ensures count { λ r. ⌜ CordsFit (now (table .entry)) r ⌝ }
 {
     let others = first_server(table) + 4 * server_count(table);
     if table.len() < others {
@@ -94,9 +94,9 @@ pub fn cord_count(table: &[u32]) -> usize
 
 // The parents and the limits of a good table's nodes.
 pub fn lay_out_nodes(table: &[u32], parents: &mut [u16], limits: &mut [u32])
-    requires { ⌜ Good (checked (now table) 0) ⌝ }
-    requires { ⌜ NodesFit (now table) (length (now parents)) × NodesFit (now table) (length (now limits)) ⌝ }
-    ensures { λ _. ⌜ OfRoom (now (table .entry)) (λ r. (now (parents .exit) ≡ parentsOf r) × (now (limits .exit) ≡ limitsOf r)) ⌝ }
+    requires good { ⌜ Good (checked (now table) 0) ⌝ }
+    requires sizes { ⌜ NodesFit (now table) (length (now parents)) × NodesFit (now table) (length (now limits)) ⌝ }
+    ensures laid_out { λ _. ⌜ OfRoom (now (table .entry)) (λ r. (now (parents .exit) ≡ parentsOf r) × (now (limits .exit) ≡ limitsOf r)) ⌝ }
 {
     let percents = has_percents(word(table, 0));
     for m in 0..parents.len() {
@@ -108,17 +108,17 @@ pub fn lay_out_nodes(table: &[u32], parents: &mut [u16], limits: &mut [u32])
 
 // A cord's row, by its columns.
 fn cord_row(node: u32, server: usize, rank: u32, share: u32) -> [u16; 4]
-    requires { ⌜ (node < 2 ^ 16) × (server < 2 ^ 16) × (1 ≤ rank) × (rank ≤ highestRank) × (share < 2 ^ 16) ⌝ }
-    ensures { λ r. ⌜ r ≡ node ∷ server ∷ (rank - 1) ∷ share ∷ [] ⌝ }
+    requires in_range { ⌜ (node < 2 ^ 16) × (server < 2 ^ 16) × (1 ≤ rank) × (rank ≤ highestRank) × (share < 2 ^ 16) ⌝ }
+    ensures result { λ r. ⌜ r ≡ node ∷ server ∷ (rank - 1) ∷ share ∷ [] ⌝ }
 {
     [short(node), place(server), short(rank - 1), short(share)]
 }
 
 // A row for each server and each cord of a good table.
 pub fn lay_out_servers(table: &[u32], servers: &mut [[u32; 4]], cords: &mut [[u16; 4]])
-    requires { ⌜ Good (checked (now table) 0) ⌝ }
-    requires { ⌜ ServersFit (now table) (length (now servers)) × CordsFit (now table) (length (now cords)) ⌝ }
-    ensures { λ _. ⌜ OfRoom (now (table .entry)) (λ r. ServerRows r (now (servers .exit)) × CordRows r (now (cords .exit))) ⌝ }
+    requires good { ⌜ Good (checked (now table) 0) ⌝ }
+    requires sizes { ⌜ ServersFit (now table) (length (now servers)) × CordsFit (now table) (length (now cords)) ⌝ }
+    ensures laid_out { λ _. ⌜ OfRoom (now (table .entry)) (λ r. ServerRows r (now (servers .exit)) × CordRows r (now (cords .exit))) ⌝ }
 {
     let mut start = first_server(table);
     let mut first = 0;

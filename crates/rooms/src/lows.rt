@@ -8,32 +8,20 @@ ghost use Rattle.figures.specs.Sums.{sum};
 ghost use Rattle.rooms.specs.Part.{good, Good};
 ghost use Rattle.rooms.specs.Table.{Room, mostNodes, mostServers, mostServerCords, mostWatts, table};
 ghost use Rattle.rooms.specs.Limits.{nodeLows, firstNode, overloaded};
-ghost use Rattle.rooms.specs.Credits.{NodesRead, parentAt, limitAt, exceeds, credited, creditedRoom, LowsCredited, SumsGathered};
+ghost use Rattle.rooms.specs.Credits.{NodesRead, parentAt, limitAt, exceeds, creditedRoom, LowsCredited, SumsGathered};
+ghost use Rattle.figures.specs.Credits.{credited};
 ghost use Rattle.figures.specs.Figures.{at};
 use crate::form::has_percents;
 use crate::form::limit_at;
 use crate::form::node_index;
+use figures::credit;
 use figures::wide;
 use figures::word_index;
 
-// A figure added to the one that stands on a node, by the node's number; 0 is no node.
-pub fn credit(sums: &mut [u64], node: usize, figure: u64)
-    requires { ⌜ node ≤ length (now sums) ⌝ }
-    requires { ⌜ getD (now sums) (node - 1) 0 + figure < 2 ^ 64 ⌝ }
-    ensures { λ _. ⌜ now (sums .exit) ≡ credited node figure (now (sums .entry)) ⌝ }
-{
-    if node == 0 {
-        return;
-    }
-    let place = node - 1;
-    let sum = sums[place];
-    sums[place] = sum + figure;
-}
-
 // The node's number where its sum exceeds its limit, else what was found before.
 fn noted(limit: u64, sum: u64, place: usize, found: usize) -> usize
-    requires { ⌜ place < mostNodes ⌝ }
-    ensures { λ r. ⌜ r ≡ cond (ltb limit sum) (suc place) found ⌝ }
+    requires place { ⌜ place < mostNodes ⌝ }
+    ensures result { λ r. ⌜ r ≡ cond (ltb limit sum) (suc place) found ⌝ }
 {
     if limit < sum { place + 1 } else { found }
 }
@@ -41,10 +29,11 @@ fn noted(limit: u64, sum: u64, place: usize, found: usize) -> usize
 // From the last node to the first, each node's sum is compared with its limit and credited to its parent.
 // The lowest node whose sum, with all beneath it, exceeds its limit; 0 if there is none.
 fn lowest_over(w: &[u32], percents: bool, node_count: usize, sums: &mut [u64]) -> usize
-    requires { ⌜ NodesRead percents (now w) «node_count» × («node_count» ≤ length (now sums)) ⌝ }
-    requires { ⌜ sum «node_count» (at (now sums)) < 2 ^ 63 ⌝ }
-    ensures { λ r. ⌜ r ≡ firstNode «node_count» 0 (exceeds (parentAt percents (now (w .entry))) (limitAt percents (now (w .entry))) «node_count» (now (sums .entry))) ⌝ }
-    ensures { λ _. ⌜ SumsGathered (parentAt percents (now (w .entry))) «node_count» (now (sums .entry)) (now (sums .exit)) ⌝ }
+    requires nodes { ⌜ NodesRead percents (now w) «node_count» × («node_count» ≤ length (now sums)) ⌝ }
+    requires sums_fit { ⌜ sum «node_count» (at (now sums)) < 2 ^ 63 ⌝ }
+    ensures result { λ r. ⌜ r ≡ firstNode «node_count» 0 (exceeds (parentAt percents (now (w .entry))) (limitAt percents (now (w .entry)))
+        «node_count» (now (sums .entry))) ⌝ }
+    ensures gathered { λ _. ⌜ SumsGathered (parentAt percents (now (w .entry))) «node_count» (now (sums .entry)) (now (sums .exit)) ⌝ }
 {
     let mut found = 0;
     let mut n = node_count;
@@ -61,10 +50,11 @@ fn lowest_over(w: &[u32], percents: bool, node_count: usize, sums: &mut [u64]) -
 // The lowest node of a good table whose limit the lows beneath it exceed; 0 if there is none. The sums come with the lows on each
 // node and leave with those beneath it.
 pub(crate) fn overloaded(w: &[u32], sums: &mut [u64]) -> usize
-    requires { ⌜ Good (table (now w) 0) × (mostNodes ≤ length (now sums)) ⌝ }
-    requires { ⌜ LowsCredited (table (now w) 0) creditedRoom (getD (now w) 1 0) (mostServerCords * mostWatts * mostServers) (replicate mostNodes 0) (now sums) ⌝ }
-    ensures { λ r. ⌜ ((q : Room) (j : ℕ) → table (now (w .entry)) 0 ≡ good q j → r ≡ overloaded q) ⌝ }
-    ensures { λ _. ⌜ ((q : Room) (j : ℕ) → table (now (w .entry)) 0 ≡ good q j → now (sums .exit) ≡ nodeLows q) ⌝ }
+    requires good { ⌜ Good (table (now w) 0) × (mostNodes ≤ length (now sums)) ⌝ }
+    requires credited { ⌜ LowsCredited (table (now w) 0) creditedRoom (getD (now w) 1 0) (mostServerCords * mostWatts * mostServers)
+        (replicate mostNodes 0) (now sums) ⌝ }
+    ensures result { λ r. ⌜ ((q : Room) (j : ℕ) → table (now (w .entry)) 0 ≡ good q j → r ≡ overloaded q) ⌝ }
+    ensures sums { λ _. ⌜ ((q : Room) (j : ℕ) → table (now (w .entry)) 0 ≡ good q j → now (sums .exit) ≡ nodeLows q) ⌝ }
 {
     let percents = has_percents(w[0]);
     let n = word_index(w[1]);

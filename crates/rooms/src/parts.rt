@@ -16,8 +16,8 @@ use numbers::Judged;
 // The whole check of a table, as `check`, with the lows of all cords beneath each node, at any depth, by the nodes' places: a caller that
 // goes on with a good table need not sum them again. Past the nodes, and where the table is refused, the lows are 0.
 pub fn check_lows(table: &[u32], lows: &mut [u64; 512]) -> Checked
-    ensures { λ r. ⌜ r ≡ told roomCords (checked (now (table .entry)) 0) ⌝ }
-    ensures { λ _. ⌜ now (lows .exit) ≡ lowsTold (checked (now (table .entry)) 0) ⌝ }
+    ensures result { λ r. ⌜ r ≡ told roomCords (checked (now (table .entry)) 0) ⌝ }
+    ensures lows { λ _. ⌜ now (lows .exit) ≡ lowsTold (checked (now (table .entry)) 0) ⌝ }
 {
     crate::clear(lows);
     let checked = crate::check_summing(table, lows);
@@ -32,8 +32,8 @@ pub fn check_lows(table: &[u32], lows: &mut [u64; 512]) -> Checked
 // where the sheet is refused, and these are answered for. A list of DECIDING_WORDS words takes enough for the answer to be that of
 // Read (`FirstWordsDecide`). A shorter one may accept, by the words that it takes, a sheet that Read refuses.
 pub fn read_words(sheet: &[u8], words: &mut [u32], space: usize) -> Answer
-    ensures { λ r. ⌜ r ≡ answerOf (readingFirst (length (now (words .entry))) (now (sheet .entry)) space) ⌝ }
-    ensures { λ _. ⌜ now (words .exit) ≡ sets (now (words .entry)) 0 (sheetOf (now (sheet .entry)) .words) ⌝ }
+    ensures result { λ r. ⌜ r ≡ answerOf (readingFirst (length (now (words .entry))) (now (sheet .entry)) space) ⌝ }
+    ensures words { λ _. ⌜ now (words .exit) ≡ sets (now (words .entry)) 0 (sheetOf (now (sheet .entry)) .words) ⌝ }
 {
     let judged = numbers::parts::decode_sheet(sheet, words);
     let count = match judged {
@@ -42,6 +42,6 @@ pub fn read_words(sheet: &[u8], words: &mut [u32], space: usize) -> Answer
             return Answer::Refused(Refusal::BadNumber(fault, place));
         }
     };
-    let front = words::least(count, words.len());
+    let front = figures::counts::least(count, words.len());
     crate::answer_for(&words[..front], space)
 }

@@ -7,7 +7,8 @@ ghost use lib.ListN.{length, getD};
 ghost use Rattle.figures.specs.Sums.{sum};
 ghost use Rattle.rooms.specs.Part.{word, within};
 ghost use Rattle.figures.specs.Figures.{total, at};
-ghost use Rattle.rooms.specs.Table.{mostNodes, mostServers, mostServerCords, mostCords, mostWatts, IsScale, percent, node, nodes, cord, cords, shareOf, shareSum, leastOf, range, load, server, servers, cordCount, table, roomCords};
+ghost use Rattle.rooms.specs.Table.{mostNodes, mostServers, mostServerCords, mostCords, mostWatts, IsScale, percent, node, nodes, cord, cords};
+ghost use Rattle.rooms.specs.Table.{shareOf, shareSum, leastOf, range, load, server, servers, cordCount, table, roomCords};
 ghost use Rattle.rooms.specs.Credits.{creditedCords, creditedServer, creditedServers, creditedRoom, LowsCredited};
 ghost use Rattle.rooms.specs.Told.{told, itself, nothing};
 use crate::Checked;
@@ -15,18 +16,18 @@ use crate::Refusal;
 use crate::form::has_percents;
 use crate::form::scale_of;
 use crate::limits::carried_by;
-use crate::lows::credit;
+use figures::credit;
 use figures::wide;
 use figures::word_index;
 
 // The figures of the table, as specs/Table.antt names them.
 const NEWEST_VERSION: u32 = 3;
 
-const MOST_NODES: u32 = 512;
+const MOST_NODES: u32 = crate::MOST_NODES as u32;
 
-const MOST_SERVERS: u32 = 512;
+const MOST_SERVERS: u32 = crate::MOST_SERVERS as u32;
 
-const MOST_CORDS: u32 = 1024;
+const MOST_CORDS: u32 = crate::MOST_CORDS as u32;
 
 const MOST_SERVER_CORDS: u32 = 4;
 
@@ -36,7 +37,7 @@ const MOST_WATTS: u32 = 16_777_215;
 
 // The word at i, from low to high.
 fn check_word(w: &[u32], i: usize, low: u32, high: u32) -> Checked
-    ensures { λ r. ⌜ r ≡ told itself (word (within low high) (now (w .entry)) i) ⌝ }
+    ensures result { λ r. ⌜ r ≡ told itself (word (within low high) (now (w .entry)) i) ⌝ }
 {
     if w.len() <= i {
         return Checked::Refused(Refusal::WordMissing(w.len()));
@@ -53,7 +54,7 @@ fn check_word(w: &[u32], i: usize, low: u32, high: u32) -> Checked
 
 // The word at i, a node's percent: 80 or 100.
 fn check_percent(w: &[u32], i: usize) -> Checked
-    ensures { λ r. ⌜ r ≡ told nothing (percent true (now (w .entry)) i) ⌝ }
+    ensures result { λ r. ⌜ r ≡ told nothing (percent true (now (w .entry)) i) ⌝ }
 {
     let percent = check_word(w, i, 80, 100);
     let Checked::Good(v, next) = percent else {
@@ -70,8 +71,8 @@ fn check_percent(w: &[u32], i: usize) -> Checked
 
 // The node at i, with its own number; whether it has a word for its percent.
 fn check_node(w: &[u32], i: usize, percents: bool, own: u32) -> Checked
-    requires { ⌜ 0 < own ⌝ }
-    ensures { λ r. ⌜ r ≡ told nothing (node percents own (now (w .entry)) i) ⌝ }
+    requires own { ⌜ 0 < own ⌝ }
+    ensures result { λ r. ⌜ r ≡ told nothing (node percents own (now (w .entry)) i) ⌝ }
 {
     let parent = check_word(w, i, 0, own - 1);
     let Checked::Good(_, at_rating) = parent else {
@@ -89,8 +90,8 @@ fn check_node(w: &[u32], i: usize, percents: bool, own: u32) -> Checked
 
 // So many nodes from i on, numbered from 1.
 fn check_nodes(w: &[u32], i: usize, percents: bool, count: u32) -> Checked
-    requires { ⌜ count ≤ mostNodes ⌝ }
-    ensures { λ r. ⌜ r ≡ told nothing (nodes percents count 1 (now (w .entry)) i) ⌝ }
+    requires count { ⌜ count ≤ mostNodes ⌝ }
+    ensures result { λ r. ⌜ r ≡ told nothing (nodes percents count 1 (now (w .entry)) i) ⌝ }
 {
     let mut left = count;
     let mut own: u32 = 1;
@@ -109,7 +110,7 @@ fn check_nodes(w: &[u32], i: usize, percents: bool, count: u32) -> Checked
 
 // The cord at i, and its share.
 fn check_cord(w: &[u32], i: usize, scale: u32, node_count: u32) -> Checked
-    ensures { λ r. ⌜ r ≡ told shareOf (cord scale «node_count» (now (w .entry)) i) ⌝ }
+    ensures result { λ r. ⌜ r ≡ told shareOf (cord scale «node_count» (now (w .entry)) i) ⌝ }
 {
     let node = check_word(w, i, 1, node_count);
     let Checked::Good(_, at_share) = node else {
@@ -128,10 +129,11 @@ fn check_cords(
     least: u32,
     sums: &mut [u64],
 ) -> Checked
-    requires { ⌜ IsScale scale × (count ≤ mostServerCords) × (least ≤ mostWatts) ⌝ }
-    requires { ⌜ («node_count» ≤ length (now sums)) × (sum «node_count» (at (now sums)) + mostWatts * count < 2 ^ 63) ⌝ }
-    ensures { λ r. ⌜ r ≡ told shareSum (cords scale «node_count» count (now (w .entry)) i) ⌝ }
-    ensures { λ _. ⌜ LowsCredited (cords scale «node_count» count (now (w .entry)) i) (creditedCords scale least) «node_count» (mostWatts * count) (now (sums .entry)) (now (sums .exit)) ⌝ }
+    requires in_range { ⌜ IsScale scale × (count ≤ mostServerCords) × (least ≤ mostWatts) ⌝ }
+    requires sums_fit { ⌜ («node_count» ≤ length (now sums)) × (sum «node_count» (at (now sums)) + mostWatts * count < 2 ^ 63) ⌝ }
+    ensures result { λ r. ⌜ r ≡ told shareSum (cords scale «node_count» count (now (w .entry)) i) ⌝ }
+    ensures credited { λ _. ⌜ LowsCredited (cords scale «node_count» count (now (w .entry)) i) (creditedCords scale least) «node_count»
+        (mostWatts * count) (now (sums .entry)) (now (sums .exit)) ⌝ }
 {
     let mut left = count;
     let mut sum: u32 = 0;
@@ -152,7 +154,7 @@ fn check_cords(
 
 // The least and the greatest of a server, from i on; the least is told.
 fn check_range(w: &[u32], i: usize) -> Checked
-    ensures { λ r. ⌜ r ≡ told leastOf (range (now (w .entry)) i) ⌝ }
+    ensures result { λ r. ⌜ r ≡ told leastOf (range (now (w .entry)) i) ⌝ }
 {
     let first = check_word(w, i, 0, MOST_WATTS);
     let Checked::Good(least, at_greatest) = first else {
@@ -170,7 +172,7 @@ fn check_range(w: &[u32], i: usize) -> Checked
 
 // The lesser of two numbers.
 fn lesser(a: u32, b: u32) -> u32
-    ensures { λ r. ⌜ r ≡ min a b ⌝ }
+    ensures result { λ r. ⌜ r ≡ min a b ⌝ }
 {
     if a < b { a } else { b }
 }
@@ -186,10 +188,11 @@ fn check_load(
     least: u32,
     sums: &mut [u64],
 ) -> Checked
-    requires { ⌜ IsScale scale × (before ≤ mostCords) × (least ≤ mostWatts) ⌝ }
-    requires { ⌜ («node_count» ≤ length (now sums)) × (sum «node_count» (at (now sums)) + mostServerCords * mostWatts < 2 ^ 63) ⌝ }
-    ensures { λ r. ⌜ r ≡ told length (load scale «node_count» before start (now (w .entry)) i) ⌝ }
-    ensures { λ _. ⌜ LowsCredited (load scale «node_count» before start (now (w .entry)) i) (creditedCords scale least) «node_count» (mostServerCords * mostWatts) (now (sums .entry)) (now (sums .exit)) ⌝ }
+    requires in_range { ⌜ IsScale scale × (before ≤ mostCords) × (least ≤ mostWatts) ⌝ }
+    requires sums_fit { ⌜ («node_count» ≤ length (now sums)) × (sum «node_count» (at (now sums)) + mostServerCords * mostWatts < 2 ^ 63) ⌝ }
+    ensures result { λ r. ⌜ r ≡ told length (load scale «node_count» before start (now (w .entry)) i) ⌝ }
+    ensures credited { λ _. ⌜ LowsCredited (load scale «node_count» before start (now (w .entry)) i) (creditedCords scale least) «node_count»
+        (mostServerCords * mostWatts) (now (sums .entry)) (now (sums .exit)) ⌝ }
 {
     let first = check_word(w, i, 1, lesser(MOST_SERVER_CORDS, MOST_CORDS - before));
     let Checked::Good(count, at_cords) = first else {
@@ -214,9 +217,11 @@ fn check_server(
     before: u32,
     sums: &mut [u64],
 ) -> Checked
-    requires { ⌜ IsScale scale × (before ≤ mostCords) × («node_count» ≤ length (now sums)) × (sum «node_count» (at (now sums)) + mostServerCords * mostWatts < 2 ^ 63) ⌝ }
-    ensures { λ r. ⌜ r ≡ told cordCount (server scale «node_count» before (now (w .entry)) i) ⌝ }
-    ensures { λ _. ⌜ LowsCredited (server scale «node_count» before (now (w .entry)) i) (creditedServer scale) «node_count» (mostServerCords * mostWatts) (now (sums .entry)) (now (sums .exit)) ⌝ }
+    requires in_range { ⌜ IsScale scale × (before ≤ mostCords) × («node_count» ≤ length (now sums))
+        × (sum «node_count» (at (now sums)) + mostServerCords * mostWatts < 2 ^ 63) ⌝ }
+    ensures result { λ r. ⌜ r ≡ told cordCount (server scale «node_count» before (now (w .entry)) i) ⌝ }
+    ensures credited { λ _. ⌜ LowsCredited (server scale «node_count» before (now (w .entry)) i) (creditedServer scale) «node_count»
+        (mostServerCords * mostWatts) (now (sums .entry)) (now (sums .exit)) ⌝ }
 {
     let rank = check_word(w, i, 1, HIGHEST_RANK);
     let Checked::Good(_, at_range) = rank else {
@@ -238,9 +243,11 @@ fn check_servers(
     count: u32,
     sums: &mut [u64],
 ) -> Checked
-    requires { ⌜ IsScale scale × («node_count» ≤ length (now sums)) × (sum «node_count» (at (now sums)) + mostServerCords * mostWatts * count < 2 ^ 63) ⌝ }
-    ensures { λ r. ⌜ r ≡ told (total cordCount) (servers scale «node_count» count 0 (now (w .entry)) i) ⌝ }
-    ensures { λ _. ⌜ LowsCredited (servers scale «node_count» count 0 (now (w .entry)) i) (creditedServers scale) «node_count» (mostServerCords * mostWatts * count) (now (sums .entry)) (now (sums .exit)) ⌝ }
+    requires in_range { ⌜ IsScale scale × («node_count» ≤ length (now sums))
+        × (sum «node_count» (at (now sums)) + mostServerCords * mostWatts * count < 2 ^ 63) ⌝ }
+    ensures result { λ r. ⌜ r ≡ told (total cordCount) (servers scale «node_count» count 0 (now (w .entry)) i) ⌝ }
+    ensures credited { λ _. ⌜ LowsCredited (servers scale «node_count» count 0 (now (w .entry)) i) (creditedServers scale) «node_count»
+        (mostServerCords * mostWatts * count) (now (sums .entry)) (now (sums .exit)) ⌝ }
 {
     let mut left = count;
     let mut before: u32 = 0;
@@ -259,9 +266,10 @@ fn check_servers(
 
 // The whole table, and the count of its cords. The sums, 0 at first, get the lows of the cords on each node.
 pub(crate) fn check_table(w: &[u32], sums: &mut [u64]) -> Checked
-    requires { ⌜ (mostNodes ≤ length (now sums)) × ((i : ℕ) → getD (now sums) i 0 ≡ 0) ⌝ }
-    ensures { λ r. ⌜ r ≡ told roomCords (table (now (w .entry)) 0) ⌝ }
-    ensures { λ _. ⌜ LowsCredited (table (now (w .entry)) 0) creditedRoom (getD (now (w .entry)) 1 0) (mostServerCords * mostWatts * mostServers) (now (sums .entry)) (now (sums .exit)) ⌝ }
+    requires zeros { ⌜ (mostNodes ≤ length (now sums)) × ((i : ℕ) → getD (now sums) i 0 ≡ 0) ⌝ }
+    ensures result { λ r. ⌜ r ≡ told roomCords (table (now (w .entry)) 0) ⌝ }
+    ensures credited { λ _. ⌜ LowsCredited (table (now (w .entry)) 0) creditedRoom (getD (now (w .entry)) 1 0)
+        (mostServerCords * mostWatts * mostServers) (now (sums .entry)) (now (sums .exit)) ⌝ }
 {
     let first = check_word(w, 0, 1, NEWEST_VERSION);
     let Checked::Good(version, at_nodes) = first else {

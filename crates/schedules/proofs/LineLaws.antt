@@ -92,10 +92,6 @@ module _ (text : List ℕ) (at : ℕ) where
 
 -- ---- A line, judged
 
-pub and-false : (t : Bool) → t && false ≡ false
-and-false true = refl
-and-false false = refl
-
 pub and-true : (t : Bool) → t && true ≡ t
 and-true true = refl
 and-true false = refl

@@ -10,7 +10,8 @@ use borrow.Author.Tests.{le-leb, lt-leb}
 use Rattle.rooms.specs.Table.{mostNodes}
 use Rattle.schedules.specs.Text.{line}
 use Rattle.schedules.specs.Text.{good, bad}
-use Rattle.schedules.specs.Schedule.{rating, Judgement, judged, whole, onto, linesFrom, linesOf, nodeWords}
+use Rattle.schedules.specs.Schedule.{rating, Judgement, judged, whole, onto, linesFrom, linesOf}
+use Rattle.schedules.specs.Nodes.{nodeWords}
 use Rattle.schedules.specs.Told.{toldNode, counted, toldLines}
 use Rattle.schedules.proofs.LineLaws.{passed-is, range-is, node-told, refusal-told}
 use Rattle.schedules.specs.declared.Entry.{Entry}

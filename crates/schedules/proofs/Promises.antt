@@ -11,12 +11,12 @@ use borrow.Author.Tests.{eqb-true, eq-eqb, eqb-false}
 use Rattle.schedules.specs.Sizes.{sizes, isIn, isSize}
 use Rattle.outcomes.specs.Outcome.{accepted}
 use Rattle.outcomes.proofs.Outcomes.{unless-back, unless-is}
-use Rattle.schedules.specs.Schedule.{Ending, whole, stopped, linesOf, tableOf, noLines, scheduledLines, scheduling}
+use Rattle.schedules.specs.Schedule.{Ending, whole, stopped, linesOf, roomOf, tableOf, noLines, scheduledLines, scheduling}
 use Rattle.schedules.specs.Promises.{SizesRise, SizesAreTheTable, AcceptedIsWritten, WrittenIsRead, AnsweredExactly, ScheduleGivesRoom, FirstBytesDecide}
 use Rattle.schedules.proofs.SizeLaws as sizes
 use Rattle.schedules.proofs.TableLaws.{few-entries}
 use Rattle.schedules.specs.Written.{Pass}
-use Rattle.schedules.proofs.RoomTable.{entries-pass, roomOf, table-checked, table-written, node-of}
+use Rattle.schedules.proofs.RoomTable.{entries-pass, table-checked, table-written, node-of}
 use Rattle.schedules.proofs.ReadsText.{lines-read}
 use Rattle.schedules.proofs.WritesText.{lines-written}
 use Rattle.schedules.proofs.FirstBytes.{scheduling-cut}

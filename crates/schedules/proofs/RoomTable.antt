@@ -8,12 +8,11 @@ use lib.ListN.{length, getD, length-map}
 use lib.Dec.{leb}
 use Rattle.numbers.specs.Sheet.{bytesOf}
 use Rattle.figures.specs.Figures.{total}
-use Rattle.rooms.specs.Table.{Node, Room, mostNodes, formOf, table}
+use Rattle.rooms.specs.Table.{mostNodes, formOf, table}
 use Rattle.rooms.specs.Limits.{lows, nodeAt, checked}
 use Rattle.rooms.specs.Outcome.{writing}
 use Rattle.rooms.proofs.Reach.{next-is-length}
-use Rattle.rooms.specs.Words.{rowWords, wordsOfNode, NodeInRange}
-use Rattle.rooms.specs.Words as words
+use Rattle.rooms.specs.Words.{NodeInRange}
 use Rattle.rooms.proofs.Tables.{Chain, RoomFits, Reads, table-reads}
 use Rattle.outcomes.specs.Outcome.{accepted}
 use Rattle.outcomes.proofs.Outcomes.{fitting-whole}
@@ -21,7 +20,7 @@ use Rattle.rooms.specs.declared.Refusal.the-variants.{OutputTooShort}
 use Rattle.rooms.proofs.Outcomes.{writing-good}
 use Rattle.rooms.proofs.Promises.{refusal-nine}
 use Rattle.schedules.specs.Text.{line, good, bad}
-use Rattle.schedules.specs.Schedule.{rating, Judgement, judged, whole, onto, linesFrom, nodeWords, tableOf}
+use Rattle.schedules.specs.Schedule.{rating, Judgement, judged, whole, onto, linesFrom, nodeOf, roomOf, tableOf}
 use Rattle.schedules.specs.Written.{Pass, none, more}
 use Rattle.schedules.proofs.LineLaws.{range-is, rating-most, passed-is}
 use Rattle.schedules.specs.declared.Entry.{Entry}
@@ -41,19 +40,6 @@ entries-pass (suc most) text place at = go (leb (length text) at) (judged place 
     go false (bad q) e further = none
 
 -- ---- The room
-
--- The node of an entry.
-abbrev pub nodeOf : Entry → Node
-nodeOf e = record { parent = e .parent; rating = rating e; percent = 80 }
-
-abbrev pub roomOf : List Entry → Room
-roomOf entries = record { scale = 1000; nodes = map nodeOf entries; servers = [] }
-
--- The words of the entries are those of their nodes.
-nodes-words : (entries : List Entry) → nodeWords entries ≡ rowWords (wordsOfNode false) (map nodeOf entries)
-unfolding nodeWords rowWords
-nodes-words [] = refl
-nodes-words (e ∷ rest) = ap (λ (z : List ℕ). e .parent ∷ rating e ∷ z) (nodes-words rest)
 
 -- The nodes of entries that pass are in range; an entry at a place has a number that is one more.
 nodes-fit : {place : ℕ} {entries : List Entry} → Pass place entries → Chain (NodeInRange false) (λ own _. suc own) (suc place) (map nodeOf entries)
@@ -80,16 +66,12 @@ module _ (entries : List Entry) (p : Pass 0 entries) (some : 1 ≤ length entrie
         servers = tt;
       }
 
-  table-words : tableOf entries ≡ words.tableOf 1 (roomOf entries)
-  unfolding formOf rowWords
-  table-words = rw (nodes-words entries, length-map entries nodeOf)
-
   -- No cord hangs anywhere, so no limit is passed.
   pub table-checked : checked (tableOf entries) 0 ≡ good (roomOf entries) (length (tableOf entries))
   unfolding lows total
   table-checked =
       let w = tableOf entries in
-      let read : Reads table w 0 (roomOf entries) [] = rw table-words (table-reads 1 (roomOf entries) room-fits) in
+      let read : Reads table w 0 (roomOf entries) [] = table-reads 1 (roomOf entries) room-fits in
       let e = refusal-nine .passed w (roomOf entries) (read .next) (read .is) (λ n h. omega arith) in
       e ∙ ap (good (roomOf entries)) (next-is-length w (roomOf entries) (read .next) e)
 

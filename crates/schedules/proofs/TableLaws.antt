@@ -1,25 +1,27 @@
 -- The table of a schedule: how it comes to stand in a list, and what each answer says of the outcome.
 use mathlib.Core.Path.{_≡_, refl, sym, ap, subst, _∙_}
 use mathlib.Core.Bool.{Bool, true, false, cond}
-use mathlib.Core.List.{List, [], _∷_}
+use mathlib.Core.List.{List, [], _∷_, _++_, map}
 use Prim.Native.Nat.{ℕ, zero, suc, _+_, _*_, _/_, _≤_, _<_}
 use native.Mathlib.Nat.{suc-ne-zero}
 use native.Mathlib.Omega.{arith}
-use lib.ListN.{length, take, set, length-append, length-take}
+use lib.ListN.{length, take, set, length-append, length-take, length-map}
 use lib.Seq.{sets, set-comm, take-all, take-length}
-use lib.Dec.{leb, eqb}
+use lib.Dec.{leb}
 use borrow.Author.Tests.{ltb-false, eq-eqb, ne-eqb}
 use Rattle.words.specs.Bytes.{bytesOf}
-use Rattle.words.proofs.Lists.{take-sets, sets-append}
+use Rattle.figures.proofs.Stores.{take-sets, sets-append}
 use Rattle.calls.specs.Call.{answered, OutcomeCall}
 use Rattle.calls.proofs.Calls.{answer-told, call-done}
 use Rattle.calls.proofs.Fronts.{bytes-after}
-use Rattle.rooms.specs.Table.{mostNodes}
+use Rattle.rooms.specs.Table.{mostNodes, formOf}
+use Rattle.rooms.specs.Words.{rowWords, wordsOfNode}
 use Rattle.schedules.specs.Text.{line}
 use Rattle.outcomes.specs.Outcome.{accepted, refused, tooShort, fitting, after}
 use Rattle.outcomes.proofs.Outcomes.{unless-stop, unless-pass, unless-either, unless-none, fitting-short, fitting-whole}
 use Rattle.schedules.specs.Text.{good, bad}
-use Rattle.schedules.specs.Schedule.{Judgement, judged, Ending, whole, stopped, onto, linesFrom, linesOf, nodeWords, tableOf, ScheduleOutcome, noLines, scheduledLines, scheduling, answerOf, answerNumber, answerFigure, mostWords}
+use Rattle.schedules.specs.Schedule.{Judgement, judged, Ending, whole, stopped, onto, linesFrom, linesOf, rating, nodeOf, tableOf, ScheduleOutcome, noLines, scheduledLines, scheduling, answerOf, answerNumber, answerFigure, mostWords}
+use Rattle.schedules.specs.Nodes.{nodeWords}
 use Rattle.schedules.specs.Call.{numbersOf}
 use Rattle.schedules.specs.Told.{counted, toldLines, written, InFront, writtenCount}
 use Rattle.schedules.proofs.LineLaws.{passed-is, range-is}
@@ -38,8 +40,20 @@ unfolding nodeWords
 length-nodeWords [] = refl
 length-nodeWords (e ∷ rest) = omega (arith, length-nodeWords rest)
 
+-- The words of the entries are those of their nodes.
+nodes-words : (entries : List Entry) → nodeWords entries ≡ rowWords (wordsOfNode false) (map nodeOf entries)
+unfolding nodeWords rowWords
+nodes-words [] = refl
+nodes-words (e ∷ rest) = ap (λ (z : List ℕ). e .parent ∷ rating e ∷ z) (nodes-words rest)
+
+-- The table has its nodes' words, with version and counts around them.
+table-words : (entries : List Entry) → tableOf entries ≡ 1 ∷ length entries ∷ (nodeWords entries ++ (0 ∷ []))
+unfolding formOf rowWords
+table-words entries = rw (nodes-words entries, length-map entries nodeOf)
+
 pub length-tableOf : (entries : List Entry) → length (tableOf entries) ≡ 3 + 2 * length entries
-length-tableOf entries = omega (arith, length-append (nodeWords entries) (0 ∷ []), length-nodeWords entries)
+length-tableOf entries =
+    ap length (table-words entries) ∙ omega (arith, length-append (nodeWords entries) (0 ∷ []), length-nodeWords entries)
 
 -- No more than 512 lines pass.
 few-from : (most : ℕ) (text : List ℕ) (place at : ℕ) → place ≤ mostNodes → place + length (linesFrom most text place at .entries) ≤ mostNodes
@@ -75,7 +89,7 @@ table-sets words entries count n =
     let front : set (set (sets words 2 ns) 0 1) 1 count ≡ sets (set (set words 0 1) 1 count) 2 ns =
     ap (λ (x : List ℕ). set x 1 count) (set-before words 2 ns 0 1 (omega arith)) ∙ set-before (set words 0 1) 2 ns 1 count (omega arith) in
     ap (λ (x : List ℕ). set x (2 + 2 * count) 0) front
-    ∙ sym (rw (n) (sets-append (set (set words 0 1) 1 count) 2 ns (0 ∷ []) ∙ ap (λ (i : ℕ). set (sets (set (set words 0 1) 1 count) 2 ns) i 0) place))
+    ∙ sym (rw (table-words entries, n) (sets-append (set (set words 0 1) 1 count) 2 ns (0 ∷ []) ∙ ap (λ (i : ℕ). set (sets (set (set words 0 1) 1 count) 2 ns) i 0) place))
 
 -- ---- What the answer on the lines says of the outcome
 

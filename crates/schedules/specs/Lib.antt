@@ -6,3 +6,5 @@ pub mod Call
 pub mod Told
 pub mod Written
 pub mod Promises
+-- Cited by contracts of private functions alone.
+pub mod Nodes

@@ -13,7 +13,8 @@ use Rattle.rooms.specs.Limits.{nodeAt, checked}
 use Rattle.outcomes.specs.Outcome.{accepted}
 use Rattle.rooms.specs.Outcome.{writing}
 use Rattle.schedules.specs.Sizes.{sizes, isSize}
-use Rattle.schedules.specs.Schedule.{rating, inRange, whole, linesOf, tableOf, ScheduleOutcome, scheduling, answerOf, answerNumber, answerFigure}
+use Rattle.schedules.specs.Schedule.{rating, inRange, whole, linesOf, tableOf, ScheduleOutcome, scheduling, answerOf, answerNumber}
+use Rattle.schedules.specs.Schedule.{answerFigure}
 use Rattle.schedules.specs.Written.{Written, Pass, LineFirst, LinesFirst}
 use Rattle.schedules.specs.declared.Entry.{Entry}
 
@@ -92,7 +93,8 @@ pub record OutOfRangeAt (text : List ℕ) (place : ℕ) : Type 0 where
 pub record AnsweredExactly : Type 0 where
   pub no-line : (text : List ℕ) (words place : ℕ) → Tells (scheduling text words) 24 place ↔ NoLineAt text place
   pub no-size : (text : List ℕ) (words place : ℕ) → Tells (scheduling text words) 25 place ↔ NoSizeAt text place
-  pub out-of-range : (text : List ℕ) (words place : ℕ) → Tells (scheduling text words) 26 place ↔ (OutOfRangeAt text place ⊎ ((text ≡ []) × (place ≡ 0)))
+  pub out-of-range : (text : List ℕ) (words place : ℕ) → Tells (scheduling text words) 26 place
+      ↔ (OutOfRangeAt text place ⊎ ((text ≡ []) × (place ≡ 0)))
   pub list-short : (text : List ℕ) (words needed : ℕ) → Tells (scheduling text words) 12 needed ↔ (AllLines text needed × (words < needed))
   pub accepted : (text : List ℕ) (words needed : ℕ) → Tells (scheduling text words) 0 needed ↔ (AllLines text needed × (needed ≤ words))
 

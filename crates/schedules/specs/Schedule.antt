@@ -1,12 +1,13 @@
 -- The schedule of a text: its lines, judged one by one, and the room table that they give.
 use mathlib.Core.Bool.{Bool, cond, _&&_}
-use mathlib.Core.List.{List, [], _∷_, _++_}
+use mathlib.Core.List.{List, [], _∷_, map}
 use Prim.Native.Nat.{ℕ, zero, suc, _*_}
 use lib.Dec.{eqb, leb, ltb}
 use lib.ListN.{length}
 use Rattle.outcomes.specs.Outcome.{Outcome, accepted, refused, Reason, unless, tooShort}
 use Rattle.outcomes.specs.Part as outcomes
-use Rattle.rooms.specs.Table.{mostNodes}
+use Rattle.rooms.specs.Table.{Node, Room, mostNodes}
+use Rattle.rooms.specs.Words as rooms
 use Rattle.schedules.specs.Sizes.{isSize}
 use Rattle.schedules.specs.Text.{Step, good, bad, malformed, line}
 use Rattle.schedules.specs.declared.Entry.{Entry}
@@ -104,14 +105,16 @@ linesOf text = linesFrom (suc mostNodes) text 0 0
 abbrev pub mostWords : ℕ
 mostWords = 1027
 
--- The words of the nodes: parent and rating of each.
-unfoldable pub nodeWords : List Entry → List ℕ
-nodeWords [] = []
-nodeWords (e ∷ rest) = e .parent ∷ rating e ∷ nodeWords rest
+-- The room of the entries: a node for each, with the percent of version 1, and no servers.
+abbrev pub nodeOf : Entry → Node
+nodeOf e = record { parent = e .parent; rating = rating e; percent = 80 }
 
--- The version 1 table of the nodes, without servers.
+abbrev pub roomOf : List Entry → Room
+roomOf entries = record { scale = 1000; nodes = map nodeOf entries; servers = [] }
+
+-- Its table in version 1.
 abbrev pub tableOf : List Entry → List ℕ
-tableOf entries = 1 ∷ length entries ∷ (nodeWords entries ++ (0 ∷ []))
+tableOf entries = rooms.tableOf 1 (roomOf entries)
 
 -- What a schedule comes to: accepted with the words of its table, or refused.
 abbrev pub ScheduleOutcome : Type 0

@@ -88,7 +88,8 @@ const MOST_WORDS: usize = 1027;
 // The table of a schedule, at the front of the list. Refused, it leaves the list unchanged.
 pub fn schedule(text: &[u8], table: &mut [u32]) -> Scheduled
     ensures answer { λ r. ⌜ r ≡ answerOf (scheduling (now (text .entry)) (length (now (table .entry)))) ⌝ }
-    ensures table { λ _. ⌜ now (table .exit) ≡ after (λ words. words) (scheduling (now (text .entry)) (length (now (table .entry)))) (now (table .entry)) ⌝ }
+    ensures table { λ _. ⌜ now (table .exit) ≡ after (λ words. words) (scheduling (now (text .entry)) (length (now (table .entry))))
+        (now (table .entry)) ⌝ }
 {
     let mut words = [0u32; MOST_WORDS];
     schedule_by(text, &mut words, table)
@@ -106,11 +107,12 @@ pub fn schedule_bytes(text: &[u8], table: &mut [u8], answer: &mut [u8]) -> u32
 fn schedule_by(text: &[u8], words: &mut [u32], table: &mut [u32]) -> Scheduled
     requires words_long { ⌜ mostWords ≤ length (now words) ⌝ }
     ensures answer { λ r. ⌜ r ≡ answerOf (scheduling (now (text .entry)) (length (now (table .entry)))) ⌝ }
-    ensures table { λ _. ⌜ now (table .exit) ≡ after (λ words. words) (scheduling (now (text .entry)) (length (now (table .entry)))) (now (table .entry)) ⌝ }
+    ensures table { λ _. ⌜ now (table .exit) ≡ after (λ words. words) (scheduling (now (text .entry)) (length (now (table .entry))))
+        (now (table .entry)) ⌝ }
 {
     let told = schedule_words(text, words, table.len());
     let count = written_count(told);
-    words::copy(&words[..count], table);
+    figures::copy(&words[..count], table);
     told
 }
 

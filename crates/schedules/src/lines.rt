@@ -4,13 +4,15 @@ ghost use Prim.Native.Nat.{_≤_};
 ghost use lib.ListN.{length};
 ghost use lib.Seq.{sets};
 ghost use Rattle.schedules.specs.Text.{line};
-ghost use Rattle.schedules.specs.Schedule.{inRange, judged, linesOf, nodeWords, mostWords};
+ghost use Rattle.schedules.specs.Schedule.{inRange, judged, linesOf, mostWords};
+ghost use Rattle.schedules.specs.Nodes.{nodeWords};
 ghost use Rattle.schedules.specs.Told.{toldNode, toldLines};
 use crate::Entry;
 use crate::Refusal;
 use crate::sizes::is_size;
 use crate::text::Line;
 use crate::text::read_line;
+use rooms::MOST_NODES;
 
 // The node of a line and the place after the line, or its refusal.
 pub enum Judged {
@@ -23,8 +25,6 @@ pub enum Counted {
     Lines(usize),
     Refused(Refusal),
 }
-
-const MOST_NODES: usize = 512;
 
 const LEAST_VOLTS: u32 = 100;
 

@@ -10,7 +10,7 @@ use lib.Dec.{eqb, leb, ltb}
 use lib.ListN.{length, take, drop}
 use lib.Seq.{length-take-le, take-all}
 use Rattle.outcomes.specs.Outcome.{accepted, refused, unless, after}
-use Rattle.words.proofs.Lists.{sets-front}
+use Rattle.figures.proofs.Stores.{sets-front}
 use Rattle.sender.specs.Period.{serversFrom, positionAfter, period, namedCount}
 use Rattle.sender.specs.Outcome.{mostServers, SendOutcome, inRange, sending, answerOf}
 use Rattle.sender.specs.Promises.{InRange}

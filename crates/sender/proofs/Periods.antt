@@ -9,7 +9,7 @@ use borrow.Author.Tests.{ltb-true, ltb-false, lt-ltb, le-ltb}
 use lib.Dec.{ltb}
 use lib.ListN.{length, getD, set, take}
 use lib.Seq.{sets, take-all}
-use Rattle.words.proofs.Lists.{sets-turn, sets-all}
+use Rattle.figures.proofs.Stores.{sets-turn, sets-all}
 use Rattle.sender.specs.Period.{following, serversFrom, positionAfter}
 
 module _ (count : ℕ) where

@@ -6,9 +6,9 @@ use native.Mathlib.Nat.{le-refl}
 use native.Mathlib.Omega.{arith}
 use lib.ListN.{length, take}
 use lib.Seq.{sets, take-length}
-use Rattle.words.specs.Lists.{AllBelow}
+use Rattle.figures.specs.Bounds.{AllBelow}
 use Rattle.words.specs.Bytes.{wordsOf, bytesOf}
-use Rattle.words.proofs.Lists.{take-sets}
+use Rattle.figures.proofs.Stores.{take-sets}
 use Rattle.words.proofs.Bytes.{length-wordsOf, length-bytesOf, wordsOf-bytesOf}
 use Rattle.numbers.specs.Sheet as sheets
 use Rattle.numbers.proofs.SheetLaws.{length-bytesOf≤}

@@ -8,9 +8,9 @@ use borrow.Author.Tests.{leb-true, leb-false}
 use lib.Dec.{leb}
 use lib.ListN.{length, take, drop, length-append}
 use lib.Seq.{sets, take-all, take-at, drop-at, take-append-le, drop-append-le}
-use Rattle.words.specs.Lists.{AllBelow}
+use Rattle.figures.specs.Bounds.{AllBelow}
 use Rattle.words.specs.Bytes.{littleEndian, word, wordsOf, bytesOf}
-use Rattle.words.proofs.Lists.{sets-front}
+use Rattle.figures.proofs.Stores.{sets-front}
 use Rattle.words.proofs.Bytes.{length-littleEndian}
 use Rattle.calls.specs.Call.{answerBytes, holdsAnswer, answered, OutcomeCall}
 use Rattle.calls.proofs.Calls.{answered-long, holdsAnswer-short, holdsAnswer-long}

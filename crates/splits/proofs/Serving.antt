@@ -1,6 +1,6 @@
 -- A node's children served in turn: the parts that they get of its amount, and the weights served and the watts dealt there.
 use mathlib.Core.Path.{_≡_, refl, sym, ap, ap₂, subst, _∙_}
-use mathlib.Core.Bool.{Bool, true, false}
+use mathlib.Core.Bool.{Bool, true, false, _&&_}
 use mathlib.Core.List.{List}
 use Prim.Native.Nat.{ℕ, suc, _+_, _*_, _-_, _/_, _^_, _≤_, _<_}
 use native.Mathlib.Nat.{sub-zero}
@@ -17,6 +17,18 @@ use Rattle.splits.specs.Serving.{MayServe, HasServed}
 use Rattle.splits.proofs.Splits.{div-mono, quotient-none}
 
 -- ---- One child
+
+-- A test and, if it holds, another one.
+pub both-tests : (p q : Bool) → p ≡ true → q ≡ p && q
+both-tests p q e = rw e
+
+pub first-fails : (p q : Bool) → p ≡ false → false ≡ p && q
+first-fails p q e = rw e
+
+-- A child that is seen to have all the weight has it.
+pub all-seen : (p : Bool) (w e : ℕ) {r : Bool} → r ≡ p && eqb w e → r ≡ true → w ≡ e
+all-seen true w e q t = eqb-true w e (sym q ∙ t)
+all-seen false w e q t = let z : false ≡ true = sym q ∙ t in let k : _≡_ {A = ℕ} 0 1 = cc in absurd (omega arith)
 
 -- A child with all the weight gets all, where there is weight.
 pub serve-all : (x e w p : ℕ) (before dealt : List ℕ) {watts : ℕ} → at before p + w ≤ e → w ≡ e → watts ≡ x * e / e → HasServed x e w p before dealt watts (set before p w) (set dealt p watts)

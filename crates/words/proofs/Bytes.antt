@@ -1,6 +1,5 @@
 -- Laws of words and numbers as bytes.
 use mathlib.Core.Path.{_≡_, refl, sym, ap, _∙_}
-use mathlib.Core.Bool.{true, false}
 use mathlib.Core.List.{List, [], _∷_, _++_, append-assoc, append-nil}
 use Prim.Native.Nat.{ℕ, zero, suc, _+_, _-_, _*_, _/_, _%_, _^_, _≤_, _<_, min}
 use native.Mathlib.Omega.{arith}
@@ -9,9 +8,10 @@ use native.Mathlib.Nat.{suc-add}
 use borrow.Author.Tests.{le-leb, lt-leb}
 use lib.ListN.{length, getD, set, take}
 use lib.Seq.{sets, take-suc, length-take-le}
-use Rattle.words.specs.Lists.{AllBelow}
-use Rattle.words.specs.Bytes.{littleEndian, word, wordAt, wordsOf, bytesOf, answerBytes, holdsAnswer, answered, numberStored}
-use Rattle.words.proofs.Lists.{sets-append, take-sets, take-min, nil-below, cons-below, append-below}
+use Rattle.figures.specs.Bounds.{AllBelow}
+use Rattle.words.specs.Bytes.{littleEndian, word, wordAt, wordsOf, bytesOf, numberStored}
+use Rattle.figures.proofs.Stores.{sets-append, take-sets, take-min}
+use Rattle.figures.proofs.Bounds.{nil-below, cons-below, append-below}
 
 -- ---- length
 
@@ -110,39 +110,6 @@ pub take-loaded : (k n : ℕ) (bytes list list' : List ℕ) → length list ≡ 
 take-loaded k n bytes list list' hk hn hl =
     let count : n ≡ min (length (wordsOf bytes)) k = omega (arith, length-wordsOf bytes) in
     rw hl (take-sets n list (wordsOf bytes) (omega arith) (omega arith) ∙ ap (λ (m : ℕ). take m (wordsOf bytes)) count ∙ take-min k (wordsOf bytes))
-
--- ---- the answer
-
-pub length-answerBytes : (number figure : ℕ) → length (answerBytes number figure) ≡ 16
-unfolding answerBytes littleEndian
-length-answerBytes number figure = refl
-
-module _ (buffer : List ℕ) where
-  pub holdsAnswer-short : length buffer < 16 → holdsAnswer buffer ≡ false
-  unfolding holdsAnswer
-  holdsAnswer-short h = lt-leb 16 (length buffer) h
-
-  pub holdsAnswer-long : 16 ≤ length buffer → holdsAnswer buffer ≡ true
-  unfolding holdsAnswer
-  holdsAnswer-long h = le-leb 16 (length buffer) h
-
-module _ (number figure : ℕ) (buffer : List ℕ) where
-  -- A buffer that is too short is left alone.
-  pub answered-short : length buffer < 16 → answered number figure buffer ≡ buffer
-  unfolding answered
-  answered-short h = rw (holdsAnswer-short buffer h)
-
-  -- One that is long enough has the answer at its front.
-  pub answered-long : 16 ≤ length buffer → answered number figure buffer ≡ sets buffer 0 (answerBytes number figure)
-  unfolding answered
-  answered-long h = rw (holdsAnswer-long buffer h)
-
-  -- The answer is its number, and its figure eight bytes on.
-  pub sets-answerBytes : sets buffer 0 (answerBytes number figure) ≡ sets (sets buffer 0 (littleEndian 8 number)) 8 (littleEndian 8 figure)
-  unfolding answerBytes
-  sets-answerBytes =
-      let e : 0 + length (littleEndian 8 number) ≡ 8 = omega (arith, length-littleEndian 8 number) in
-      rw (sets-append, e)
 
 -- ---- a number at a place
 

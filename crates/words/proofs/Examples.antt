@@ -1,7 +1,7 @@
 -- The definitions computed at written-out bytes.
 use mathlib.Core.Path.{_≡_, refl}
 use mathlib.Core.List.{[], _∷_}
-use Rattle.words.specs.Bytes.{littleEndian, word, wordsOf, bytesOf, answerBytes, holdsAnswer, answered}
+use Rattle.words.specs.Bytes.{littleEndian, word, wordsOf, bytesOf}
 
 -- The low byte comes first.
 pub low-byte-first : word 0x78 0x56 0x34 0x12 ≡ 0x12345678
@@ -16,13 +16,3 @@ seven-bytes = refl
 pub two-words : bytesOf (0x12345678 ∷ 21 ∷ []) ≡ 0x78 ∷ 0x56 ∷ 0x34 ∷ 0x12 ∷ 21 ∷ 0 ∷ 0 ∷ 0 ∷ []
 unfolding bytesOf littleEndian
 two-words = refl
-
--- Number 9 with figure 2 is sixteen bytes.
-pub nine-at-two : answerBytes 9 2 ≡ 9 ∷ 0 ∷ 0 ∷ 0 ∷ 0 ∷ 0 ∷ 0 ∷ 0 ∷ 2 ∷ 0 ∷ 0 ∷ 0 ∷ 0 ∷ 0 ∷ 0 ∷ 0 ∷ []
-unfolding answerBytes littleEndian
-nine-at-two = refl
-
--- A buffer of one byte is left alone.
-pub one-byte : answered 9 2 (7 ∷ []) ≡ 7 ∷ []
-unfolding answered holdsAnswer
-one-byte = refl

@@ -1,8 +1,8 @@
 -- Words and numbers as bytes, low byte first.
 --
--- A list of words passes through C as bytes, four to a word, and the answer of a C call is two
--- numbers of eight bytes each. A byte is a number below 256, and a word one below 2 ^ 32.
-use mathlib.Core.Bool.{Bool, cond}
+-- A list of words passes through C as bytes, four to a word, and a number of an answer as eight.
+-- A byte is a number below 256, and a word one below 2 ^ 32.
+use mathlib.Core.Bool.{cond}
 use mathlib.Core.List.{List, [], _∷_, _++_}
 use Prim.Native.Nat.{ℕ, zero, suc, _+_, _*_, _/_, _%_}
 use lib.Dec.{leb}
@@ -34,18 +34,6 @@ wordsOf (a ∷ b ∷ c ∷ d ∷ bytes) = word a b c d ∷ wordsOf bytes
 unfoldable pub bytesOf : List ℕ → List ℕ
 bytesOf [] = []
 bytesOf (w ∷ words) = littleEndian 4 w ++ bytesOf words
-
--- The sixteen bytes of an answer: its number, then its figure.
-unfoldable pub answerBytes : ℕ → ℕ → List ℕ
-answerBytes number figure = littleEndian 8 number ++ littleEndian 8 figure
-
--- Whether a buffer is long enough for an answer.
-unfoldable pub holdsAnswer : List ℕ → Bool
-holdsAnswer buffer = leb 16 (length buffer)
-
--- A buffer after an answer is stored: the answer at its front, or the buffer as it was where that is too short.
-unfoldable pub answered : ℕ → ℕ → List ℕ → List ℕ
-answered number figure buffer = cond (holdsAnswer buffer) (sets buffer 0 (answerBytes number figure)) buffer
 
 -- Some bytes after a number is stored in eight of them, from a place on; or as they were where they do not reach so far.
 unfoldable pub numberStored : ℕ → List ℕ → ℕ → List ℕ

@@ -1,19 +1,18 @@
-// Words in bytes: lists of 32-bit words as bytes, four bytes a word, low byte first, and the answer
-// of a C call, two numbers of eight bytes each, or more by their places. Nothing here knows what a
-// word means.
+// Words in bytes: lists of 32-bit words as bytes, four bytes a word, and numbers of 64 bits in eight
+// bytes, low byte first. Nothing here knows what a word means.
 
 ghost use mathlib.Core.Path.{_≡_};
 ghost use Prim.Native.Nat.{_+_, _/_, _≤_, _<_, min};
 ghost use lib.ListN.{length, take};
 ghost use lib.Seq.{sets};
-ghost use Rattle.words.specs.Lists.{firstNotBelow};
-ghost use Rattle.words.specs.Bytes.{littleEndian, wordAt, wordsOf, bytesOf, holdsAnswer, answered, numberStored};
+ghost use Rattle.words.specs.Bytes.{littleEndian, wordAt, wordsOf, bytesOf, numberStored};
+use figures::counts::least;
 
 // The words of the bytes, as many as the list holds, at its front; how many. One to three bytes
 // over are not read.
 pub fn load(bytes: &[u8], list: &mut [u32]) -> usize
-    ensures { λ r. ⌜ r ≡ min (length (now (bytes .entry)) / 4) (length (now (list .entry))) ⌝ }
-    ensures { λ _. ⌜ now (list .exit) ≡ sets (now (list .entry)) 0 (wordsOf (now (bytes .entry))) ⌝ }
+    ensures count { λ r. ⌜ r ≡ min (length (now (bytes .entry)) / 4) (length (now (list .entry))) ⌝ }
+    ensures loaded { λ _. ⌜ now (list .exit) ≡ sets (now (list .entry)) 0 (wordsOf (now (bytes .entry))) ⌝ }
 {
     let count = least(bytes.len() / 4, list.len());
     for i in 0..count {
@@ -25,7 +24,7 @@ pub fn load(bytes: &[u8], list: &mut [u32]) -> usize
 // The words of the list, as many as fit whole, at the front of the bytes; the rest of the bytes is
 // untouched.
 pub fn store(list: &[u32], bytes: &mut [u8])
-    ensures { λ _. ⌜ now (bytes .exit) ≡ sets (now (bytes .entry)) 0 (bytesOf (take (length (now (bytes .entry)) / 4) (now (list .entry)))) ⌝ }
+    ensures stored { λ _. ⌜ now (bytes .exit) ≡ sets (now (bytes .entry)) 0 (bytesOf (take (length (now (bytes .entry)) / 4) (now (list .entry)))) ⌝ }
 {
     let count = least(list.len(), bytes.len() / 4);
     for i in 0..count {
@@ -33,48 +32,9 @@ pub fn store(list: &[u32], bytes: &mut [u8])
     }
 }
 
-// The words of `from` at the front of `to`, as many as fit.
-pub fn copy(from: &[u32], to: &mut [u32])
-    ensures { λ _. ⌜ now (to .exit) ≡ sets (now (to .entry)) 0 (now (from .entry)) ⌝ }
-{
-    let count = least(from.len(), to.len());
-    for i in 0..count {
-        to[i] = from[i];
-    }
-}
-
-// The index of the first word that is not below a bound; the count of words, if each is.
-pub fn first_not_below(bound: u32, list: &[u32]) -> usize
-    ensures { λ r. ⌜ r ≡ firstNotBelow bound (now (list .entry)) ⌝ }
-{
-    let mut index = 0;
-    while index < list.len() {
-        if bound <= list[index] {
-            return index;
-        }
-        index += 1;
-    }
-    index
-}
-
-// The answer of a C call at the front of its buffer: two numbers of eight bytes each, low byte
-// first; the rest is untouched. A buffer shorter than sixteen bytes is left alone, and the result
-// is false.
-pub fn store_answer(number: u64, figure: u64, answer: &mut [u8]) -> bool
-    ensures { λ r. ⌜ r ≡ holdsAnswer (now (answer .entry)) ⌝ }
-    ensures { λ _. ⌜ now (answer .exit) ≡ answered number figure (now (answer .entry)) ⌝ }
-{
-    if answer.len() < 16 {
-        return false;
-    }
-    put(number, 8, answer, 0);
-    put(figure, 8, answer, 8);
-    true
-}
-
 // A number in eight bytes, low byte first, from `at` on; the rest is untouched. Bytes that do not reach so far are left alone.
 pub fn store_number(number: u64, bytes: &mut [u8], at: usize)
-    ensures { λ _. ⌜ now (bytes .exit) ≡ numberStored number (now (bytes .entry)) at ⌝ }
+    ensures stored { λ _. ⌜ now (bytes .exit) ≡ numberStored number (now (bytes .entry)) at ⌝ }
 {
     if bytes.len() < 8 {
         return;
@@ -87,8 +47,8 @@ pub fn store_number(number: u64, bytes: &mut [u8], at: usize)
 
 // The word whose four bytes stand from `at` on.
 fn word_at(bytes: &[u8], at: usize) -> u32
-    requires { ⌜ at + 4 ≤ length (now bytes) ⌝ }
-    ensures { λ r. ⌜ r ≡ wordAt (now (bytes .entry)) at ⌝ }
+    requires there { ⌜ at + 4 ≤ length (now bytes) ⌝ }
+    ensures result { λ r. ⌜ r ≡ wordAt (now (bytes .entry)) at ⌝ }
 {
     wide_byte(bytes[at])
         + 256 * wide_byte(bytes[at + 1])
@@ -98,8 +58,8 @@ fn word_at(bytes: &[u8], at: usize) -> u32
 
 // The low `count` bytes of the number, low byte first, from `at` on.
 fn put(number: u64, count: usize, bytes: &mut [u8], at: usize)
-    requires { ⌜ at + count ≤ length (now bytes) ⌝ }
-    ensures { λ _. ⌜ now (bytes .exit) ≡ sets (now (bytes .entry)) at (littleEndian count number) ⌝ }
+    requires there { ⌜ at + count ≤ length (now bytes) ⌝ }
+    ensures stored { λ _. ⌜ now (bytes .exit) ≡ sets (now (bytes .entry)) at (littleEndian count number) ⌝ }
 {
     let mut rest = number;
     for i in 0..count {
@@ -108,23 +68,16 @@ fn put(number: u64, count: usize, bytes: &mut [u8], at: usize)
     }
 }
 
-// The lesser of two counts.
-pub fn least(a: usize, b: usize) -> usize
-    ensures { λ r. ⌜ r ≡ min a b ⌝ }
-{
-    if a < b { a } else { b }
-}
-
 // A byte in 32 bits, with the bound that the sum in `word_at` needs.
 fn wide_byte(byte: u8) -> u32
-    ensures { λ r. ⌜ (r ≡ byte) × (r < 256) ⌝ }
+    ensures result { λ r. ⌜ (r ≡ byte) × (r < 256) ⌝ }
 {
     byte as u32
 }
 
 // A word in 64 bits, as `put` takes it.
 fn wide_word(word: u32) -> u64
-    ensures { λ r. ⌜ r ≡ word ⌝ }
+    ensures result { λ r. ⌜ r ≡ word ⌝ }
 {
     word as u64
 }

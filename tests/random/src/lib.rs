@@ -3,6 +3,7 @@
 //! of cases that show a difference.
 
 pub mod arguments;
+pub mod buffers;
 pub mod calls;
 pub mod cases;
 pub mod damage;

@@ -2,6 +2,7 @@
 //! and the answer buffer.
 
 use crate::control::{step_all as step_each, Controller, Cord};
+use crate::table::NEWEST_VERSION;
 use crate::Refusal;
 
 /// Bytes of a number of the answer, and of a word.
@@ -52,6 +53,11 @@ pub fn send(count: u64, position: u64, m: u64, list: &mut [u8], answer: &mut [u8
         put_words(&period.named, list);
         Ok([period.named.len() as u64, period.position])
     })
+}
+
+/// Release: the number of the release that it is asked of, and the newest version of the sheet.
+pub fn release(number: u64, answer: &mut [u8]) -> u32 {
+    answered(answer, || Ok([number, u64::from(NEWEST_VERSION)]))
 }
 
 /// Judge: where it is accepted, the verdict's three numbers.

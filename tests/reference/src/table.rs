@@ -3,6 +3,8 @@
 
 use crate::Refusal;
 
+/// All versions from 1 to this one are read.
+pub(crate) const NEWEST_VERSION: u32 = 3;
 const MOST_WATTS: u32 = 16_777_215;
 pub(crate) const MOST_NODES: u32 = 512;
 pub(crate) const MOST_SERVERS: u32 = 512;
@@ -69,7 +71,7 @@ impl Word {
 impl Table {
     pub fn of_words(words: &[u32]) -> Result<Table, Refusal> {
         let mut reader = Reader { words, index: 0 };
-        let version = reader.next(1, 3)?;
+        let version = reader.next(1, NEWEST_VERSION)?;
         let whole = match version {
             3 => 10_000,
             _ => 1_000,

@@ -1,15 +1,15 @@
 -- `join_by` meets its contract: just what is accepted is stored.
-use mathlib.Core.Path.{sym}
+use mathlib.Core.Path.{refl, sym}
 use native.Mathlib.Omega.{arith}
 use lib.Seq.{length-take-le}
-use Rattle.words.proofs.Calls.{call-short}
+use Rattle.calls.proofs.Calls.{call-short}
 use Rattle.join.proofs.Together.{written-fits, count-fits, stored}
 use borrow.Author.Needs.{needs}
 use Rattle.join.proofs.join_by.Statement.{statement}
 use Rattle.join.proofs.join_by.Tie as tie
 
 returns : tie.Need-returns
-returns c = call-short _ _ _ _ _ (omega arith)
+returns c = call-short _ _ _ (omega arith) refl
 
 join-words-requires : tie.Need-join-words-requires
 join-words-requires c κs = search needs
@@ -40,13 +40,17 @@ same-length-2 c = search needs
 same-length-3 : tie.Need-same-length-3
 same-length-3 c = search needs
 
+-- Earlier steps, each seen from a later one.
+abbrev store-from-tell : tie.After-tell → tie.After-store
+store-from-tell c = c .before .before .before .before
+
 returns-2 : tie.Need-returns-2
 returns-2 c =
-    let counted = c .before .before .before .before .before .before .before .before .before in
+    let counted = store-from-tell (c .before .before) .before .before .before in
     let call = counted .before .before .before in
     let answer = call .join-words .ensures in
     stored _ (answer .0) (counted .written-count .ensures) (answer .1) _ _ (written-fits _ _ _) (omega (arith, call .before .before .if1 .left))
-    (c .before .before .before .before .before .before .store .ensures) (c .before .before .tell .ensures)
+    (store-from-tell (c .before .before) .store .ensures) (c .before .before .tell .ensures)
 
 pub join-by-spec : {M : Type 1} → statement M
 join-by-spec =

@@ -1,5 +1,5 @@
 -- `tell` meets its contract: number and figure are those of the answer.
-use Rattle.words.proofs.Calls.{answer-told}
+use Rattle.calls.proofs.Calls.{answer-told}
 use borrow.Author.Needs.{needs}
 use Rattle.join.proofs.tell.Statement.{statement}
 use Rattle.join.proofs.tell.Tie as tie
@@ -17,7 +17,7 @@ same-length : tie.Need-same-length
 same-length c = search needs
 
 returns : tie.Need-returns
-returns c = answer-told _ (c .before .before .before .before .before .number .ensures) (c .before .before .before .before .figure .ensures) (c .before .before .store-answer .ensures .1)
+returns c = answer-told _ (c .before .before .before .before .before .number .ensures) (c .before .before .before .before .figure .ensures) (c .before .before .store-answer .ensures)
 
 pub tell-spec : {M : Type 1} → statement M
 tell-spec =

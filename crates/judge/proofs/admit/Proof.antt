@@ -10,8 +10,7 @@ use Rattle.rooms.specs.Part.{Good}
 use Rattle.rooms.specs.Table.{roomCords}
 use Rattle.rooms.specs.Limits.{checked, lowsTold}
 use Rattle.deals.specs.Plan.{firstTooLarge}
-use Rattle.judge.specs.Outcome.{reasons, judging}
-use Rattle.judge.specs.Lists.{admission}
+use Rattle.judge.specs.Outcome.{reasons}
 use Rattle.judge.specs.declared.JudgeRefusal.the-variants.{DemandCount, DemandTooLarge, GrantCount}
 use Rattle.judge.specs.declared.Admission.the-variants as admitted
 use Rattle.judge.proofs.Admitting.{table-good, cords-told, Left, table-told, table-passed, stopped, passed, all-passed}

@@ -1,10 +1,9 @@
 -- `judge` meets its contract: what is admitted is judged by the room of its table.
-use mathlib.Core.Path.{_≡_, refl, sym, ap, _∙_}
+use mathlib.Core.Path.{sym, ap, _∙_}
 use mathlib.Core.List.{List}
 use Prim.Native.Nat.{ℕ}
 use native.Mathlib.Nat.{le-of-eq}
-use Rattle.outcomes.specs.Outcome.{accepted}
-use Rattle.judge.specs.Outcome.{JudgeOutcome, answerOf}
+use Rattle.judge.specs.Outcome.{answerOf}
 use Rattle.judge.specs.declared.Judged.the-variants as judged
 use Rattle.judge.proofs.Admitting.{lows-long, lows-told, Admitted, admitted-good, refusal-told}
 use borrow.Author.Needs.{needs}

@@ -1,12 +1,13 @@
 -- `judge_by` meets its contract: the words that are loaded decide, and the answer is told.
 use native.Mathlib.Omega.{arith}
 use borrow.Author.Needs.{needs}
-use Rattle.judge.proofs.Calling.{loaded-front, call-short, call-told}
+use Rattle.calls.proofs.Calls.{call-short}
+use Rattle.judge.proofs.Calling.{loaded-front, call-told}
 use Rattle.judge.proofs.judge_by.Statement.{statement}
 use Rattle.judge.proofs.judge_by.Tie as tie
 
 returns : tie.Need-returns
-returns c = call-short _ _ (search needs)
+returns c = call-short _ _ _ (omega arith) tt
 
 load-requires : tie.Need-load-requires
 load-requires c κs = search needs

@@ -1,7 +1,8 @@
 -- `judge_lists` meets its contract: each kind of failure is looked for in the order of the verdict's definition.
-use mathlib.Core.Path.{_≡_, refl, sym, _∙_}
+use mathlib.Core.Path.{_≡_, sym, _∙_}
+use native.Mathlib.Nat.{le-of-eq}
 use native.Mathlib.Omega.{arith}
-use lib.ListN.{length, replicate, length-replicate}
+use lib.ListN.{length, length-replicate}
 use Prim.Native.Nat.{ℕ, _-_, _<_}
 use Rattle.figures.proofs.Filled.{zeros-at}
 use Rattle.rooms.specs.Table.{mostNodes}
@@ -93,7 +94,7 @@ compare-requires c κs =
     let s = start (first (second e)) in
     let nodes = node-lists (some s .room) (ok s) (some s .demands) (some s .lists) in (
       (nodes, lists e),
-      (omega (arith, nodes .few, length-replicate {A = ℕ} mostNodes 0), zeros-at mostNodes),
+      (le-of-eq (sym (length-replicate {A = ℕ} mostNodes 0)), zeros-at mostNodes),
     )
 
 returns-3 : tie.Need-returns-3

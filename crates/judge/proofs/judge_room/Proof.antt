@@ -1,5 +1,5 @@
 -- `judge_room` meets its contract: the room's lists are loaded, and judged.
-use mathlib.Core.Path.{_≡_, refl, sym, _∙_}
+use mathlib.Core.Path.{_≡_, sym, _∙_}
 use mathlib.Core.List.{List}
 use Prim.Native.Nat.{ℕ, _≤_}
 use native.Mathlib.Omega.{arith}
@@ -11,8 +11,8 @@ use Rattle.rooms.specs.Limits.{checked}
 use Rattle.rooms.specs.Rows.{CordsFit}
 use Rattle.rooms.proofs.Accepted.{accepted}
 use Rattle.rooms.proofs.RowsLent.{cords-few, cords-front, cords-lent}
-use Rattle.levels.proofs.Cells.{zeros-front}
-use Rattle.levels.proofs.Fronts.{equal-length, front-length, Lent, lent, lent-zeros, rejoined, lent-again, lent-few, lent-front}
+use Rattle.figures.proofs.Cells.{zeros-front}
+use Rattle.figures.proofs.Fronts.{equal-length, front-length, Lent, lent, lent-zeros, rejoined, lent-again, lent-few, lent-front}
 use Rattle.judge.specs.Lists.{RoomLists}
 use borrow.Author.Needs.{needs}
 use Rattle.judge.proofs.judge_room.Statement.{statement}
@@ -76,7 +76,7 @@ spare-lent x = lent-zeros mostNodes (nodes-fit (counted-x x)) (x .load-nodes .ke
 -- ---- After `load_cords`
 
 abbrev nodes-y : tie.After-load-cords → tie.After-load-nodes
-nodes-y y = y .before .before .before .before .before .before .before .before .before
+nodes-y y = y .before .before .before .before .before .before .before .before
 
 abbrev start-y : tie.After-load-cords → tie.Start
 start-y y = start-x (nodes-y y)
@@ -91,16 +91,16 @@ cords-lent-out : (y : tie.After-load-cords) → Lent (cords-k (start-y y)) blank
 cords-lent-out y = lent (omega (arith, cords-fit (start-y y), equal-length mostCords (replicate {A = ℕ} 4 0))) (y .load-cords .kept .1 .1 .0)
 
 abbrev lows-after : tie.After-load-cords → List ℕ
-lows-after y = rejoined (cords-k (start-y y)) (replicate mostCords 0) (y .load-cords .last .1 .1 .1 .1 .0)
+lows-after y = rejoined (cords-k (start-y y)) (replicate mostCords 0) (y .load-cords .last .1 .1 .1 .0)
 
-lows-lent : (y : tie.After-load-cords) → Lent (cords-k (start-y y)) (replicate mostCords 0) (y .load-cords .last .1 .1 .1 .1 .0)
-lows-lent y = lent-zeros mostCords (cords-fit (start-y y)) (y .load-cords .kept .1 .1 .1 .1 .0)
+lows-lent : (y : tie.After-load-cords) → Lent (cords-k (start-y y)) (replicate mostCords 0) (y .load-cords .last .1 .1 .1 .0)
+lows-lent y = lent-zeros mostCords (cords-fit (start-y y)) (y .load-cords .kept .1 .1 .1 .0)
 
 abbrev wants-after : tie.After-load-cords → List ℕ
-wants-after y = rejoined (cords-k (start-y y)) (replicate mostCords 0) (y .load-cords .last .1 .1 .1 .1 .1 .0)
+wants-after y = rejoined (cords-k (start-y y)) (replicate mostCords 0) (y .load-cords .last .1 .1 .1 .1 .0)
 
-wants-lent : (y : tie.After-load-cords) → Lent (cords-k (start-y y)) (replicate mostCords 0) (y .load-cords .last .1 .1 .1 .1 .1 .0)
-wants-lent y = lent-zeros mostCords (cords-fit (start-y y)) (y .load-cords .kept .1 .1 .1 .1 .1 .0)
+wants-lent : (y : tie.After-load-cords) → Lent (cords-k (start-y y)) (replicate mostCords 0) (y .load-cords .last .1 .1 .1 .1 .0)
+wants-lent y = lent-zeros mostCords (cords-fit (start-y y)) (y .load-cords .kept .1 .1 .1 .1 .0)
 
 -- The room's lists, as they are lent to be judged.
 lists-at : (y : tie.After-load-cords) (r : Room) (end : ℕ) → checked (table-of (start-y y)) 0 ≡ good r end
@@ -160,46 +160,39 @@ array-borrow-prefix-cords c = omega (arith, cords-fit (start-x (c .before .befor
 slice-aggregate-load-cords : tie.Need-slice-aggregate-load-cords
 slice-aggregate-load-cords c = let s = start-x (c .before .before .before) in cords-front (table-of s) (good-of s) (s .pre .1 .0 .1) (replicate 4 0)
 
-array-borrow-prefix-nodes : tie.Need-array-borrow-prefix-nodes
-array-borrow-prefix-nodes c = omega (arith, cords-fit (start-x (c .before .before .before)), equal-length {A = ℕ} mostCords 0)
+array-borrow-prefix-lows : tie.Need-array-borrow-prefix-lows
+array-borrow-prefix-lows c = omega (arith, cords-fit (start-x (c .before .before .before)), equal-length {A = ℕ} mostCords 0)
 
 slice-aggregate-load-cords-2 : tie.Need-slice-aggregate-load-cords-2
 slice-aggregate-load-cords-2 c = sym (zeros-front mostCords _ (cords-fit (start-x (c .before .before .before .before))))
 
-array-borrow-prefix-lows : tie.Need-array-borrow-prefix-lows
-array-borrow-prefix-lows c = omega (arith, cords-fit (start-x (c .before .before .before .before)), equal-length {A = ℕ} mostCords 0)
+array-borrow-prefix-wants : tie.Need-array-borrow-prefix-wants
+array-borrow-prefix-wants c = omega (arith, cords-fit (start-x (c .before .before .before .before)), equal-length {A = ℕ} mostCords 0)
 
 slice-aggregate-load-cords-3 : tie.Need-slice-aggregate-load-cords-3
 slice-aggregate-load-cords-3 c = sym (zeros-front mostCords _ (cords-fit (start-x (c .before .before .before .before .before))))
 
-array-borrow-prefix-wants : tie.Need-array-borrow-prefix-wants
-array-borrow-prefix-wants c = omega (arith, cords-fit (start-x (c .before .before .before .before .before)), equal-length {A = ℕ} mostCords 0)
+array-borrow-prefix-ceilings : tie.Need-array-borrow-prefix-ceilings
+array-borrow-prefix-ceilings c = omega (arith, cords-fit (start-x (c .before .before .before .before .before)), equal-length {A = ℕ} mostCords 0)
 
 slice-aggregate-load-cords-4 : tie.Need-slice-aggregate-load-cords-4
 slice-aggregate-load-cords-4 c = sym (zeros-front mostCords _ (cords-fit (start-x (c .before .before .before .before .before .before))))
 
-array-borrow-prefix-ceilings : tie.Need-array-borrow-prefix-ceilings
-array-borrow-prefix-ceilings c = omega (arith, cords-fit (start-x (c .before .before .before .before .before .before)), equal-length {A = ℕ} mostCords 0)
+array-borrow-prefix-needs : tie.Need-array-borrow-prefix-needs
+array-borrow-prefix-needs c = omega (arith, servers-fit (start-x (c .before .before .before .before .before .before)), equal-length {A = ℕ} mostServers 0)
 
 slice-aggregate-load-cords-5 : tie.Need-slice-aggregate-load-cords-5
-slice-aggregate-load-cords-5 c = sym (zeros-front mostCords _ (cords-fit (start-x (c .before .before .before .before .before .before .before))))
-
-array-borrow-prefix-needs : tie.Need-array-borrow-prefix-needs
-array-borrow-prefix-needs c = omega (arith, servers-fit (start-x (c .before .before .before .before .before .before .before)), equal-length {A = ℕ} mostServers 0)
-
-slice-aggregate-load-cords-6 : tie.Need-slice-aggregate-load-cords-6
-slice-aggregate-load-cords-6 c = sym (zeros-front mostServers _ (servers-fit (start-x (c .before .before .before .before .before .before .before .before))))
+slice-aggregate-load-cords-5 c = sym (zeros-front mostServers _ (servers-fit (start-x (c .before .before .before .before .before .before .before))))
 
 load-cords-requires : tie.Need-load-cords-requires
 load-cords-requires c κs =
-    let s = start-x (c .before .before .before .before .before .before .before .before) in
+    let s = start-x (c .before .before .before .before .before .before .before) in
     let k = s .pre .1 .0 .1 in
     let fronts : CordsFit (table-of s) (length (take (cords-k s) (replicate {A = ℕ} mostCords 0))) = λ r end is. zeros-front mostCords _ (cords-fit s) ∙ k r end is in
     record {
       good-table = good-of s;
       demands-fit = s .pre .1 .0 .0;
       cords-fit = cords-lent (table-of s) (good-of s) k (replicate 4 0);
-      nodes-fit = fronts;
       lows-fit = fronts;
       wants-fit = fronts;
       ceilings-fit = fronts;
@@ -207,38 +200,38 @@ load-cords-requires c κs =
     }
 
 array-share-prefix-parents : tie.Need-array-share-prefix-parents
-array-share-prefix-parents c = lent-few (parents-lent (nodes-y (c .before .before .before .before .before .before)))
+array-share-prefix-parents c = lent-few (parents-lent (nodes-y (c .before .before .before .before .before)))
 
 slice-aggregate-judge-lists : tie.Need-slice-aggregate-judge-lists
-slice-aggregate-judge-lists c = lent-front (parents-lent (nodes-y (c .before .before .before .before .before .before .before)))
+slice-aggregate-judge-lists c = lent-front (parents-lent (nodes-y (c .before .before .before .before .before .before)))
 
 array-share-prefix-spare : tie.Need-array-share-prefix-spare
-array-share-prefix-spare c = lent-few (spare-lent (nodes-y (c .before .before .before .before .before .before .before)))
+array-share-prefix-spare c = lent-few (spare-lent (nodes-y (c .before .before .before .before .before .before)))
 
 slice-aggregate-judge-lists-2 : tie.Need-slice-aggregate-judge-lists-2
-slice-aggregate-judge-lists-2 c = lent-front (spare-lent (nodes-y (c .before .before .before .before .before .before .before .before)))
+slice-aggregate-judge-lists-2 c = lent-front (spare-lent (nodes-y (c .before .before .before .before .before .before .before)))
 
 array-share-prefix-cords : tie.Need-array-share-prefix-cords
-array-share-prefix-cords c = lent-few (cords-lent-out (c .before .before .before .before .before .before .before .before))
+array-share-prefix-cords c = lent-few (cords-lent-out (c .before .before .before .before .before .before .before))
 
 slice-aggregate-judge-lists-3 : tie.Need-slice-aggregate-judge-lists-3
-slice-aggregate-judge-lists-3 c = lent-front (cords-lent-out (c .before .before .before .before .before .before .before .before .before))
+slice-aggregate-judge-lists-3 c = lent-front (cords-lent-out (c .before .before .before .before .before .before .before .before))
 
 array-share-prefix-lows : tie.Need-array-share-prefix-lows
-array-share-prefix-lows c = lent-few (lows-lent (c .before .before .before .before .before .before .before .before .before))
+array-share-prefix-lows c = lent-few (lows-lent (c .before .before .before .before .before .before .before .before))
 
 slice-aggregate-judge-lists-4 : tie.Need-slice-aggregate-judge-lists-4
-slice-aggregate-judge-lists-4 c = lent-front (lows-lent (c .before .before .before .before .before .before .before .before .before .before))
+slice-aggregate-judge-lists-4 c = lent-front (lows-lent (c .before .before .before .before .before .before .before .before .before))
 
 array-share-prefix-wants : tie.Need-array-share-prefix-wants
-array-share-prefix-wants c = lent-few (wants-lent (c .before .before .before .before .before .before .before .before .before .before))
+array-share-prefix-wants c = lent-few (wants-lent (c .before .before .before .before .before .before .before .before .before))
 
 slice-aggregate-judge-lists-5 : tie.Need-slice-aggregate-judge-lists-5
-slice-aggregate-judge-lists-5 c = lent-front (wants-lent (c .before .before .before .before .before .before .before .before .before .before .before))
+slice-aggregate-judge-lists-5 c = lent-front (wants-lent (c .before .before .before .before .before .before .before .before .before .before))
 
 judge-lists-requires : tie.Need-judge-lists-requires
 judge-lists-requires c κs =
-    let y = c .before .before .before .before .before .before .before .before .before .before .before in
+    let y = c .before .before .before .before .before .before .before .before .before .before in
     let s = start-y y in
     let g = good-of s in (
       record { table = table-of s; demands = s .args .demands .now; room = g .value; end = g .next; is = g .is; lists = lists-at y (g .value) (g .next) (g .is) },
@@ -247,7 +240,7 @@ judge-lists-requires c κs =
 
 returns : tie.Need-returns
 returns c = λ r end is.
-    let y = c .before .before .before .before .before .before .before .before .before .before .before .before in
+    let y = c .before .before .before .before .before .before .before .before .before .before .before in
     c .judge-lists .ensures (table-of (start-y y)) (start-y y .args .demands .now) r end is (lists-at y r end is)
 
 pub judge-room-spec : {M : Type 1} → statement M
@@ -263,16 +256,14 @@ judge-room-spec =
     load-nodes-requires
     array-borrow-prefix-cords
     slice-aggregate-load-cords
-    array-borrow-prefix-nodes
-    slice-aggregate-load-cords-2
     array-borrow-prefix-lows
-    slice-aggregate-load-cords-3
+    slice-aggregate-load-cords-2
     array-borrow-prefix-wants
-    slice-aggregate-load-cords-4
+    slice-aggregate-load-cords-3
     array-borrow-prefix-ceilings
-    slice-aggregate-load-cords-5
+    slice-aggregate-load-cords-4
     array-borrow-prefix-needs
-    slice-aggregate-load-cords-6
+    slice-aggregate-load-cords-5
     load-cords-requires
     array-share-prefix-parents
     slice-aggregate-judge-lists

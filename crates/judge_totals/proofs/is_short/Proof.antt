@@ -1,5 +1,4 @@
 -- `is_short` meets its contract: its branch is the first of the two tests.
-use borrow.Author.Needs.{needs}
 use borrow.Author.Tests.{eq-eqb, ne-eqb}
 use Rattle.judge_totals.proofs.is_short.Statement.{statement}
 use Rattle.judge_totals.proofs.is_short.Tie as tie

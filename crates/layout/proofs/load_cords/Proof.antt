@@ -5,14 +5,17 @@ use Rattle.rooms.proofs.RowsLent.{servers-few, servers-front, servers-lent}
 use Rattle.layout.proofs.load_cords.Statement.{statement}
 use Rattle.layout.proofs.load_cords.Tie as tie
 
+abbrev start : tie.After-slice-known4 → tie.Start
+start c = c .before .before .before .before .before .before
+
 array-borrow-prefix-servers : tie.Need-array-borrow-prefix-servers
-array-borrow-prefix-servers c = let lent = c .before .before .before .before .before .before .before .pre in servers-few _ (lent .good-table) (lent .demands-fit)
+array-borrow-prefix-servers c = let lent = start c .pre in servers-few _ (lent .good-table) (lent .demands-fit)
 
 slice-aggregate-load-rows : tie.Need-slice-aggregate-load-rows
-slice-aggregate-load-rows c = let lent = c .before .before .before .before .before .before .before .before .pre in servers-front _ (lent .good-table) (lent .demands-fit) (replicate 4 0)
+slice-aggregate-load-rows c = let lent = start (c .before) .pre in servers-front _ (lent .good-table) (lent .demands-fit) (replicate 4 0)
 
 load-rows-requires : tie.Need-load-rows-requires
-load-rows-requires c κs = let lent = c .before .before .before .before .before .before .before .before .before .before .before .before .before .before .pre in (lent, servers-lent _ (lent .good-table) (lent .demands-fit) (replicate 4 0))
+load-rows-requires c κs = let lent = start (c .before .before .before .before .before .before) .pre in (lent, servers-lent _ (lent .good-table) (lent .demands-fit) (replicate 4 0))
 
 same-length : tie.Need-same-length
 same-length c = search needs
@@ -29,11 +32,8 @@ same-length-4 c = search needs
 same-length-5 : tie.Need-same-length-5
 same-length-5 c = search needs
 
-same-length-6 : tie.Need-same-length-6
-same-length-6 c = search needs
-
 returns : tie.Need-returns
-returns c = c .before .before .before .before .before .before .before .before .before .before .before .before .load-rows .ensures
+returns c = c .before .before .before .before .before .before .before .before .before .before .load-rows .ensures
 
 pub load-cords-spec : {M : Type 1} → statement M
 load-cords-spec =
@@ -47,5 +47,4 @@ load-cords-spec =
     same-length-3
     same-length-4
     same-length-5
-    same-length-6
     returns)

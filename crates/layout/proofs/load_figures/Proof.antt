@@ -1,5 +1,4 @@
 -- `load_figures` meets its contract: before each turn the lists have the figures of the cords passed.
-use mathlib.Core.Path.{refl}
 use Prim.Native.Nat.{_-_, _≤_, _<_}
 use native.Mathlib.Omega.{arith}
 use lib.ListN.{length}
@@ -9,21 +8,24 @@ use Rattle.layout.proofs.load_figures.Statement.{statement}
 use Rattle.layout.proofs.load_figures.Tie as tie
 
 abbrev Inv-loop : tie.InvT-loop
-Inv-loop servers cords needs nodes₀ lows₀ wants₀ ceilings₀ scale c₀ c-end nodes lows wants ceilings c = (c ≤ length cords) × Loaded scale servers cords needs c nodes lows wants ceilings
+Inv-loop servers cords needs lows₀ wants₀ ceilings₀ scale c₀ c-end lows wants ceilings c = (c ≤ length cords) × Loaded scale servers cords needs c lows wants ceilings
 
 abbrev μ-loop : tie.MeasureT-loop
-μ-loop servers cords needs nodes₀ lows₀ wants₀ ceilings₀ scale c₀ c-end nodes lows wants ceilings c = c-end - c
+μ-loop servers cords needs lows₀ wants₀ ceilings₀ scale c₀ c-end lows wants ceilings c = c-end - c
 
 -- ---- What is known at a turn, once the place of the cord's server is read
 
 abbrev Placed : Type 0
 Placed = tie.After-index Inv-loop μ-loop
 
-abbrev start : Placed → tie.Start Inv-loop μ-loop
-start p = p .before .before .before .before .before .before .before .before .before .before
+abbrev start-l : tie.After-slice-known3 Inv-loop μ-loop → tie.Start Inv-loop μ-loop
+start-l l = l .before .before .before .before
 
 abbrev turn : Placed → tie.In-loop Inv-loop μ-loop
 turn p = p .before .before .before
+
+abbrev start : Placed → tie.Start Inv-loop μ-loop
+start p = start-l (turn p .before .before)
 
 -- All figures of the cord are found.
 abbrev Found : Type 0
@@ -39,7 +41,7 @@ part : (p : Placed) → p .before .word16 .result ≤ start p .args .scale
 part p = omega (arith, start p .pre .0 .parts _ (turn p .loop-test .taken), p .before .word16 .ensures .0)
 
 loop-holds : tie.Need-loop-holds Inv-loop μ-loop
-loop-holds c = let sizes = c .before .before .before .before .before .pre .1 in (omega arith, loaded-none (sizes .0) (sizes .1) (sizes .2) (sizes .3))
+loop-holds c = let sizes = start-l c .pre .1 in (omega arith, loaded-none (sizes .0) (sizes .1) (sizes .2))
 
 mul-cord : tie.Need-mul-cord Inv-loop μ-loop
 mul-cord c = search needs
@@ -58,15 +60,6 @@ array-read-index c = search needs
 
 index-requires : tie.Need-index-requires Inv-loop μ-loop
 index-requires c κs = search needs
-
-array-read-nodes : tie.Need-array-read-nodes Inv-loop μ-loop
-array-read-nodes c = search needs
-
-mul-nodes : tie.Need-mul-nodes Inv-loop μ-loop
-mul-nodes c = search needs
-
-slice-write-nodes : tie.Need-slice-write-nodes Inv-loop μ-loop
-slice-write-nodes c = omega (arith, turn c .before .loop .inv .1 .nodes-done .size-is, turn c .loop-test .taken)
 
 mul-carried-by : tie.Need-mul-carried-by Inv-loop μ-loop
 mul-carried-by c = search needs
@@ -139,21 +132,18 @@ loop-again c =
     let p = place c in
     let less = turn p .loop-test .taken in (
       omega (arith, less),
-      loaded-one (turn p .before .loop .inv .1) less (p .before .word16 .ensures .0) (p .index .ensures .0) refl
+      loaded-one (turn p .before .loop .inv .1) less (p .before .word16 .ensures .0) (p .index .ensures .0)
           (c .before .before .before .before .carried-by .ensures) (c .before .before .carried-by2 .ensures) (c .carried-by3 .ensures),
     )
 
 same-length : tie.Need-same-length Inv-loop μ-loop
-same-length c = let size = c .before .before .before .before .before .before .before .pre .1 .0 in omega (arith, c .before .loop .inv .1 .nodes-done .size-is)
+same-length c = let size = start-l (c .before .before) .pre .1 .0 in omega (arith, c .before .loop .inv .1 .lows-done .size-is)
 
 same-length-2 : tie.Need-same-length-2 Inv-loop μ-loop
-same-length-2 c = let size = c .before .before .before .before .before .before .before .pre .1 .1 in omega (arith, c .before .loop .inv .1 .lows-done .size-is)
+same-length-2 c = let size = start-l (c .before .before) .pre .1 .1 in omega (arith, c .before .loop .inv .1 .wants-done .size-is)
 
 same-length-3 : tie.Need-same-length-3 Inv-loop μ-loop
-same-length-3 c = let size = c .before .before .before .before .before .before .before .pre .1 .2 in omega (arith, c .before .loop .inv .1 .wants-done .size-is)
-
-same-length-4 : tie.Need-same-length-4 Inv-loop μ-loop
-same-length-4 c = let size = c .before .before .before .before .before .before .before .pre .1 .3 in omega (arith, c .before .loop .inv .1 .ceilings-done .size-is)
+same-length-3 c = let size = start-l (c .before .before) .pre .1 .2 in omega (arith, c .before .loop .inv .1 .ceilings-done .size-is)
 
 returns : tie.Need-returns Inv-loop μ-loop
 returns c = loaded-all (c .before .loop .inv .1) (omega (arith, c .loop-test .left))
@@ -171,9 +161,6 @@ load-figures-spec =
     word16-requires
     array-read-index
     index-requires
-    array-read-nodes
-    mul-nodes
-    slice-write-nodes
     mul-carried-by
     index-1-carried-by
     index-2-carried-by
@@ -197,5 +184,4 @@ load-figures-spec =
     same-length
     same-length-2
     same-length-3
-    same-length-4
     returns)

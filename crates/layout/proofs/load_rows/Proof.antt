@@ -4,21 +4,24 @@ use Rattle.layout.proofs.Loading.{needs-asked, figures-asked, all-laid-
 use Rattle.layout.proofs.load_rows.Statement.{statement}
 use Rattle.layout.proofs.load_rows.Tie as tie
 
--- From the scale back: the start, the rows and the needs.
+-- From the scale back: the needs, the rows and the start.
 abbrev needed : tie.After-table-scale → tie.After-load-needs
-needed t = t .before .before .before .before .before .before .before .before .before .before
+needed t = t .before .before .before .before .before .before .before .before .before
 
 abbrev rows : tie.After-table-scale → tie.After-lay-out-servers
 rows t = needed t .before .before .before .before .before
 
+abbrev start-o : tie.After-lay-out-servers → tie.Start
+start-o o = o .before .before .before .before .before .before .before .before .before
+
 abbrev start : tie.After-table-scale → tie.Start
-start t = rows t .before .before .before .before .before .before .before .before .before .before
+start t = start-o (rows t)
 
 lay-out-servers-requires : tie.Need-lay-out-servers-requires
-lay-out-servers-requires c κs = let asked = c .before .before .before .before .before .before .before .before .before .pre in (asked .0 .good-table, (asked .1, asked .0 .cords-fit))
+lay-out-servers-requires c κs = let asked = c .before .before .before .before .before .before .before .before .pre in (asked .0 .good-table, (asked .1, asked .0 .cords-fit))
 
 load-needs-requires : tie.Need-load-needs-requires
-load-needs-requires c κs = needs-asked (c .before .before .before .before .before .before .before .before .before .before .before .before .before .before .pre .0) (c .before .before .before .before .lay-out-servers .ensures)
+load-needs-requires c κs = needs-asked (start-o (c .before .before .before .before) .pre .0) (c .before .before .before .before .lay-out-servers .ensures)
 
 table-scale-requires : tie.Need-table-scale-requires
 table-scale-requires c κs = search needs
@@ -44,12 +47,9 @@ same-length-5 c = search needs
 same-length-6 : tie.Need-same-length-6
 same-length-6 c = search needs
 
-same-length-7 : tie.Need-same-length-7
-same-length-7 c = search needs
-
 returns : tie.Need-returns
 returns c =
-    let done = c .before .before .before .before .before .before .before .before in
+    let done = c .before .before .before .before .before .before in
     let t = done .before in
     all-laid-out (start t .pre .0) (rows t .lay-out-servers .ensures) (needed t .load-needs .ensures) (t .table-scale .ensures) (done .load-figures .ensures)
 
@@ -67,5 +67,4 @@ load-rows-spec =
     same-length-4
     same-length-5
     same-length-6
-    same-length-7
     returns)

@@ -5,19 +5,19 @@ use Prim.Native.Nat.{ℕ, _≤_}
 use native.Mathlib.Omega.{arith}
 use lib.ListN.{length, take, replicate}
 use Rattle.figures.specs.Figures.{column}
-use Rattle.words.proofs.Lists.{sets-all}
+use Rattle.figures.proofs.Stores.{sets-all}
 use Rattle.rooms.specs.Table.{Room, mostNodes, mostCords, mostServers, highestRank}
 use Rattle.rooms.proofs.Accepted.{Accepted, accepted}
 use Rattle.rooms.specs.Lists.{limitsOf, levelsOf}
 use Rattle.rooms.specs.Rows.{nodeColumn, levelColumn, serverColumn, shareColumn}
 use Rattle.deals.specs.SecondDeal.{firstGrants, firstUsed, secondDeal, secondWants}
 use Rattle.deals.specs.SecondDeal as second
-use Rattle.levels.specs.Levels.{LevelLists, toColumn}
-use Rattle.deal_by_rank.specs.Ranks.{DealGiven, DealMade}
-use Rattle.reclaim.specs.Reclaimed.{usableFrom}
-use Rattle.levels.proofs.Cells.{zeros-front, zeros-rows, zeros-cells}
-use Rattle.levels.proofs.Fronts.{equal-length, Lent, lent, lent-zeros, rejoined, lent-again, lent-few, lent-front}
-use Rattle.plan_rooms.specs.Planning.{RoomLists}
+use Rattle.deals.specs.Levels.{LevelLists, toColumn}
+use Rattle.deals.specs.Ranks.{DealGiven, DealMade}
+use Rattle.plan_reclaim.specs.Reclaimed.{usableFrom}
+use Rattle.figures.proofs.Cells.{zeros-front, zeros-rows, zeros-cells}
+use Rattle.figures.proofs.Fronts.{equal-length, Lent, lent, lent-zeros, rejoined, lent-again, lent-few, lent-front}
+use Rattle.plan_rooms.specs.Planning.{RoomToDeal}
 use Rattle.plan_rooms.proofs.Planning.{blank-marks, needs-size, cord-count, wants-count, levels-nodes, levels-cords, first-given, first-made, raisable, raised, second-given, second-made, second-dealt, server-lists, reclaim-asks, first-used, freed-is, second-wants, caps-are}
 use borrow.Author.Needs.{needs}
 use Rattle.plan_rooms.proofs.deal_twice.Statement.{statement}
@@ -29,7 +29,7 @@ Start = tie.Start
 -- The lists at the start are those of a room with given demands.
 abbrev RoomOf : Start → Room → List ℕ → Type 0
 RoomOf s r demands =
-    RoomLists r demands (s .args .parents .now) (s .args .left .now) (s .args .cords .now) (s .args .nodes .now) (s .args .lows .now) (s .args .wants .now) (s .args .caps .now) (s .args .scale)
+    RoomToDeal r demands (s .args .parents .now) (s .args .left .now) (s .args .cords .now) (s .args .nodes .now) (s .args .lows .now) (s .args .wants .now) (s .args .caps .now) (s .args .scale)
 
 abbrev room : (s : Start) → Accepted (s .pre .0 .room)
 room s = accepted (s .pre .0 .table) (s .pre .0 .room) (s .pre .0 .end) (s .pre .0 .is)
@@ -69,7 +69,7 @@ spare-lent : (p : Spared) → Lent (nodes-s (start-p p)) (replicate mostNodes 0)
 spare-lent p = lent-zeros mostNodes (nodes-few (start-p p)) (p .copy .kept .1 .0)
 
 spare-is : (p : Spared) → take (nodes-s (start-p p)) (spare-after p) ≡ start-p p .args .left .now
-spare-is p = lent-again (spare-lent p) ∙ p .copy .ensures ∙ sets-all _ _ (zeros-front mostNodes _ (nodes-few (start-p p)) ∙ sym (lists (start-p p) .spare-size))
+spare-is p = lent-again (spare-lent p) ∙ p .copy .ensures ∙ sets-all _ _ (zeros-front mostNodes _ (nodes-few (start-p p)) ∙ sym (lists (start-p p) .lists .spare-size))
 
 -- After the second: `usable` has the servers' needs.
 abbrev Copied : Type 0

@@ -1,41 +1,153 @@
--- `plan` meets its contract: what is admitted is dealt into the fronts of the lists.
-use mathlib.Core.Path.{sym, _∙_}
+-- `plan` meets its contract: what is loaded and admitted is planned at the fronts of the lists.
+use mathlib.Core.Path.{_≡_, sym, _∙_}
 use mathlib.Core.List.{List}
-use Prim.Native.Nat.{ℕ}
-use native.Mathlib.Nat.{le-of-eq}
+use Prim.Native.Nat.{ℕ, _≤_}
+use native.Mathlib.Omega.{arith}
+use lib.ListN.{length, take, length-replicate}
 use lib.Seq.{length-take-le}
+use Rattle.rooms.specs.Table.{mostServers, mostCords, roomCords}
+use Rattle.deals.specs.SecondDeal as second
+use Rattle.deals.specs.Headroom.{headroom}
 use Rattle.deals.specs.Plan.{plan, lent}
 use Rattle.deals.specs.declared.Lengths.{Lengths}
-use Rattle.plans.proofs.PlanCall.{lows-long, lows-told, cords-fit, servers-fit, Admitted, admitted-good, admitted-refused, refusal-told, unwritten, freed-told, written}
+use Rattle.deals.proofs.Plans.{headroom-length, caps-length}
+use Rattle.layout.specs.Room.{RoomLoaded}
+use Rattle.layout.specs.declared.room.Counts.{Counts}
+use Rattle.layout.proofs.Loads.{found-accepted, servers-count, cords-count, servers-few, cords-few}
+use Rattle.plan_rooms.specs.Planning.{PlanGiven}
+use Rattle.plans.proofs.PlanCall.{Admitted, admitted-good, admitted-refused, plan-given, copied-loaded, stored-again, refusal-told, unwritten, freed-told, written}
 use borrow.Author.Needs.{needs}
 use Rattle.plans.proofs.plan.Statement.{statement}
 use Rattle.plans.proofs.plan.Tie as tie
 
--- The table, the demands and the lists.
-abbrev start : tie.After-admit → tie.Start
-start c = c .before .before .before .before .before .before .before .before
+-- ---- After the loading and the checks
 
-abbrev table : tie.After-admit → List ℕ
-table c = start c .args .table .now
+abbrev start-r : tie.After-load-room → tie.Start
+start-r r = r .before .before .before .before .before .before .before .before .before .before .before .before .before .before
 
-abbrev demands : tie.After-admit → List ℕ
-demands c = start c .args .demands .now
+abbrev loaded-a : tie.After-admit → tie.After-load-room
+loaded-a a = a .before .before .before .before .before .before .before .before
 
-abbrev lengths : tie.After-admit → Lengths
-lengths c = lent (start c .args .grants .now) (start c .args .caps .now) (start c .args .headroom .now) (start c .args .held .now)
+-- What is admitted, a room with these counts, and its lists.
+abbrev Known : Type 0
+Known = tie.After-known-told
 
--- What is admitted, with its counts of cords and of servers.
-abbrev admit-of : tie.After-known-told → tie.After-admit
-admit-of c = c .before .before .before
+abbrev admit-k : Known → tie.After-admit
+admit-k k = k .before .before .before
 
-abbrev cords : tie.After-known-told → ℕ
-cords c = c .before .admission .given .0 .0
+abbrev load-k : Known → tie.After-load-room
+load-k k = loaded-a (admit-k k)
 
-abbrev servers : tie.After-known-told → ℕ
-servers c = c .before .admission .given .0 .1 .0
+abbrev start : Known → tie.Start
+start k = start-r (load-k k)
 
-abbrev admitted : (c : tie.After-known-told) → Admitted (table (admit-of c)) (demands (admit-of c)) (lengths (admit-of c)) (cords c) (servers c)
-admitted c = admitted-good _ _ _ (admit-of c .admit .ensures .0) (c .before .admission .given .1)
+abbrev table : Known → List ℕ
+table k = start k .args .table .now
+
+abbrev demands : Known → List ℕ
+demands k = start k .args .demands .now
+
+abbrev lengths : Known → Lengths
+lengths k = lent (start k .args .grants .now) (start k .args .caps .now) (start k .args .headroom .now) (start k .args .held .now)
+
+abbrev counts : Known → Counts
+counts k = k .before .admission .given .0 .0
+
+admitted : (k : Known) → Admitted (table k) (demands k) (lengths k) (counts k)
+admitted k = admitted-good (table k) (demands k) (lengths k) (load-k k .load-room .ensures .0) (admit-k k .admit .ensures) (k .before .admission .given .1)
+
+abbrev parents-after : Known → List ℕ
+parents-after k = load-k k .load-room .last .1 .1 .0
+
+abbrev left-after : Known → List ℕ
+left-after k = load-k k .load-room .last .1 .1 .1 .0
+
+abbrev cords-after : Known → List (List ℕ)
+cords-after k = load-k k .load-room .last .1 .1 .1 .1 .0
+
+abbrev lows-after : Known → List ℕ
+lows-after k = load-k k .load-room .last .1 .1 .1 .1 .1 .0
+
+abbrev wants-after : Known → List ℕ
+wants-after k = load-k k .load-room .last .1 .1 .1 .1 .1 .1 .0
+
+abbrev ceilings-after : Known → List ℕ
+ceilings-after k = load-k k .load-room .last .1 .1 .1 .1 .1 .1 .1 .0
+
+abbrev needs-after : Known → List ℕ
+needs-after k = load-k k .load-room .last .1 .1 .1 .1 .1 .1 .1 .1 .0
+
+loaded : (k : Known) → RoomLoaded (admitted k .room-found .room) (demands k) (parents-after k) (left-after k) (cords-after k) (lows-after k) (wants-after k) (ceilings-after k) (needs-after k)
+loaded k = load-k k .load-room .ensures .1 (admitted k .room-found .room) (admitted k .room-found .accepts)
+
+ceilings-few : (k : Known) → counts k .cords ≤ length (ceilings-after k)
+ceilings-few k = omega (arith, cords-few (admitted k .room-found), load-k k .load-room .kept .1 .1 .1 .1 .1 .1 .1 .0, length-replicate {A = ℕ} mostCords 0)
+
+needs-few : (k : Known) → counts k .servers ≤ length (needs-after k)
+needs-few k = omega (arith, servers-few (admitted k .room-found), load-k k .load-room .kept .1 .1 .1 .1 .1 .1 .1 .1 .0, length-replicate {A = ℕ} mostServers 0)
+
+-- As much is copied as the plan writes.
+ceilings-copied : (k : Known) → length (take (counts k .cords) (ceilings-after k)) ≡ roomCords (admitted k .room-found .room)
+ceilings-copied k = length-take-le (counts k .cords) (ceilings-after k) (ceilings-few k) ∙ cords-count (admitted k .room-found)
+
+needs-copied : (k : Known) → length (take (counts k .servers) (needs-after k)) ≡ length (admitted k .room-found .room .servers)
+needs-copied k = length-take-le (counts k .servers) (needs-after k) (needs-few k) ∙ servers-count (admitted k .room-found)
+
+-- ---- After the copies of the ceilings and of the needs
+
+abbrev known-1 : tie.After-copy → Known
+known-1 x = x .before .before .before
+
+abbrev copied-y : tie.After-copy2 → tie.After-copy
+copied-y y = y .before .before .before .before .before
+
+abbrev known-2 : tie.After-copy2 → Known
+known-2 y = known-1 (copied-y y)
+
+given-2 : (y : tie.After-copy2) → PlanGiven (table (known-2 y)) (demands (known-2 y)) (admitted (known-2 y) .room-found .room) (counts (known-2 y)) (parents-after (known-2 y)) (left-after (known-2 y))
+    (cords-after (known-2 y)) (lows-after (known-2 y)) (wants-after (known-2 y)) (copied-y y .copy .last .1 .0) (y .copy2 .last .1 .0)
+given-2 y =
+    let k = known-2 y in
+    let a = admitted k in
+    plan-given a
+    (copied-loaded (parents-after k) (left-after k) (cords-after k) (lows-after k) (wants-after k) (ceilings-after k) (needs-after k) (found-accepted (a .room-found)) (loaded k)
+    (start k .args .headroom .now) (start k .args .caps .now) (copied-y y .copy .last .1 .0) (y .copy2 .last .1 .0)
+    (cords-count (a .room-found)) (servers-count (a .room-found)) (a .headroomLong) (a .capsLong) (copied-y y .copy .ensures) (y .copy2 .ensures))
+
+-- ---- After the plan
+
+abbrev copied-5 : tie.After-left3 → tie.After-copy2
+copied-5 c = c .before .before .before .before .before .before .before
+
+abbrev copied-p : tie.After-plan-loaded → tie.After-copy2
+copied-p p = copied-5 (p .before .before .before .before .before)
+
+abbrev planned-z : tie.After-slice-known10 → tie.After-plan-loaded
+planned-z c = c .before .before .before .before .before .before .before .before .before .before .before
+
+slice-aggregate-load-room : tie.Need-slice-aggregate-load-room
+slice-aggregate-load-room c = search needs
+
+slice-aggregate-load-room-2 : tie.Need-slice-aggregate-load-room-2
+slice-aggregate-load-room-2 c = search needs
+
+slice-aggregate-load-room-3 : tie.Need-slice-aggregate-load-room-3
+slice-aggregate-load-room-3 c = search needs
+
+slice-aggregate-load-room-4 : tie.Need-slice-aggregate-load-room-4
+slice-aggregate-load-room-4 c = search needs
+
+slice-aggregate-load-room-5 : tie.Need-slice-aggregate-load-room-5
+slice-aggregate-load-room-5 c = search needs
+
+slice-aggregate-load-room-6 : tie.Need-slice-aggregate-load-room-6
+slice-aggregate-load-room-6 c = search needs
+
+slice-aggregate-load-room-7 : tie.Need-slice-aggregate-load-room-7
+slice-aggregate-load-room-7 c = search needs
+
+load-room-requires : tie.Need-load-room-requires
+load-room-requires c κs = search needs
 
 admit-requires : tie.Need-admit-requires
 admit-requires c κs = search needs
@@ -43,51 +155,44 @@ admit-requires c κs = search needs
 enum-known-admission : tie.Need-enum-known-admission
 enum-known-admission c = search needs
 
-slice-aggregate-plan-room : tie.Need-slice-aggregate-plan-room
-slice-aggregate-plan-room c = lows-long (table (admit-of (c .before))) _ (admit-of (c .before) .admit .ensures .1)
+array-share-prefix-ceilings : tie.Need-array-share-prefix-ceilings
+array-share-prefix-ceilings c = ceilings-few c
 
-slice-relend-prefix-plan-room : tie.Need-slice-relend-prefix-plan-room
-slice-relend-prefix-plan-room c = admitted (c .before) .grantsLong
+slice-aggregate-copy : tie.Need-slice-aggregate-copy
+slice-aggregate-copy c = sym (length-take-le _ _ (ceilings-few (c .before)))
 
-slice-aggregate-plan-room-2 : tie.Need-slice-aggregate-plan-room-2
-slice-aggregate-plan-room-2 c = sym (length-take-le _ _ (admitted (c .before .before) .grantsLong))
+copy-requires : tie.Need-copy-requires
+copy-requires c κs = search needs
 
-slice-relend-prefix-plan-room-2 : tie.Need-slice-relend-prefix-plan-room-2
-slice-relend-prefix-plan-room-2 c = admitted (c .before .before) .capsLong
+array-share-prefix-needs : tie.Need-array-share-prefix-needs
+array-share-prefix-needs c = needs-few (known-1 (c .before .before))
 
-slice-aggregate-plan-room-3 : tie.Need-slice-aggregate-plan-room-3
-slice-aggregate-plan-room-3 c = sym (length-take-le _ _ (admitted (c .before .before .before) .capsLong))
+slice-aggregate-copy-2 : tie.Need-slice-aggregate-copy-2
+slice-aggregate-copy-2 c = sym (length-take-le _ _ (needs-few (known-1 (c .before .before .before))))
 
-slice-relend-prefix-plan-room-3 : tie.Need-slice-relend-prefix-plan-room-3
-slice-relend-prefix-plan-room-3 c = admitted (c .before .before .before) .headroomLong
+copy-requires-2 : tie.Need-copy-requires-2
+copy-requires-2 c κs = search needs
 
-slice-aggregate-plan-room-4 : tie.Need-slice-aggregate-plan-room-4
-slice-aggregate-plan-room-4 c = sym (length-take-le _ _ (admitted (c .before .before .before .before) .headroomLong))
+slice-aggregate-plan-loaded : tie.Need-slice-aggregate-plan-loaded
+slice-aggregate-plan-loaded c = search needs
 
-slice-relend-prefix-plan-room-4 : tie.Need-slice-relend-prefix-plan-room-4
-slice-relend-prefix-plan-room-4 c = admitted (c .before .before .before .before) .heldLong
+slice-aggregate-plan-loaded-2 : tie.Need-slice-aggregate-plan-loaded-2
+slice-aggregate-plan-loaded-2 c = search needs
 
-slice-aggregate-plan-room-5 : tie.Need-slice-aggregate-plan-room-5
-slice-aggregate-plan-room-5 c = sym (length-take-le _ _ (admitted (c .before .before .before .before .before) .heldLong))
+slice-aggregate-plan-loaded-3 : tie.Need-slice-aggregate-plan-loaded-3
+slice-aggregate-plan-loaded-3 c = search needs
 
-plan-room-requires : tie.Need-plan-room-requires
-plan-room-requires c κs =
-    let known = c .before .before .before .before .before in
-    let a = admitted known in
-    let lows = admit-of known .admit .ensures .1 in
-    let table = table (admit-of known) in (
-      a .room,
-      (
-        (
-          a .demandsFit,
-          cords-fit table (length-take-le _ _ (a .grantsLong)) (a .cordsFit),
-          servers-fit table (length-take-le _ _ (a .capsLong)) (a .serversFit),
-          cords-fit table (length-take-le _ _ (a .headroomLong)) (a .cordsFit),
-          cords-fit table (length-take-le _ _ (a .heldLong)) (a .cordsFit),
-        ),
-        (le-of-eq (lows-long table _ lows), lows-told table _ lows),
-      ),
-    )
+slice-aggregate-plan-loaded-4 : tie.Need-slice-aggregate-plan-loaded-4
+slice-aggregate-plan-loaded-4 c = search needs
+
+slice-aggregate-plan-loaded-5 : tie.Need-slice-aggregate-plan-loaded-5
+slice-aggregate-plan-loaded-5 c = search needs
+
+plan-loaded-requires : tie.Need-plan-loaded-requires
+plan-loaded-requires c κs =
+    let y = copied-5 (c .before .before .before .before) in
+    let a = admitted (known-2 y) in
+    (record { table = table (known-2 y); demands = demands (known-2 y); room = a .room-found .room; given = given-2 y }, (a .grantsLong, a .heldLong))
 
 enum-known-admission-2 : tie.Need-enum-known-admission-2
 enum-known-admission-2 c = search needs
@@ -106,19 +211,24 @@ same-length-4 c = search needs
 
 returns : tie.Need-returns
 returns c =
-    let room = c .before .before .before .before .before .before .before .before in
-    let known = room .before .before .before .before .before .before in
-    let a = admitted known in
-    let dealt = room .plan-room .ensures (a .room .value) (a .room .next) (a .room .is) in
-    let lists = room .plan-room .kept .1 .1 .1 in (
-      freed-told _ (a .is) (dealt .freed-is),
+    let p = planned-z c in
+    let y = copied-p p in
+    let k = known-2 y in
+    let a = admitted k in
+    let room = a .room-found .room in
+    let outcome = plan (table k) (demands k) (lengths k) in
+    let left = p .plan-loaded .ensures (table k) (demands k) room (given-2 y) in
+    let args = start k .args in (
+      freed-told outcome (a .is) (left .freed-is),
       (
-        written _ (a .is) (λ p. p .grants) _ _ _ (dealt .grants-are) (lists .0 ∙ length-take-le _ _ (a .grantsLong)) (a .grantsLong),
+        written outcome (a .is) (λ p. p .grants) (args .grants .now) (left .grants-are),
         (
-          written _ (a .is) (λ p. p .caps) _ _ _ (dealt .caps-are) (lists .1 .0 ∙ length-take-le _ _ (a .capsLong)) (a .capsLong),
+          written outcome (a .is) (λ p. p .caps) (args .caps .now)
+              (stored-again (args .caps .now) (take (counts k .servers) (needs-after k)) (second.caps room (demands k)) (needs-copied k ∙ sym (caps-length room (demands k))) (y .copy2 .ensures) (left .caps-are)),
           (
-            written _ (a .is) (λ p. p .headroom) _ _ _ (dealt .headroom-is) (lists .1 .1 .0 ∙ length-take-le _ _ (a .headroomLong)) (a .headroomLong),
-            written _ (a .is) (λ p. p .held) _ _ _ (dealt .held-are) (lists .1 .1 .1 .0 ∙ length-take-le _ _ (a .heldLong)) (a .heldLong),
+            written outcome (a .is) (λ p. p .headroom) (args .headroom .now)
+                (stored-again (args .headroom .now) (take (counts k .cords) (ceilings-after k)) (headroom room (demands k)) (ceilings-copied k ∙ sym (headroom-length room (demands k))) (copied-y y .copy .ensures) (left .headroom-is)),
+            written outcome (a .is) (λ p. p .held) (args .held .now) (left .held-are),
           ),
         ),
       ),
@@ -126,26 +236,40 @@ returns c =
 
 returns-2 : tie.Need-returns-2
 returns-2 c =
-    let admit = c .before .before .before in
-    let refused = admitted-refused (plan (table admit) (demands admit) (lengths admit)) (admit .admit .ensures .0) (c .before .admission2 .given .1) in
-    (refusal-told _ refused, (unwritten _ refused (λ p. p .grants) _, (unwritten _ refused (λ p. p .caps) _, (unwritten _ refused (λ p. p .headroom) _, unwritten _ refused (λ p. p .held) _))))
+    let a = c .before .before .before in
+    let s = start-r (loaded-a a) in
+    let outcome = plan (s .args .table .now) (s .args .demands .now) (lent (s .args .grants .now) (s .args .caps .now) (s .args .headroom .now) (s .args .held .now)) in
+    let refused = admitted-refused (s .args .table .now) (s .args .demands .now) _ (loaded-a a .load-room .ensures .0) (a .admit .ensures) (c .before .admission2 .given .1) in (
+      refusal-told outcome refused,
+      (unwritten outcome refused (λ p. p .grants) _, (unwritten outcome refused (λ p. p .caps) _, (unwritten outcome refused (λ p. p .headroom) _, unwritten outcome refused (λ p. p .held) _))),
+    )
 
 pub plan-spec : {M : Type 1} → statement M
 plan-spec =
     tie.close
     (tie.spec
+    slice-aggregate-load-room
+    slice-aggregate-load-room-2
+    slice-aggregate-load-room-3
+    slice-aggregate-load-room-4
+    slice-aggregate-load-room-5
+    slice-aggregate-load-room-6
+    slice-aggregate-load-room-7
+    load-room-requires
     admit-requires
     enum-known-admission
-    slice-aggregate-plan-room
-    slice-relend-prefix-plan-room
-    slice-aggregate-plan-room-2
-    slice-relend-prefix-plan-room-2
-    slice-aggregate-plan-room-3
-    slice-relend-prefix-plan-room-3
-    slice-aggregate-plan-room-4
-    slice-relend-prefix-plan-room-4
-    slice-aggregate-plan-room-5
-    plan-room-requires
+    array-share-prefix-ceilings
+    slice-aggregate-copy
+    copy-requires
+    array-share-prefix-needs
+    slice-aggregate-copy-2
+    copy-requires-2
+    slice-aggregate-plan-loaded
+    slice-aggregate-plan-loaded-2
+    slice-aggregate-plan-loaded-3
+    slice-aggregate-plan-loaded-4
+    slice-aggregate-plan-loaded-5
+    plan-loaded-requires
     enum-known-admission-2
     same-length
     same-length-2

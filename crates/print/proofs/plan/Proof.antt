@@ -11,21 +11,28 @@ server-count-requires c κs = search needs
 cord-count-requires : tie.Need-cord-count-requires
 cord-count-requires c κs = search needs
 
+-- Earlier steps, each seen from a later one.
+abbrev start-from-shared-slice-known4 : tie.After-shared-slice-known4 → tie.Start
+start-from-shared-slice-known4 c = c .before .before .before .before
+
+abbrev start-from-cord-count : tie.After-cord-count → tie.Start
+start-from-cord-count c = start-from-shared-slice-known4 (c .before .before .before .before)
+
 array-borrow-prefix-servers : tie.Need-array-borrow-prefix-servers
-array-borrow-prefix-servers c = servers-few _ (c .before .before .before .before .before .before .before .before .pre) (c .before .server-count .ensures .0)
+array-borrow-prefix-servers c = servers-few _ (start-from-cord-count c .pre) (c .before .server-count .ensures .0)
 
 slice-aggregate-plan-by : tie.Need-slice-aggregate-plan-by
-slice-aggregate-plan-by c = servers-front _ (c .before .before .before .before .before .before .before .before .before .pre) (c .before .before .server-count .ensures .0) (replicate 4 0)
+slice-aggregate-plan-by c = servers-front _ (start-from-cord-count (c .before) .pre) (c .before .before .server-count .ensures .0) (replicate 4 0)
 
 array-borrow-prefix-cords : tie.Need-array-borrow-prefix-cords
-array-borrow-prefix-cords c = cords-few _ (c .before .before .before .before .before .before .before .before .before .pre) (c .before .cord-count .ensures)
+array-borrow-prefix-cords c = cords-few _ (start-from-cord-count (c .before) .pre) (c .before .cord-count .ensures)
 
 slice-aggregate-plan-by-2 : tie.Need-slice-aggregate-plan-by-2
-slice-aggregate-plan-by-2 c = cords-front _ (c .before .before .before .before .before .before .before .before .before .before .pre) (c .before .before .cord-count .ensures) (replicate 4 0)
+slice-aggregate-plan-by-2 c = cords-front _ (start-from-cord-count (c .before .before) .pre) (c .before .before .cord-count .ensures) (replicate 4 0)
 
 plan-by-requires : tie.Need-plan-by-requires
 plan-by-requires c κs =
-    (c .before .before .before .before .before .before .before .before .before .before .before .pre, (servers-lent _ (c .before .before .before .before .before .before .before .before .before .before .before .pre) (c .before .before .before .before .server-count .ensures .0) (replicate 4 0), cords-lent _ (c .before .before .before .before .before .before .before .before .before .before .before .pre) (c .before .before .before .cord-count .ensures) (replicate 4 0)))
+    (start-from-cord-count (c .before .before .before) .pre, (servers-lent _ (start-from-cord-count (c .before .before .before) .pre) (c .before .before .before .before .server-count .ensures .0) (replicate 4 0), cords-lent _ (start-from-cord-count (c .before .before .before) .pre) (c .before .before .before .cord-count .ensures) (replicate 4 0)))
 
 same-length : tie.Need-same-length
 same-length c = c .before .before .before .before .plan-by .kept .1 .1 .1 .1 .1 .1 .1 .1 .0

@@ -43,8 +43,12 @@ add-put-server c = search needs
 word-requires : tie.Need-word-requires Inv-loop μ-loop
 word-requires c κs = search needs
 
+-- Earlier steps, each seen from a later one.
+abbrev in-loop-from-word : tie.After-word Inv-loop μ-loop → tie.In-loop Inv-loop μ-loop
+in-loop-from-word c = c .before .before .before .before
+
 put-server-requires : tie.Need-put-server-requires Inv-loop μ-loop
-put-server-requires c κs = putting-within (c .before .before .before .before .before .before .loop .inv .put)
+put-server-requires c κs = putting-within (in-loop-from-word (c .before) .before .loop .inv .put)
 
 put-cords-requires : tie.Need-put-cords-requires Inv-loop μ-loop
 put-cords-requires c κs = search needs
@@ -62,7 +66,7 @@ loop-again : tie.Need-loop-again Inv-loop μ-loop
 loop-again c =
     let cords = c .before .before in
     let server = cords .before .before .before .before in
-    let at = server .before .before .before .before .before .before .before in
+    let at = in-loop-from-word (server .before .before) .before in
     walking-next _ _ _ _ _ _ _ _ _ _ _ (at .loop .inv) (omega arith)
     (server .before .before .word .ensures .0)
     (server .before .before .before .least2 .ensures

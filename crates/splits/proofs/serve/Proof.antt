@@ -1,8 +1,11 @@
 -- `serve` meets its contract: all the weight takes all, and any other child is served by a division.
 use borrow.Author.Needs.{needs}
-use Rattle.splits.proofs.Serving.{serve-all}
+use Rattle.splits.proofs.Serving.{serve-all, all-seen}
 use Rattle.splits.proofs.serve.Statement.{statement}
 use Rattle.splits.proofs.serve.Tie as tie
+
+has-all-requires : tie.Need-has-all-requires
+has-all-requires c κs = search needs
 
 all-of-requires : tie.Need-all-of-requires
 all-of-requires c κs = search needs
@@ -27,8 +30,9 @@ same-length-2 c = search needs
 
 returns : tie.Need-returns
 returns c =
-    let start = c .before .before .before .before in
-    serve-all (start .args .amount) _ _ (start .args .p) (start .args .before .now) (start .args .dealt .now) (start .pre .room) (c .before .if1 .taken) (c .all-of .ensures)
+    let seen = c .before .before in
+    let start = seen .before .before .before in
+    serve-all (start .args .amount) _ _ (start .args .p) (start .args .before .now) (start .args .dealt .now) (start .pre .room) (all-seen (start .args .alone) _ _ (seen .has-all .ensures) (c .before .if1 .taken)) (c .all-of .ensures)
 
 serve-by-division-requires : tie.Need-serve-by-division-requires
 serve-by-division-requires c κs = search needs
@@ -46,6 +50,7 @@ pub serve-spec : {M : Type 1} → statement M
 serve-spec =
     tie.close
     (tie.spec
+    has-all-requires
     all-of-requires
     mul-before
     slice-write-before

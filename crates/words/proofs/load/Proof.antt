@@ -6,7 +6,7 @@ use mathlib.Core.Path.{_≡_, refl}
 use lib.ListN.{length, take, length-set}
 use lib.Seq.{sets}
 use Rattle.words.specs.Bytes.{wordsOf}
-use Rattle.words.proofs.Lists.{sets-turn, sets-take}
+use Rattle.figures.proofs.Stores.{sets-turn, sets-take}
 use Rattle.words.proofs.Bytes.{length-wordsOf, getD-wordsOf}
 use Rattle.words.proofs.load.Statement.{statement}
 use Rattle.words.proofs.load.Tie as tie

@@ -6,7 +6,7 @@ use mathlib.Core.Path.{_≡_, refl}
 use lib.ListN.{length, take}
 use lib.Seq.{sets}
 use Rattle.words.specs.Bytes.{bytesOf}
-use Rattle.words.proofs.Lists.{take-min}
+use Rattle.figures.proofs.Stores.{take-min}
 use Rattle.words.proofs.Bytes.{sets-bytesOf-turn}
 use Rattle.words.proofs.store.Statement.{statement}
 use Rattle.words.proofs.store.Tie as tie

@@ -26,18 +26,25 @@ part-renumber-every-end c =
     let put = c .before .before .put-words .ensures in
     omega (arith, put .within, put .size)
 
+-- Earlier steps, each seen from a later one.
+abbrev put-words-arg-from-renumber-every-arg : tie.After-renumber-every-arg → tie.After-put-words-arg
+put-words-arg-from-renumber-every-arg c = c .before .before .before .before
+
+abbrev put-words-from-renumber-every-arg : tie.After-renumber-every-arg → tie.After-put-words
+put-words-from-renumber-every-arg c = c .before .before .before
+
 renumber-every-requires : tie.Need-renumber-every-requires
 renumber-every-requires c κs =
-    let pre = c .before .before .before .before .before .before .before .pre in
-    (pre .1 .0, pre .1 .1, pre .1 .2, piece-below 2147483648 (c .before .before .before .before .before .before .before .args .from) (c .before .before .before .before .before .before .before .args .to) (wordsOf (c .before .before .before .before .before .before .before .args .bytes .now)) (c .before .before .before .put-words .ensures) (pre .1 .3))
+    let pre = put-words-arg-from-renumber-every-arg c .before .before .before .pre in
+    (pre .1 .0, pre .1 .1, pre .1 .2, piece-below 2147483648 (put-words-arg-from-renumber-every-arg c .before .before .before .args .from) (put-words-arg-from-renumber-every-arg c .before .before .before .args .to) (wordsOf (put-words-arg-from-renumber-every-arg c .before .before .before .args .bytes .now)) (c .before .before .before .put-words .ensures) (pre .1 .3))
 
 same-length : tie.Need-same-length
 same-length c = search needs
 
 returns : tie.Need-returns
 returns c =
-    put-changed (c .before .before .before .before .before .before .put-words .ensures) (renumberedEvery (c .before .before .before .before .before .before .before .before .before .before .args .width - 1) (c .before .before .before .before .before .before .before .before .before .before .args .up) (c .before .before .before .before .before .before .before .before .before .before .args .down) 0)
-    (every-length (c .before .before .before .before .before .before .before .before .before .before .args .width - 1) (c .before .before .before .before .before .before .before .before .before .before .args .up) (c .before .before .before .before .before .before .before .before .before .before .args .down) 0 _) (c .before .before .renumber-every .ensures) refl
+    put-changed (put-words-from-renumber-every-arg (c .before .before .before) .put-words .ensures) (renumberedEvery (put-words-arg-from-renumber-every-arg (c .before .before .before) .before .before .before .args .width - 1) (put-words-arg-from-renumber-every-arg (c .before .before .before) .before .before .before .args .up) (put-words-arg-from-renumber-every-arg (c .before .before .before) .before .before .before .args .down) 0)
+    (every-length (put-words-arg-from-renumber-every-arg (c .before .before .before) .before .before .before .args .width - 1) (put-words-arg-from-renumber-every-arg (c .before .before .before) .before .before .before .args .up) (put-words-arg-from-renumber-every-arg (c .before .before .before) .before .before .before .args .down) 0 _) (c .before .before .renumber-every .ensures) refl
 
 pub put-nodes-spec : {M : Type 1} → statement M
 put-nodes-spec =

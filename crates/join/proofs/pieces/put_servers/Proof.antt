@@ -25,16 +25,23 @@ part-renumber-cords-end c =
     let put = c .before .before .put-words .ensures in
     omega (arith, put .within, put .size)
 
+-- Earlier steps, each seen from a later one.
+abbrev put-words-arg-from-renumber-cords-arg : tie.After-renumber-cords-arg → tie.After-put-words-arg
+put-words-arg-from-renumber-cords-arg c = c .before .before .before .before
+
+abbrev put-words-from-renumber-cords-arg : tie.After-renumber-cords-arg → tie.After-put-words
+put-words-from-renumber-cords-arg c = c .before .before .before
+
 renumber-cords-requires : tie.Need-renumber-cords-requires
 renumber-cords-requires c κs =
-    let pre = c .before .before .before .before .before .before .before .pre in
-    (pre .1 .0, piece-below 2147483648 (c .before .before .before .before .before .before .before .args .from) (c .before .before .before .before .before .before .before .args .to) (wordsOf (c .before .before .before .before .before .before .before .args .bytes .now)) (c .before .before .before .put-words .ensures) (pre .1 .1))
+    let pre = put-words-arg-from-renumber-cords-arg c .before .before .before .pre in
+    (pre .1 .0, piece-below 2147483648 (put-words-arg-from-renumber-cords-arg c .before .before .before .args .from) (put-words-arg-from-renumber-cords-arg c .before .before .before .args .to) (wordsOf (put-words-arg-from-renumber-cords-arg c .before .before .before .args .bytes .now)) (c .before .before .before .put-words .ensures) (pre .1 .1))
 
 same-length : tie.Need-same-length
 same-length c = search needs
 
 returns : tie.Need-returns
-returns c = put-changed (c .before .before .before .before .before .before .put-words .ensures) (renumberedCords (c .before .before .before .before .before .before .before .before .before .before .args .up) (c .before .before .before .before .before .before .before .before .before .before .args .down) 0) (cords-length (c .before .before .before .before .before .before .before .before .before .before .args .up) (c .before .before .before .before .before .before .before .before .before .before .args .down) 0 _) (c .before .before .renumber-cords .ensures) refl
+returns c = put-changed (put-words-from-renumber-cords-arg (c .before .before .before) .put-words .ensures) (renumberedCords (put-words-arg-from-renumber-cords-arg (c .before .before .before) .before .before .before .args .up) (put-words-arg-from-renumber-cords-arg (c .before .before .before) .before .before .before .args .down) 0) (cords-length (put-words-arg-from-renumber-cords-arg (c .before .before .before) .before .before .before .args .up) (put-words-arg-from-renumber-cords-arg (c .before .before .before) .before .before .before .args .down) 0 _) (c .before .before .renumber-cords .ensures) refl
 
 pub put-servers-spec : {M : Type 1} → statement M
 put-servers-spec =

@@ -38,14 +38,18 @@ slice-write-words c = search needs
 add-i : tie.Need-add-i Inv-loop μ-loop
 add-i c = search needs
 
+-- Earlier steps, each seen from a later one.
+abbrev start-from-slice-known2 : tie.After-slice-known2 Inv-loop μ-loop → tie.Start Inv-loop μ-loop
+start-from-slice-known2 c = c .before .before .before .before
+
 loop-less : tie.Need-loop-less Inv-loop μ-loop
 loop-less c =
-    let pre = c .before .before .before .before .before .pre in
+    let pre = start-from-slice-known2 (c .before) .pre in
     simp length-set (omega (arith, c .before .before .loop-test .taken, pre .0))
 
 loop-again : tie.Need-loop-again Inv-loop μ-loop
 loop-again c =
-    let pre = c .before .before .before .before .before .pre in
+    let pre = start-from-slice-known2 (c .before) .pre in
     every-again _ _ _ (pre .0) (c .before .before .loop-test .taken) (c .renumbered .ensures) (c .before .before .before .loop .inv)
 
 same-length : tie.Need-same-length Inv-loop μ-loop

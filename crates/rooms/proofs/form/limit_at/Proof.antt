@@ -40,8 +40,12 @@ shared-slice-read-limit-of-3 c = omega (arith, c .before .before .before .pre .0
 limit-of-requires-2 : tie.Need-limit-of-requires-2
 limit-of-requires-2 c κs = search needs
 
+-- Earlier steps, each seen from a later one.
+abbrev start-from-shared-slice-known3 : tie.After-shared-slice-known3 → tie.Start
+start-from-shared-slice-known3 c = c .before .before .before .before
+
 returns : tie.Need-returns
-returns c = limit-by-word (c .before .before .before .before .before .args .percents) (c .before .before .before .before .before .args .w .now) (c .before .before .before .before .before .args .i) (c .before .before .before .if1 .taken) (c .limit-of .ensures)
+returns c = limit-by-word (start-from-shared-slice-known3 (c .before) .args .percents) (start-from-shared-slice-known3 (c .before) .args .w .now) (start-from-shared-slice-known3 (c .before) .args .i) (c .before .before .before .if1 .taken) (c .limit-of .ensures)
 
 returns-2 : tie.Need-returns-2
 returns-2 c = limit-by-eighty (c .before .before .before .before .args .percents) (c .before .before .before .before .args .w .now) (c .before .before .before .before .args .i) (c .before .before .if1 .left) (c .limit-of2 .ensures)

@@ -32,27 +32,37 @@ returns : tie.Need-returns
 returns c =
     carried-is (c .before .before .before .before .wide .ensures .0) (c .before .before .before .wide2 .ensures .0) (c .before .before .wide3 .ensures .0) (sym (c .before .if1 .taken)) (c .narrow .ensures)
 
+-- Earlier steps, each seen from a later one.
+abbrev wide-from-Then2 : tie.Then2 → tie.After-wide
+wide-from-Then2 c = c .before .before .before .before
+
+abbrev wide-from-Else2 : tie.Else2 → tie.After-wide
+wide-from-Else2 c = c .before .before .before .before
+
+abbrev wide2-from-Else2 : tie.Else2 → tie.After-wide2
+wide2-from-Else2 c = c .before .before .before
+
 narrow-requires-2 : tie.Need-narrow-requires-2
 narrow-requires-2 c κs =
-    omega (arith, quotient-most (c .before .before .before .before .wide .ensures .0) (c .before .before .before .wide2 .ensures .0) (c .before .before .wide3 .ensures .0) (c .before .before .before .before .before .pre) 10000 (sym (c .if2 .taken)))
+    omega (arith, quotient-most (c .before .before .before .before .wide .ensures .0) (c .before .before .before .wide2 .ensures .0) (c .before .before .wide3 .ensures .0) (wide-from-Then2 c .before .pre) 10000 (sym (c .if2 .taken)))
 
 returns-2 : tie.Need-returns-2
 returns-2 c =
-    carried-is (c .before .before .before .before .before .wide .ensures .0) (c .before .before .before .before .wide2 .ensures .0) (c .before .before .before .wide3 .ensures .0) (sym (c .before .if2 .taken)) (c .narrow2 .ensures)
+    carried-is (wide-from-Then2 (c .before) .wide .ensures .0) (c .before .before .before .before .wide2 .ensures .0) (c .before .before .before .wide3 .ensures .0) (sym (c .before .if2 .taken)) (c .narrow2 .ensures)
 
 wide-requires-4 : tie.Need-wide-requires-4
 wide-requires-4 c κs = search needs
 
 div-narrow : tie.Need-div-narrow
-div-narrow c = omega (arith, c .wide4 .ensures .0, c .before .before .before .before .before .before .pre .0 .0)
+div-narrow c = omega (arith, c .wide4 .ensures .0, wide-from-Else2 (c .before) .before .pre .0 .0)
 
 narrow-requires-3 : tie.Need-narrow-requires-3
 narrow-requires-3 c κs =
-    omega (arith, quotient-most (c .before .before .before .before .before .wide .ensures .0) (c .before .before .before .before .wide2 .ensures .0) (c .before .before .before .wide3 .ensures .0) (c .before .before .before .before .before .before .pre) _ (c .wide4 .ensures .0))
+    omega (arith, quotient-most (wide-from-Else2 (c .before) .wide .ensures .0) (c .before .before .before .before .wide2 .ensures .0) (c .before .before .before .wide3 .ensures .0) (wide-from-Else2 (c .before) .before .pre) _ (c .wide4 .ensures .0))
 
 returns-3 : tie.Need-returns-3
 returns-3 c =
-    carried-is (c .before .before .before .before .before .before .wide .ensures .0) (c .before .before .before .before .before .wide2 .ensures .0) (c .before .before .before .before .wide3 .ensures .0) (c .before .wide4 .ensures .0) (c .narrow3 .ensures)
+    carried-is (wide-from-Else2 (c .before .before) .wide .ensures .0) (wide2-from-Else2 (c .before .before) .wide2 .ensures .0) (c .before .before .before .before .wide3 .ensures .0) (c .before .wide4 .ensures .0) (c .narrow3 .ensures)
 
 pub carried-by-spec : {M : Type 1} → statement M
 carried-by-spec =

@@ -27,33 +27,58 @@ mul-sum c = omega (arith, c .before .loop .inv .all, c .before .before .before .
 slice-read-sum : tie.Need-slice-read-sum Inv-loop μ-loop
 slice-read-sum c = omega (arith, c .before .before .loop .inv .all, c .before .before .loop .inv .size)
 
+-- Earlier steps, each seen from a later one.
+abbrev start-from-in-loop : tie.In-loop Inv-loop μ-loop → tie.Start Inv-loop μ-loop
+start-from-in-loop c = c .before .before .before .before
+
+abbrev start-from-wide : tie.After-wide Inv-loop μ-loop → tie.Start Inv-loop μ-loop
+start-from-wide c = start-from-in-loop (c .before .before .before .before)
+
+abbrev start-from-word-index : tie.After-word-index Inv-loop μ-loop → tie.Start Inv-loop μ-loop
+start-from-word-index c = start-from-wide (c .before .before .before .before)
+
+abbrev in-loop-from-wide : tie.After-wide Inv-loop μ-loop → tie.In-loop Inv-loop μ-loop
+in-loop-from-wide c = c .before .before .before .before
+
+abbrev in-loop-from-word-index : tie.After-word-index Inv-loop μ-loop → tie.In-loop Inv-loop μ-loop
+in-loop-from-word-index c = in-loop-from-wide (c .before .before .before .before)
+
+abbrev node-index-from-wide : tie.After-wide Inv-loop μ-loop → tie.After-node-index Inv-loop μ-loop
+node-index-from-wide c = c .before .before
+
+abbrev wide-from-word-index : tie.After-word-index Inv-loop μ-loop → tie.After-wide Inv-loop μ-loop
+wide-from-word-index c = c .before .before .before .before
+
+abbrev noted-from-word-index : tie.After-word-index Inv-loop μ-loop → tie.After-noted Inv-loop μ-loop
+noted-from-word-index c = c .before .before .before
+
 node-index-requires : tie.Need-node-index-requires Inv-loop μ-loop
-node-index-requires c κs = omega (arith, c .before .before .loop .inv .all, c .before .before .before .before .before .pre .0 .0 .few)
+node-index-requires c κs = omega (arith, c .before .before .loop .inv .all, start-from-in-loop (c .before) .pre .0 .0 .few)
 
 limit-at-requires : tie.Need-limit-at-requires Inv-loop μ-loop
-limit-at-requires c κs = node-fits _ _ _ (c .node-index .ensures) (c .before .before .before .before .before .before .pre .0 .0) (omega (arith, c .before .before .before .loop .inv .all, c .before .before .loop-test .taken))
+limit-at-requires c κs = node-fits _ _ _ (c .node-index .ensures) (start-from-in-loop (c .before .before) .pre .0 .0) (omega (arith, c .before .before .before .loop .inv .all, c .before .before .loop-test .taken))
 
 wide-requires : tie.Need-wide-requires Inv-loop μ-loop
 wide-requires c κs = search needs
 
 noted-requires : tie.Need-noted-requires Inv-loop μ-loop
-noted-requires c κs = omega (arith, c .before .before .before .before .before .loop .inv .all, c .before .before .before .before .before .before .before .before .pre .0 .0 .few, c .before .before .before .before .loop-test .taken)
+noted-requires c κs = omega (arith, in-loop-from-wide c .before .loop .inv .all, start-from-wide c .pre .0 .0 .few, c .before .before .before .before .loop-test .taken)
 
 mul-word-index : tie.Need-mul-word-index Inv-loop μ-loop
-mul-word-index c = omega (arith, node-fits _ _ _ (c .before .before .before .before .node-index .ensures) (c .before .before .before .before .before .before .before .before .before .before .pre .0 .0) (omega (arith, c .before .before .before .before .before .before .before .loop .inv .all, c .before .before .before .before .before .before .loop-test .taken)) .0)
+mul-word-index c = omega (arith, node-fits _ _ _ (c .before .before .before .before .node-index .ensures) (start-from-wide (c .before .before) .pre .0 .0) (omega (arith, in-loop-from-wide (c .before .before) .before .loop .inv .all, in-loop-from-wide (c .before .before) .loop-test .taken)) .0)
 
 shared-slice-read-word-index : tie.Need-shared-slice-read-word-index Inv-loop μ-loop
-shared-slice-read-word-index c = omega (arith, node-fits _ _ _ (c .before .before .before .before .before .node-index .ensures) (c .before .before .before .before .before .before .before .before .before .before .before .pre .0 .0) (omega (arith, c .before .before .before .before .before .before .before .before .loop .inv .all, c .before .before .before .before .before .before .before .loop-test .taken)) .0, words-two (c .before .before .before .before .before .before .before .before .before .before .before .args .percents))
+shared-slice-read-word-index c = omega (arith, node-fits _ _ _ (node-index-from-wide (c .before .before .before) .node-index .ensures) (start-from-wide (c .before .before .before) .pre .0 .0) (omega (arith, in-loop-from-wide (c .before .before .before) .before .loop .inv .all, in-loop-from-wide (c .before .before .before) .loop-test .taken)) .0, words-two (start-from-wide (c .before .before .before) .args .percents))
 
 word-index-requires : tie.Need-word-index-requires Inv-loop μ-loop
 word-index-requires c κs = search needs
 
 credit-requires : tie.Need-credit-requires Inv-loop μ-loop
 credit-requires c κs =
-    let l = c .before .before .before .before .before .before .before .before .before .loop in
-    let pre = c .before .before .before .before .before .before .before .before .before .before .before .before .pre in
-    let inside : l .n - 1 < c .before .before .before .before .before .before .before .before .before .before .before .before .args .node-count = omega (arith, l .inv .all, c .before .before .before .before .before .before .before .before .loop-test .taken) in
-    let above = parent-here (c .before .before .before .before .before .before .before .before .before .before .before .before .args .percents) (c .before .before .before .before .before .before .before .before .before .before .before .before .args .w .now) _ (c .before .before .before .before .before .before .node-index .ensures) (c .word-index .ensures .0) in
+    let l = in-loop-from-word-index c .before .loop in
+    let pre = start-from-word-index c .pre in
+    let inside : l .n - 1 < start-from-word-index c .args .node-count = omega (arith, l .inv .all, in-loop-from-word-index c .loop-test .taken) in
+    let above = parent-here (start-from-word-index c .args .percents) (start-from-word-index c .args .w .now) _ (wide-from-word-index c .before .before .node-index .ensures) (c .word-index .ensures .0) in
     let rise = pre .0 .0 .rises (l .n - 1) inside in
     let most = gathered-most (pre .0 .0 .rises) (l .inv) in (
       omega (arith, l .inv .all, l .inv .size, pre .0 .1, above, rise),
@@ -65,11 +90,11 @@ loop-less c = search needs
 
 loop-again : tie.Need-loop-again Inv-loop μ-loop
 loop-again c =
-    let pre = c .before .before .before .before .before .before .before .before .before .before .before .before .before .before .before .pre in
-    let here = c .before .before .before .before .before .before .before .before .before .node-index .ensures in
-    let limit = limit-here (c .before .before .before .before .before .before .before .before .before .before .before .before .before .before .before .args .percents) (c .before .before .before .before .before .before .before .before .before .before .before .before .before .before .before .args .w .now) _ here (c .before .before .before .before .before .before .before .wide .ensures .0 ∙ c .before .before .before .before .before .before .before .before .limit-at .ensures) in
-    let above = parent-here (c .before .before .before .before .before .before .before .before .before .before .before .before .before .before .before .args .percents) (c .before .before .before .before .before .before .before .before .before .before .before .before .before .before .before .args .w .now) _ here (c .before .before .before .word-index .ensures .0) in
-    gathered-turn (pre .0 .0 .rises) (c .before .before .before .before .before .before .before .before .before .before .before .before .loop .inv) (c .before .before .before .before .before .before .before .before .before .before .before .loop-test .taken) (pre .0 .1) limit refl above (c .before .before .before .before .before .before .noted .ensures) (c .before .before .credit .ensures)
+    let pre = start-from-word-index (c .before .before .before) .pre in
+    let here = wide-from-word-index (c .before .before .before) .before .before .node-index .ensures in
+    let limit = limit-here (start-from-word-index (c .before .before .before) .args .percents) (start-from-word-index (c .before .before .before) .args .w .now) _ here (wide-from-word-index (c .before .before .before) .wide .ensures .0 ∙ wide-from-word-index (c .before .before .before) .before .limit-at .ensures) in
+    let above = parent-here (start-from-word-index (c .before .before .before) .args .percents) (start-from-word-index (c .before .before .before) .args .w .now) _ here (c .before .before .before .word-index .ensures .0) in
+    gathered-turn (pre .0 .0 .rises) (in-loop-from-word-index (c .before .before .before) .before .loop .inv) (in-loop-from-word-index (c .before .before .before) .loop-test .taken) (pre .0 .1) limit refl above (noted-from-word-index (c .before .before .before) .noted .ensures) (c .before .before .credit .ensures)
 
 same-length : tie.Need-same-length Inv-loop μ-loop
 same-length c = c .before .loop .inv .size

@@ -5,7 +5,7 @@ use lib.ListN.{getD, replicate}
 use borrow.Author.Needs.{needs}
 use Rattle.rooms.specs.Table.{mostNodes}
 use Rattle.figures.proofs.Filled.{zeros-at}
-use Rattle.rooms.proofs.Credits.{sum-zeros}
+use Rattle.figures.proofs.Credits.{sum-zeros}
 use Rattle.rooms.proofs.Places.{layout, nodes-read}
 use Rattle.rooms.proofs.Found.{overloaded-from, lows-from}
 use Rattle.rooms.proofs.lows.overloaded.Statement.{statement}

@@ -29,11 +29,15 @@ returns : tie.Need-returns
 unfolding load
 returns c = stopped _ _ (stop _ _ _ _ (rw (c .before .before .before .lesser .ensures) at (c .before .before .check-word .ensures)) (c .enum-told .given .1)) (c .enum-told .given .1)
 
+-- Earlier steps, each seen from a later one.
+abbrev lesser-from-known-told : tie.After-known-told → tie.After-lesser
+lesser-from-known-told c = c .before .before .before .before
+
 check-cords-requires : tie.Need-check-cords-requires
 check-cords-requires c κs =
-    let pre = c .before .before .before .before .before .before .before .before .pre in
+    let pre = lesser-from-known-told (c .before) .before .before .before .pre in
     let few = word-most _ _ _ _ (c .before .before .before .before .check-word .ensures) (c .before .before .first .given .1) in
-    ((pre .0 .0, omega (arith, few, c .before .before .before .before .before .lesser .ensures), pre .0 .2), (pre .1 .0, omega (arith, few, c .before .before .before .before .before .lesser .ensures, pre .1 .1)))
+    ((pre .0 .0, omega (arith, few, lesser-from-known-told (c .before) .lesser .ensures), pre .0 .2), (pre .1 .0, omega (arith, few, lesser-from-known-told (c .before) .lesser .ensures, pre .1 .1)))
 
 enum-known-cords : tie.Need-enum-known-cords
 enum-known-cords c = search needs

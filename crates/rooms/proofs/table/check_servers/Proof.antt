@@ -25,10 +25,20 @@ abbrev μ-loop : tie.MeasureT-loop
 loop-holds : tie.Need-loop-holds Inv-loop μ-loop
 loop-holds c = (search needs, row-start _ _ _ _ _ _ _, crediting-start _ _ _ 0 _)
 
+-- Earlier steps, each seen from a later one.
+abbrev start-from-in-loop : tie.In-loop Inv-loop μ-loop → tie.Start Inv-loop μ-loop
+start-from-in-loop c = c .before .before .before .before
+
+abbrev in-loop-from-slice-known2 : tie.After-slice-known2 Inv-loop μ-loop → tie.In-loop Inv-loop μ-loop
+in-loop-from-slice-known2 c = c .before .before .before .before
+
+abbrev check-server-from-slice-known2 : tie.After-slice-known2 Inv-loop μ-loop → tie.After-check-server Inv-loop μ-loop
+check-server-from-slice-known2 c = c .before .before
+
 check-server-requires : tie.Need-check-server-requires Inv-loop μ-loop
 check-server-requires c κs =
     let inv = c .before .before .loop .inv in
-    (c .before .before .before .before .before .pre .0, inv .0, omega (arith, inv .2 .length-is, c .before .before .before .before .before .pre .1), omega (arith, inv .2 .sum-is, c .before .before .before .before .before .pre .2, c .before .loop-test .taken))
+    (start-from-in-loop (c .before) .pre .0, inv .0, omega (arith, inv .2 .length-is, start-from-in-loop (c .before) .pre .1), omega (arith, inv .2 .sum-is, start-from-in-loop (c .before) .pre .2, c .before .loop-test .taken))
 
 enum-known-server : tie.Need-enum-known-server Inv-loop μ-loop
 enum-known-server c = search needs
@@ -37,13 +47,13 @@ enum-told : tie.Need-enum-told Inv-loop μ-loop
 enum-told c = search needs
 
 same-length : tie.Need-same-length Inv-loop μ-loop
-same-length c = omega (arith, c .before .before .before .before .check-server .kept, c .before .before .before .before .before .before .before .loop .inv .2 .length-is)
+same-length c = omega (arith, c .before .before .before .before .check-server .kept, in-loop-from-slice-known2 (c .before .before) .before .loop .inv .2 .length-is)
 
 returns : tie.Need-returns Inv-loop μ-loop
-returns c = stopped _ _ (row-stop _ _ _ _ _ _ _ (search needs) (c .before .before .before .before .before .before .before .loop .inv .1) (c .before .before .before .before .check-server .ensures .0) (c .enum-told .given .1)) (c .enum-told .given .1)
+returns c = stopped _ _ (row-stop _ _ _ _ _ _ _ (search needs) (in-loop-from-slice-known2 (c .before .before) .before .loop .inv .1) (c .before .before .before .before .check-server .ensures .0) (c .enum-told .given .1)) (c .enum-told .given .1)
 
 add-before : tie.Need-add-before Inv-loop μ-loop
-add-before c = omega (arith, server-most _ _ _ _ _ (c .before .before .before .before .before .before .before .before .loop .inv .0) (c .before .before .before .before .before .check-server .ensures .0) (c .before .server .given .1))
+add-before c = omega (arith, server-most _ _ _ _ _ (in-loop-from-slice-known2 (c .before .before .before) .before .loop .inv .0) (check-server-from-slice-known2 (c .before .before .before) .check-server .ensures .0) (c .before .server .given .1))
 
 sub-left : tie.Need-sub-left Inv-loop μ-loop
 sub-left c = search needs
@@ -53,12 +63,12 @@ loop-less c = search needs
 
 loop-again : tie.Need-loop-again Inv-loop μ-loop
 loop-again c =
-    let inv = c .before .before .before .before .before .before .before .before .loop .inv in
-    let tells = c .before .before .before .before .before .check-server .ensures .0 in
+    let inv = in-loop-from-slice-known2 (c .before .before .before) .before .loop .inv in
+    let tells = check-server-from-slice-known2 (c .before .before .before) .check-server .ensures .0 in
     let server = c .before .server .given .1 in (
       server-most _ _ _ _ _ (inv .0) tells server,
-      row-turn _ _ _ _ _ _ _ (search needs) (inv .1) tells server (λ s count. ap (λ (n : ℕ). c .before .before .before .before .before .before .before .before .loop .before + n) count),
-      servers-turn _ (inv .2) (search needs) tells server (c .before .before .before .before .before .check-server .ensures .1) (c .before .before .before .before .before .check-server .kept .1 .1 .1 .1 .1 .0),
+      row-turn _ _ _ _ _ _ _ (search needs) (inv .1) tells server (λ s count. ap (λ (n : ℕ). in-loop-from-slice-known2 (c .before .before .before) .before .loop .before + n) count),
+      servers-turn _ (inv .2) (search needs) tells server (check-server-from-slice-known2 (c .before .before .before) .check-server .ensures .1) (check-server-from-slice-known2 (c .before .before .before) .check-server .kept .1 .1 .1 .1 .1 .0),
     )
 
 same-length-2 : tie.Need-same-length-2 Inv-loop μ-loop

@@ -7,7 +7,7 @@ use Rattle.rooms.specs.Table.{formOf, table, roomCords}
 use Rattle.rooms.specs.Told.{told}
 use Rattle.rooms.specs.declared.Checked.{Checked}
 use Rattle.rooms.proofs.Steps.{Reached, known, stop, pass, pass-known, pass-word, left-over, ended, gives, word-told, word-most}
-use Rattle.rooms.proofs.Credits.{sum-zeros}
+use Rattle.figures.proofs.Credits.{sum-zeros}
 use Rattle.rooms.proofs.CreditTurns.{stopped}
 use Rattle.rooms.proofs.Found.{table-credits}
 use Rattle.rooms.proofs.Whole.{form-scale}

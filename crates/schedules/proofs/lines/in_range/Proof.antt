@@ -3,7 +3,8 @@ use borrow.Author.Needs.{needs}
 use native.Mathlib.Numerals.{add-one}
 use borrow.Author.Tests.{le-leb, lt-leb, le-ltb, lt-ltb}
 use Rattle.schedules.specs.Schedule.{inRange}
-use Rattle.schedules.proofs.LineLaws.{and-false, and-true, below-own}
+use Rattle.figures.proofs.Tests.{and-false}
+use Rattle.schedules.proofs.LineLaws.{and-true, below-own}
 use Rattle.schedules.proofs.lines.in_range.Statement.{statement}
 use Rattle.schedules.proofs.lines.in_range.Tie as tie
 

@@ -1,2 +1,0 @@
--- Cited by contracts that are private to Plan: no operation has them.
-pub mod Ranks

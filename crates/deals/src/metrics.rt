@@ -1,0 +1,139 @@
+// One rank's starts, weights and Requests, summed on the nodes from the cords up to the roots. A list of figures of the nodes may have
+// more entries than there are nodes: those past the nodes are not used.
+ghost use mathlib.Core.Path.{_≡_};
+ghost use Prim.Native.Nat.{ℕ, _+_, _*_, _≤_, _<_};
+ghost use lib.ListN.{length};
+ghost use Rattle.figures.specs.Sums.{sum};
+ghost use Rattle.rooms.specs.Table.{mostNodes, mostWatts, mostCords, highestRank};
+ghost use Rattle.rooms.specs.Credits.{sumBeneath};
+ghost use Rattle.figures.specs.Figures.{at, cell};
+ghost use Rattle.deals.specs.Passes.{LevelCords, overListed, cordWeight, cutMark, FullRows, Weighed, WeightsListed, Requested};
+ghost use Rattle.figures.specs.Places.{Absent, Present};
+ghost use Rattle.deals.specs.Levels.{ActiveNodes};
+use figures::credit;
+use figures::index;
+use figures::least;
+use figures::narrow;
+use figures::place;
+use figures::wide;
+
+// Sets the first entries to 0.
+fn clear(list: &mut [u64], count: usize)
+    requires count { ⌜ count ≤ length (now list) ⌝ }
+    ensures zeros { λ _. ⌜ ((n : ℕ) → n < count → at (now (list .exit)) n ≡ 0) ⌝ }
+{
+    for i in 0..count {
+        list[i] = 0;
+    }
+}
+
+// The starts (in `bases`) and the weights (in `wholes`) of the listed cords, each summed on its cord's node, of so many nodes.
+pub fn sum_cords(
+    count: usize,
+    listed: &[u16],
+    nodes: &[u16],
+    starts: &[u32],
+    wants: &[u32],
+    bases: &mut [u64],
+    wholes: &mut [u64],
+)
+    requires cords { ⌜ LevelCords count (now listed) (now nodes) (now starts) (now wants) ⌝ }
+    requires sizes { ⌜ (count ≤ length (now bases)) × (count ≤ length (now wholes)) ⌝ }
+    ensures starts_summed { λ _. ⌜ ((n : ℕ) → n < count → at (now (bases .exit)) n
+        ≡ overListed (now (listed .entry)) (now (nodes .entry)) (at (now (starts .entry))) n) ⌝ }
+    ensures weights_summed { λ _. ⌜ ((n : ℕ) → n < count → at (now (wholes .exit)) n
+        ≡ overListed (now (listed .entry)) (now (nodes .entry)) (cordWeight (now (starts .entry)) (now (wants .entry))) n) ⌝ }
+{
+    clear(bases, count);
+    clear(wholes, count);
+    for i in 0..listed.len() {
+        let c = index(listed[i]);
+        let node = index(nodes[c]);
+        let start = starts[c];
+        credit(bases, node, wide(start));
+        credit(wholes, node, wide(wants[c] - start));
+    }
+}
+
+// From the last active node to the first: a node's weight is the lesser of what is left of its limit and of its children's weights. It is
+// taken from what is left, and added to its parent's sum.
+pub fn weigh(
+    parents: &[u16],
+    active: &[u16],
+    count: usize,
+    left: &mut [u32],
+    wholes: &mut [u64],
+    weights: &mut [u32],
+)
+    requires nodes { ⌜ ActiveNodes (now parents) (now active) count × ((m : ℕ) → m < length (now parents) → at (now parents) m ≤ m) ⌝ }
+    requires sizes { ⌜ (length (now left) ≡ length (now parents)) × (length (now parents) ≤ length (now wholes))
+        × (length (now parents) ≤ length (now weights)) ⌝ }
+    requires sums_fit { ⌜ sum (length (now parents)) (at (now wholes)) ≤ mostCords * mostWatts ⌝ }
+    requires idle { ⌜ ((n : ℕ) → n < length (now parents) → Absent (now active) count n → at (now wholes) n ≡ 0) ⌝ }
+    ensures weighed { λ _. ⌜ Weighed (now (parents .entry)) (now (active .entry)) count (now (left .entry)) (now (wholes .entry)) (now (left .exit))
+        (now (wholes .exit)) (now (weights .exit)) ⌝ }
+{
+    let mut i = count;
+    while 0 < i {
+        i -= 1;
+        let n = index(active[i]);
+        let rest = wide(left[n]);
+        let weight = least(rest, wholes[n]);
+        left[n] = narrow(rest - weight);
+        weights[n] = narrow(weight);
+        credit(wholes, index(parents[n]), weight);
+    }
+}
+
+// The mark of a node's cuts after a level, by what is left of its limit there and its children's weights.
+fn marked(mark: u16, level: usize, left: u64, whole: u64) -> u16
+    requires level { ⌜ level < highestRank ⌝ }
+    ensures result { λ r. ⌜ r ≡ cutMark mark level left whole ⌝ }
+{
+    if left < whole {
+        if index(mark) <= level {
+            return place(level + 1);
+        }
+    }
+    mark
+}
+
+// From the last active node to the first: a node's Request is the starts beneath it and its weight, and stands in its row. The weight by
+// which the node is dealt to is read from there. A node whose weight is less than its children's is cut. Its starts are added to its
+// parent's sum.
+pub fn request(
+    parents: &[u16],
+    active: &[u16],
+    count: usize,
+    level: usize,
+    wholes: &[u64],
+    cuts: &mut [u16],
+    bases: &mut [u64],
+    weights: &mut [u32],
+    requests: &mut [[u32; 16]; 512],
+)
+    requires nodes { ⌜ (length (now parents) ≤ mostNodes) × (level < highestRank) × ((m : ℕ) → m < length (now parents) → at (now parents) m ≤ m) ⌝ }
+    requires sizes { ⌜ (length (now cuts) ≡ length (now parents)) × (length (now parents) ≤ length (now bases))
+        × (sum (length (now parents)) (at (now bases)) ≤ mostCords * mostWatts) ⌝ }
+    requires weights { ⌜ WeightsListed (now parents) (now active) count (now wholes) (now weights) ⌝ }
+    requires enough { ⌜ ((n : ℕ) → n < length (now parents) → Present (now active) count n
+        → sumBeneath (at (now parents)) (length (now parents)) (at (now bases)) n + at (now weights) n ≤ mostWatts) ⌝ }
+    requires idle { ⌜ ((n : ℕ) → n < length (now parents) → Absent (now active) count n → (at (now bases) n ≡ 0)
+        × (cell (now requests) n level ≡ 0)) ⌝ }
+    requires rows { ⌜ FullRows (now requests) ⌝ }
+    ensures requested { λ _. ⌜ Requested (now (parents .entry)) level (now (wholes .entry)) (now (cuts .entry)) (now (bases .entry))
+        (now (weights .entry)) (now (requests .entry)) (now (cuts .exit)) (now (bases .exit)) (now (requests .exit)) ⌝ }
+    ensures weights_kept { λ _. ⌜ now (weights .exit) ≡ now (weights .entry) ⌝ }
+{
+    let mut i = count;
+    while 0 < i {
+        i -= 1;
+        let n = index(active[i]);
+        let start = narrow(bases[n]);
+        let weight = weights[n];
+        cuts[n] = marked(cuts[n], level, wide(weight), wholes[n]);
+        requests[n][level] = start + weight;
+        weights[n] = requests[n][level] - start;
+        credit(bases, index(parents[n]), wide(start));
+    }
+}

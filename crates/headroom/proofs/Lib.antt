@@ -1,3 +1,0 @@
--- The laws of `headroom`: what its passes ask and what they leave, and that this is the headroom of the deal.
-pub mod Weights
-pub mod Headroom

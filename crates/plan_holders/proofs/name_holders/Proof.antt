@@ -1,0 +1,168 @@
+-- `name_holders` meets its contract: before each turn the cords passed have their holders.
+use mathlib.Core.Path.{refl}
+use Prim.Native.Nat.{_-_, _≤_, _<_}
+use native.Mathlib.Omega.{arith}
+use lib.ListN.{length}
+use borrow.Author.Needs.{needs}
+use Rattle.rooms.specs.Table.{mostNodes, mostCords, highestRank}
+use Rattle.plan_holders.specs.Holding.{HeldLists}
+use Rattle.figures.proofs.Filled.{Filled, filled-none, filled-one, filled-all}
+use Rattle.plan_holders.proofs.Rows.{zeros-none, heldAt, cut-nodes, held-is}
+use Rattle.plan_holders.proofs.name_holders.Statement.{statement}
+use Rattle.plan_holders.proofs.name_holders.Tie as tie
+
+abbrev Inv-loop : tie.InvT-loop
+Inv-loop parents cuts cords wants grants held₀ rows c₀ c-end held c = Filled (heldAt parents cuts cords wants grants) (length held₀) c held
+
+abbrev μ-loop : tie.MeasureT-loop
+μ-loop parents cuts cords wants grants held₀ rows c₀ c-end held c = length cords - c
+
+-- In a cord's turn: the lists, and that the cord is one of them.
+abbrev Turn : Type 0
+Turn = tie.In-loop Inv-loop μ-loop
+
+lists : (c : Turn) → HeldLists (c .before .before .before .before .before .before .before .before .before .args .parents .now) (c .before .before .before .before .before .before .before .before .before .args .cuts .now) (c .before .before .before .before .before .before .before .before .before .args .cords .now) (c .before .before .before .before .before .before .before .before .before .args .wants .now) (c .before .before .before .before .before .before .before .before .before .args .grants .now)
+lists c = c .before .before .before .before .before .before .before .before .before .pre .0
+
+few : (c : Turn) → c .before .loop .c < mostCords
+few c = omega (arith, lists c .few, c .loop-test .taken)
+
+-- The rows have a place for the cord's node and its level.
+abbrev Read : Type 0
+Read = tie.After-index2 Inv-loop μ-loop
+
+node-fits : (c : Read) → c .before .before .index .result ≤ mostNodes
+node-fits c = omega (arith, c .before .before .index .ensures .0, lists (c .before .before .before .before) .within (c .before .before .before .before .before .loop .c) (c .before .before .before .before .loop-test .taken), lists (c .before .before .before .before) .few-nodes)
+
+level-fits : (c : Read) → c .index2 .result < highestRank
+level-fits c = omega (arith, c .index2 .ensures .0, lists (c .before .before .before .before) .ranked (c .before .before .before .before .before .loop .c) (c .before .before .before .before .loop-test .taken))
+
+-- Earlier steps, each seen from a later one.
+abbrev shared-slice-known2-from-rows : tie.After-rows Inv-loop μ-loop → tie.After-shared-slice-known2 Inv-loop μ-loop
+shared-slice-known2-from-rows c = c .before .before .before .before
+
+abbrev shared-slice-known2-from-index-arg : tie.After-index-arg Inv-loop μ-loop → tie.After-shared-slice-known2 Inv-loop μ-loop
+shared-slice-known2-from-index-arg c = shared-slice-known2-from-rows (c .before .before .before .before)
+
+abbrev shared-slice-known2-from-shared-slice-known5 : tie.After-shared-slice-known5 Inv-loop μ-loop → tie.After-shared-slice-known2 Inv-loop μ-loop
+shared-slice-known2-from-shared-slice-known5 c = shared-slice-known2-from-index-arg (c .before .before .before .before)
+
+abbrev index-arg-from-shared-slice-known5 : tie.After-shared-slice-known5 Inv-loop μ-loop → tie.After-index-arg Inv-loop μ-loop
+index-arg-from-shared-slice-known5 c = c .before .before .before .before
+
+abbrev index-from-shared-slice-known5 : tie.After-shared-slice-known5 Inv-loop μ-loop → tie.After-index Inv-loop μ-loop
+index-from-shared-slice-known5 c = c .before .before .before
+
+fill-rows-requires : tie.Need-fill-rows-requires Inv-loop μ-loop
+fill-rows-requires c κs = (cut-nodes (shared-slice-known2-from-rows c .before .before .pre .0), zeros-none 513 16 refl refl)
+
+loop-holds : tie.Need-loop-holds Inv-loop μ-loop
+loop-holds c = filled-none _ _
+
+mul-index : tie.Need-mul-index Inv-loop μ-loop
+mul-index c = omega (arith, few c)
+
+index-1-index : tie.Need-index-1-index Inv-loop μ-loop
+index-1-index c = c .loop-test .taken
+
+index-2-index : tie.Need-index-2-index Inv-loop μ-loop
+index-2-index c = omega arith
+
+index-requires : tie.Need-index-requires Inv-loop μ-loop
+index-requires c κs = search needs
+
+mul-index-2 : tie.Need-mul-index-2 Inv-loop μ-loop
+mul-index-2 c = omega (arith, few (c .before .before))
+
+index-1-index-2 : tie.Need-index-1-index-2 Inv-loop μ-loop
+index-1-index-2 c = c .before .before .loop-test .taken
+
+index-2-index-2 : tie.Need-index-2-index-2 Inv-loop μ-loop
+index-2-index-2 c = omega arith
+
+index-requires-2 : tie.Need-index-requires-2 Inv-loop μ-loop
+index-requires-2 c κs = search needs
+
+mul-held-by : tie.Need-mul-held-by Inv-loop μ-loop
+mul-held-by c = omega (arith, few (c .before .before .before .before))
+
+shared-slice-read-held-by : tie.Need-shared-slice-read-held-by Inv-loop μ-loop
+shared-slice-read-held-by c = omega (arith, lists (index-arg-from-shared-slice-known5 c .before) .grants-size, index-arg-from-shared-slice-known5 c .before .loop-test .taken)
+
+mul-held-by-2 : tie.Need-mul-held-by-2 Inv-loop μ-loop
+mul-held-by-2 c = omega (arith, few (index-arg-from-shared-slice-known5 c .before))
+
+shared-slice-read-held-by-2 : tie.Need-shared-slice-read-held-by-2 Inv-loop μ-loop
+shared-slice-read-held-by-2 c = omega (arith, lists (index-arg-from-shared-slice-known5 (c .before) .before) .wants-size, index-arg-from-shared-slice-known5 (c .before) .before .loop-test .taken)
+
+mul-held-by-3 : tie.Need-mul-held-by-3 Inv-loop μ-loop
+mul-held-by-3 c = omega (arith, node-fits (c .before .before))
+
+mul-held-by-4 : tie.Need-mul-held-by-4 Inv-loop μ-loop
+mul-held-by-4 c = omega (arith, level-fits (c .before .before))
+
+index-1-held-by : tie.Need-index-1-held-by Inv-loop μ-loop
+index-1-held-by c = omega (arith, node-fits (c .before .before))
+
+index-2-held-by : tie.Need-index-2-held-by Inv-loop μ-loop
+index-2-held-by c = omega (arith, level-fits (c .before .before))
+
+held-by-requires : tie.Need-held-by-requires Inv-loop μ-loop
+held-by-requires c κs = search needs
+
+mul-held : tie.Need-mul-held Inv-loop μ-loop
+mul-held c = omega (arith, few (index-arg-from-shared-slice-known5 (c .before .before .before) .before))
+
+slice-write-held : tie.Need-slice-write-held Inv-loop μ-loop
+slice-write-held c = omega (arith, index-arg-from-shared-slice-known5 (c .before .before .before) .before .before .loop .inv .size-is, shared-slice-known2-from-shared-slice-known5 (c .before .before .before) .before .before .pre .1, index-arg-from-shared-slice-known5 (c .before .before .before) .before .loop-test .taken)
+
+add-c : tie.Need-add-c Inv-loop μ-loop
+add-c c = omega (arith, few (index-arg-from-shared-slice-known5 (c .before .before .before) .before))
+
+loop-less : tie.Need-loop-less Inv-loop μ-loop
+loop-less c = omega (arith, index-arg-from-shared-slice-known5 (c .before .before .before) .before .loop-test .taken)
+
+loop-again : tie.Need-loop-again Inv-loop μ-loop
+loop-again c =
+    let turn = index-arg-from-shared-slice-known5 (c .before .before .before) .before in
+    filled-one _ (turn .before .loop .inv) (omega (arith, shared-slice-known2-from-shared-slice-known5 (c .before .before .before) .before .before .pre .1, turn .loop-test .taken))
+    (held-is (lists turn) (turn .before .before .fill-rows .ensures) (turn .loop-test .taken) (index-from-shared-slice-known5 (c .before .before .before) .index .ensures .0) (c .before .before .before .before .index2 .ensures .0) (c .held-by .ensures))
+
+same-length : tie.Need-same-length Inv-loop μ-loop
+same-length c = c .before .loop .inv .size-is
+
+returns : tie.Need-returns Inv-loop μ-loop
+returns c = filled-all _ _ (c .before .loop .inv) (shared-slice-known2-from-rows (c .before .before .before) .before .before .pre .1) (c .loop-test .left) (λ i l. refl)
+
+pub name-holders-spec : {M : Type 1} → statement M
+name-holders-spec =
+    tie.close
+    (tie.spec
+    Inv-loop
+    μ-loop
+    fill-rows-requires
+    loop-holds
+    mul-index
+    index-1-index
+    index-2-index
+    index-requires
+    mul-index-2
+    index-1-index-2
+    index-2-index-2
+    index-requires-2
+    mul-held-by
+    shared-slice-read-held-by
+    mul-held-by-2
+    shared-slice-read-held-by-2
+    mul-held-by-3
+    mul-held-by-4
+    index-1-held-by
+    index-2-held-by
+    held-by-requires
+    mul-held
+    slice-write-held
+    add-c
+    loop-less
+    loop-again
+    same-length
+    returns)

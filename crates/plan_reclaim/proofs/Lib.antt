@@ -1,0 +1,3 @@
+-- The laws of `plan_reclaim`.
+pub mod Reclaiming
+pub mod Raising

@@ -1,0 +1,3 @@
+-- Cited by contracts that are private to Plan: no operation has them.
+pub mod Reclaimed
+pub mod Raising

@@ -1,2 +1,0 @@
--- The laws of `reclaim`.
-pub mod Reclaiming

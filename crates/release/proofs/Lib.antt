@@ -1,0 +1,3 @@
+-- The laws of `release`.
+pub mod Marks
+pub mod Examples

@@ -387,6 +387,8 @@ function replaceText(text, says) {
   const put = next => {
     $('text').value = next;
     desk.selected = null;
+    picture.select(null);
+    editor.light(-1);
     textChanged();
   };
   put(text);

@@ -7,7 +7,7 @@ const SPARE_ROWS = 6;
 const LEAST_WIDTH = 300;
 const PAGE_ROWS = 10;
 const PAPER_ROWS = 8;
-const same = (row, chosen) => chosen && row.kind === chosen.kind && row.place === chosen.place;
+const same = (row, chosen) => row.kind === chosen?.kind && row.place === chosen?.place;
 
 /// Everything that drawing a row needs.
 export const sceneOf = (hut, cords, figures) => ({ hut, cords, figures, holds: holdsOf(figures.held) });
@@ -121,7 +121,7 @@ export class PicturePane {
     this.chosen(this.selected, by);
   }
 
-  /// Marks a row as chosen, and brings it into sight.
+  /// Marks a row as chosen, and brings it into sight; with null, none.
   select(what) {
     this.selected = what;
     const index = this.rows.findIndex(row => same(row, what));

@@ -148,6 +148,7 @@ test('what is saved is the sheet, and opens again', async () => {
   assert.equal(String(await saved('hut.txt')), ROOM_H);
   await page.type('#file', join(files, 'room.bin'));
   await page.until(async () => /^version 1\n\nbreaker b1 150 W/.test(await value()), 'the sheet is opened');
+  assert.equal(await page.run('return document.querySelectorAll("#picture [aria-selected=true], .lit").length'), 0, 'nothing of another hut is chosen');
   assert.match(await page.text('#notice'), /Opened the sheet room\.bin: 2 breakers, 2 servers\./);
   await page.click('#notice button');
   assert.equal(await value(), ROOM_H);
@@ -252,6 +253,7 @@ test('every control has a name, and nothing is fetched', async () => {
   const nameless = await page.run(`return [...document.querySelectorAll("button, input, select, textarea, [role=tree], [role=table]")]
     .filter(each => !(each.getAttribute("aria-label") || each.labels?.length || each.textContent.trim())).map(each => each.outerHTML)`);
   assert.deepEqual(nameless, []);
+  assert.equal(await page.run('return document.querySelectorAll("[aria-selected]:not([aria-selected=true], [aria-selected=false])").length'), 0);
   assert.deepEqual(await page.run('return performance.getEntriesByType("resource").map(each => each.name)'), []);
 });
 

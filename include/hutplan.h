@@ -27,10 +27,10 @@
  *                   hutplan_schedule; hutplan_part, of the first part) or bytes (hutplan_write),
  *                   the freed watts (hutplan_plan), 0 (hutplan_step), or how many controllers were
  *                   stepped (hutplan_step_all).
- * Bytes past the sixteenth are not touched. If the answer buffer is shorter than sixteen bytes, a
- * call returns 0 and changes nothing. In every other case it returns 1. The answers of
- * hutplan_send, hutplan_part and hutplan_release have eight bytes more, and that of hutplan_judge
- * sixteen (see there).
+ * The answers of hutplan_send, hutplan_part and hutplan_release have eight bytes more, and that of
+ * hutplan_judge sixteen (see there). Bytes past the answer are not touched. If the answer buffer is
+ * shorter than the call's answer, the call returns 0 and changes nothing. In every other case it
+ * returns 1.
  *
  * Accepted: what is written stands at the front of each output buffer; bytes past it are not
  * touched. Refused: nothing but the answer is changed.

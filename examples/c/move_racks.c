@@ -81,6 +81,21 @@ static void write_table(const char *name, const uint8_t *table, uint64_t words)
     printf("%s: %" PRIu64 " words, %" PRIu64 " bytes\n", name, words, answer_at(1));
 }
 
+static void usage(void)
+{
+    fprintf(stderr, "usage: move_racks join FIRST SECOND WHOLE\n"
+                    "       move_racks part WHOLE NODES SERVERS FIRST SECOND\n");
+    exit(2);
+}
+
+/* A count in decimal digits. One that does not fit 64 bits is as good as the greatest that does. */
+static uint64_t count_of(const char *word)
+{
+    if (*word == 0 || word[strspn(word, "0123456789")] != 0)
+        usage();
+    return strtoull(word, NULL, 10);
+}
+
 static void join(char **names)
 {
     uint64_t first_len = read_table(names[0], first), second_len = read_table(names[1], second);
@@ -92,10 +107,11 @@ static void join(char **names)
 
 static void part(char **words)
 {
+    uint64_t nodes = count_of(words[1]), servers = count_of(words[2]);
     uint64_t whole_len = read_table(words[0], whole), one, two;
 
-    hutplan_part(whole, whole_len, strtoull(words[1], NULL, 10), strtoull(words[2], NULL, 10),
-                 first, sizeof first, second, sizeof second, answer, sizeof answer);
+    hutplan_part(whole, whole_len, nodes, servers, first, sizeof first, second, sizeof second,
+                 answer, sizeof answer);
     accept();
     one = answer_at(1);
     two = answer_at(2);
@@ -109,10 +125,7 @@ int main(int argc, char **argv)
         join(argv + 2);
     else if (argc == 7 && strcmp(argv[1], "part") == 0)
         part(argv + 2);
-    else {
-        fprintf(stderr, "usage: move_racks join FIRST SECOND WHOLE\n"
-                        "       move_racks part WHOLE NODES SERVERS FIRST SECOND\n");
-        return 2;
-    }
+    else
+        usage();
     return 0;
 }

@@ -38,65 +38,87 @@ pub record Promises : Type 0 where
   pub plan-refusal-nine : deals.RefusalNine
   -- ---- Document 02
 
-  -- A.1: grant and headroom pass no limit and no ceiling, and a root lends all that it has.
+  -- A.1: grants and headroom beneath a node pass no limit.
   pub headroom-within-limits : deals.HeadroomWithinLimits
+  -- A.1: a cord's grant and headroom pass no ceiling.
   pub headroom-within-ceilings : deals.HeadroomWithinCeilings
+  -- A.1: a root lends all that it has.
   pub headroom-all-lent : deals.HeadroomAllLent
-  -- A.2: the second deal in the request's own words; caps and grants never fall below what was in use.
+  -- A.2: the second deal in the request's own words.
   pub second-passes-first : deals.SecondPassesFirst
+  -- A.2: no cap falls below what its server could use, and no grant below what was used.
   pub caps-keep-usable : deals.CapsKeepUsable
   pub grants-keep-used : deals.GrantsKeepUsed
   -- A.3: equal plans of version 1 and of version 2 with 80 throughout.
   pub eighty-throughout : deals.EightyThroughout
-  -- A.4: both ways of a split give its parts, the short one for every short amount and weights.
+  -- A.4: the short way of a split gives its parts, for every short amount and weights.
   pub short-way-splits : splits.ShortWaySplits
+  -- A.4: so does the long one.
   pub long-way-splits : splits.LongWaySplits
-  -- A.5: the node named holds the cord down, none is named for a cord with its want, and which node it is.
+  -- A.5: the node that is named holds the cord down.
   pub held-named : deals.HeldNamed
+  -- A.5: none is named for a cord with its want.
   pub held-none : deals.HeldNone
+  -- A.5: which node it is.
   pub held-nearest : deals.HeldNearest
-  -- A.6: the error, the new cap, what stays, and the refusals.
+  -- A.6: the error is the least of the working cords', and the first of equals.
   pub least-error : control.LeastError
+  -- A.6: the mark alone says which cords work.
   pub mark-decides : control.MarkDecides
+  -- A.6: a step with no working cord keeps the whole controller.
   pub none-working-keeps-cap : control.NoneWorkingKeepsCap
+  -- A.6: a step keeps k and the range, and its new cap is in it.
   pub range-stays : control.RangeStays
   pub cap-in-range : control.CapInRange
+  -- A.6: where the error is zero, the cap stays.
   pub zero-error-keeps-cap : control.ZeroErrorKeepsCap
+  -- A.6: 16 and 17 exactly where they are due; a refused step changes nothing.
   pub step-refusals : control.Refusals
   pub refused-unchanged : control.RefusedUnchanged
-  -- A.7: each controller as its single step leaves it, and refusal 18.
+  -- A.7: each controller is left as its single step leaves it.
   pub each-as-single : control_all.EachAsSingle
+  -- A.7: 18 exactly where the lists do not fit, before any is stepped.
   pub refusal-eighteen : control_all.RefusalEighteen
-  -- A.8: the joined table passes every check; its plan has the first's lists followed by the second's, and tells the refusals of demands; the
-  -- first deal's grants too.
+  -- A.8: the joined table passes every check, as the room of both.
   pub join-gives-room : join.JoinGivesRoom
+  -- A.8: its plan has the first's lists followed by the second's, and tells the refusals of demands.
   pub join-plans-both : join.JoinPlansBoth
+  -- A.8: so do the first deal's grants.
   pub first-grants-join : join.FirstGrantsJoin
-  -- A.9: each verdict exactly where what it says is so; our own first grants pass.
+  -- A.9: each verdict exactly where what it says is so.
   pub judged-exactly : deals.JudgedExactly
+  -- A.9: our own first grants pass.
   pub first-grants-pass : deals.FirstGrantsPass
-  -- A.10: a joined room, parted at its first half's counts, gives both halves; both parts of a good room pass every check, and joined they are
-  -- the whole.
+  -- A.10: a joined room, parted at its first half's counts, gives both halves.
   pub joined-parts : part.JoinedParts
+  -- A.10: both parts of a good room pass every check, and joined they are the whole.
   pub parts-are-good : part.PartsAreGood
-  -- A.10, of the operation: the parts that it gives pass every check and joined are the table, word for word; a joined table, parted at its
-  -- first half's counts, gives both tables; the plans of the parts are the parts of the plan.
+  -- A.10, of the operation: the parts that it gives pass every check, and joined are the table, word for word.
   pub part-gives-parts : part.PartGivesParts
+  -- A.10, of the operation: a joined table, parted at its first half's counts, gives both tables.
   pub parts-joined : part.PartsJoined
+  -- A.10: the plans of the parts are the parts of the plan.
   pub part-plans-both : part.PartPlansBoth
-  -- A.11, over the scale: used never above grant, usable never below least (the cap too); equal plans with every share tenfold.
+  -- A.11, over the scale: used is never above the grant.
   pub used-granted : deals.UsedGranted
+  -- A.11: usable is never below the server's least, and so no cap is.
   pub usable-in-range : deals.UsableInRange
   pub caps-in-range : deals.CapsInRange
+  -- A.11: equal plans with every share tenfold.
   pub shares-tenfold : deals.SharesTenfold
-  -- A.12: the table of sizes, each answer exactly where the text is due it, and the room that an accepted text gives.
+  -- A.12: the sizes rise, and amperes are a size exactly where they stand among them.
   pub sizes-rise : schedules.SizesRise
   pub sizes-are-the-table : schedules.SizesAreTheTable
+  -- A.12: each answer exactly where the text is due it.
   pub schedule-answered-exactly : schedules.AnsweredExactly
+  -- A.12: what is accepted is just what lines in decimal make up.
   pub accepted-is-written : schedules.AcceptedIsWritten
   pub written-is-read : schedules.WrittenIsRead
+  -- A.12: it gives a room that passes every check, with a node for each line.
   pub schedule-gives-room : schedules.ScheduleGivesRoom
-  -- A.13: each answer exactly where it is due, what a period names, and how soon every server is named.
+  -- A.13: each answer exactly where it is due.
   pub send-answered-exactly : sender.AnsweredExactly
+  -- A.13: a period names the next servers, none twice.
   pub period-kept : sender.PeriodKept
+  -- A.13: every server is named within ceil(count / m) periods.
   pub each-within : sender.EachWithin

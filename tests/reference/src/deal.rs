@@ -1,4 +1,5 @@
-//! The metrics of a deal and the dealing, over trees of breakers.
+//! The metrics of a deal and the dealing, over trees of breakers: from document 01, by one who had seen no other
+//! program for it. Request A.2, the second deal's starts, came later, from document 02 and by the product's own hand.
 
 use crate::room::{Breaker, Child, Cord, Room};
 use crate::Watts;

@@ -1,5 +1,6 @@
 //! The room table, word by word: refusals 4 to 8; and the words of a table again. Version 2 (request
-//! A.3) has a percent for each node, and version 3 (request A.11) shares of ten thousand.
+//! A.3) has a percent for each node, and version 3 (request A.11) shares of ten thousand: both came later,
+//! from document 02 and by the product's own hand.
 
 use crate::Refusal;
 

@@ -1,5 +1,5 @@
 -- Laws of lists of bounded numbers.
-use mathlib.Core.List.{List, [], _∷_, _++_}
+use mathlib.Core.List.{List, [], _∷_}
 use Prim.Native.Nat.{ℕ, zero, suc, _+_, _<_}
 use lib.ListN.{drop}
 use lib.Seq.{getD-drop}
@@ -11,10 +11,6 @@ nil-below bound h i = h
 pub cons-below : (bound a : ℕ) (l : List ℕ) → a < bound → AllBelow bound l → AllBelow bound (a ∷ l)
 cons-below bound a l h all zero = h
 cons-below bound a l h all (suc i) = all i
-
-pub append-below : (bound : ℕ) (s t : List ℕ) → AllBelow bound s → AllBelow bound t → AllBelow bound (s ++ t)
-append-below bound [] t h k = k
-append-below bound (a ∷ s) t h k = cons-below bound a (s ++ t) (h 0) (append-below bound s t (λ i. h (suc i)) k)
 
 pub drop-below : (bound : ℕ) (l : List ℕ) (n : ℕ) → AllBelow bound l → AllBelow bound (drop n l)
 drop-below bound l n all i = rw (getD-drop n l i 0) (all (n + i))

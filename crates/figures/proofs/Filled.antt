@@ -6,7 +6,7 @@ use Prim.Native.Nat.{ℕ, zero, suc, _+_, _≤_, _<_}
 use native.Mathlib.Nat.{not-suc-le-zero, le-of-suc-le-suc, eq-or-lt-of-le}
 use native.Mathlib.Omega.{arith}
 use native.Mathlib.Numerals.{add-one}
-use lib.ListN.{length, getD, set, replicate, length-set, length-replicate}
+use lib.ListN.{length, getD, set, replicate, length-set}
 use lib.Seq.{getD-set-same, getD-set-other, ext-getD}
 use Rattle.figures.specs.Figures.{figures, at}
 use Rattle.figures.proofs.Lists.{figures-at, figures-length}
@@ -41,9 +41,3 @@ pub zeros-at : (n i : ℕ) → _≡_ {A = ℕ} (getD (replicate n 0) i 0) 0
 zeros-at zero i = refl
 zeros-at (suc n) zero = refl
 zeros-at (suc n) (suc i) = zeros-at n i
-
--- A list filled to its end with 0.
-pub filled-zeros : {size c : ℕ} {l : List ℕ} → Filled (λ _. 0) size c l → size ≤ c → l ≡ replicate size 0
-filled-zeros {size} {c} {l} filled h =
-    ext-getD 0 l (replicate size 0) (filled .size-is ∙ sym (length-replicate size 0))
-    (λ i q. filled .done i (omega (arith, filled .size-is)) ∙ sym (zeros-at size i))

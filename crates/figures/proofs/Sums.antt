@@ -175,8 +175,3 @@ pub up-one : (k j x a : ℕ) → x < j + k → up k j (λ i. on (eqb x i) a) ≡
 unfolding up
 up-one zero j x a h = sym (on-no (leb j x) a (lt-leb j x (omega arith)))
 up-one (suc k) j x a h = omega (arith, on-leb-suc x j a, up-one k (suc j) x a (omega arith))
-
-pub up-mul : (k j : ℕ) (g : ℕ → ℕ) (a : ℕ) → up k j (λ i. a * g i) ≡ a * up k j g
-unfolding up
-up-mul zero j g a = omega arith
-up-mul (suc k) j g a = omega (arith, up-mul k (suc j) g a)

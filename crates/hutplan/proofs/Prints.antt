@@ -1,14 +1,11 @@
 -- The print of each outcome is the one that the definition gives.
 use mathlib.Core.Path.{_≡_, refl, sym, ap, subst, _∙_}
-use mathlib.Core.Bool.{Bool, true, false, cond}
 use mathlib.Core.List.{List}
 use Prim.Native.Nat.{ℕ, _≤_}
 use native.Mathlib.Omega.{arith}
 use lib.ListN.{length, take}
-use lib.Dec.{leb}
 use lib.Seq.{sets, length-sets, take-length}
-use borrow.Author.Tests.{leb-true}
-use Rattle.numbers.specs.Sheet.{Ending, whole, sheetOf}
+use Rattle.numbers.specs.Sheet.{whole}
 use Rattle.numbers.specs.Sheet as numbers
 use Rattle.figures.proofs.Stores.{take-sets}
 use Rattle.rooms.specs.Part.{Step, good, bad, Good}
@@ -17,7 +14,6 @@ use Rattle.rooms.specs.Limits.{checked}
 use Rattle.rooms.specs.Outcome.{SheetOutcome, reading, refusalNumber, refusalPlace}
 use Rattle.rooms.specs.Outcome as read
 use Rattle.rooms.specs.declared.Refusal.{Refusal}
-use Rattle.rooms.specs.declared.Refusal.the-variants.{OutputTooShort}
 use Rattle.rooms.specs.declared.Answer.the-variants as answer
 use Rattle.rooms.proofs.Accepted.{accepted}
 use Rattle.rooms.proofs.Lent.{reading-fits}

@@ -4,7 +4,7 @@ use mathlib.Core.Bool.{Bool, true, false, cond}
 use mathlib.Core.List.{List, [], _∷_, _++_}
 use Prim.Native.Nat.{ℕ, zero, suc, _+_, _-_, _*_, _/_, _%_, _^_, _≤_, _<_}
 use native.Mathlib.Omega.{arith}
-use native.Mathlib.Nat.{pow-suc, div-add-mod', mod-lt, div-lt-iff-lt-mul, add-mul-mod-self-left, mod-eq-of-lt}
+use native.Mathlib.Nat.{pow-suc, div-add-mod', div-lt-iff-lt-mul, add-mul-mod-self-left, mod-eq-of-lt}
 use lib.ListN.{length, take, drop}
 use lib.Seq.{take-at}
 use lib.Dec.{ltb, eqb}
@@ -70,22 +70,6 @@ size-4 value l =
     let x = value / 128 / 128 / 128 in
     rw (groups-more 3 value l₁, groups-more 2 (value / 128) l₂, groups-more 1 (value / 128 / 128) l₃)
     (omega (arith, 1≤length-groups 0 x, length-groups≤ 1 x))
-
--- Every byte of a form is one.
-pub groups-below : (k value : ℕ) → value < 128 ^ k → AllBelow 256 (groups k value)
-unfolding groups
-groups-below zero value h = λ i. omega arith
-groups-below (suc k) value h = go (ltb value 128) refl (groups-below k (value / 128) (div-lt-iff-lt-mul lit .1 (rw (pow-suc 128 k) at h)))
-  where
-    lit : 0 < 128
-    lit = omega arith
-
-    go : (t : Bool) → ltb value 128 ≡ t → AllBelow 256 (groups k (value / 128))
-        → AllBelow 256 (cond t (value ∷ []) ((128 + value % 128) ∷ groups k (value / 128)))
-    go true e ih zero = omega (arith, ltb-true value 128 e)
-    go true e ih (suc i) = omega arith
-    go false e ih zero = omega (arith, mod-lt value lit)
-    go false e ih (suc i) = ih i
 
 -- ---- what was written is read back
 

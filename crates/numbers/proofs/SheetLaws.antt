@@ -7,12 +7,12 @@ use lib.ListN.{length, getD, drop, length-append, length-drop}
 use lib.Seq.{drop-append-seam, drop-cons}
 use borrow.Author.Tests.{lt-ltb, le-ltb, le-leb, lt-leb}
 use Rattle.figures.specs.Bounds.{AllBelow}
-use Rattle.figures.proofs.Bounds.{cons-below, drop-below, append-below}
+use Rattle.figures.proofs.Bounds.{cons-below, drop-below}
 use Rattle.figures.proofs.Search.{none-below, below-none}
 use Rattle.numbers.specs.Number.{Front, good, bad, number, form}
 use Rattle.numbers.specs.Sheet.{whole, Sheet, onto, sheetFrom, sheetOf, bytesOf, firstTooLarge, fitted, written}
 use Rattle.numbers.specs.declared.Written.the-variants.{Bytes, TooLarge, TooShort}
-use Rattle.numbers.proofs.NumberLaws.{number-form, number-good, groups-below, 1≤length-form, length-form≤4}
+use Rattle.numbers.proofs.NumberLaws.{number-form, number-good, 1≤length-form, length-form≤4}
 
 -- ---- the bytes of words
 
@@ -26,11 +26,6 @@ pub length-bytesOf≤ : (words : List ℕ) → length (bytesOf words) ≤ 4 * le
 unfolding bytesOf
 length-bytesOf≤ [] = omega arith
 length-bytesOf≤ (w ∷ words) = omega (arith, length-append (form w) (bytesOf words), length-form≤4 w, length-bytesOf≤ words)
-
-pub bytesOf-below : (words : List ℕ) → AllBelow (2 ^ 28) words → AllBelow 256 (bytesOf words)
-unfolding bytesOf
-bytesOf-below [] all i = omega arith
-bytesOf-below (w ∷ words) all i = append-below 256 (form w) (bytesOf words) (groups-below 4 w (all 0)) (bytesOf-below words (λ j. all (suc j))) i
 
 -- ---- the words of bytes
 

@@ -2,11 +2,10 @@
 use mathlib.Core.Path.{_≡_, refl, sym, ap, subst, _∙_}
 use mathlib.Core.Bool.{Bool, true, false, cond}
 use mathlib.Core.List.{List, [], _∷_}
-use Prim.Native.Nat.{ℕ, _≤_, _<_, min}
+use Prim.Native.Nat.{ℕ, _≤_, _<_}
 use native.Mathlib.Omega.{arith}
-use lib.Dec.{ltb}
 use lib.ListN.{length}
-use borrow.Author.Tests.{ltb-true, ltb-false, lt-ltb, le-ltb}
+use borrow.Author.Tests.{ltb-false, lt-ltb, le-ltb}
 use Rattle.outcomes.specs.Outcome.{Outcome, accepted, refused, Reason, unless, tooShort, fitting}
 
 module _ {A R : Type 0} where
@@ -54,14 +53,6 @@ module _ {A R : Type 0} where
   unless-is (reason ∷ rest) result given e = unless-is rest result given (unless-back reason rest result e .1)
 
 -- ---- Outputs
-
--- A list that is cut no shorter than a need is too short for it just where it was before.
-pub tooShort-cut : {R : Type 0} (refusal : ℕ → R) (needed entries k : ℕ) → needed ≤ k → tooShort refusal (min entries k) needed ≡ tooShort refusal entries needed
-tooShort-cut refusal needed entries k h = ap (λ (t : Bool). record { holds = t; refusal = refusal needed }) (go (ltb entries needed) refl)
-  where
-    go : (t : Bool) → ltb entries needed ≡ t → ltb (min entries k) needed ≡ ltb entries needed
-    go true e = lt-ltb (min entries k) needed (omega (arith, ltb-true entries needed e)) ∙ sym e
-    go false e = le-ltb (min entries k) needed (omega (arith, ltb-false entries needed e)) ∙ sym e
 
 module _ {X R : Type 0} (refusal : ℕ → R) (output : List X) (entries : ℕ) where
   -- An output is too short for its list, or fits it.

@@ -1,7 +1,6 @@
 -- What follows a step of which it is known how it went.
-use mathlib.Core.Path.{_≡_, refl, sym, ap, _∙_}
+use mathlib.Core.Path.{_≡_, refl, sym, ap}
 use Prim.Native.Nat.{ℕ}
-use native.Mathlib.Omega.{arith}
 use Rattle.outcomes.specs.Outcome.{Outcome, accepted, refused}
 use Rattle.outcomes.specs.Part.{Step, good, bad, Good, whenGood}
 use Rattle.outcomes.proofs.Outcomes.{accepted≢refused}

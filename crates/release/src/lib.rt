@@ -9,8 +9,8 @@ use calls::LONG_ANSWER_BYTES;
 
 const MARK_BYTES: usize = 32;
 
-// The newest version of the sheet: `newestVersion`, specs/Table.antt of `rooms`, to which the contract here and those of Read hold both.
-const NEWEST_VERSION: u64 = 3;
+// The newest version of the sheet, as wide as a number of the answer.
+const NEWEST_VERSION: u64 = rooms::NEWEST_VERSION as u64;
 
 // Release, called from C: 0, the number of the release and the newest version of the sheet, in the answer. Returns 1; or 0 where the buffer
 // is too short.

@@ -7,7 +7,7 @@ use native.Mathlib.Omega.{arith}
 use native.Mathlib.Numerals.{add-one}
 use lib.ListN.{length, getD}
 use Rattle.rooms.specs.Part.{good}
-use Rattle.rooms.specs.Table.{Node, Room, mostNodes, mostServers, formOf, nodeWords, node, nodes, servers, table}
+use Rattle.rooms.specs.Table.{Node, Room, mostNodes, formOf, nodeWords, node, nodes, servers, table}
 use Rattle.rooms.specs.Limits.{limit, nodeAt, parentOf}
 use Rattle.rooms.specs.Credits.{nodeIndex, NodesRead, parentAt, limitAt}
 use Rattle.rooms.proofs.NodeWords.{percent-to}
@@ -22,7 +22,6 @@ pub record Layout (w : List ℕ) (r : Room) (j n count-at : ℕ) : Type 0 where
   pub scale-is : r .scale ≡ formOf (getD w 0 0) .scale
   pub nodes-are : nodes (percentsOf w) n 1 w 2 ≡ good (r .nodes) count-at
   pub there : count-at < length w
-  pub servers-most : getD w count-at 0 ≤ mostServers
   pub servers-are : servers (r .scale) n (getD w count-at 0) 0 w (count-at + 1) ≡ good (r .servers) j
 
 pub layout : (w : List ℕ) (r : Room) (j n : ℕ) → n ≡ getD w 1 0 → table w 0 ≡ good r j → Layout w r j n (nodeIndex (percentsOf w) n)
@@ -38,7 +37,6 @@ layout w r j n counted e =
       scale-is = t .scale-is;
       nodes-are = rw (← count) (t .nodesRead);
       there = t .there;
-      servers-most = rw (t .serverCount) (t .fewServers);
       servers-are = rw (← count, t .serverCount, add-one) (t .serversRead);
     })
 

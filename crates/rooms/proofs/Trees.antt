@@ -30,11 +30,6 @@ own cords node n figure = sum cords (λ c. on (eqb (node c) (suc n)) (figure c))
 unfoldable pub below : ℕ → (ℕ → ℕ) → ℕ → (ℕ → ℕ) → ℕ → (ℕ → ℕ) → ℕ
 below count parent cords node n figure = sum cords (λ c. meets parent count n (node c) * figure c)
 
-pub below-cong : (count : ℕ) (parent : ℕ → ℕ) (cords : ℕ) (node : ℕ → ℕ) (n : ℕ) (f g : ℕ → ℕ) → ((c : ℕ) → c < cords → f c ≡ g c)
-    → below count parent cords node n f ≡ below count parent cords node n g
-unfolding below
-below-cong count parent cords node n f g e = sum-cong cords _ _ (λ c l. ap (λ (z : ℕ). meets parent count n (node c) * z) (e c l))
-
 on-zero : (t : Bool) → on t 0 ≡ 0
 on-zero true = refl
 on-zero false = refl

@@ -5,17 +5,17 @@ use mathlib.Core.List.{List, [], _∷_}
 use Prim.Native.Nat.{ℕ, zero, suc, _+_, _≤_, _<_}
 use native.Mathlib.Nat.{add-zero, not-suc-le-zero, le-of-suc-le-suc}
 use native.Mathlib.Omega.{arith}
-use lib.ListN.{length, getD, length-drop}
+use lib.ListN.{length, getD}
 use Rattle.figures.specs.Figures.{total}
 use Rattle.rooms.specs.Part.{good}
-use Rattle.rooms.specs.Table.{Node, Cord, Server, Room, formOf, mostCords, cordCount, roomCords, table}
+use Rattle.rooms.specs.Table.{Server, Room, formOf, mostCords, cordCount}
 use Rattle.rooms.specs.Limits.{nodeAt}
-use Rattle.rooms.specs.Words.{tableOf, NodeInRange, CordInRange, ServerInRange, RoomInRange}
+use Rattle.rooms.specs.Words.{tableOf, NodeInRange, ServerInRange, RoomInRange}
 use Rattle.rooms.specs.Promises.{GoodTableOfRoom, RoomReadsBack}
 use Rattle.rooms.proofs.All.{All, all-at, all-from}
 use Rattle.rooms.proofs.Reach.{table-length}
 use Rattle.rooms.proofs.Accepted.{CordAccepted, ServerAccepted}
-use Rattle.rooms.proofs.Tables.{Chain, ServerFits, RoomFits, Reads, table-written, table-fits, table-reads}
+use Rattle.rooms.proofs.Tables.{Chain, ServerFits, RoomFits, table-written, table-fits, table-reads}
 
 -- ---- Rows that are numbered
 

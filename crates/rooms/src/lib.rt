@@ -44,6 +44,9 @@ pub enum Answer {
     Refused(Refusal),
 }
 
+// The newest version of the sheet (specs/Table.antt).
+pub const NEWEST_VERSION: u32 = 3;
+
 // The most nodes, servers and cords of a room (specs/Table.antt).
 pub const MOST_NODES: usize = 512;
 

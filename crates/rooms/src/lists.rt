@@ -28,9 +28,7 @@ pub const LEVEL: usize = 2;
 
 pub const SHARE: usize = 3;
 
-// The columns of a server's row.
-pub const RANK: usize = 0;
-
+// The columns of a server's row, behind that of its rank.
 pub const LEAST: usize = 1;
 
 pub const GREATEST: usize = 2;

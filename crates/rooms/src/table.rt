@@ -12,6 +12,7 @@ ghost use Rattle.rooms.specs.Table.{shareOf, shareSum, leastOf, range, l
 ghost use Rattle.rooms.specs.Credits.{creditedCords, creditedServer, creditedServers, creditedRoom, LowsCredited};
 ghost use Rattle.rooms.specs.Told.{told, itself, nothing};
 use crate::Checked;
+use crate::NEWEST_VERSION;
 use crate::Refusal;
 use crate::form::has_percents;
 use crate::form::scale_of;
@@ -21,8 +22,6 @@ use figures::wide;
 use figures::word_index;
 
 // The figures of the table, as specs/Table.antt names them.
-const NEWEST_VERSION: u32 = 3;
-
 const MOST_NODES: u32 = crate::MOST_NODES as u32;
 
 const MOST_SERVERS: u32 = crate::MOST_SERVERS as u32;

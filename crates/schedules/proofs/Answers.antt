@@ -1,24 +1,24 @@
 -- Each answer of a schedule comes exactly where it is due.
 use mathlib.Core.Path.{_≡_, refl, sym, ap, _∙_}
 use mathlib.Core.Bool.{Bool, true, false, cond}
-use mathlib.Core.List.{List, [], _∷_, _++_, append-nil, append-assoc}
+use mathlib.Core.List.{List, [], _++_, append-assoc}
 use mathlib.Core.Logic.{_↔_, _⊎_, inl, inr}
 use Prim.Native.Nat.{ℕ, zero, suc, _+_, _≤_, _<_}
 use native.Mathlib.Nat.{suc-ne-zero}
 use native.Mathlib.Omega.{arith}
 use lib.ListN.{length, drop, length-drop, length-append}
 use lib.Dec.{leb, eqb}
-use borrow.Author.Tests.{leb-true, leb-false, le-leb, lt-leb, eq-eqb, ne-eqb, eqb-true, eqb-false}
+use borrow.Author.Tests.{leb-true, leb-false, ne-eqb, eqb-true, eqb-false}
 use Rattle.rooms.specs.Table.{mostNodes}
 use Rattle.schedules.specs.Sizes.{isSize}
 use Rattle.outcomes.specs.Outcome.{accepted, refused, unless, fitting}
 use Rattle.outcomes.proofs.Outcomes.{unless-stop, unless-pass, fitting-short, fitting-whole}
 use Rattle.schedules.specs.Text.{Step, good, bad, malformed, line}
 use Rattle.schedules.specs.Schedule.{inRange, Judgement, judged, Ending, whole, stopped, onto, linesFrom, linesOf, tableOf, ScheduleOutcome, noLines, scheduledLines, scheduling, answerOf, answerNumber, answerFigure}
-use Rattle.schedules.specs.Written.{Written, Pass, LineFirst, LinesFirst}
+use Rattle.schedules.specs.Written.{Written, LineFirst, LinesFirst}
 use Rattle.schedules.specs.Written as written
 use Rattle.schedules.specs.Promises.{Tells, AllLines, NoLineAt, NoSizeAt, OutOfRangeAt}
-use Rattle.schedules.proofs.LineLaws.{passed-is, range-is}
+use Rattle.schedules.proofs.LineLaws.{passed-is}
 use Rattle.schedules.proofs.LineLoop.{linesFrom-some}
 use Rattle.schedules.proofs.RoomTable.{entries-pass}
 use Rattle.schedules.proofs.ReadsText.{line-read, lines-read}

@@ -11,7 +11,7 @@ use lib.Seq.{sets, take-suc, length-take-le}
 use Rattle.figures.specs.Bounds.{AllBelow}
 use Rattle.words.specs.Bytes.{littleEndian, word, wordAt, wordsOf, bytesOf, numberStored}
 use Rattle.figures.proofs.Stores.{sets-append, take-sets, take-min}
-use Rattle.figures.proofs.Bounds.{nil-below, cons-below, append-below}
+use Rattle.figures.proofs.Bounds.{nil-below, cons-below}
 
 -- ---- length
 
@@ -34,16 +34,6 @@ length-bytesOf [] = refl
 length-bytesOf (w ∷ words) = omega (arith, length-bytesOf words)
 
 -- ---- range
-
-pub below-littleEndian : (k v : ℕ) → AllBelow 256 (littleEndian k v)
-unfolding littleEndian
-below-littleEndian zero v = nil-below 256 (omega arith)
-below-littleEndian (suc k) v = cons-below 256 (v % 256) (littleEndian k (v / 256)) (omega arith) (below-littleEndian k (v / 256))
-
-pub below-bytesOf : (words : List ℕ) → AllBelow 256 (bytesOf words)
-unfolding bytesOf
-below-bytesOf [] = nil-below 256 (omega arith)
-below-bytesOf (w ∷ words) = append-below 256 (littleEndian 4 w) (bytesOf words) (below-littleEndian 4 w) (below-bytesOf words)
 
 pub below-wordsOf : (bytes : List ℕ) → AllBelow 256 bytes → AllBelow (2 ^ 32) (wordsOf bytes)
 unfolding wordsOf

@@ -35,33 +35,27 @@ same-length-2 c = search needs
 returns : tie.Need-returns
 returns c =
     let put = c .before .before in
-    let known = put .before .before .before .before .before in
+    let numbered = put .before .before .before in
+    let known = numbered .before .before in
     let answered = known .before .before .before .before in
-    let start = answered .before .before .before .before .before .before in
+    let lent = answered .before .before .before in
+    let start = lent .before .before .before in
     let args = start .args in
     let refused = sym (known .answer2 .given .1) ∙ answered .read .ensures .0 in
     let is = sheet-refused (args .sheet .now) (args .demands .now) _ (start .pre .0) refused in
-    let number = put .before .before .before .number .ensures in
-    let place = put .before .before .place .ensures in
-    (whole _ _ (rw (number, place, ← is) at (put .refusal .ensures .0)) (start .pre .1), put .refusal .ensures .1)
+    (whole _ _ (rw (numbered .number .ensures, put .before .before .place .ensures, ← is) at (put .refusal .ensures .0)) (start .pre .1), put .refusal .ensures .1)
 
 slice-reshare-prefix-print-table : tie.Need-slice-reshare-prefix-print-table
 slice-reshare-prefix-print-table c =
     let known = c .before in
     let answered = known .before .before .before .before in
-    let start = answered .before .before .before .before .before .before in
+    let lent = answered .before .before .before in
+    let start = lent .before .before .before in
     let count = sym (known .answer .given .1) ∙ answered .read .ensures .0 in
     sheet-accepted (start .args .sheet .now) [] (start .args .table .now) _ (start .pre .0) count (answered .read .ensures .1) .0
 
 slice-aggregate-print-table : tie.Need-slice-aggregate-print-table
-slice-aggregate-print-table c =
-    let known = c .before .before in
-    let answered = known .before .before .before .before in
-    let start = answered .before .before .before .before .before .before in
-    let count = sym (known .answer .given .1) ∙ answered .read .ensures .0 in
-    let args = start .args in
-    let fits = sheet-accepted (args .sheet .now) [] (args .table .now) _ (start .pre .0) count (answered .read .ensures .1) .0 in
-    sym (length-take-le _ _ fits)
+slice-aggregate-print-table c = sym (length-take-le _ _ (slice-reshare-prefix-print-table (c .before)))
 
 slice-aggregate-print-table-2 : tie.Need-slice-aggregate-print-table-2
 slice-aggregate-print-table-2 c = search needs
@@ -86,10 +80,13 @@ same-length-4 c = search needs
 
 returns-2 : tie.Need-returns-2
 returns-2 c =
-    let put = c .before .before .before .before .before .before in
-    let known = put .before .before .before .before .before .before .before .before in
+    let capped = c .before .before .before .before in
+    let put = capped .before .before in
+    let fronts = put .before .before .before .before in
+    let known = fronts .before .before .before .before in
     let answered = known .before .before .before .before in
-    let start = answered .before .before .before .before .before .before in
+    let lent = answered .before .before .before in
+    let start = lent .before .before .before in
     let args = start .args in
     let count = sym (known .answer .given .1) ∙ answered .read .ensures .0 in
     let is =

@@ -9,7 +9,7 @@ use Rattle.hutplan.proofs.print_table.Tie as tie
 
 -- The table and the demands, and the lists as Plan leaves them.
 abbrev start : tie.After-plan → tie.Start
-start c = c .before .before .before .before .before .before .before .before .before .before .before .before
+start c = let lent = c .before .before .before .before in let known = lent .before .before .before .before in known .before .before .before .before
 
 abbrev table : tie.After-plan → List ℕ
 table c = start c .args .table .now
@@ -30,8 +30,11 @@ abbrev held : tie.After-plan → List ℕ
 held c = c .plan .last .1 .1 .1 .1 .1 .0
 
 -- Accepted, the lists have the room's plan.
+abbrev call : tie.After-slice-known9 → tie.After-plan
+call c = let capped = c .before .before .before .before in capped .before .before .before .before
+
 abbrev accepted : tie.After-planned → tie.After-plan
-accepted c = c .before .before .before .before .before .before .before .before .before .before
+accepted c = call (c .before .before)
 
 room-text : (c : tie.After-planned)
     → RoomText (table (accepted c)) (demands (accepted c)) (c .planned .given .0 .0)
@@ -50,8 +53,12 @@ plan-requires c κs = search needs
 enum-known-planned : tie.Need-enum-known-planned
 enum-known-planned c = search needs
 
+-- Where Plan has accepted, before its lists are lent to be printed.
+abbrev planned : tie.After-plan-arg9 → tie.After-planned
+planned c = let lent = c .before .before .before in lent .before .before .before
+
 plan-requires-2 : tie.Need-plan-requires-2
-plan-requires-2 c κs = room-text (c .before .before .before .before .before .before) .good-table
+plan-requires-2 c κs = room-text (planned c) .good-table
 
 enum-known-planned-2 : tie.Need-enum-known-planned-2
 enum-known-planned-2 c = search needs
@@ -83,7 +90,7 @@ same-length-5 c = search needs
 returns : tie.Need-returns
 returns c =
     let put = c .before .before .plan2 .ensures in
-    let is = room-text (c .before .before .before .before .before .before .before .before .before) in
+    let is = room-text (planned (c .before .before .before)) in
     (put-as (is .text) (put .0 (is .good-table .value) (is .good-table .next) (is .good-table .is)), put .1)
 
 same-length-6 : tie.Need-same-length-6
@@ -104,15 +111,14 @@ same-length-10 c = search needs
 returns-2 : tie.Need-returns-2
 returns-2 c =
     let put = c .before .before in
-    let known = put .before .before .before .before .before in
-    let plan = known .before .before .before .before .before .before .before .before .before .before in
+    let numbered = put .before .before .before in
+    let known = numbered .before .before in
+    let plan = call (known .before .before) in
     let args = start plan .args in
     let is =
     table-refused (table plan) (demands plan) (args .grants .now) (args .caps .now) (args .headroom .now) (args .held .now) (start plan .pre)
     (known .planned2 .given .1) (plan .plan .ensures .0) in
-    let number = put .before .before .before .number .ensures in
-    let place = put .before .before .place .ensures in
-    (rw (number, place, ← is) at (put .refusal .ensures .0), put .refusal .ensures .1)
+    (rw (numbered .number .ensures, put .before .before .place .ensures, ← is) at (put .refusal .ensures .0), put .refusal .ensures .1)
 
 pub print-table-spec : {M : Type 1} → statement M
 print-table-spec =

@@ -42,16 +42,18 @@ shared-slice-read-wide-2 c = search needs
 wide-requires-2 : tie.Need-wide-requires-2 Inv-loop μ-loop
 wide-requires-2 c κs = search needs
 
+-- The turn in which a byte was read.
+abbrev turn : tie.After-wide2 Inv-loop μ-loop → tie.At-loop Inv-loop μ-loop
+turn c = c .before .before .before .before
+
 returns-4 : tie.Need-returns-4 Inv-loop μ-loop
-returns-4 c =
-    let turn = c .before .before .before .before .before .loop in
-    not-shortest _ _ _ _ _ _ (c .before .wide2 .ensures .0) (search needs) _ (search needs) (turn .inv) (search needs)
+returns-4 c = not-shortest _ _ _ _ _ _ (c .before .wide2 .ensures .0) (search needs) _ (search needs) (turn (c .before) .loop .inv) (search needs)
 
 -- The value with the next byte's group, and the next unit, fit.
 bounds : (c : tie.Else4 Inv-loop μ-loop) (group : ℕ) → group < 128
-    → let l = c .before .before .before .before .before .loop in
+    → let l = turn (c .before) .loop in
     (l .value + l .unit * group < 2 ^ 28) × (l .unit * 128 ≤ 2 ^ 28)
-bounds c group h = fits _ _ _ _ _ _ (search needs) (c .before .before .before .before .before .loop .inv) group h
+bounds c group h = fits _ _ _ _ _ _ (search needs) (turn (c .before) .loop .inv) group h
 
 mul-t21 : tie.Need-mul-t21 Inv-loop μ-loop
 mul-t21 c = omega (arith, bounds (c .before) (c .before .before .wide2 .result) (search needs))
@@ -64,9 +66,8 @@ add-t23 c = search needs
 
 returns-5 : tie.Need-returns-5 Inv-loop μ-loop
 returns-5 c =
-    let byte = c .before .before .wide2 in
-    let turn = c .before .before .before .before .before .before .loop in
-    last _ _ _ _ _ _ (byte .ensures .0) (search needs) _ (search needs) (turn .inv) (search needs) (search needs)
+    let read = c .before .before in
+    last _ _ _ _ _ _ (read .wide2 .ensures .0) (search needs) _ (search needs) (turn read .loop .inv) (search needs) (search needs)
 
 mul-value : tie.Need-mul-value Inv-loop μ-loop
 mul-value c = omega (arith, bounds (c .before) (c .before .before .wide2 .result - 128) (omega arith))
@@ -88,9 +89,8 @@ loop-less c = search needs
 
 loop-again : tie.Need-loop-again Inv-loop μ-loop
 loop-again c =
-    let byte = c .before .before .wide2 in
-    let turn = c .before .before .before .before .before .before .loop in
-    again _ _ _ _ _ _ (byte .ensures .0) (search needs) _ (search needs) (turn .inv) (search needs) (byte .ensures .1)
+    let read = c .before .before in
+    again _ _ _ _ _ _ (read .wide2 .ensures .0) (search needs) _ (search needs) (turn read .loop .inv) (search needs) (read .wide2 .ensures .1)
 
 returns-6 : tie.Need-returns-6 Inv-loop μ-loop
 returns-6 c = exhausted _ _ _ _ _ _ (search needs) (c .before .loop .inv)

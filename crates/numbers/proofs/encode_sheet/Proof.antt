@@ -26,8 +26,9 @@ returns-2 c =
 
 put-all-requires : tie.Need-put-all-requires
 put-all-requires c κs =
-    let words = c .before .before .before .before .before .before .args .words .now in (
-      forms-below words (omega (arith, c .before .before .before .first-not-below .ensures)),
+    let checked = c .before .before .before in
+    let words = checked .before .before .before .args .words .now in (
+      forms-below words (omega (arith, checked .first-not-below .ensures)),
       ⊎-elim (λ w. omega (arith, w .1 .ensures)) (λ w. omega (arith, length-bytesOf≤ words)) (c .before .if2 .came),
     )
 
@@ -38,8 +39,9 @@ returns-3 : tie.Need-returns-3
 returns-3 c =
     let put = c .before .before .put-all .ensures in
     let join = c .before .before .before .before in
-    let words = join .before .before .before .before .before .args .words .now in (
-      ap Bytes (put .0) ∙ written-whole words _ (omega (arith, join .before .before .first-not-below .ensures))
+    let checked = join .before .before in
+    let words = checked .before .before .before .args .words .now in (
+      ap Bytes (put .0) ∙ written-whole words _ (omega (arith, checked .first-not-below .ensures))
           (⊎-elim (λ w. omega (arith, w .1 .ensures)) (λ w. omega (arith, length-bytesOf≤ words)) (join .if2 .came)),
       put .1,
     )

@@ -26,9 +26,9 @@ shared-slice-read-put-followed c = search needs
 
 put-followed-requires : tie.Need-put-followed-requires Inv-loop μ-loop
 put-followed-requires c κs =
-    let turn = c .before .before .before .loop in
-    let entry = c .before .before .before .before .before .before in
-    (entry .pre .0 _, writing-fits-more _ _ _ _ _ (turn .inv) (search needs) (entry .pre .1))
+    let turn = c .before .before .before in
+    let entry = turn .before .before .before in
+    (entry .pre .0 _, writing-fits-more _ _ _ _ _ (turn .loop .inv) (search needs) (entry .pre .1))
 
 add-done : tie.Need-add-done Inv-loop μ-loop
 add-done c = search needs
@@ -38,9 +38,10 @@ loop-less c = search needs
 
 loop-again : tie.Need-loop-again Inv-loop μ-loop
 loop-again c =
-    let turn = c .before .before .before .before .before .before .loop in
-    let put = c .before .before .put-followed in
-    writing-again _ _ _ _ _ (turn .inv) (search needs) _ _ (put .ensures .0) (put .kept .1 .0) (put .ensures .1 _ (writing-more _ _ _ _ _ (turn .inv) (search needs)))
+    let call = c .before .before in
+    let put = call .put-followed in
+    let inv = call .before .before .before .before .loop .inv in
+    writing-again _ _ _ _ _ inv (search needs) _ _ (put .ensures .0) (put .kept .1 .0) (put .ensures .1 _ (writing-more _ _ _ _ _ inv (search needs)))
 
 mul-put : tie.Need-mul-put Inv-loop μ-loop
 mul-put c = search needs
@@ -50,18 +51,18 @@ shared-slice-read-put c = search needs
 
 put-requires : tie.Need-put-requires Inv-loop μ-loop
 put-requires c κs =
-    let turn = c .before .before .before .before .loop in
-    let entry = c .before .before .before .before .before .before .before in
-    (entry .pre .0 _, writing-fits _ _ _ _ _ (turn .inv) (search needs) (entry .pre .1))
+    let turn = c .before .before .before .before in
+    let entry = turn .before .before .before in
+    (entry .pre .0 _, writing-fits _ _ _ _ _ (turn .loop .inv) (search needs) (entry .pre .1))
 
 same-length : tie.Need-same-length Inv-loop μ-loop
 same-length c = search needs
 
 returns : tie.Need-returns Inv-loop μ-loop
 returns c =
-    let turn = c .before .before .before .before .before .before .before .loop in
-    let put = c .before .before .put in
-    writing-last _ _ _ _ _ (turn .inv) (search needs) (search needs) _ _ (put .ensures .0) (put .ensures .1)
+    let call = c .before .before in
+    let one-left = call .before .before .before in
+    writing-last _ _ _ _ _ (one-left .before .before .loop .inv) (search needs) (search needs) _ _ (call .put .ensures .0) (call .put .ensures .1)
 
 same-length-2 : tie.Need-same-length-2 Inv-loop μ-loop
 same-length-2 c = search needs

@@ -28,9 +28,8 @@ size-requires c κs = search needs
 
 add-total : tie.Need-add-total Inv-loop μ-loop
 add-total c =
-    let entry = c .before .before .before .before .before in
-    let turn = c .before .before .before .loop in
-    omega (arith, length-form≤4 (getD (entry .args .words .now) (turn .index) 0))
+    let turn = c .before .before .before in
+    omega (arith, length-form≤4 (getD (turn .before .before .args .words .now) (turn .loop .index) 0))
 
 add-index : tie.Need-add-index Inv-loop μ-loop
 add-index c = search needs

@@ -21,8 +21,15 @@ abbrev μ-loop : tie.MeasureT-loop
 abbrev Turn : Type 0
 Turn = tie.In-loop Inv-loop μ-loop
 
-lists : (c : Turn) → HeldLists (c .before .before .before .before .before .before .before .before .before .args .parents .now) (c .before .before .before .before .before .before .before .before .before .args .cuts .now) (c .before .before .before .before .before .before .before .before .before .args .cords .now) (c .before .before .before .before .before .before .before .before .before .args .wants .now) (c .before .before .before .before .before .before .before .before .before .args .grants .now)
-lists c = c .before .before .before .before .before .before .before .before .before .pre .0
+-- The call, seen from where the rows are made.
+abbrev entered : tie.After-rows Inv-loop μ-loop → tie.Start Inv-loop μ-loop
+entered c = let lent = c .before .before .before in lent .before .before .before
+
+abbrev start : Turn → tie.Start Inv-loop μ-loop
+start t = entered (t .before .before .before)
+
+lists : (t : Turn) → let args = start t .args in HeldLists (args .parents .now) (args .cuts .now) (args .cords .now) (args .wants .now) (args .grants .now)
+lists t = start t .pre .0
 
 few : (c : Turn) → c .before .loop .c < mostCords
 few c = omega (arith, lists c .few, c .loop-test .taken)
@@ -31,30 +38,17 @@ few c = omega (arith, lists c .few, c .loop-test .taken)
 abbrev Read : Type 0
 Read = tie.After-index2 Inv-loop μ-loop
 
-node-fits : (c : Read) → c .before .before .index .result ≤ mostNodes
-node-fits c = omega (arith, c .before .before .index .ensures .0, lists (c .before .before .before .before) .within (c .before .before .before .before .before .loop .c) (c .before .before .before .before .loop-test .taken), lists (c .before .before .before .before) .few-nodes)
+abbrev turn : Read → Turn
+turn r = r .before .before .before .before
 
-level-fits : (c : Read) → c .index2 .result < highestRank
-level-fits c = omega (arith, c .index2 .ensures .0, lists (c .before .before .before .before) .ranked (c .before .before .before .before .before .loop .c) (c .before .before .before .before .loop-test .taken))
+node-fits : (r : Read) → r .before .before .index .result ≤ mostNodes
+node-fits r = omega (arith, r .before .before .index .ensures .0, lists (turn r) .within (turn r .before .loop .c) (turn r .loop-test .taken), lists (turn r) .few-nodes)
 
--- Earlier steps, each seen from a later one.
-abbrev shared-slice-known2-from-rows : tie.After-rows Inv-loop μ-loop → tie.After-shared-slice-known2 Inv-loop μ-loop
-shared-slice-known2-from-rows c = c .before .before .before .before
-
-abbrev shared-slice-known2-from-index-arg : tie.After-index-arg Inv-loop μ-loop → tie.After-shared-slice-known2 Inv-loop μ-loop
-shared-slice-known2-from-index-arg c = shared-slice-known2-from-rows (c .before .before .before .before)
-
-abbrev shared-slice-known2-from-shared-slice-known5 : tie.After-shared-slice-known5 Inv-loop μ-loop → tie.After-shared-slice-known2 Inv-loop μ-loop
-shared-slice-known2-from-shared-slice-known5 c = shared-slice-known2-from-index-arg (c .before .before .before .before)
-
-abbrev index-arg-from-shared-slice-known5 : tie.After-shared-slice-known5 Inv-loop μ-loop → tie.After-index-arg Inv-loop μ-loop
-index-arg-from-shared-slice-known5 c = c .before .before .before .before
-
-abbrev index-from-shared-slice-known5 : tie.After-shared-slice-known5 Inv-loop μ-loop → tie.After-index Inv-loop μ-loop
-index-from-shared-slice-known5 c = c .before .before .before
+level-fits : (r : Read) → r .index2 .result < highestRank
+level-fits r = omega (arith, r .index2 .ensures .0, lists (turn r) .ranked (turn r .before .loop .c) (turn r .loop-test .taken))
 
 fill-rows-requires : tie.Need-fill-rows-requires Inv-loop μ-loop
-fill-rows-requires c κs = (cut-nodes (shared-slice-known2-from-rows c .before .before .pre .0), zeros-none 513 16 refl refl)
+fill-rows-requires c κs = (cut-nodes (entered c .pre .0), zeros-none 513 16 refl refl)
 
 loop-holds : tie.Need-loop-holds Inv-loop μ-loop
 loop-holds c = filled-none _ _
@@ -87,13 +81,13 @@ mul-held-by : tie.Need-mul-held-by Inv-loop μ-loop
 mul-held-by c = omega (arith, few (c .before .before .before .before))
 
 shared-slice-read-held-by : tie.Need-shared-slice-read-held-by Inv-loop μ-loop
-shared-slice-read-held-by c = omega (arith, lists (index-arg-from-shared-slice-known5 c .before) .grants-size, index-arg-from-shared-slice-known5 c .before .loop-test .taken)
+shared-slice-read-held-by c = omega (arith, lists (turn (c .before)) .grants-size, turn (c .before) .loop-test .taken)
 
 mul-held-by-2 : tie.Need-mul-held-by-2 Inv-loop μ-loop
-mul-held-by-2 c = omega (arith, few (index-arg-from-shared-slice-known5 c .before))
+mul-held-by-2 c = omega (arith, few (turn (c .before)))
 
 shared-slice-read-held-by-2 : tie.Need-shared-slice-read-held-by-2 Inv-loop μ-loop
-shared-slice-read-held-by-2 c = omega (arith, lists (index-arg-from-shared-slice-known5 (c .before) .before) .wants-size, index-arg-from-shared-slice-known5 (c .before) .before .loop-test .taken)
+shared-slice-read-held-by-2 c = omega (arith, lists (turn (c .before .before)) .wants-size, turn (c .before .before) .loop-test .taken)
 
 mul-held-by-3 : tie.Need-mul-held-by-3 Inv-loop μ-loop
 mul-held-by-3 c = omega (arith, node-fits (c .before .before))
@@ -111,28 +105,29 @@ held-by-requires : tie.Need-held-by-requires Inv-loop μ-loop
 held-by-requires c κs = search needs
 
 mul-held : tie.Need-mul-held Inv-loop μ-loop
-mul-held c = omega (arith, few (index-arg-from-shared-slice-known5 (c .before .before .before) .before))
+mul-held c = omega (arith, few (turn (c .before .before .before .before)))
 
 slice-write-held : tie.Need-slice-write-held Inv-loop μ-loop
-slice-write-held c = omega (arith, index-arg-from-shared-slice-known5 (c .before .before .before) .before .before .loop .inv .size-is, shared-slice-known2-from-shared-slice-known5 (c .before .before .before) .before .before .pre .1, index-arg-from-shared-slice-known5 (c .before .before .before) .before .loop-test .taken)
+slice-write-held c = omega (arith, turn (c .before .before .before .before) .before .loop .inv .size-is, start (turn (c .before .before .before .before)) .pre .1, turn (c .before .before .before .before) .loop-test .taken)
 
 add-c : tie.Need-add-c Inv-loop μ-loop
-add-c c = omega (arith, few (index-arg-from-shared-slice-known5 (c .before .before .before) .before))
+add-c c = omega (arith, few (turn (c .before .before .before .before)))
 
 loop-less : tie.Need-loop-less Inv-loop μ-loop
-loop-less c = omega (arith, index-arg-from-shared-slice-known5 (c .before .before .before) .before .loop-test .taken)
+loop-less c = omega (arith, turn (c .before .before .before .before) .loop-test .taken)
 
 loop-again : tie.Need-loop-again Inv-loop μ-loop
 loop-again c =
-    let turn = index-arg-from-shared-slice-known5 (c .before .before .before) .before in
-    filled-one _ (turn .before .loop .inv) (omega (arith, shared-slice-known2-from-shared-slice-known5 (c .before .before .before) .before .before .pre .1, turn .loop-test .taken))
-    (held-is (lists turn) (turn .before .before .fill-rows .ensures) (turn .loop-test .taken) (index-from-shared-slice-known5 (c .before .before .before) .index .ensures .0) (c .before .before .before .before .index2 .ensures .0) (c .held-by .ensures))
+    let read = c .before .before .before .before in
+    let here = turn read in
+    filled-one _ (here .before .loop .inv) (omega (arith, start here .pre .1, here .loop-test .taken))
+    (held-is (lists here) (here .before .before .fill-rows .ensures) (here .loop-test .taken) (read .before .before .index .ensures .0) (read .index2 .ensures .0) (c .held-by .ensures))
 
 same-length : tie.Need-same-length Inv-loop μ-loop
 same-length c = c .before .loop .inv .size-is
 
 returns : tie.Need-returns Inv-loop μ-loop
-returns c = filled-all _ _ (c .before .loop .inv) (shared-slice-known2-from-rows (c .before .before .before) .before .before .pre .1) (c .loop-test .left) (λ i l. refl)
+returns c = filled-all _ _ (c .before .loop .inv) (entered (c .before .before .before) .pre .1) (c .loop-test .left) (λ i l. refl)
 
 pub name-holders-spec : {M : Type 1} → statement M
 name-holders-spec =

@@ -19,11 +19,14 @@ abbrev μ-loop : tie.MeasureT-loop
 abbrev Placed : Type 0
 Placed = tie.After-index Inv-loop μ-loop
 
-abbrev start : Placed → tie.Start Inv-loop μ-loop
-start p = p .before .before .before .before .before .before .before .before .before
+abbrev entered : tie.After-slice-known Inv-loop μ-loop → tie.Start Inv-loop μ-loop
+entered c = c .before .before .before
 
 abbrev turn : Placed → tie.In-loop Inv-loop μ-loop
 turn p = p .before .before .before
+
+abbrev start : Placed → tie.Start Inv-loop μ-loop
+start p = entered (turn p .before .before .before)
 
 placed : (p : Placed) → p .index .result < length (start p .args .usable .now)
 placed p = omega (arith, start p .pre .0 .within _ (turn p .loop-test .taken), p .index .ensures .0)
@@ -84,9 +87,6 @@ over-requires : tie.Need-over-requires Inv-loop μ-loop
 over-requires c κs = search needs
 
 -- Earlier steps, each seen from a later one.
-abbrev start-from-slice-known : tie.After-slice-known Inv-loop μ-loop → tie.Start Inv-loop μ-loop
-start-from-slice-known c = c .before .before .before
-
 abbrev carried-by-from-over : tie.After-over Inv-loop μ-loop → tie.After-carried-by Inv-loop μ-loop
 carried-by-from-over c = c .before .before .before .before
 
@@ -141,7 +141,7 @@ same-length-2 : tie.Need-same-length-2 Inv-loop μ-loop
 same-length-2 c = c .before .loop .inv .1 .wants-done .size-is
 
 returns : tie.Need-returns Inv-loop μ-loop
-returns c = reclaiming-end (c .before .loop .inv .1) (start-from-slice-known (c .before .before .before) .pre .1, start-from-slice-known (c .before .before .before) .pre .2) (omega (arith, c .before .loop .inv .0, c .loop-test .left))
+returns c = reclaiming-end (c .before .loop .inv .1) (entered (c .before .before .before) .pre .1, entered (c .before .before .before) .pre .2) (omega (arith, c .before .loop .inv .0, c .loop-test .left))
 
 pub reclaim-spec : {M : Type 1} → statement M
 reclaim-spec =

@@ -20,11 +20,11 @@ abbrev μ-loop : tie.MeasureT-loop
 abbrev Placed : Type 0
 Placed = tie.After-index Inv-loop μ-loop
 
-abbrev start : Placed → tie.Start Inv-loop μ-loop
-start p = p .before .before .before .before .before .before .before .before .before
-
 abbrev turn : Placed → tie.In-loop Inv-loop μ-loop
-turn p = p .before .before .before .before .before
+turn p = let share = p .before .before in share .before .before .before
+
+abbrev start : Placed → tie.Start Inv-loop μ-loop
+start p = turn p .before .before .before .before
 
 placed : (p : Placed) → p .index .result < length (turn p .before .loop .usable)
 placed p = omega (arith, start p .pre .within _ (turn p .loop-test .taken), p .index .ensures .0, turn p .before .loop .inv .1 .size-is)
@@ -90,7 +90,7 @@ mul-usable : tie.Need-mul-usable Inv-loop μ-loop
 mul-usable c = search needs
 
 slice-write-usable : tie.Need-slice-write-usable Inv-loop μ-loop
-slice-write-usable c = placed (c .before .before .before .before .before .before .before)
+slice-write-usable c = let low = c .before .before .before in placed (low .before .before .before .before)
 
 add-c : tie.Need-add-c Inv-loop μ-loop
 add-c c = omega (arith, c .before .before .before .before .loop-test .taken)
@@ -100,9 +100,10 @@ loop-less c = omega (arith, c .before .before .before .before .loop-test .taken)
 
 loop-again : tie.Need-loop-again Inv-loop μ-loop
 loop-again c =
-    let less = c .before .before .before .before .loop-test .taken in
-    let inv = c .before .before .before .before .before .loop .inv .1 in
-    let lists = c .before .before .before .before .before .before .before .before .pre in
+    let here = c .before .before .before .before in
+    let less = here .loop-test .taken in
+    let inv = here .before .loop .inv .1 in
+    let lists = here .before .before .before .before .pre in
     let share = c .before .wide .ensures .0 ∙ c .before .before .word16 .ensures .0 in
     ⊎-elim
     (λ w. (omega arith, rw (w .9) (usable-lowered inv (w .1 .ensures .0) (omega (arith, lists .within _ less, w .1 .ensures .0)) share (w .0 .taken) (w .4 .ensures .0) (w .6 .ensures .0) (w .3 .ensures .0) (w .8 .ensures ∙ w .7 .ensures))))

@@ -21,29 +21,33 @@ enum-told c = search needs
 same-length : tie.Need-same-length
 same-length c = search needs
 
+abbrev call : tie.After-slice-known3 → tie.After-read-words
+call c = c .before .before
+
+abbrev start : tie.After-read-words → tie.Start
+start c = let lent = c .before .before in lent .before .before .before
+
 returns : tie.Need-returns
 returns c =
-    let call = c .before .before .before .before in
-    let start = call .before .before .before .before .before in
-    let same = reading-first (start .args .sheet .now) (length (start .args .table .now)) _ (start .pre) in
-    let done = refused-done _ (start .args .table .now) (sym same ∙ refused-told _ (call .read-words .ensures .0) (c .enum-told .given .1)) in
+    let read = call (c .before .before) in
+    let args = start read .args in
+    let same = reading-first (args .sheet .now) (length (args .table .now)) _ (start read .pre) in
+    let done = refused-done _ (args .table .now) (sym same ∙ refused-told _ (read .read-words .ensures .0) (c .enum-told .given .1)) in
     (c .enum-told .given .1 ∙ done .0, done .1)
 
-abbrev call : tie.After-known-told → tie.After-read-words
-call c = c .before .before .before .before .before
-
-abbrev start : tie.After-known-told → tie.Start
-start c = call c .before .before .before .before .before
+abbrev read : tie.After-known-told → tie.After-read-words
+read c = call (c .before .before .before)
 
 -- The words that are accepted stand at the front of the list.
-abbrev stands : (c : tie.After-known-told) → Stands (start c .args .sheet .now) (length (start c .args .table .now)) (start c .args .words .now) (call c .read-words .last .1 .0) (c .before .read .given .0 .0)
-stands c = first-stands _ _ (start c .args .words .now) (call c .read-words .ensures .0) (c .before .read .given .1) (call c .read-words .ensures .1)
+abbrev stands : (c : tie.After-known-told)
+    → let args = start (read c) .args in Stands (args .sheet .now) (length (args .table .now)) (args .words .now) (read c .read-words .last .1 .0) (c .before .read .given .0 .0)
+stands c = first-stands _ _ (start (read c) .args .words .now) (read c .read-words .ensures .0) (c .before .read .given .1) (read c .read-words .ensures .1)
 
 slice-reshare-prefix-copy : tie.Need-slice-reshare-prefix-copy
 slice-reshare-prefix-copy c = omega (arith, stands c .fits)
 
 slice-aggregate-copy : tie.Need-slice-aggregate-copy
-slice-aggregate-copy c = sym (length-take-le _ (call (c .before) .read-words .last .1 .0) (slice-reshare-prefix-copy (c .before)))
+slice-aggregate-copy c = sym (length-take-le _ (read (c .before) .read-words .last .1 .0) (slice-reshare-prefix-copy (c .before)))
 
 copy-requires : tie.Need-copy-requires
 copy-requires c κs = search needs
@@ -56,8 +60,9 @@ same-length-3 c = search needs
 
 returns-2 : tie.Need-returns-2
 returns-2 c =
-    let given = c .before .before .before .before .before in
-    accepted-done _ _ _ _ (sym (reading-first _ _ _ (start given .pre)) ∙ stands given .is) (stands given .counted) (c .before .before .copy .ensures)
+    let copied = c .before .before in
+    let given = copied .before .before .before in
+    accepted-done _ _ _ _ (sym (reading-first _ _ _ (start (read given) .pre)) ∙ stands given .is) (stands given .counted) (copied .copy .ensures)
 
 pub read-by-spec : {M : Type 1} → statement M
 read-by-spec =

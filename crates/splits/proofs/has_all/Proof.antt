@@ -1,5 +1,5 @@
 -- `has_all` meets its contract: the second test is made only after the first.
-use mathlib.Core.Path.{refl, _∙_}
+use mathlib.Core.Path.{_∙_}
 use Rattle.splits.proofs.Serving.{both-tests, first-fails}
 use Rattle.splits.proofs.has_all.Statement.{statement}
 use Rattle.splits.proofs.has_all.Tie as tie

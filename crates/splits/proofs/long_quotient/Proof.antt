@@ -1,8 +1,7 @@
 -- `long_quotient` meets its contract: the product is within that with the whole weight, which fits, and the quotient within the amount.
 use mathlib.Core.Path.{_≡_, ap, ap₂, sym, subst, _∙_}
-use Prim.Native.Nat.{ℕ, _*_, _/_, _<_, _≤_, _^_, max}
+use Prim.Native.Nat.{ℕ, _*_, _/_, _≤_}
 use native.Mathlib.Nat.{mul-le-mul-left, lt-of-le-of-lt}
-use native.Mathlib.Omega.{arith}
 use borrow.Author.Needs.{needs}
 use Rattle.splits.proofs.Splits.{quotient-by, quotient-most}
 use Rattle.splits.proofs.Ways.{quotientIn-is}

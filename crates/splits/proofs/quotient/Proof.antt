@@ -24,14 +24,14 @@ short-quotient-requires c κs = search needs
 
 returns : tie.Need-returns
 returns c =
-    let args = c .before .before .before .before .before .before .args in
-    let pre = c .before .before .before .before .before .before .pre in
-    let greater = c .before .before .before .before .greater .ensures in
-    let short = c .before .before .before .if1 .taken in
-    let wide = c .before .before .before .before .before .wide .ensures in
+    let short = c .before .before .before in
+    let start = short .before .before .before in
+    let args = start .args in
+    let greater = short .before .greater .ensures in
+    let wide = short .before .before .wide .ensures in
     c .short-quotient .ensures
     ∙ ap₂ (quotientIn 32 (args .amount)) (c .before .before .narrow .ensures) (c .before .narrow2 .ensures)
-    ∙ quotientIn-is 32 (args .amount) (args .upto) (args .whole) (pre .0) (short-fits (args .amount) (args .whole) (omega (arith, greater, short, wide .0)) (omega (arith, greater, short, wide .0)))
+    ∙ quotientIn-is 32 (args .amount) (args .upto) (args .whole) (start .pre .0) (short-fits (args .amount) (args .whole) (omega (arith, greater, short .if1 .taken, wide .0)) (omega (arith, greater, short .if1 .taken, wide .0)))
 
 long-quotient-requires : tie.Need-long-quotient-requires
 long-quotient-requires c κs = search needs

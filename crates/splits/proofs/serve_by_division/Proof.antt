@@ -25,8 +25,9 @@ slice-read-given c = search needs
 
 sub-given : tie.Need-sub-given
 sub-given c =
-    let start = c .before .before .before .before .before in
-    dealt-rises (start .args .amount) (start .args .whole) (start .args .weight) _ (start .pre .dealt-is) (c .before .quotient .ensures)
+    let call = c .before in
+    let start = call .before .before .before .before in
+    dealt-rises (start .args .amount) (start .args .whole) (start .args .weight) _ (start .pre .dealt-is) (call .quotient .ensures)
 
 mul-before : tie.Need-mul-before
 mul-before c = search needs
@@ -48,8 +49,9 @@ same-length-2 c = search needs
 
 returns : tie.Need-returns
 returns c =
-    let start = c .before .before .before .before .before in
-    serve-some _ _ (start .args .weight) (start .args .p) (start .args .before .now) (start .args .dealt .now) (start .pre .dealt-is) (c .before .quotient .ensures) refl
+    let call = c .before in
+    let start = call .before .before .before .before in
+    serve-some _ _ (start .args .weight) (start .args .p) (start .args .before .now) (start .args .dealt .now) (start .pre .dealt-is) (call .quotient .ensures) refl
 
 pub serve-by-division-spec : {M : Type 1} → statement M
 serve-by-division-spec =

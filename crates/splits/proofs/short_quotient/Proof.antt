@@ -1,6 +1,6 @@
 -- `short_quotient` meets its contract: the product of two numbers below 65,536 fits in 32 bits.
 use mathlib.Core.Path.{ap, sym, _∙_}
-use Prim.Native.Nat.{ℕ, _*_, _/_, _<_, _^_}
+use Prim.Native.Nat.{ℕ, _*_, _/_}
 use native.Mathlib.Nat.{mul-le-mul-left, lt-of-le-of-lt}
 use borrow.Author.Needs.{needs}
 use Rattle.splits.proofs.Splits.{quotient-by}

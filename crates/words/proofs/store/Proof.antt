@@ -47,8 +47,10 @@ loop-less c = search needs
 
 loop-again : tie.Need-loop-again Inv-loop μ-loop
 loop-again c =
-    let put = c .before .before .put in
-    let at = c .before .before .before .before .before .before .before in
+    let call = c .before .before in
+    let put = call .put in
+    let more = call .before .before .before .before in
+    let at = more .before in
     let args = at .before .before .before .before .args in
     let turn = sets-bytesOf-turn (args .bytes .now) (args .list .now) (at .loop .i) (omega (arith, at)) in
     let size : length (put .last .1 .1 .0) ≡ length (at .loop .bytes) = put .kept .1 .1 .0 in

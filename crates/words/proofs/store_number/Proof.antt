@@ -30,8 +30,9 @@ same-length c = search needs
 returns-3 : tie.Need-returns-3
 returns-3 c =
     let put = c .before .before in
-    let args = put .before .before .before .before .before .args in
-    let whole : args .at + 8 ≤ length (args .bytes .now) = omega (arith, put .before .before) in
+    let fits = put .before .before in
+    let args = fits .before .before .before .args in
+    let whole : args .at + 8 ≤ length (args .bytes .now) = omega (arith, fits) in
     put .put .ensures ∙ sym (numberStored-whole (args .number) (args .bytes .now) (args .at) whole)
 
 pub store-number-spec : {M : Type 1} → statement M

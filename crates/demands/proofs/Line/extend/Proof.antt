@@ -35,7 +35,7 @@ enum-told : tie.Need-enum-told
 enum-told c = search needs
 
 returns-2 : tie.Need-returns-2
-returns-2 c = rw (c .before .before .before .before .before .self .given .1, le-ltb _ _ (c .if4 .left), and-false, and-false)
+returns-2 c = let digit = c .before .before in rw (digit .before .before .before .self .given .1, le-ltb _ _ (c .if4 .left), and-false, and-false)
 
 returns-3 : tie.Need-returns-3
 returns-3 c = rw (c .before .before .before .before .self .given .1, le-ltb _ _ (c .if3 .left), and-false)

@@ -13,9 +13,10 @@ same-length c = search needs
 
 returns : tie.Need-returns
 returns c =
-    let args = c .before .before .before .before .before .before .args in
+    let newline = c .before .before .before .before in
+    let args = newline .before .before .args in
     c .before .before .close .ensures
-    ∙ sym (fedByte-newline (args .self) (args .list .now) (args .byte) (c .before .before .before .before .if1 .taken))
+    ∙ sym (fedByte-newline (args .self) (args .list .now) (args .byte) (newline .if1 .taken))
 
 extend-requires : tie.Need-extend-requires
 extend-requires c κs = search needs

@@ -21,8 +21,9 @@ same-length c = search needs
 returns : tie.Need-returns
 returns c =
     let last = c .before .before .before in
-    let args = last .before .before .before .before .before .args in
-    let some = sym (last .before .before .before .has-byte .ensures) ∙ last .before .before .if1 .taken in
+    let tested = last .before .before .before in
+    let args = tested .before .before .args in
+    let some = sym (tested .has-byte .ensures) ∙ last .before .before .if1 .taken in
     let is = last .close .ensures ∙ sym (finished-inside (args .self) (args .list .now) some) in
     (ap (λ (h : Held). h .list) is, c .least .ensures ∙ ap countIn is)
 

@@ -30,15 +30,17 @@ add-count c = search needs
 
 loop-less : tie.Need-loop-less Inv-loop μ-loop
 loop-less c =
-    let got = c .before .before .before .before .before in
+    let stored = c .before .before in
+    let got = stored .before .before .before in
     let turn = got .before .before .before .before .loop in
     reading-falls _ _ _ _ _ (turn .inv) (search needs) _ _ (sym (got .value .given .1) ∙ got .before .before .decode .ensures)
 
 loop-again : tie.Need-loop-again Inv-loop μ-loop
 loop-again c =
-    let got = c .before .before .before .before .before in
+    let stored = c .before .before in
+    let got = stored .before .before .before in
     let turn = got .before .before .before .before .loop in
-    reading-again _ _ _ _ _ (turn .inv) (search needs) _ _ (sym (got .value .given .1) ∙ got .before .before .decode .ensures) _ (c .before .before .store .ensures)
+    reading-again _ _ _ _ _ (turn .inv) (search needs) _ _ (sym (got .value .given .1) ∙ got .before .before .decode .ensures) _ (stored .store .ensures)
 
 enum-known-fault : tie.Need-enum-known-fault Inv-loop μ-loop
 enum-known-fault c = search needs
@@ -48,8 +50,8 @@ same-length c = search needs
 
 returns : tie.Need-returns Inv-loop μ-loop
 returns c =
-    let turn = c .before .before .before .before .before .loop in
-    reading-stop _ _ _ _ _ (turn .inv) (search needs) _ _ (sym (c .before .fault .given .1) ∙ c .before .before .before .decode .ensures)
+    let call = c .before .before .before in
+    reading-stop _ _ _ _ _ (call .before .before .loop .inv) (search needs) _ _ (sym (c .before .fault .given .1) ∙ call .decode .ensures)
 
 same-length-2 : tie.Need-same-length-2 Inv-loop μ-loop
 same-length-2 c = search needs

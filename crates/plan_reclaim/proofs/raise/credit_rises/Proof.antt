@@ -33,7 +33,7 @@ abbrev Found : Type 0
 Found = tie.After-wide Inv-loop μ-loop
 
 abbrev turn : Found → Turn
-turn f = f .before .before .before .before .before .before
+turn f = let placed = f .before .before .before in placed .before .before .before
 
 loop-holds : tie.Need-loop-holds Inv-loop μ-loop
 loop-holds c = (omega arith, rises-start (c .before .before .before .before .pre .1 .1))

@@ -23,8 +23,11 @@ zeros-size s = zeros-front mostNodes (length (s .args .parents .now)) (s .pre .f
 abbrev Credited : Type 0
 Credited = tie.After-credit-rises
 
+abbrev entered : tie.After-shared-slice-known4 → tie.Start
+entered c = c .before .before .before .before
+
 abbrev start : Credited → tie.Start
-start k = k .before .before .before .before .before .before .before
+start k = entered (k .before .before .before)
 
 abbrev back : Credited → List ℕ
 back k = k .credit-rises .last .1 .1 .1 .0
@@ -41,21 +44,18 @@ raised k =
     (k .credit-rises .ensures .1)
 
 -- Earlier steps, each seen from a later one.
-abbrev start-from-shared-slice-known4 : tie.After-shared-slice-known4 → tie.Start
-start-from-shared-slice-known4 c = c .before .before .before .before
-
 abbrev raised2-from-raised4 : tie.After-raised4 → tie.After-raised2
 raised2-from-raised4 c = c .before .before .before .before
 
 array-borrow-prefix-raised : tie.Need-array-borrow-prefix-raised
-array-borrow-prefix-raised c = start-from-shared-slice-known4 (c .before) .pre .few-nodes
+array-borrow-prefix-raised c = entered (c .before) .pre .few-nodes
 
 slice-aggregate-credit-rises : tie.Need-slice-aggregate-credit-rises
-slice-aggregate-credit-rises c = sym (zeros-size (start-from-shared-slice-known4 (c .before .before)))
+slice-aggregate-credit-rises c = sym (zeros-size (entered (c .before .before)))
 
 credit-rises-requires : tie.Need-credit-rises-requires
 credit-rises-requires c κs =
-    let s = start-from-shared-slice-known4 (c .before .before) in
+    let s = entered (c .before .before) in
     credit-asks (s .pre) (zeros s) (zeros-size s) (zeros-front-at mostNodes (length (s .args .parents .now)))
 
 array-borrow-prefix-raised-2 : tie.Need-array-borrow-prefix-raised-2

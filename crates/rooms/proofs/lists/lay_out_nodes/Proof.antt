@@ -29,7 +29,7 @@ abbrev Begun : Type 0
 Begun = tie.After-has-percents Inv-loop μ-loop
 
 abbrev start : Begun → tie.Start Inv-loop μ-loop
-start b = b .before .before .before .before .before
+start b = let entered = b .before .before .before in entered .before .before
 
 abbrev table : Begun → List ℕ
 table b = start b .args .table .now

@@ -43,14 +43,17 @@ table t = t .before .before .before .before .args .table .now
 standing : (t : Turn) → ServerHere (table t) (t .before .loop .inv .2 .room) (t .before .loop .v) (t .before .loop .start) (t .before .loop .first)
 standing t = laying-server (t .before .loop .inv .2) (more t)
 
+abbrev turn-begun : tie.At-loop2 Inv-loop2 μ-loop2 Inv-loop μ-loop → Turn
+turn-begun k = k .before .before .before .before
+
 abbrev turn : Cord → Turn
-turn k = k .before .before .before .before .before
+turn k = turn-begun (k .before)
 
 fits : (k : Cord) → CordFits (table (turn k)) (turn k .before .loop .v) (k .before .loop2 .c) (k .before .loop2 .word) (k .before .loop2 .cords)
 fits k = cord-fits (k .before .loop2 .inv) (k .loop2-test .taken)
 
 abbrev turn-passed : Passed → Turn
-turn-passed p = p .before .before .before .before .before
+turn-passed p = turn-begun (p .before)
 
 -- ---- The needs
 

@@ -18,7 +18,8 @@ node-index-requires c κs = search needs
 
 returns : tie.Need-returns
 returns c =
-    index-told (c .before .before .before .before .before .args .table .now) (c .before .before .before .word .ensures) (c .before .before .has-percents .ensures) (c .before .node-count .ensures .1 .0) (c .before .node-count .ensures .1 .1) (c .node-index .ensures)
+    let read = c .before .before .before in
+    index-told (read .before .before .args .table .now) (read .word .ensures) (c .before .before .has-percents .ensures) (c .before .node-count .ensures .1 .0) (c .before .node-count .ensures .1 .1) (c .node-index .ensures)
 
 pub servers-index-spec : {M : Type 1} → statement M
 servers-index-spec =

@@ -14,24 +14,28 @@ use Rattle.rooms.proofs.lows.overloaded.Tie as tie
 shared-slice-read-has-percents : tie.Need-shared-slice-read-has-percents
 shared-slice-read-has-percents c = omega (arith, layout _ _ _ _ refl (c .before .before .before .pre .0 .0 .is) .there)
 
+abbrev start : tie.After-has-percents → tie.Start
+start c = c .before .before .before .before
+
 has-percents-requires : tie.Need-has-percents-requires
 has-percents-requires c κs = search needs
 
 shared-slice-read-word-index : tie.Need-shared-slice-read-word-index
-shared-slice-read-word-index c = omega (arith, layout _ _ _ _ refl (c .before .before .before .before .before .pre .0 .0 .is) .there)
+shared-slice-read-word-index c = omega (arith, layout _ _ _ _ refl (start (c .before) .pre .0 .0 .is) .there)
 
 word-index-requires : tie.Need-word-index-requires
 word-index-requires c κs = search needs
 
 lowest-over-requires : tie.Need-lowest-over-requires
 lowest-over-requires c κs =
-    let start = c .before .before .before .before .before .before .before in
-    let good = start .pre .0 .0 in
+    let formed = c .before .before .before in
+    let begun = start formed in
+    let good = begun .pre .0 .0 in
     let count = c .before .word-index .ensures .0 in
     let is = layout _ _ _ _ count (good .is) in
-    let zero = sum-zeros (getD (start .args .w .now) 1 0) (replicate mostNodes 0) (zeros-at mostNodes) in (
-      (nodes-read _ _ _ _ _ is (c .before .before .before .has-percents .ensures) refl, omega (arith, is .most, start .pre .0 .1)),
-      rw count (omega (arith, start .pre .1 .grow (good .value) _ (good .is))),
+    let zero = sum-zeros (getD (begun .args .w .now) 1 0) (replicate mostNodes 0) (zeros-at mostNodes) in (
+      (nodes-read _ _ _ _ _ is (formed .has-percents .ensures) refl, omega (arith, is .most, begun .pre .0 .1)),
+      rw count (omega (arith, begun .pre .1 .grow (good .value) _ (good .is))),
     )
 
 same-length : tie.Need-same-length
@@ -39,12 +43,13 @@ same-length c = search needs
 
 returns : tie.Need-returns
 returns c =
-    let formed = c .before .before .before .before .before .before .has-percents .ensures in
-    let count = c .before .before .before .before .word-index .ensures .0 in
-    let credited = c .before .before .before .before .before .before .before .before .before .before .pre .1 .are in
-    let gathered = c .before .before .lowest-over .ensures in (
-      λ q j e. overloaded-from _ _ _ _ formed count q j e (credited q j e) (gathered .0),
-      λ q j e. lows-from _ _ _ formed count q j e (credited q j e) (gathered .1),
+    let found = c .before .before in
+    let sized = found .before .before in
+    let formed = sized .before .before in
+    let count = sized .word-index .ensures .0 in
+    let credited = start formed .pre .1 .are in (
+      λ q j e. overloaded-from _ _ _ _ (formed .has-percents .ensures) count q j e (credited q j e) (found .lowest-over .ensures .0),
+      λ q j e. lows-from _ _ _ (formed .has-percents .ensures) count q j e (credited q j e) (found .lowest-over .ensures .1),
     )
 
 pub overloaded-spec : {M : Type 1} → statement M

@@ -16,11 +16,18 @@ enum-known-judged-2 c = search needs
 same-length : tie.Need-same-length
 same-length c = search needs
 
+-- The call that reads the sheet.
+abbrev call : tie.After-slice-known2 → tie.After-decode-sheet
+call c = c .before .before
+
+abbrev start : tie.After-decode-sheet → tie.Start
+start c = c .before .before .before .before
+
 returns : tie.Need-returns
 returns c =
-    let call = c .before .before .before .before .before in
-    let args = call .before .before .before .before .args in
-    let sheet = call .decode-sheet .ensures in
+    let read = call (c .before .before .before) in
+    let args = start read .args in
+    let sheet = read .decode-sheet .ensures in
     (first-bad-number (args .sheet .now) (args .words .now) (args .space) (sheet .0) (c .before .judged2 .given .1), sheet .1)
 
 least-requires : tie.Need-least-requires
@@ -42,9 +49,9 @@ returns-2 : tie.Need-returns-2
 returns-2 c =
     let front = c .before .before in
     let judged = front .before .before in
-    let call = judged .before .before .before .before in
-    let args = call .before .before .before .before .args in
-    let sheet = call .decode-sheet .ensures in
+    let read = call (judged .before .before) in
+    let args = start read .args in
+    let sheet = read .decode-sheet .ensures in
     (first-answered (args .sheet .now) (args .words .now) (args .space) (whole-so _ (sheet .0) (judged .judged .given .1)) (sheet .1) (front .least .ensures) (c .answer-for .ensures), sheet .1)
 
 pub read-words-spec : {M : Type 1} → statement M

@@ -41,8 +41,8 @@ loop-less c = search needs
 
 loop-again : tie.Need-loop-again Inv-loop μ-loop
 loop-again c =
-    let row = c .before .before .before .before .before .loop .inv .2 in
-    (search needs, search needs, row-next _ _ _ _ _ _ (search needs) row (c .before .before .before .check-node .ensures) (c .before .node .given .1) (λ _. sym (add-one _)))
+    let call = c .before .before .before in
+    (search needs, search needs, row-next _ _ _ _ _ _ (search needs) (call .before .before .loop .inv .2) (call .check-node .ensures) (c .before .node .given .1) (λ _. sym (add-one _)))
 
 returns-2 : tie.Need-returns-2 Inv-loop μ-loop
 returns-2 c = row-end _ _ _ _ _ _ _ (search needs) (c .before .loop .inv .2) ∙ nothing-told _

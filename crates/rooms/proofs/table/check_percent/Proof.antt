@@ -27,18 +27,23 @@ returns-2 c =
     (pass-word _ _ _ (c .before .before .before .before .check-word .ensures) (c .before .before .percent .given .1)
     (ensured _ _ _ _ _ _ (is-eighty _ (c .if1 .taken)) (gives _ _ _ refl)))
 
+abbrev call : tie.After-known-told → tie.After-check-word
+call c = c .before .before .before
+
 returns-3 : tie.Need-returns-3
 unfolding percent
 returns-3 c =
+    let read = c .before .before in
     pass-value _ _ _ _
-    (pass-word _ _ _ (c .before .before .before .before .before .check-word .ensures) (c .before .before .before .percent .given .1)
+    (pass-word _ _ _ (call read .check-word .ensures) (read .before .percent .given .1)
     (ensured _ _ _ _ _ _ (is-hundred _ (c .before .if1 .left) (c .if2 .taken)) (gives _ _ _ refl)))
 
 returns-4 : tie.Need-returns-4
 unfolding percent
 returns-4 c =
+    let read = c .before .before in
     pass-value _ _ _ _
-    (pass-word _ _ _ (c .before .before .before .before .before .check-word .ensures) (c .before .before .before .percent .given .1)
+    (pass-word _ _ _ (call read .check-word .ensures) (read .before .percent .given .1)
     (denied _ _ _ _ _ _ (is-neither _ (c .before .if1 .left) (c .if2 .left))))
 
 pub check-percent-spec : {M : Type 1} → statement M

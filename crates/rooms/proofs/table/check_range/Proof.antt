@@ -11,7 +11,10 @@ use Rattle.rooms.proofs.table.check_range.Tie as tie
 
 -- What is to be told, after the least.
 abbrev goal : tie.After-known-told → Checked
-goal c = told leastOf (range (c .before .before .before .before .before .args .w .now) (c .before .before .before .before .before .args .i))
+goal c =
+    let call = c .before .before .before in
+    let given = call .before .before .args in
+    told leastOf (range (given .w .now) (given .i))
 
 -- The least is passed.
 abbrev least-passed : (c : tie.After-known-told) → Reached leastOf (goal c)

@@ -10,20 +10,19 @@ use lib.ListN.{length}
 use Rattle.figures.specs.Sums.{on}
 use Rattle.figures.specs.Figures.{at, cell}
 use Rattle.figures.proofs.Sums.{sum-cong}
-use Rattle.rooms.specs.Credits.{sumBeneath}
 use Rattle.splits.specs.Split.{part}
 use Rattle.deals.specs.Passes.{overChildren, childrenBefore, weightOf, cutMark, FullRows, Weighed, Requested, NodesDealt}
 use Rattle.deals.proofs.Cuts.{ltb-cong}
+use Rattle.deals.proofs.NodeSums.{beneathAll}
 
 -- The weight of the node at place m in the split at its parent: its Request at this rank less the starts beneath it.
-abbrev pub requestWeight : List (List ℕ) → ℕ → List ℕ → ℕ → ℕ
-requestWeight rows level starts m = cell rows m level - at starts m
+abbrev pub requestWeight : List (List ℕ) → ℕ → (ℕ → ℕ) → ℕ → ℕ
+requestWeight rows level starts m = cell rows m level - starts m
 
 -- From what is left of each limit, and the cords' starts and weights on each node.
-pub record Gathered (parents : List ℕ) (level : ℕ) (left cuts starts weights : List ℕ) (rows : List (List ℕ)) (left′ cuts′ starts′ wholes : List ℕ) (rows′ : List (List ℕ)) : Type 0 where
-  pub start : (n : ℕ) → n < length parents → at starts′ n ≡ sumBeneath (at parents) (length parents) (at starts) n
-  pub children : (n : ℕ) → n < length parents → at wholes n ≡ at weights n + overChildren parents (requestWeight rows′ level starts′) n
-  pub request : (n : ℕ) → n < length parents → cell rows′ n level ≡ at starts′ n + min (at left n) (at wholes n)
+pub record Gathered (parents : List ℕ) (level : ℕ) (left cuts starts weights : List ℕ) (rows : List (List ℕ)) (left′ cuts′ wholes : List ℕ) (rows′ : List (List ℕ)) : Type 0 where
+  pub children : (n : ℕ) → n < length parents → at wholes n ≡ at weights n + overChildren parents (requestWeight rows′ level (beneathAll parents starts)) n
+  pub request : (n : ℕ) → n < length parents → cell rows′ n level ≡ beneathAll parents starts n + weightOf left wholes n
   pub others : (n j : ℕ) → (j ≡ level → ⊥) → cell rows′ n j ≡ cell rows n j
   pub left-is : (n : ℕ) → n < length parents → at left′ n ≡ at left n - at wholes n
   pub cuts-are : (n : ℕ) → n < length parents → at cuts′ n ≡ cutMark (at cuts n) level (at left n) (at wholes n)
@@ -38,22 +37,21 @@ cut-same : (mark level left whole : ℕ) → cutMark mark level (min left whole)
 cut-same mark level left whole = ap (λ (t : Bool). max mark (on t (suc level))) (ltb-cong (min left whole) whole left whole (λ l. omega arith) (λ l. omega arith))
 
 module _ {parents active : List ℕ} {count level : ℕ} {left own left′ wholes weights cuts starts : List ℕ} {rows : List (List ℕ)} {cuts′ starts′ : List ℕ} {rows′ : List (List ℕ)}
-    (w : Weighed parents active count left own left′ wholes weights) (r : Requested parents level wholes cuts starts weights rows cuts′ starts′ rows′) where
+    (w : Weighed parents active count left own left′ wholes weights) (r : Requested parents level left wholes cuts starts rows cuts′ starts′ rows′) where
+  weight-left : (n : ℕ) → n < length parents → requestWeight rows′ level (beneathAll parents starts) n ≡ weightOf left wholes n
+  weight-left n l = omega (arith, r .request n l)
+
   -- The weight by the rows is the one listed.
-  pub weight-listed : (n : ℕ) → n < length parents → requestWeight rows′ level starts′ n ≡ weightOf weights wholes n
-  weight-listed n l = omega (arith, r .request n l)
+  pub weight-listed : (n : ℕ) → n < length parents → requestWeight rows′ level (beneathAll parents starts) n ≡ weightOf weights wholes n
+  weight-listed n l = weight-left n l ∙ sym (w .weights-are n l)
 
-  weight-left : (n : ℕ) → n < length parents → requestWeight rows′ level starts′ n ≡ weightOf left wholes n
-  weight-left n l = weight-listed n l ∙ w .weights-are n l
-
-  pub gathered : Gathered parents level left cuts starts own rows left′ cuts′ starts′ wholes rows′
+  pub gathered : Gathered parents level left cuts starts own rows left′ cuts′ wholes rows′
   gathered = record {
-    start = r .start;
     children = λ n l. w .children n l ∙ ap (λ (x : ℕ). at own n + x) (children-cong parents _ _ n (length parents) (λ h g. sym (weight-left h g)));
-    request = λ n l. r .request n l ∙ ap (λ (x : ℕ). at starts′ n + x) (w .weights-are n l);
+    request = r .request;
     others = r .others;
     left-is = w .left-is;
-    cuts-are = λ n l. r .cuts-are n l ∙ ap (λ (x : ℕ). cutMark (at cuts n) level x (at wholes n)) (w .weights-are n l) ∙ cut-same (at cuts n) level (at left n) (at wholes n);
+    cuts-are = λ n l. r .cuts-are n l ∙ cut-same (at cuts n) level (at left n) (at wholes n);
     full = r .full;
   }
 

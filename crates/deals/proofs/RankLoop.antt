@@ -11,13 +11,13 @@ use borrow.Author.Tests.{eqb-true, eqb-false}
 use Rattle.figures.specs.Sums.{on, sum}
 use Rattle.figures.proofs.Sums.{sum-cong, sum-zero}
 use Rattle.rooms.specs.Table.{mostNodes, mostCords, mostWatts, highestRank}
-use Rattle.rooms.specs.Credits.{sumBeneath}
 use Rattle.figures.specs.Figures.{at, cell}
 use Rattle.deals.specs.Metrics.{dealFrom}
-use Rattle.figures.specs.Places.{Absent, Present}
+use Rattle.figures.specs.Places.{Absent}
 use Rattle.deals.specs.Levels.{ActiveNodes, CordsActive, CordsOf, LevelLists, entries, fromColumn, toColumn, countColumn}
 use Rattle.deals.proofs.Ordering.{entries-length}
-use Rattle.deals.specs.Passes.{LevelCords, overListed, cordWeight, weightOf, overChildren, FullRows, WeightsListed, Weighed, Requested, NodesDealt, CordsDealt}
+use Rattle.deals.specs.Passes.{LevelCords, overListed, cordWeight, CordsSummed, weightOf, overChildren, FullRows, WeightsListed, MayWeigh, Weighed, MayRequest, Requested, NodesDealt, CordsDealt}
+use Rattle.deals.proofs.NodeSums.{beneathAll}
 use Rattle.deals.proofs.Requesting.{beneath-none}
 use Rattle.deals.proofs.Gathered.{requestWeight, Gathered, gathered, weight-listed, children-cong, dealt-again}
 use Rattle.deals.specs.Ranks.{NodeLists, CordLists, DealLists, DealGiven, SomeDeal, Uncut, DealMade}
@@ -42,6 +42,7 @@ pub record RankLoop (parents : List ℕ) (rows : List (List ℕ)) (order : List 
   pub cuts-size : length cuts ≡ length parents
   pub grants-size : length grants ≡ length nodes
   pub bases-size : length bases ≡ figuresLength
+  pub bases-clear : (n : ℕ) → n < length parents → at bases n ≡ 0
   pub wholes-size : length wholes ≡ figuresLength
   pub amounts-size : length amounts ≡ figuresLength
   pub before-size : length before ≡ figuresLength
@@ -49,6 +50,13 @@ pub record RankLoop (parents : List ℕ) (rows : List (List ℕ)) (order : List 
   pub blank : BlankRows (length parents) rows actives requests
   pub state : (limits levels lows : List ℕ) → (given : DealGiven parents rows order actives nodes starts wants left₀ limits levels lows)
       → State parents limits nodes levels lows starts wants (given .lists) above requests left cuts grants
+
+-- The row of a level that some cord has: where its cords begin and end in the order, and how many nodes are active.
+pub record LevelRow (rows : List (List ℕ)) (level from to count : ℕ) : Type 0 where
+  pub from-is : from ≡ cell rows level fromColumn
+  pub to-is : to ≡ cell rows level toColumn
+  pub count-is : count ≡ cell rows level countColumn
+  pub has-cords : from < to
 
 -- A number above 0 is one more than the number before it.
 one-more : (n : ℕ) → 0 < n → n ≡ suc (n - 1)
@@ -102,6 +110,7 @@ module _ {parents : List ℕ} {rows : List (List ℕ)} {order : List ℕ} {activ
         cuts-size = inv .cuts-size;
         grants-size = inv .grants-size;
         bases-size = inv .bases-size;
+        bases-clear = inv .bases-clear;
         wholes-size = inv .wholes-size;
         amounts-size = inv .amounts-size;
         before-size = inv .before-size;
@@ -120,7 +129,19 @@ module _ {parents : List ℕ} {rows : List (List ℕ)} {order : List ℕ} {activ
             (λ n l. inv .blank .blank n level l level-fits (λ i h. absurd (omega (arith, counted)))) (at-level limits levels lows given);
       }
 
-      module _ {from to count : ℕ} (ef : from ≡ cell rows level fromColumn) (et : to ≡ cell rows level toColumn) (ec : count ≡ cell rows level countColumn) (has : from < to) where
+      module _ {from to count : ℕ} (row : LevelRow rows level from to count) where
+        abbrev ef : from ≡ cell rows level fromColumn
+        ef = row .from-is
+
+        abbrev et : to ≡ cell rows level toColumn
+        et = row .to-is
+
+        abbrev ec : count ≡ cell rows level countColumn
+        ec = row .count-is
+
+        abbrev has : from < to
+        has = row .has-cords
+
         abbrev listed : List ℕ
         listed = entries order from to
 
@@ -149,7 +170,7 @@ module _ {parents : List ℕ} {rows : List (List ℕ)} {order : List ℕ} {activ
         cord-within : (i : ℕ) → i < length listed → at listed i < length nodes
         cord-within i h = omega (arith, of .within i h, cs .levels-size)
 
-        -- What `sum_cords` and `deal_cords` ask of the cords.
+        -- What `add_cords` and `deal_cords` ask of the cords.
         level-cords : {size : ℕ} → length parents ≤ size → LevelCords size listed nodes starts wants
         level-cords {size} e = record {
           few = omega (arith, entries-length order from to part-end, part-end, by-level .ordered .size, cs .levels-size, cs .few);
@@ -167,25 +188,18 @@ module _ {parents : List ℕ} {rows : List (List ℕ)} {order : List ℕ} {activ
         pub enough : {size : ℕ} → size ≡ figuresLength → length parents ≤ size
         enough e = omega (arith, ns .few)
 
-        pub sum-cords-asks : LevelCords (length parents) listed nodes starts wants × ((length parents ≤ length bases₀) × (length parents ≤ length wholes₀))
-        sum-cords-asks = (level-cords (le-refl (length parents)), (enough (inv .bases-size), enough (inv .wholes-size)))
+        pub add-cords-asks : LevelCords (length parents) listed nodes starts wants
+            × (((length parents ≤ length bases₀) × (length parents ≤ length wholes₀)) × ((n : ℕ) → n < length parents → at bases₀ n ≡ 0))
+        add-cords-asks = (level-cords (le-refl (length parents)), ((enough (inv .bases-size), enough (inv .wholes-size)), inv .bases-clear))
 
         -- What it leaves.
         pub record Summed (bases wholes : List ℕ) : Type 0 where
           pub bases-size : length bases ≡ figuresLength
           pub wholes-size : length wholes ≡ figuresLength
-          pub on-starts : (n : ℕ) → n < length parents → at bases n ≡ overListed listed nodes (at starts) n
-          pub on-weights : (n : ℕ) → n < length parents → at wholes n ≡ overListed listed nodes (cordWeight starts wants) n
+          pub on-nodes : CordsSummed (length parents) listed nodes starts wants bases wholes
 
-        pub summed : {b w : List ℕ} → length b ≡ length bases₀ → length w ≡ length wholes₀
-            → ((n : ℕ) → n < length parents → at b n ≡ overListed listed nodes (at starts) n)
-            → ((n : ℕ) → n < length parents → at w n ≡ overListed listed nodes (cordWeight starts wants) n) → Summed b w
-        summed sb sw on-starts on-weights = record {
-          bases-size = sb ∙ inv .bases-size;
-          wholes-size = sw ∙ inv .wholes-size;
-          on-starts = on-starts;
-          on-weights = on-weights;
-        }
+        pub summed : {b w : List ℕ} → length b ≡ length bases₀ → length w ≡ length wholes₀ → CordsSummed (length parents) listed nodes starts wants b w → Summed b w
+        summed sb sw on-nodes = record { bases-size = sb ∙ inv .bases-size; wholes-size = sw ∙ inv .wholes-size; on-nodes = on-nodes }
 
         module _ {b w : List ℕ} (sums : Summed b w) where
           -- No listed cord hangs on a node that is not active.
@@ -198,151 +212,135 @@ module _ {parents : List ℕ} {rows : List (List ℕ)} {order : List ℕ} {activ
               at-entry i h false e = refl
 
           sums-fit : (sum (length parents) (at b) ≤ mostCords * mostWatts) × (sum (length parents) (at w) ≤ mostCords * mostWatts)
-          sums-fit = sums-most parents (some-deal .limits) nodes (some-deal .levels) (some-deal .lows) starts wants lists level here listed of b w (sums .on-starts) (sums .on-weights)
+          sums-fit = sums-most parents (some-deal .limits) nodes (some-deal .levels) (some-deal .lows) starts wants lists level here listed of b w (sums .on-nodes .on-starts) (sums .on-nodes .on-weights)
 
-          -- What `weigh` asks.
-          pub weigh-asks : (ActiveNodes parents active count × ((m : ℕ) → m < length parents → at parents m ≤ m))
-              × (((length left ≡ length parents) × (length parents ≤ length w) × (length parents ≤ length amounts₀))
-              × ((sum (length parents) (at w) ≤ mostCords * mostWatts) × ((n : ℕ) → n < length parents → Absent active count n → at w n ≡ 0)))
-          weigh-asks = (
-            (nodes-active, ns .rises),
-            ((inv .left-size, enough (sums .wholes-size), enough (inv .amounts-size)), (sums-fit .1, λ n l none. sums .on-weights n l ∙ none-on (cordWeight starts wants) n none)),
+          no-starts : (n : ℕ) → n < length parents → Absent active count n → at b n ≡ 0
+          no-starts n l none = sums .on-nodes .on-starts n l ∙ none-on (at starts) n none
+
+          -- What `request` asks.
+          pub request-asks : MayWeigh parents active count left w (length amounts₀) × MayRequest parents active count level left cuts b requests
+          request-asks = (
+            record {
+              nodes = nodes-active;
+              rises = ns .rises;
+              left-size = inv .left-size;
+              own-fit = (enough (sums .wholes-size), sums-fit .1);
+              weights-size = enough (inv .amounts-size);
+              idle = λ n l none. sums .on-nodes .on-weights n l ∙ none-on (cordWeight starts wants) n none;
+            },
+            record {
+              few = ns .few;
+              ranked = level-fits;
+              cuts-size = inv .cuts-size;
+              starts-fit = (enough (sums .bases-size), sums-fit .0);
+              enough = λ n l.
+                  omega (
+                    arith,
+                    gather-asks parents (some-deal .limits) nodes (some-deal .levels) (some-deal .lows) starts wants lists level here listed of b w (sums .on-nodes .on-starts) (sums .on-nodes .on-weights) n l,
+                  );
+              idle = λ n l none. (no-starts n l none, inv .blank .blank n level l level-fits (rw ec at none));
+              full = inv .blank .full;
+            },
           )
 
-          module _ {left₁ w₁ weights : List ℕ} (weighed : Weighed parents active count left w left₁ w₁ weights) (weights-size : length weights ≡ length amounts₀) where
-            -- A weight is no more than what is left of the limit.
-            weight-most : (n : ℕ) → n < length parents → Present active count n → at weights n ≤ at left n
-            weight-most n l some = omega (arith, weighed .weights-are n l, weighed .listed .within n l some)
+          module _ {left₁ w₁ weights : List ℕ} {requests₁ : List (List ℕ)} {cuts₁ b₁ : List ℕ} (weighed : Weighed parents active count left w left₁ w₁ weights)
+              (requested : Requested parents level left w₁ cuts b requests cuts₁ b₁ requests₁) where
+            abbrev g : Gathered parents level left cuts b w requests left₁ cuts₁ w₁ requests₁
+            g = gathered weighed requested
 
-            -- What `request` asks.
-            pub request-asks : ((length parents ≤ mostNodes) × (level < highestRank) × ((m : ℕ) → m < length parents → at parents m ≤ m))
-                × (((length cuts ≡ length parents) × (length parents ≤ length b) × (sum (length parents) (at b) ≤ mostCords * mostWatts))
+            abbrev weight : ℕ → ℕ
+            weight = requestWeight requests₁ level (beneathAll parents b)
+
+            weight-is : (n : ℕ) → n < length parents → weight n ≡ weightOf weights w₁ n
+            weight-is = weight-listed weighed requested
+
+            room : (n : ℕ) → n < length parents → (beneathAll parents b n ≤ cell requests₁ n level) × (cell requests₁ n level ≤ mostWatts) × (weight n ≤ at w₁ n)
+                × (at w₁ n ≤ mostCords * mostWatts) × (overChildren parents weight n ≤ at w₁ n)
+            room =
+                nodes-ask parents (some-deal .limits) nodes (some-deal .levels) (some-deal .lows) starts wants lists level here listed of b w (sums .on-nodes .on-starts) (sums .on-nodes .on-weights)
+                requests₁ left₁ cuts₁ w₁ g
+
+            -- A node that is not active has no Request.
+            nodes-blank : (n : ℕ) → n < length parents → Absent active count n → cell requests₁ n level ≡ 0
+            nodes-blank n l none =
+                omega (arith, requested .request n l, beneath-none nodes-active (ns .rises) b no-starts n l none, weighed .listed .idle n l none)
+
+            -- What `deal_nodes` asks.
+            pub deal-nodes-asks : ((length parents ≤ length before₀) × (length dealt₀ ≡ length before₀) × ((m : ℕ) → m < length parents → at parents m ≤ m))
                 × (WeightsListed parents active count w₁ weights
-                × (((n : ℕ) → n < length parents → Present active count n → sumBeneath (at parents) (length parents) (at b) n + at weights n ≤ mostWatts)
-                × (((n : ℕ) → n < length parents → Absent active count n → (at b n ≡ 0) × (cell requests n level ≡ 0)) × FullRows requests))))
-            request-asks = (
-              (ns .few, level-fits, ns .rises),
+                × ((n : ℕ) → n < length parents → (weightOf weights w₁ n ≤ mostWatts) × (at w₁ n ≤ mostCords * mostWatts) × (overChildren parents (weightOf weights w₁) n ≤ at w₁ n)))
+            deal-nodes-asks = (
+              (enough (inv .before-size), inv .dealt-size ∙ sym (inv .before-size), ns .rises),
               (
-                (inv .cuts-size, enough (sums .bases-size), sums-fit .0),
-                (
-                  weighed .listed,
-                  (
-                    λ n l some. omega (
-                      arith,
-                      weight-most n l some,
-                      gather-asks parents (some-deal .limits) nodes (some-deal .levels) (some-deal .lows) starts wants lists level here listed of b w (sums .on-starts) (sums .on-weights) n l,
-                    ),
-                    (
-                      λ n l none. (sums .on-starts n l ∙ none-on (at starts) n none, inv .blank .blank n level l level-fits (rw ec at none)),
-                      inv .blank .full,
-                    ),
-                  ),
-                ),
+                weighed .listed,
+                λ n l.
+                    let r = room n l in
+                    let c = children-cong parents weight (weightOf weights w₁) n (length parents) weight-is in
+                    (omega (arith, r .1, weight-is n l), r .3, omega (arith, r .4)),
               ),
             )
 
-            module _ {requests₁ : List (List ℕ)} {cuts₁ b₁ amounts₁ : List ℕ} (requested : Requested parents level w₁ cuts b weights requests cuts₁ b₁ requests₁) (same : amounts₁ ≡ weights) where
-              abbrev g : Gathered parents level left cuts b w requests left₁ cuts₁ b₁ w₁ requests₁
-              g = gathered weighed requested
+            module _ {amounts before dealt : List ℕ} (by-weights : NodesDealt parents active count (weightOf weights w₁) w₁ amounts before dealt)
+                (wholes-size : length w₁ ≡ figuresLength) (amounts-size : length amounts ≡ figuresLength) (before-size : length before ≡ figuresLength) (dealt-size : length dealt ≡ figuresLength) where
+              abbrev nd : NodesDealt parents active count weight w₁ amounts before dealt
+              nd = dealt-again (λ h l. sym (weight-is h l)) by-weights
 
-              weight-is : (n : ℕ) → n < length parents → requestWeight requests₁ level b₁ n ≡ weightOf amounts₁ w₁ n
-              weight-is n l = weight-listed weighed requested n l ∙ ap (λ (list : List ℕ). weightOf list w₁ n) (sym same)
-
-              room : (n : ℕ) → n < length parents → (at b₁ n ≤ cell requests₁ n level) × (cell requests₁ n level ≤ mostWatts) × (requestWeight requests₁ level b₁ n ≤ at w₁ n)
-                  × (at w₁ n ≤ mostCords * mostWatts) × (overChildren parents (requestWeight requests₁ level b₁) n ≤ at w₁ n)
-              room =
-                  nodes-ask parents (some-deal .limits) nodes (some-deal .levels) (some-deal .lows) starts wants lists level here listed of b w (sums .on-starts) (sums .on-weights)
-                  requests₁ left₁ cuts₁ b₁ w₁ g
-
-              -- A node that is not active has no Request.
-              nodes-blank : (n : ℕ) → n < length parents → Absent active count n → cell requests₁ n level ≡ 0
-              nodes-blank n l none =
-                  let start : at b₁ n ≡ 0
-                  = requested .start n l ∙ beneath-none nodes-active (ns .rises) b (λ m h away. sums .on-starts m h ∙ none-on (at starts) m away) n l none in
-                  omega (arith, requested .request n l, weighed .listed .idle n l none)
-
-              -- What `deal_nodes` asks.
-              pub deal-nodes-asks : ((length parents ≤ length before₀) × (length dealt₀ ≡ length before₀) × ((m : ℕ) → m < length parents → at parents m ≤ m))
-                  × (WeightsListed parents active count w₁ amounts₁
-                  × ((n : ℕ) → n < length parents → (weightOf amounts₁ w₁ n ≤ mostWatts) × (at w₁ n ≤ mostCords * mostWatts) × (overChildren parents (weightOf amounts₁ w₁) n ≤ at w₁ n)))
-              deal-nodes-asks = (
-                (enough (inv .before-size), inv .dealt-size ∙ sym (inv .before-size), ns .rises),
+              -- What `deal_cords` asks.
+              pub deal-cords-asks : LevelCords (length amounts) listed nodes starts wants
+                  × (((length w₁ ≡ length amounts) × (length before ≡ length amounts) × (length dealt ≡ length amounts) × (length grants ≡ length nodes))
+                  × ((i n : ℕ) → i < length listed → at nodes (at listed i) ≡ suc n → (at amounts n ≤ mostWatts) × (at amounts n ≤ at w₁ n) × (at w₁ n ≤ mostCords * mostWatts)
+                  × (at dealt n ≡ at amounts n * at before n / at w₁ n)
+                  × (at before n + overListed listed nodes (cordWeight starts wants) n ≤ at w₁ n)))
+              deal-cords-asks = (
+                level-cords (enough amounts-size),
                 (
-                  subst (WeightsListed parents active count w₁) (sym same) (weighed .listed),
-                  λ n l.
-                      let r = room n l in
-                      let c = children-cong parents (requestWeight requests₁ level b₁) (weightOf amounts₁ w₁) n (length parents) weight-is in
-                      (omega (arith, r .1, weight-is n l), r .3, omega (arith, r .4)),
+                  (wholes-size ∙ sym amounts-size, before-size ∙ sym amounts-size, dealt-size ∙ sym amounts-size, inv .grants-size),
+                  cords-ask parents (some-deal .limits) nodes (some-deal .levels) (some-deal .lows) starts wants lists level here listed of b w (sums .on-nodes .on-starts) (sums .on-nodes .on-weights)
+                      requests₁ left₁ cuts₁ w₁ g active count nodes-active (cords-active (some-deal .limits) (some-deal .levels) (some-deal .lows) (some-deal .given)) amounts before dealt nd,
                 ),
               )
 
-              module _ {amounts before dealt : List ℕ} (by-weights : NodesDealt parents active count (weightOf amounts₁ w₁) w₁ amounts before dealt)
-                  (wholes-size : length w₁ ≡ length w) (amounts-size : length amounts ≡ length amounts₁) (before-size : length before ≡ length before₀) (dealt-size : length dealt ≡ length dealt₀) where
-                abbrev nd : NodesDealt parents active count (requestWeight requests₁ level b₁) w₁ amounts before dealt
-                nd = dealt-again (λ h l. sym (weight-is h l)) by-weights
-
-                sizes : (length w₁ ≡ figuresLength) × (length amounts ≡ figuresLength) × (length before ≡ figuresLength) × (length dealt ≡ figuresLength)
-                sizes = (
-                  wholes-size ∙ sums .wholes-size,
-                  amounts-size ∙ ap length same ∙ weights-size ∙ inv .amounts-size,
-                  before-size ∙ inv .before-size,
-                  dealt-size ∙ inv .dealt-size,
-                )
-
-                -- What `deal_cords` asks.
-                pub deal-cords-asks : LevelCords (length amounts) listed nodes starts wants
-                    × (((length w₁ ≡ length amounts) × (length before ≡ length amounts) × (length dealt ≡ length amounts) × (length grants ≡ length nodes))
-                    × ((i n : ℕ) → i < length listed → at nodes (at listed i) ≡ suc n → (at amounts n ≤ mostWatts) × (at amounts n ≤ at w₁ n) × (at w₁ n ≤ mostCords * mostWatts)
-                    × (at dealt n ≡ at amounts n * at before n / at w₁ n)
-                    × (at before n + overListed listed nodes (cordWeight starts wants) n ≤ at w₁ n)))
-                deal-cords-asks = (
-                  level-cords (enough (sizes .1)),
-                  (
-                    (sizes .0 ∙ sym (sizes .1), sizes .2 ∙ sym (sizes .1), sizes .3 ∙ sym (sizes .1), inv .grants-size),
-                    cords-ask parents (some-deal .limits) nodes (some-deal .levels) (some-deal .lows) starts wants lists level here listed of b w (sums .on-starts) (sums .on-weights)
-                        requests₁ left₁ cuts₁ b₁ w₁ g active count nodes-active (cords-active (some-deal .limits) (some-deal .levels) (some-deal .lows) (some-deal .given)) amounts before dealt nd,
-                  ),
-                )
-
-                module _ {grants₁ before₁ dealt₁ : List ℕ} (cd : CordsDealt listed nodes starts wants w₁ amounts before grants grants₁) where
-                  -- The next rank.
-                  pub loop-turn : length left₁ ≡ length left → length cuts₁ ≡ length cuts → length grants₁ ≡ length grants
-                      → length b₁ ≡ length b → length before₁ ≡ length before → length dealt₁ ≡ length dealt
-                      → RankLoop parents rows order actives nodes starts wants left₀ level left₁ cuts₁ requests₁ grants₁ b₁ w₁ amounts before₁ dealt₁
-                  loop-turn el eu eg eb ee ed = record {
-                    within = omega (arith, inv .within);
-                    left-size = el ∙ inv .left-size;
-                    cuts-size = eu ∙ inv .cuts-size;
-                    grants-size = eg ∙ inv .grants-size;
-                    bases-size = eb ∙ sums .bases-size;
-                    wholes-size = sizes .0;
-                    amounts-size = sizes .1;
-                    before-size = ee ∙ sizes .2;
-                    dealt-size = ed ∙ sizes .3;
-                    blank = record { full = requested .full; blank = λ n j h u absent. kept n j h u absent (eqb j level) refl };
-                    state = λ limits levels lows given.
-                        state-turn parents limits nodes levels lows starts wants (given .lists) level (at-level limits levels lows given) listed (listed-of limits levels lows given) b w
-                        (sums .on-starts) (sums .on-weights) requests₁ left₁ cuts₁ b₁ w₁ g active count nodes-active (cords-active limits levels lows given) amounts before dealt nd grants₁ cd;
-                  }
-                    where
-                      kept : (n j : ℕ) → n < length parents → j < highestRank → Absent (getD actives j []) (cell rows j countColumn) n → (t : Bool) → eqb j level ≡ t → cell requests₁ n j ≡ 0
-                      kept n j h u absent true e =
-                          let q = eqb-true j level e in
-                          rw q (nodes-blank n h (rw ec (rw q at absent)))
-                      kept n j h u absent false e = requested .others n j (eqb-false j level e) ∙ inv .blank .blank n j h u absent
+              module _ {grants₁ before₁ dealt₁ : List ℕ} (cd : CordsDealt listed nodes starts wants w₁ amounts before grants grants₁) where
+                -- The next rank.
+                pub loop-turn : length left₁ ≡ length left → length cuts₁ ≡ length cuts → length grants₁ ≡ length grants
+                    → length b₁ ≡ figuresLength → length before₁ ≡ figuresLength → length dealt₁ ≡ figuresLength
+                    → RankLoop parents rows order actives nodes starts wants left₀ level left₁ cuts₁ requests₁ grants₁ b₁ w₁ amounts before₁ dealt₁
+                loop-turn el eu eg eb ee ed = record {
+                  within = omega (arith, inv .within);
+                  left-size = el ∙ inv .left-size;
+                  cuts-size = eu ∙ inv .cuts-size;
+                  grants-size = eg ∙ inv .grants-size;
+                  bases-size = eb;
+                  bases-clear = requested .cleared;
+                  wholes-size = wholes-size;
+                  amounts-size = amounts-size;
+                  before-size = ee;
+                  dealt-size = ed;
+                  blank = record { full = requested .full; blank = λ n j h u absent. kept n j h u absent (eqb j level) refl };
+                  state = λ limits levels lows given.
+                      state-turn parents limits nodes levels lows starts wants (given .lists) level (at-level limits levels lows given) listed (listed-of limits levels lows given) b w
+                      (sums .on-nodes .on-starts) (sums .on-nodes .on-weights) requests₁ left₁ cuts₁ w₁ g active count nodes-active (cords-active limits levels lows given) amounts before dealt nd grants₁ cd;
+                }
+                  where
+                    kept : (n j : ℕ) → n < length parents → j < highestRank → Absent (getD actives j []) (cell rows j countColumn) n → (t : Bool) → eqb j level ≡ t → cell requests₁ n j ≡ 0
+                    kept n j h u absent true e =
+                        let q = eqb-true j level e in
+                        rw q (nodes-blank n h (rw ec (rw q at absent)))
+                    kept n j h u absent false e = requested .others n j (eqb-false j level e) ∙ inv .blank .blank n j h u absent
 
 -- Before the first rank.
 pub loop-start : {parents : List ℕ} {rows : List (List ℕ)} {order : List ℕ} {actives : List (List ℕ)} {nodes starts wants left cuts : List ℕ} {requests : List (List ℕ)}
     {grants bases wholes amounts before dealt : List ℕ} → SomeDeal parents rows order actives nodes starts wants left → Uncut (length parents) cuts → length grants ≡ length nodes
     → BlankRows (length parents) rows actives requests
-    → length bases ≡ figuresLength → length wholes ≡ figuresLength → length amounts ≡ figuresLength → length before ≡ figuresLength → length dealt ≡ figuresLength
+    → length bases ≡ figuresLength → ((n : ℕ) → n < length parents → at bases n ≡ 0) → length wholes ≡ figuresLength → length amounts ≡ figuresLength → length before ≡ figuresLength → length dealt ≡ figuresLength
     → RankLoop parents rows order actives nodes starts wants left highestRank left cuts requests grants bases wholes amounts before dealt
-loop-start {parents} {rows} {order} {actives} {nodes} {starts} {wants} {left} {cuts} {requests} {grants} deal uncut size blank sb sw sa se sd = record {
+loop-start {parents} {rows} {order} {actives} {nodes} {starts} {wants} {left} {cuts} {requests} {grants} deal uncut size blank sb zeros sw sa se sd = record {
   within = le-refl highestRank;
   left-size = deal .given .spared .size;
   cuts-size = uncut .size;
   grants-size = size;
   bases-size = sb;
+  bases-clear = zeros;
   wholes-size = sw;
   amounts-size = sa;
   before-size = se;

@@ -36,7 +36,7 @@ use Rattle.deals.proofs.Equations.{Dealt, weights, weights-are, pcapmin
 use Rattle.deals.proofs.Computed.{pcapmin, request, startsOf, amountOf, measured, dealt, granted-at, Startable}
 use Rattle.deals.proofs.Bounds.{asked-most, request-most}
 use Rattle.deals.proofs.Totals.{requestTotal-is, startsBelow-is}
-use Rattle.deals.proofs.NodeSums.{on-zero, kids-none}
+use Rattle.deals.proofs.NodeSums.{on-zero, beneathAll, kids-none}
 
 -- What is left before a level is what the limit has over the Requests of the higher ones and the starts of this one and the lower ones. The
 -- definition's bracket has Pcapmin, which is no more, in the place of the starts of the lower levels. Where the bracket counts, the
@@ -294,9 +294,13 @@ module _ (parents limits nodes levels lows starts wants : List ℕ) (lists : Dea
       pub gather-asks : (n : ℕ) → n < length parents → at left n + sumBeneath (at parents) (length parents) (at starts₀) n ≤ mostWatts
       gather-asks n l = omega (arith, starts-beneath n l, s .left-is n l, sum-suc j (base n), ns .most n l)
 
-      module _ (rows′ : List (List ℕ)) (left′ cuts′ bases wholes : List ℕ) (g : Gathered parents j left cuts starts₀ weights₀ rows₀ left′ cuts′ bases wholes rows′) where
-        bases-are : (n : ℕ) → n < length parents → at bases n ≡ base n j
-        bases-are n l = g .start n l ∙ starts-beneath n l
+      module _ (rows′ : List (List ℕ)) (left′ cuts′ wholes : List ℕ) (g : Gathered parents j left cuts starts₀ weights₀ rows₀ left′ cuts′ wholes rows′) where
+        -- The starts beneath each node.
+        abbrev bases : ℕ → ℕ
+        bases = beneathAll parents starts₀
+
+        bases-are : (n : ℕ) → n < length parents → bases n ≡ base n j
+        bases-are = starts-beneath
 
         -- The children's weights, once those of the child nodes are the deal's.
         whole-by : (n : ℕ) → n < length parents → ((m : ℕ) → m < length parents → n < m → cell rows′ m j ≡ req m j) → at wholes n ≡ weights theDeal base req n j
@@ -330,7 +334,7 @@ module _ (parents limits nodes levels lows starts wants : List ℕ) (lists : Dea
         children-is : (n m : ℕ) → m ≤ length parents → childrenBefore parents (requestWeight rows′ j bases) n m ≡ sum m (λ h. on (eqb (at parents h) (suc n)) (req h j - base h j))
         children-is n m h = sum-cong m _ _ (λ i l. ap (λ (z : ℕ). on (eqb (at parents i) (suc n)) z) (weight-is i (omega arith)))
 
-        pub nodes-ask : (n : ℕ) → n < length parents → (at bases n ≤ cell rows′ n j) × (cell rows′ n j ≤ mostWatts) × (requestWeight rows′ j bases n ≤ at wholes n)
+        pub nodes-ask : (n : ℕ) → n < length parents → (bases n ≤ cell rows′ n j) × (cell rows′ n j ≤ mostWatts) × (requestWeight rows′ j bases n ≤ at wholes n)
             × (at wholes n ≤ mostCords * mostWatts) × (overChildren parents (requestWeight rows′ j bases) n ≤ at wholes n)
         unfolding dealFrom request
         nodes-ask n l =

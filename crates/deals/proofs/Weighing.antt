@@ -17,21 +17,12 @@ use Rattle.rooms.proofs.Trees.{kids}
 use Rattle.figures.proofs.Credits.{credited-at, credited-length, figure-in-sum, sum-credited}
 use Rattle.rooms.proofs.Gather.{Holds, holds-start, holds-turn, holds-end, holds-whole}
 use Rattle.figures.specs.Figures.{at}
-use Rattle.deals.specs.Passes.{weightOf, WeightsListed, Weighed}
+use Rattle.deals.specs.Passes.{weightOf, WeightsListed, MayWeigh, Weighed}
 use Rattle.figures.specs.Places.{Absent, Present}
 use Rattle.deals.specs.Levels.{ActiveNodes}
 use Rattle.figures.proofs.Lists.{passed-down}
 use Rattle.deals.proofs.Active.{Parted, parted-none, parted-all, parted-at, parted-after, between}
-use Rattle.deals.proofs.NodeSums.{Rises, Fits, credited-nothing, kids-none}
-
--- What the pass starts from.
-pub record Given (parents active : List ℕ) (count : ℕ) (left own : List ℕ) (weights-length : ℕ) : Type 0 where
-  pub nodes : ActiveNodes parents active count
-  pub rises : Rises parents
-  pub left-size : length left ≡ length parents
-  pub own-fit : Fits parents own
-  pub weights-size : length parents ≤ weights-length
-  pub idle : (m : ℕ) → m < length parents → Absent active count m → at own m ≡ 0
+use Rattle.deals.proofs.NodeSums.{credited-nothing, kids-none}
 
 -- What the turn of the node at place m leaves.
 pub record Settled (active : List ℕ) (count : ℕ) (left₀ left wholes weights : List ℕ) (m : ℕ) : Type 0 where
@@ -42,7 +33,7 @@ pub record Settled (active : List ℕ) (count : ℕ) (left₀ left wholes weight
 
 -- Before the turn of the node at place n - 1: the nodes from n on have passed their weights on, and the others are as they were.
 pub record Weighing (parents active : List ℕ) (count : ℕ) (left₀ own : List ℕ) (weights-length n : ℕ) (left wholes weights : List ℕ) : Type 0 where
-  pub given : Given parents active count left₀ own weights-length
+  pub given : MayWeigh parents active count left₀ own weights-length
   pub done : ℕ
   pub all : n + done ≡ length parents
   pub held : Holds (length parents) (at parents) (at own) (weightOf left₀ wholes) done n (at wholes)
@@ -53,7 +44,7 @@ pub record Weighing (parents active : List ℕ) (count : ℕ) (left₀ own : Lis
   pub wholes-size : length wholes ≡ length own
   pub weights-size : length weights ≡ weights-length
 
-weighing-start : {parents active : List ℕ} {count : ℕ} {left own : List ℕ} (weights : List ℕ) → Given parents active count left own (length weights)
+pub weighing-start : {parents active : List ℕ} {count : ℕ} {left own : List ℕ} (weights : List ℕ) → MayWeigh parents active count left own (length weights)
     → Weighing parents active count left own (length weights) (length parents) left own weights
 weighing-start {parents} {left = left} {own = own} weights given =
     record {
@@ -161,19 +152,19 @@ pub record WeighTurn (parents active : List ℕ) (count : ℕ) (left₀ own : Li
   pub weighing : Weighing parents active count left₀ own weights-length n left wholes weights
 
 module _ {parents active : List ℕ} {count : ℕ} {left₀ own : List ℕ} where
-  pub weigh-start : {weights : List ℕ} → Given parents active count left₀ own (length weights)
+  pub weigh-start : {weights : List ℕ} → MayWeigh parents active count left₀ own (length weights)
       → WeighTurn parents active count left₀ own (length weights) count left₀ own weights
   weigh-start {weights} given = record { n = length parents; parted = parted-all (given .nodes); weighing = weighing-start weights given }
 
   module _ {weights-length i : ℕ} {left wholes weights : List ℕ} (t : WeighTurn parents active count left₀ own weights-length i left wholes weights) where
-    given : Given parents active count left₀ own weights-length
+    given : MayWeigh parents active count left₀ own weights-length
     given = t .weighing .given
 
     -- Before and after the turn of a node that is not active, the lists are the same.
     abbrev Same : ℕ → Type 0
     Same m = Weighing parents active count left₀ own weights-length m left wholes weights
 
-    passed : (m : ℕ) → Absent active count m → Same (suc m) → Same m
+    pub passed : (m : ℕ) → Absent active count m → Same (suc m) → Same m
     unfolding kids
     passed m none r =
         let l : m < length parents = omega (arith, r .all) in
@@ -244,16 +235,19 @@ module _ {parents active : List ℕ} {count : ℕ} {left₀ own : List ℕ} wher
       present : Present active count n
       present none = none (i - 1) (omega (arith, t .parted .reached)) (sym is)
 
-      pub weigh-turn : {rest v w u parent : ℕ} {wholes′ : List ℕ} → rest ≡ at left n → v ≡ min rest (at wholes n) → w ≡ rest - v → u ≡ v → parent ≡ at parents n
-          → wholes′ ≡ credited parent v wholes
-          → WeighTurn parents active count left₀ own weights-length (i - 1) (set left n w) wholes′ (set weights n u)
-      weigh-turn {v = v} {u = u} er ev ew eu ep es =
-          let stored : at (set weights n u) n ≡ v = getD-set-same weights n u 0 in-weights ∙ eu in
-          let is-v : v ≡ min (at left n) (at wholes n) = ev ∙ ap (λ (x : ℕ). min x (at wholes n)) er in
-          record {
-            n = n;
-            parted = rw (sym is) at (parted-at (given .nodes) (i - 1) (omega (arith, t .parted .reached)));
-            weighing = rw (ew, es, ep, er)
-                (turned n left wholes weights v (set weights n u) is-v (length-set weights n u) (λ m l. getD-set-other weights n m u 0 (λ e. omega arith))
-                (omega (arith, stored, is-v)) (λ _. omega (arith, stored, is-v)) (λ away. absurd (present away)) here);
-          }
+      pub parted-here : Parted active count (i - 1) n
+      parted-here = rw (sym is) at (parted-at (given .nodes) (i - 1) (omega (arith, t .parted .reached)))
+
+      pub weighed-here : {v u w parent : ℕ} {left′ wholes′ : List ℕ} → v ≡ min (at left n) (at wholes n) → left′ ≡ set left n (at left n - v) → u ≡ v → w ≡ v
+          → parent ≡ at parents n → wholes′ ≡ credited parent u wholes
+          → Weighing parents active count left₀ own weights-length n left′ wholes′ (set weights n w)
+      weighed-here {v} {u} {w} ev el eu ew ep es =
+          let stored : at (set weights n w) n ≡ v = getD-set-same weights n w 0 in-weights ∙ ew in
+          rw (el, es, ep, eu)
+          (turned n left wholes weights v (set weights n w) ev (length-set weights n w) (λ m l. getD-set-other weights n m w 0 (λ e. omega arith))
+          (omega (arith, stored)) (λ _. omega (arith, stored)) (λ away. absurd (present away)) here)
+
+      pub weigh-turn : {v u w parent : ℕ} {left′ wholes′ : List ℕ} → v ≡ min (at left n) (at wholes n) → left′ ≡ set left n (at left n - v) → u ≡ v → w ≡ v
+          → parent ≡ at parents n → wholes′ ≡ credited parent u wholes
+          → WeighTurn parents active count left₀ own weights-length (i - 1) left′ wholes′ (set weights n w)
+      weigh-turn ev el eu ew ep es = record { n = n; parted = parted-here; weighing = weighed-here ev el eu ew ep es }

@@ -38,6 +38,11 @@ overListed listed nodes figure n = listedBefore listed nodes figure n (length li
 abbrev pub cordWeight : List ℕ → List ℕ → ℕ → ℕ
 cordWeight starts wants c = at wants c - at starts c
 
+-- The starts and the weights of the listed cords are summed on their nodes.
+pub record CordsSummed (nodeCount : ℕ) (listed nodes starts wants bases wholes : List ℕ) : Type 0 where
+  pub on-starts : (n : ℕ) → n < nodeCount → at bases n ≡ overListed listed nodes (at starts) n
+  pub on-weights : (n : ℕ) → n < nodeCount → at wholes n ≡ overListed listed nodes (cordWeight starts wants) n
+
 -- A row for each place of a node, with a figure for each level.
 abbrev pub FullRows : List (List ℕ) → Type 0
 FullRows = Full mostNodes highestRank
@@ -68,6 +73,16 @@ pub record WeightsListed (parents active : List ℕ) (count : ℕ) (wholes weigh
   pub within : (n : ℕ) → n < length parents → Present active count n → at weights n ≤ at wholes n
   pub idle : (n : ℕ) → n < length parents → Absent active count n → at wholes n ≡ 0
 
+-- What the weights of a rank are gathered from: what is left of each limit, and the weights of the cords on each node, which together are
+-- no more than the most cords can weigh. On a node that is not active there are none.
+pub record MayWeigh (parents active : List ℕ) (count : ℕ) (left own : List ℕ) (weights-length : ℕ) : Type 0 where
+  pub nodes : ActiveNodes parents active count
+  pub rises : (m : ℕ) → m < length parents → at parents m ≤ m
+  pub left-size : length left ≡ length parents
+  pub own-fit : (length parents ≤ length own) × (sum (length parents) (at own) ≤ mostCords * mostWatts)
+  pub weights-size : length parents ≤ weights-length
+  pub idle : (n : ℕ) → n < length parents → Absent active count n → at own n ≡ 0
+
 -- From what is left of each limit over the Requests of higher ranks and the starts of this rank and those below, and the weights of the
 -- cords on each node: the children's weights at this rank, the active nodes' weights, and what is left for the next.
 pub record Weighed (parents active : List ℕ) (count : ℕ) (left own left′ wholes weights : List ℕ) : Type 0 where
@@ -76,14 +91,26 @@ pub record Weighed (parents active : List ℕ) (count : ℕ) (left own left′ w
   pub weights-are : (n : ℕ) → n < length parents → weightOf weights wholes n ≡ weightOf left wholes n
   pub listed : WeightsListed parents active count wholes weights
 
--- From the nodes' weights and the cords' starts on each node: the starts beneath, the Requests in their column of the rows, and the marks
--- of the cuts.
-pub record Requested (parents : List ℕ) (level : ℕ) (wholes cuts starts weights : List ℕ) (rows : List (List ℕ))
+-- What the Requests of a rank are made from, beside the weights: the starts of the cords on each node, which with what is left of a limit
+-- are in range. A node that is not active has none, and 0 in its row.
+pub record MayRequest (parents active : List ℕ) (count level : ℕ) (left cuts starts : List ℕ) (rows : List (List ℕ)) : Type 0 where
+  pub few : length parents ≤ mostNodes
+  pub ranked : level < highestRank
+  pub cuts-size : length cuts ≡ length parents
+  pub starts-fit : (length parents ≤ length starts) × (sum (length parents) (at starts) ≤ mostCords * mostWatts)
+  pub enough : (n : ℕ) → n < length parents → sumBeneath (at parents) (length parents) (at starts) n + at left n ≤ mostWatts
+  pub idle : (n : ℕ) → n < length parents → Absent active count n → (at starts n ≡ 0) × (cell rows n level ≡ 0)
+  pub full : FullRows rows
+
+-- From the nodes' weights and the cords' starts on each node: the Requests in their column of the rows, the marks of the cuts, and zeros
+-- for the next rank's starts.
+pub record Requested (parents : List ℕ) (level : ℕ) (left wholes cuts starts : List ℕ) (rows : List (List ℕ))
     (cuts′ starts′ : List ℕ) (rows′ : List (List ℕ)) : Type 0 where
-  pub start : (n : ℕ) → n < length parents → at starts′ n ≡ sumBeneath (at parents) (length parents) (at starts) n
-  pub request : (n : ℕ) → n < length parents → cell rows′ n level ≡ at starts′ n + weightOf weights wholes n
+  pub request : (n : ℕ) → n < length parents
+      → cell rows′ n level ≡ sumBeneath (at parents) (length parents) (at starts) n + weightOf left wholes n
   pub others : (n j : ℕ) → (j ≡ level → ⊥) → cell rows′ n j ≡ cell rows n j
-  pub cuts-are : (n : ℕ) → n < length parents → at cuts′ n ≡ cutMark (at cuts n) level (weightOf weights wholes n) (at wholes n)
+  pub cuts-are : (n : ℕ) → n < length parents → at cuts′ n ≡ cutMark (at cuts n) level (weightOf left wholes n) (at wholes n)
+  pub cleared : (n : ℕ) → n < length parents → at starts′ n ≡ 0
   pub full : FullRows rows′
 
 -- What each active node has to give, the weights of its child nodes, and what these were dealt together.

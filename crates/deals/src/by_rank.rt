@@ -11,15 +11,14 @@ use crate::dealing::deal_nodes;
 use crate::levels::COUNT;
 use crate::levels::FROM;
 use crate::levels::TO;
+use crate::metrics::add_cords;
 use crate::metrics::request;
-use crate::metrics::sum_cords;
-use crate::metrics::weigh;
 use figures::index;
 
 // The length of the lists with a rank's figure of each node: a little more than the most nodes. 512 figures of 64 bits fill a page, so
 // that such lists would start at the same place of their pages. The processor, which compares that place alone, would let a load from
 // one wait for a store to another.
-const FIGURES: usize = 520;
+pub const FIGURES: usize = 520;
 
 // The grants of a deal, rank by rank from the highest, over each rank's cords and active nodes, which `levels` lists. `left` comes with
 // what each limit has over all starts; before each rank it has what the Requests dealt and the starts to come leave, and in the end what
@@ -60,7 +59,7 @@ pub fn deal(
         let to = index(levels[level][TO]);
         if from < to {
             let count = index(levels[level][COUNT]);
-            sum_cords(
+            add_cords(
                 n,
                 &order[from..to],
                 nodes,
@@ -69,23 +68,16 @@ pub fn deal(
                 &mut bases,
                 &mut wholes,
             );
-            weigh(
-                parents,
-                &actives[level],
-                count,
-                left,
-                &mut wholes,
-                &mut amounts,
-            );
             request(
                 parents,
                 &actives[level],
                 count,
                 level,
-                &wholes,
+                left,
+                &mut wholes,
+                &mut amounts,
                 cuts,
                 &mut bases,
-                &mut amounts,
                 &mut requests,
             );
             deal_nodes(

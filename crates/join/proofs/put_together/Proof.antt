@@ -1,6 +1,6 @@
 -- `put_together` meets its contract: piece by piece behind the others.
-use mathlib.Core.Path.{_∙_, refl}
-use Prim.Native.Nat.{suc, _+_, _<_}
+use mathlib.Core.Path.{_∙_}
+use Prim.Native.Nat.{_<_}
 use native.Mathlib.Omega.{arith}
 use lib.ListN.{length, length-set}
 use Rattle.join.proofs.HutLaws.{hut-small, hut-below}

@@ -1,15 +1,14 @@
 -- What is kept of a good table, and what each answer of Join says of the outcome.
 use mathlib.Core.Path.{_≡_, refl, sym, ap, ap₂, _∙_, subst}
-use mathlib.Core.Bool.{Bool, true, false, not}
-use mathlib.Core.List.{List, [], _∷_, _++_, map, append-assoc}
-use Prim.Native.Nat.{ℕ, zero, suc, _+_, _-_, _*_, _/_, _^_, _≤_, _<_, min}
-use native.Mathlib.Nat.{suc-ne-zero, add-zero}
+use mathlib.Core.Bool.{Bool, not}
+use mathlib.Core.List.{List, _∷_, _++_, append-assoc}
+use Prim.Native.Nat.{ℕ, zero, suc, _+_, _-_, _/_, _≤_, _<_, min}
+use native.Mathlib.Nat.{suc-ne-zero}
 use native.Mathlib.Omega.{arith}
-use lib.ListN.{length, getD, take, drop, set, length-append, length-take, length-map}
+use lib.ListN.{length, take, drop, length-append}
 use lib.Seq.{sets, take-all, length-take-le, length-sets}
-use lib.Dec.{eqb, ltb}
 use borrow.Author.Tests.{eq-eqb, ne-eqb, lt-ltb, le-ltb}
-use Rattle.outcomes.specs.Outcome.{accepted, refused, unless, tooShort}
+use Rattle.outcomes.specs.Outcome.{accepted, refused, unless}
 use Rattle.outcomes.specs.Part.{whenGood}
 use Rattle.outcomes.proofs.Outcomes.{unless-stop, unless-pass, unless-none}
 use Rattle.figures.specs.Figures.{at}
@@ -28,19 +27,17 @@ use Rattle.rooms.specs.declared.Checked.{Checked}
 use Rattle.rooms.specs.declared.Checked.the-variants as checks
 use Rattle.rooms.proofs.Accepted as rooms
 use Rattle.rooms.proofs.Reach.{prefix-decides, length-is, length-small, words-small}
-use Rattle.join.specs.Joined.{raisedNode, raisedServer, joined}
-use Rattle.join.specs.Outcome.{JoinOutcome, JoinReason, reasons, joinRooms, joining, answerOf, joinNumber, joinFigure}
-use Rattle.join.specs.Pieces.{renumbered, renumberedEvery, renumberedCords, Put}
-use Rattle.join.specs.Huts.{hutOf, examinedStep, examined, HutOf, Small, MayPutTogether, JoinedInFront, written, InFront, writtenCount}
+use Rattle.join.specs.Joined.{joined}
+use Rattle.join.specs.Outcome.{JoinOutcome, JoinReason, reasons, joinRooms, joining}
+use Rattle.join.specs.Pieces.{renumbered, renumberedEvery, renumberedCords}
+use Rattle.join.specs.Huts.{hutOf, examinedStep, examined, HutOf, Small}
 use Rattle.join.specs.declared.Hut.{Hut}
 use Rattle.join.specs.declared.Examined.{Examined}
 use Rattle.join.specs.declared.Examined.the-variants as examineds
-use Rattle.join.specs.declared.JoinRefusal.{JoinRefusal}
 use Rattle.join.specs.declared.JoinRefusal.the-variants.{First, Second, VersionsDiffer, TooManyNodes, TooManyServers, TooManyCords, TableTooShort}
-use Rattle.join.specs.declared.JoinAnswer.{JoinAnswer}
-use Rattle.join.specs.declared.JoinAnswer.the-variants.{Accepted, Refused}
+use Rattle.join.specs.declared.JoinAnswer.the-variants.{Refused}
 use Rattle.join.proofs.JoinedRoom.{nodes-joined, servers-joined}
-use Rattle.join.proofs.TableWords.{row-append, words-are, middle-is, length-are, nodes-moved, servers-moved}
+use Rattle.join.proofs.TableWords.{row-append, length-are, nodes-moved, servers-moved}
 use Rattle.join.proofs.PieceLaws.{every-length, cords-length}
 
 -- ---- The check of a table

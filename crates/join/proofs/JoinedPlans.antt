@@ -1,5 +1,5 @@
 -- The plan of a joined room has the lists of the first room's plan followed by those of the second's.
-use mathlib.Core.Path.{_≡_, refl, sym, ap, ap₂, _∙_}
+use mathlib.Core.Path.{_≡_, sym, ap, _∙_}
 use mathlib.Core.List.{List, _++_, map}
 use Prim.Native.Nat.{ℕ, _+_, _<_, zero-le}
 use native.Mathlib.Nat.{add-zero}
@@ -17,7 +17,7 @@ use Rattle.rooms.proofs.Accepted.{Accepted}
 use Rattle.deals.specs.SecondDeal.{firstDeal, firstGrants, firstUsed, stranded, freed, secondGrants, caps}
 use Rattle.deals.specs.Headroom.{headroom}
 use Rattle.deals.specs.Held.{held}
-use Rattle.deals.specs.Plan.{Plan, planOf}
+use Rattle.deals.specs.Plan.{planOf}
 use Rattle.deals.proofs.BothDeals.{stranded-count}
 use Rattle.deals.proofs.RoomInside.{RoomInside, ServersIn, firstGrants-in, stranded-in, secondGrants-in, caps-in}
 use Rattle.deals.proofs.RoomInsideLists.{room-headroom-in, room-held-in}

@@ -4,15 +4,15 @@ use mathlib.Core.Path.{_≡_, refl, sym, ap, ap₂, _∙_, subst}
 use mathlib.Core.Bool.{Bool}
 use mathlib.Core.List.{List, [], _∷_, _++_, map}
 use Prim.Native.Nat.{ℕ, zero, suc, _+_, _-_, _≤_, _<_}
-use native.Mathlib.Nat.{le-refl, le-of-eq, add-zero, add-comm}
+use native.Mathlib.Nat.{add-zero}
 use native.Mathlib.Omega.{arith}
-use lib.ListN.{length, getD, length-map}
+use lib.ListN.{length, length-map}
 use lib.Dec.{eqb}
 use Rattle.figures.specs.Figures.{total}
 use Rattle.figures.specs.Sums.{on}
 use Rattle.figures.proofs.Sums.{sum-cong}
 use Rattle.rooms.specs.Part.{good}
-use Rattle.rooms.specs.Table.{raised, Node, Cord, Server, Room, formOf, mostNodes, mostServers, mostCords, cordCount, roomCords, shareOf, table}
+use Rattle.rooms.specs.Table.{raised, Node, Cord, Server, Room, formOf, mostNodes, mostServers, mostCords, roomCords, shareOf}
 use Rattle.rooms.specs.Limits.{limit, carried, nodeAt, parentOf, hangsBeneath, lowsBeneath, checked}
 use Rattle.rooms.specs.Cords.{cordAt, serverAt}
 use Rattle.rooms.specs.Promises.{IsNode, Within}
@@ -21,7 +21,7 @@ use Rattle.rooms.proofs.Accepted.{CordAccepted, ServerAccepted, Accepted}
 use Rattle.rooms.proofs.Cords.{lows-sum}
 use Rattle.rooms.proofs.Trees.{kids, own, below, below-step, under, under-is, kids-cong, down}
 use Rattle.rooms.specs.Words.{tableOf, NodeInRange}
-use Rattle.rooms.proofs.Tables.{Chain, RoomFits, Reads, table-reads}
+use Rattle.rooms.proofs.Tables.{Chain, RoomFits, table-reads}
 use Rattle.rooms.proofs.Words.{servers-fit}
 use Rattle.rooms.proofs.Promises.{refusal-nine}
 use Rattle.deals.specs.Metrics.{Deal}

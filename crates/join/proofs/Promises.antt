@@ -1,6 +1,5 @@
 -- The promises of `join`, each proved under its name.
 use mathlib.Core.Path.{_≡_, refl, sym, ap, ap₂, _∙_, subst}
-use mathlib.Core.Bool.{Bool, true, false, not, true≢false}
 use mathlib.Core.List.{List, _++_}
 use Prim.Native.Nat.{ℕ, _+_, _≤_}
 use native.Mathlib.Omega.{arith}
@@ -10,7 +9,7 @@ use Rattle.outcomes.specs.Outcome.{accepted, refused, unless}
 use Rattle.outcomes.proofs.Outcomes.{unless-back, unless-is}
 use Rattle.figures.specs.Figures.{at}
 use Rattle.rooms.specs.Part.{good}
-use Rattle.rooms.specs.Table.{Room, mostNodes, mostServers, mostCords, formOf, roomCords}
+use Rattle.rooms.specs.Table.{Room}
 use Rattle.rooms.specs.Limits.{checked}
 use Rattle.rooms.specs.Words.{tableOf}
 use Rattle.rooms.proofs.Accepted.{Accepted}
@@ -18,19 +17,19 @@ use Rattle.rooms.proofs.Accepted as rooms
 use Rattle.rooms.proofs.Whole.{checked-is}
 use Rattle.rooms.proofs.Tables.{RoomFits, table-fits}
 use Rattle.rooms.proofs.Reach.{next-is-length}
-use Rattle.deals.specs.Plan.{Plan, planOf, firstTooLarge, planRoom, plan}
+use Rattle.deals.specs.Plan.{Plan, firstTooLarge, planRoom, plan}
 use Rattle.deals.specs.declared.Lengths.{Lengths}
 use Rattle.deals.specs.declared.PlanRefusal.the-variants.{DemandCount, DemandTooLarge}
 use Rattle.deals.proofs.Plans.{plan-good-table, planRoom-accepted}
 use Rattle.join.specs.Joined.{joined, joinedPlan}
-use Rattle.join.specs.Outcome.{joining, reasons}
-use Rattle.join.specs.Promises.{AcceptedJoin, JoinedTable, JoinGivesRoom, Ample, PlansJoined, JoinPlansBoth, FirstGrantsJoin}
+use Rattle.join.specs.Outcome.{reasons}
+use Rattle.join.specs.Promises.{AcceptedJoin, JoinGivesRoom, Ample, JoinPlansBoth, FirstGrantsJoin}
 use Rattle.join.specs.Huts.{hutOf, HutOf}
 use Rattle.join.proofs.JoinedRoom.{servers-joined}
 use Rattle.join.proofs.JoinedTable.{MayJoin, joined-checked}
 use Rattle.join.proofs.JoinedPlans.{firstGrants-joined, plan-joined}
 use Rattle.join.proofs.HutLaws.{both-good}
-use Rattle.join.proofs.Demands.{first-in-first, first-in-second, same-count, DemandsFit, accepted-demands, TooLarge, too-large-back, too-large-told, count-told, ample-told}
+use Rattle.join.proofs.Demands.{first-in-first, first-in-second, same-count, accepted-demands, too-large-back, too-large-told, count-told, ample-told}
 
 module _ (j : AcceptedJoin) where
   abbrev f : List ℕ

@@ -1,15 +1,15 @@
 -- The joined table put together in a list, and what is written and told.
 use mathlib.Core.Path.{_≡_, refl, sym, ap, ap₂, _∙_, subst}
-use mathlib.Core.Bool.{Bool, true, false, not}
-use mathlib.Core.List.{List, [], _∷_, _++_, append-assoc, append-nil}
-use Prim.Native.Nat.{ℕ, zero, suc, _+_, _-_, _*_, _/_, _≤_, _<_}
+use mathlib.Core.Bool.{Bool, true, false}
+use mathlib.Core.List.{List, [], _∷_, _++_}
+use Prim.Native.Nat.{ℕ, suc, _+_, _-_, _*_, _/_, _≤_, _<_}
 use native.Mathlib.Nat.{suc-ne-zero}
 use native.Mathlib.Omega.{arith}
-use lib.ListN.{length, take, drop, set, length-take, length-set}
+use lib.ListN.{length, take, set, length-take, length-set}
 use lib.Seq.{sets, take-all}
 use borrow.Author.Tests.{ltb-false}
 use Rattle.outcomes.specs.Outcome.{accepted, refused, unless, after}
-use Rattle.outcomes.proofs.Outcomes.{accepted≢refused, unless-back, unless-is, unless-none, unless-either}
+use Rattle.outcomes.proofs.Outcomes.{unless-back, unless-is, unless-none, unless-either}
 use Rattle.figures.specs.Figures.{at}
 use Rattle.words.specs.Bytes.{wordsOf, bytesOf}
 use Rattle.words.proofs.Bytes.{length-wordsOf}
@@ -19,7 +19,6 @@ use Rattle.rooms.specs.Part.{Step, good, bad}
 use Rattle.rooms.specs.Table.{Room, mostNodes, mostServers, mostCords, mostWords, formOf, nodeWords, roomCords}
 use Rattle.rooms.specs.Limits.{checked}
 use Rattle.rooms.specs.Words.{tableOf, rowWords, wordsOfNode}
-use Rattle.rooms.specs.Walk.{serversIndex}
 use Rattle.rooms.proofs.Accepted as rooms
 use Rattle.rooms.proofs.Reach.{length-is}
 use Rattle.join.specs.Joined.{joined}
@@ -32,7 +31,7 @@ use Rattle.join.specs.declared.JoinRefusal.{JoinRefusal}
 use Rattle.join.specs.declared.JoinAnswer.{JoinAnswer}
 use Rattle.join.specs.declared.JoinAnswer.the-variants.{Accepted, Refused}
 use Rattle.join.proofs.TableWords.{middle-is, length-are, nodes-piece, servers-piece}
-use Rattle.join.proofs.PieceLaws.{every-length, cords-length, piece-length, put-word, put-both}
+use Rattle.join.proofs.PieceLaws.{every-length, piece-length, put-word, put-both}
 use Rattle.join.proofs.HutLaws.{first-bad, second-bad, both-good, joined-words}
 use Rattle.join.proofs.Demands.{same-count}
 

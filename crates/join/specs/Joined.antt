@@ -1,5 +1,5 @@
 -- Two rooms joined, and the plan of both as one.
-use mathlib.Core.List.{List, _++_, map}
+use mathlib.Core.List.{_++_, map}
 use Prim.Native.Nat.{ℕ, _+_}
 use lib.ListN.{length}
 use Rattle.rooms.specs.Table.{raised, Node, Cord, Server, Room}

@@ -61,12 +61,6 @@ pub enum Examined {
     Refused(Refusal),
 }
 
-const MOST_NODES: usize = 512;
-
-const MOST_SERVERS: usize = 512;
-
-const MOST_CORDS: usize = 1024;
-
 impl JoinRefusal {
     // The refusal's number.
     pub fn number(self) -> u64
@@ -123,7 +117,8 @@ impl JoinAnswer {
 
 // Join, called from C: the joined table at the front of the bytes lent for it, and the answer in its buffer.
 pub fn join(first: &[u8], second: &[u8], table: &mut [u8], answer: &mut [u8]) -> u32
-    ensures call { λ r. ⌜ JoinCall (now (first .entry)) (now (second .entry)) (now (table .entry)) (now (answer .entry)) r (now (table .exit)) (now (answer .exit)) ⌝ }
+    ensures call { λ r. ⌜ JoinCall (now (first .entry)) (now (second .entry)) (now (table .entry)) (now (answer .entry))
+        r (now (table .exit)) (now (answer .exit)) ⌝ }
 {
     let mut words = [0u32; DECIDING_WORDS];
     join_by(first, second, &mut words, table, answer)
@@ -137,8 +132,9 @@ fn join_by(
     table: &mut [u8],
     answer: &mut [u8],
 ) -> u32
-    requires { ⌜ suc mostWords ≤ length (now words) ⌝ }
-    ensures call { λ r. ⌜ JoinCall (now (first .entry)) (now (second .entry)) (now (table .entry)) (now (answer .entry)) r (now (table .exit)) (now (answer .exit)) ⌝ }
+    requires deciding { ⌜ suc mostWords ≤ length (now words) ⌝ }
+    ensures call { λ r. ⌜ JoinCall (now (first .entry)) (now (second .entry)) (now (table .entry)) (now (answer .entry))
+        r (now (table .exit)) (now (answer .exit)) ⌝ }
 {
     if answer.len() < ANSWER_BYTES {
         return 0;
@@ -152,7 +148,7 @@ fn join_by(
 
 // The answer on two tables whose joined one is to go to a list of `space` words. An accepted one stands at the front of `words`.
 fn join_words(first: &[u8], second: &[u8], words: &mut [u32], space: usize) -> JoinAnswer
-    requires { ⌜ suc mostWords ≤ length (now words) ⌝ }
+    requires deciding { ⌜ suc mostWords ≤ length (now words) ⌝ }
     ensures answers { λ r. ⌜ r ≡ answerOf (joining (wordsOf (now (first .entry))) (wordsOf (now (second .entry))) space) ⌝ }
     ensures writes { λ _. ⌜ InFront (joining (wordsOf (now (first .entry))) (wordsOf (now (second .entry))) space) (now (words .exit)) ⌝ }
 {
@@ -176,7 +172,7 @@ fn join_words(first: &[u8], second: &[u8], words: &mut [u32], space: usize) -> J
 
 // The check of a table in bytes, by way of a list that takes its words.
 fn examine_bytes(bytes: &[u8], words: &mut [u32]) -> Examined
-    requires { ⌜ suc mostWords ≤ length (now words) ⌝ }
+    requires deciding { ⌜ suc mostWords ≤ length (now words) ⌝ }
     ensures is { λ r. ⌜ r ≡ examined (wordsOf (now (bytes .entry))) ⌝ }
 {
     let count = words::load(bytes, words);
@@ -204,19 +200,19 @@ pub fn examine(table: &[u32]) -> Examined
 
 // The checks of two good tables together, in their order, for a list of `space` words.
 fn admit(one: Hut, two: Hut, space: usize) -> JoinAnswer
-    requires { ⌜ Small one × Small two ⌝ }
+    requires small { ⌜ Small one × Small two ⌝ }
     ensures answers { λ r. ⌜ ((f s : List ℕ) → HutOf f one → HutOf s two → r ≡ answerOf (joining f s space)) ⌝ }
 {
     if one.version != two.version {
         return JoinAnswer::Refused(JoinRefusal::VersionsDiffer);
     }
-    if MOST_NODES < one.nodes + two.nodes {
+    if rooms::MOST_NODES < one.nodes + two.nodes {
         return JoinAnswer::Refused(JoinRefusal::TooManyNodes);
     }
-    if MOST_SERVERS < one.servers + two.servers {
+    if rooms::MOST_SERVERS < one.servers + two.servers {
         return JoinAnswer::Refused(JoinRefusal::TooManyServers);
     }
-    if MOST_CORDS < one.cords + two.cords {
+    if rooms::MOST_CORDS < one.cords + two.cords {
         return JoinAnswer::Refused(JoinRefusal::TooManyCords);
     }
     let words = one.words + two.words - 3;
@@ -229,7 +225,7 @@ fn admit(one: Hut, two: Hut, space: usize) -> JoinAnswer
 // The joined table, put together at the front of `words`: the nodes of both, then the servers of both, with the second's numbers of
 // nodes raised.
 fn put_together(first: &[u8], one: Hut, second: &[u8], two: Hut, words: &mut [u32])
-    requires { ⌜ MayPutTogether (wordsOf (now first)) one (wordsOf (now second)) two (length (now words)) ⌝ }
+    requires may_put { ⌜ MayPutTogether (wordsOf (now first)) one (wordsOf (now second)) two (length (now words)) ⌝ }
     ensures writes { λ _. ⌜ JoinedInFront (wordsOf (now (first .entry))) (wordsOf (now (second .entry))) (now (words .exit)) ⌝ }
 {
     let width = node_width(one.version);

@@ -19,7 +19,7 @@ pub fn node_width(version: u32) -> usize
 
 // The number of a node, moved up by some and down by others; 0, which is no node, stays 0.
 fn renumbered(number: u32, up: u32, down: u32) -> u32
-    requires { ⌜ (number < 2 ^ 31) × (up < 2 ^ 31) ⌝ }
+    requires fits { ⌜ (number < 2 ^ 31) × (up < 2 ^ 31) ⌝ }
     ensures is { λ r. ⌜ r ≡ renumbered up down number ⌝ }
 {
     if number == 0 {
@@ -31,7 +31,7 @@ fn renumbered(number: u32, up: u32, down: u32) -> u32
 
 // Every word that is a multiple of `width` from the first is renumbered: the parents of nodes.
 fn renumber_every(words: &mut [u32], width: usize, up: u32, down: u32)
-    requires { ⌜ (1 ≤ width) × (width ≤ 3) × (up < 2 ^ 31) × AllBelow (2 ^ 31) (now words) ⌝ }
+    requires fits { ⌜ (1 ≤ width) × (width ≤ 3) × (up < 2 ^ 31) × AllBelow (2 ^ 31) (now words) ⌝ }
     ensures is { λ _. ⌜ now (words .exit) ≡ renumberedEvery (width - 1) up down 0 (now (words .entry)) ⌝ }
 {
     let mut i = 0;
@@ -43,7 +43,7 @@ fn renumber_every(words: &mut [u32], width: usize, up: u32, down: u32)
 
 // The nodes of cords are renumbered, in the words of servers with their cords.
 fn renumber_cords(words: &mut [u32], up: u32, down: u32)
-    requires { ⌜ (up < 2 ^ 31) × AllBelow (2 ^ 31) (now words) ⌝ }
+    requires fits { ⌜ (up < 2 ^ 31) × AllBelow (2 ^ 31) (now words) ⌝ }
     ensures is { λ _. ⌜ now (words .exit) ≡ renumberedCords up down 0 (now (words .entry)) ⌝ }
 {
     let mut i = 0;
@@ -62,7 +62,7 @@ fn renumber_cords(words: &mut [u32], up: u32, down: u32)
 
 // The count of cords of the server whose words start at i; 0 where they are not all there.
 pub fn count_at(words: &[u32], i: usize) -> usize
-    requires { ⌜ i < length (now words) ⌝ }
+    requires there { ⌜ i < length (now words) ⌝ }
     ensures is { λ r. ⌜ r ≡ getD (now (words .entry)) (i + 3) 0 ⌝ }
 {
     if words.len() - i < 4 {
@@ -73,7 +73,7 @@ pub fn count_at(words: &[u32], i: usize) -> usize
 
 // The words of some bytes, from one index to another, at a place of the list; the place behind them.
 pub fn put_words(bytes: &[u8], from: usize, to: usize, words: &mut [u32], at: usize) -> usize
-    requires { ⌜ MayPut (now bytes) from to (now words) at ⌝ }
+    requires may_put { ⌜ MayPut (now bytes) from to (now words) at ⌝ }
     ensures put { λ r. ⌜ Put (now (words .entry)) at (piece from to (wordsOf (now (bytes .entry)))) (now (words .exit)) r ⌝ }
 {
     let end = at + (to - from);
@@ -92,9 +92,10 @@ pub fn put_nodes(
     words: &mut [u32],
     at: usize,
 ) -> usize
-    requires { ⌜ MayPut (now bytes) from to (now words) at ⌝ }
-    requires { ⌜ (1 ≤ width) × (width ≤ 3) × (up < 2 ^ 31) × AllBelow (2 ^ 31) (wordsOf (now bytes)) ⌝ }
-    ensures put { λ r. ⌜ Put (now (words .entry)) at (renumberedEvery (width - 1) up down 0 (piece from to (wordsOf (now (bytes .entry))))) (now (words .exit)) r ⌝ }
+    requires may_put { ⌜ MayPut (now bytes) from to (now words) at ⌝ }
+    requires fits { ⌜ (1 ≤ width) × (width ≤ 3) × (up < 2 ^ 31) × AllBelow (2 ^ 31) (wordsOf (now bytes)) ⌝ }
+    ensures put { λ r. ⌜ Put (now (words .entry)) at (renumberedEvery (width - 1) up down 0 (piece from to (wordsOf (now (bytes .entry)))))
+        (now (words .exit)) r ⌝ }
 {
     let end = put_words(bytes, from, to, words, at);
     renumber_every(&mut words[at..end], width, up, down);
@@ -111,9 +112,10 @@ pub fn put_servers(
     words: &mut [u32],
     at: usize,
 ) -> usize
-    requires { ⌜ MayPut (now bytes) from to (now words) at ⌝ }
-    requires { ⌜ (up < 2 ^ 31) × AllBelow (2 ^ 31) (wordsOf (now bytes)) ⌝ }
-    ensures put { λ r. ⌜ Put (now (words .entry)) at (renumberedCords up down 0 (piece from to (wordsOf (now (bytes .entry))))) (now (words .exit)) r ⌝ }
+    requires may_put { ⌜ MayPut (now bytes) from to (now words) at ⌝ }
+    requires fits { ⌜ (up < 2 ^ 31) × AllBelow (2 ^ 31) (wordsOf (now bytes)) ⌝ }
+    ensures put { λ r. ⌜ Put (now (words .entry)) at (renumberedCords up down 0 (piece from to (wordsOf (now (bytes .entry)))))
+        (now (words .exit)) r ⌝ }
 {
     let end = put_words(bytes, from, to, words, at);
     renumber_cords(&mut words[at..end], up, down);

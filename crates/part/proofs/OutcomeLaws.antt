@@ -1,8 +1,8 @@
 -- What each answer of Part says of the outcome.
 use mathlib.Core.Path.{_≡_, refl, sym, ap, ap₂, _∙_, subst}
-use mathlib.Core.Bool.{Bool, true, false, not, _&&_}
-use mathlib.Core.List.{List, [], _∷_}
-use Prim.Native.Nat.{ℕ, suc, _+_, _-_, _^_, _≤_, _<_}
+use mathlib.Core.Bool.{Bool, not, _&&_}
+use mathlib.Core.List.{List}
+use Prim.Native.Nat.{ℕ, suc, _-_, _≤_, _<_}
 use native.Mathlib.Omega.{arith}
 use lib.ListN.{length, take, drop}
 use lib.Seq.{take-all}
@@ -18,7 +18,7 @@ use Rattle.rooms.specs.Limits.{checked}
 use Rattle.rooms.specs.Rows.{OfRoom}
 use Rattle.rooms.specs.declared.Refusal.{Refusal}
 use Rattle.rooms.proofs.Reach.{prefix-decides, length-small}
-use Rattle.join.specs.Huts.{hutOf, examined, HutOf}
+use Rattle.join.specs.Huts.{examined, HutOf}
 use Rattle.join.specs.declared.Hut.{Hut}
 use Rattle.join.specs.declared.Examined.{Examined}
 use Rattle.join.specs.declared.Examined.the-variants as examineds

@@ -1,9 +1,9 @@
 -- Both parts of a good room are good, where no link crosses the cut: no check of a part can fail.
 use mathlib.Core.Path.{_≡_, refl, sym, ap, ap₂, _∙_, subst}
 use mathlib.Core.Bool.{Bool}
-use mathlib.Core.List.{List, [], _∷_, _++_, map}
-use mathlib.Core.Logic.{_⊎_, inl, inr}
-use Prim.Native.Nat.{ℕ, zero, suc, _+_, _-_, _≤_, _<_, zero-le}
+use mathlib.Core.List.{List, [], _∷_, map}
+use mathlib.Core.Logic.{inl, inr}
+use Prim.Native.Nat.{ℕ, zero, suc, _+_, _-_, _≤_, _<_}
 use native.Mathlib.Nat.{add-zero, not-suc-le-zero, le-of-suc-le-suc}
 use native.Mathlib.Omega.{arith}
 use lib.ListN.{length, getD, take, drop, take-append-drop, length-drop, length-map}
@@ -11,15 +11,15 @@ use lib.Seq.{length-take-le}
 use Rattle.figures.specs.Figures.{total}
 use Rattle.figures.proofs.Lists.{total-append}
 use Rattle.rooms.specs.Part.{good}
-use Rattle.rooms.specs.Table.{Node, Cord, Server, Room, formOf, mostCords, cordCount, roomCords, shareOf}
-use Rattle.rooms.specs.Limits.{limit, nodeAt, parentOf, lowsBeneath, checked}
-use Rattle.rooms.specs.Cords.{RoomCord, cordAt, serverAt}
+use Rattle.rooms.specs.Table.{Node, Cord, Server, Room, cordCount, roomCords, shareOf}
+use Rattle.rooms.specs.Limits.{limit, nodeAt, lowsBeneath, checked}
+use Rattle.rooms.specs.Cords.{cordAt, serverAt}
 use Rattle.rooms.specs.Promises.{IsNode, Within}
 use Rattle.rooms.proofs.All.{All, all-at}
 use Rattle.rooms.proofs.Accepted.{CordAccepted, ServerAccepted, Accepted}
 use Rattle.rooms.proofs.Cords.{cordsOf-all}
-use Rattle.rooms.specs.Words.{tableOf, NodeInRange}
-use Rattle.rooms.proofs.Tables.{Chain, ServerFits, RoomFits, Reads, table-reads}
+use Rattle.rooms.specs.Words.{tableOf}
+use Rattle.rooms.proofs.Tables.{Chain, RoomFits, table-reads}
 use Rattle.rooms.proofs.Words.{servers-fit, servers-all}
 use Rattle.rooms.proofs.Promises.{refusal-nine}
 use Rattle.join.specs.Joined.{joined}

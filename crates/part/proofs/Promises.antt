@@ -2,11 +2,11 @@
 use mathlib.Core.Path.{_≡_, refl, sym, ap, ap₂, _∙_, subst}
 use mathlib.Core.Bool.{Bool, true, false, not, _&&_, true≢false}
 use mathlib.Core.List.{List, [], _∷_, map}
-use mathlib.Core.Logic.{_⊎_, inl, inr}
+use mathlib.Core.Logic.{inl, inr}
 use Prim.Native.Nat.{ℕ, zero, suc, _+_, _-_, _≤_, _<_}
 use native.Mathlib.Nat.{le-refl}
 use native.Mathlib.Omega.{arith}
-use lib.ListN.{length, getD, take, drop, length-drop}
+use lib.ListN.{length, take, drop, length-drop}
 use lib.Seq.{length-take-le, getD-take, getD-drop, take-append-seam, drop-append-seam}
 use lib.Dec.{leb}
 use borrow.Author.Tests.{ltb-false, le-ltb, leb-true}
@@ -14,7 +14,7 @@ use Rattle.outcomes.specs.Outcome.{accepted, unless}
 use Rattle.outcomes.proofs.Outcomes.{unless-back, unless-is}
 use Rattle.figures.specs.Figures.{at}
 use Rattle.rooms.specs.Part.{good, within}
-use Rattle.rooms.specs.Table.{raised, Node, Cord, Server, Room, formOf, cordCount, roomCords}
+use Rattle.rooms.specs.Table.{raised, Node, Cord, Room, formOf, cordCount, roomCords}
 use Rattle.rooms.specs.Limits.{checked}
 use Rattle.rooms.specs.Words.{tableOf}
 use Rattle.rooms.specs.Cords.{serverAt}
@@ -22,7 +22,7 @@ use Rattle.rooms.proofs.All.{All, all-at, all-from}
 use Rattle.rooms.proofs.Accepted.{CordAccepted, ServerAccepted, Accepted}
 use Rattle.rooms.proofs.Accepted as rooms
 use Rattle.rooms.proofs.Whole.{checked-is}
-use Rattle.rooms.proofs.Tables.{RoomFits, table-fits}
+use Rattle.rooms.proofs.Tables.{table-fits}
 use Rattle.rooms.proofs.Reach.{next-is-length}
 use Rattle.deals.specs.Plan.{plan}
 use Rattle.join.specs.Joined.{raisedNode, raisedCord, raisedServer, joined, joinedPlan}
@@ -37,7 +37,7 @@ use Rattle.join.proofs.Promises.{join-gives-room, join-plans-both}
 use Rattle.part.specs.Parted.{front, back, Behind, cordOf, Uncrossed}
 use Rattle.part.specs.Crossing.{crossing}
 use Rattle.part.specs.Outcome.{Parts, partsOf, reasons}
-use Rattle.part.specs.Promises.{PartsOfJoined, JoinedParts, Cut, GoodParts, PartsAreGood, AcceptedPart, PartsGiven, PartGivesParts, PartsJoined, PartPlansBoth}
+use Rattle.part.specs.Promises.{PartsOfJoined, JoinedParts, Cut, GoodParts, PartsAreGood, AcceptedPart, PartGivesParts, PartsJoined, PartPlansBoth}
 use Rattle.part.proofs.PartLaws.{BackWhole, parted-front, parted-back, joined-again}
 use Rattle.part.proofs.PartTables.{FrontCords, BackCords, front-checked, back-checked}
 use Rattle.part.proofs.OutcomeLaws.{table-good, both-fit}

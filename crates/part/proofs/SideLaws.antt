@@ -1,7 +1,7 @@
 -- Both sides of a cut in the words of a good table: their tables are those of the parts, and the first word across is found in them.
-use mathlib.Core.Path.{_≡_, refl, sym, ap, ap₂, _∙_, subst}
+use mathlib.Core.Path.{_≡_, refl, sym, ap, ap₂, _∙_}
 use mathlib.Core.Bool.{Bool, true, false, cond}
-use mathlib.Core.List.{List, [], _∷_, _++_, map}
+use mathlib.Core.List.{List, [], _∷_, _++_}
 use Prim.Native.Nat.{ℕ, zero, suc, _+_, _-_, _*_, _≤_, _<_}
 use native.Mathlib.Omega.{arith}
 use lib.ListN.{length, getD, take, drop, take-append-drop, length-append, length-drop, length-map}
@@ -19,7 +19,7 @@ use Rattle.join.proofs.TableWords.{row-append, nodes-length, middle-is, length-
 use Rattle.join.proofs.PieceLaws.{every-length, cords-length, piece-length}
 use Rattle.part.specs.Parted.{front, back}
 use Rattle.part.specs.Crossing.{across, orElse, parentAcross, cordAcross, serverAcross, nodesBehind, serversStart, serversBehind, crossing}
-use Rattle.part.specs.Sides.{everyAcross, cordsAcross, serverSpan, span, sideBefore, sideBehind, sideTable, SideFits, sideWords, firstAcross}
+use Rattle.part.specs.Sides.{everyAcross, cordsAcross, span, sideBefore, sideBehind, sideTable, SideFits, sideWords, firstAcross}
 use Rattle.part.specs.declared.Side.{Side}
 use Rattle.part.proofs.PartLaws.{map-same}
 use Rattle.part.proofs.AcrossLaws.{piece-drop}

@@ -12,7 +12,7 @@ use Rattle.words.specs.Bytes.{wordsOf, bytesOf}
 use Rattle.words.proofs.Bytes.{length-wordsOf, take-loaded}
 use Rattle.calls.specs.Call.{answered}
 use Rattle.calls.proofs.Calls.{two-of-three, answer-told, call-done}
-use Rattle.rooms.specs.Table.{Room, mostWords, formOf, nodeWords}
+use Rattle.rooms.specs.Table.{mostWords, formOf, nodeWords}
 use Rattle.rooms.specs.Words.{rowWords, wordsOfNode}
 use Rattle.rooms.specs.Rows.{OfRoom}
 use Rattle.rooms.proofs.Accepted as rooms
@@ -23,7 +23,7 @@ use Rattle.join.specs.declared.Hut.{Hut}
 use Rattle.join.proofs.TableWords.{middle-is, length-are}
 use Rattle.join.proofs.PieceLaws.{put-word, put-both}
 use Rattle.join.proofs.Together.{ends-nodes}
-use Rattle.part.specs.Crossing.{orElse, nodesBehind, serversStart}
+use Rattle.part.specs.Crossing.{orElse, serversStart}
 use Rattle.part.specs.Outcome.{PartOutcome, parting, partRefusalNumber, partRefusalPlace, partNumbers}
 use Rattle.part.specs.Call.{OutcomeCall}
 use Rattle.part.specs.Sides.{everyAcross, cordsAcross, span, sideBefore, sideTable, SideFits, sideWords, firstAcross, Halved, Admits}

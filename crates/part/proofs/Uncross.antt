@@ -1,15 +1,15 @@
 -- No word across the cut is found just where no link crosses it.
-use mathlib.Core.Path.{_≡_, refl, sym, ap, ap₂, _∙_, subst}
+use mathlib.Core.Path.{_≡_, refl, sym, ap, _∙_, subst}
 use mathlib.Core.Bool.{Bool, true, false, cond, _&&_}
-use mathlib.Core.List.{List, [], _∷_, _++_, map}
-use mathlib.Core.Logic.{_⊎_, inl, inr}
+use mathlib.Core.List.{List, [], _∷_}
+use mathlib.Core.Logic.{inl, inr}
 use Prim.Native.Nat.{ℕ, zero, suc, _+_, _-_, _≤_, _<_}
 use native.Mathlib.Omega.{arith}
 use lib.ListN.{length, getD, take, drop, length-drop}
 use lib.Seq.{length-take-le, getD-take, getD-drop}
-use lib.Dec.{leb, ltb}
-use borrow.Author.Tests.{ltb-false, le-ltb, leb-false, lt-leb, le-leb}
-use Rattle.rooms.specs.Table.{raised, Node, Cord, Server, Room, formOf, nodeWords, cordCount}
+use lib.Dec.{leb}
+use borrow.Author.Tests.{ltb-false, leb-false, lt-leb, le-leb}
+use Rattle.rooms.specs.Table.{Node, Cord, Server, Room, formOf, nodeWords, cordCount}
 use Rattle.rooms.specs.Limits.{parentOf}
 use Rattle.rooms.specs.Cords.{serverAt}
 use Rattle.rooms.specs.Words.{wordsOfServer}

@@ -3,7 +3,7 @@ use mathlib.Core.Path.{_≡_}
 use mathlib.Core.Bool.{Bool, true, false, cond}
 use mathlib.Core.List.{List, [], _∷_, _++_}
 use Prim.Native.Nat.{ℕ, zero, suc, _+_, _-_, _*_, _^_, _≤_, _<_}
-use lib.ListN.{length, getD, take, drop}
+use lib.ListN.{length, getD, drop}
 use Rattle.outcomes.specs.Outcome.{accepted, refused}
 use Rattle.figures.specs.Bounds.{AllBelow}
 use Rattle.rooms.specs.Table.{Room, mostWords, formOf, nodeWords}

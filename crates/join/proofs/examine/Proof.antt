@@ -1,5 +1,5 @@
 -- `examine` meets its contract: what is told of a good table is kept.
-use Rattle.join.proofs.HutLaws.{GoodTable, good-told, refused-told, good-long, good-examined}
+use Rattle.join.proofs.HutLaws.{good-told, refused-told, good-long, good-examined}
 use borrow.Author.Needs.{needs}
 use Rattle.join.proofs.examine.Statement.{statement}
 use Rattle.join.proofs.examine.Tie as tie

@@ -1,5 +1,4 @@
 -- `join_words` meets its contract: one law for each of its answers.
-use native.Mathlib.Omega.{arith}
 use Prim.Native.Nat.{suc, _≤_}
 use lib.ListN.{length}
 use Rattle.rooms.specs.Table.{mostWords}

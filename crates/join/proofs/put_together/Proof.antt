@@ -1,6 +1,7 @@
 -- `put_together` meets its contract: piece by piece behind the others.
-use mathlib.Core.Path.{_∙_, refl}
-use Prim.Native.Nat.{suc, _+_, _<_}
+use mathlib.Core.Path.{_≡_, _∙_}
+use mathlib.Core.List.{List}
+use Prim.Native.Nat.{ℕ, _+_, _-_, _<_}
 use native.Mathlib.Omega.{arith}
 use lib.ListN.{length, length-set}
 use Rattle.join.proofs.HutLaws.{hut-small, hut-below}
@@ -9,158 +10,169 @@ use borrow.Author.Needs.{needs}
 use Rattle.join.proofs.put_together.Statement.{statement}
 use Rattle.join.proofs.put_together.Tie as tie
 
+-- ---- The steps back, from each call that puts a piece to the one before it
+
+abbrev sliced : tie.After-struct-known → tie.After-shared-slice-known2
+sliced c = c .before .before .before .before
+
+abbrev start : tie.After-struct-known → tie.Start
+start c = sliced c .before .before
+
+abbrev counted : tie.After-put-words → tie.After-index-word2
+counted c = c .before .before
+
+abbrev known : tie.After-put-words → tie.After-struct-known
+known c = counted c .before .before
+
+abbrev nodes-one : tie.After-put-nodes → tie.After-put-words
+nodes-one c = c .before .before .before .before
+
+abbrev nodes-two : tie.After-struct-known4 → tie.After-put-nodes
+nodes-two c = c .before .before .before .before
+
+abbrev numbered : tie.After-put-words2 → tie.After-index-word3
+numbered c = c .before .before .before
+
+abbrev between : tie.After-put-words2 → tie.After-struct-known4
+between c = numbered c .before
+
+abbrev servers-one : tie.After-put-servers-arg → tie.After-put-words2
+servers-one c = c .before .before .before .before
+
+abbrev begun : tie.After-put-nodes → tie.Start
+begun c = start (known (nodes-one c))
+
+-- ---- What the pieces leave
+
+-- The list behind the nodes of both, and behind the servers of the first.
+abbrev list-two : tie.After-put-nodes → List ℕ
+list-two c = c .put-nodes .last .1 .1 .1 .1 .1 .1 .0
+
+abbrev list-three : tie.After-put-words2 → List ℕ
+list-three c = c .put-words2 .last .1 .1 .1 .0
+
+-- Where the nodes of the first end, and those of both.
+abbrev behind : (c : tie.After-put-words) → c .put-words .result ≡ start (known c) .args .one .middle
+behind c = behind-is _ _ (start (known c) .pre) (c .put-words .ensures)
+
+abbrev middle : (c : tie.After-put-nodes) → c .put-nodes .result ≡ begun c .args .one .middle + (begun c .args .two .middle - 2)
+middle c = between-is _ _ (begun c .pre) _ _ (behind (nodes-one c)) (c .put-nodes .ensures)
+
+-- The list is as long as it was.
+abbrev size-one : (c : tie.After-put-words) → length (c .put-words .last .1 .1 .1 .0) ≡ length (start (known c) .args .words .now)
+size-one c =
+    let args = start (known c) .args in
+    c .put-words .ensures .size ∙ head-length (args .words .now) (args .one .version) (counted c .index-word2 .result)
+
+abbrev size-two : (c : tie.After-put-nodes) → length (list-two c) ≡ length (begun c .args .words .now)
+size-two c = c .put-nodes .ensures .size ∙ size-one (nodes-one c)
+
+abbrev size-three : (c : tie.After-put-words2) → length (list-three c) ≡ length (begun (nodes-two (between c)) .args .words .now)
+size-three c =
+    let two = nodes-two (between c) in
+    c .put-words2 .ensures .size ∙ length-set (list-two two) (two .put-nodes .result) (numbered c .index-word3 .result) ∙ size-two two
+
+-- There is space for the count of servers.
+abbrev room-left : (c : tie.After-put-nodes) → c .put-nodes .result < length (list-two c)
+room-left c =
+    let pre = begun c .pre in
+    omega (arith, middle c, fits-one _ _ pre .inner, fits-two _ _ pre .two, fits-two _ _ pre .inner, pre .space, size-two c)
+
+-- ---- The needs
+
 node-width-requires : tie.Need-node-width-requires
 node-width-requires c κs = search needs
 
 index-word-requires : tie.Need-index-word-requires
 index-word-requires c κs = omega (arith, fits-one _ _ (c .before .before .before .before .pre) .nodes)
 
--- Earlier steps, each seen from a later one.
-abbrev start-from-shared-slice-known2 : tie.After-shared-slice-known2 → tie.Start
-start-from-shared-slice-known2 c = c .before .before
-
-abbrev shared-slice-known2-from-struct-known : tie.After-struct-known → tie.After-shared-slice-known2
-shared-slice-known2-from-struct-known c = c .before .before .before .before
-
-abbrev shared-slice-known2-from-put-words : tie.After-put-words → tie.After-shared-slice-known2
-shared-slice-known2-from-put-words c = shared-slice-known2-from-struct-known (c .before .before .before .before)
-
-abbrev shared-slice-known2-from-put-nodes : tie.After-put-nodes → tie.After-shared-slice-known2
-shared-slice-known2-from-put-nodes c = shared-slice-known2-from-put-words (c .before .before .before .before)
-
-abbrev shared-slice-known2-from-struct-known4 : tie.After-struct-known4 → tie.After-shared-slice-known2
-shared-slice-known2-from-struct-known4 c = shared-slice-known2-from-put-nodes (c .before .before .before .before)
-
-abbrev shared-slice-known2-from-put-words2 : tie.After-put-words2 → tie.After-shared-slice-known2
-shared-slice-known2-from-put-words2 c = shared-slice-known2-from-struct-known4 (c .before .before .before .before)
-
-abbrev shared-slice-known2-from-put-servers-arg : tie.After-put-servers-arg → tie.After-shared-slice-known2
-shared-slice-known2-from-put-servers-arg c = shared-slice-known2-from-put-words2 (c .before .before .before .before)
-
-abbrev struct-known-from-put-words : tie.After-put-words → tie.After-struct-known
-struct-known-from-put-words c = c .before .before .before .before
-
-abbrev struct-known-from-put-nodes : tie.After-put-nodes → tie.After-struct-known
-struct-known-from-put-nodes c = struct-known-from-put-words (c .before .before .before .before)
-
-abbrev struct-known-from-struct-known4 : tie.After-struct-known4 → tie.After-struct-known
-struct-known-from-struct-known4 c = struct-known-from-put-nodes (c .before .before .before .before)
-
-abbrev struct-known-from-put-words2 : tie.After-put-words2 → tie.After-struct-known
-struct-known-from-put-words2 c = struct-known-from-struct-known4 (c .before .before .before .before)
-
-abbrev struct-known-from-put-servers-arg : tie.After-put-servers-arg → tie.After-struct-known
-struct-known-from-put-servers-arg c = struct-known-from-put-words2 (c .before .before .before .before)
-
-abbrev index-word2-from-put-words : tie.After-put-words → tie.After-index-word2
-index-word2-from-put-words c = c .before .before
-
-abbrev put-words-from-put-nodes : tie.After-put-nodes → tie.After-put-words
-put-words-from-put-nodes c = c .before .before .before .before
-
-abbrev put-words-from-struct-known4 : tie.After-struct-known4 → tie.After-put-words
-put-words-from-struct-known4 c = put-words-from-put-nodes (c .before .before .before .before)
-
-abbrev put-words-from-put-words2 : tie.After-put-words2 → tie.After-put-words
-put-words-from-put-words2 c = put-words-from-struct-known4 (c .before .before .before .before)
-
-abbrev put-words-from-put-servers-arg : tie.After-put-servers-arg → tie.After-put-words
-put-words-from-put-servers-arg c = put-words-from-put-words2 (c .before .before .before .before)
-
-abbrev put-nodes-from-struct-known4 : tie.After-struct-known4 → tie.After-put-nodes
-put-nodes-from-struct-known4 c = c .before .before .before .before
-
-abbrev put-nodes-from-put-words2 : tie.After-put-words2 → tie.After-put-nodes
-put-nodes-from-put-words2 c = put-nodes-from-struct-known4 (c .before .before .before .before)
-
-abbrev put-nodes-from-put-servers-arg : tie.After-put-servers-arg → tie.After-put-nodes
-put-nodes-from-put-servers-arg c = put-nodes-from-put-words2 (c .before .before .before .before)
-
-abbrev put-words2-from-put-servers-arg : tie.After-put-servers-arg → tie.After-put-words2
-put-words2-from-put-servers-arg c = c .before .before .before .before
-
 slice-write-words : tie.Need-slice-write-words
-slice-write-words c = let space = has-space _ _ (start-from-shared-slice-known2 (c .before .before .before) .pre) in omega (arith, space .0, space .1, space .2)
+slice-write-words c = let space = has-space _ _ (c .before .before .before .before .before .pre) in omega (arith, space .0, space .1, space .2)
 
 add-index-word : tie.Need-add-index-word
-add-index-word c = omega (arith, fits-one _ _ (shared-slice-known2-from-struct-known (c .before) .before .before .pre) .nodes, fits-two _ _ (shared-slice-known2-from-struct-known (c .before) .before .before .pre) .nodes)
+add-index-word c = let pre = start (c .before) .pre in omega (arith, fits-one _ _ pre .nodes, fits-two _ _ pre .nodes)
 
 index-word-requires-2 : tie.Need-index-word-requires-2
-index-word-requires-2 c κs = omega (arith, fits-one _ _ (shared-slice-known2-from-struct-known (c .before) .before .before .pre) .nodes, fits-two _ _ (shared-slice-known2-from-struct-known (c .before) .before .before .pre) .nodes)
+index-word-requires-2 c κs = let pre = start (c .before) .pre in omega (arith, fits-one _ _ pre .nodes, fits-two _ _ pre .nodes)
 
 slice-write-words-2 : tie.Need-slice-write-words-2
 slice-write-words-2 c =
-    let space = has-space _ _ (shared-slice-known2-from-struct-known (c .before .before) .before .before .pre) in
-    let there : 1 < length (shared-slice-known2-from-struct-known (c .before .before) .before .before .args .words .now) = omega (arith, space .0, space .1, space .2) in
+    let begin = start (c .before .before) in
+    let space = has-space _ _ (begin .pre) in
+    let there : 1 < length (begin .args .words .now) = omega (arith, space .0, space .1, space .2) in
     simp length-set (search needs)
 
 put-words-requires : tie.Need-put-words-requires
-put-words-requires c κs = may-nodes-one _ _ (shared-slice-known2-from-struct-known (c .before .before .before) .before .before .pre) _ (head-length (shared-slice-known2-from-struct-known (c .before .before .before) .before .before .args .words .now) (shared-slice-known2-from-struct-known (c .before .before .before) .before .before .args .one .version) (c .before .index-word2 .result))
+put-words-requires c κs =
+    let begin = start (c .before .before .before) in
+    may-nodes-one _ _ (begin .pre) _ (head-length (begin .args .words .now) (begin .args .one .version) (c .before .index-word2 .result))
 
 put-nodes-requires : tie.Need-put-nodes-requires
 put-nodes-requires c κs =
-    let pre = shared-slice-known2-from-put-words (c .before .before .before) .before .before .pre in
-    let width = struct-known-from-put-words (c .before .before .before) .before .before .node-width .ensures in (
-      may-nodes-two _ _ pre _ (c .before .before .before .put-words .ensures .size ∙ head-length (shared-slice-known2-from-put-words (c .before .before .before) .before .before .args .words .now) (shared-slice-known2-from-put-words (c .before .before .before) .before .before .args .one .version) (index-word2-from-put-words (c .before .before .before) .index-word2 .result)) (behind-is _ _ pre (c .before .before .before .put-words .ensures)),
-      (omega (arith, width .1), width .2, omega (arith, struct-known-from-put-words (c .before .before .before) .before .index-word .ensures, fits-one _ _ pre .nodes), hut-below (pre .second)),
+    let one = c .before .before .before in
+    let pre = start (known one) .pre in
+    let width = known one .before .before .node-width .ensures in (
+      may-nodes-two _ _ pre _ (size-one one) (behind one),
+      (omega (arith, width .1), width .2, omega (arith, known one .before .index-word .ensures, fits-one _ _ pre .nodes), hut-below (pre .second)),
     )
 
 add-index-word-2 : tie.Need-add-index-word-2
-add-index-word-2 c = omega (arith, fits-one _ _ (shared-slice-known2-from-struct-known4 c .before .before .pre) .servers, fits-two _ _ (shared-slice-known2-from-struct-known4 c .before .before .pre) .servers)
+add-index-word-2 c = let pre = begun (nodes-two c) .pre in omega (arith, fits-one _ _ pre .servers, fits-two _ _ pre .servers)
 
 index-word-requires-3 : tie.Need-index-word-requires-3
-index-word-requires-3 c κs = omega (arith, fits-one _ _ (shared-slice-known2-from-struct-known4 c .before .before .pre) .servers, fits-two _ _ (shared-slice-known2-from-struct-known4 c .before .before .pre) .servers)
+index-word-requires-3 c κs = let pre = begun (nodes-two c) .pre in omega (arith, fits-one _ _ pre .servers, fits-two _ _ pre .servers)
 
 mul-words : tie.Need-mul-words
 mul-words c =
-    let pre = shared-slice-known2-from-struct-known4 (c .before) .before .before .pre in
-    omega (arith, between-is _ _ pre _ _ (behind-is _ _ pre (put-words-from-struct-known4 (c .before) .put-words .ensures)) (put-nodes-from-struct-known4 (c .before) .put-nodes .ensures), fits-one _ _ pre .inner, fits-two _ _ pre .inner, hut-small (pre .first) .words .1, hut-small (pre .second) .words .1)
+    let two = nodes-two (c .before) in
+    let pre = begun two .pre in
+    omega (arith, middle two, fits-one _ _ pre .inner, fits-two _ _ pre .inner, hut-small (pre .first) .words .1, hut-small (pre .second) .words .1)
 
 slice-write-words-3 : tie.Need-slice-write-words-3
-slice-write-words-3 c =
-    let pre = shared-slice-known2-from-struct-known4 (c .before) .before .before .pre in
-    let put = put-words-from-struct-known4 (c .before) .put-words .ensures in
-    omega (arith, between-is _ _ pre _ _ (behind-is _ _ pre put) (put-nodes-from-struct-known4 (c .before) .put-nodes .ensures), fits-one _ _ pre .inner, fits-two _ _ pre .two, fits-two _ _ pre .inner, pre .space, put-nodes-from-struct-known4 (c .before) .put-nodes .ensures .size ∙ put .size ∙ head-length (shared-slice-known2-from-struct-known4 (c .before) .before .before .args .words .now) (shared-slice-known2-from-struct-known4 (c .before) .before .before .args .one .version) (put-words-from-struct-known4 (c .before) .before .before .index-word2 .result))
+slice-write-words-3 c = room-left (nodes-two (c .before))
 
 add-put-words : tie.Need-add-put-words
-add-put-words c = let pre = shared-slice-known2-from-struct-known4 (c .before .before) .before .before .pre in omega (arith, fits-one _ _ pre .inner, hut-small (pre .first) .words .1)
+add-put-words c = let pre = begun (nodes-two (c .before .before)) .pre in omega (arith, fits-one _ _ pre .inner, hut-small (pre .first) .words .1)
 
 add-put-words-2 : tie.Need-add-put-words-2
 add-put-words-2 c =
-    let pre = shared-slice-known2-from-struct-known4 (c .before .before .before) .before .before .pre in
-    omega (arith, between-is _ _ pre _ _ (behind-is _ _ pre (put-words-from-struct-known4 (c .before .before .before) .put-words .ensures)) (put-nodes-from-struct-known4 (c .before .before .before) .put-nodes .ensures), fits-one _ _ pre .inner, fits-two _ _ pre .inner, hut-small (pre .first) .words .1, hut-small (pre .second) .words .1)
+    let two = nodes-two (c .before .before .before) in
+    let pre = begun two .pre in
+    omega (arith, middle two, fits-one _ _ pre .inner, fits-two _ _ pre .inner, hut-small (pre .first) .words .1, hut-small (pre .second) .words .1)
 
 put-words-requires-2 : tie.Need-put-words-requires-2
 put-words-requires-2 c κs =
-    let pre = shared-slice-known2-from-struct-known4 (c .before .before .before) .before .before .pre in
-    let put = put-words-from-struct-known4 (c .before .before .before) .put-words .ensures in
-    may-servers-one _ _ pre _ (length-set (put-nodes-from-struct-known4 (c .before .before .before) .put-nodes .last .1 .1 .1 .1 .1 .1 .0) (put-nodes-from-struct-known4 (c .before .before .before) .put-nodes .result) (c .before .before .index-word3 .result) ∙ put-nodes-from-struct-known4 (c .before .before .before) .put-nodes .ensures .size ∙ put .size ∙ head-length (shared-slice-known2-from-struct-known4 (c .before .before .before) .before .before .args .words .now) (shared-slice-known2-from-struct-known4 (c .before .before .before) .before .before .args .one .version) (put-words-from-struct-known4 (c .before .before .before) .before .before .index-word2 .result)) (omega (arith, between-is _ _ pre _ _ (behind-is _ _ pre put) (put-nodes-from-struct-known4 (c .before .before .before) .put-nodes .ensures)))
+    let two = nodes-two (c .before .before .before) in
+    may-servers-one _ _ (begun two .pre) _ (length-set (list-two two) (two .put-nodes .result) (c .before .before .index-word3 .result) ∙ size-two two) (omega (arith, middle two))
 
 add-put-servers : tie.Need-add-put-servers
-add-put-servers c = let pre = shared-slice-known2-from-put-words2 (c .before .before .before) .before .before .pre in omega (arith, fits-two _ _ pre .inner, hut-small (pre .second) .words .1)
+add-put-servers c =
+    let pre = begun (nodes-two (between (c .before .before .before))) .pre in
+    omega (arith, fits-two _ _ pre .inner, hut-small (pre .second) .words .1)
 
 put-servers-requires : tie.Need-put-servers-requires
 put-servers-requires c κs =
-    let pre = shared-slice-known2-from-put-servers-arg c .before .before .pre in
-    let put = put-words-from-put-servers-arg c .put-words .ensures in
-    let more = c .before .before .before .before .put-words2 .ensures in (
-      may-servers-two _ _ pre _ (more .size ∙ length-set (put-nodes-from-put-servers-arg c .put-nodes .last .1 .1 .1 .1 .1 .1 .0) (put-nodes-from-put-servers-arg c .put-nodes .result) (put-words2-from-put-servers-arg c .before .before .before .index-word3 .result) ∙ put-nodes-from-put-servers-arg c .put-nodes .ensures .size ∙ put .size ∙ head-length (shared-slice-known2-from-put-servers-arg c .before .before .args .words .now) (shared-slice-known2-from-put-servers-arg c .before .before .args .one .version) (put-words-from-put-servers-arg c .before .before .index-word2 .result)) (omega (arith, next-is _ _ pre more, between-is _ _ pre _ _ (behind-is _ _ pre put) (put-nodes-from-put-servers-arg c .put-nodes .ensures))),
-      (omega (arith, struct-known-from-put-servers-arg c .before .index-word .ensures, fits-one _ _ pre .nodes), hut-below (pre .second)),
+    let three = servers-one c in
+    let two = nodes-two (between three) in
+    let pre = begun two .pre in (
+      may-servers-two _ _ pre _ (size-three three) (omega (arith, next-is _ _ pre (three .put-words2 .ensures), middle two)),
+      (omega (arith, known (nodes-one two) .before .index-word .ensures, fits-one _ _ pre .nodes), hut-below (pre .second)),
     )
 
 same-length : tie.Need-same-length
-same-length c = c .before .before .put-servers .ensures .size ∙ put-words2-from-put-servers-arg (c .before .before .before) .put-words2 .ensures .size ∙ length-set (put-nodes-from-put-servers-arg (c .before .before .before) .put-nodes .last .1 .1 .1 .1 .1 .1 .0) (put-nodes-from-put-servers-arg (c .before .before .before) .put-nodes .result) (put-words2-from-put-servers-arg (c .before .before .before) .before .before .before .index-word3 .result) ∙ put-nodes-from-put-servers-arg (c .before .before .before) .put-nodes .ensures .size ∙ put-words-from-put-servers-arg (c .before .before .before) .put-words .ensures .size ∙ head-length (shared-slice-known2-from-put-servers-arg (c .before .before .before) .before .before .args .words .now) (shared-slice-known2-from-put-servers-arg (c .before .before .before) .before .before .args .one .version) (put-words-from-put-servers-arg (c .before .before .before) .before .before .index-word2 .result)
+same-length c = c .before .before .put-servers .ensures .size ∙ size-three (servers-one (c .before .before .before))
 
 returns : tie.Need-returns
 returns c =
-    let pre = shared-slice-known2-from-put-servers-arg (c .before .before .before) .before .before .pre in
-    let put = put-words-from-put-servers-arg (c .before .before .before) .put-words .ensures in
-    let space = has-space _ _ pre in
-    together _ _ pre (struct-known-from-put-servers-arg (c .before .before .before) .before .before .node-width .ensures .0) (struct-known-from-put-servers-arg (c .before .before .before) .before .index-word .ensures) (put-words-from-put-servers-arg (c .before .before .before) .before .before .index-word2 .ensures) (put-words2-from-put-servers-arg (c .before .before .before) .before .before .before .index-word3 .ensures)
-    (shared-slice-known2-from-put-servers-arg (c .before .before .before) .before .before .args .words .now) (put-nodes-from-put-servers-arg (c .before .before .before) .put-nodes .last .1 .1 .1 .1 .1 .1 .0) (put-nodes-from-put-servers-arg (c .before .before .before) .put-nodes .result)
-    (omega (arith, space .0, space .1, space .2))
-    (omega (arith, between-is _ _ pre _ _ (behind-is _ _ pre put) (put-nodes-from-put-servers-arg (c .before .before .before) .put-nodes .ensures), fits-one _ _ pre .inner, fits-two _ _ pre .two, fits-two _ _ pre .inner, pre .space, put-nodes-from-put-servers-arg (c .before .before .before) .put-nodes .ensures .size ∙ put .size ∙ head-length (shared-slice-known2-from-put-servers-arg (c .before .before .before) .before .before .args .words .now) (shared-slice-known2-from-put-servers-arg (c .before .before .before) .before .before .args .one .version) (put-words-from-put-servers-arg (c .before .before .before) .before .before .index-word2 .result)))
-    put (put-nodes-from-put-servers-arg (c .before .before .before) .put-nodes .ensures) (put-words2-from-put-servers-arg (c .before .before .before) .put-words2 .ensures) (c .before .before .put-servers .ensures)
+    let three = servers-one (c .before .before .before) in
+    let two = nodes-two (between three) in
+    let one = nodes-one two in
+    let begin = begun two in
+    let space = has-space _ _ (begin .pre) in
+    together _ _ (begin .pre) (known one .before .before .node-width .ensures .0) (known one .before .index-word .ensures)
+    (counted one .index-word2 .ensures) (numbered three .index-word3 .ensures)
+    (begin .args .words .now) (list-two two) (two .put-nodes .result) (omega (arith, space .0, space .1, space .2)) (room-left two)
+    (one .put-words .ensures) (two .put-nodes .ensures) (three .put-words2 .ensures) (c .before .before .put-servers .ensures)
 
 pub put-together-spec : {M : Type 1} → statement M
 put-together-spec =

@@ -1,7 +1,6 @@
 -- `admit_cut` meets its contract: one law for each of its answers.
 use native.Mathlib.Omega.{arith}
 use Rattle.part.proofs.OutcomeLaws.{words-fit, one-within, one-fits, two-fits, crossing-is, first-long, second-long, link-across, first-short, second-short, halved}
-use borrow.Author.Needs.{needs}
 use Rattle.part.proofs.admit_cut.Statement.{statement}
 use Rattle.part.proofs.admit_cut.Tie as tie
 

@@ -1,5 +1,5 @@
 -- `cord_across` meets its contract: no cord before i is across, and what stands behind starts with the cords that are left.
-use mathlib.Core.Path.{_≡_, refl, _∙_, sym}
+use mathlib.Core.Path.{_≡_, refl, _∙_}
 use Prim.Native.Nat.{_-_}
 use native.Mathlib.Omega.{arith}
 use borrow.Author.Needs.{needs}

@@ -1,7 +1,6 @@
 -- `server_span` meets its contract: a server that is not there has no words.
 use mathlib.Core.Path.{refl}
 use Prim.Native.Nat.{_+_, _<_}
-use lib.ListN.{getD}
 use native.Mathlib.Omega.{arith}
 use borrow.Author.Needs.{needs}
 use Rattle.part.proofs.AcrossLaws.{span-past, span-here}

@@ -18,7 +18,8 @@ use Rattle.layout.specs.declared.room.Counts.{Counts}
 -- ---- Both deals
 
 -- The lists are those of a room, with given demands, the numbers of its cords' nodes, and its scale. Of the ceilings nothing is asked.
-pub record RoomToDeal (r : Room) (demands parents spare : List ℕ) (cords : List (List ℕ)) (nodes lows wants needed : List ℕ) (scale : ℕ) : Type 0 where
+pub record RoomToDeal (r : Room) (demands parents spare : List ℕ) (cords : List (List ℕ)) (nodes lows wants needed : List ℕ)
+    (scale : ℕ) : Type 0 where
   pub lists : RoomLists r demands parents spare cords lows wants (lending.ceilingsOf r) needed
   pub nodes-are : nodes ≡ nodesOf r
   pub scale-is : scale ≡ r .scale
@@ -50,7 +51,8 @@ pub record PlanMade (r : Room) (demands : List ℕ) (watts : ℕ) (grants caps h
   pub held-are : held ≡ holding.held r demands
 
 -- The lists of a room, loaded, and its counts: `headroom` has the cords' ceilings, and `caps` the servers' needs.
-pub record PlanGiven (table demands : List ℕ) (r : Room) (counts : Counts) (parents spare : List ℕ) (cords : List (List ℕ)) (lows wants headroom caps : List ℕ) : Type 0 where
+pub record PlanGiven (table demands : List ℕ) (r : Room) (counts : Counts) (parents spare : List ℕ) (cords : List (List ℕ))
+    (lows wants headroom caps : List ℕ) : Type 0 where
   pub end : ℕ
   pub is : checked table 0 ≡ good r end
   pub counted : counts ≡ countsOf r

@@ -21,7 +21,8 @@ use plan_reclaim::usable_of;
 
 // Both deals, in turn: the first starts from the cords' lows, the second from the watts in use after it. Gives the watts freed between
 // them. `left` comes with what each limit has over the lows beneath it, and leaves with what it has over the second deal's Requests;
-// `wants` and `cuts` end as those of the second deal, and `caps` come with the servers' needs. The first deal's marks of cuts are not used.
+// `wants` and `cuts` end as those of the second deal, and `caps` come with the servers' needs. What the first deal leaves of the limits,
+// and its marks of cuts, are not used.
 fn deal_twice(
     parents: &[u16],
     cords: &[[u16; 4]],
@@ -62,13 +63,12 @@ fn deal_twice(
         nodes,
         lows,
         wants,
-        left,
+        &mut spare[..n],
         &mut marks[..n],
         grants,
     );
     usable_of(cords, grants, &mut usable[..v], scale);
     let freed = reclaim(cords, &usable[..v], grants, &mut used[..k], wants, scale);
-    figures::copy(&spare[..n], left);
     raise_starts(parents, nodes, lows, &used[..k], left);
     deal(
         parents,

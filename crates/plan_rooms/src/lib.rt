@@ -7,6 +7,7 @@ ghost use lib.ListN.{length};
 ghost use Rattle.rooms.specs.Part.{good};
 ghost use Rattle.rooms.specs.Table.{Room};
 ghost use Rattle.rooms.specs.Limits.{checked};
+ghost use Rattle.plan_rooms.specs.Outputs.{lists};
 ghost use Rattle.plan_rooms.specs.Planning.{RoomToDeal, SomeRoom, DealtTwice, PlanGiven, SomePlan, PlanLeft};
 ghost use Rattle.deals.specs.Ranks.{Uncut};
 use deals::by_rank::deal;
@@ -105,8 +106,8 @@ pub fn plan_loaded(
     requires space { ⌜ (counts .cords ≤ length (now grants)) × (counts .cords ≤ length (now held)) ⌝ }
     ensures planned { λ freed. ⌜ ((table demands : List ℕ) (r : Room) → PlanGiven table demands r counts (now (parents .entry))
         (now (left .entry)) (now (cords .entry)) (now (lows .entry)) (now (wants .entry)) (now (headroom .entry)) (now (caps .entry))
-        → PlanLeft r demands freed (now (grants .entry)) (now (caps .entry)) (now (headroom .entry)) (now (held .entry))
-        (now (grants .exit)) (now (caps .exit)) (now (headroom .exit)) (now (held .exit))) ⌝ }
+        → PlanLeft r demands freed (lists (now (grants .entry)) (now (caps .entry)) (now (headroom .entry)) (now (held .entry)))
+        (lists (now (grants .exit)) (now (caps .exit)) (now (headroom .exit)) (now (held .exit)))) ⌝ }
 {
     let mut nodes = [0u16; 1024];
     let mut cuts = [0u16; 512];

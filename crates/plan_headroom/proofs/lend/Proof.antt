@@ -37,43 +37,27 @@ listed-s s = listed-a (s .before)
 abbrev start : Sums → Start
 start s = start-l (listed-s s)
 
--- After `weigh`, and where it is lent its lists.
+-- After `weigh`.
 abbrev Weights : Type 0
 Weights = tie.After-weigh
 
-abbrev sums-a : tie.After-wholes3 → Sums
-sums-a c = c .before .before .before .before .before
-
 abbrev sums-w : Weights → Sums
-sums-w w = sums-a (w .before .before)
+sums-w w = w .before .before .before .before .before .before .before
 
 abbrev start-w : Weights → Start
 start-w w = start (sums-w w)
 
--- After `deal_out`, and where it is lent its lists.
+-- After `deal_out`.
 abbrev Dealt : Type 0
 Dealt = tie.After-deal-out
 
-abbrev weights-a : tie.After-wholes5 → Weights
-weights-a c = c .before .before .before .before .before .before
-
-abbrev weights-b : tie.After-dealt → Weights
-weights-b c = weights-a (c .before .before .before)
-
 abbrev weights-d : Dealt → Weights
-weights-d d = weights-b (d .before .before .before)
+weights-d d = d .before .before .before .before .before .before .before .before .before .before .before .before
 
 abbrev dealt-z : tie.After-slice-known6 → Dealt
 dealt-z c = c .before .before .before .before .before .before .before
 
--- ---- What each call leaves in its lists, and how long that is
-
--- The length of the lists with a figure of each node.
-abbrev figuresLength : ℕ
-figuresLength = 520
-
-new-list : length {A = ℕ} (replicate figuresLength 0) ≡ figuresLength
-new-list = equal-length {A = ℕ} figuresLength 0
+-- ---- What each call leaves in its lists
 
 abbrev all-listed : Listed → List ℕ
 all-listed l = l .list-all .last .0
@@ -81,31 +65,23 @@ all-listed l = l .list-all .last .0
 abbrev before-back : Sums → List ℕ
 before-back s = s .sum-cords .last .1 .1 .1 .1 .1 .0
 
-before-sized : (s : Sums) → length (before-back s) ≡ figuresLength
-before-sized s = s .sum-cords .kept .1 .1 .1 .1 .1 .0 ∙ new-list
-
 abbrev sums-back : Sums → List ℕ
 sums-back s = s .sum-cords .last .1 .1 .1 .1 .1 .1 .0
-
-sums-sized : (s : Sums) → length (sums-back s) ≡ figuresLength
-sums-sized s = s .sum-cords .kept .1 .1 .1 .1 .1 .1 .0 ∙ new-list
 
 abbrev wholes-back : Weights → List ℕ
 wholes-back w = w .weigh .last .1 .1 .1 .1 .0
 
-wholes-sized : (w : Weights) → length (wholes-back w) ≡ figuresLength
-wholes-sized w = w .weigh .kept .1 .1 .1 .1 .0 ∙ sums-sized (sums-w w)
-
 abbrev amounts-back : Weights → List ℕ
 amounts-back w = w .weigh .last .1 .1 .1 .1 .1 .0
 
-amounts-sized : (w : Weights) → length (amounts-back w) ≡ figuresLength
-amounts-sized w = w .weigh .kept .1 .1 .1 .1 .1 .0 ∙ new-list
-
-headroom-kept : (d : Dealt) → length (d .deal-out .last .1 .1 .1 .1 .1 .1 .1 .1 .1 .0) ≡ length (start-w (weights-d d) .args .headroom .now)
-headroom-kept d = d .deal-out .kept .1 .1 .1 .1 .1 .1 .1 .1 .1 .0
-
 -- ---- What they are then
+
+-- The length of the lists with a figure of each node.
+abbrev figuresLength : ℕ
+figuresLength = 520
+
+new-list : length {A = ℕ} (replicate figuresLength 0) ≡ figuresLength
+new-list = equal-length {A = ℕ} figuresLength 0
 
 -- What it is given.
 abbrev lists : (s : Start) → LendLists (s .args .parents .now) (s .args .nodes .now) (s .args .wants .now) (s .args .headroom .now)
@@ -126,7 +102,34 @@ weights-at w =
     let s = sums-w w in
     lend-weights (lists (start s)) (places s) (w .weigh .ensures) (left-most (start s .pre .0 .given)) (on-nodes s)
 
+-- ---- How long they are
+
+before-sized : (s : Sums) → length (before-back s) ≡ figuresLength
+before-sized s = s .sum-cords .kept .1 .1 .1 .1 .1 .0 ∙ new-list
+
+sums-sized : (s : Sums) → length (sums-back s) ≡ figuresLength
+sums-sized s = s .sum-cords .kept .1 .1 .1 .1 .1 .1 .0 ∙ new-list
+
+wholes-sized : (w : Weights) → length (wholes-back w) ≡ figuresLength
+wholes-sized w = w .weigh .kept .1 .1 .1 .1 .0 ∙ sums-sized (sums-w w)
+
+amounts-sized : (w : Weights) → length (amounts-back w) ≡ figuresLength
+amounts-sized w = w .weigh .kept .1 .1 .1 .1 .1 .0 ∙ new-list
+
+headroom-kept : (d : Dealt) → length (d .deal-out .last .1 .1 .1 .1 .1 .1 .1 .1 .1 .0) ≡ length (start-w (weights-d d) .args .headroom .now)
+headroom-kept d = d .deal-out .kept .1 .1 .1 .1 .1 .1 .1 .1 .1 .0
+
 -- ---- The needs
+
+-- Where `weigh` and `deal_out` are lent their lists.
+abbrev sums-a : tie.After-wholes3 → Sums
+sums-a c = c .before .before .before .before .before
+
+abbrev weights-a : tie.After-wholes5 → Weights
+weights-a c = c .before .before .before .before .before .before
+
+abbrev weights-b : tie.After-dealt → Weights
+weights-b c = weights-a (c .before .before .before)
 
 slice-aggregate-list-all : tie.Need-slice-aggregate-list-all
 slice-aggregate-list-all c = search needs

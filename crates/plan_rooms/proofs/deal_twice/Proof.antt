@@ -119,18 +119,12 @@ listed-e e = listed-f (first-e e)
 abbrev start-e : Raised → Start
 start-e e = start-r (reclaimed-e e)
 
--- After the second deal, and where it is to be lent its lists.
+-- After the second deal.
 abbrev Second : Type 0
 Second = tie.After-deal2
 
-abbrev raised-a : tie.After-actives3 → Raised
-raised-a c = c .before .before .before .before .before
-
-abbrev raised-b : tie.After-used4 → Raised
-raised-b c = raised-a (c .before)
-
 abbrev raised-d : Second → Raised
-raised-d d = raised-b (d .before .before .before .before .before)
+raised-d d = d .before .before .before .before .before .before .before .before .before .before .before
 
 abbrev start-d : Second → Start
 start-d d = start-e (raised-d d)
@@ -320,6 +314,13 @@ second-deal d {r} ok of =
     (d .deal2 .ensures (limitsOf r) (levelsOf r) (start-d d .args .lows .now) (second-lent (raised-d d) ok of))
 
 -- ---- The needs
+
+-- Where the second deal is to be lent its lists.
+abbrev raised-a : tie.After-actives3 → Raised
+raised-a c = c .before .before .before .before .before
+
+abbrev raised-b : tie.After-used4 → Raised
+raised-b c = raised-a (c .before)
 
 array-borrow-prefix-spare : tie.Need-array-borrow-prefix-spare
 array-borrow-prefix-spare c = omega (arith, nodes-few (start-a c), equal-length {A = ℕ} mostNodes 0)

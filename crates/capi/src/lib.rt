@@ -16,6 +16,7 @@
 //                           uint8_t *answer, uint64_t answer_len);
 ghost use Rattle.words.specs.Bytes.{wordsOf};
 ghost use Rattle.sheet_bytes.specs.Call.{ReadCall, WriteCall};
+ghost use Rattle.plan_rooms.specs.Outputs.{lists};
 ghost use Rattle.plan_bytes.specs.Call.{PlanCall};
 
 pub mod joins;
@@ -55,8 +56,8 @@ pub extern "C" fn hutplan_plan(
     answer: &mut [u8],
 ) -> u32
     ensures called { λ r. ⌜ PlanCall (wordsOf (now (table .entry))) (wordsOf (now (demands .entry)))
-        (now (grants .entry)) (now (caps .entry)) (now (headroom .entry)) (now (held .entry)) (now (answer .entry))
-        r (now (grants .exit)) (now (caps .exit)) (now (headroom .exit)) (now (held .exit)) (now (answer .exit)) ⌝ }
+        (lists (now (grants .entry)) (now (caps .entry)) (now (headroom .entry)) (now (held .entry))) (now (answer .entry))
+        r (lists (now (grants .exit)) (now (caps .exit)) (now (headroom .exit)) (now (held .exit))) (now (answer .exit)) ⌝ }
 {
     plan_bytes::plan_bytes(table, demands, grants, caps, headroom, held, answer)
 }

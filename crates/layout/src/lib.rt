@@ -31,8 +31,9 @@ const MOST_SERVERS: usize = 512;
 
 // What each node's limit has over all lows beneath it, in the place of the limit.
 fn spare_limits(beneath: &[u64], limits: &mut [u32])
-    requires { ⌜ (length (now beneath) ≡ length (now limits)) × ((n : ℕ) → n < length (now limits) → at (now beneath) n ≤ at (now limits) n) ⌝ }
-    ensures { λ _. ⌜ ((n : ℕ) → n < length (now (limits .entry))
+    requires within { ⌜ (length (now beneath) ≡ length (now limits))
+        × ((n : ℕ) → n < length (now limits) → at (now beneath) n ≤ at (now limits) n) ⌝ }
+    ensures spared { λ _. ⌜ ((n : ℕ) → n < length (now (limits .entry))
         → at (now (limits .exit)) n + at (now (beneath .entry)) n ≡ at (now (limits .entry)) n) ⌝ }
 {
     for n in 0..limits.len() {
@@ -42,10 +43,10 @@ fn spare_limits(beneath: &[u64], limits: &mut [u32])
 
 // The parents of a good table's nodes, and what each limit has over the lows beneath it, which `beneath` has.
 pub fn load_nodes(table: &[u32], beneath: &[u64], parents: &mut [u16], spare: &mut [u32])
-    requires { ⌜ Good (checked (now table) 0) ⌝ }
-    requires { ⌜ NodesFit (now table) (length (now beneath)) × NodesFit (now table) (length (now parents)) × NodesFit (now table) (length (now spare))
-        × HasLowsBeneath (now table) (now beneath) ⌝ }
-    ensures { λ _. ⌜ OfRoom (now (table .entry)) (λ r. (now (parents .exit) ≡ parentsOf r)
+    requires good { ⌜ Good (checked (now table) 0) ⌝ }
+    requires lists { ⌜ NodesFit (now table) (length (now beneath)) × NodesFit (now table) (length (now parents))
+        × NodesFit (now table) (length (now spare)) × HasLowsBeneath (now table) (now beneath) ⌝ }
+    ensures laid_out { λ _. ⌜ OfRoom (now (table .entry)) (λ r. (now (parents .exit) ≡ parentsOf r)
         × ((n : ℕ) → n < length (r .nodes) → at (now (spare .exit)) n + lowsBeneath r n ≡ at (limitsOf r) n)) ⌝ }
 {
     lay_out_nodes(table, parents, spare);
@@ -54,7 +55,7 @@ pub fn load_nodes(table: &[u32], beneath: &[u64], parents: &mut [u16], spare: &m
 
 // The need of a server: its demand, brought into the range from least to greatest.
 fn need_of(demand: u32, least: u32, greatest: u32) -> u32
-    ensures { λ r. ⌜ r ≡ min (max demand least) greatest ⌝ }
+    ensures need { λ r. ⌜ r ≡ min (max demand least) greatest ⌝ }
 {
     let raised = if demand < least { least } else { demand };
     if greatest < raised { greatest } else { raised }
@@ -62,8 +63,8 @@ fn need_of(demand: u32, least: u32, greatest: u32) -> u32
 
 // The need of each server, by the servers' rows and the demands.
 fn load_needs(servers: &[[u32; 4]], demands: &[u32], needs: &mut [u32])
-    requires { ⌜ (length (now demands) ≡ length (now servers)) × (length (now needs) ≡ length (now servers)) ⌝ }
-    ensures { λ _. ⌜ now (needs .exit) ≡ needsFrom (now (servers .entry)) (now (demands .entry)) ⌝ }
+    requires sizes { ⌜ (length (now demands) ≡ length (now servers)) × (length (now needs) ≡ length (now servers)) ⌝ }
+    ensures needs { λ _. ⌜ now (needs .exit) ≡ needsFrom (now (servers .entry)) (now (demands .entry)) ⌝ }
 {
     for v in 0..servers.len() {
         let server = servers[v];
@@ -81,10 +82,10 @@ fn load_figures(
     ceilings: &mut [u32],
     scale: u32,
 )
-    requires { ⌜ CordsLoadable scale (now servers) (now cords) (now needs) ⌝ }
-    requires { ⌜ (length (now lows) ≡ length (now cords)) × (length (now wants) ≡ length (now cords))
+    requires rows { ⌜ CordsLoadable scale (now servers) (now cords) (now needs) ⌝ }
+    requires sizes { ⌜ (length (now lows) ≡ length (now cords)) × (length (now wants) ≡ length (now cords))
         × (length (now ceilings) ≡ length (now cords)) ⌝ }
-    ensures { λ _. ⌜ CordsLoaded scale (now (servers .entry)) (now (cords .entry)) (now (needs .entry))
+    ensures loaded { λ _. ⌜ CordsLoaded scale (now (servers .entry)) (now (cords .entry)) (now (needs .entry))
         (now (lows .exit)) (now (wants .exit)) (now (ceilings .exit)) ⌝ }
 {
     for c in 0..cords.len() {
@@ -108,9 +109,9 @@ fn load_rows(
     ceilings: &mut [u32],
     needs: &mut [u32],
 )
-    requires { ⌜ CordsLent (now table) (now demands) (now cords) (now lows) (now wants) (now ceilings) (now needs) ⌝ }
-    requires { ⌜ ServersFit (now table) (length (now servers)) ⌝ }
-    ensures { λ _. ⌜ OfRoom (now (table .entry)) (λ r. CordsLaidOut r (now (demands .entry)) (now (cords .exit))
+    requires lists { ⌜ CordsLent (now table) (now demands) (now cords) (now lows) (now wants) (now ceilings) (now needs) ⌝ }
+    requires servers { ⌜ ServersFit (now table) (length (now servers)) ⌝ }
+    ensures laid_out { λ _. ⌜ OfRoom (now (table .entry)) (λ r. CordsLaidOut r (now (demands .entry)) (now (cords .exit))
         (now (lows .exit)) (now (wants .exit)) (now (ceilings .exit)) (now (needs .exit))) ⌝ }
 {
     lay_out_servers(table, servers, cords);
@@ -137,8 +138,8 @@ pub fn load_cords(
     ceilings: &mut [u32],
     needs: &mut [u32],
 )
-    requires { ⌜ CordsLent (now table) (now demands) (now cords) (now lows) (now wants) (now ceilings) (now needs) ⌝ }
-    ensures { λ _. ⌜ OfRoom (now (table .entry)) (λ r. CordsLaidOut r (now (demands .entry)) (now (cords .exit))
+    requires lists { ⌜ CordsLent (now table) (now demands) (now cords) (now lows) (now wants) (now ceilings) (now needs) ⌝ }
+    ensures laid_out { λ _. ⌜ OfRoom (now (table .entry)) (λ r. CordsLaidOut r (now (demands .entry)) (now (cords .exit))
         (now (lows .exit)) (now (wants .exit)) (now (ceilings .exit)) (now (needs .exit))) ⌝ }
 {
     let mut servers = [[0u32; 4]; MOST_SERVERS];
@@ -156,8 +157,8 @@ pub fn load_cords(
 
 // The node of each cord, by the rows.
 pub fn list_nodes(cords: &[[u16; 4]], nodes: &mut [u16])
-    requires { ⌜ length (now nodes) ≡ length (now cords) ⌝ }
-    ensures { λ _. ⌜ now (nodes .exit) ≡ column nodeColumn (now (cords .entry)) ⌝ }
+    requires size { ⌜ length (now nodes) ≡ length (now cords) ⌝ }
+    ensures listed { λ _. ⌜ now (nodes .exit) ≡ column nodeColumn (now (cords .entry)) ⌝ }
 {
     for c in 0..cords.len() {
         nodes[c] = cords[c][NODE];

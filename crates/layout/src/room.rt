@@ -84,8 +84,9 @@ pub fn load_room(
     requires space { ⌜ LoadSpace (length (now parents)) (length (now spare)) (length (now cords)) (length (now lows)) (length (now wants))
         (length (now ceilings)) (length (now needs)) ⌝ }
     ensures answer { λ r. ⌜ r ≡ loadedOf (loading (now (table .entry)) (now (demands .entry))) ⌝ }
-    ensures lists { λ _. ⌜ ((r : Room) → loading (now (table .entry)) (now (demands .entry)) ≡ accepted r → RoomLoaded r (now (demands .entry))
-        (now (parents .exit)) (now (spare .exit)) (now (cords .exit)) (now (lows .exit)) (now (wants .exit)) (now (ceilings .exit)) (now (needs .exit))) ⌝ }
+    ensures lists { λ _. ⌜ ((r : Room) → loading (now (table .entry)) (now (demands .entry)) ≡ accepted r
+        → RoomLoaded r (now (demands .entry)) (now (parents .exit)) (now (spare .exit)) (now (cords .exit)) (now (lows .exit))
+        (now (wants .exit)) (now (ceilings .exit)) (now (needs .exit))) ⌝ }
 {
     let mut beneath = [0u64; 512];
     let loaded = admit(table, demands, &mut beneath);
@@ -126,8 +127,9 @@ pub fn load_bytes(
     requires space { ⌜ LoadSpace (length (now parents)) (length (now spare)) (length (now cords)) (length (now lows)) (length (now wants))
         (length (now ceilings)) (length (now needs)) ⌝ }
     ensures answer { λ r. ⌜ r ≡ loadedOf (loading (wordsOf (now (table .entry))) (wordsOf (now (demands .entry)))) ⌝ }
-    ensures lists { λ _. ⌜ ((r : Room) → loading (wordsOf (now (table .entry))) (wordsOf (now (demands .entry))) ≡ accepted r → RoomLoaded r (wordsOf (now (demands .entry)))
-        (now (parents .exit)) (now (spare .exit)) (now (cords .exit)) (now (lows .exit)) (now (wants .exit)) (now (ceilings .exit)) (now (needs .exit))) ⌝ }
+    ensures lists { λ _. ⌜ ((r : Room) → loading (wordsOf (now (table .entry))) (wordsOf (now (demands .entry))) ≡ accepted r
+        → RoomLoaded r (wordsOf (now (demands .entry))) (now (parents .exit)) (now (spare .exit)) (now (cords .exit)) (now (lows .exit))
+        (now (wants .exit)) (now (ceilings .exit)) (now (needs .exit))) ⌝ }
 {
     let mut words = [0u32; DECIDING_WORDS];
     let mut figures = [0u32; DECIDING_DEMANDS];

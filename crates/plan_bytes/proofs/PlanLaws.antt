@@ -1,5 +1,5 @@
 -- What the call of Plan returns and leaves, from what the functions that it calls ensure.
-use mathlib.Core.Path.{_≡_, refl, sym, ap, _∙_}
+use mathlib.Core.Path.{_≡_, refl, sym, ap, ap₂, _∙_}
 use mathlib.Core.List.{List, [], _∷_}
 use Prim.Native.Nat.{ℕ, _/_, _≤_, _<_}
 use native.Mathlib.Omega.{arith}
@@ -11,17 +11,19 @@ use Rattle.calls.specs.Call.{answered}
 use Rattle.calls.proofs.Calls.{answer-told, call-short, call-done}
 use Rattle.calls.proofs.Fronts.{bytes-after}
 use Rattle.outcomes.specs.Outcome.{accepted, refused, written, after}
-use Rattle.deals.specs.Plan.{Plan, planOf, PlanOutcome, plan, answerOf, planNumber, planFigure}
+use Rattle.deals.specs.Plan.{Plan, PlanOutcome, plan, answerOf, planNumber, planFigure}
 use Rattle.deals.specs.declared.Lengths.{Lengths}
 use Rattle.deals.specs.declared.Planned.{Planned}
 use Rattle.deals.specs.declared.Planned.the-variants as planned
 use Rattle.deals.specs.declared.PlanRefusal.{PlanRefusal}
-use Rattle.deals.proofs.Plans.{secondGrants-length, caps-length, headroom-length, held-length}
-use Rattle.deals.proofs.Lent.{Written, plan-written}
-use Rattle.rooms.specs.Table.{Room}
+use Rattle.deals.specs.declared.PlanList.{PlanList}
+use Rattle.deals.proofs.Lent.{plan-written}
+use Rattle.rooms.specs.Table.{Room, roomCords}
 use Rattle.layout.specs.declared.room.Counts.{Counts}
 use Rattle.layout.proofs.Loads.{servers-count, cords-count}
+use Rattle.plan_rooms.specs.Outputs.{output, count, entries, Lists}
 use Rattle.plan_rooms.specs.Planning.{PlanLeft}
+use Rattle.plan_rooms.proofs.Outputs.{count-none, output-length, output-fits}
 use Rattle.plans.proofs.PlanCall.{Admitted}
 use Rattle.plan_bytes.specs.Call.{PlannedCall}
 use Rattle.plan_bytes.specs.Figures.{Front, FiguresLeft}
@@ -40,59 +42,37 @@ module _ {table demands : List ℕ} {lengths : Lengths} {counts : Counts} (a : A
   abbrev room : Room
   room = a .room-found .room
 
-  pub figures-accepted : {freed : ℕ} {granted capped lent holders granted′ capped′ lent′ holders′ : List ℕ} → PlanLeft room demands freed granted capped lent holders granted′ capped′ lent′ holders′
-      → counts .cords ≤ length granted → counts .servers ≤ length capped → counts .cords ≤ length lent → counts .cords ≤ length holders
-      → FiguresLeft (plan table demands lengths) (record { answer = planned.Accepted freed; cords = counts .cords; servers = counts .servers }) granted′ capped′ lent′ holders′
-  figures-accepted {freed} {granted} {capped} {lent} {holders} left hg hc hl hh =
-      let cords = cords-count (a .room-found) in
+  pub figures-accepted : {freed : ℕ} (lent lent′ : Lists) → PlanLeft room demands freed lent lent′
+      → ((list : PlanList) → count (counts .cords) (counts .servers) list ≤ length (lent list))
+      → FiguresLeft (plan table demands lengths) (record { answer = planned.Accepted freed; cords = counts .cords; servers = counts .servers }) lent′
+  figures-accepted lent lent′ left long =
+      let counted : (list : PlanList) → count (counts .cords) (counts .servers) list ≡ count (roomCords room) (length (room .servers)) list =
+      λ list. ap₂ (λ (cords servers : ℕ). count cords servers list) (cords-count (a .room-found)) (servers-count (a .room-found)) in
       rw (a .is)
       (record {
         answer-is = ap planned.Accepted (left .freed-is);
-        grants-are = front-stored granted _ (left .grants-are) (cords ∙ sym (secondGrants-length room demands)) hg;
-        caps-are = front-stored capped _ (left .caps-are) (servers-count (a .room-found) ∙ sym (caps-length room demands)) hc;
-        headroom-is = front-stored lent _ (left .headroom-is) (cords ∙ sym (headroom-length room demands)) hl;
-        held-are = front-stored holders _ (left .held-are) (cords ∙ sym (held-length room demands)) hh;
+        lists-are = λ list. front-stored (lent list) _ (left .lists-are list) (counted list ∙ sym (output-length room demands list)) (long list);
       })
 
 -- Refused, nothing is written.
-pub figures-refused : (outcome : PlanOutcome) {q : PlanRefusal} → outcome ≡ refused q → (granted capped lent holders : List ℕ)
-    → FiguresLeft outcome (record { answer = planned.Refused q; cords = 0; servers = 0 }) granted capped lent holders
-figures-refused outcome e granted capped lent holders =
-    rw e
-    (record {
-      answer-is = refl;
-      grants-are = none granted;
-      caps-are = none capped;
-      headroom-is = none lent;
-      held-are = none holders;
-    })
+pub figures-refused : (outcome : PlanOutcome) {q : PlanRefusal} → outcome ≡ refused q → (lent : Lists)
+    → FiguresLeft outcome (record { answer = planned.Refused q; cords = 0; servers = 0 }) lent
+figures-refused outcome e lent =
+    rw e (record { answer-is = refl; lists-are = λ list. none (lent list) (count-none list) })
   where
-    none : (list : List ℕ) → Front 0 list []
-    none list = record { few = omega arith; is = refl }
+    none : (list : List ℕ) {n : ℕ} → n ≡ 0 → Front n list []
+    none list is = record { few = omega (arith, is); is = rw is refl }
 
 -- ---- Its lists in bytes
 
 -- What an outcome writes to a list fits the list.
 module _ (table demands : List ℕ) (lengths : Lengths) where
-  fitting : (output : Plan → List ℕ) (entries : ℕ) → ((p : Plan) → Written table demands lengths p → length (output p) ≤ entries)
-      → length (written output (plan table demands lengths)) ≤ entries
-  fitting output entries fits = go (plan table demands lengths) refl
+  pub output-fitting : (list : PlanList) → length (written (output list) (plan table demands lengths)) ≤ entries lengths list
+  output-fitting list = go (plan table demands lengths) refl
     where
-      go : (o : PlanOutcome) → plan table demands lengths ≡ o → length (written output o) ≤ entries
-      go (accepted p) e = fits p (plan-written table demands lengths e)
+      go : (o : PlanOutcome) → plan table demands lengths ≡ o → length (written (output list) o) ≤ entries lengths list
+      go (accepted p) e = let fits = output-fits (plan-written table demands lengths e .planning) list in omega (arith, fits .count, fits .within)
       go (refused q) e = omega arith
-
-  pub grants-fit : length (written (λ p. p .grants) (plan table demands lengths)) ≤ lengths .grants
-  grants-fit = fitting (λ p. p .grants) (lengths .grants) (λ p w. omega (arith, w .planning .grants .count, w .planning .grants .within))
-
-  pub caps-fit : length (written (λ p. p .caps) (plan table demands lengths)) ≤ lengths .caps
-  caps-fit = fitting (λ p. p .caps) (lengths .caps) (λ p w. omega (arith, w .planning .caps .count, w .planning .caps .within))
-
-  pub headroom-fits : length (written (λ p. p .headroom) (plan table demands lengths)) ≤ lengths .headroom
-  headroom-fits = fitting (λ p. p .headroom) (lengths .headroom) (λ p w. omega (arith, w .planning .headroom .count, w .planning .headroom .within))
-
-  pub held-fit : length (written (λ p. p .held) (plan table demands lengths)) ≤ lengths .held
-  held-fit = fitting (λ p. p .held) (lengths .held) (λ p w. omega (arith, w .planning .held .count, w .planning .held .within))
 
 -- Just what is written is stored.
 pub list-stored : (output : Plan → List ℕ) (o : PlanOutcome) (bytes : List ℕ) {n : ℕ} {list bytes′ : List ℕ} → Front n list (written output o)
@@ -106,20 +86,14 @@ list-stored output o bytes f fits b =
 -- ---- The call
 
 -- Where the answer's buffer is too short, nothing is changed.
-pub plan-short : (outcome : PlanOutcome) (grants caps headroom held answer : List ℕ) → length answer < 16
-    → PlannedCall outcome grants caps headroom held answer 0 grants caps headroom held answer
-plan-short outcome grants caps headroom held answer h =
-    call-short _ answer _ (omega arith) (record { grants-after = refl; caps-after = refl; headroom-after = refl; held-after = refl })
+pub plan-short : (outcome : PlanOutcome) (lent : Lists) (answer : List ℕ) → length answer < 16 → PlannedCall outcome lent answer 0 lent answer
+plan-short outcome lent answer h = call-short _ answer _ (omega arith) (record { lists-after = λ list. refl })
 
 -- Where it is long enough, it has the answer, and the lists are those after the outcome.
-pub plan-done : (outcome : PlanOutcome) (grants caps headroom held answer : List ℕ) {planned : Planned} {grants′ caps′ headroom′ held′ answer′ : List ℕ} {number figure : ℕ}
+pub plan-done : (outcome : PlanOutcome) (lent lent′ : Lists) (answer : List ℕ) {planned : Planned} {answer′ : List ℕ} {number figure : ℕ}
     → 16 ≤ length answer → planned ≡ answerOf outcome
-    → grants′ ≡ after (λ p. bytesOf (p .grants)) outcome grants
-    → caps′ ≡ after (λ p. bytesOf (p .caps)) outcome caps
-    → headroom′ ≡ after (λ p. bytesOf (p .headroom)) outcome headroom
-    → held′ ≡ after (λ p. bytesOf (p .held)) outcome held
+    → ((list : PlanList) → lent′ list ≡ after (λ p. bytesOf (output list p)) outcome (lent list))
     → number ≡ planNumber planned → figure ≡ planFigure planned → answer′ ≡ answered 2 (number ∷ figure ∷ []) answer
-    → PlannedCall outcome grants caps headroom held answer 1 grants′ caps′ headroom′ held′ answer′
-plan-done outcome grants caps headroom held answer long is g c h d k v a =
-    call-done _ answer _ (omega arith) (record { grants-after = g; caps-after = c; headroom-after = h; held-after = d })
-    (answer-told answer (k ∙ ap planNumber is) (v ∙ ap planFigure is) a)
+    → PlannedCall outcome lent answer 1 lent′ answer′
+plan-done outcome lent lent′ answer long is stored k v a =
+    call-done _ answer _ (omega arith) (record { lists-after = stored }) (answer-told answer (k ∙ ap planNumber is) (v ∙ ap planFigure is) a)

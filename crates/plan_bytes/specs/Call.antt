@@ -10,15 +10,12 @@ use Rattle.words.specs.Bytes.{bytesOf}
 use Rattle.calls.specs.Call.{Call, Left}
 use Rattle.deals.specs.Plan.{Plan, PlanOutcome, plan, answerOf, planNumber, planFigure}
 use Rattle.deals.specs.declared.Lengths.{Lengths}
+use Rattle.deals.specs.declared.PlanList.{PlanList}
+use Rattle.plan_rooms.specs.Outputs.{output, Lists, lengthsOf}
 
 -- Each list holds one figure for every four of its bytes.
-abbrev pub lentBytes : (grants caps headroom held : List ℕ) → Lengths
-lentBytes grants caps headroom held = record {
-  grants = length grants / 4;
-  caps = length caps / 4;
-  headroom = length headroom / 4;
-  held = length held / 4;
-}
+abbrev pub lentBytes : Lists → Lengths
+lentBytes lent = lengthsOf (λ list. length (lent list) / 4)
 
 -- The numbers of the answer to an outcome: its number, and its figure.
 abbrev pub numbersOf : PlanOutcome → List ℕ
@@ -28,21 +25,14 @@ numbersOf outcome = planNumber (answerOf outcome) ∷ planFigure (answerOf outco
 abbrev pub ListLeft : (Plan → List ℕ) → PlanOutcome → (bytes bytes′ : List ℕ) → Bool → Type 0
 ListLeft output outcome bytes bytes′ stored = Left (after (λ p. bytesOf (output p)) outcome bytes) bytes bytes′ stored
 
--- The lists that the call of a plan leaves.
-pub record ListsLeft (outcome : PlanOutcome) (grants caps headroom held grants′ caps′ headroom′ held′ : List ℕ) (stored : Bool) : Type 0 where
-  pub grants-after : ListLeft (λ p. p .grants) outcome grants grants′ stored
-  pub caps-after : ListLeft (λ p. p .caps) outcome caps caps′ stored
-  pub headroom-after : ListLeft (λ p. p .headroom) outcome headroom headroom′ stored
-  pub held-after : ListLeft (λ p. p .held) outcome held held′ stored
+-- All of them.
+pub record ListsLeft (outcome : PlanOutcome) (lent lent′ : Lists) (stored : Bool) : Type 0 where
+  pub lists-after : (list : PlanList) → ListLeft (output list) outcome (lent list) (lent′ list) stored
 
 -- The call of a plan that comes to an outcome.
-abbrev pub PlannedCall : PlanOutcome
-    → (grants caps headroom held answer : List ℕ) (r : ℕ) (grants′ caps′ headroom′ held′ answer′ : List ℕ) → Type 0
-PlannedCall outcome grants caps headroom held answer r grants′ caps′ headroom′ held′ answer′ =
-    Call 2 (numbersOf outcome) answer (ListsLeft outcome grants caps headroom held grants′ caps′ headroom′ held′) r answer′
+abbrev pub PlannedCall : PlanOutcome → Lists → (answer : List ℕ) (r : ℕ) → Lists → (answer′ : List ℕ) → Type 0
+PlannedCall outcome lent answer r lent′ answer′ = Call 2 (numbersOf outcome) answer (ListsLeft outcome lent lent′) r answer′
 
 -- Plan, called from C, of a table and demands in words.
-abbrev pub PlanCall : (table demands grants caps headroom held answer : List ℕ) (r : ℕ) (grants′ caps′ headroom′ held′ answer′ : List ℕ) → Type 0
-PlanCall table demands grants caps headroom held answer r grants′ caps′ headroom′ held′ answer′ =
-    PlannedCall (plan table demands (lentBytes grants caps headroom held))
-    grants caps headroom held answer r grants′ caps′ headroom′ held′ answer′
+abbrev pub PlanCall : (table demands : List ℕ) → Lists → (answer : List ℕ) (r : ℕ) → Lists → (answer′ : List ℕ) → Type 0
+PlanCall table demands lent answer r lent′ answer′ = PlannedCall (plan table demands (lentBytes lent)) lent answer r lent′ answer′

@@ -4,6 +4,7 @@ ghost use lib.ListN.{length};
 ghost use Rattle.words.specs.Bytes.{wordsOf};
 ghost use Rattle.rooms.specs.Table.{mostServers, mostCords};
 ghost use Rattle.deals.specs.Plan.{plan};
+ghost use Rattle.plan_rooms.specs.Outputs.{lists};
 ghost use Rattle.plan_bytes.specs.Call.{PlanCall};
 ghost use Rattle.plan_bytes.specs.Figures.{FiguresLeft};
 use calls::ANSWER_BYTES;
@@ -31,8 +32,8 @@ pub fn plan_bytes(
     answer: &mut [u8],
 ) -> u32
     ensures called { λ r. ⌜ PlanCall (wordsOf (now (table .entry))) (wordsOf (now (demands .entry)))
-        (now (grants .entry)) (now (caps .entry)) (now (headroom .entry)) (now (held .entry)) (now (answer .entry))
-        r (now (grants .exit)) (now (caps .exit)) (now (headroom .exit)) (now (held .exit)) (now (answer .exit)) ⌝ }
+        (lists (now (grants .entry)) (now (caps .entry)) (now (headroom .entry)) (now (held .entry))) (now (answer .entry))
+        r (lists (now (grants .exit)) (now (caps .exit)) (now (headroom .exit)) (now (held .exit))) (now (answer .exit)) ⌝ }
 {
     if answer.len() < ANSWER_BYTES {
         return 0;
@@ -88,7 +89,7 @@ fn plan_figures(
     requires cords { ⌜ (mostCords ≤ length (now granted)) × (mostCords ≤ length (now lent)) × (mostCords ≤ length (now holders)) ⌝ }
     requires servers { ⌜ mostServers ≤ length (now capped) ⌝ }
     ensures planned { λ r. ⌜ FiguresLeft (plan (wordsOf (now (table .entry))) (wordsOf (now (demands .entry))) lengths) r
-        (now (granted .exit)) (now (capped .exit)) (now (lent .exit)) (now (holders .exit)) ⌝ }
+        (lists (now (granted .exit)) (now (capped .exit)) (now (lent .exit)) (now (holders .exit))) ⌝ }
 {
     let mut parents = [0u16; 512];
     let mut left = [0u32; 512];

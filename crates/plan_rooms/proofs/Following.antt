@@ -23,7 +23,7 @@ use Rattle.plan_headroom.specs.Lending.{LendGiven}
 use Rattle.plan_holders.specs.Holding.{HeldLists, heldFrom}
 use Rattle.plan_holders.proofs.Naming.{held-second}
 use Rattle.layout.proofs.Rows.{cords-count, node-at}
-use Rattle.plan_rooms.specs.Planning.{RoomToDeal, DealtTwice, PlanMade}
+use Rattle.plan_rooms.specs.Planning.{RoomToDeal, DealtTwice}
 use Rattle.plan_rooms.proofs.Planning.{lists-second, levels-nodes, levels-cords, second-dealt}
 
 -- ---- After both deals
@@ -74,21 +74,17 @@ module _ {r : Room} (ok : Accepted r) {demands parents spare : List ℕ} {cords 
         most = λ c l. ceilings-most r ok demands c (omega (arith, n));
       })
 
-  -- The plan, from what both leave.
-  held-are : HeldLists parents cuts cords given grants → heldFrom parents cuts cords given grants ≡ holding.held r demands
-  held-are =
-      rw (of .lists .parents-are, dealt .wants-are)
-      (λ lists. held-second r demands lists (of .lists .cords-are .rows-are) (second-dealt ok of (dealt .made)) (dealt .made .cuts-are))
+  -- What both leave is the plan's.
+  pub held-made : {held : List ℕ} → HeldLists parents cuts cords given grants → held ≡ heldFrom parents cuts cords given grants → held ≡ holding.held r demands
+  held-made lists named = named ∙ is lists
+    where
+      is : HeldLists parents cuts cords given grants → heldFrom parents cuts cords given grants ≡ holding.held r demands
+      is =
+          rw (of .lists .parents-are, dealt .wants-are)
+          (λ lists. held-second r demands lists (of .lists .cords-are .rows-are) (second-dealt ok of (dealt .made)) (dealt .made .cuts-are))
 
-  pub plan-made : {ceilings headroom held : List ℕ} → HeldLists parents cuts cords given grants → ceilings ≡ ceilingsOf r
+  pub headroom-made : {ceilings headroom : List ℕ} → ceilings ≡ ceilingsOf r
       → headroom ≡ headroomOver (dealFrom parents (limitsOf r) nodes (levelsOf r) (lowsOf r) (firstUsed r demands) given) (at ceilings)
-      → held ≡ heldFrom parents cuts cords given grants
-      → PlanMade r demands watts grants caps headroom held
+      → headroom ≡ lending.headroom r demands
   unfolding secondDeal dealOf lending.headroom
-  plan-made lists e lent named = record {
-    freed-is = dealt .freed-is;
-    grants-are = second-dealt ok of (dealt .made);
-    caps-are = dealt .caps-are;
-    headroom-is = lent ∙ rw (e, of .lists .parents-are, of .nodes-are, dealt .wants-are);
-    held-are = named ∙ held-are lists;
-  }
+  headroom-made e lent = lent ∙ rw (e, of .lists .parents-are, of .nodes-are, dealt .wants-are)

@@ -1,4 +1,5 @@
 -- The laws of `plan_rooms`.
+pub mod Outputs
 pub mod Planning
 pub mod Following
 pub mod Given

@@ -167,9 +167,9 @@ module _ {r : Room} (ok : Accepted r) {demands parents spare : List ℕ} {cords 
         over = λ n l. omega (arith, of .lists .spare-is n (omega (arith, parentsOf-length r)), lows-under r ok n);
       })
 
-  module _ {left starts : List ℕ} (spare-again : left ≡ spare) (used : starts ≡ firstUsed r demands) where
+  module _ {starts : List ℕ} (used : starts ≡ firstUsed r demands) where
     -- It is enough for the used watts.
-    pub raisable : Raisable parents nodes lows starts left
+    pub raisable : Raisable parents nodes lows starts spare
     raisable =
         let l = of .lists .cords-are in
         let lists : DealLists parents (limitsOf r) nodes (levelsOf r) lows starts (secondWants r demands) = rw (of .lists .parents-are, of .nodes-are, l .lows-are, used) lists-second in
@@ -177,7 +177,7 @@ module _ {r : Room} (ok : Accepted r) {demands parents spare : List ℕ} {cords 
         record {
           few-nodes = lists .of-nodes .few;
           few = lists .of-cords .few;
-          left-size = ap length spare-again ∙ of .lists .spare-size;
+          left-size = of .lists .spare-size;
           lows-size = lists .of-cords .lows-size;
           starts-size = lists .of-cords .starts-size;
           rises = lists .of-nodes .rises;
@@ -185,15 +185,15 @@ module _ {r : Room} (ok : Accepted r) {demands parents spare : List ℕ} {cords 
           within = lists .of-cords .within;
           least = lists .of-cords .least;
           most = λ c h. le-trans (lists .of-cords .ordered c h) (lists .of-cords .most c h);
-          enough = λ n h. le-trans (within n h) (le-of-eq (sym (ap (λ (s : List ℕ). at s n + wattsUnder parents nodes lows n) spare-again ∙ spared .over n h)));
+          enough = λ n h. le-trans (within n h) (le-of-eq (sym (spared .over n h)));
         }
 
     -- What the limits have over the used watts, once these are taken.
-    pub raised : {after : List ℕ} → length after ≡ length left → ((n : ℕ) → n < length parents → at after n + wattsUnder parents nodes starts n ≡ at left n + wattsUnder parents nodes lows n)
+    pub raised : {after : List ℕ} → length after ≡ length spare → ((n : ℕ) → n < length parents → at after n + wattsUnder parents nodes starts n ≡ at spare n + wattsUnder parents nodes lows n)
         → Spare parents (limitsOf r) nodes starts after
     raised kept over = record {
-      size = kept ∙ ap length spare-again ∙ of .lists .spare-size;
-      over = λ n l. over n l ∙ ap (λ (s : List ℕ). at s n + wattsUnder parents nodes lows n) spare-again ∙ spared .over n l;
+      size = kept ∙ of .lists .spare-size;
+      over = λ n l. over n l ∙ spared .over n l;
     }
 
   module _ {bounds : List (List ℕ)} {order : List ℕ} {actives : List (List ℕ)} (listed : LevelLists parents (column nodeColumn cords) (column levelColumn cords) bounds order actives) where
@@ -201,10 +201,10 @@ module _ {r : Room} (ok : Accepted r) {demands parents spare : List ℕ} {cords 
     by-level = rw (of .nodes-are, sym (rows .nodes), sym (rows .levels)) listed
 
     -- What each deal asks.
-    pub first-given : DealGiven parents bounds order actives nodes lows wants spare (limitsOf r) (levelsOf r) lows
-    first-given =
+    pub first-given : {left : List ℕ} → left ≡ spare → DealGiven parents bounds order actives nodes lows wants left (limitsOf r) (levelsOf r) lows
+    first-given copied =
         let l = of .lists .cords-are in
-        record { lists = rw (of .lists .parents-are, of .nodes-are, l .lows-are, l .wants-are) lists-first; by-level = by-level; spared = spared }
+        record { lists = rw (of .lists .parents-are, of .nodes-are, l .lows-are, l .wants-are) lists-first; by-level = by-level; spared = rw copied spared }
 
     pub second-given : {left starts given : List ℕ} → starts ≡ firstUsed r demands → given ≡ secondWants r demands → Spare parents (limitsOf r) nodes starts left
         → DealGiven parents bounds order actives nodes starts given left (limitsOf r) (levelsOf r) lows

@@ -7,18 +7,21 @@ use Rattle.rooms.specs.Part.{good}
 use Rattle.rooms.specs.Table.{Room}
 use Rattle.rooms.specs.Limits.{checked}
 use Rattle.rooms.specs.Lists.{nodesOf}
-use Rattle.deals.specs.SecondDeal.{freed, secondDeal, secondGrants, secondWants}
+use Rattle.deals.specs.SecondDeal.{freed, secondDeal, secondWants}
 use Rattle.deals.specs.SecondDeal as second
 use Rattle.deals.specs.Headroom as lending
-use Rattle.deals.specs.Held as holding
+use Rattle.deals.specs.Plan.{planOf}
+use Rattle.deals.specs.declared.PlanList.{PlanList}
 use Rattle.deals.specs.Ranks.{DealMade}
 use Rattle.layout.specs.Room.{countsOf, RoomLists, RoomLoaded}
 use Rattle.layout.specs.declared.room.Counts.{Counts}
+use Rattle.plan_rooms.specs.Outputs.{Lists, output}
 
 -- ---- Both deals
 
 -- The lists are those of a room, with given demands, the numbers of its cords' nodes, and its scale. Of the ceilings nothing is asked.
-pub record RoomToDeal (r : Room) (demands parents spare : List ℕ) (cords : List (List ℕ)) (nodes lows wants needed : List ℕ) (scale : ℕ) : Type 0 where
+pub record RoomToDeal (r : Room) (demands parents spare : List ℕ) (cords : List (List ℕ)) (nodes lows wants needed : List ℕ)
+    (scale : ℕ) : Type 0 where
   pub lists : RoomLists r demands parents spare cords lows wants (lending.ceilingsOf r) needed
   pub nodes-are : nodes ≡ nodesOf r
   pub scale-is : scale ≡ r .scale
@@ -41,16 +44,9 @@ pub record DealtTwice (r : Room) (demands : List ℕ) (watts : ℕ) (wants left 
 
 -- ---- The plan
 
--- The plan of a room with given demands.
-pub record PlanMade (r : Room) (demands : List ℕ) (watts : ℕ) (grants caps headroom held : List ℕ) : Type 0 where
-  pub freed-is : watts ≡ freed r demands
-  pub grants-are : grants ≡ secondGrants r demands
-  pub caps-are : caps ≡ second.caps r demands
-  pub headroom-is : headroom ≡ lending.headroom r demands
-  pub held-are : held ≡ holding.held r demands
-
 -- The lists of a room, loaded, and its counts: `headroom` has the cords' ceilings, and `caps` the servers' needs.
-pub record PlanGiven (table demands : List ℕ) (r : Room) (counts : Counts) (parents spare : List ℕ) (cords : List (List ℕ)) (lows wants headroom caps : List ℕ) : Type 0 where
+pub record PlanGiven (table demands : List ℕ) (r : Room) (counts : Counts) (parents spare : List ℕ) (cords : List (List ℕ))
+    (lows wants headroom caps : List ℕ) : Type 0 where
   pub end : ℕ
   pub is : checked table 0 ≡ good r end
   pub counted : counts ≡ countsOf r
@@ -64,9 +60,6 @@ pub record SomePlan (counts : Counts) (parents spare : List ℕ) (cords : List (
   pub given : PlanGiven table demands room counts parents spare cords lows wants headroom caps
 
 -- The plan of a room stands at the fronts of its lists; what is past it is unchanged.
-pub record PlanLeft (r : Room) (demands : List ℕ) (watts : ℕ) (grants caps headroom held grants′ caps′ headroom′ held′ : List ℕ) : Type 0 where
+pub record PlanLeft (r : Room) (demands : List ℕ) (watts : ℕ) (before after : Lists) : Type 0 where
   pub freed-is : watts ≡ freed r demands
-  pub grants-are : grants′ ≡ sets grants 0 (secondGrants r demands)
-  pub caps-are : caps′ ≡ sets caps 0 (second.caps r demands)
-  pub headroom-is : headroom′ ≡ sets headroom 0 (lending.headroom r demands)
-  pub held-are : held′ ≡ sets held 0 (holding.held r demands)
+  pub lists-are : (list : PlanList) → after list ≡ sets (before list) 0 (output list (planOf r demands))

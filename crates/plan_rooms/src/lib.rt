@@ -7,6 +7,7 @@ ghost use lib.ListN.{length};
 ghost use Rattle.rooms.specs.Part.{good};
 ghost use Rattle.rooms.specs.Table.{Room};
 ghost use Rattle.rooms.specs.Limits.{checked};
+ghost use Rattle.plan_rooms.specs.Outputs.{lists};
 ghost use Rattle.plan_rooms.specs.Planning.{RoomToDeal, SomeRoom, DealtTwice, PlanGiven, SomePlan, PlanLeft};
 ghost use Rattle.deals.specs.Ranks.{Uncut};
 use deals::by_rank::deal;
@@ -21,7 +22,8 @@ use plan_reclaim::usable_of;
 
 // Both deals, in turn: the first starts from the cords' lows, the second from the watts in use after it. Gives the watts freed between
 // them. `left` comes with what each limit has over the lows beneath it, and leaves with what it has over the second deal's Requests;
-// `wants` and `cuts` end as those of the second deal, and `caps` come with the servers' needs. The first deal's marks of cuts are not used.
+// `wants` and `cuts` end as those of the second deal, and `caps` come with the servers' needs. What the first deal leaves of the limits,
+// and its marks of cuts, are not used.
 fn deal_twice(
     parents: &[u16],
     cords: &[[u16; 4]],
@@ -62,13 +64,12 @@ fn deal_twice(
         nodes,
         lows,
         wants,
-        left,
+        &mut spare[..n],
         &mut marks[..n],
         grants,
     );
     usable_of(cords, grants, &mut usable[..v], scale);
     let freed = reclaim(cords, &usable[..v], grants, &mut used[..k], wants, scale);
-    figures::copy(&spare[..n], left);
     raise_starts(parents, nodes, lows, &used[..k], left);
     deal(
         parents,
@@ -105,8 +106,8 @@ pub fn plan_loaded(
     requires space { ⌜ (counts .cords ≤ length (now grants)) × (counts .cords ≤ length (now held)) ⌝ }
     ensures planned { λ freed. ⌜ ((table demands : List ℕ) (r : Room) → PlanGiven table demands r counts (now (parents .entry))
         (now (left .entry)) (now (cords .entry)) (now (lows .entry)) (now (wants .entry)) (now (headroom .entry)) (now (caps .entry))
-        → PlanLeft r demands freed (now (grants .entry)) (now (caps .entry)) (now (headroom .entry)) (now (held .entry))
-        (now (grants .exit)) (now (caps .exit)) (now (headroom .exit)) (now (held .exit))) ⌝ }
+        → PlanLeft r demands freed (lists (now (grants .entry)) (now (caps .entry)) (now (headroom .entry)) (now (held .entry)))
+        (lists (now (grants .exit)) (now (caps .exit)) (now (headroom .exit)) (now (held .exit)))) ⌝ }
 {
     let mut nodes = [0u16; 1024];
     let mut cuts = [0u16; 512];

@@ -1,14 +1,14 @@
 -- Plan in the code's terms: what its checks come to, in their order, and what it leaves in its lists.
 use mathlib.Core.Path.{_≡_, refl, sym, ap, ap₂, _∙_}
 use mathlib.Core.Bool.{Bool, true, false, not}
-use mathlib.Core.List.{List, [], _∷_, _++_}
+use mathlib.Core.List.{List, [], _∷_, _++_, map}
 use Prim.Native.Nat.{ℕ, _≤_, _<_}
 use native.Mathlib.Omega.{arith}
 use lib.Dec.{eqb, ltb}
 use lib.ListN.{length, take, drop}
 use lib.Seq.{sets, length-sets, take-all}
 use borrow.Author.Tests.{ltb-false, lt-ltb, le-ltb}
-use Rattle.outcomes.specs.Outcome.{Outcome, accepted, refused, Reason, tooShort, unless, after}
+use Rattle.outcomes.specs.Outcome.{Outcome, accepted, refused, Reason, tooShort, unless}
 use Rattle.outcomes.proofs.Outcomes.{accepted≢refused, accepted-is, unless-stop, unless-pass, unless-back, unless-none, unless-is}
 use Rattle.figures.proofs.Lists.{figures-length}
 use Rattle.figures.proofs.Stores.{sets-front, take-sets, drop-sets}
@@ -16,8 +16,9 @@ use Rattle.rooms.specs.Part.{Step, good, bad}
 use Rattle.rooms.specs.Table.{Room, roomCords}
 use Rattle.rooms.specs.Limits.{checked}
 use Rattle.rooms.proofs.Accepted.{Accepted}
+use Rattle.rooms.proofs.All.{All}
 use Rattle.deals.specs.Wants.{needs}
-use Rattle.deals.specs.Plan.{Plan, planOf, PlanOutcome, PlanReason, firstTooLarge, countDiffers, demandTooLarge, reasons, plan, answerOf}
+use Rattle.deals.specs.Plan.{Plan, planOf, PlanReason, firstTooLarge, countDiffers, demandTooLarge, reasons, plan}
 use Rattle.deals.specs.declared.Lengths.{Lengths}
 use Rattle.deals.specs.declared.PlanList.{PlanList}
 use Rattle.deals.specs.declared.PlanRefusal.{PlanRefusal}
@@ -31,8 +32,11 @@ use Rattle.layout.specs.declared.room.Loaded.{Loaded}
 use Rattle.layout.specs.declared.room.Loaded.the-variants as loads
 use Rattle.layout.specs.declared.room.LoadRefusal.{LoadRefusal}
 use Rattle.layout.proofs.Loads.{loading-good, loading-bad, RoomFound, outcome-found}
+use Rattle.plan_rooms.specs.Outputs.{allLists, output, count, entries, Lists}
 use Rattle.plan_rooms.specs.Planning.{PlanGiven}
-use Rattle.plans.specs.Admission.{refusalOf, listReasons, admitting, admission}
+use Rattle.plan_rooms.proofs.Outputs.{any-of}
+use Rattle.plans.specs.Admission.{refusalOf, listReason, listReasons, admitting, admission}
+use Rattle.plans.specs.Done.{planIn, PlanDone}
 use Rattle.plans.specs.declared.Admission.the-variants as admitted
 
 -- ---- The checks behind the loading, in their order
@@ -126,10 +130,16 @@ module _ (table demands : List ℕ) (lengths : Lengths) where
 pub record Admitted (table demands : List ℕ) (lengths : Lengths) (counts : Counts) : Type 0 where
   pub room-found : RoomFound table demands counts
   pub is : plan table demands lengths ≡ accepted (planOf (room-found .room) demands)
-  pub grantsLong : counts .cords ≤ lengths .grants
-  pub capsLong : counts .servers ≤ lengths .caps
-  pub headroomLong : counts .cords ≤ lengths .headroom
-  pub heldLong : counts .cords ≤ lengths .held
+  pub long : (list : PlanList) → count (counts .cords) (counts .servers) list ≤ entries lengths list
+
+-- Lists that give no reason to refuse are long enough.
+lists-long : (counts : Counts) (lengths : Lengths) (names : List PlanList) {given : Counts} → unless (map (listReason counts lengths) names) counts ≡ accepted given
+    → All (λ list. count (counts .cords) (counts .servers) list ≤ entries lengths list) names
+unfolding All
+lists-long counts lengths [] e = tt
+lists-long counts lengths (list ∷ rest) e =
+    let passed = unless-back _ _ counts e in
+    (ltb-false (entries lengths list) (count (counts .cords) (counts .servers) list) (passed .0), lists-long counts lengths rest (passed .1))
 
 module _ (table demands : List ℕ) (lengths : Lengths) {loaded : Loaded} {answer : admitted.the-data} (l : loaded ≡ loadedOf (loading table demands)) (d : answer ≡ admission (admitting loaded lengths)) where
   -- What the checks behind the loading come to.
@@ -151,10 +161,6 @@ module _ (table demands : List ℕ) (lengths : Lengths) {loaded : Loaded} {answe
       go (accepted r) is (accepted given) u told =
           let all = sym (by-room is) ∙ u in
           let counted : counts ≡ countsOf r = (let t : counts ≡ given = cc in t) ∙ unless-is (listReasons (countsOf r) lengths) (countsOf r) given all in
-          let grants = unless-back _ _ (countsOf r) all in
-          let caps = unless-back _ _ (countsOf r) (grants .1) in
-          let headroom = unless-back _ _ (countsOf r) (caps .1) in
-          let held = unless-back _ _ (countsOf r) (headroom .1) in
           let f = outcome-found table demands is in
           rw counted
           (record {
@@ -162,10 +168,7 @@ module _ (table demands : List ℕ) (lengths : Lengths) {loaded : Loaded} {answe
             is = room-planned table demands lengths is
                 ∙ other-accepted (countsOf r) (planOf r demands) (listReasons (countsOf r) lengths) all
                 ∙ ap (λ (x : Room). accepted (planOf x demands)) (accepted-is (sym is ∙ f .accepts));
-            grantsLong = ltb-false (lengths .grants) (roomCords r) (grants .0);
-            capsLong = ltb-false (lengths .caps) (length (r .servers)) (caps .0);
-            headroomLong = ltb-false (lengths .headroom) (roomCords r) (headroom .0);
-            heldLong = ltb-false (lengths .held) (roomCords r) (held .0);
+            long = any-of _ (lists-long (countsOf r) lengths allLists all);
           })
 
   -- What is not admitted, Plan refuses.
@@ -226,18 +229,12 @@ stored-again list first second {list′} same e f =
 
 -- ---- What is told, and what is left in the lists
 
-module _ (outcome : PlanOutcome) {q : PlanRefusal} (e : outcome ≡ refused q) where
-  pub refusal-told : planned.Refused q ≡ answerOf outcome
-  refusal-told = rw e refl
+module _ (table demands : List ℕ) (lent : Lists) where
+  -- Refused, a list is as it was.
+  pub refused-done : {q : PlanRefusal} → planIn table demands lent ≡ refused q → PlanDone table demands lent (planned.Refused q) lent
+  refused-done e = record { answer-is = rw e refl; lists-are = λ list. rw e refl }
 
-  -- A list is as it was.
-  pub unwritten : (output : Plan → List ℕ) (list : List ℕ) → list ≡ after output outcome list
-  unwritten output list = rw e refl
-
-module _ (outcome : PlanOutcome) {plan : Plan} (e : outcome ≡ accepted plan) where
-  pub freed-told : {watts : ℕ} → watts ≡ plan .freed → planned.Accepted watts ≡ answerOf outcome
-  freed-told is = rw (e, is) refl
-
-  -- A list has what the plan has for it at its front.
-  pub written : (output : Plan → List ℕ) (list : List ℕ) {list′ : List ℕ} → list′ ≡ sets list 0 (output plan) → list′ ≡ after output outcome list
-  written output list is = rw e is
+  -- Accepted, it has what the plan has for it at its front.
+  pub accepted-done : {plan : Plan} {watts : ℕ} {left : Lists} → planIn table demands lent ≡ accepted plan → watts ≡ plan .freed
+      → ((list : PlanList) → left list ≡ sets (lent list) 0 (output list plan)) → PlanDone table demands lent (planned.Accepted watts) left
+  accepted-done e freed stored = record { answer-is = rw (e, freed) refl; lists-are = λ list. rw e (stored list) }

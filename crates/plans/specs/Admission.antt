@@ -1,10 +1,10 @@
 -- What the checks of Plan come to, once a room is loaded: its lists may still be too short. The contract of `plan` rests on
 -- deals/specs/Plan.antt: only private functions, and those that lead to it, cite this.
-use mathlib.Core.List.{List, [], _∷_}
+use mathlib.Core.List.{List, map}
 use Rattle.outcomes.specs.Outcome.{Outcome, accepted, refused, unless, tooShort}
 use Rattle.deals.specs.Plan.{PlanReason}
 use Rattle.deals.specs.declared.Lengths.{Lengths}
-use Rattle.deals.specs.declared.PlanList.the-variants.{Grants, Caps, Headroom, Held}
+use Rattle.deals.specs.declared.PlanList.{PlanList}
 use Rattle.deals.specs.declared.PlanRefusal.{PlanRefusal}
 use Rattle.deals.specs.declared.PlanRefusal.the-variants.{Table, DemandCount, DemandTooLarge, ListTooShort}
 use Rattle.layout.specs.declared.room.Counts.{Counts}
@@ -12,6 +12,7 @@ use Rattle.layout.specs.declared.room.Loaded.{Loaded}
 use Rattle.layout.specs.declared.room.Loaded.the-variants as loads
 use Rattle.layout.specs.declared.room.LoadRefusal.{LoadRefusal}
 use Rattle.layout.specs.declared.room.LoadRefusal.the-variants as refusals
+use Rattle.plan_rooms.specs.Outputs.{allLists, count, entries}
 use Rattle.plans.specs.declared.Admission.{Admission}
 use Rattle.plans.specs.declared.Admission.the-variants.{Good, Refused}
 
@@ -21,14 +22,12 @@ refusalOf (refusals.Table refusal) = Table refusal
 refusalOf (refusals.DemandCount place) = DemandCount place
 refusalOf (refusals.DemandTooLarge place) = DemandTooLarge place
 
--- The reasons to refuse the plan of a room with these counts, in their order (12 to 15): a list is too short.
+-- The reasons to refuse the plan of a room with these counts, in their order (12 and on): a list is too short.
+abbrev pub listReason : Counts → Lengths → PlanList → PlanReason
+listReason counts lengths list = tooShort (ListTooShort list) (entries lengths list) (count (counts .cords) (counts .servers) list)
+
 abbrev pub listReasons : Counts → Lengths → List PlanReason
-listReasons counts lengths =
-    tooShort (ListTooShort Grants) (lengths .grants) (counts .cords)
-    ∷ tooShort (ListTooShort Caps) (lengths .caps) (counts .servers)
-    ∷ tooShort (ListTooShort Headroom) (lengths .headroom) (counts .cords)
-    ∷ tooShort (ListTooShort Held) (lengths .held) (counts .cords)
-    ∷ []
+listReasons counts lengths = map (listReason counts lengths) allLists
 
 -- What is admitted of what was loaded: the room's counts, or a refusal.
 unfoldable pub admitting : Loaded → Lengths → Outcome Counts PlanRefusal

@@ -1,8 +1,8 @@
 // Plan: a room is loaded, its lists are checked, and then it is planned.
 ghost use mathlib.Core.Path.{_≡_};
-ghost use Rattle.outcomes.specs.Outcome.{after};
-ghost use Rattle.deals.specs.Plan.{plan, lent, answerOf};
+ghost use Rattle.plan_rooms.specs.Outputs.{lists};
 ghost use Rattle.plans.specs.Admission.{refusalOf, admitting, admission};
+ghost use Rattle.plans.specs.Done.{PlanDone};
 use deals::Lengths;
 use deals::PlanList;
 use deals::PlanRefusal;
@@ -66,16 +66,9 @@ pub fn plan(
     headroom: &mut [u32],
     held: &mut [u32],
 ) -> Planned
-    ensures answer { λ r. ⌜ r ≡ answerOf (plan (now (table .entry)) (now (demands .entry))
-        (lent (now (grants .entry)) (now (caps .entry)) (now (headroom .entry)) (now (held .entry)))) ⌝ }
-    ensures grants { λ _. ⌜ now (grants .exit) ≡ after (λ p. p .grants) (plan (now (table .entry)) (now (demands .entry))
-        (lent (now (grants .entry)) (now (caps .entry)) (now (headroom .entry)) (now (held .entry)))) (now (grants .entry)) ⌝ }
-    ensures caps { λ _. ⌜ now (caps .exit) ≡ after (λ p. p .caps) (plan (now (table .entry)) (now (demands .entry))
-        (lent (now (grants .entry)) (now (caps .entry)) (now (headroom .entry)) (now (held .entry)))) (now (caps .entry)) ⌝ }
-    ensures headroom { λ _. ⌜ now (headroom .exit) ≡ after (λ p. p .headroom) (plan (now (table .entry)) (now (demands .entry))
-        (lent (now (grants .entry)) (now (caps .entry)) (now (headroom .entry)) (now (held .entry)))) (now (headroom .entry)) ⌝ }
-    ensures held { λ _. ⌜ now (held .exit) ≡ after (λ p. p .held) (plan (now (table .entry)) (now (demands .entry))
-        (lent (now (grants .entry)) (now (caps .entry)) (now (headroom .entry)) (now (held .entry)))) (now (held .entry)) ⌝ }
+    ensures done { λ r. ⌜ PlanDone (now (table .entry)) (now (demands .entry))
+        (lists (now (grants .entry)) (now (caps .entry)) (now (headroom .entry)) (now (held .entry))) r
+        (lists (now (grants .exit)) (now (caps .exit)) (now (headroom .exit)) (now (held .exit))) ⌝ }
 {
     let mut parents = [0u16; 512];
     let mut left = [0u32; 512];

@@ -2,6 +2,7 @@
 use mathlib.Core.List.{List}
 use Prim.Native.Nat.{ℕ}
 use Rattle.hutplan.proofs.Prints.{RoomText, table-refused, table-accepted}
+use Rattle.deals.specs.declared.PlanList.the-variants.{Grants, Caps, Headroom, Held}
 use Rattle.print.proofs.Putting.{put-as}
 use borrow.Author.Needs.{needs}
 use Rattle.hutplan.proofs.print_table.Statement.{statement}
@@ -45,7 +46,7 @@ room-text c =
     let said = plan .plan .ensures in
     table-accepted (table plan) (demands plan) (args .grants .now) (args .caps .now) (args .headroom .now) (args .held .now) (start plan .pre)
     (grants plan) (caps plan) (headroom plan) (held plan)
-    (c .planned .given .1) (said .0) (said .1 .0) (said .1 .1 .0) (said .1 .1 .1 .0) (said .1 .1 .1 .1)
+    (c .planned .given .1) (said .answer-is) (said .lists-are Grants) (said .lists-are Caps) (said .lists-are Headroom) (said .lists-are Held)
 
 plan-requires : tie.Need-plan-requires
 plan-requires c κs = search needs
@@ -117,7 +118,7 @@ returns-2 c =
     let args = start plan .args in
     let is =
     table-refused (table plan) (demands plan) (args .grants .now) (args .caps .now) (args .headroom .now) (args .held .now) (start plan .pre)
-    (known .planned2 .given .1) (plan .plan .ensures .0) in
+    (known .planned2 .given .1) (plan .plan .ensures .answer-is) in
     (rw (numbered .number .ensures, put .before .before .place .ensures, ← is) at (put .refusal .ensures .0), put .refusal .ensures .1)
 
 pub print-table-spec : {M : Type 1} → statement M

@@ -1,15 +1,21 @@
 -- `plan_bytes` meets its contract: just what the plan wrote is stored, and its answer is told.
-use mathlib.Core.Path.{sym}
+use mathlib.Core.Path.{_≡_, refl, sym}
 use mathlib.Core.List.{List}
-use Prim.Native.Nat.{ℕ}
+use Prim.Native.Nat.{ℕ, _/_}
 use native.Mathlib.Omega.{arith}
-use lib.Seq.{length-take-le}
-use Rattle.words.specs.Bytes.{wordsOf}
+use lib.ListN.{length, take}
+use lib.Seq.{sets, length-take-le}
+use Rattle.outcomes.specs.Outcome.{after}
+use Rattle.words.specs.Bytes.{wordsOf, bytesOf}
 use Rattle.deals.specs.Plan.{PlanOutcome, plan}
 use Rattle.deals.specs.declared.Lengths.{Lengths}
+use Rattle.deals.specs.declared.PlanList.{PlanList}
+use Rattle.deals.specs.declared.PlanList.the-variants.{Grants, Caps, Headroom, Held}
+use Rattle.plan_rooms.specs.Outputs.{output, count, entries, Lists, lists}
+use Rattle.plan_rooms.proofs.Outputs.{each}
 use Rattle.plan_bytes.specs.Call.{lentBytes}
 use Rattle.plan_bytes.specs.Figures.{FiguresLeft}
-use Rattle.plan_bytes.proofs.PlanLaws.{grants-fit, caps-fit, headroom-fits, held-fit, list-stored, plan-short, plan-done}
+use Rattle.plan_bytes.proofs.PlanLaws.{output-fitting, list-stored, plan-short, plan-done}
 use borrow.Author.Needs.{needs}
 use Rattle.plan_bytes.proofs.plan_bytes.Statement.{statement}
 use Rattle.plan_bytes.proofs.plan_bytes.Tie as tie
@@ -28,15 +34,32 @@ table f = wordsOf (start f .args .table .now)
 abbrev demands : tie.After-plan-figures → List ℕ
 demands f = wordsOf (start f .args .demands .now)
 
+abbrev lent : tie.After-plan-figures → Lists
+lent f = lists (start f .args .grants .now) (start f .args .caps .now) (start f .args .headroom .now) (start f .args .held .now)
+
 abbrev lengths : tie.After-plan-figures → Lengths
-lengths f = lentBytes (start f .args .grants .now) (start f .args .caps .now) (start f .args .headroom .now) (start f .args .held .now)
+lengths f = lentBytes (lent f)
 
 abbrev outcome : tie.After-plan-figures → PlanOutcome
 outcome f = plan (table f) (demands f) (lengths f)
 
-abbrev left : (f : tie.After-plan-figures) → FiguresLeft (outcome f) (f .plan-figures .result) (f .plan-figures .last .1 .1 .1 .0) (f .plan-figures .last .1 .1 .1 .1 .0)
-    (f .plan-figures .last .1 .1 .1 .1 .1 .0) (f .plan-figures .last .1 .1 .1 .1 .1 .1 .0)
+abbrev words : tie.After-plan-figures → Lists
+words f =
+    lists (f .plan-figures .last .1 .1 .1 .0) (f .plan-figures .last .1 .1 .1 .1 .0) (f .plan-figures .last .1 .1 .1 .1 .1 .0) (f .plan-figures .last .1 .1 .1 .1 .1 .1 .0)
+
+abbrev left : (f : tie.After-plan-figures) → FiguresLeft (outcome f) (f .plan-figures .result) (words f)
 left f = f .plan-figures .ensures
+
+-- What is stored of a list's words is what the outcome writes to it.
+entries-are : (f : tie.After-plan-figures) (list : PlanList) → entries (lengths f) list ≡ length (lent f list) / 4
+entries-are f = each _ refl refl refl refl
+
+stored : (f : tie.After-plan-figures) (list : PlanList) {bytes′ : List ℕ}
+    → bytes′ ≡ sets (lent f list) 0 (bytesOf (take (length (lent f list) / 4) (take (count (f .plan-figures .result .cords) (f .plan-figures .result .servers) list) (words f list))))
+    → bytes′ ≡ after (λ p. bytesOf (output list p)) (outcome f) (lent f list)
+stored f list =
+    list-stored (output list) (outcome f) (lent f list) (left f .lists-are list)
+    (omega (arith, output-fitting (table f) (demands f) (lengths f) list, entries-are f list))
 
 -- ---- Earlier places, each from a later one
 
@@ -55,7 +78,7 @@ store-4 s = s .before .before .before .before .before
 -- ---- The needs
 
 returns : tie.Need-returns
-returns c = plan-short _ _ _ _ _ _ (c .if1 .taken)
+returns c = plan-short _ _ _ (c .if1 .taken)
 
 slice-aggregate-plan-figures : tie.Need-slice-aggregate-plan-figures
 slice-aggregate-plan-figures c = search needs
@@ -73,7 +96,7 @@ plan-figures-requires : tie.Need-plan-figures-requires
 plan-figures-requires c κs = search needs
 
 array-share-prefix-granted : tie.Need-array-share-prefix-granted
-array-share-prefix-granted c = search needs
+array-share-prefix-granted c = left (c .before .before .before .before) .lists-are Grants .few
 
 slice-aggregate-store : tie.Need-slice-aggregate-store
 slice-aggregate-store c = sym (length-take-le _ _ (array-share-prefix-granted (c .before)))
@@ -82,7 +105,7 @@ store-requires : tie.Need-store-requires
 store-requires c κs = search needs
 
 array-share-prefix-capped : tie.Need-array-share-prefix-capped
-array-share-prefix-capped c = search needs
+array-share-prefix-capped c = left (figures-s (c .before .before)) .lists-are Caps .few
 
 slice-aggregate-store-2 : tie.Need-slice-aggregate-store-2
 slice-aggregate-store-2 c = sym (length-take-le _ _ (array-share-prefix-capped (c .before)))
@@ -91,7 +114,7 @@ store-requires-2 : tie.Need-store-requires-2
 store-requires-2 c κs = search needs
 
 array-share-prefix-lent : tie.Need-array-share-prefix-lent
-array-share-prefix-lent c = search needs
+array-share-prefix-lent c = left (figures-s (store-2 (c .before .before))) .lists-are Headroom .few
 
 slice-aggregate-store-3 : tie.Need-slice-aggregate-store-3
 slice-aggregate-store-3 c = sym (length-take-le _ _ (array-share-prefix-lent (c .before)))
@@ -100,7 +123,7 @@ store-requires-3 : tie.Need-store-requires-3
 store-requires-3 c κs = search needs
 
 array-share-prefix-holders : tie.Need-array-share-prefix-holders
-array-share-prefix-holders c = search needs
+array-share-prefix-holders c = left (figures-s (store-2 (store-3 (c .before .before)))) .lists-are Held .few
 
 slice-aggregate-store-4 : tie.Need-slice-aggregate-store-4
 slice-aggregate-store-4 c = sym (length-take-le _ _ (array-share-prefix-holders (c .before)))
@@ -143,13 +166,9 @@ returns-2 c =
     let grants = store-2 caps in
     let f = figures-s grants in
     let args = start f .args in
-    let done = left f in
-    plan-done (outcome f) (args .grants .now) (args .caps .now) (args .headroom .now) (args .held .now) (args .answer .now)
-    (omega (arith, else-f f .if1 .left)) (done .answer-is)
-    (list-stored (λ p. p .grants) (outcome f) (args .grants .now) (done .grants-are) (grants-fit (table f) (demands f) (lengths f)) (grants .store .ensures))
-    (list-stored (λ p. p .caps) (outcome f) (args .caps .now) (done .caps-are) (caps-fit (table f) (demands f) (lengths f)) (caps .store2 .ensures))
-    (list-stored (λ p. p .headroom) (outcome f) (args .headroom .now) (done .headroom-is) (headroom-fits (table f) (demands f) (lengths f)) (headroom .store3 .ensures))
-    (list-stored (λ p. p .held) (outcome f) (args .held .now) (done .held-are) (held-fit (table f) (demands f) (lengths f)) (held .store4 .ensures))
+    plan-done (outcome f) (lent f) _ (args .answer .now)
+    (omega (arith, else-f f .if1 .left)) (left f .answer-is)
+    (each _ (stored f Grants (grants .store .ensures)) (stored f Caps (caps .store2 .ensures)) (stored f Headroom (headroom .store3 .ensures)) (stored f Held (held .store4 .ensures)))
     (number .number .ensures) (figure .figure .ensures) (told .store-answer .ensures)
 
 pub plan-bytes-spec : {M : Type 1} → statement M

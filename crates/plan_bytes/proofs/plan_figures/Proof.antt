@@ -9,6 +9,7 @@ use Rattle.deals.specs.declared.Lengths.{Lengths}
 use Rattle.layout.specs.declared.room.Counts.{Counts}
 use Rattle.layout.proofs.Loads.{servers-few, cords-few}
 use Rattle.plan_rooms.specs.Planning.{PlanGiven}
+use Rattle.plan_rooms.proofs.Outputs.{each}
 use Rattle.plans.proofs.PlanCall.{Admitted, admitted-good, admitted-refused, plan-given}
 use Rattle.plan_bytes.proofs.PlanLaws.{figures-accepted, figures-refused}
 use borrow.Author.Needs.{needs}
@@ -164,7 +165,7 @@ returns c =
     let p = planned-z c in
     let k = known-p p in
     let a = admitted k in
-    figures-accepted a (p .plan-loaded .ensures (table k) (demands k) (a .room-found .room) (given k)) (granted-long k) (capped-long k) (lent-long k) (holders-long k)
+    figures-accepted a _ _ (p .plan-loaded .ensures (table k) (demands k) (a .room-found .room) (given k)) (each _ (granted-long k) (capped-long k) (lent-long k) (holders-long k))
 
 same-length-5 : tie.Need-same-length-5
 same-length-5 c = search needs
@@ -177,7 +178,7 @@ returns-2 c =
     let a = c .before .before .before in
     let b = loaded-a a in
     let s = start-b b in
-    figures-refused _ (admitted-refused (wordsOf (s .args .table .now)) (wordsOf (s .args .demands .now)) (s .args .lengths) (b .load-bytes .ensures .0) (a .admit .ensures) (c .before .admission2 .given .1)) _ _ _ _
+    figures-refused _ (admitted-refused (wordsOf (s .args .table .now)) (wordsOf (s .args .demands .now)) (s .args .lengths) (b .load-bytes .ensures .0) (a .admit .ensures) (c .before .admission2 .given .1)) _
 
 pub plan-figures-spec : {M : Type 1} → statement M
 plan-figures-spec =

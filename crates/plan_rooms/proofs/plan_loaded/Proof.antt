@@ -14,8 +14,9 @@ use Rattle.figures.proofs.Fronts.{equal-length, front-length, Lent, lent, lent-
 use Rattle.plan_headroom.specs.Lending.{LendGiven}
 use Rattle.plan_holders.specs.Holding.{HeldLists}
 use Rattle.plan_rooms.specs.Planning.{RoomToDeal, DealtTwice, PlanGiven}
-use Rattle.plan_rooms.proofs.Planning.{blank-marks}
-use Rattle.plan_rooms.proofs.Following.{held-lists, lend-given, plan-made}
+use Rattle.plan_rooms.proofs.Outputs.{each}
+use Rattle.plan_rooms.proofs.Planning.{blank-marks, second-dealt}
+use Rattle.plan_rooms.proofs.Following.{held-lists, lend-given, held-made, headroom-made}
 use Rattle.plan_rooms.proofs.Given.{given-ok, nodes-few, cords-few, parents-long, spare-long, cords-long, lows-long, wants-long, headroom-long, caps-long, to-deal, ceilings-given, stands}
 use borrow.Author.Needs.{needs}
 use Rattle.plan_rooms.proofs.plan_loaded.Statement.{statement}
@@ -360,14 +361,16 @@ returns c = λ table demands r g.
     let h = named-l l in
     let z = dealt-h h in
     let s = start-z z in
-    let made = plan-made (given-ok g) (lists-z z g) (dealt-z z g) (held-z z g) (ceilings-given g)
-    (l .lend .ensures (limitsOf r) (levelsOf r) (lowsOf r) (firstUsed r demands) (lend-z z g)) (h .name-holders .ensures) in
+    let ok = given-ok g in
+    let of = lists-z z g in
+    let dealt = dealt-z z g in
+    let lent-out = l .lend .ensures (limitsOf r) (levelsOf r) (lowsOf r) (firstUsed r demands) (lend-z z g) in
     record {
-      freed-is = made .freed-is;
-      grants-are = stands (grants-lent z) _ (sym (lent-again (grants-lent z)) ∙ made .grants-are);
-      caps-are = stands (caps-lent z) _ (sym (lent-again (caps-lent z)) ∙ made .caps-are);
-      headroom-is = stands (lent (headroom-long (some s)) (l .lend .kept .1 .1 .1 .1 .1 .0)) _ (made .headroom-is);
-      held-are = stands (lent (s .pre .1 .1) (h .name-holders .kept .1 .1 .1 .1 .1 .0)) _ (made .held-are);
+      freed-is = dealt .freed-is;
+      lists-are = each _ (stands (grants-lent z) _ (sym (lent-again (grants-lent z)) ∙ second-dealt ok of (dealt .made)))
+          (stands (caps-lent z) _ (sym (lent-again (caps-lent z)) ∙ dealt .caps-are))
+          (stands (lent (headroom-long (some s)) (l .lend .kept .1 .1 .1 .1 .1 .0)) _ (headroom-made ok of dealt (ceilings-given g) lent-out))
+          (stands (lent (s .pre .1 .1) (h .name-holders .kept .1 .1 .1 .1 .1 .0)) _ (held-made ok of dealt (held-z z g) (h .name-holders .ensures)));
     }
 
 pub plan-loaded-spec : {M : Type 1} → statement M

@@ -6,16 +6,16 @@ use native.Mathlib.Omega.{arith}
 use lib.ListN.{length, take, length-replicate}
 use lib.Seq.{length-take-le}
 use Rattle.rooms.specs.Table.{mostServers, mostCords, roomCords}
-use Rattle.deals.specs.SecondDeal as second
-use Rattle.deals.specs.Headroom.{headroom}
-use Rattle.deals.specs.Plan.{plan, lent}
+use Rattle.deals.specs.Plan.{planOf}
 use Rattle.deals.specs.declared.Lengths.{Lengths}
-use Rattle.deals.proofs.Plans.{headroom-length, caps-length}
+use Rattle.deals.specs.declared.PlanList.the-variants.{Grants, Caps, Headroom, Held}
 use Rattle.layout.specs.Room.{RoomLoaded}
 use Rattle.layout.specs.declared.room.Counts.{Counts}
 use Rattle.layout.proofs.Loads.{found-accepted, servers-count, cords-count, servers-few, cords-few}
+use Rattle.plan_rooms.specs.Outputs.{output, Lists, lists, lengthsOf}
 use Rattle.plan_rooms.specs.Planning.{PlanGiven}
-use Rattle.plans.proofs.PlanCall.{Admitted, admitted-good, admitted-refused, plan-given, copied-loaded, stored-again, refusal-told, unwritten, freed-told, written}
+use Rattle.plan_rooms.proofs.Outputs.{each, output-length}
+use Rattle.plans.proofs.PlanCall.{Admitted, admitted-good, admitted-refused, plan-given, copied-loaded, stored-again, refused-done, accepted-done}
 use borrow.Author.Needs.{needs}
 use Rattle.plans.proofs.plan.Statement.{statement}
 use Rattle.plans.proofs.plan.Tie as tie
@@ -47,8 +47,14 @@ table k = start k .args .table .now
 abbrev demands : Known → List ℕ
 demands k = start k .args .demands .now
 
+abbrev lent-s : tie.Start → Lists
+lent-s s = lists (s .args .grants .now) (s .args .caps .now) (s .args .headroom .now) (s .args .held .now)
+
+abbrev lent : Known → Lists
+lent k = lent-s (start k)
+
 abbrev lengths : Known → Lengths
-lengths k = lent (start k .args .grants .now) (start k .args .caps .now) (start k .args .headroom .now) (start k .args .held .now)
+lengths k = lengthsOf (λ list. length (lent k list))
 
 abbrev counts : Known → Counts
 counts k = k .before .admission .given .0 .0
@@ -112,7 +118,7 @@ given-2 y =
     plan-given a
     (copied-loaded (parents-after k) (left-after k) (cords-after k) (lows-after k) (wants-after k) (ceilings-after k) (needs-after k) (found-accepted (a .room-found)) (loaded k)
     (start k .args .headroom .now) (start k .args .caps .now) (copied-y y .copy .last .1 .0) (y .copy2 .last .1 .0)
-    (cords-count (a .room-found)) (servers-count (a .room-found)) (a .headroomLong) (a .capsLong) (copied-y y .copy .ensures) (y .copy2 .ensures))
+    (cords-count (a .room-found)) (servers-count (a .room-found)) (a .long Headroom) (a .long Caps) (copied-y y .copy .ensures) (y .copy2 .ensures))
 
 -- ---- After the plan
 
@@ -192,7 +198,7 @@ plan-loaded-requires : tie.Need-plan-loaded-requires
 plan-loaded-requires c κs =
     let y = copied-5 (c .before .before .before .before) in
     let a = admitted (known-2 y) in
-    (record { table = table (known-2 y); demands = demands (known-2 y); room = a .room-found .room; given = given-2 y }, (a .grantsLong, a .heldLong))
+    (record { table = table (known-2 y); demands = demands (known-2 y); room = a .room-found .room; given = given-2 y }, (a .long Grants, a .long Held))
 
 enum-known-admission-2 : tie.Need-enum-known-admission-2
 enum-known-admission-2 c = search needs
@@ -216,33 +222,20 @@ returns c =
     let k = known-2 y in
     let a = admitted k in
     let room = a .room-found .room in
-    let outcome = plan (table k) (demands k) (lengths k) in
     let left = p .plan-loaded .ensures (table k) (demands k) room (given-2 y) in
-    let args = start k .args in (
-      freed-told outcome (a .is) (left .freed-is),
-      (
-        written outcome (a .is) (λ p. p .grants) (args .grants .now) (left .grants-are),
-        (
-          written outcome (a .is) (λ p. p .caps) (args .caps .now)
-              (stored-again (args .caps .now) (take (counts k .servers) (needs-after k)) (second.caps room (demands k)) (needs-copied k ∙ sym (caps-length room (demands k))) (y .copy2 .ensures) (left .caps-are)),
-          (
-            written outcome (a .is) (λ p. p .headroom) (args .headroom .now)
-                (stored-again (args .headroom .now) (take (counts k .cords) (ceilings-after k)) (headroom room (demands k)) (ceilings-copied k ∙ sym (headroom-length room (demands k))) (copied-y y .copy .ensures) (left .headroom-is)),
-            written outcome (a .is) (λ p. p .held) (args .held .now) (left .held-are),
-          ),
-        ),
-      ),
-    )
+    let args = start k .args in
+    accepted-done (table k) (demands k) (lent k) (a .is) (left .freed-is)
+    (each _ (left .lists-are Grants)
+    (stored-again (args .caps .now) (take (counts k .servers) (needs-after k)) (output Caps (planOf room (demands k))) (needs-copied k ∙ sym (output-length room (demands k) Caps)) (y .copy2 .ensures) (left .lists-are Caps))
+    (stored-again (args .headroom .now) (take (counts k .cords) (ceilings-after k)) (output Headroom (planOf room (demands k))) (ceilings-copied k ∙ sym (output-length room (demands k) Headroom)) (copied-y y .copy .ensures) (left .lists-are Headroom))
+    (left .lists-are Held))
 
 returns-2 : tie.Need-returns-2
 returns-2 c =
     let a = c .before .before .before in
     let s = start-r (loaded-a a) in
-    let outcome = plan (s .args .table .now) (s .args .demands .now) (lent (s .args .grants .now) (s .args .caps .now) (s .args .headroom .now) (s .args .held .now)) in
-    let refused = admitted-refused (s .args .table .now) (s .args .demands .now) _ (loaded-a a .load-room .ensures .0) (a .admit .ensures) (c .before .admission2 .given .1) in (
-      refusal-told outcome refused,
-      (unwritten outcome refused (λ p. p .grants) _, (unwritten outcome refused (λ p. p .caps) _, (unwritten outcome refused (λ p. p .headroom) _, unwritten outcome refused (λ p. p .held) _))),
-    )
+    refused-done (s .args .table .now) (s .args .demands .now) (lent-s s)
+    (admitted-refused (s .args .table .now) (s .args .demands .now) _ (loaded-a a .load-room .ensures .0) (a .admit .ensures) (c .before .admission2 .given .1))
 
 pub plan-spec : {M : Type 1} → statement M
 plan-spec =

@@ -10,7 +10,7 @@ use lib.ListN.{length}
 use Rattle.figures.specs.Sums.{on}
 use Rattle.figures.specs.Figures.{at, cell}
 use Rattle.figures.proofs.Sums.{sum-cong}
-use Rattle.rooms.specs.Credits.{sumBeneath}
+use Rattle.rooms.specs.Credits.{treeSum}
 use Rattle.splits.specs.Split.{part}
 use Rattle.deals.specs.Passes.{overChildren, childrenBefore, weightOf, cutMark, FullRows, Weighed, Requested, NodesDealt}
 use Rattle.deals.proofs.Cuts.{ltb-cong}
@@ -21,7 +21,7 @@ requestWeight rows level starts m = cell rows m level - at starts m
 
 -- From what is left of each limit, and the cords' starts and weights on each node.
 pub record Gathered (parents : List ℕ) (level : ℕ) (left cuts starts weights : List ℕ) (rows : List (List ℕ)) (left′ cuts′ starts′ wholes : List ℕ) (rows′ : List (List ℕ)) : Type 0 where
-  pub start : (n : ℕ) → n < length parents → at starts′ n ≡ sumBeneath (at parents) (length parents) (at starts) n
+  pub start : (n : ℕ) → n < length parents → at starts′ n ≡ treeSum (at parents) (length parents) (at starts) n
   pub children : (n : ℕ) → n < length parents → at wholes n ≡ at weights n + overChildren parents (requestWeight rows′ level starts′) n
   pub request : (n : ℕ) → n < length parents → cell rows′ n level ≡ at starts′ n + min (at left n) (at wholes n)
   pub others : (n j : ℕ) → (j ≡ level → ⊥) → cell rows′ n j ≡ cell rows n j

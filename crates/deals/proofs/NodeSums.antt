@@ -8,17 +8,16 @@ use native.Mathlib.Omega.{arith}
 use lib.Dec.{eqb, lit<}
 use lib.ListN.{length, set}
 use lib.Seq.{set-getD}
-use borrow.Author.Tests.{eqb-true}
 use Rattle.figures.specs.Sums.{on, sum}
 use Rattle.rooms.specs.Table.{mostCords, mostWatts}
-use Rattle.rooms.specs.Credits.{sumBeneath}
+use Rattle.rooms.specs.Credits.{treeSum}
 use Rattle.figures.specs.Credits.{credited}
-use Rattle.figures.proofs.Sums.{sum-suc, sum-cong, sum-zero, sum-up}
-use Rattle.rooms.proofs.Trees.{kids}
+use Rattle.figures.proofs.Sums.{sum-suc, sum-up}
 use Rattle.figures.proofs.Credits.{credited-at, credited-length}
-use Rattle.rooms.proofs.Credits.{sumBeneath-step, sumBeneath-most}
+use Rattle.rooms.proofs.Credits.{treeSum-step, treeSum-most}
 use Rattle.rooms.proofs.Gather.{Holds, holds-start, holds-turn, holds-most, holds-end, holds-whole}
 use Rattle.figures.specs.Figures.{at}
+use Rattle.rooms.specs.Trees.{ParentsFirst}
 
 pub on-zero : (t : Bool) (a : ℕ) → a ≡ 0 → on t a ≡ 0
 on-zero true a e = e
@@ -28,11 +27,7 @@ on-zero false a e = refl
 
 -- The figures that stand on the nodes, summed over each node and all beneath it.
 abbrev pub beneathAll : List ℕ → List ℕ → ℕ → ℕ
-beneathAll parents start = sumBeneath (at parents) (length parents) (at start)
-
--- Every parent's number is below its child's.
-abbrev pub Rises : List ℕ → Type 0
-Rises parents = (m : ℕ) → m < length parents → at parents m ≤ m
+beneathAll parents start = treeSum (at parents) (length parents) (at start)
 
 -- Figures of the nodes that together are no more than the most cords' watts, so that no sum of them overflows.
 abbrev pub Fits : List ℕ → List ℕ → Type 0
@@ -43,15 +38,6 @@ pub credited-nothing : (node : ℕ) (l : List ℕ) → credited node 0 l ≡ l
 unfolding credited
 credited-nothing zero l = refl
 credited-nothing (suc m) l = ap (set l m) (add-zero (at l m)) ∙ set-getD l m 0
-
--- A sum over child nodes that all have nothing.
-pub kids-none : (count : ℕ) (parent : ℕ → ℕ) (n : ℕ) (g : ℕ → ℕ) → ((m : ℕ) → m < count → parent m ≡ suc n → g m ≡ 0) → kids count parent n g ≡ 0
-unfolding kids
-kids-none count parent n g z = sum-cong count _ _ (λ m l. go m l (eqb (parent m) (suc n)) refl) ∙ sum-zero count
-  where
-    go : (m : ℕ) → m < count → (t : Bool) → eqb (parent m) (suc n) ≡ t → on t (g m) ≡ 0
-    go m l true e = z m l (eqb-true (parent m) (suc n) e)
-    go m l false e = refl
 
 -- Before the turn of the node at place n - 1: the nodes from n on have passed their sums on.
 pub record Summing (parents start : List ℕ) (n : ℕ) (sums : List ℕ) : Type 0 where
@@ -64,11 +50,11 @@ pub summing-start : (parents start : List ℕ) → Summing parents start (length
 summing-start parents start =
     record { done = 0; all = omega arith; held = holds-start (length parents) (at parents) (at start) (beneathAll parents start); size = refl }
 
-module _ {parents start : List ℕ} (rises : Rises parents) where
+module _ {parents start : List ℕ} (rises : ParentsFirst (length parents) (at parents)) where
   pub summing-end : {n : ℕ} {sums : List ℕ} → Summing parents start n sums → n ≤ 0 → (m : ℕ) → m < length parents → at sums m ≡ beneathAll parents start m
   summing-end {n = zero} {sums = sums} inv z m l =
       holds-end (length parents) (at parents) (at start) (beneathAll parents start) (inv .done) (at sums) (inv .all) (inv .held) m l
-      ∙ sym (sumBeneath-step (length parents) (at parents) rises (at start) m l)
+      ∙ sym (treeSum-step (length parents) (at parents) rises (at start) m l)
   summing-end {n = suc k} inv z m l = absurd (omega arith)
 
   -- No sum ever passes the sum of all.
@@ -77,8 +63,8 @@ module _ {parents start : List ℕ} (rises : Rises parents) where
       omega (
         arith,
         holds-most (length parents) (at parents) (at start) (beneathAll parents start) (inv .done) n (at sums) (inv .all) (inv .held) m l,
-        sumBeneath-step (length parents) (at parents) rises (at start) m l,
-        sumBeneath-most (length parents) (at parents) (at start) m,
+        treeSum-step (length parents) (at parents) rises (at start) m l,
+        treeSum-most (length parents) (at parents) (at start) m,
       )
 
   -- So a node's credit to its parent does not overflow.
@@ -95,7 +81,7 @@ module _ {parents start : List ℕ} (rises : Rises parents) where
   pub whole-at : {m : ℕ} {sums : List ℕ} → Summing parents start (suc m) sums → at sums m ≡ beneathAll parents start m
   whole-at {m} {sums} inv =
       holds-whole (length parents) (at parents) (at start) (beneathAll parents start) rises (inv .done) m (at sums) (inv .all) (inv .held)
-      ∙ sym (sumBeneath-step (length parents) (at parents) rises (at start) m (omega (arith, inv .all)))
+      ∙ sym (treeSum-step (length parents) (at parents) rises (at start) m (omega (arith, inv .all)))
 
   -- A node's turn.
   pub summing-at : {m : ℕ} {sums : List ℕ} {parent : ℕ} {sums′ : List ℕ} → length parents ≤ length start → Summing parents start (suc m) sums

@@ -24,10 +24,11 @@ use Rattle.deals.proofs.NodeSums.{on-zero, sum-within, product-fits}
 use Rattle.splits.proofs.Splits.{part-le}
 use Rattle.splits.specs.Serving.{MayServe, HasServed}
 use Rattle.splits.proofs.Serving.{Served, served-same, served-more, served-amount, served-part, served-next, may-serve}
+use Rattle.rooms.specs.Trees.{ParentsFirst}
 
 -- What the pass takes of the nodes.
 pub record NodesReady (parents active : List ℕ) (count : ℕ) (weights wholes : List ℕ) : Type 0 where
-  pub rises : (m : ℕ) → m < length parents → at parents m ≤ m
+  pub rises : ParentsFirst (length parents) (at parents)
   pub listed : WeightsListed parents active count wholes weights
   pub bounds : (n : ℕ) → n < length parents
       → (weightOf weights wholes n ≤ mostWatts)

@@ -11,7 +11,7 @@ use borrow.Author.Tests.{eqb-true, eqb-false}
 use Rattle.figures.specs.Sums.{on, sum}
 use Rattle.figures.proofs.Sums.{sum-cong, sum-zero}
 use Rattle.rooms.specs.Table.{mostNodes, mostCords, mostWatts, highestRank}
-use Rattle.rooms.specs.Credits.{sumBeneath}
+use Rattle.rooms.specs.Credits.{treeSum}
 use Rattle.figures.specs.Figures.{at, cell}
 use Rattle.deals.specs.Metrics.{dealFrom}
 use Rattle.figures.specs.Places.{Absent, Present}
@@ -22,6 +22,7 @@ use Rattle.deals.proofs.Requesting.{beneath-none}
 use Rattle.deals.proofs.Gathered.{requestWeight, Gathered, gathered, weight-listed, children-cong, dealt-again}
 use Rattle.deals.specs.Ranks.{NodeLists, CordLists, DealLists, DealGiven, SomeDeal, Uncut, DealMade}
 use Rattle.deals.proofs.Ranks.{State, state-start, state-end, state-skip, sums-most, gather-asks, nodes-ask, cords-ask, state-turn}
+use Rattle.rooms.specs.Trees.{ParentsFirst}
 
 -- The length of the lists with a rank's figure of each node.
 abbrev pub figuresLength : ℕ
@@ -201,7 +202,7 @@ module _ {parents : List ℕ} {rows : List (List ℕ)} {order : List ℕ} {activ
           sums-fit = sums-most parents (some-deal .limits) nodes (some-deal .levels) (some-deal .lows) starts wants lists level here listed of b w (sums .on-starts) (sums .on-weights)
 
           -- What `weigh` asks.
-          pub weigh-asks : (ActiveNodes parents active count × ((m : ℕ) → m < length parents → at parents m ≤ m))
+          pub weigh-asks : (ActiveNodes parents active count × ParentsFirst (length parents) (at parents))
               × (((length left ≡ length parents) × (length parents ≤ length w) × (length parents ≤ length amounts₀))
               × ((sum (length parents) (at w) ≤ mostCords * mostWatts) × ((n : ℕ) → n < length parents → Absent active count n → at w n ≡ 0)))
           weigh-asks = (
@@ -215,10 +216,10 @@ module _ {parents : List ℕ} {rows : List (List ℕ)} {order : List ℕ} {activ
             weight-most n l some = omega (arith, weighed .weights-are n l, weighed .listed .within n l some)
 
             -- What `request` asks.
-            pub request-asks : ((length parents ≤ mostNodes) × (level < highestRank) × ((m : ℕ) → m < length parents → at parents m ≤ m))
+            pub request-asks : ((length parents ≤ mostNodes) × (level < highestRank) × ParentsFirst (length parents) (at parents))
                 × (((length cuts ≡ length parents) × (length parents ≤ length b) × (sum (length parents) (at b) ≤ mostCords * mostWatts))
                 × (WeightsListed parents active count w₁ weights
-                × (((n : ℕ) → n < length parents → Present active count n → sumBeneath (at parents) (length parents) (at b) n + at weights n ≤ mostWatts)
+                × (((n : ℕ) → n < length parents → Present active count n → treeSum (at parents) (length parents) (at b) n + at weights n ≤ mostWatts)
                 × (((n : ℕ) → n < length parents → Absent active count n → (at b n ≡ 0) × (cell requests n level ≡ 0)) × FullRows requests))))
             request-asks = (
               (ns .few, level-fits, ns .rises),
@@ -262,7 +263,7 @@ module _ {parents : List ℕ} {rows : List (List ℕ)} {order : List ℕ} {activ
                   omega (arith, requested .request n l, weighed .listed .idle n l none)
 
               -- What `deal_nodes` asks.
-              pub deal-nodes-asks : ((length parents ≤ length before₀) × (length dealt₀ ≡ length before₀) × ((m : ℕ) → m < length parents → at parents m ≤ m))
+              pub deal-nodes-asks : ((length parents ≤ length before₀) × (length dealt₀ ≡ length before₀) × ParentsFirst (length parents) (at parents))
                   × (WeightsListed parents active count w₁ amounts₁
                   × ((n : ℕ) → n < length parents → (weightOf amounts₁ w₁ n ≤ mostWatts) × (at w₁ n ≤ mostCords * mostWatts) × (overChildren parents (weightOf amounts₁ w₁) n ≤ at w₁ n)))
               deal-nodes-asks = (

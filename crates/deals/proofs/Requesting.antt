@@ -14,36 +14,37 @@ use Rattle.figures.specs.Credits.{credited}
 use Rattle.figures.specs.Figures.{at, cell}
 use Rattle.figures.proofs.Sums.{on-no}
 use Rattle.figures.proofs.Lists.{passed-down}
-use Rattle.rooms.proofs.Trees.{down}
-use Rattle.rooms.proofs.Credits.{sumBeneath-step}
+use Rattle.rooms.proofs.Trees.{down, childSum-none}
+use Rattle.rooms.proofs.Credits.{treeSum-step}
 use Rattle.figures.specs.Places.{Absent, Present}
 use Rattle.deals.specs.Levels.{ActiveNodes}
 use Rattle.figures.proofs.Cells.{stored, cell-here, cell-elsewhere, cell-others, stored-full}
 use Rattle.deals.proofs.Active.{Parted, parted-none, parted-all, parted-at, parted-after, between}
 use Rattle.deals.specs.Passes.{weightOf, cutMark, FullRows, WeightsListed, Requested}
-use Rattle.deals.proofs.NodeSums.{Rises, Fits, beneathAll, kids-none, Summing, summing-start, whole-at, summing-fits, summing-at, summing-idle, summing-end}
+use Rattle.deals.proofs.NodeSums.{Fits, beneathAll, Summing, summing-start, whole-at, summing-fits, summing-at, summing-idle, summing-end}
 use Rattle.deals.proofs.Weighing.{from-here}
+use Rattle.rooms.specs.Trees.{ParentsFirst}
 
 -- Where children weigh nothing, a mark stays.
 uncut : (mark level weight : ℕ) → cutMark mark level weight 0 ≡ mark
 uncut mark level weight = omega (arith, on-no (ltb weight 0) (suc level) (le-ltb weight 0 (omega arith)))
 
 -- Nothing stands beneath a node that is not active, if nothing stands on those that are not.
-pub beneath-none : {parents active : List ℕ} {count : ℕ} → ActiveNodes parents active count → Rises parents → (starts : List ℕ) → ((m : ℕ) → m < length parents → Absent active count m → at starts m ≡ 0)
+pub beneath-none : {parents active : List ℕ} {count : ℕ} → ActiveNodes parents active count → ParentsFirst (length parents) (at parents) → (starts : List ℕ) → ((m : ℕ) → m < length parents → Absent active count m → at starts m ≡ 0)
     → (m : ℕ) → m < length parents → Absent active count m → beneathAll parents starts m ≡ 0
 beneath-none {parents} {active} {count} nodes rises starts idle = down (length parents) (λ m. Absent active count m → beneathAll parents starts m ≡ 0) (λ m l below none.
     omega (
       arith,
-      sumBeneath-step (length parents) (at parents) rises (at starts) m l,
+      treeSum-step (length parents) (at parents) rises (at starts) m l,
       idle m l none,
-      kids-none (length parents) (at parents) m (beneathAll parents starts) (λ k h e. below k h (omega (arith, rises k h)) (nodes .closed k m h e none)),
+      childSum-none (length parents) (at parents) m (beneathAll parents starts) (λ k h e. below k h (omega (arith, rises k h)) (nodes .closed k m h e none)),
     ))
 
 -- What the pass starts from: a node's Request fits, and no sum overflows. A node that is not active has nothing of the rank.
 pub record Given (parents active : List ℕ) (count level : ℕ) (wholes weights cuts starts : List ℕ) : Type 0 where
   pub few : length parents ≤ mostNodes
   pub ranked : level < highestRank
-  pub rises : Rises parents
+  pub rises : ParentsFirst (length parents) (at parents)
   pub cuts-size : length cuts ≡ length parents
   pub starts-fit : Fits parents starts
   pub weights-listed : WeightsListed parents active count wholes weights

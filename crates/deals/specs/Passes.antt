@@ -7,7 +7,7 @@ use lib.Dec.{eqb, ltb}
 use lib.ListN.{length}
 use Rattle.figures.specs.Sums.{on, sum}
 use Rattle.rooms.specs.Table.{mostNodes, mostCords, mostWatts, highestRank}
-use Rattle.rooms.specs.Credits.{sumBeneath}
+use Rattle.rooms.specs.Credits.{treeSum}
 use Rattle.figures.specs.Figures.{at, cell}
 use Rattle.splits.specs.Split.{part}
 use Rattle.figures.specs.Places.{Absent, Present, Full}
@@ -80,7 +80,7 @@ pub record Weighed (parents active : List ℕ) (count : ℕ) (left own left′ w
 -- of the cuts.
 pub record Requested (parents : List ℕ) (level : ℕ) (wholes cuts starts weights : List ℕ) (rows : List (List ℕ))
     (cuts′ starts′ : List ℕ) (rows′ : List (List ℕ)) : Type 0 where
-  pub start : (n : ℕ) → n < length parents → at starts′ n ≡ sumBeneath (at parents) (length parents) (at starts) n
+  pub start : (n : ℕ) → n < length parents → at starts′ n ≡ treeSum (at parents) (length parents) (at starts) n
   pub request : (n : ℕ) → n < length parents → cell rows′ n level ≡ at starts′ n + weightOf weights wholes n
   pub others : (n j : ℕ) → (j ≡ level → ⊥) → cell rows′ n j ≡ cell rows n j
   pub cuts-are : (n : ℕ) → n < length parents → at cuts′ n ≡ cutMark (at cuts n) level (weightOf weights wholes n) (at wholes n)

@@ -4,9 +4,8 @@ use mathlib.Core.List.{List}
 use Prim.Native.Nat.{ℕ, _+_, _≤_, _<_}
 use lib.Dec.{ltb}
 use lib.ListN.{length}
-use Rattle.figures.specs.Sums.{on, sum}
 use Rattle.rooms.specs.Table.{mostNodes, mostCords, mostWatts, highestRank}
-use Rattle.rooms.specs.Limits.{beneath}
+use Rattle.rooms.specs.Trees.{ParentsFirst, sumBeneath}
 use Rattle.figures.specs.Figures.{at, cell}
 use Rattle.deals.specs.Metrics.{Deal, dealFrom, metrics}
 use Rattle.deals.specs.Dealing.{granted}
@@ -19,7 +18,7 @@ use Rattle.deals.specs.Levels.{LevelLists}
 pub record NodeLists (parents limits : List ℕ) : Type 0 where
   pub few : length parents ≤ mostNodes
   pub limits-size : length limits ≡ length parents
-  pub rises : (m : ℕ) → m < length parents → at parents m ≤ m
+  pub rises : ParentsFirst (length parents) (at parents)
   pub most : (m : ℕ) → m < length parents → at limits m ≤ mostWatts
 
 -- The cords of a room of so many nodes: for each its node's number, its level (rank − 1), its low, its start and its want.
@@ -38,7 +37,7 @@ pub record CordLists (nodeCount : ℕ) (nodes levels lows starts wants : List �
 
 -- The watts of all cords beneath the node at place n, at any depth: of the lows, rooms' `lowsBeneath`, over lists.
 abbrev pub wattsUnder : List ℕ → List ℕ → List ℕ → ℕ → ℕ
-wattsUnder parents nodes watts n = sum (length nodes) (λ c. on (beneath (at parents) (length parents) n (at nodes c)) (at watts c))
+wattsUnder parents nodes watts n = sumBeneath (length parents) (at parents) (length nodes) (at nodes) n (at watts)
 
 -- Lists of which a deal can be made: no node has a limit that the lows beneath it exceed, nor at any rank a Request that the starts
 -- beneath it exceed, and the Requests of any rank and above leave the lower ranks their starts.

@@ -5,7 +5,7 @@ ghost use Prim.Native.Nat.{ℕ, _+_, _*_, _≤_, _<_};
 ghost use lib.ListN.{length};
 ghost use Rattle.figures.specs.Sums.{sum};
 ghost use Rattle.rooms.specs.Table.{mostNodes, mostWatts, mostCords, highestRank};
-ghost use Rattle.rooms.specs.Credits.{sumBeneath};
+ghost use Rattle.rooms.specs.Credits.{treeSum};
 ghost use Rattle.figures.specs.Figures.{at, cell};
 ghost use Rattle.deals.specs.Passes.{LevelCords, overListed, cordWeight, cutMark, FullRows, Weighed, WeightsListed, Requested};
 ghost use Rattle.figures.specs.Places.{Absent, Present};
@@ -117,7 +117,7 @@ pub fn request(
         × (sum (length (now parents)) (at (now bases)) ≤ mostCords * mostWatts) ⌝ }
     requires weights { ⌜ WeightsListed (now parents) (now active) count (now wholes) (now weights) ⌝ }
     requires enough { ⌜ ((n : ℕ) → n < length (now parents) → Present (now active) count n
-        → sumBeneath (at (now parents)) (length (now parents)) (at (now bases)) n + at (now weights) n ≤ mostWatts) ⌝ }
+        → treeSum (at (now parents)) (length (now parents)) (at (now bases)) n + at (now weights) n ≤ mostWatts) ⌝ }
     requires idle { ⌜ ((n : ℕ) → n < length (now parents) → Absent (now active) count n → (at (now bases) n ≡ 0)
         × (cell (now requests) n level ≡ 0)) ⌝ }
     requires rows { ⌜ FullRows (now requests) ⌝ }

@@ -20,14 +20,14 @@ use Rattle.rooms.specs.Table.{mostNodes, mostCords, mostWatts, highestRank}
 use Rattle.rooms.specs.Limits.{firstNode}
 use Rattle.rooms.specs.Rows.{nodeColumn, levelColumn}
 use Rattle.figures.specs.Credits.{credited}
-use Rattle.rooms.specs.Credits.{sumBeneath, exceeds}
+use Rattle.rooms.specs.Credits.{treeSum, exceeds}
 use Rattle.figures.proofs.Credits.{credited-length, credited-past}
-use Rattle.rooms.proofs.Credits.{sumBeneath-step}
+use Rattle.rooms.proofs.Credits.{treeSum-step}
 use Rattle.rooms.proofs.Gather.{Holds, holds-whole, Gathered, gathered-start, gathered-turn}
 use Rattle.rooms.proofs.Search.{firstNode-cong}
-use Rattle.rooms.proofs.Trees.{kids}
 use Rattle.judge_totals.specs.Totals.{NodeLists, CordLists, overLow, onNode, fromLevel, Noted, AllNoted, Unnoted, CordsNoted, merged, heldBack, IsMost, beneath, NodesNoted, overFrom, Compared}
 use Rattle.judge_totals.proofs.Notes.{noted-same, noted-none, noted-cord, noted-held, noted-next, noted-highest, merged-length, merged-past}
+use Rattle.rooms.specs.Trees.{sumBeneath, childSum}
 
 on-most : (t : Bool) (a : ℕ) → on t a ≤ a
 on-most true a = omega arith
@@ -172,7 +172,7 @@ module _ {parents spare given₀ raised₀ wanting₀ : List ℕ} (nodes : NodeL
     high = heldBack limit (at given m) (at raised m) (at wanting m)
 
     -- When its turn comes, all its children had theirs.
-    whole : (own passed : ℕ → ℕ) → partly parents own passed (inv .turns) (suc m) m ≡ own m + kids (length parents) (at parents) m passed
+    whole : (own passed : ℕ → ℕ) → partly parents own passed (inv .turns) (suc m) m ≡ own m + childSum (length parents) (at parents) m passed
     unfolding Holds
     whole own passed = holds-whole (length parents) (at parents) own passed (nodes .rises) (inv .turns) m (partly parents own passed (inv .turns) (suc m)) (inv .all) (λ i l. refl)
 
@@ -188,10 +188,9 @@ module _ {parents spare given₀ raised₀ wanting₀ : List ℕ} (nodes : NodeL
         (is : (j : ℕ) → j < highestRank → IsMost parents spare (own j) (most j)) (z : cond (ltb limit (at given m)) (suc m) over ≡ 0) where
       -- The node's notes, with all beneath it.
       here : Noted (λ j. beneath parents (has j) m) (λ j. most j m) (at given m) (at raised m) high
-      unfolding kids
       here =
           noted-same (noted-held (inv .to-come has own most all is (before z .1) m (omega arith)) limit (before z .0))
-          (λ j k. sumBeneath-step (length parents) (at parents) (nodes .rises) (has j) m inside ∙ sym (whole (has j) (beneath parents (has j))))
+          (λ j k. treeSum-step (length parents) (at parents) (nodes .rises) (has j) m inside ∙ sym (whole (has j) (beneath parents (has j))))
           (λ j k. is j k m inside ∙ ap (min limit) (sym (whole (own j) (most j)))) refl refl refl
 
       come : (i : ℕ) → i < m
@@ -312,7 +311,7 @@ module _ {parents spare : List ℕ} {cords : List (List ℕ)} {lows wants grants
         own j = onNode cords (fromLevel cords j (overLow lows wants))
 
         same : (n : ℕ) → beneath parents (at given) n ≡ beneath parents (onNode cords (fromLevel cords 0 (overLow lows grants))) n
-        same n = sum-cong (length parents) _ _ (λ m l. ap (on (Rattle.rooms.specs.Limits.beneath (at parents) (length parents) n (suc m))) (noted m (omega (arith, nodes .few)) .watts-are))
+        same n = sum-cong (length parents) _ _ (λ m l. ap (on (Rattle.rooms.specs.Trees.beneath (at parents) (length parents) n (suc m))) (noted m (omega (arith, nodes .few)) .watts-are))
 
 -- Nothing is noted before the first cord.
 pub unnoted : (k : ℕ) (wanting : List ℕ) → ((n : ℕ) → at wanting n ≡ 0) → (count : ℕ) → count ≤ k → Unnoted count (replicate k 0) (replicate k highestRank) wanting

@@ -10,9 +10,10 @@ use Rattle.figures.specs.Figures.{at, cell}
 use Rattle.figures.specs.Sums.{on, sum}
 use Rattle.rooms.specs.Table.{mostNodes, mostCords, mostWatts, highestRank}
 use Rattle.rooms.specs.Limits.{firstNode}
-use Rattle.rooms.specs.Credits.{sumBeneath}
+use Rattle.rooms.specs.Credits.{treeSum}
 use Rattle.rooms.specs.Rows.{nodeColumn, levelColumn, rowWidth}
 use Rattle.deals.specs.Judge.{highest}
+use Rattle.rooms.specs.Trees.{sumBeneath}
 
 -- ---- The lists
 
@@ -101,7 +102,7 @@ IsMost parents spare own most =
 
 -- A figure that stands on nodes, summed over a node and all nodes beneath it.
 abbrev pub beneath : List ℕ → (ℕ → ℕ) → ℕ → ℕ
-beneath parents figure n = sumBeneath (at parents) (length parents) figure n
+beneath parents figure n = treeSum (at parents) (length parents) figure n
 
 -- What the pass over the nodes leaves, where no node is given more than it has to spare: of the notes of the nodes' own cords, whatever
 -- these are, those of all that is beneath each node.

@@ -11,9 +11,9 @@ use Rattle.figures.specs.Sums.{on, sum}
 use Rattle.figures.specs.Figures.{at}
 use Rattle.figures.proofs.Sums.{sum-cong}
 use Rattle.rooms.specs.Table.{mostCords, mostWatts}
-use Rattle.rooms.specs.Credits.{sumBeneath}
-use Rattle.rooms.proofs.Trees.{kids, own, kids-cong, kids-le, down}
-use Rattle.rooms.proofs.Credits.{sumBeneath-most, sumBeneath-step}
+use Rattle.rooms.specs.Credits.{treeSum}
+use Rattle.rooms.proofs.Trees.{childSum-cong, childSum-le, down}
+use Rattle.rooms.proofs.Credits.{treeSum-most, treeSum-step}
 use Rattle.splits.specs.Split.{part}
 use Rattle.deals.proofs.Amounts.{own-sum}
 use Rattle.figures.specs.Places.{Absent, Present}
@@ -91,7 +91,6 @@ module _ {parents nodes wants ceilings all : List ℕ} (lists : LendLists parent
   OnNodes sums = (n : ℕ) → n < length parents → at sums n ≡ overListed listed nodes weight n
 
   sums-most : (sums : List ℕ) → OnNodes sums → sum (length parents) (at sums) ≤ mostCords * mostWatts
-  unfolding own
   sums-most sums on-nodes =
       le-trans (le-of-eq (sum-cong (length parents) _ _ (λ n l. on-nodes n l ∙ listed-all n)))
       (le-trans (own-sum (length parents) (length nodes) (at nodes) (lists .hangs) (lists .within) weight mostWatts (λ c l. omega (arith, lists .most c l)))
@@ -109,24 +108,22 @@ module _ {parents nodes wants ceilings all : List ℕ} (lists : LendLists parent
   module _ {left sums left′ wholes weights : List ℕ} (g : Weighed parents all (length parents) left sums left′ wholes weights)
       (left-most : (n : ℕ) → n < length parents → at left n ≤ mostWatts) (on-nodes : OnNodes sums) where
     children-are : (n : ℕ) → n < length parents → at wholes n ≡ overChildren parents (weightOf weights wholes) n + at sums n
-    unfolding kids
     children-are n l =
         omega (
           arith,
           g .children n l,
-          kids-cong (length parents) (at parents) n (weightOf left wholes) (weightOf weights wholes) (λ m lm q. sym (g .weights-are m lm)),
+          childSum-cong (length parents) (at parents) n (weightOf left wholes) (weightOf weights wholes) (λ m lm q. sym (g .weights-are m lm)),
         )
 
     -- No node's children weight more than all cords beneath it.
-    wholes-beneath : (n : ℕ) → n < length parents → at wholes n ≤ sumBeneath (at parents) (length parents) (at sums) n
-    unfolding kids
-    wholes-beneath = down (length parents) (λ n. at wholes n ≤ sumBeneath (at parents) (length parents) (at sums) n) (λ n l ih.
+    wholes-beneath : (n : ℕ) → n < length parents → at wholes n ≤ treeSum (at parents) (length parents) (at sums) n
+    wholes-beneath = down (length parents) (λ n. at wholes n ≤ treeSum (at parents) (length parents) (at sums) n) (λ n l ih.
         omega (
           arith,
           children-are n l,
-          kids-le (length parents) (at parents) n (weightOf weights wholes) (sumBeneath (at parents) (length parents) (at sums)) (λ m lm q.
+          childSum-le (length parents) (at parents) n (weightOf weights wholes) (treeSum (at parents) (length parents) (at sums)) (λ m lm q.
               omega (arith, ih m lm (subst (λ (z : ℕ). z ≤ m) q (lists .rises m lm)))),
-          sumBeneath-step (length parents) (at parents) (lists .rises) (at sums) n l,
+          treeSum-step (length parents) (at parents) (lists .rises) (at sums) n l,
         ))
 
     pub lend-weights : LendWeights parents nodes wants ceilings weights wholes
@@ -134,7 +131,7 @@ module _ {parents nodes wants ceilings all : List ℕ} (lists : LendLists parent
       whole = λ n l. omega (arith, children-are n l, on-nodes n l, listed-all n);
       enough = λ n l. g .listed .within n l (here n l);
       most = λ n l. omega (arith, g .weights-are n l, left-most n l);
-      wholes-most = λ n l. omega (arith, wholes-beneath n l, sumBeneath-most (length parents) (at parents) (at sums) n, sums-most sums on-nodes);
+      wholes-most = λ n l. omega (arith, wholes-beneath n l, treeSum-most (length parents) (at parents) (at sums) n, sums-most sums on-nodes);
     }
 
   -- ---- What is dealt by them

@@ -6,6 +6,7 @@ use lib.ListN.{length}
 use Rattle.rooms.specs.Table.{mostNodes, mostCords, mostWatts}
 use Rattle.figures.specs.Figures.{at}
 use Rattle.deals.specs.Ranks.{wattsUnder}
+use Rattle.rooms.specs.Trees.{ParentsFirst}
 
 -- Lists of which the starts can be raised from the lows: `left` has what each limit has over the lows beneath, and that is enough.
 pub record Raisable (parents nodes lows starts left : List ℕ) : Type 0 where
@@ -14,7 +15,7 @@ pub record Raisable (parents nodes lows starts left : List ℕ) : Type 0 where
   pub left-size : length left ≡ length parents
   pub lows-size : length lows ≡ length nodes
   pub starts-size : length starts ≡ length nodes
-  pub rises : (m : ℕ) → m < length parents → at parents m ≤ m
+  pub rises : ParentsFirst (length parents) (at parents)
   pub hangs : (c : ℕ) → c < length nodes → 1 ≤ at nodes c
   pub within : (c : ℕ) → c < length nodes → at nodes c ≤ length parents
   pub least : (c : ℕ) → c < length nodes → at lows c ≤ at starts c

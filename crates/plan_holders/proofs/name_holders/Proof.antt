@@ -7,7 +7,8 @@ use borrow.Author.Needs.{needs}
 use Rattle.rooms.specs.Table.{mostNodes, mostCords, highestRank}
 use Rattle.plan_holders.specs.Holding.{HeldLists}
 use Rattle.figures.proofs.Filled.{Filled, filled-none, filled-one, filled-all}
-use Rattle.plan_holders.proofs.Rows.{zeros-none, heldAt, cut-nodes, held-is}
+use Rattle.figures.proofs.Cells.{zeroRows}
+use Rattle.plan_holders.proofs.Rows.{heldAt, held-is}
 use Rattle.plan_holders.proofs.name_holders.Statement.{statement}
 use Rattle.plan_holders.proofs.name_holders.Tie as tie
 
@@ -32,7 +33,7 @@ abbrev Read : Type 0
 Read = tie.After-index2 Inv-loop μ-loop
 
 node-fits : (c : Read) → c .before .before .index .result ≤ mostNodes
-node-fits c = omega (arith, c .before .before .index .ensures .0, lists (c .before .before .before .before) .within (c .before .before .before .before .before .loop .c) (c .before .before .before .before .loop-test .taken), lists (c .before .before .before .before) .few-nodes)
+node-fits c = omega (arith, c .before .before .index .ensures .0, lists (c .before .before .before .before) .within (c .before .before .before .before .before .loop .c) (c .before .before .before .before .loop-test .taken), lists (c .before .before .before .before) .of-nodes .few)
 
 level-fits : (c : Read) → c .index2 .result < highestRank
 level-fits c = omega (arith, c .index2 .ensures .0, lists (c .before .before .before .before) .ranked (c .before .before .before .before .before .loop .c) (c .before .before .before .before .loop-test .taken))
@@ -54,7 +55,7 @@ abbrev index-from-shared-slice-known5 : tie.After-shared-slice-known5 Inv-loop �
 index-from-shared-slice-known5 c = c .before .before .before
 
 fill-rows-requires : tie.Need-fill-rows-requires Inv-loop μ-loop
-fill-rows-requires c κs = (cut-nodes (shared-slice-known2-from-rows c .before .before .pre .0), zeros-none 513 16 refl refl)
+fill-rows-requires c κs = (shared-slice-known2-from-rows c .before .before .pre .0 .of-nodes, zeroRows 513 16)
 
 loop-holds : tie.Need-loop-holds Inv-loop μ-loop
 loop-holds c = filled-none _ _

@@ -19,9 +19,9 @@ use Rattle.deals.proofs.Requests.{Dealable, later, dealBeneath, dealBen
 use Rattle.rooms.specs.Trees.{childSum}
 
 -- What hangs on the nodes is no more than what the cords have.
-pub own-sum : (nodes cords : ℕ) (node : ℕ → ℕ) → ((c : ℕ) → c < cords → 0 < node c) → ((c : ℕ) → c < cords → node c ≤ nodes)
+pub childCords-most : (nodes cords : ℕ) (node : ℕ → ℕ) → ((c : ℕ) → c < cords → 0 < node c) → ((c : ℕ) → c < cords → node c ≤ nodes)
     → (f : ℕ → ℕ) (most : ℕ) → ((c : ℕ) → c < cords → f c ≤ most) → sum nodes (λ n. childSum cords node n f) ≤ cords * most
-own-sum nodes cords node hangs here f most h =
+childCords-most nodes cords node hangs here f most h =
     le-trans (le-of-eq (sum-swap nodes cords (λ n c. on (eqb (node c) (suc n)) (f c))))
     (sum-most cords most _ (λ c l. le-trans (once c l (node c) refl) (h c l)))
   where
@@ -103,8 +103,8 @@ module _ (d : Deal) (ok : Dealable d) (w v x y : ℕ → ℕ) (by : ByWeights d 
           let q : n < nodes = subst (λ (z : ℕ). z ≤ nodes) e (ok .here c l) in
           le-trans (le-of-eq (by .leaf c n l e)) (part-le (x n) (overChildren d n w v) _ (v c) (le-trans (amount-most n q) (enough n q)))
 
-  to-kids : (n : ℕ) → childSum nodes parent n x ≡ x n * childSum nodes parent n w / overChildren d n w v
-  to-kids n =
+  to-nodes : (n : ℕ) → childSum nodes parent n x ≡ x n * childSum nodes parent n w / overChildren d n w v
+  to-nodes n =
       childSum-cong nodes parent n _ _ (λ m lm q. by .inner m n lm q)
       ∙ telescope-all (x n) (overChildren d n w v) (λ m. eqb (parent m) (suc n)) w nodes
 
@@ -116,7 +116,7 @@ module _ (d : Deal) (ok : Dealable d) (w v x y : ℕ → ℕ) (by : ByWeights d 
 
   -- What a node gets it gives.
   pub all-given : (n : ℕ) → n < nodes → childSum cords node n y + childSum nodes parent n x ≡ x n
-  all-given n l = omega (arith, part-whole (x n) (overChildren d n w v) (le-trans (amount-most n l) (enough n l)), to-kids n, to-cords n)
+  all-given n l = omega (arith, part-whole (x n) (overChildren d n w v) (le-trans (amount-most n l) (enough n l)), to-nodes n, to-cords n)
 
   -- So all of it reaches the cords beneath.
   pub all-beneath : (n : ℕ) → n < nodes → x n ≡ dealBeneath d n y

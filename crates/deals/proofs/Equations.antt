@@ -15,7 +15,7 @@ use Rattle.deals.specs.Properties.{fromLevel}
 use Rattle.splits.specs.Split.{part}
 use Rattle.splits.proofs.Splits.{part-none}
 use Rattle.deals.proofs.Amounts.{ByWeights, amount-most, reached-most, all-given}
-use Rattle.deals.proofs.Requests.{Dealable, WholeWay, TreeWay, dealBeneath, asked, Measured, dealBeneath-unique, dealBeneath-from, dealBeneath-all, dealBeneath-le, own-add, pcapmin-is, requests-fit, request-asked, way-total}
+use Rattle.deals.proofs.Requests.{Dealable, WholeWay, TreeWay, dealBeneath, asked, Measured, dealBeneath-unique, dealBeneath-from, dealBeneath-all, dealBeneath-le, childCords-add, pcapmin-is, requests-fit, request-asked, way-total}
 use Rattle.rooms.specs.Trees.{childSum}
 
 module _ (d : Deal) where
@@ -67,7 +67,7 @@ module _ (d : Deal) (ok : Dealable d) where
           = childSum-cong nodes parent n _ _ (λ m lm q. let z : s m j ≤ r m j = st .within m j lm h in omega arith)
           ∙ childSum-add nodes parent n (λ m. r m j - s m j) (λ m. s m j) in
           let o : childSum cords node n (atLevel d j want) ≡ childSum cords node n (atLevel d j (λ c. want c - start c)) + childSum cords node n (atLevel d j start)
-          = own-add d ok n j (λ c. want c - start c) start want (λ c lc. let z : start c ≤ want c = st .most c lc in omega arith) in
+          = childCords-add d ok n j (λ c. want c - start c) start want (λ c lc. let z : start c ≤ want c = st .most c lc in omega arith) in
           omega (arith, de .starts n j l h)
 
       over-weights : (n j : ℕ) → n < nodes → j < levels → nodeOver n j ≤ weigh n j
@@ -138,7 +138,7 @@ module _ (d : Deal) (ok : Dealable d) where
             de .starts n j l h,
             gives-all n j l h,
             childSum-add nodes parent n (λ m. s m j) (λ m. x m j),
-            own-add d ok n j start y grant (unfold grant in (λ c lc. refl)),
+            childCords-add d ok n j start y grant (unfold grant in (λ c lc. refl)),
           ))
 
       -- A node's cords of a level are granted no more than its Request there.

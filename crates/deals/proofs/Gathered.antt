@@ -12,8 +12,9 @@ use Rattle.figures.specs.Figures.{at, cell}
 use Rattle.figures.proofs.Sums.{sum-cong}
 use Rattle.rooms.specs.Credits.{treeSum}
 use Rattle.splits.specs.Split.{part}
-use Rattle.deals.specs.Passes.{overChildren, childrenBefore, weightOf, cutMark, FullRows, Weighed, Requested, NodesDealt}
+use Rattle.deals.specs.Passes.{weightOf, cutMark, FullRows, Weighed, Requested, NodesDealt}
 use Rattle.deals.proofs.Cuts.{ltb-cong}
+use Rattle.rooms.specs.Trees.{childSum}
 
 -- The weight of the node at place m in the split at its parent: its Request at this rank less the starts beneath it.
 abbrev pub requestWeight : List (List ℕ) → ℕ → List ℕ → ℕ → ℕ
@@ -22,7 +23,7 @@ requestWeight rows level starts m = cell rows m level - at starts m
 -- From what is left of each limit, and the cords' starts and weights on each node.
 pub record Gathered (parents : List ℕ) (level : ℕ) (left cuts starts weights : List ℕ) (rows : List (List ℕ)) (left′ cuts′ starts′ wholes : List ℕ) (rows′ : List (List ℕ)) : Type 0 where
   pub start : (n : ℕ) → n < length parents → at starts′ n ≡ treeSum (at parents) (length parents) (at starts) n
-  pub children : (n : ℕ) → n < length parents → at wholes n ≡ at weights n + overChildren parents (requestWeight rows′ level starts′) n
+  pub children : (n : ℕ) → n < length parents → at wholes n ≡ at weights n + childSum (length parents) (at parents) n (requestWeight rows′ level starts′)
   pub request : (n : ℕ) → n < length parents → cell rows′ n level ≡ at starts′ n + min (at left n) (at wholes n)
   pub others : (n j : ℕ) → (j ≡ level → ⊥) → cell rows′ n j ≡ cell rows n j
   pub left-is : (n : ℕ) → n < length parents → at left′ n ≡ at left n - at wholes n
@@ -30,7 +31,7 @@ pub record Gathered (parents : List ℕ) (level : ℕ) (left cuts starts weights
   pub full : FullRows rows′
 
 -- Sums over children of figures that are equal.
-pub children-cong : (parents : List ℕ) (f g : ℕ → ℕ) (n m : ℕ) → ((h : ℕ) → h < m → f h ≡ g h) → childrenBefore parents f n m ≡ childrenBefore parents g n m
+pub children-cong : (parents : List ℕ) (f g : ℕ → ℕ) (n m : ℕ) → ((h : ℕ) → h < m → f h ≡ g h) → childSum m (at parents) n f ≡ childSum m (at parents) n g
 children-cong parents f g n m e = sum-cong m _ _ (λ h l. ap (on (eqb (at parents h) (suc n))) (e h l))
 
 -- A node is cut where its weight is less than its children's.

@@ -101,19 +101,19 @@ module _ (d : Deal) (ok : Dealable d) where
       let k : ℕ = d .levels - j in
       let e : j + k ≡ d .levels = omega arith in
       let owns : ℕ = childSum (d .cords) (d .node) n (fromLevel d j (overLow (d .want))) in
-      let most-kids : ℕ = childSum (d .nodes) (d .parent) n (mostOver j) in
+      let most-nodes : ℕ = childSum (d .nodes) (d .parent) n (mostOver j) in
       let own-split = sums-over (λ c. eqb (d .node c) (suc n)) j (d .want) (ok .wants) in
-      let kids-split : childSum (d .nodes) (d .parent) n (λ m. up k j (request d m)) ≡ most-kids + childSum (d .nodes) (d .parent) n (lowsFrom j)
+      let nodes-split : childSum (d .nodes) (d .parent) n (λ m. up k j (request d m)) ≡ most-nodes + childSum (d .nodes) (d .parent) n (lowsFrom j)
       = childSum-cong (d .nodes) (d .parent) n _ _ (λ m lm q. sym (most-is k j m e lm)) ∙ childSum-add (d .nodes) (d .parent) n (mostOver j) (lowsFrom j) in
       let total = request-total d ok (pcapmin d) (request d) (measured d ok) n l k j e in
-      let children : childSum (d .nodes) (d .parent) n (λ m. up k j (request d m)) + childSum (d .cords) (d .node) n (fromLevel d j (d .want)) ≡ (owns + most-kids) + lowsFrom j n
-      = omega (arith, own-split, kids-split, dealBeneath-step d ok n (fromLevel d j (d .low))) in
+      let children : childSum (d .nodes) (d .parent) n (λ m. up k j (request d m)) + childSum (d .cords) (d .node) n (fromLevel d j (d .want)) ≡ (owns + most-nodes) + lowsFrom j n
+      = omega (arith, own-split, nodes-split, dealBeneath-step d ok n (fromLevel d j (d .low))) in
       let split = lows-split k j n e l in
-      let cut = less-both (d .limit n) (sum j (pcapmin d n)) (lowsFrom j n) (owns + most-kids) (omega (arith, ok .lows n l, split)) in
+      let cut = less-both (d .limit n) (sum j (pcapmin d n)) (lowsFrom j n) (owns + most-nodes) (omega (arith, ok .lows n l, split)) in
       less-one _ _ _ (most-is k j n e l)
       ∙ ap (λ (x : ℕ). x - lowsFrom j n) (total ∙ ap (min (d .limit n - sum j (pcapmin d n))) children)
       ∙ cut
-      ∙ ap (λ (x : ℕ). min (d .limit n - x) (owns + most-kids)) split
+      ∙ ap (λ (x : ℕ). min (d .limit n - x) (owns + most-nodes)) split
 
   -- What a root asks for is granted.
   root-granted : Startable d → (n : ℕ) → n < d .nodes → d .parent n ≡ 0 → (k j : ℕ) → j + k ≡ d .levels

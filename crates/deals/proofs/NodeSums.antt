@@ -25,10 +25,6 @@ on-zero false a e = refl
 
 -- ---- Sums over all nodes beneath a node
 
--- The figures that stand on the nodes, summed over each node and all beneath it.
-abbrev pub beneathAll : List ℕ → List ℕ → ℕ → ℕ
-beneathAll parents start = treeSum (at parents) (length parents) (at start)
-
 -- Figures of the nodes that together are no more than the most cords' watts, so that no sum of them overflows.
 abbrev pub Fits : List ℕ → List ℕ → Type 0
 Fits parents start = (length parents ≤ length start) × (sum (length parents) (at start) ≤ mostCords * mostWatts)
@@ -43,17 +39,17 @@ credited-nothing (suc m) l = ap (set l m) (add-zero (at l m)) ∙ set-getD l m 0
 pub record Summing (parents start : List ℕ) (n : ℕ) (sums : List ℕ) : Type 0 where
   pub done : ℕ
   pub all : n + done ≡ length parents
-  pub held : Holds (length parents) (at parents) (at start) (beneathAll parents start) done n (at sums)
+  pub held : Holds (length parents) (at parents) (at start) (treeSum (at parents) (length parents) (at start)) done n (at sums)
   pub size : length sums ≡ length start
 
 pub summing-start : (parents start : List ℕ) → Summing parents start (length parents) start
 summing-start parents start =
-    record { done = 0; all = omega arith; held = holds-start (length parents) (at parents) (at start) (beneathAll parents start); size = refl }
+    record { done = 0; all = omega arith; held = holds-start (length parents) (at parents) (at start) (treeSum (at parents) (length parents) (at start)); size = refl }
 
 module _ {parents start : List ℕ} (rises : ParentsFirst (length parents) (at parents)) where
-  pub summing-end : {n : ℕ} {sums : List ℕ} → Summing parents start n sums → n ≤ 0 → (m : ℕ) → m < length parents → at sums m ≡ beneathAll parents start m
+  pub summing-end : {n : ℕ} {sums : List ℕ} → Summing parents start n sums → n ≤ 0 → (m : ℕ) → m < length parents → at sums m ≡ treeSum (at parents) (length parents) (at start) m
   summing-end {n = zero} {sums = sums} inv z m l =
-      holds-end (length parents) (at parents) (at start) (beneathAll parents start) (inv .done) (at sums) (inv .all) (inv .held) m l
+      holds-end (length parents) (at parents) (at start) (treeSum (at parents) (length parents) (at start)) (inv .done) (at sums) (inv .all) (inv .held) m l
       ∙ sym (treeSum-step (length parents) (at parents) rises (at start) m l)
   summing-end {n = suc k} inv z m l = absurd (omega arith)
 
@@ -62,7 +58,7 @@ module _ {parents start : List ℕ} (rises : ParentsFirst (length parents) (at p
   summing-most {n} {sums} inv m l =
       omega (
         arith,
-        holds-most (length parents) (at parents) (at start) (beneathAll parents start) (inv .done) n (at sums) (inv .all) (inv .held) m l,
+        holds-most (length parents) (at parents) (at start) (treeSum (at parents) (length parents) (at start)) (inv .done) n (at sums) (inv .all) (inv .held) m l,
         treeSum-step (length parents) (at parents) rises (at start) m l,
         treeSum-most (length parents) (at parents) (at start) m,
       )
@@ -78,9 +74,9 @@ module _ {parents start : List ℕ} (rises : ParentsFirst (length parents) (at p
       )
 
   -- A node's sum is whole when its turn comes.
-  pub whole-at : {m : ℕ} {sums : List ℕ} → Summing parents start (suc m) sums → at sums m ≡ beneathAll parents start m
+  pub whole-at : {m : ℕ} {sums : List ℕ} → Summing parents start (suc m) sums → at sums m ≡ treeSum (at parents) (length parents) (at start) m
   whole-at {m} {sums} inv =
-      holds-whole (length parents) (at parents) (at start) (beneathAll parents start) rises (inv .done) m (at sums) (inv .all) (inv .held)
+      holds-whole (length parents) (at parents) (at start) (treeSum (at parents) (length parents) (at start)) rises (inv .done) m (at sums) (inv .all) (inv .held)
       ∙ sym (treeSum-step (length parents) (at parents) rises (at start) m (omega (arith, inv .all)))
 
   -- A node's turn.
@@ -89,7 +85,7 @@ module _ {parents start : List ℕ} (rises : ParentsFirst (length parents) (at p
   summing-at {m} {sums} {sums′ = sums′} h inv ep es =
       let r = rises m (omega (arith, inv .all)) in
       let own : ℕ → ℕ = at start in
-      let passed : ℕ → ℕ = beneathAll parents start in
+      let passed : ℕ → ℕ = treeSum (at parents) (length parents) (at start) in
       let is : sums′ ≡ credited (at parents m) (at sums m) sums = es ∙ ap (λ (x : ℕ). credited x (at sums m) sums) ep in
       rw is
       (record {
@@ -102,7 +98,7 @@ module _ {parents start : List ℕ} (rises : ParentsFirst (length parents) (at p
       })
 
   -- The turn of a node that has nothing to pass on.
-  pub summing-idle : {m : ℕ} {sums : List ℕ} → length parents ≤ length start → beneathAll parents start m ≡ 0 → Summing parents start (suc m) sums → Summing parents start m sums
+  pub summing-idle : {m : ℕ} {sums : List ℕ} → length parents ≤ length start → treeSum (at parents) (length parents) (at start) m ≡ 0 → Summing parents start (suc m) sums → Summing parents start m sums
   summing-idle {m} {sums} h none inv =
       summing-at h inv refl (sym (ap (λ (x : ℕ). credited (at parents m) x sums) (whole-at inv ∙ none) ∙ credited-nothing (at parents m) sums))
 

@@ -17,7 +17,7 @@ use Rattle.deals.specs.Metrics.{Deal, sumsFrom, metrics}
 use Rattle.deals.specs.Dealing.{Child, node, cord, children, weight, weightsOf, beside, partOf, amount, reached}
 use Rattle.deals.specs.Promises.{passed, childExcess, given, PassedFirst, DealtByExcess}
 use Rattle.deals.proofs.Children.{children-sum, children-cong, partOf-node, partOf-cord}
-use Rattle.deals.proofs.Requests.{Dealable, later, own-add}
+use Rattle.deals.proofs.Requests.{Dealable, later, childCords-add}
 use Rattle.deals.proofs.Equations.{weights, pcapmin-starts}
 use Rattle.deals.proofs.Computed.{pcapmin, request, startsOf, amountOf, measured, by-weights, dealt, granted-at, Startable}
 use Rattle.rooms.specs.Trees.{childSum}
@@ -42,7 +42,7 @@ module _ (d : Deal) (ok : Dealable d) (st : Startable d) where
       ≡ childSum (d .nodes) (d .parent) n (λ m. startsOf d m j - pcapmin d m j) + childSum (d .nodes) (d .parent) n (λ m. pcapmin d m j)
       = childSum-cong (d .nodes) (d .parent) n _ _ (λ m lm q. let z : pcapmin d m j ≤ startsOf d m j = lows-starts m j lm h in omega arith)
       ∙ childSum-add (d .nodes) (d .parent) n (λ m. startsOf d m j - pcapmin d m j) (λ m. pcapmin d m j) in
-      let o = own-add d ok n j (λ c. d .start c - d .low c) (d .low) (d .start) (λ c lc. let z : d .low c ≤ d .start c = st .least c lc in omega arith) in
+      let o = childCords-add d ok n j (λ c. d .start c - d .low c) (d .low) (d .start) (λ c lc. let z : d .low c ≤ d .start c = st .least c lc in omega arith) in
       omega (arith, children-sum d n (passed d j), k, o, dealt d ok .starts n j l h, measured d ok .lowest n j l h)
 
   -- The weights are the excesses less what is passed first.

@@ -14,15 +14,15 @@ use Rattle.rooms.specs.Table.{mostNodes, mostCords, mostWatts, highestRank}
 use Rattle.rooms.specs.Credits.{treeSum}
 use Rattle.figures.specs.Figures.{at, cell}
 use Rattle.deals.specs.Metrics.{dealFrom}
-use Rattle.figures.specs.Places.{Absent, Present}
+use Rattle.figures.specs.Places.{Absent, Present, Zeros}
 use Rattle.deals.specs.Levels.{ActiveNodes, CordsActive, CordsOf, LevelLists, entries, fromColumn, toColumn, countColumn}
 use Rattle.deals.proofs.Ordering.{entries-length}
-use Rattle.deals.specs.Passes.{LevelCords, overListed, cordWeight, weightOf, overChildren, FullRows, WeightsListed, Weighed, Requested, NodesDealt, CordsDealt}
+use Rattle.deals.specs.Passes.{LevelCords, overListed, cordWeight, weightOf, FullRows, WeightsListed, Weighed, Requested, NodesDealt, CordsDealt}
 use Rattle.deals.proofs.Requesting.{beneath-none}
 use Rattle.deals.proofs.Gathered.{requestWeight, Gathered, gathered, weight-listed, children-cong, dealt-again}
-use Rattle.deals.specs.Ranks.{NodeLists, CordLists, DealLists, DealGiven, SomeDeal, Uncut, DealMade}
+use Rattle.deals.specs.Ranks.{NodeLists, CordLists, DealLists, DealGiven, SomeDeal, DealMade}
 use Rattle.deals.proofs.Ranks.{State, state-start, state-end, state-skip, sums-most, gather-asks, nodes-ask, cords-ask, state-turn}
-use Rattle.rooms.specs.Trees.{ParentsFirst}
+use Rattle.rooms.specs.Trees.{ParentsFirst, childSum}
 
 -- The length of the lists with a rank's figure of each node.
 abbrev pub figuresLength : ℕ
@@ -250,7 +250,7 @@ module _ {parents : List ℕ} {rows : List (List ℕ)} {order : List ℕ} {activ
               weight-is n l = weight-listed weighed requested n l ∙ ap (λ (list : List ℕ). weightOf list w₁ n) (sym same)
 
               room : (n : ℕ) → n < length parents → (at b₁ n ≤ cell requests₁ n level) × (cell requests₁ n level ≤ mostWatts) × (requestWeight requests₁ level b₁ n ≤ at w₁ n)
-                  × (at w₁ n ≤ mostCords * mostWatts) × (overChildren parents (requestWeight requests₁ level b₁) n ≤ at w₁ n)
+                  × (at w₁ n ≤ mostCords * mostWatts) × (childSum (length parents) (at parents) n (requestWeight requests₁ level b₁) ≤ at w₁ n)
               room =
                   nodes-ask parents (some-deal .limits) nodes (some-deal .levels) (some-deal .lows) starts wants lists level here listed of b w (sums .on-starts) (sums .on-weights)
                   requests₁ left₁ cuts₁ b₁ w₁ g
@@ -265,7 +265,7 @@ module _ {parents : List ℕ} {rows : List (List ℕ)} {order : List ℕ} {activ
               -- What `deal_nodes` asks.
               pub deal-nodes-asks : ((length parents ≤ length before₀) × (length dealt₀ ≡ length before₀) × ParentsFirst (length parents) (at parents))
                   × (WeightsListed parents active count w₁ amounts₁
-                  × ((n : ℕ) → n < length parents → (weightOf amounts₁ w₁ n ≤ mostWatts) × (at w₁ n ≤ mostCords * mostWatts) × (overChildren parents (weightOf amounts₁ w₁) n ≤ at w₁ n)))
+                  × ((n : ℕ) → n < length parents → (weightOf amounts₁ w₁ n ≤ mostWatts) × (at w₁ n ≤ mostCords * mostWatts) × (childSum (length parents) (at parents) n (weightOf amounts₁ w₁) ≤ at w₁ n)))
               deal-nodes-asks = (
                 (enough (inv .before-size), inv .dealt-size ∙ sym (inv .before-size), ns .rises),
                 (
@@ -334,7 +334,7 @@ module _ {parents : List ℕ} {rows : List (List ℕ)} {order : List ℕ} {activ
 
 -- Before the first rank.
 pub loop-start : {parents : List ℕ} {rows : List (List ℕ)} {order : List ℕ} {actives : List (List ℕ)} {nodes starts wants left cuts : List ℕ} {requests : List (List ℕ)}
-    {grants bases wholes amounts before dealt : List ℕ} → SomeDeal parents rows order actives nodes starts wants left → Uncut (length parents) cuts → length grants ≡ length nodes
+    {grants bases wholes amounts before dealt : List ℕ} → SomeDeal parents rows order actives nodes starts wants left → Zeros (length parents) cuts → length grants ≡ length nodes
     → BlankRows (length parents) rows actives requests
     → length bases ≡ figuresLength → length wholes ≡ figuresLength → length amounts ≡ figuresLength → length before ≡ figuresLength → length dealt ≡ figuresLength
     → RankLoop parents rows order actives nodes starts wants left highestRank left cuts requests grants bases wholes amounts before dealt

@@ -22,15 +22,15 @@ use Rattle.deals.specs.Metrics.{Deal, dealFrom, metrics, atLevel}
 use Rattle.splits.specs.Split.{part}
 use Rattle.deals.specs.Dealing.{granted, reached}
 use Rattle.deals.specs.Held.{cutAt}
-use Rattle.deals.specs.Ranks.{NodeLists, CordLists, DealLists, Spare, Uncut, wattsUnder, DealMade}
+use Rattle.deals.specs.Ranks.{NodeLists, CordLists, DealLists, Spare, listBeneath, DealMade}
 use Rattle.deals.proofs.Cuts.{Marked, ltb-cong, marked-start, marked-turn, marked-skip}
-use Rattle.deals.specs.Passes.{listedBefore, overListed, cordWeight, childrenBefore, overChildren, NodesDealt, CordsDealt}
+use Rattle.deals.specs.Passes.{listedBefore, overListed, cordWeight, NodesDealt, CordsDealt}
 use Rattle.deals.proofs.Gathered.{requestWeight, Gathered}
-use Rattle.figures.specs.Places.{Present}
+use Rattle.figures.specs.Places.{Present, Zeros}
 use Rattle.deals.specs.Levels.{ActiveNodes, CordsActive, CordsOf}
 use Rattle.deals.proofs.Ordering.{listed-before, listed-all}
 use Rattle.figures.proofs.Lists.{figures-length}
-use Rattle.deals.proofs.Amounts.{own-sum}
+use Rattle.deals.proofs.Amounts.{childCords-most}
 use Rattle.deals.proofs.Requests.{Dealable, later, dealBeneath, asked, request-asked, dealBeneath-unique, dealBeneath-all}
 use Rattle.deals.proofs.Equations.{Dealt, weights, weights-are, pcapmin-starts}
 use Rattle.deals.proofs.Computed.{pcapmin, request, startsOf, amountOf, measured, dealt, granted-at, Startable}
@@ -73,20 +73,20 @@ module _ (d : Deal) (ok : Dealable d) where
 
   -- A level that no cord has: no starts and no Request, and no node is cut there.
   module _ (j : ℕ) (h : j < levels) (none : (c : ℕ) → c < cords → level c ≡ j → ⊥) where
-    own-none : (f : ℕ → ℕ) (n : ℕ) → childSum cords node n (atLevel d j f) ≡ 0
-    own-none f n = sum-cong cords _ _ (λ c l. zero-at c l) ∙ sum-zero cords
+    childCords-none : (f : ℕ → ℕ) (n : ℕ) → childSum cords node n (atLevel d j f) ≡ 0
+    childCords-none f n = sum-cong cords _ _ (λ c l. zero-at c l) ∙ sum-zero cords
       where
         zero-at : (c : ℕ) → c < cords → on (eqb (node c) (suc n)) (atLevel d j f c) ≡ 0
         zero-at c l = on-zero (eqb (node c) (suc n)) (atLevel d j f c) (on-no (eqb (level c) j) (f c) (ne-eqb (level c) j (none c l)))
 
     pub starts-none : (n : ℕ) → n < nodes → startsOf d n j ≡ 0
     starts-none = down nodes (λ n. startsOf d n j ≡ 0) (λ n l ih.
-        omega (arith, dealt d ok .starts n j l h, own-none start n, childSum-none nodes parent n (λ m. startsOf d m j) (λ m lm q. ih m lm (later d ok m n lm q))))
+        omega (arith, dealt d ok .starts n j l h, childCords-none start n, childSum-none nodes parent n (λ m. startsOf d m j) (λ m lm q. ih m lm (later d ok m n lm q))))
 
     asked-none : (n : ℕ) → n < nodes → ((m : ℕ) → m < nodes → n < m → request d m j ≡ 0) → asked d (request d) n j ≡ 0
     unfolding asked
     asked-none n l none-below =
-        omega (arith, own-none want n, childSum-none nodes parent n (λ m. request d m j) (λ m lm q. none-below m lm (later d ok m n lm q)))
+        omega (arith, childCords-none want n, childSum-none nodes parent n (λ m. request d m j) (λ m lm q. none-below m lm (later d ok m n lm q)))
 
     pub request-none : (n : ℕ) → n < nodes → request d n j ≡ 0
     request-none = down nodes (λ n. request d n j ≡ 0) (λ n l ih.
@@ -181,13 +181,13 @@ module _ (parents limits nodes levels lows starts wants : List ℕ) (lists : Dea
     pub grants-are : (c : ℕ) → c < length nodes → above ≤ at levels c → at grants c ≡ at (granted theDeal) c
 
   -- Before the first rank.
-  pub state-start : (rows : List (List ℕ)) (left cuts grants : List ℕ) → Spare parents limits nodes starts left → Uncut (length parents) cuts → State highestRank rows left cuts grants
+  pub state-start : (rows : List (List ℕ)) (left cuts grants : List ℕ) → Spare parents limits nodes starts left → Zeros (length parents) cuts → State highestRank rows left cuts grants
   unfolding dealFrom sumBeneath up
   state-start rows left cuts grants spare uncut = record {
     higher = 0;
     sum-is = omega arith;
     left-is = λ n l.
-        let e : wattsUnder parents nodes starts n ≡ sum highestRank (base n) = sym (starts-all theDeal dealable n l) in
+        let e : listBeneath parents nodes starts n ≡ sum highestRank (base n) = sym (starts-all theDeal dealable n l) in
         omega (arith, spare .over n l);
     cuts-are = λ n l. subst (Marked theDeal highestRank n) (sym (uncut .none n l)) (marked-start theDeal n);
     filled = λ n j l a b. absurd (omega arith);
@@ -270,7 +270,7 @@ module _ (parents limits nodes levels lows starts wants : List ℕ) (lists : Dea
       unfolding dealFrom
       figures-sum list figure is most =
           le-trans (le-of-eq (sum-cong (length parents) _ _ (λ n l. is n l ∙ listed-level figure n)))
-          (le-trans (own-sum (length parents) (length nodes) (at nodes) (dealable .hangs) (dealable .here) (atLevel theDeal j figure) mostWatts (level-most figure most)) (mul-le-mul-right mostWatts (cs .few)))
+          (le-trans (childCords-most (length parents) (length nodes) (at nodes) (dealable .hangs) (dealable .here) (atLevel theDeal j figure) mostWatts (level-most figure most)) (mul-le-mul-right mostWatts (cs .few)))
 
       pub sums-most : (sum (length parents) (at starts₀) ≤ mostCords * mostWatts) × (sum (length parents) (at weights₀) ≤ mostCords * mostWatts)
       sums-most = (
@@ -301,7 +301,7 @@ module _ (parents limits nodes levels lows starts wants : List ℕ) (lists : Dea
         whole-by : (n : ℕ) → n < length parents → ((m : ℕ) → m < length parents → n < m → cell rows′ m j ≡ req m j) → at wholes n ≡ weights theDeal base req n j
         unfolding dealFrom weights
         whole-by n l ih =
-            let c : overChildren parents (requestWeight rows′ j bases) n ≡ overChildren parents (λ m. req m j - base m j) n
+            let c : childSum (length parents) (at parents) n (requestWeight rows′ j bases) ≡ childSum (length parents) (at parents) n (λ m. req m j - base m j)
             = childSum-cong (length parents) (at parents) n _ _ (λ m lm q. ap₂ _-_ (ih m lm (subst (λ (z : ℕ). z ≤ m) q (ns .rises m lm))) (bases-are m lm)) in
             omega (arith, g .children n l, own-weights n l, listed-level (cordWeight starts wants) n)
 
@@ -326,11 +326,11 @@ module _ (parents limits nodes levels lows starts wants : List ℕ) (lists : Dea
             (λ h. omega (arith, request-left n l, asked-is n j l level-fits, whole-is n l))
             (λ h. omega (arith, request-left n l, asked-is n j l level-fits, whole-is n l))
 
-        children-is : (n m : ℕ) → m ≤ length parents → childrenBefore parents (requestWeight rows′ j bases) n m ≡ sum m (λ h. on (eqb (at parents h) (suc n)) (req h j - base h j))
+        children-is : (n m : ℕ) → m ≤ length parents → childSum m (at parents) n (requestWeight rows′ j bases) ≡ sum m (λ h. on (eqb (at parents h) (suc n)) (req h j - base h j))
         children-is n m h = sum-cong m _ _ (λ i l. ap (λ (z : ℕ). on (eqb (at parents i) (suc n)) z) (weight-is i (omega arith)))
 
         pub nodes-ask : (n : ℕ) → n < length parents → (at bases n ≤ cell rows′ n j) × (cell rows′ n j ≤ mostWatts) × (requestWeight rows′ j bases n ≤ at wholes n)
-            × (at wholes n ≤ mostCords * mostWatts) × (overChildren parents (requestWeight rows′ j bases) n ≤ at wholes n)
+            × (at wholes n ≤ mostCords * mostWatts) × (childSum (length parents) (at parents) n (requestWeight rows′ j bases) ≤ at wholes n)
         unfolding dealFrom request
         nodes-ask n l =
             let r = requests-are n l in
@@ -353,7 +353,7 @@ module _ (parents limits nodes levels lows starts wants : List ℕ) (lists : Dea
               go m l ih some (suc n) e =
                   let u : n < m = subst (λ (z : ℕ). z ≤ m) e (ns .rises m l) in
                   nd .inner m n l some e
-                  ∙ ap (λ (z : ℕ). part (at amounts n) (at wholes n) (childrenBefore parents (requestWeight rows′ j bases) n m) z) (weight-is m l)
+                  ∙ ap (λ (z : ℕ). part (at amounts n) (at wholes n) (childSum m (at parents) n (requestWeight rows′ j bases)) z) (weight-is m l)
                   ∙ ap (λ (z : ℕ). part (at amounts n) (at wholes n) z (req m j - base m j)) (children-is n m (omega arith))
                   ∙ ap₂ (λ (x w : ℕ). part x w (sum m (λ h. on (eqb (at parents h) (suc n)) (req h j - base h j))) (req m j - base m j)) (ih n u (λ none. some (nodes-active .closed m n l e none))) (whole-is n (omega arith))
                   ∙ sym (equations .inner m n j l e)

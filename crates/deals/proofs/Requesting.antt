@@ -21,9 +21,10 @@ use Rattle.deals.specs.Levels.{ActiveNodes}
 use Rattle.figures.proofs.Cells.{stored, cell-here, cell-elsewhere, cell-others, stored-full}
 use Rattle.deals.proofs.Active.{Parted, parted-none, parted-all, parted-at, parted-after, between}
 use Rattle.deals.specs.Passes.{weightOf, cutMark, FullRows, WeightsListed, Requested}
-use Rattle.deals.proofs.NodeSums.{Fits, beneathAll, Summing, summing-start, whole-at, summing-fits, summing-at, summing-idle, summing-end}
+use Rattle.deals.proofs.NodeSums.{Fits, Summing, summing-start, whole-at, summing-fits, summing-at, summing-idle, summing-end}
 use Rattle.deals.proofs.Weighing.{from-here}
 use Rattle.rooms.specs.Trees.{ParentsFirst}
+use Rattle.rooms.specs.Credits.{treeSum}
 
 -- Where children weigh nothing, a mark stays.
 uncut : (mark level weight : ℕ) → cutMark mark level weight 0 ≡ mark
@@ -31,13 +32,13 @@ uncut mark level weight = omega (arith, on-no (ltb weight 0) (suc level) (le-ltb
 
 -- Nothing stands beneath a node that is not active, if nothing stands on those that are not.
 pub beneath-none : {parents active : List ℕ} {count : ℕ} → ActiveNodes parents active count → ParentsFirst (length parents) (at parents) → (starts : List ℕ) → ((m : ℕ) → m < length parents → Absent active count m → at starts m ≡ 0)
-    → (m : ℕ) → m < length parents → Absent active count m → beneathAll parents starts m ≡ 0
-beneath-none {parents} {active} {count} nodes rises starts idle = down (length parents) (λ m. Absent active count m → beneathAll parents starts m ≡ 0) (λ m l below none.
+    → (m : ℕ) → m < length parents → Absent active count m → treeSum (at parents) (length parents) (at starts) m ≡ 0
+beneath-none {parents} {active} {count} nodes rises starts idle = down (length parents) (λ m. Absent active count m → treeSum (at parents) (length parents) (at starts) m ≡ 0) (λ m l below none.
     omega (
       arith,
       treeSum-step (length parents) (at parents) rises (at starts) m l,
       idle m l none,
-      childSum-none (length parents) (at parents) m (beneathAll parents starts) (λ k h e. below k h (omega (arith, rises k h)) (nodes .closed k m h e none)),
+      childSum-none (length parents) (at parents) m (treeSum (at parents) (length parents) (at starts)) (λ k h e. below k h (omega (arith, rises k h)) (nodes .closed k m h e none)),
     ))
 
 -- What the pass starts from: a node's Request fits, and no sum overflows. A node that is not active has nothing of the rank.
@@ -48,12 +49,12 @@ pub record Given (parents active : List ℕ) (count level : ℕ) (wholes weights
   pub cuts-size : length cuts ≡ length parents
   pub starts-fit : Fits parents starts
   pub weights-listed : WeightsListed parents active count wholes weights
-  pub bounds : (m : ℕ) → m < length parents → Present active count m → beneathAll parents starts m + at weights m ≤ mostWatts
+  pub bounds : (m : ℕ) → m < length parents → Present active count m → treeSum (at parents) (length parents) (at starts) m + at weights m ≤ mostWatts
   pub idle : (m : ℕ) → m < length parents → Absent active count m → at starts m ≡ 0
 
 -- What the turn of the node at place m leaves.
 pub record Settled (parents : List ℕ) (level : ℕ) (wholes weights cuts₀ starts cuts : List ℕ) (rows : List (List ℕ)) (m : ℕ) : Type 0 where
-  pub request : cell rows m level ≡ beneathAll parents starts m + weightOf weights wholes m
+  pub request : cell rows m level ≡ treeSum (at parents) (length parents) (at starts) m + weightOf weights wholes m
   pub cut-is : at cuts m ≡ cutMark (at cuts₀ m) level (weightOf weights wholes m) (at wholes m)
 
 -- Before the turn of the node at place n - 1.
@@ -76,7 +77,7 @@ module _ {parents active : List ℕ} {count level : ℕ} {wholes weights cuts₀
   turn-idle {k} {cuts} away inv =
       let given = inv .given in
       let l : k < length parents = inv .reached in
-      let base : beneathAll parents starts k ≡ 0 = beneath-none (given .weights-listed .nodes) (given .rises) starts (given .idle) k l away in
+      let base : treeSum (at parents) (length parents) (at starts) k ≡ 0 = beneath-none (given .weights-listed .nodes) (given .rises) starts (given .idle) k l away in
       let whole : at wholes k ≡ 0 = given .weights-listed .idle k l away in
       let weight : weightOf weights wholes k ≡ 0 = omega arith in
       record {
@@ -140,7 +141,7 @@ module _ {parents active : List ℕ} {count level : ℕ} {wholes weights cuts₀
     request-end z =
         let e : i ≡ 0 = omega arith in
         let r : Same 0 = passed-down Same 0 (t .n) (omega arith) (λ h a b. turn-idle (between parted-none (rw e at (t .parted)) h a b)) (t .requesting) in
-        let base : (m : ℕ) → m < length parents → at bases m ≡ beneathAll parents starts m = summing-end (given .rises) (r .bases-sum) (le-refl 0) in
+        let base : (m : ℕ) → m < length parents → at bases m ≡ treeSum (at parents) (length parents) (at starts) m = summing-end (given .rises) (r .bases-sum) (le-refl 0) in
         record {
           start = base;
           request = λ n l. r .settled n (omega arith) l .request ∙ ap (λ (x : ℕ). x + weightOf weights wholes n) (sym (base n l));
@@ -180,7 +181,7 @@ module _ {parents active : List ℕ} {count level : ℕ} {wholes weights cuts₀
       in-rows = omega (arith, in-parents, given .few)
 
       -- The node's starts are whole, and its Request fits.
-      base-is : at bases n ≡ beneathAll parents starts n
+      base-is : at bases n ≡ treeSum (at parents) (length parents) (at starts) n
       base-is = whole-at (given .rises) (here .bases-sum)
 
       pub request-fits : at bases n + at weights n ≤ mostWatts

@@ -126,21 +126,21 @@ module _ (d : Deal) (ok : Dealable d) where
       ∙ dealBeneath-from levels 0 n f (zero-add levels)
       ∙ sumBeneath-cong nodes parent cords node n _ _ (λ c l. on-yes (leb 0 (level c)) (f c) (leb·zero (level c)))
 
-  pub own-add : (n j : ℕ) (f g h : ℕ → ℕ) → ((c : ℕ) → c < cords → h c ≡ f c + g c)
+  pub childCords-add : (n j : ℕ) (f g h : ℕ → ℕ) → ((c : ℕ) → c < cords → h c ≡ f c + g c)
       → childSum cords node n (atLevel d j h) ≡ childSum cords node n (atLevel d j f) + childSum cords node n (atLevel d j g)
-  own-add n j f g h e =
+  childCords-add n j f g h e =
       sum-cong cords _ _ (λ c l.
       ap (λ (z : ℕ). on (eqb (node c) (suc n)) z) (ap (λ (z : ℕ). on (eqb (level c) j) z) (e c l) ∙ on-add (eqb (level c) j) (f c) (g c))
       ∙ on-add (eqb (node c) (suc n)) (atLevel d j f c) (atLevel d j g c))
       ∙ sum-add cords (λ c. on (eqb (node c) (suc n)) (atLevel d j f c)) (λ c. on (eqb (node c) (suc n)) (atLevel d j g c))
 
   -- The children's figures from a level on.
-  kids-from : (k j n : ℕ) (g : ℕ → ℕ → ℕ) → up k j (λ i. childSum nodes parent n (λ m. g m i)) ≡ childSum nodes parent n (λ m. up k j (g m))
-  kids-from k j n g =
+  childNodes-from : (k j n : ℕ) (g : ℕ → ℕ → ℕ) → up k j (λ i. childSum nodes parent n (λ m. g m i)) ≡ childSum nodes parent n (λ m. up k j (g m))
+  childNodes-from k j n g =
       up-sum k j nodes (λ m i. on (eqb (parent m) (suc n)) (g m i)) ∙ sum-cong nodes _ _ (λ m l. up-on k j (eqb (parent m) (suc n)) (g m))
 
-  own-from : (k j n : ℕ) (f : ℕ → ℕ) → j + k ≡ levels → up k j (λ i. childSum cords node n (atLevel d i f)) ≡ childSum cords node n (fromLevel d j f)
-  own-from k j n f e = cords-from k j (λ c. eqb (node c) (suc n)) f e
+  childCords-from : (k j n : ℕ) (f : ℕ → ℕ) → j + k ≡ levels → up k j (λ i. childSum cords node n (atLevel d i f)) ≡ childSum cords node n (fromLevel d j f)
+  childCords-from k j n f e = cords-from k j (λ c. eqb (node c) (suc n)) f e
 
   -- ---- A way of dealing what is beneath a node is one of what is beneath each of its children
 
@@ -225,7 +225,7 @@ module _ (d : Deal) (ok : Dealable d) where
     request-total n l k j e =
         row-total levels (limit n) (p n) (asked d r n) (r n) (me .request n l) (pcapmin-asked n l) k j e
         ∙ ap (min (limit n - sum j (p n)))
-        (up-add k j (λ i. childSum nodes parent n (λ m. r m i)) (λ i. childSum cords node n (atLevel d i want)) ∙ ap₂ _+_ (kids-from k j n r) (own-from k j n want e))
+        (up-add k j (λ i. childSum nodes parent n (λ m. r m i)) (λ i. childSum cords node n (atLevel d i want)) ∙ ap₂ _+_ (childNodes-from k j n r) (childCords-from k j n want e))
 
     -- What a way of dealing gives a level and above leaves the lower levels their lows.
     way-left : (f : ℕ → ℕ) (n : ℕ) → n < nodes → TreeWay d n f → (k j : ℕ) → j + k ≡ levels → sum j (p n) + dealBeneath d n (fromLevel d j f) ≤ limit n

@@ -10,6 +10,7 @@ ghost use Rattle.figures.specs.Figures.{at, cell};
 ghost use Rattle.deals.specs.Passes.{LevelCords, overListed, cordWeight, cutMark, FullRows, Weighed, WeightsListed, Requested};
 ghost use Rattle.figures.specs.Places.{Absent, Present};
 ghost use Rattle.deals.specs.Levels.{ActiveNodes};
+ghost use Rattle.rooms.specs.Trees.{ParentsFirst};
 use figures::credit;
 use figures::index;
 use figures::least;
@@ -65,7 +66,7 @@ pub fn weigh(
     wholes: &mut [u64],
     weights: &mut [u32],
 )
-    requires nodes { ⌜ ActiveNodes (now parents) (now active) count × ((m : ℕ) → m < length (now parents) → at (now parents) m ≤ m) ⌝ }
+    requires nodes { ⌜ ActiveNodes (now parents) (now active) count × ParentsFirst (length (now parents)) (at (now parents)) ⌝ }
     requires sizes { ⌜ (length (now left) ≡ length (now parents)) × (length (now parents) ≤ length (now wholes))
         × (length (now parents) ≤ length (now weights)) ⌝ }
     requires sums_fit { ⌜ sum (length (now parents)) (at (now wholes)) ≤ mostCords * mostWatts ⌝ }
@@ -112,7 +113,7 @@ pub fn request(
     weights: &mut [u32],
     requests: &mut [[u32; 16]; 512],
 )
-    requires nodes { ⌜ (length (now parents) ≤ mostNodes) × (level < highestRank) × ((m : ℕ) → m < length (now parents) → at (now parents) m ≤ m) ⌝ }
+    requires nodes { ⌜ (length (now parents) ≤ mostNodes) × (level < highestRank) × ParentsFirst (length (now parents)) (at (now parents)) ⌝ }
     requires sizes { ⌜ (length (now cuts) ≡ length (now parents)) × (length (now parents) ≤ length (now bases))
         × (sum (length (now parents)) (at (now bases)) ≤ mostCords * mostWatts) ⌝ }
     requires weights { ⌜ WeightsListed (now parents) (now active) count (now wholes) (now weights) ⌝ }

@@ -27,11 +27,11 @@ use Rattle.rooms.proofs.Promises.{refusal-nine}
 use Rattle.deals.specs.Metrics.{Deal}
 use Rattle.deals.proofs.Requests.{dealBeneath}
 use Rattle.deals.proofs.BothDeals.{parents-below, cord-facts}
-use Rattle.deals.proofs.Inside.{Inside, kids-in, own-in}
+use Rattle.deals.proofs.Inside.{Inside, childNodes-in, childCords-in}
 use Rattle.deals.proofs.RoomInside.{RoomInside}
 use Rattle.join.specs.Joined.{raisedNode, raisedCord, raisedServer, joined}
 use Rattle.join.proofs.JoinedRoom.{Linked, accepted-facts, Side, before, behind, side, nodes-joined, servers-joined, cords-count, first-inside, second-inside}
-use Rattle.rooms.specs.Trees.{sumBeneath}
+use Rattle.rooms.specs.Trees.{sumBeneath, ParentsFirst}
 
 -- ---- Figures in range
 
@@ -164,8 +164,8 @@ module _ (r q : Room) (a b v : ℕ) (ins : RoomInside r q a b v) (facts : Linked
       ∙ sumBeneath-unique (length (r .nodes)) (parentOf r) (facts .rises) (roomCords r) (λ c. cordAt r c .node) (facts .here) (plain r .low) (λ n. sums (n + a)) (λ n l.
       sumBeneath-step (length (q .nodes)) (parentOf q) (other .rises) (roomCords q) (λ c. cordAt q c .node) (other .here) (n + a) (plain q .low)
       ∙ ap₂ _+_
-      (own-in (plain r) (plain q) a b 0 plain-inside n l (plain q .low) ∙ sum-cong (roomCords r) _ _ (λ c lc. ap (λ (e : ℕ). on (eqb (cordAt r c .node) (suc n)) e) (low-in c lc)))
-      (kids-in (plain r) (plain q) a b 0 plain-inside n l sums)) n l
+      (childCords-in (plain r) (plain q) a b 0 plain-inside n l (plain q .low) ∙ sum-cong (roomCords r) _ _ (λ c lc. ap (λ (e : ℕ). on (eqb (cordAt r c .node) (suc n)) e) (low-in c lc)))
+      (childNodes-in (plain r) (plain q) a b 0 plain-inside n l sums)) n l
       ∙ plain-lows r n
     where
       sums : ℕ → ℕ
@@ -204,7 +204,7 @@ module _ (version : ℕ) (r q : Room) (fr : RoomFits version r) (fq : RoomFits v
     servers = servers-fit (r .scale) (length (whole .nodes)) (whole .servers) 0 (omega (arith, cords-count r q, may .cords)) joined-servers;
   }
 
-  parents-joined : (m : ℕ) → m < length (whole .nodes) → parentOf whole m ≤ m
+  parents-joined : ParentsFirst (length (whole .nodes)) (parentOf whole)
   parents-joined m l = go (side (length (r .nodes)) m)
     where
       go : Side (length (r .nodes)) m → parentOf whole m ≤ m

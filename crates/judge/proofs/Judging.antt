@@ -166,8 +166,8 @@ module _ (r : Room) (ok : Accepted r) (demands : List ℕ) {parents spare : List
           ap (λ (k : ℕ). sum k (λ c. on (eqb (cell cords c nodeColumn) (suc n)) (fromLevel cords j (overLow lows watts) c))) cords-are
           ∙ sum-cong (roomCords r) _ _ (λ c l. rw (node-at (lists .rows-are) c, level-at c, low-at c, e c) refl)
 
-      kids-are : (n : ℕ) (g : ℕ → ℕ) → sum (length parents) (λ m. on (eqb (at parents m) (suc n)) (g m)) ≡ childSum (d .nodes) (d .parent) n g
-      kids-are n g =
+      childNodes-are : (n : ℕ) (g : ℕ → ℕ) → sum (length parents) (λ m. on (eqb (at parents m) (suc n)) (g m)) ≡ childSum (d .nodes) (d .parent) n g
+      childNodes-are n g =
           ap (λ (k : ℕ). sum k (λ m. on (eqb (at parents m) (suc n)) (g m))) nodes-are
           ∙ sum-cong (length (r .nodes)) _ _ (λ m l. ap (λ (x : ℕ). on (eqb x (suc n)) (g m)) (parent-at m))
 
@@ -186,7 +186,7 @@ module _ (r : Room) (ok : Accepted r) (demands : List ℕ) {parents spare : List
           let inside : n < length (r .nodes) = omega (arith, nodes-are) in
           let room : d .limit n - dealBeneath d n (d .low) ≡ at spare n = omega (arith, spare-is n inside) in
           most-step d able j n (omega arith) inside
-          ∙ ap₂ min room (ap₂ _+_ (sym (on-is wants (d .want) want-at j n)) (sym (kids-are n (mostOver d able j))))
+          ∙ ap₂ min room (ap₂ _+_ (sym (on-is wants (d .want) want-at j n)) (sym (childNodes-are n (mostOver d able j))))
 
       -- What the grants have over the lows, beneath a node.
       over-is : (j n : ℕ) → n < length (r .nodes) → overFrom parents cords lows grants j n ≡ dealBeneath d n (dealing.fromLevel d j (totals.overLow d able (at grants)))
@@ -196,7 +196,7 @@ module _ (r : Room) (ok : Accepted r) (demands : List ℕ) {parents spare : List
           ∙ ap₂ _+_ (on-is grants (at grants) (λ c. refl) j n) (step n))
         where
           step : (n : ℕ) → childSum (length parents) (at parents) n (overFrom parents cords lows grants j) ≡ childSum (d .nodes) (d .parent) n (overFrom parents cords lows grants j)
-          step n = kids-are n (overFrom parents cords lows grants j)
+          step n = childNodes-are n (overFrom parents cords lows grants j)
 
       -- ---- Nodes
 

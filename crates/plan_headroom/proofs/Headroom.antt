@@ -9,7 +9,7 @@ use Rattle.figures.specs.Figures.{at}
 use Rattle.figures.proofs.Lists.{figures-length}
 use Rattle.rooms.specs.Table.{mostWatts}
 use Rattle.splits.specs.Split.{part}
-use Rattle.deals.specs.Passes.{cordWeight, childrenBefore, overChildren, weightOf}
+use Rattle.deals.specs.Passes.{cordWeight, weightOf}
 use Rattle.deals.specs.Metrics.{Deal, dealFrom, metrics, overChildren}
 use Rattle.deals.specs.Headroom.{requestsAt, headroomOver}
 use Rattle.deals.proofs.Amounts.{ByWeights}
@@ -17,6 +17,7 @@ use Rattle.deals.proofs.Headroom.{lent-only}
 use Rattle.deals.proofs.Ranks.{dealable}
 use Rattle.plan_headroom.specs.Lending.{LendGiven}
 use Rattle.plan_headroom.specs.Passes.{LendLists, cordsBefore, LendWeights, DealtOut}
+use Rattle.rooms.specs.Trees.{childSum}
 
 module _ {parents nodes wants left ceilings limits levels lows starts : List ℕ} (given : LendGiven parents nodes wants left ceilings limits levels lows starts) where
   pub lend-lists : LendLists parents nodes wants ceilings
@@ -54,10 +55,10 @@ module _ {parents nodes wants left ceilings limits levels lows starts : List ℕ
       root = dealt .root;
       inner = λ m n l e.
           dealt .inner m n l e
-          ∙ ap (λ (z : ℕ). part (dealt .lends n) z (childrenBefore parents (weightOf weights wholes) n m) (weightOf weights wholes m)) (whole-is n (omega (arith, given .lists .of-nodes .rises m l)));
+          ∙ ap (λ (z : ℕ). part (dealt .lends n) z (childSum m (at parents) n (weightOf weights wholes)) (weightOf weights wholes m)) (whole-is n (omega (arith, given .lists .of-nodes .rises m l)));
       leaf = λ c n l e.
           dealt .leaf c n l e
-          ∙ ap (λ (z : ℕ). part (dealt .lends n) z (overChildren parents (weightOf weights wholes) n + cordsBefore nodes wants ceilings n c) (cordWeight wants ceilings c))
+          ∙ ap (λ (z : ℕ). part (dealt .lends n) z (childSum (length parents) (at parents) n (weightOf weights wholes) + cordsBefore nodes wants ceilings n c) (cordWeight wants ceilings c))
           (whole-is n (omega (arith, given .lists .of-cords .within c l)));
     }
 

@@ -5,7 +5,7 @@ use Prim.Native.Nat.{ℕ, _+_, _≤_, _<_}
 use lib.ListN.{length}
 use Rattle.rooms.specs.Table.{mostNodes, mostCords, mostWatts}
 use Rattle.figures.specs.Figures.{at}
-use Rattle.deals.specs.Ranks.{wattsUnder}
+use Rattle.deals.specs.Ranks.{listBeneath}
 use Rattle.rooms.specs.Trees.{ParentsFirst}
 
 -- Lists of which the starts can be raised from the lows: `left` has what each limit has over the lows beneath, and that is enough.
@@ -20,4 +20,4 @@ pub record Raisable (parents nodes lows starts left : List ℕ) : Type 0 where
   pub within : (c : ℕ) → c < length nodes → at nodes c ≤ length parents
   pub least : (c : ℕ) → c < length nodes → at lows c ≤ at starts c
   pub most : (c : ℕ) → c < length nodes → at starts c ≤ mostWatts
-  pub enough : (n : ℕ) → n < length parents → wattsUnder parents nodes starts n ≤ at left n + wattsUnder parents nodes lows n
+  pub enough : (n : ℕ) → n < length parents → listBeneath parents nodes starts n ≤ at left n + listBeneath parents nodes lows n

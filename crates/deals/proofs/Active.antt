@@ -18,6 +18,7 @@ use Rattle.figures.specs.Figures.{at, cell}
 use Rattle.deals.specs.Levels.{fromColumn, toColumn, countColumn, LevelRows, Ordered, Marked, MarksAdded, NodeMarks, Listed, FullLists, LevelsListed, ActivesListed, ActiveNodes, CordsActive, LevelLists}
 use Rattle.figures.specs.Places.{Absent}
 use Rattle.figures.proofs.Cells.{stored, cell-here, cell-elsewhere, cell-others, stored-full}
+use Rattle.rooms.specs.Trees.{ParentsFirst}
 
 -- ---- Marks
 
@@ -106,7 +107,7 @@ module _ {parents nodes levels marks marks′ : List ℕ} {node more : ℕ} (siz
   }
 
   -- A node's turn: its marks are its parent's too.
-  pub marking-turn : {n : ℕ} → ((m : ℕ) → m < length parents → at parents m ≤ m)
+  pub marking-turn : {n : ℕ} → ParentsFirst (length parents) (at parents)
       → Marking parents nodes levels n marks → 0 < n → node ≡ at parents (n - 1) → more ≡ at marks (n - 1) → Marking parents nodes levels (n - 1) marks′
   marking-turn {n = n} rises inv some en em = record {
     reached = omega (arith, inv .reached);
@@ -226,7 +227,7 @@ module _ {marks : List ℕ} {level n : ℕ} {list : List ℕ} {count : ℕ} (inv
 
 module _ {parents nodes levels marks : List ℕ} (size : length marks ≡ length parents) (is : NodeMarks parents nodes levels marks)
     {level : ℕ} {active : List ℕ} {count : ℕ} (listed : Listed marks level active count) where
-  pub active-nodes : ((m : ℕ) → m < length parents → at parents m ≤ m) → ActiveNodes parents active count
+  pub active-nodes : ParentsFirst (length parents) (at parents) → ActiveNodes parents active count
   active-nodes rises = record {
     few = listed .few;
     within = λ i l. omega (arith, listed .within i l);
@@ -348,7 +349,7 @@ module _ {marks : List ℕ} {rows₀ : List (List ℕ)} {above : ℕ} {rows acti
 -- The marked nodes of a level are its active nodes.
 pub actives-listed : {parents nodes levels marks : List ℕ} {rows rows′ actives : List (List ℕ)} → length marks ≡ length parents
     → NodeMarks parents nodes levels marks
-    → ((m : ℕ) → m < length parents → at parents m ≤ m)
+    → ParentsFirst (length parents) (at parents)
     → ((c : ℕ) → c < length nodes → at nodes c ≤ length parents)
     → LevelsListed marks rows actives rows′
     → ActivesListed parents nodes levels rows actives rows′

@@ -12,11 +12,11 @@ use lib.ListN.{length}
 use borrow.Author.Tests.{eqb-true, eq-eqb, ltb-true, lt-ltb}
 use Rattle.figures.specs.Sums.{on, sum}
 use Rattle.rooms.specs.Table.{Room, roomCords}
-use Rattle.rooms.specs.Limits.{carried, limit, beneath, nodeAt, parentOf, hangsBeneath, lowsBeneath}
+use Rattle.rooms.specs.Trees.{beneath, sumBeneath, ParentsFirst}
+use Rattle.rooms.specs.Limits.{carried, limit, nodeAt, parentOf, hangsBeneath, lowsBeneath}
 use Rattle.rooms.proofs.All.{all-at}
 use Rattle.rooms.proofs.Accepted.{CordAccepted, ServerAccepted, Accepted}
 use Rattle.figures.proofs.Sums.{sum-cong}
-use Rattle.rooms.proofs.Trees.{under}
 use Rattle.figures.specs.Figures.{figures, at}
 use Rattle.rooms.specs.Cords.{RoomCord, cordAt, serverAt, serverOf}
 use Rattle.deals.specs.Wants.{need, needs, firstWants}
@@ -91,7 +91,7 @@ yes-both a b p q = ap₂ (λ (x y : Bool). x && y) p q
 
 module _ (r : Room) (ok : Accepted r) where
   -- The parent's number of each node is not above the node's place.
-  pub parents-below : (m : ℕ) → m < length (r .nodes) → parentOf r m ≤ m
+  pub parents-below : ParentsFirst (length (r .nodes)) (parentOf r)
   parents-below m l = ok .nodes m l .parentTo
 
   pub server-facts : (v : ℕ) → v < length (r .servers) → ServerAccepted (r .scale) (length (r .nodes)) (serverAt r v)
@@ -186,8 +186,8 @@ module _ (r : Room) (ok : Accepted r) where
       ap (λ (d : Deal). sum (d .cords) (λ c. on (beneath (d .parent) (d .nodes) n (d .node c)) (d .low c))) (dealOf-is r [] []) ∙ lows-are n
 
   lows-fit : (n : ℕ) → n < length (r .nodes)
-      → under (length (r .nodes)) (parentOf r) (roomCords r) (λ c. cordAt r c .node) n (at (lowsOf r)) ≤ limit (nodeAt r n)
-  unfolding under
+      → sumBeneath (length (r .nodes)) (parentOf r) (roomCords r) (λ c. cordAt r c .node) n (at (lowsOf r)) ≤ limit (nodeAt r n)
+  unfolding sumBeneath
   lows-fit n l = le-trans (le-of-eq (lows-are n)) (ok .lows n l)
 
   pub room-dealable : (starts wants : List ℕ) → ((c : ℕ) → c < roomCords r → at (lowsOf r) c ≤ at wants c) → Dealable (roomDeal r starts wants)

@@ -10,22 +10,22 @@ use lib.Dec.{eqb}
 use lib.ListN.{length, getD, drop}
 use Rattle.figures.specs.Sums.{on, sum}
 use Rattle.rooms.specs.Table.{Room, mostWatts, mostCords, roomCords}
-use Rattle.rooms.specs.Limits.{beneath, limit, nodeAt}
+use Rattle.rooms.specs.Trees.{beneath, sumBeneath}
+use Rattle.rooms.specs.Limits.{limit, nodeAt}
 use Rattle.rooms.proofs.Accepted.{Accepted}
 use Rattle.figures.proofs.Sums.{up}
-use Rattle.rooms.proofs.Trees.{kids, own, under}
 use Rattle.figures.specs.Figures.{at, cell, sumOf}
 use Rattle.rooms.specs.Cords.{cordAt}
 use Rattle.deals.specs.Wants.{needs, firstWants}
 use Rattle.rooms.specs.Lists.{lowsOf}
-use Rattle.deals.specs.Metrics.{Deal, dealOf, atLevel, metrics, sumsFrom, childSums, excess}
+use Rattle.deals.specs.Metrics.{Deal, dealOf, atLevel, metrics, childSums, excess}
 use Rattle.deals.specs.Dealing.{weightSum, amount}
 use Rattle.deals.specs.SecondDeal.{stranded, firstDeal, firstGrants, firstUsed, freed, secondDeal, secondWants}
 use Rattle.deals.specs.Properties.{requestTotal, pcapminBelow, mostSum, DealBounded, Bounded}
 use Rattle.deals.proofs.Children.{weightSum-is}
-use Rattle.deals.proofs.Requests.{Dealable, sumBelow, asked, requests-fit, requests-left, asked-wants}
+use Rattle.deals.proofs.Requests.{Dealable, dealBeneath, asked, requests-fit, requests-left, asked-wants}
 use Rattle.deals.proofs.Equations.{weights, pcapmin-starts, amount-within, weights-asked}
-use Rattle.deals.proofs.Computed.{childSums-at, requestsFrom-length, requests-levels, pcapmin, request, startsOf, amountOf, measured, dealt, Startable}
+use Rattle.deals.proofs.Computed.{childSums-at, requests-levels, pcapmin, request, startsOf, amountOf, measured, dealt, Startable}
 use Rattle.deals.proofs.Totals.{requestTotal-is, pcapminBelow-is}
 use Rattle.figures.proofs.Lists.{total-sum, sum-most, sum-one-le, sumOf-most}
 use Rattle.rooms.proofs.Carried.{carried-most, limit-le}
@@ -40,8 +40,8 @@ on-most false a most h = omega arith
 
 -- A figure of the cords that fits in a word of watts, summed over those beneath a node.
 pub beneath-most : (d : Deal) → d .cords ≤ mostCords → (n : ℕ) (figure : ℕ → ℕ) → ((c : ℕ) → c < d .cords → figure c ≤ mostWatts)
-    → sumBelow d n figure ≤ mostSum
-unfolding under
+    → dealBeneath d n figure ≤ mostSum
+unfolding sumBeneath
 beneath-most d few n figure most =
     le-trans
     (sum-most (d .cords) mostWatts _ (λ c l. on-most (beneath (d .parent) (d .nodes) n (d .node c)) (figure c) mostWatts (most c l)))
@@ -49,7 +49,7 @@ beneath-most d few n figure most =
 
 module _ (d : Deal) (ok : Dealable d) (few : d .cords ≤ mostCords) (limits : (n : ℕ) → n < d .nodes → d .limit n ≤ mostWatts)
     (wants : (c : ℕ) → c < d .cords → d .want c ≤ mostWatts) where
-  wants-most : (n j : ℕ) → sumBelow d n (atLevel d j (d .want)) ≤ mostSum
+  wants-most : (n j : ℕ) → dealBeneath d n (atLevel d j (d .want)) ≤ mostSum
   wants-most n j = beneath-most d few n (atLevel d j (d .want)) (λ c l. on-most (eqb (d .level c) j) (d .want c) mostWatts (wants c l))
 
   pub asked-most : (n j : ℕ) → n < d .nodes → j < d .levels → asked d (request d) n j ≤ mostSum
@@ -61,7 +61,7 @@ module _ (d : Deal) (ok : Dealable d) (few : d .cords ≤ mostCords) (limits : (
       le-trans
       (le-of-eq
       (ap (λ (z : ℕ). at (childSums d n (drop z (metrics d .requests)) (d .want)) j) (add-one n)
-      ∙ childSums-at d (ok .rises) n j (metrics d .requests) (d .want) l (requestsFrom-length d (sumsFrom d (d .low) (d .nodes) 0) (d .nodes) 0) h))
+      ∙ childSums-at d (ok .rises) n j (metrics d .requests) (d .want) h))
       (asked-most n j l h)
 
   requests-most : (n : ℕ) → n < d .nodes → sumOf (getD (metrics d .requests) n []) ≤ d .limit n
@@ -90,7 +90,7 @@ module _ (d : Deal) (ok : Dealable d) (few : d .cords ≤ mostCords) (limits : (
 
   module _ (st : Startable d) where
     weights-most : (n j : ℕ) → n < d .nodes → j < d .levels → weightSum d (metrics d) n j ≤ mostSum
-    unfolding weights kids own startsOf request
+    unfolding weights startsOf request
     weights-most n j l h =
         le-trans (le-of-eq (weightSum-is d (metrics d) n j))
         (le-trans (weights-asked d ok (pcapmin d) (request d) (measured d ok) (startsOf d) (amountOf d) _ st (dealt d ok) n j l h) (asked-most n j l h))

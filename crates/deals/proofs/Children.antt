@@ -12,8 +12,9 @@ use Rattle.figures.specs.Figures.{total, sumOf}
 use Rattle.figures.proofs.Sums.{sum-up, sum-none, up}
 use Rattle.figures.proofs.Lists.{total-append}
 use Rattle.splits.specs.Split.{part, partsAfter, split}
-use Rattle.deals.specs.Metrics.{Deal, Metrics, dealFrom, metrics, overNodes, overCords}
+use Rattle.deals.specs.Metrics.{Deal, Metrics, dealFrom, metrics, atLevel, overChildren}
 use Rattle.deals.specs.Dealing.{Child, node, cord, same, placesFrom, children, nodeOver, cordOver, weight, weightsOf, weightSum, beside, partOf, amount}
+use Rattle.rooms.specs.Trees.{childSum}
 
 -- ---- Worked by hand
 
@@ -119,13 +120,13 @@ module _ (d : Deal) (n : ℕ) where
   cordsAt = map cord (placesFrom (d .cords) 0 (λ c. eqb (d .node c) (suc n)))
 
   -- A figure of the children, summed over those that are nodes, and over all.
-  nodes-total : (w : Child → ℕ) → total w nodesAt ≡ overNodes d n (λ m. w (node m))
+  nodes-total : (w : Child → ℕ) → total w nodesAt ≡ childSum (d .nodes) (d .parent) n (λ m. w (node m))
   unfolding nodesAt
   nodes-total w = total-places w node (λ m. eqb (d .parent m) (suc n)) (d .nodes) 0 ∙ up-first (d .nodes) _
 
   -- All of a figure: that of the child nodes, and of the cords on the node.
   abbrev pub overAll : (Child → ℕ) → ℕ
-  overAll w = overNodes d n (λ m. w (node m)) + sum (d .cords) (λ c. on (eqb (d .node c) (suc n)) (w (cord c)))
+  overAll w = overChildren d n (λ m. w (node m)) (λ c. w (cord c))
 
   pub children-sum : (w : Child → ℕ) → sumOf (map w (children d n)) ≡ overAll w
   unfolding children nodesAt cordsAt
@@ -157,17 +158,17 @@ module _ (d : Deal) (n : ℕ) where
   -- A cord gets its part after all child nodes and the cords before it.
   pub partOf-cord : (w : Child → ℕ) (x c : ℕ) → c < d .cords → d .node c ≡ suc n
       → partOf d w n x (cord c)
-      ≡ part x (overAll w) (overNodes d n (λ m. w (node m)) + sum c (λ h. on (eqb (d .node h) (suc n)) (w (cord h)))) (w (cord c))
+      ≡ part x (overAll w) (childSum (d .nodes) (d .parent) n (λ m. w (node m)) + sum c (λ h. on (eqb (d .node h) (suc n)) (w (cord h)))) (w (cord c))
   unfolding partOf split children parted nodesAt cordsAt
   partOf-cord w x c l e =
       let all : ℕ = sumOf (map w (children d n)) in
       beside-others w node x all cordsAt (cord c) (λ i. refl) (placesFrom (d .nodes) 0 (λ m. eqb (d .parent m) (suc n))) 0
       ∙ ap₂ (λ (z : ℕ) (l : List Child). beside (cord c) l (partsAfter x all z (map w l))) (zero-add _ ∙ nodes-total w) (sym (append-nil cordsAt))
       ∙ beside-places w cord x all [] (λ i h. refl) (λ h. eqb (d .node h) (suc n))
-      (d .cords) 0 c c (overNodes d n (λ m. w (node m))) (zero-add c) l (eq-eqb (d .node c) (suc n) e)
-      ∙ ap₂ (λ (a z : ℕ). part x a (overNodes d n (λ m. w (node m)) + z) (w (cord c))) (children-sum w) (up-first c _)
+      (d .cords) 0 c c (childSum (d .nodes) (d .parent) n (λ m. w (node m))) (zero-add c) l (eq-eqb (d .node c) (suc n) e)
+      ∙ ap₂ (λ (a z : ℕ). part x a (childSum (d .nodes) (d .parent) n (λ m. w (node m)) + z) (w (cord c))) (children-sum w) (up-first c _)
 
 -- The weights at a level, summed.
-pub weightSum-is : (d : Deal) (f : Metrics) (n j : ℕ) → weightSum d f n j ≡ overNodes d n (λ m. nodeOver f m j) + overCords d n j (cordOver d)
+pub weightSum-is : (d : Deal) (f : Metrics) (n j : ℕ) → weightSum d f n j ≡ overChildren d n (λ m. nodeOver f m j) (atLevel d j (cordOver d))
 unfolding weightSum weightsOf
 weightSum-is d f n j = children-sum d n (weight d f j)

@@ -5,60 +5,38 @@ use Prim.Native.Nat.{ℕ, zero, suc, _+_, _-_, _≤_, _<_, min}
 use native.Mathlib.Nat.{le-refl, le-trans, le-of-eq, zero-add, add-comm, not-suc-le-zero, le-of-suc-le-suc}
 use native.Mathlib.Omega.{arith}
 use lib.Dec.{eqb, leb}
-use lib.ListN.{length, getD, drop, drop-of-length-le}
-use lib.Seq.{drop-cons, drop-drop}
-use borrow.Author.Tests.{eq-eqb, ne-eqb}
+use lib.ListN.{length, getD, drop}
+use lib.Seq.{drop-cons, drop-drop, getD-drop}
+use borrow.Author.Tests.{eq-eqb}
 use Rattle.figures.specs.Sums.{on, sum}
-use Rattle.figures.proofs.Sums.{on-yes, on-no, sum-cong, sum-zero, sum-up, up}
-use Rattle.rooms.proofs.Trees.{kids, own}
+use Rattle.figures.proofs.Sums.{on-yes, up}
 use Rattle.figures.specs.Figures.{at, cell, sumOf}
-use Rattle.deals.specs.Metrics.{Deal, atLevel, overRows, childSums, sumsFrom, requestsAbove, requestsFrom, metrics, overCords}
+use Rattle.deals.specs.Metrics.{Deal, atLevel, overChildren, childSums, sumsFrom, requestsAbove, requestsFrom, metrics}
 use Rattle.deals.specs.Dealing.{Child, node, cord, weight, cordOver, byNumber, partOf, nodeAmount, cordAmount, amount, reached, granted}
 use Rattle.splits.specs.Split.{part}
 use Rattle.deals.specs.Properties.{GivesAll, fromLevel}
 use Rattle.figures.proofs.Lists.{figures-at, figures-length, total-drop}
 use Rattle.deals.proofs.Rows.{IsRow}
 use Rattle.deals.proofs.Children.{partOf-node, partOf-cord}
-use Rattle.deals.proofs.Requests.{Dealable, WholeWay, TreeWay, Measured, asked, later, sumBelow, sumBelow-cong, pcapmin-request}
-use Rattle.deals.proofs.Amounts.{whole, ByWeights}
+use Rattle.deals.proofs.Requests.{Dealable, WholeWay, TreeWay, Measured, asked, later, dealBeneath, pcapmin-request}
+use Rattle.deals.proofs.Amounts.{ByWeights}
 use Rattle.deals.proofs.Equations.{Starting, Dealt, weights, grant, amount-weight, gives-all, granted-beneath, granted-request, reached-over, ours, most-above}
+use Rattle.rooms.specs.Trees.{childSum, ParentsFirst}
+use Rattle.rooms.proofs.Trees.{sumBeneath-cong, childSum-cong}
 
 -- ---- The rows of the nodes, from the last to the first
 
 module _ (d : Deal) where
-  overRows-drop : (n j : ℕ) (l : List (List ℕ)) (k a : ℕ) → a + k ≡ length l
-      → overRows d n j a (drop a l) ≡ up k a (λ m. on (eqb (d .parent m) (suc n)) (cell l m j))
-  unfolding overRows up
-  overRows-drop n j l zero a e = ap (overRows d n j a) (drop-of-length-le l {i = a} (omega arith))
-  overRows-drop n j l (suc k) a e =
-      ap (overRows d n j a) (drop-cons l a [] (omega arith))
-      ∙ ap (λ (z : ℕ). on (eqb (d .parent a) (suc n)) (cell l a j) + z) (overRows-drop n j l k (suc a) (omega arith))
-
   -- No child stands before its parent: the rows after a node have all of its child nodes.
-  overRows-kids : ((m : ℕ) → m < d .nodes → d .parent m ≤ m) → (n j : ℕ) (l : List (List ℕ)) → n < d .nodes → length l ≡ d .nodes
-      → overRows d n j (suc n) (drop (suc n) l) ≡ kids (d .nodes) (d .parent) n (λ m. cell l m j)
-  unfolding kids
-  overRows-kids rises n j l h e =
-      let g : ℕ → ℕ = λ m. on (eqb (d .parent m) (suc n)) (cell l m j) in
-      let k : ℕ = d .nodes - suc n in
-      let z : sum (suc n) g ≡ 0
-      = sum-cong (suc n) g (λ m. 0) (λ m lm. on-no (eqb (d .parent m) (suc n)) (cell l m j) (ne-eqb (d .parent m) (suc n) (λ q. omega (arith, rises m (omega arith)))))
-      ∙ sum-zero (suc n) in
-      let u : suc n + k ≡ d .nodes = omega arith in
-      overRows-drop n j l k (suc n) (u ∙ sym e) ∙ omega (arith, sum-up k (suc n) (d .nodes) g u)
-
-  -- The children's sums, by the rows of all nodes.
-  pub childSums-at : ((m : ℕ) → m < d .nodes → d .parent m ≤ m) → (n j : ℕ) (l : List (List ℕ)) (w : ℕ → ℕ) → n < d .nodes → length l ≡ d .nodes
-      → j < d .levels
-      → at (childSums d n (drop (suc n) l) w) j ≡ kids (d .nodes) (d .parent) n (λ m. cell l m j) + own (d .cords) (d .node) n (atLevel d j w)
-  unfolding childSums own
-  childSums-at rises n j l w h e q =
-      figures-at (d .levels) j _ q ∙ ap (λ (z : ℕ). z + overCords d n j w) (overRows-kids rises n j l h e)
-
-  sumsFrom-length : (w : ℕ → ℕ) (k a : ℕ) → length (sumsFrom d w k a) ≡ k
-  unfolding sumsFrom
-  sumsFrom-length w zero a = refl
-  sumsFrom-length w (suc k) a = ap suc (sumsFrom-length w k (suc a))
+  pub childSums-at : ParentsFirst (d .nodes) (d .parent) → (n j : ℕ) (l : List (List ℕ)) (w : ℕ → ℕ) → j < d .levels
+      → at (childSums d n (drop (suc n) l) w) j ≡ overChildren d n (λ m. cell l m j) (atLevel d j w)
+  unfolding childSums
+  childSums-at rises n j l w q =
+      figures-at (d .levels) j _ q
+      ∙ ap (λ (z : ℕ). z + childSum (d .cords) (d .node) n (atLevel d j w))
+      (childSum-cong (d .nodes) (d .parent) n (λ m. cell (drop (suc n) l) (m - suc n) j) (λ m. cell l m j) (λ m lm e.
+      let after : suc n + (m - suc n) ≡ m = omega (arith, rises m lm) in
+      ap (λ (row : List ℕ). at row j) (getD-drop (suc n) l (m - suc n) [] ∙ ap (λ (k : ℕ). getD l k []) after)))
 
   sumsFrom-at : (w : ℕ → ℕ) (k a i n : ℕ) → a + i ≡ n → i < k
       → getD (sumsFrom d w k a) i [] ≡ childSums d n (drop (suc i) (sumsFrom d w k a)) w
@@ -69,20 +47,15 @@ module _ (d : Deal) where
   sumsFrom-at w (suc k) a (suc i) n e h = sumsFrom-at w k (suc a) i n (omega arith) (le-of-suc-le-suc h)
 
   -- The rows of a figure of the cords, by the children's.
-  sums-at : ((m : ℕ) → m < d .nodes → d .parent m ≤ m) → (w : ℕ → ℕ) (n j : ℕ) → n < d .nodes → j < d .levels
-      → cell (sumsFrom d w (d .nodes) 0) n j ≡ kids (d .nodes) (d .parent) n (λ m. cell (sumsFrom d w (d .nodes) 0) m j) + own (d .cords) (d .node) n (atLevel d j w)
+  sums-at : ParentsFirst (d .nodes) (d .parent) → (w : ℕ → ℕ) (n j : ℕ) → n < d .nodes → j < d .levels
+      → cell (sumsFrom d w (d .nodes) 0) n j ≡ overChildren d n (λ m. cell (sumsFrom d w (d .nodes) 0) m j) (atLevel d j w)
   sums-at rises w n j l h =
       ap (λ (z : List ℕ). at z j) (sumsFrom-at w (d .nodes) 0 n n (zero-add n) l)
-      ∙ childSums-at rises n j (sumsFrom d w (d .nodes) 0) w l (sumsFrom-length w (d .nodes) 0) h
+      ∙ childSums-at rises n j (sumsFrom d w (d .nodes) 0) w h
 
   -- A node's row of Requests, by the rows after it.
   requestRow : List (List ℕ) → ℕ → List (List ℕ) → List ℕ
   requestRow pp n rows = requestsAbove (d .levels) 0 (d .limit n) 0 (cell pp n) (at (childSums d n rows (d .want)))
-
-  pub requestsFrom-length : (pp : List (List ℕ)) (k a : ℕ) → length (requestsFrom d pp k a) ≡ k
-  unfolding requestsFrom
-  requestsFrom-length pp zero a = refl
-  requestsFrom-length pp (suc k) a = ap suc (requestsFrom-length pp k (suc a))
 
   requestsFrom-at : (pp : List (List ℕ)) (k a i n : ℕ) → a + i ≡ n → i < k
       → getD (requestsFrom d pp k a) i [] ≡ requestRow pp n (drop (suc i) (requestsFrom d pp k a))
@@ -171,7 +144,7 @@ module _ (d : Deal) (ok : Dealable d) where
         let rows : List (List ℕ) = requestsFrom d (sumsFrom d (d .low) (d .nodes) 0) (d .nodes) 0 in
         let sums : List ℕ = childSums d n (drop (suc n) rows) (d .want) in
         row-cong (d .levels) (d .limit n) (pcapmin d n) (at sums) (asked d (request d) n) (request d n)
-        (λ j h. childSums-at d (ok .rises) n j rows (d .want) l (requestsFrom-length d (sumsFrom d (d .low) (d .nodes) 0) (d .nodes) 0) h)
+        (λ j h. childSums-at d (ok .rises) n j rows (d .want) h)
         (subst (λ (z : List ℕ). IsRow (d .levels) (d .limit n) (pcapmin d n) (at sums) (at z))
         (sym (requestsFrom-at d (sumsFrom d (d .low) (d .nodes) 0) (d .nodes) 0 n n (zero-add n) l))
         (row-is (d .levels) (d .limit n) (pcapmin d n) (at sums)));
@@ -200,7 +173,7 @@ module _ (d : Deal) (ok : Dealable d) where
             ∙ sym (byNumber-suc (d .parent m) _ _ n e)
 
     pub by-weights : ByWeights d (λ m. w (node m)) (λ c. w (cord c)) (λ m. nodeAmount d w (suc m) m) (cordAmount d w)
-    unfolding nodeAmount cordAmount nodePart whole kids own
+    unfolding nodeAmount cordAmount nodePart
     by-weights = record {
       root = λ m l e. byNumber-zero (d .parent m) _ _ e;
       inner = λ m n l e.
@@ -211,7 +184,7 @@ module _ (d : Deal) (ok : Dealable d) where
     }
 
   pub dealt : Dealt d (startsOf d) (request d) (amountOf d) (reached d (metrics d))
-  unfolding amountOf amount reached weights whole kids own startsOf request metrics
+  unfolding amountOf amount reached weights startsOf request metrics
   dealt = record {
     starts = sums-at d (ok .rises) (d .start);
     root = λ m j l e. by-weights (weight d (metrics d) j) .root m l e;
@@ -239,38 +212,38 @@ module _ (d : Deal) (ok : Dealable d) (st : Startable d) where
       record {
         least = λ c l. le-trans (o .least c l) (le-of-eq (sym (granted-at d ok c l)));
         most = λ c l. le-trans (le-of-eq (granted-at d ok c l)) (o .most c l);
-        within = λ n l. le-trans (le-of-eq (sumBelow-cong d n (at (granted d)) _ (granted-at d ok))) (o .within n l);
+        within = λ n l. le-trans (le-of-eq (sumBeneath-cong (d .nodes) (d .parent) (d .cords) (d .node) n (at (granted d)) _ (granted-at d ok))) (o .within n l);
       }
 
   -- No other way gives the cords beneath a root, of a level and above, more.
   pub granted-most : (f : ℕ → ℕ) (n : ℕ) → TreeWay d n f → n < d .nodes → d .parent n ≡ 0 → (j : ℕ) → j ≤ d .levels
-      → sumBelow d n (fromLevel d j f) ≤ sumBelow d n (fromLevel d j (at (granted d)))
+      → dealBeneath d n (fromLevel d j f) ≤ dealBeneath d n (fromLevel d j (at (granted d)))
   unfolding grant
   granted-most f n w l e j h =
       le-trans (most-above d ok (pcapmin d) (request d) (measured d ok) (startsOf d) (amountOf d) (reached d (metrics d)) st (dealt d ok) f n w l e j h)
-      (le-of-eq (sumBelow-cong d n _ _ (λ c lc. ap (λ (z : ℕ). on (leb j (d .level c)) z) (sym (granted-at d ok c lc)))))
+      (le-of-eq (sumBeneath-cong (d .nodes) (d .parent) (d .cords) (d .node) n _ _ (λ c lc. ap (λ (z : ℕ). on (leb j (d .level c)) z) (sym (granted-at d ok c lc)))))
 
   -- No cord is granted less than its start.
   pub granted-start : (c : ℕ) → c < d .cords → d .start c ≤ at (granted d) c
   granted-start c l = omega (arith, granted-at d ok c l)
 
   -- What is granted beneath a node at a level is the starts and the amount.
-  pub granted-level : (n j : ℕ) → n < d .nodes → j < d .levels → startsOf d n j + amountOf d n j ≡ sumBelow d n (atLevel d j (at (granted d)))
+  pub granted-level : (n j : ℕ) → n < d .nodes → j < d .levels → startsOf d n j + amountOf d n j ≡ dealBeneath d n (atLevel d j (at (granted d)))
   unfolding grant
   granted-level n j l h =
       granted-beneath d ok (pcapmin d) (request d) (measured d ok) (startsOf d) (amountOf d) (reached d (metrics d)) st (dealt d ok) j h n l
-      ∙ sumBelow-cong d n _ _ (λ c lc. ap (λ (z : ℕ). on (eqb (d .level c) j) z) (sym (granted-at d ok c lc)))
+      ∙ sumBeneath-cong (d .nodes) (d .parent) (d .cords) (d .node) n _ _ (λ c lc. ap (λ (z : ℕ). on (eqb (d .level c) j) z) (sym (granted-at d ok c lc)))
 
   -- A node's cords of a level are granted no more than its Request there.
-  pub granted-asked : (n j : ℕ) → n < d .nodes → j < d .levels → sumBelow d n (atLevel d j (at (granted d))) ≤ request d n j
+  pub granted-asked : (n j : ℕ) → n < d .nodes → j < d .levels → dealBeneath d n (atLevel d j (at (granted d))) ≤ request d n j
   unfolding grant
   granted-asked n j l h =
-      le-trans (le-of-eq (sumBelow-cong d n _ _ (λ c lc. ap (λ (z : ℕ). on (eqb (d .level c) j) z) (granted-at d ok c lc))))
+      le-trans (le-of-eq (sumBeneath-cong (d .nodes) (d .parent) (d .cords) (d .node) n _ _ (λ c lc. ap (λ (z : ℕ). on (eqb (d .level c) j) z) (granted-at d ok c lc))))
       (granted-request d ok (pcapmin d) (request d) (measured d ok) (startsOf d) (amountOf d) (reached d (metrics d)) st (dealt d ok) j h n l)
 
   -- Every node gives its children all of its amount, and none of them more than its weight.
   pub deal-gives-all : GivesAll d
-  unfolding amountOf startsOf request kids own
+  unfolding amountOf startsOf request
   deal-gives-all = record {
     all = λ n j l h. add-comm _ _ ∙ gives-all d ok (pcapmin d) (request d) (measured d ok) (startsOf d) (amountOf d) (reached d (metrics d)) st (dealt d ok) n j l h;
     toNode = λ m j l h. amount-weight d ok (pcapmin d) (request d) (measured d ok) (startsOf d) (amountOf d) (reached d (metrics d)) st (dealt d ok) m l j h;

@@ -12,15 +12,15 @@ use Rattle.figures.specs.Sums.{on, sum}
 use Rattle.figures.proofs.Sums.{on-yes, on-add, sum-cong, sum-add, sum-le, sum-none, sum-up, up}
 use Rattle.figures.proofs.Lists.{figures-at}
 use Rattle.rooms.specs.Table.{mostWatts, mostCords}
-use Rattle.rooms.specs.Limits.{beneath}
-use Rattle.rooms.proofs.Trees.{kids, own, under, kids-add, kids-cong, kids-le, down}
-use Rattle.deals.specs.Metrics.{Deal, dealFrom, metrics, atLevel}
+use Rattle.rooms.specs.Trees.{beneath, childSum, sumBeneath}
+use Rattle.rooms.proofs.Trees.{childSum-add, childSum-cong, childSum-le, down}
+use Rattle.deals.specs.Metrics.{Deal, dealFrom, metrics, atLevel, overChildren}
 use Rattle.deals.specs.Dealing.{cordAmount, granted}
 use Rattle.deals.specs.Headroom.{ceilingWithin, nodeCeiling, requestsAt, headroomWeight, headroomOver}
 use Rattle.deals.specs.Properties.{mostSum, headroomWeights, headroomAt, HeadroomBounded}
 use Rattle.deals.proofs.Children.{children-sum}
-use Rattle.deals.proofs.Requests.{Dealable, later, sumBelow, sumBelow-step, sumBelow-all, own-le, request-total}
-use Rattle.deals.proofs.Amounts.{whole, whole-cong, ByWeights, reached-same, amount-most, reached-most, all-beneath}
+use Rattle.deals.proofs.Requests.{Dealable, later, dealBeneath, dealBeneath-step, dealBeneath-all, request-total}
+use Rattle.deals.proofs.Amounts.{overChildren-cong, ByWeights, reached-same, amount-most, reached-most, all-beneath}
 use Rattle.deals.proofs.Computed.{pcapmin, request, measured, by-weights, Startable, granted-way, granted-asked}
 use Rattle.deals.proofs.Totals.{requestTotal-is}
 use Rattle.deals.proofs.Bounds.{beneath-most}
@@ -68,15 +68,14 @@ module _ (d : Deal) (ok : Dealable d) where
   asks-up n l = requestTotal-is d n l levels 0 (zero-add levels)
 
   -- By the law of totals they are the lesser of the limit and of the children's.
-  asks-are : (n : ℕ) → n < nodes → asks n ≡ min (limit n) (kids nodes parent n asks + own cords node n want)
-  unfolding own
+  asks-are : (n : ℕ) → n < nodes → asks n ≡ min (limit n) (overChildren d n asks want)
   asks-are n l =
       asks-up n l
       ∙ request-total d ok (pcapmin d) (request d) (measured d ok) n l levels 0 (zero-add levels)
       ∙ ap₂ min
       (let z : limit n - sum 0 (pcapmin d n) ≡ limit n = omega (arith, sum-none (pcapmin d n)) in z)
       (ap₂ _+_
-      (kids-cong nodes parent n _ _ (λ m lm q. sym (asks-up m lm)))
+      (childSum-cong nodes parent n _ _ (λ m lm q. sym (asks-up m lm)))
       (sum-cong cords _ _ (λ c lc. ap (λ (z : ℕ). on (eqb (node c) (suc n)) z) (on-yes (leb 0 (level c)) (want c) (leb·zero (level c))))))
 
   -- ---- The ceilings
@@ -84,25 +83,25 @@ module _ (d : Deal) (ok : Dealable d) where
   module _ (ceiling : ℕ → ℕ) where
     -- Steps beyond the nodes change nothing.
     ceiling-steps : (k l n : ℕ) → n < nodes → nodes ≤ n + k → nodes ≤ n + l → ceilingWithin d ceiling k n ≡ ceilingWithin d ceiling l n
-    unfolding ceilingWithin kids
+    unfolding ceilingWithin
     ceiling-steps zero l n h a b = absurd (omega arith)
     ceiling-steps (suc k) zero n h a b = absurd (omega arith)
     ceiling-steps (suc k) (suc l) n h a b =
         ap (λ (z : ℕ). min (limit n) (z + sum cords (λ c. on (eqb (node c) (suc n)) (ceiling c))))
-        (kids-cong nodes parent n (ceilingWithin d ceiling k) (ceilingWithin d ceiling l) (λ m lm q.
+        (childSum-cong nodes parent n (ceilingWithin d ceiling k) (ceilingWithin d ceiling l) (λ m lm q.
         let u : n < m = later d ok m n lm q in
         ceiling-steps k l m lm (omega arith) (omega arith)))
 
-    pub ceiling-is : (n : ℕ) → n < nodes → nodeCeiling d ceiling n ≡ min (limit n) (kids nodes parent n (nodeCeiling d ceiling) + own cords node n ceiling)
-    unfolding nodeCeiling ceilingWithin kids own
+    pub ceiling-is : (n : ℕ) → n < nodes → nodeCeiling d ceiling n ≡ min (limit n) (overChildren d n (nodeCeiling d ceiling) ceiling)
+    unfolding nodeCeiling ceilingWithin
     ceiling-is n l = ceiling-steps nodes (suc nodes) n l (omega arith) (omega arith)
 
     module _ (most : (c : ℕ) → c < cords → want c ≤ ceiling c) where
       -- Both grow with the children's, so that no node asks for more than its ceiling.
       asked-ceilings : (n : ℕ) → ((m : ℕ) → m < nodes → n < m → asks m ≤ nodeCeiling d ceiling m)
-          → kids nodes parent n asks + own cords node n want ≤ kids nodes parent n (nodeCeiling d ceiling) + own cords node n ceiling
+          → overChildren d n asks want ≤ overChildren d n (nodeCeiling d ceiling) ceiling
       asked-ceilings n ih =
-          add-le-add (kids-le nodes parent n _ _ (λ m lm q. ih m lm (later d ok m n lm q))) (own-le d ok n _ _ (λ c lc q. most c lc))
+          add-le-add (childSum-le nodes parent n _ _ (λ m lm q. ih m lm (later d ok m n lm q))) (childSum-le (d .cords) (d .node) n _ _ (λ c lc q. most c lc))
 
       asks-within : (n : ℕ) → n < nodes → asks n ≤ nodeCeiling d ceiling n
       asks-within = down nodes (λ n. asks n ≤ nodeCeiling d ceiling n) (λ n l ih.
@@ -117,21 +116,20 @@ module _ (d : Deal) (ok : Dealable d) where
       cordOver c = ceiling c - want c
 
       weights-are : (n : ℕ)
-          → whole d over cordOver n + (kids nodes parent n asks + own cords node n want) ≡ kids nodes parent n (nodeCeiling d ceiling) + own cords node n ceiling
-      unfolding whole own
+          → overChildren d n over cordOver + (overChildren d n asks want) ≡ overChildren d n (nodeCeiling d ceiling) ceiling
       weights-are n =
-          let k : kids nodes parent n (nodeCeiling d ceiling) ≡ kids nodes parent n over + kids nodes parent n asks
-          = kids-cong nodes parent n _ _ (λ m lm q. let z : asks m ≤ nodeCeiling d ceiling m = asks-within m lm in omega arith)
-          ∙ kids-add nodes parent n over asks in
+          let k : childSum nodes parent n (nodeCeiling d ceiling) ≡ childSum nodes parent n over + childSum nodes parent n asks
+          = childSum-cong nodes parent n _ _ (λ m lm q. let z : asks m ≤ nodeCeiling d ceiling m = asks-within m lm in omega arith)
+          ∙ childSum-add nodes parent n over asks in
           let o = sum-parted cords (λ c. eqb (node c) (suc n)) cordOver want ceiling (λ c lc. let z : want c ≤ ceiling c = most c lc in omega arith) in
           omega (arith, k, o)
 
       -- A node's weight is its children's, cut to what its limit has over its Requests.
-      weight-is : (n : ℕ) → n < nodes → over n ≡ min (limit n - asks n) (whole d over cordOver n)
+      weight-is : (n : ℕ) → n < nodes → over n ≡ min (limit n - asks n) (overChildren d n over cordOver)
       weight-is n l = cut-over (limit n) _ _ _ _ _ (weights-are n) (ceiling-is n l) (asks-are n l)
 
       -- So no node weighs more than its children.
-      weights-enough : (n : ℕ) → n < nodes → over n ≤ whole d over cordOver n
+      weights-enough : (n : ℕ) → n < nodes → over n ≤ overChildren d n over cordOver
       weights-enough n l = omega (arith, weight-is n l)
 
       -- The headroom is dealt by these weights.
@@ -146,41 +144,41 @@ module _ (d : Deal) (ok : Dealable d) where
           record { root = by .root; inner = by .inner; leaf = λ c n l e. lent-at c l ∙ by .leaf c n l e }
 
       -- Weights that are so cut are these, and what is dealt by them is the headroom.
-      module _ (w x y : ℕ → ℕ) (cut : (n : ℕ) → n < nodes → w n ≡ min (limit n - asks n) (whole d w cordOver n)) (by : ByWeights d w cordOver x y) where
+      module _ (w x y : ℕ → ℕ) (cut : (n : ℕ) → n < nodes → w n ≡ min (limit n - asks n) (overChildren d n w cordOver)) (by : ByWeights d w cordOver x y) where
         weights-same : (n : ℕ) → n < nodes → w n ≡ over n
         weights-same = down nodes (λ n. w n ≡ over n) (λ n l ih.
-            cut n l ∙ ap (min (limit n - asks n)) (whole-cong d w over cordOver n (λ m lm q. ih m lm (later d ok m n lm q))) ∙ sym (weight-is n l))
+            cut n l ∙ ap (min (limit n - asks n)) (overChildren-cong d w over cordOver n (λ m lm q. ih m lm (later d ok m n lm q))) ∙ sym (weight-is n l))
 
         pub lent-only : (c : ℕ) → c < cords → y c ≡ at (headroomOver d ceiling) c
         lent-only = reached-same d ok w over cordOver x (headroomAt d ceiling) y (at (headroomOver d ceiling)) weights-same by lent
 
       -- What a node has to lend, its cords have together; it is no more than what its ceiling has over its Requests.
-      pub lent-beneath : (n : ℕ) → n < nodes → sumBelow d n (at (headroomOver d ceiling)) ≡ headroomAt d ceiling n
+      pub lent-beneath : (n : ℕ) → n < nodes → dealBeneath d n (at (headroomOver d ceiling)) ≡ headroomAt d ceiling n
       lent-beneath n l = sym (all-beneath d ok _ _ _ _ lent weights-enough n l)
 
       lent-most : (n : ℕ) → n < nodes → headroomAt d ceiling n ≤ nodeCeiling d ceiling n - requestsAt (metrics d) n
       lent-most = amount-most d ok _ _ _ _ lent weights-enough
 
       -- A root has all of that.
-      pub root-lends : (n : ℕ) → n < nodes → parent n ≡ 0 → sumBelow d n (at (headroomOver d ceiling)) ≡ nodeCeiling d ceiling n - requestsAt (metrics d) n
+      pub root-lends : (n : ℕ) → n < nodes → parent n ≡ 0 → dealBeneath d n (at (headroomOver d ceiling)) ≡ nodeCeiling d ceiling n - requestsAt (metrics d) n
       root-lends n l e = lent-beneath n l ∙ lent .root n l e
 
       -- ---- With the grants
 
       module _ (st : Startable d) where
-        granted-asks : (n : ℕ) → n < nodes → sumBelow d n (at (granted d)) ≤ asks n
+        granted-asks : (n : ℕ) → n < nodes → dealBeneath d n (at (granted d)) ≤ asks n
         granted-asks n l =
             omega (
               arith,
-              sumBelow-all d ok n (at (granted d)),
-              sum-le levels (λ j. sumBelow d n (atLevel d j (at (granted d)))) (request d n) (λ j h. granted-asked d ok st n j l h),
+              dealBeneath-all d ok n (at (granted d)),
+              sum-le levels (λ j. dealBeneath d n (atLevel d j (at (granted d)))) (request d n) (λ j h. granted-asked d ok st n j l h),
               sum-up levels 0 levels (request d n) (zero-add levels),
               sum-none (request d n),
               asks-up n l,
             )
 
-        pub within-limit : (n : ℕ) → n < nodes → sumBelow d n (λ c. at (granted d) c + at (headroomOver d ceiling) c) ≤ limit n
-        unfolding under
+        pub within-limit : (n : ℕ) → n < nodes → dealBeneath d n (λ c. at (granted d) c + at (headroomOver d ceiling) c) ≤ limit n
+        unfolding sumBeneath
         within-limit n l =
             omega (
               arith,
@@ -198,18 +196,18 @@ module _ (d : Deal) (ok : Dealable d) where
 
       -- ---- The figures fit their words
 
-      ceilings-beneath : (n : ℕ) → n < nodes → kids nodes parent n (nodeCeiling d ceiling) + own cords node n ceiling ≤ sumBelow d n ceiling
-      ceilings-beneath = down nodes (λ n. kids nodes parent n (nodeCeiling d ceiling) + own cords node n ceiling ≤ sumBelow d n ceiling) (λ n l ih.
-          let k : kids nodes parent n (nodeCeiling d ceiling) ≤ kids nodes parent n (λ m. sumBelow d m ceiling)
-          = kids-le nodes parent n _ _ (λ m lm q. le-trans (omega (arith, ceiling-is m lm)) (ih m lm (later d ok m n lm q))) in
-          omega (arith, sumBelow-step d ok n ceiling))
+      ceilings-beneath : (n : ℕ) → n < nodes → overChildren d n (nodeCeiling d ceiling) ceiling ≤ dealBeneath d n ceiling
+      ceilings-beneath = down nodes (λ n. overChildren d n (nodeCeiling d ceiling) ceiling ≤ dealBeneath d n ceiling) (λ n l ih.
+          let k : childSum nodes parent n (nodeCeiling d ceiling) ≤ childSum nodes parent n (λ m. dealBeneath d m ceiling)
+          = childSum-le nodes parent n _ _ (λ m lm q. le-trans (omega (arith, ceiling-is m lm)) (ih m lm (later d ok m n lm q))) in
+          omega (arith, dealBeneath-step d ok n ceiling))
 
       module _ (few : cords ≤ mostCords) (limits : (n : ℕ) → n < nodes → limit n ≤ mostWatts) (ceilings : (c : ℕ) → c < cords → ceiling c ≤ mostWatts) where
-        children-most : (n : ℕ) → n < nodes → kids nodes parent n (nodeCeiling d ceiling) + own cords node n ceiling ≤ mostSum
+        children-most : (n : ℕ) → n < nodes → overChildren d n (nodeCeiling d ceiling) ceiling ≤ mostSum
         children-most n l = le-trans (ceilings-beneath n l) (beneath-most d few n ceiling ceilings)
 
-        weights-sum : (n : ℕ) → headroomWeights d ceiling n ≡ whole d over cordOver n
-        unfolding headroomWeights whole kids own
+        weights-sum : (n : ℕ) → headroomWeights d ceiling n ≡ overChildren d n over cordOver
+        unfolding headroomWeights
         weights-sum n = children-sum d n (headroomWeight d (metrics d) ceiling)
 
         weights-most : (n : ℕ) → n < nodes → headroomWeights d ceiling n ≤ mostSum
@@ -221,7 +219,6 @@ module _ (d : Deal) (ok : Dealable d) where
             omega (arith, mul-le-mul a (weights-most n l))
 
         pub headroom-bounded : HeadroomBounded d ceiling
-        unfolding kids own
         headroom-bounded = record {
           ceilings = ceilings;
           wants = most;

@@ -15,15 +15,15 @@ use Rattle.figures.specs.Figures.{at}
 use Rattle.figures.specs.Sums.{on}
 use Rattle.figures.proofs.Sums.{on-yes, on-le, sum-cong}
 use Rattle.figures.proofs.Lists.{figures-at}
-use Rattle.rooms.specs.Limits.{beneath}
-use Rattle.rooms.proofs.Trees.{kids, own, under, rise}
+use Rattle.rooms.specs.Trees.{beneath, sumBeneath, ParentsFirst}
+use Rattle.rooms.proofs.Trees.{rise}
 use Rattle.deals.specs.Metrics.{Deal, metrics, atLevel}
 use Rattle.deals.specs.Dealing.{weight, cordOver, amount, reached, granted}
 use Rattle.deals.specs.Held.{cutAt, someFrom, cutFrom, nearestRoot, holder, heldOver}
 use Rattle.deals.specs.Promises.{NearestCut}
 use Rattle.deals.proofs.Rows.{sum-tight}
-use Rattle.deals.proofs.Requests.{Dealable, later, or-right, sumBelow, sumBelow-all, asked, pcapmin-is, request-asked, cut-full, cut-lows}
-use Rattle.deals.proofs.Amounts.{whole, whole-node, whole-cord}
+use Rattle.deals.proofs.Requests.{Dealable, later, or-right, dealBeneath, dealBeneath-all, asked, pcapmin-is, request-asked, cut-full, cut-lows}
+use Rattle.deals.proofs.Amounts.{whole-node, whole-cord}
 use Rattle.deals.proofs.Equations.{weights, weights-are, amount-weight, pcapmin-starts}
 use Rattle.deals.proofs.Computed.{pcapmin, request, startsOf, amountOf, measured, by-weights, dealt, granted-at, Startable, granted-way, granted-level}
 
@@ -82,7 +82,7 @@ pub record ClearAbove (parent : ℕ → ℕ) (test : ℕ → Bool) (n : ℕ) : T
   pub enough : parent n ≤ steps
   pub none : nearestRoot parent test steps (parent n) ≡ 0
 
-module _ (nodes : ℕ) (parent : ℕ → ℕ) (rises : (m : ℕ) → m < nodes → parent m ≤ m) (test : ℕ → Bool) where
+module _ (nodes : ℕ) (parent : ℕ → ℕ) (rises : ParentsFirst nodes parent) (test : ℕ → Bool) where
   -- Where none is named, the test holds neither of the first node of the way nor of one above it.
   none-named : (k m : ℕ) → suc m ≤ k → m < nodes → nearestRoot parent test k (suc m) ≡ 0 → (test m ≡ false) × ClearAbove parent test m
   unfolding nearestRoot
@@ -150,11 +150,11 @@ module _ (d : Deal) (ok : Dealable d) (st : Startable d) where
   cut = cutFrom d (metrics d)
 
   cut-some : (i n : ℕ) → cut i n ≡ true → Some (levels - i) i (λ j. ltb (request d n j) (asked d (request d) n j))
-  unfolding cutFrom request asked kids own
+  unfolding cutFrom request asked
   cut-some i n e = some-one (levels - i) i (cutAt d (metrics d) n) e
 
   uncut : (i n : ℕ) → cut i n ≡ false → (j : ℕ) → i ≤ j → j < levels → asked d (request d) n j ≤ request d n j
-  unfolding cutFrom request asked kids own
+  unfolding cutFrom request asked
   uncut i n e j a h = ltb-false _ _ (some-none (levels - i) i (cutAt d (metrics d) n) e j a (omega arith))
 
   -- A node that is not cut at a level weighs as much as its children there.
@@ -170,12 +170,12 @@ module _ (d : Deal) (ok : Dealable d) (st : Startable d) where
   -- A node that has as much as its children weigh passes each its whole weight.
   node-passed : (j m n : ℕ) → m < nodes → parent m ≡ suc n → amountOf d n j ≡ weights d (startsOf d) (request d) n j
       → amountOf d m j ≡ request d m j - startsOf d m j
-  unfolding amountOf amount weights whole startsOf request
+  unfolding amountOf amount weights startsOf request
   node-passed j m n l e q = whole-node d _ _ _ _ (by-weights d ok (weight d (metrics d) j)) m n l e q
 
   cord-passed : (c n : ℕ) → c < cords → node c ≡ suc n → amountOf d n (level c) ≡ weights d (startsOf d) (request d) n (level c)
       → reached d (metrics d) c ≡ atLevel d (level c) (cordOver d) c
-  unfolding amountOf amount reached weights whole startsOf request
+  unfolding amountOf amount reached weights startsOf request
   cord-passed c n l e q = whole-cord d _ _ _ _ (by-weights d ok (weight d (metrics d) (level c))) c n l e q
 
   -- A node above which none is cut gets its whole weight.
@@ -219,13 +219,13 @@ module _ (d : Deal) (ok : Dealable d) (st : Startable d) where
         cut-lows d ok (pcapmin d) (request d) (measured d ok) n l (s .level) (omega (arith, s .from, s .to)) (ltb-true _ _ (s .holds)) j (omega (arith, s .from))
 
     -- At every level what is granted beneath it is its Request.
-    granted-requests : (j : ℕ) → j < levels → sumBelow d n (atLevel d j (at (granted d))) ≡ request d n j
+    granted-requests : (j : ℕ) → j < levels → dealBeneath d n (atLevel d j (at (granted d))) ≡ request d n j
     granted-requests j h = go (decLe i j)
       where
         s : startsOf d n j ≤ request d n j
         s = st .within n j l h
 
-        go : Dec (i ≤ j) → sumBelow d n (atLevel d j (at (granted d))) ≡ request d n j
+        go : Dec (i ≤ j) → dealBeneath d n (atLevel d j (at (granted d))) ≡ request d n j
         go (yes a) = sym (granted-level d ok st n j l h) ∙ omega (arith, gets-whole i j a h n l clear, s)
         go (no a) =
             sym (granted-level d ok st n j l h)
@@ -238,21 +238,21 @@ module _ (d : Deal) (ok : Dealable d) (st : Startable d) where
             )
 
     -- So all of its limit is granted.
-    pub holder-full : sumBelow d n (at (granted d)) ≡ limit n
+    pub holder-full : dealBeneath d n (at (granted d)) ≡ limit n
     holder-full =
         let s = cut-some i n holds in
-        sym (sumBelow-all d ok n (at (granted d)))
+        sym (dealBeneath-all d ok n (at (granted d)))
         ∙ sum-cong levels _ (request d n) granted-requests
         ∙ cut-full d ok (pcapmin d) (request d) (measured d ok) n l (s .level) (omega (arith, s .from, s .to)) (ltb-true _ _ (s .holds))
 
     -- And a cord beneath it of a lower level has its low.
     pub holder-lows : (c : ℕ) → c < cords → beneath parent nodes n (node c) ≡ true → level c < i → at (granted d) c ≡ low c
-    unfolding under
+    unfolding sumBeneath
     holder-lows c lc b lower =
         let j = level c in
         let h : j < levels = ok .ranks c lc in
         let here : ℕ → Bool = λ c. beneath parent nodes n (node c) in
-        let e : sumBelow d n (atLevel d j (at (granted d))) ≡ sumBelow d n (atLevel d j low)
+        let e : dealBeneath d n (atLevel d j (at (granted d))) ≡ dealBeneath d n (atLevel d j low)
         = granted-requests j h ∙ request-lows j lower ∙ pcapmin-is d ok (pcapmin d) (request d) (measured d ok) j n h l in
         let t = sum-tight cords (λ c. on (here c) (atLevel d j low c)) (λ c. on (here c) (atLevel d j (at (granted d)) c))
         (λ c lc. on-le (here c) _ _ (λ _. on-le (eqb (level c) j) (low c) (at (granted d) c) (λ _. granted-way d ok st .least c lc)))

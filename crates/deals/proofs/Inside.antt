@@ -9,15 +9,16 @@ use lib.Dec.{eqb, leb}
 use borrow.Author.Tests.{eqb-true, eqb-false, eq-eqb, ne-eqb, leb-true}
 use Rattle.figures.specs.Sums.{on, sum}
 use Rattle.figures.proofs.Sums.{on-no, on-cong, sum-cong, sum-zero, sum-none, sum-up, up, up-suc}
-use Rattle.rooms.proofs.Trees.{kids, own, kids-cong, down, rise}
+use Rattle.rooms.proofs.Trees.{childSum-cong, down, rise}
 use Rattle.figures.specs.Figures.{at}
 use Rattle.rooms.specs.Table.{raised}
-use Rattle.deals.specs.Metrics.{Deal, metrics, atLevel}
+use Rattle.deals.specs.Metrics.{Deal, metrics, atLevel, overChildren}
 use Rattle.splits.specs.Split.{part}
 use Rattle.deals.specs.Dealing.{weight, nodeOver, cordOver, cordAmount, reached, granted}
 use Rattle.deals.proofs.Requests.{Dealable, Measured, later, request-total}
-use Rattle.deals.proofs.Amounts.{whole, ByWeights}
+use Rattle.deals.proofs.Amounts.{ByWeights}
 use Rattle.deals.proofs.Computed.{pcapmin, request, startsOf, measured, by-weights, dealt, granted-at}
+use Rattle.rooms.specs.Trees.{childSum}
 
 -- The nodes and cords of s stand together in t, a and b places on, and nothing else hangs on those nodes. Their figures are
 -- the same, but for the wants and starts of the cords below level z.
@@ -71,17 +72,15 @@ same-test : (a x v n : ℕ) → x ≡ raised a v → eqb x (suc (n + a)) ≡ eqb
 same-test a x v n e = eqb-iff x (suc (n + a)) v (suc n) (λ q. raised-suc a v n (sym e ∙ q)) (λ q. e ∙ ap (raised a) q)
 
 module _ (s t : Deal) (a b z : ℕ) (ins : Inside s t a b z) where
-  pub kids-in : (n : ℕ) → n < s .nodes → (g : ℕ → ℕ) → kids (t .nodes) (t .parent) (n + a) g ≡ kids (s .nodes) (s .parent) n (λ m. g (m + a))
-  unfolding kids
-  kids-in n l g =
+  pub childNodes-in : (n : ℕ) → n < s .nodes → (g : ℕ → ℕ) → childSum (t .nodes) (t .parent) (n + a) g ≡ childSum (s .nodes) (s .parent) n (λ m. g (m + a))
+  childNodes-in n l g =
       window a (s .nodes) (t .nodes) (λ m. on (eqb (t .parent m) (suc (n + a))) (g m)) (ins .nodesFit)
       (λ i h q. on-no (eqb (t .parent i) (suc (n + a))) (g i) (ne-eqb (t .parent i) (suc (n + a)) (λ e. omega (arith, ins .alone i n h l e))))
       (λ i h q. on-no (eqb (t .parent i) (suc (n + a))) (g i) (ne-eqb (t .parent i) (suc (n + a)) (λ e. omega (arith, ins .alone i n h l e))))
       ∙ sum-cong (s .nodes) _ _ (λ m h. ap (λ (u : Bool). on u (g (m + a))) (same-test a (t .parent (m + a)) (s .parent m) n (ins .parent m h)))
 
-  pub own-in : (n : ℕ) → n < s .nodes → (f : ℕ → ℕ) → own (t .cords) (t .node) (n + a) f ≡ own (s .cords) (s .node) n (λ c. f (c + b))
-  unfolding own
-  own-in n l f =
+  pub childCords-in : (n : ℕ) → n < s .nodes → (f : ℕ → ℕ) → childSum (t .cords) (t .node) (n + a) f ≡ childSum (s .cords) (s .node) n (λ c. f (c + b))
+  childCords-in n l f =
       window b (s .cords) (t .cords) (λ c. on (eqb (t .node c) (suc (n + a))) (f c)) (ins .cordsFit)
       (λ i h q. on-no (eqb (t .node i) (suc (n + a))) (f i) (ne-eqb (t .node i) (suc (n + a)) (λ e. omega (arith, ins .bare i n h l e))))
       (λ i h q. on-no (eqb (t .node i) (suc (n + a))) (f i) (ne-eqb (t .node i) (suc (n + a)) (λ e. omega (arith, ins .bare i n h l e))))
@@ -93,11 +92,10 @@ module _ (s t : Deal) (a b z : ℕ) (ins : Inside s t a b z) where
   levels-in q f g e c h =
       ap (λ (x : ℕ). on (q x) (f (c + b))) (ins .level c h) ∙ on-cong (q (s .level c)) (f (c + b)) (g c) (e c h)
 
-  pub own-levels : (n : ℕ) → n < s .nodes → (q : ℕ → Bool) (f g : ℕ → ℕ) → ((c : ℕ) → c < s .cords → q (s .level c) ≡ true → f (c + b) ≡ g c)
-      → own (t .cords) (t .node) (n + a) (λ c. on (q (t .level c)) (f c)) ≡ own (s .cords) (s .node) n (λ c. on (q (s .level c)) (g c))
-  unfolding own
-  own-levels n l q f g e =
-      own-in n l (λ c. on (q (t .level c)) (f c))
+  pub childCords-levels : (n : ℕ) → n < s .nodes → (q : ℕ → Bool) (f g : ℕ → ℕ) → ((c : ℕ) → c < s .cords → q (s .level c) ≡ true → f (c + b) ≡ g c)
+      → childSum (t .cords) (t .node) (n + a) (λ c. on (q (t .level c)) (f c)) ≡ childSum (s .cords) (s .node) n (λ c. on (q (s .level c)) (g c))
+  childCords-levels n l q f g e =
+      childCords-in n l (λ c. on (q (t .level c)) (f c))
       ∙ sum-cong (s .cords) _ _ (λ c h. ap (λ (x : ℕ). on (eqb (s .node c) (suc n)) x) (levels-in q f g e c h))
 
   pub atLevel-in : (j : ℕ) (f g : ℕ → ℕ) → ((c : ℕ) → c < s .cords → s .level c ≡ j → f (c + b) ≡ g c)
@@ -105,20 +103,19 @@ module _ (s t : Deal) (a b z : ℕ) (ins : Inside s t a b z) where
   atLevel-in j f g e = levels-in (λ x. eqb x j) f g (λ c h q. e c h (eqb-true (s .level c) j q))
 
   -- What the cords on a node have at a level is the same where their figures are, at that level.
-  pub own-at : (n j : ℕ) → n < s .nodes → (f g : ℕ → ℕ) → ((c : ℕ) → c < s .cords → s .level c ≡ j → f (c + b) ≡ g c)
-      → own (t .cords) (t .node) (n + a) (atLevel t j f) ≡ own (s .cords) (s .node) n (atLevel s j g)
-  own-at n j l f g e = own-levels n l (λ x. eqb x j) f g (λ c h q. e c h (eqb-true (s .level c) j q))
+  pub childCords-at : (n j : ℕ) → n < s .nodes → (f g : ℕ → ℕ) → ((c : ℕ) → c < s .cords → s .level c ≡ j → f (c + b) ≡ g c)
+      → childSum (t .cords) (t .node) (n + a) (atLevel t j f) ≡ childSum (s .cords) (s .node) n (atLevel s j g)
+  childCords-at n j l f g e = childCords-levels n l (λ x. eqb x j) f g (λ c h q. e c h (eqb-true (s .level c) j q))
 
   -- ---- Amounts by weights that are the same here and there
 
   module _ (ok : Dealable s) (w v x y : ℕ → ℕ) (u o g h : ℕ → ℕ) (by : ByWeights s w v x y) (yb : ByWeights t u o g h)
       (nodes-same : (m : ℕ) → m < s .nodes → u (m + a) ≡ w m) (cords-same : (c : ℕ) → c < s .cords → o (c + b) ≡ v c) where
-    whole-in : (n : ℕ) → n < s .nodes → whole t u o (n + a) ≡ whole s w v n
-    unfolding whole own
+    whole-in : (n : ℕ) → n < s .nodes → overChildren t (n + a) u o ≡ overChildren s n w v
     whole-in n l =
         ap₂ _+_
-        (kids-in n l u ∙ kids-cong (s .nodes) (s .parent) n _ _ (λ m lm e. nodes-same m lm))
-        (own-in n l o ∙ sum-cong (s .cords) _ _ (λ c lc. ap (λ (e : ℕ). on (eqb (s .node c) (suc n)) e) (cords-same c lc)))
+        (childNodes-in n l u ∙ childSum-cong (s .nodes) (s .parent) n _ _ (λ m lm e. nodes-same m lm))
+        (childCords-in n l o ∙ sum-cong (s .cords) _ _ (λ c lc. ap (λ (e : ℕ). on (eqb (s .node c) (suc n)) e) (cords-same c lc)))
 
     -- The running sums.
     nodes-run : (m n : ℕ) → m < s .nodes → n < s .nodes
@@ -152,7 +149,7 @@ module _ (s t : Deal) (a b z : ℕ) (ins : Inside s t a b z) where
             let ln : n < s .nodes = omega arith in
             yb .inner (m + a) (n + a) (omega (arith, ins .nodesFit)) (ins .parent m l ∙ ap (raised a) e)
             ∙ ap₂ (λ (c d : ℕ). part c d (sum (m + a) (λ i. on (eqb (t .parent i) (suc (n + a))) (u i))) (u (m + a))) (ih n k) (whole-in n ln)
-            ∙ ap₂ (λ (c d : ℕ). part (x n) (whole s w v n) c d) (nodes-run m n l ln) (nodes-same m l)
+            ∙ ap₂ (λ (c d : ℕ). part (x n) (overChildren s n w v) c d) (nodes-run m n l ln) (nodes-same m l)
             ∙ sym (by .inner m n l e)
 
     pub reached-in : (c : ℕ) → c < s .cords → h (c + b) ≡ y c
@@ -163,10 +160,10 @@ module _ (s t : Deal) (a b z : ℕ) (ins : Inside s t a b z) where
         go (suc n) e =
             let ln : n < s .nodes = subst (λ (i : ℕ). i ≤ s .nodes) e (ok .here c l) in
             yb .leaf (c + b) (n + a) (omega (arith, ins .cordsFit)) (ins .node c l ∙ ap (raised a) e)
-            ∙ ap₂ (λ (f d : ℕ). part f d (kids (t .nodes) (t .parent) (n + a) u + sum (c + b) (λ i. on (eqb (t .node i) (suc (n + a))) (o i))) (o (c + b)))
+            ∙ ap₂ (λ (f d : ℕ). part f d (childSum (t .nodes) (t .parent) (n + a) u + sum (c + b) (λ i. on (eqb (t .node i) (suc (n + a))) (o i))) (o (c + b)))
             (amounts-in n ln) (whole-in n ln)
-            ∙ ap₂ (λ (f d : ℕ). part (x n) (whole s w v n) f d)
-            (ap₂ _+_ (kids-in n ln u ∙ kids-cong (s .nodes) (s .parent) n _ _ (λ m lm q. nodes-same m lm)) (cords-run c n l ln))
+            ∙ ap₂ (λ (f d : ℕ). part (x n) (overChildren s n w v) f d)
+            (ap₂ _+_ (childNodes-in n ln u ∙ childSum-cong (s .nodes) (s .parent) n _ _ (λ m lm q. nodes-same m lm)) (cords-run c n l ln))
             (cords-same c l)
             ∙ sym (by .leaf c n l e)
 
@@ -180,8 +177,8 @@ module _ (s t : Deal) (a b z : ℕ) (ins : Inside s t a b z) where
     pcapmin-in j h = down (s .nodes) (λ n. q (n + a) j ≡ p n j) (λ n l ih.
         em .lowest (n + a) j (inside n l) (subst (λ (x : ℕ). j < x) (sym (ins .levels)) h)
         ∙ ap₂ _+_
-        (kids-in n l (λ m. q m j) ∙ kids-cong (s .nodes) (s .parent) n _ _ (λ m lm e. ih m lm (later s ok m n lm e)))
-        (own-at n j l (t .low) (s .low) (λ c lc e. ins .low c lc))
+        (childNodes-in n l (λ m. q m j) ∙ childSum-cong (s .nodes) (s .parent) n _ _ (λ m lm e. ih m lm (later s ok m n lm e)))
+        (childCords-at n j l (t .low) (s .low) (λ c lc e. ins .low c lc))
         ∙ sym (me .lowest n j l h))
 
     -- By the law of totals, from level z on the Requests sum to the same, and so are the same.
@@ -191,8 +188,8 @@ module _ (s t : Deal) (a b z : ℕ) (ins : Inside s t a b z) where
         ∙ ap₂ min
         (ap₂ _-_ (ins .limit n l) (sum-cong j (q (n + a)) (p n) (λ i g. pcapmin-in i (omega arith) n l)))
         (ap₂ _+_
-        (kids-in n l (λ m. up k j (u m)) ∙ kids-cong (s .nodes) (s .parent) n _ _ (λ m lm o. ih m lm (later s ok m n lm o)))
-        (own-levels n l (leb j) (t .want) (s .want) (λ c lc o. ins .want c lc (le-trans h (leb-true j (s .level c) o)))))
+        (childNodes-in n l (λ m. up k j (u m)) ∙ childSum-cong (s .nodes) (s .parent) n _ _ (λ m lm o. ih m lm (later s ok m n lm o)))
+        (childCords-levels n l (leb j) (t .want) (s .want) (λ c lc o. ins .want c lc (le-trans h (leb-true j (s .level c) o)))))
         ∙ sym (request-total s ok p r me n l k j e))
 
     pub request-in : (n : ℕ) → n < s .nodes → (j : ℕ) → j < s .levels → z ≤ j → u (n + a) j ≡ r n j
@@ -205,8 +202,8 @@ module _ (s t : Deal) (a b z : ℕ) (ins : Inside s t a b z) (ok : Dealable s) (
   starts-in j h k = down (s .nodes) (λ n. startsOf t (n + a) j ≡ startsOf s n j) (λ n l ih.
       dealt t ko .starts (n + a) j (omega (arith, ins .nodesFit)) (subst (λ (x : ℕ). j < x) (sym (ins .levels)) h)
       ∙ ap₂ _+_
-      (kids-in s t a b z ins n l (λ m. startsOf t m j) ∙ kids-cong (s .nodes) (s .parent) n _ _ (λ m lm e. ih m lm (later s ok m n lm e)))
-      (own-at s t a b z ins n j l (t .start) (s .start) (λ c lc e. ins .start c lc (le-trans k (le-of-eq (sym e)))))
+      (childNodes-in s t a b z ins n l (λ m. startsOf t m j) ∙ childSum-cong (s .nodes) (s .parent) n _ _ (λ m lm e. ih m lm (later s ok m n lm e)))
+      (childCords-at s t a b z ins n j l (t .start) (s .start) (λ c lc e. ins .start c lc (le-trans k (le-of-eq (sym e)))))
       ∙ sym (dealt s ok .starts n j l h))
 
   -- What a node, and a cord, is to have over the starts.

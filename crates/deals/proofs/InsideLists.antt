@@ -11,7 +11,7 @@ use Rattle.figures.specs.Sums.{on}
 use Rattle.figures.proofs.Sums.{sum-cong}
 use Rattle.figures.proofs.Lists.{figures-at}
 use Rattle.rooms.specs.Table.{raised}
-use Rattle.rooms.proofs.Trees.{kids, own, kids-cong, down}
+use Rattle.rooms.proofs.Trees.{childSum-cong, down}
 use Rattle.deals.specs.Metrics.{Deal, metrics}
 use Rattle.deals.specs.Dealing.{granted}
 use Rattle.deals.specs.Headroom.{nodeCeiling, requestsAt, headroomWeight, headroomOver}
@@ -20,7 +20,7 @@ use Rattle.deals.proofs.Requests.{Dealable, later}
 use Rattle.deals.proofs.Computed.{pcapmin, request, measured, by-weights}
 use Rattle.deals.proofs.Totals.{requestTotal-is}
 use Rattle.deals.proofs.Headroom.{ceiling-is}
-use Rattle.deals.proofs.Inside.{Inside, kids-in, own-in, own-at, total-in, request-in, reached-in, granted-in}
+use Rattle.deals.proofs.Inside.{Inside, childNodes-in, childCords-in, childCords-at, total-in, request-in, reached-in, granted-in}
 
 -- ---- The way to the root, with every number raised
 
@@ -52,13 +52,12 @@ module _ (s t : Deal) (a b : ℕ) (ins : Inside s t a b 0) (ok : Dealable s) (ko
 
   module _ (f g : ℕ → ℕ) (same : (c : ℕ) → c < s .cords → f (c + b) ≡ g c) where
     ceiling-in : (n : ℕ) → n < s .nodes → nodeCeiling t f (n + a) ≡ nodeCeiling s g n
-    unfolding own
     ceiling-in = down (s .nodes) (λ n. nodeCeiling t f (n + a) ≡ nodeCeiling s g n) (λ n l ih.
         ceiling-is t ko f (n + a) (omega (arith, ins .nodesFit))
         ∙ ap₂ min (ins .limit n l)
         (ap₂ _+_
-        (kids-in s t a b 0 ins n l (nodeCeiling t f) ∙ kids-cong (s .nodes) (s .parent) n _ _ (λ m lm e. ih m lm (later s ok m n lm e)))
-        (own-in s t a b 0 ins n l f ∙ sum-cong (s .cords) _ _ (λ c lc. ap (λ (e : ℕ). on (eqb (s .node c) (suc n)) e) (same c lc))))
+        (childNodes-in s t a b 0 ins n l (nodeCeiling t f) ∙ childSum-cong (s .nodes) (s .parent) n _ _ (λ m lm e. ih m lm (later s ok m n lm e)))
+        (childCords-in s t a b 0 ins n l f ∙ sum-cong (s .cords) _ _ (λ c lc. ap (λ (e : ℕ). on (eqb (s .node c) (suc n)) e) (same c lc))))
         ∙ sym (ceiling-is s ok g n l))
 
     pub headroom-in : (c : ℕ) → c < s .cords → at (headroomOver t f) (c + b) ≡ at (headroomOver s g) c
@@ -74,14 +73,14 @@ module _ (s t : Deal) (a b : ℕ) (ins : Inside s t a b 0) (ok : Dealable s) (ko
   -- ---- The nodes that hold cords
 
   cutAt-in : (n : ℕ) → n < s .nodes → (j : ℕ) → j < s .levels → cutAt t (metrics t) (n + a) j ≡ cutAt s (metrics s) n j
-  unfolding request kids own
+  unfolding request
   cutAt-in n l j h =
       let r : (m : ℕ) → m < s .nodes → request t (m + a) j ≡ request s m j
       = λ m lm. request-in s t a b 0 ins ok ko (pcapmin s) (request s) (pcapmin t) (request t) (measured s ok) (measured t ko) m lm j h zero-le in
       ap₂ ltb (r n l)
       (ap₂ _+_
-      (kids-in s t a b 0 ins n l (λ m. request t m j) ∙ kids-cong (s .nodes) (s .parent) n _ _ (λ m lm e. r m lm))
-      (own-at s t a b 0 ins n j l (t .want) (s .want) (λ c lc e. ins .want c lc zero-le)))
+      (childNodes-in s t a b 0 ins n l (λ m. request t m j) ∙ childSum-cong (s .nodes) (s .parent) n _ _ (λ m lm e. r m lm))
+      (childCords-at s t a b 0 ins n j l (t .want) (s .want) (λ c lc e. ins .want c lc zero-le)))
 
   cutFrom-in : (j n : ℕ) → n < s .nodes → j < s .levels → cutFrom t (metrics t) j (n + a) ≡ cutFrom s (metrics s) j n
   unfolding cutFrom

@@ -22,13 +22,14 @@ use Rattle.rooms.proofs.Accepted.{Accepted, accepted}
 use Rattle.rooms.proofs.Search.{NoneIn, FirstAt}
 use Rattle.deals.specs.Wants.{firstWants}
 use Rattle.deals.specs.SecondDeal.{firstDeal, firstGrants}
-use Rattle.deals.specs.Ways.{Root, Way, cordBeneath, sumBeneath, fromRank}
+use Rattle.deals.specs.Ways.{Root, Way, cordBeneath, wattsBeneath, fromRank}
 use Rattle.deals.specs.Judge.{belowLow, aboveWant, overLimit, shortAt, shortRank, shortRoot, highest, atFirst, verdict}
 use Rattle.deals.specs.Promises.{Kept, Greatest, Unbeaten, Beaten, LowestBelow, LowestAbove, LowestOver, LowestShort, Says, JudgedExactly, FirstGrantsPass}
 use Rattle.deals.specs.declared.Verdict.{Verdict}
 use Rattle.deals.specs.declared.Verdict.the-variants.{Passes, BelowLow, AboveWant, OverLimit, Short}
 use Rattle.deals.proofs.BothDeals.{server-facts, cord-facts, firstWants-lows, first-starts}
 use Rattle.deals.proofs.Promises.{kept, greatest}
+use Rattle.rooms.specs.Trees.{sumBeneath}
 
 -- ---- The first place of which a test holds
 
@@ -191,7 +192,7 @@ module _ (r : Room) (ok : Accepted r) (demands grants : List ℕ) where
   }
 
   abbrev total : ℕ → ℕ → List ℕ → ℕ
-  total n rank watts = sumBeneath r n (fromRank r rank watts)
+  total n rank watts = wattsBeneath r n (fromRank r rank watts)
 
   -- A tree that is not short is unbeaten, and the other way round.
   unbeaten : (n : ℕ) → Root r n → (rank : ℕ) → total n rank ours ≤ total n rank grants → Unbeaten r wants grants n rank
@@ -264,7 +265,7 @@ module _ (r : Room) (ok : Accepted r) (demands grants : List ℕ) where
   wants-kept : noWant → (c : ℕ) → c < roomCords r → at grants c ≤ at wants c
   wants-kept h c l = ltb-false _ _ (h c zero-le (omega arith))
 
-  limits-kept : noOver → (n : ℕ) → n < length (r .nodes) → sumBeneath r n (at grants) ≤ limit (nodeAt r n)
+  limits-kept : noOver → (n : ℕ) → n < length (r .nodes) → wattsBeneath r n (at grants) ≤ limit (nodeAt r n)
   limits-kept h n l = ltb-false _ _ (h n zero-le (omega arith))
 
   says-short : Kept r wants grants → (n : ℕ) → FirstAt (shortRoot r demands grants) (length (r .nodes)) 0 n

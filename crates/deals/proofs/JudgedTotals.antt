@@ -13,19 +13,20 @@ use Rattle.figures.specs.Figures.{at}
 use Rattle.figures.specs.Sums.{on, sum}
 use Rattle.figures.proofs.Sums.{on-add, sum-cong, sum-add, sum-up, up, up-cong, up-le}
 use Rattle.rooms.specs.Table.{Room, roomCords, highestRank}
-use Rattle.rooms.specs.Limits.{limit, nodeAt, parentOf, beneath}
+use Rattle.rooms.specs.Trees.{beneath, childSum, sumBeneath}
+use Rattle.rooms.specs.Limits.{limit, nodeAt, parentOf}
 use Rattle.rooms.specs.Cords.{cordAt, rankOf}
 use Rattle.rooms.specs.Lists.{lowsOf}
 use Rattle.rooms.proofs.Accepted.{Accepted}
-use Rattle.rooms.proofs.Trees.{kids, own, under, kids-cong, kids-add}
+use Rattle.rooms.proofs.Trees.{childSum-cong, childSum-add, sumBeneath-cong}
 use Rattle.deals.specs.Metrics.{Deal, metrics, atLevel, dealOf}
 use Rattle.deals.specs.Dealing.{reached, granted}
 use Rattle.deals.specs.SecondDeal.{firstDeal, firstGrants}
 use Rattle.deals.specs.Wants.{firstWants}
-use Rattle.deals.specs.Ways.{sumBeneath, fromRank}
+use Rattle.deals.specs.Ways.{wattsBeneath, fromRank}
 use Rattle.deals.specs.Judge.{shortAt}
 use Rattle.deals.specs.Properties.{fromLevel}
-use Rattle.deals.proofs.Requests.{Dealable, sumBelow, sumBelow-cong, sumBelow-step, sumBelow-from, pcapmin-is, pcapmin-all, pcapmin-request, request-total}
+use Rattle.deals.proofs.Requests.{Dealable, dealBeneath, dealBeneath-step, dealBeneath-from, pcapmin-is, pcapmin-all, pcapmin-request, request-total}
 use Rattle.deals.proofs.Equations.{grant, granted-total}
 use Rattle.deals.proofs.Computed.{pcapmin, request, startsOf, amountOf, measured, dealt, granted-at, Startable}
 use Rattle.deals.proofs.RoomDeals.{roomDeal, dealOf-is}
@@ -66,13 +67,13 @@ module _ (d : Deal) (ok : Dealable d) where
 
   -- The lows beneath a node, from a level on.
   abbrev lowsFrom : ℕ → ℕ → ℕ
-  lowsFrom j n = sumBelow d n (fromLevel d j (d .low))
+  lowsFrom j n = dealBeneath d n (fromLevel d j (d .low))
 
   lows-from : (k j n : ℕ) → j + k ≡ d .levels → n < d .nodes → up k j (pcapmin d n) ≡ lowsFrom j n
   lows-from k j n e l =
-      up-cong k j _ _ (λ i a b. pcapmin-is d ok (pcapmin d) (request d) (measured d ok) i n (omega arith) l) ∙ sumBelow-from d ok k j n (d .low) e
+      up-cong k j _ _ (λ i a b. pcapmin-is d ok (pcapmin d) (request d) (measured d ok) i n (omega arith) l) ∙ dealBeneath-from d ok k j n (d .low) e
 
-  lows-split : (k j n : ℕ) → j + k ≡ d .levels → n < d .nodes → sum j (pcapmin d n) + lowsFrom j n ≡ sumBelow d n (d .low)
+  lows-split : (k j n : ℕ) → j + k ≡ d .levels → n < d .nodes → sum j (pcapmin d n) + lowsFrom j n ≡ dealBeneath d n (d .low)
   lows-split k j n e l =
       omega (
         arith,
@@ -95,40 +96,39 @@ module _ (d : Deal) (ok : Dealable d) where
 
   pub most-step : (j n : ℕ) → j ≤ d .levels → n < d .nodes
       → mostOver j n
-      ≡ min (d .limit n - sumBelow d n (d .low)) (own (d .cords) (d .node) n (fromLevel d j (overLow (d .want))) + kids (d .nodes) (d .parent) n (mostOver j))
-  unfolding own
+      ≡ min (d .limit n - dealBeneath d n (d .low)) (childSum (d .cords) (d .node) n (fromLevel d j (overLow (d .want))) + childSum (d .nodes) (d .parent) n (mostOver j))
   most-step j n h l =
       let k : ℕ = d .levels - j in
       let e : j + k ≡ d .levels = omega arith in
-      let owns : ℕ = own (d .cords) (d .node) n (fromLevel d j (overLow (d .want))) in
-      let most-kids : ℕ = kids (d .nodes) (d .parent) n (mostOver j) in
+      let owns : ℕ = childSum (d .cords) (d .node) n (fromLevel d j (overLow (d .want))) in
+      let most-nodes : ℕ = childSum (d .nodes) (d .parent) n (mostOver j) in
       let own-split = sums-over (λ c. eqb (d .node c) (suc n)) j (d .want) (ok .wants) in
-      let kids-split : kids (d .nodes) (d .parent) n (λ m. up k j (request d m)) ≡ most-kids + kids (d .nodes) (d .parent) n (lowsFrom j)
-      = kids-cong (d .nodes) (d .parent) n _ _ (λ m lm q. sym (most-is k j m e lm)) ∙ kids-add (d .nodes) (d .parent) n (mostOver j) (lowsFrom j) in
+      let nodes-split : childSum (d .nodes) (d .parent) n (λ m. up k j (request d m)) ≡ most-nodes + childSum (d .nodes) (d .parent) n (lowsFrom j)
+      = childSum-cong (d .nodes) (d .parent) n _ _ (λ m lm q. sym (most-is k j m e lm)) ∙ childSum-add (d .nodes) (d .parent) n (mostOver j) (lowsFrom j) in
       let total = request-total d ok (pcapmin d) (request d) (measured d ok) n l k j e in
-      let children : kids (d .nodes) (d .parent) n (λ m. up k j (request d m)) + own (d .cords) (d .node) n (fromLevel d j (d .want)) ≡ (owns + most-kids) + lowsFrom j n
-      = omega (arith, own-split, kids-split, sumBelow-step d ok n (fromLevel d j (d .low))) in
+      let children : childSum (d .nodes) (d .parent) n (λ m. up k j (request d m)) + childSum (d .cords) (d .node) n (fromLevel d j (d .want)) ≡ (owns + most-nodes) + lowsFrom j n
+      = omega (arith, own-split, nodes-split, dealBeneath-step d ok n (fromLevel d j (d .low))) in
       let split = lows-split k j n e l in
-      let cut = less-both (d .limit n) (sum j (pcapmin d n)) (lowsFrom j n) (owns + most-kids) (omega (arith, ok .lows n l, split)) in
+      let cut = less-both (d .limit n) (sum j (pcapmin d n)) (lowsFrom j n) (owns + most-nodes) (omega (arith, ok .lows n l, split)) in
       less-one _ _ _ (most-is k j n e l)
       ∙ ap (λ (x : ℕ). x - lowsFrom j n) (total ∙ ap (min (d .limit n - sum j (pcapmin d n))) children)
       ∙ cut
-      ∙ ap (λ (x : ℕ). min (d .limit n - x) (owns + most-kids)) split
+      ∙ ap (λ (x : ℕ). min (d .limit n - x) (owns + most-nodes)) split
 
   -- What a root asks for is granted.
   root-granted : Startable d → (n : ℕ) → n < d .nodes → d .parent n ≡ 0 → (k j : ℕ) → j + k ≡ d .levels
-      → up k j (request d n) ≡ sumBelow d n (fromLevel d j (at (granted d)))
+      → up k j (request d n) ≡ dealBeneath d n (fromLevel d j (at (granted d)))
   unfolding grant
   root-granted st n l top k j e =
       granted-total d ok (pcapmin d) (request d) (measured d ok) (startsOf d) (amountOf d) (reached d (metrics d)) st (dealt d ok) n l top k j e
-      ∙ sumBelow-cong d n _ _ (λ c lc. ap (on (leb j (d .level c))) (sym (granted-at d ok c lc)))
+      ∙ sumBeneath-cong (d .nodes) (d .parent) (d .cords) (d .node) n _ _ (λ c lc. ap (on (leb j (d .level c))) (sym (granted-at d ok c lc)))
 
   -- A list of watts at or above the lows against the grants, at a root, from a level on: what both have over the lows is compared.
   root-short : Startable d → (n : ℕ) → n < d .nodes → d .parent n ≡ 0 → (j : ℕ) → j ≤ d .levels
       → (watts : ℕ → ℕ) → ((c : ℕ) → c < d .cords → d .low c ≤ watts c)
-      → ltb (sumBelow d n (fromLevel d j watts)) (sumBelow d n (fromLevel d j (at (granted d))))
-      ≡ ltb (sumBelow d n (fromLevel d j (overLow watts))) (mostOver j n)
-  unfolding under
+      → ltb (dealBeneath d n (fromLevel d j watts)) (dealBeneath d n (fromLevel d j (at (granted d))))
+      ≡ ltb (dealBeneath d n (fromLevel d j (overLow watts))) (mostOver j n)
+  unfolding sumBeneath
   root-short st n l top j h watts least =
       let e : j + (d .levels - j) ≡ d .levels = omega arith in
       ap₂ ltb
@@ -149,14 +149,14 @@ module _ (r : Room) (ok : Accepted r) (demands : List ℕ) where
   pub shortAt-is : (grants : List ℕ) → ((c : ℕ) → c < roomCords r → at (lowsOf r) c ≤ at grants c)
       → (n : ℕ) → n < length (r .nodes) → parentOf r n ≡ 0 → (j : ℕ) → j < highestRank
       → shortAt r demands grants n (suc j)
-      ≡ ltb (sumBelow first n (fromLevel first j (overLow first first-dealable (at grants)))) (mostOver first first-dealable j n)
+      ≡ ltb (dealBeneath first n (fromLevel first j (overLow first first-dealable (at grants)))) (mostOver first first-dealable j n)
   unfolding firstGrants firstDeal
   shortAt-is grants least n l top j h =
       let m : min (suc j - 1) highestRank ≡ j = omega arith in
       let wants = firstWants r demands in
-      let from : (watts : List ℕ) → sumBeneath r n (fromRank r (suc j) watts) ≡ sumBelow first n (fromLevel first j (at watts))
+      let from : (watts : List ℕ) → wattsBeneath r n (fromRank r (suc j) watts) ≡ dealBeneath first n (fromLevel first j (at watts))
       = λ watts. fromRank-level r ok (lowsOf r) wants (firstWants-lows r ok demands) (first-starts r ok demands) n (suc j) watts
-      ∙ ap (λ (i : ℕ). sumBelow first n (fromLevel first i (at watts))) m in
+      ∙ ap (λ (i : ℕ). dealBeneath first n (fromLevel first i (at watts))) m in
       ap₂ ltb (from grants)
-      (from (granted (dealOf r (lowsOf r) wants)) ∙ ap (λ (x : Deal). sumBelow first n (fromLevel first j (at (granted x)))) (dealOf-is r (lowsOf r) wants))
+      (from (granted (dealOf r (lowsOf r) wants)) ∙ ap (λ (x : Deal). dealBeneath first n (fromLevel first j (at (granted x)))) (dealOf-is r (lowsOf r) wants))
       ∙ root-short first first-dealable (first-starts r ok demands) n l top j (omega arith) (at grants) least

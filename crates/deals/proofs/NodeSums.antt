@@ -8,31 +8,22 @@ use native.Mathlib.Omega.{arith}
 use lib.Dec.{eqb, lit<}
 use lib.ListN.{length, set}
 use lib.Seq.{set-getD}
-use borrow.Author.Tests.{eqb-true}
 use Rattle.figures.specs.Sums.{on, sum}
 use Rattle.rooms.specs.Table.{mostCords, mostWatts}
-use Rattle.rooms.specs.Credits.{sumBeneath}
+use Rattle.rooms.specs.Credits.{treeSum}
 use Rattle.figures.specs.Credits.{credited}
-use Rattle.figures.proofs.Sums.{sum-suc, sum-cong, sum-zero, sum-up}
-use Rattle.rooms.proofs.Trees.{kids}
+use Rattle.figures.proofs.Sums.{sum-suc, sum-up}
 use Rattle.figures.proofs.Credits.{credited-at, credited-length}
-use Rattle.rooms.proofs.Credits.{sumBeneath-step, sumBeneath-most}
+use Rattle.rooms.proofs.Credits.{treeSum-step, treeSum-most}
 use Rattle.rooms.proofs.Gather.{Holds, holds-start, holds-turn, holds-most, holds-end, holds-whole}
 use Rattle.figures.specs.Figures.{at}
+use Rattle.rooms.specs.Trees.{ParentsFirst}
 
 pub on-zero : (t : Bool) (a : ℕ) → a ≡ 0 → on t a ≡ 0
 on-zero true a e = e
 on-zero false a e = refl
 
 -- ---- Sums over all nodes beneath a node
-
--- The figures that stand on the nodes, summed over each node and all beneath it.
-abbrev pub beneathAll : List ℕ → List ℕ → ℕ → ℕ
-beneathAll parents start = sumBeneath (at parents) (length parents) (at start)
-
--- Every parent's number is below its child's.
-abbrev pub Rises : List ℕ → Type 0
-Rises parents = (m : ℕ) → m < length parents → at parents m ≤ m
 
 -- Figures of the nodes that together are no more than the most cords' watts, so that no sum of them overflows.
 abbrev pub Fits : List ℕ → List ℕ → Type 0
@@ -44,31 +35,22 @@ unfolding credited
 credited-nothing zero l = refl
 credited-nothing (suc m) l = ap (set l m) (add-zero (at l m)) ∙ set-getD l m 0
 
--- A sum over child nodes that all have nothing.
-pub kids-none : (count : ℕ) (parent : ℕ → ℕ) (n : ℕ) (g : ℕ → ℕ) → ((m : ℕ) → m < count → parent m ≡ suc n → g m ≡ 0) → kids count parent n g ≡ 0
-unfolding kids
-kids-none count parent n g z = sum-cong count _ _ (λ m l. go m l (eqb (parent m) (suc n)) refl) ∙ sum-zero count
-  where
-    go : (m : ℕ) → m < count → (t : Bool) → eqb (parent m) (suc n) ≡ t → on t (g m) ≡ 0
-    go m l true e = z m l (eqb-true (parent m) (suc n) e)
-    go m l false e = refl
-
 -- Before the turn of the node at place n - 1: the nodes from n on have passed their sums on.
 pub record Summing (parents start : List ℕ) (n : ℕ) (sums : List ℕ) : Type 0 where
   pub done : ℕ
   pub all : n + done ≡ length parents
-  pub held : Holds (length parents) (at parents) (at start) (beneathAll parents start) done n (at sums)
+  pub held : Holds (length parents) (at parents) (at start) (treeSum (at parents) (length parents) (at start)) done n (at sums)
   pub size : length sums ≡ length start
 
 pub summing-start : (parents start : List ℕ) → Summing parents start (length parents) start
 summing-start parents start =
-    record { done = 0; all = omega arith; held = holds-start (length parents) (at parents) (at start) (beneathAll parents start); size = refl }
+    record { done = 0; all = omega arith; held = holds-start (length parents) (at parents) (at start) (treeSum (at parents) (length parents) (at start)); size = refl }
 
-module _ {parents start : List ℕ} (rises : Rises parents) where
-  pub summing-end : {n : ℕ} {sums : List ℕ} → Summing parents start n sums → n ≤ 0 → (m : ℕ) → m < length parents → at sums m ≡ beneathAll parents start m
+module _ {parents start : List ℕ} (rises : ParentsFirst (length parents) (at parents)) where
+  pub summing-end : {n : ℕ} {sums : List ℕ} → Summing parents start n sums → n ≤ 0 → (m : ℕ) → m < length parents → at sums m ≡ treeSum (at parents) (length parents) (at start) m
   summing-end {n = zero} {sums = sums} inv z m l =
-      holds-end (length parents) (at parents) (at start) (beneathAll parents start) (inv .done) (at sums) (inv .all) (inv .held) m l
-      ∙ sym (sumBeneath-step (length parents) (at parents) rises (at start) m l)
+      holds-end (length parents) (at parents) (at start) (treeSum (at parents) (length parents) (at start)) (inv .done) (at sums) (inv .all) (inv .held) m l
+      ∙ sym (treeSum-step (length parents) (at parents) rises (at start) m l)
   summing-end {n = suc k} inv z m l = absurd (omega arith)
 
   -- No sum ever passes the sum of all.
@@ -76,9 +58,9 @@ module _ {parents start : List ℕ} (rises : Rises parents) where
   summing-most {n} {sums} inv m l =
       omega (
         arith,
-        holds-most (length parents) (at parents) (at start) (beneathAll parents start) (inv .done) n (at sums) (inv .all) (inv .held) m l,
-        sumBeneath-step (length parents) (at parents) rises (at start) m l,
-        sumBeneath-most (length parents) (at parents) (at start) m,
+        holds-most (length parents) (at parents) (at start) (treeSum (at parents) (length parents) (at start)) (inv .done) n (at sums) (inv .all) (inv .held) m l,
+        treeSum-step (length parents) (at parents) rises (at start) m l,
+        treeSum-most (length parents) (at parents) (at start) m,
       )
 
   -- So a node's credit to its parent does not overflow.
@@ -92,10 +74,10 @@ module _ {parents start : List ℕ} (rises : Rises parents) where
       )
 
   -- A node's sum is whole when its turn comes.
-  pub whole-at : {m : ℕ} {sums : List ℕ} → Summing parents start (suc m) sums → at sums m ≡ beneathAll parents start m
+  pub whole-at : {m : ℕ} {sums : List ℕ} → Summing parents start (suc m) sums → at sums m ≡ treeSum (at parents) (length parents) (at start) m
   whole-at {m} {sums} inv =
-      holds-whole (length parents) (at parents) (at start) (beneathAll parents start) rises (inv .done) m (at sums) (inv .all) (inv .held)
-      ∙ sym (sumBeneath-step (length parents) (at parents) rises (at start) m (omega (arith, inv .all)))
+      holds-whole (length parents) (at parents) (at start) (treeSum (at parents) (length parents) (at start)) rises (inv .done) m (at sums) (inv .all) (inv .held)
+      ∙ sym (treeSum-step (length parents) (at parents) rises (at start) m (omega (arith, inv .all)))
 
   -- A node's turn.
   pub summing-at : {m : ℕ} {sums : List ℕ} {parent : ℕ} {sums′ : List ℕ} → length parents ≤ length start → Summing parents start (suc m) sums
@@ -103,7 +85,7 @@ module _ {parents start : List ℕ} (rises : Rises parents) where
   summing-at {m} {sums} {sums′ = sums′} h inv ep es =
       let r = rises m (omega (arith, inv .all)) in
       let own : ℕ → ℕ = at start in
-      let passed : ℕ → ℕ = beneathAll parents start in
+      let passed : ℕ → ℕ = treeSum (at parents) (length parents) (at start) in
       let is : sums′ ≡ credited (at parents m) (at sums m) sums = es ∙ ap (λ (x : ℕ). credited x (at sums m) sums) ep in
       rw is
       (record {
@@ -116,7 +98,7 @@ module _ {parents start : List ℕ} (rises : Rises parents) where
       })
 
   -- The turn of a node that has nothing to pass on.
-  pub summing-idle : {m : ℕ} {sums : List ℕ} → length parents ≤ length start → beneathAll parents start m ≡ 0 → Summing parents start (suc m) sums → Summing parents start m sums
+  pub summing-idle : {m : ℕ} {sums : List ℕ} → length parents ≤ length start → treeSum (at parents) (length parents) (at start) m ≡ 0 → Summing parents start (suc m) sums → Summing parents start m sums
   summing-idle {m} {sums} h none inv =
       summing-at h inv refl (sym (ap (λ (x : ℕ). credited (at parents m) x sums) (whole-at inv ∙ none) ∙ credited-nothing (at parents m) sums))
 

@@ -15,7 +15,7 @@ use Rattle.rooms.specs.Table.{mostWatts, mostCords}
 use Rattle.figures.proofs.Sums.{on-yes, on-no, sum-suc, sum-cong, sum-zero}
 use Rattle.figures.specs.Figures.{at}
 use Rattle.splits.specs.Split.{part}
-use Rattle.deals.specs.Passes.{WeightsListed, weightOf, childrenBefore, overChildren, NodesDealt}
+use Rattle.deals.specs.Passes.{WeightsListed, weightOf, NodesDealt}
 use Rattle.figures.specs.Places.{Absent, Present}
 use Rattle.deals.specs.Levels.{ActiveNodes}
 use Rattle.figures.proofs.Lists.{passed-up}
@@ -24,19 +24,20 @@ use Rattle.deals.proofs.NodeSums.{on-zero, sum-within, product-fits}
 use Rattle.splits.proofs.Splits.{part-le}
 use Rattle.splits.specs.Serving.{MayServe, HasServed}
 use Rattle.splits.proofs.Serving.{Served, served-same, served-more, served-amount, served-part, served-next, may-serve}
+use Rattle.rooms.specs.Trees.{ParentsFirst, childSum}
 
 -- What the pass takes of the nodes.
 pub record NodesReady (parents active : List ℕ) (count : ℕ) (weights wholes : List ℕ) : Type 0 where
-  pub rises : (m : ℕ) → m < length parents → at parents m ≤ m
+  pub rises : ParentsFirst (length parents) (at parents)
   pub listed : WeightsListed parents active count wholes weights
   pub bounds : (n : ℕ) → n < length parents
       → (weightOf weights wholes n ≤ mostWatts)
       × (at wholes n ≤ mostCords * mostWatts)
-      × (overChildren parents (weightOf weights wholes) n ≤ at wholes n)
+      × (childSum (length parents) (at parents) n (weightOf weights wholes) ≤ at wholes n)
 
 -- The weights of the children of the node at place n that stand before place m.
 abbrev pub weightsBefore : List ℕ → List ℕ → List ℕ → ℕ → ℕ → ℕ
-weightsBefore parents weights wholes m n = childrenBefore parents (weightOf weights wholes) n m
+weightsBefore parents weights wholes m n = childSum m (at parents) n (weightOf weights wholes)
 
 -- The amount of the node at place h.
 pub record NodeDealt (parents weights wholes amounts : List ℕ) (h : ℕ) : Type 0 where
@@ -87,7 +88,7 @@ module _ {parents active : List ℕ} {count : ℕ} {weights wholes : List ℕ} {
         root = λ h l some. turn .nodes h (le-trans l end) some .root;
         inner = λ h n l some. turn .nodes h (le-trans l end) some .inner n;
         most = λ h l some. turn .nodes h (le-trans l end) some .most;
-        served = λ n l some. turn .served .before-is n (le-trans l end, some) ∙ ap (childrenBefore parents (weightOf weights wholes) n) e;
+        served = λ n l some. turn .served .before-is n (le-trans l end, some) ∙ ap (λ (k : ℕ). childSum k (at parents) n (weightOf weights wholes)) e;
         dealt-is = λ n l some. turn .served .dealt-is n (le-trans l end, some);
       }
 
@@ -105,7 +106,7 @@ module _ {parents active : List ℕ} {count : ℕ} {weights wholes : List ℕ} {
     weights-next : (n : ℕ)
         → weightsBefore parents weights wholes (m + 1) n ≡ weightsBefore parents weights wholes m n + on (eqb (at parents m) (suc n)) (weightOf weights wholes m)
     weights-next n =
-        ap (childrenBefore parents (weightOf weights wholes) n) (add-one m)
+        ap (λ (k : ℕ). childSum k (at parents) n (weightOf weights wholes)) (add-one m)
         ∙ sum-suc m (λ h. on (eqb (at parents h) (suc n)) (weightOf weights wholes h))
 
     -- The node's amount stands in its place.

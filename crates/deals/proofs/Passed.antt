@@ -11,16 +11,16 @@ use borrow.Author.Tests.{eq-eqb}
 use Rattle.figures.specs.Figures.{total, cell, sumOf}
 use Rattle.figures.specs.Sums.{on}
 use Rattle.figures.proofs.Sums.{on-yes}
-use Rattle.rooms.proofs.Trees.{kids, own, kids-add, kids-cong}
+use Rattle.rooms.proofs.Trees.{childSum-add, childSum-cong}
 use Rattle.splits.specs.Split.{split}
 use Rattle.deals.specs.Metrics.{Deal, sumsFrom, metrics}
 use Rattle.deals.specs.Dealing.{Child, node, cord, children, weight, weightsOf, beside, partOf, amount, reached}
 use Rattle.deals.specs.Promises.{passed, childExcess, given, PassedFirst, DealtByExcess}
 use Rattle.deals.proofs.Children.{children-sum, children-cong, partOf-node, partOf-cord}
-use Rattle.deals.proofs.Requests.{Dealable, later, own-add}
+use Rattle.deals.proofs.Requests.{Dealable, later, childCords-add}
 use Rattle.deals.proofs.Equations.{weights, pcapmin-starts}
 use Rattle.deals.proofs.Computed.{pcapmin, request, startsOf, amountOf, measured, by-weights, dealt, granted-at, Startable}
-use Rattle.deals.proofs.Amounts.{whole}
+use Rattle.rooms.specs.Trees.{childSum}
 
 -- An excess less what is passed first is what is over the start, of a node and of a cord at a level.
 over-start : (r p s : ℕ) → p ≤ s → r - p - (s - p) ≡ r - s
@@ -36,13 +36,13 @@ module _ (d : Deal) (ok : Dealable d) (st : Startable d) where
 
   -- What a node passes on first is what was passed to it first.
   passed-sum : (n j : ℕ) → n < d .nodes → j < d .levels → sumOf (map (passed d j) (children d n)) ≡ startsOf d n j - pcapmin d n j
-  unfolding pcapmin startsOf kids own
+  unfolding pcapmin startsOf
   passed-sum n j l h =
-      let k : kids (d .nodes) (d .parent) n (λ m. startsOf d m j)
-      ≡ kids (d .nodes) (d .parent) n (λ m. startsOf d m j - pcapmin d m j) + kids (d .nodes) (d .parent) n (λ m. pcapmin d m j)
-      = kids-cong (d .nodes) (d .parent) n _ _ (λ m lm q. let z : pcapmin d m j ≤ startsOf d m j = lows-starts m j lm h in omega arith)
-      ∙ kids-add (d .nodes) (d .parent) n (λ m. startsOf d m j - pcapmin d m j) (λ m. pcapmin d m j) in
-      let o = own-add d ok n j (λ c. d .start c - d .low c) (d .low) (d .start) (λ c lc. let z : d .low c ≤ d .start c = st .least c lc in omega arith) in
+      let k : childSum (d .nodes) (d .parent) n (λ m. startsOf d m j)
+      ≡ childSum (d .nodes) (d .parent) n (λ m. startsOf d m j - pcapmin d m j) + childSum (d .nodes) (d .parent) n (λ m. pcapmin d m j)
+      = childSum-cong (d .nodes) (d .parent) n _ _ (λ m lm q. let z : pcapmin d m j ≤ startsOf d m j = lows-starts m j lm h in omega arith)
+      ∙ childSum-add (d .nodes) (d .parent) n (λ m. startsOf d m j - pcapmin d m j) (λ m. pcapmin d m j) in
+      let o = childCords-add d ok n j (λ c. d .start c - d .low c) (d .low) (d .start) (λ c lc. let z : d .low c ≤ d .start c = st .least c lc in omega arith) in
       omega (arith, children-sum d n (passed d j), k, o, dealt d ok .starts n j l h, measured d ok .lowest n j l h)
 
   -- The weights are the excesses less what is passed first.
@@ -63,7 +63,7 @@ module _ (d : Deal) (ok : Dealable d) (st : Startable d) where
       ap₂ (λ (x : ℕ) (w : List ℕ). passed d j child + beside child (children d n) (split x w)) rest (sym (weights-less n j h))
 
   pub passed-first : PassedFirst d
-  unfolding inHand pcapmin startsOf request weights kids own whole amountOf amount reached
+  unfolding inHand pcapmin startsOf request weights amountOf amount reached
   passed-first = record {
     inHand = inHand;
     root = λ m j l h e. omega (arith, dealt d ok .root m j l e, lows-starts m j l h, st .within m j l h);

@@ -14,7 +14,6 @@ use Rattle.rooms.specs.Table.{Room, highestRank, roomCords}
 use Rattle.rooms.specs.Limits.{limit, nodeAt, parentOf, checked}
 use Rattle.rooms.proofs.Accepted.{Accepted, accepted}
 use Rattle.figures.proofs.Sums.{sum-cong}
-use Rattle.rooms.proofs.Trees.{under}
 use Rattle.figures.specs.Figures.{at}
 use Rattle.rooms.specs.Cords.{cordAt, serverAt, rankOf}
 use Rattle.rooms.specs.Lists.{carriedBy, lowsOf}
@@ -24,7 +23,7 @@ use Rattle.deals.specs.Wants.{needs}
 use Rattle.deals.specs.SecondDeal.{firstDeal, firstGrants, firstUsable, firstUsed, secondDeal, secondWants, secondGrants, caps}
 use Rattle.deals.specs.Plan.{Plan, planOf}
 use Rattle.deals.specs.Headroom.{ceilingsOf, rootHeadroom}
-use Rattle.deals.specs.Ways.{Root, cordBeneath, sumBeneath, fromRank}
+use Rattle.deals.specs.Ways.{Root, cordBeneath, wattsBeneath, fromRank}
 use Rattle.deals.specs.Promises.{AcceptedPlan, AcceptedHasRoom, Answered, AnswerOfBothDeals, FirstByExcess, SecondPassesFirst, CapsInRange, UsableInRange, UsedGranted, NearestCut, HeldNearest, Kept, FirstKept, SecondKept, Greatest, FirstGreatest, SecondGreatest, SettledFromRank, RefusalNine, CapsKeepUsable, GrantsKeepUsed, HeadroomWithinLimits, HeadroomWithinCeilings, HeadroomAllLent, HoldsDown, HeldNamed, HeldNone}
 use Rattle.deals.specs.Properties.{SecondWantsInRange, FirstGivesAll, SecondGivesAll, fromLevel, Totals, StartsLeft, FiguresFit, HeadroomFits}
 use Rattle.deals.proofs.Requests.{WholeWay}
@@ -39,6 +38,7 @@ use Rattle.deals.proofs.Bounds.{bounded}
 use Rattle.deals.proofs.RoomHeadroom.{headroom-limits, headroom-ceilings, headroom-lent, headroom-figures}
 use Rattle.deals.proofs.RoomHeld.{room-held-named, room-held-none, room-held-nearest}
 use Rattle.deals.proofs.Plans.{plan-nine, plan-good, plan-good-table, Planning, planRoom-accepted}
+use Rattle.rooms.specs.Trees.{sumBeneath}
 
 -- The levels from that of a rank on are the ranks from it on.
 rank-level : (rank own : ℕ) → 1 ≤ own → own ≤ highestRank → leb rank own ≡ leb (min (rank - 1) highestRank) (own - 1)
@@ -63,23 +63,23 @@ module _ (r : Room) (ok : Accepted r) (starts wants : List ℕ) (lows : (c : ℕ
 
   -- A deal by wants at or above the lows, from starts that its Requests have room for, keeps the lows, the wants and the limits.
   pub kept : Kept r wants grants
-  unfolding sumBeneath under
+  unfolding sumBeneath
   kept =
       let w : WholeWay deal (at grants) = grants-way r ok starts wants lows st in
       record { least = w .least; most = w .most; within = w .within }
 
   -- The cords of a rank and above, by their levels.
   pub fromRank-level : (n rank : ℕ) (watts : List ℕ)
-      → sumBeneath r n (fromRank r rank watts)
-      ≡ under (length (r .nodes)) (parentOf r) (roomCords r) (λ c. cordAt r c .node) n (fromLevel deal (min (rank - 1) highestRank) (at watts))
-  unfolding sumBeneath under
+      → wattsBeneath r n (fromRank r rank watts)
+      ≡ sumBeneath (length (r .nodes)) (parentOf r) (roomCords r) (λ c. cordAt r c .node) n (fromLevel deal (min (rank - 1) highestRank) (at watts))
+  unfolding sumBeneath
   fromRank-level n rank watts = sum-cong (roomCords r) _ _ (λ c l.
       let s = server-facts r ok (cordAt r c .server) (cord-facts r ok c l .0) in
       ap (λ (t : Bool). on (cordBeneath r n c) (on t (at watts c)))
       (rank-level rank (rankOf r c) (s .rankFrom) (s .rankTo) ∙ ap (leb (min (rank - 1) highestRank)) (sym (levelsOf-at r c l))))
 
   pub greatest : Greatest r wants grants
-  unfolding sumBeneath under
+  unfolding sumBeneath
   greatest root top rank watts way =
       le-trans (le-of-eq (fromRank-level root rank watts))
       (le-trans
@@ -87,7 +87,7 @@ module _ (r : Room) (ok : Accepted r) (starts wants : List ℕ) (lows : (c : ℕ
       (record { least = way .least; most = way .most; within = way .within })
       (top .node) (top .top) (min (rank - 1) highestRank) (omega arith))
       (le-of-eq
-      (ap (λ (d : Deal). under (length (r .nodes)) (parentOf r) (roomCords r) (λ c. cordAt r c .node) root (fromLevel deal (min (rank - 1) highestRank) (at (granted d))))
+      (ap (λ (d : Deal). sumBeneath (length (r .nodes)) (parentOf r) (roomCords r) (λ c. cordAt r c .node) root (fromLevel deal (min (rank - 1) highestRank) (at (granted d))))
       (sym (dealOf-is r starts wants))
       ∙ sym (fromRank-level root rank grants))))
 
@@ -188,7 +188,7 @@ refusal-nine = plan-nine
 pub headroom-within-limits : HeadroomWithinLimits
 headroom-within-limits p =
     of-plan p (λ r demands plan.
-    (n : ℕ) → n < length (r .nodes) → sumBeneath r n (λ c. at (plan .grants) c + at (plan .headroom) c) ≤ limit (nodeAt r n)) headroom-limits
+    (n : ℕ) → n < length (r .nodes) → wattsBeneath r n (λ c. at (plan .grants) c + at (plan .headroom) c) ≤ limit (nodeAt r n)) headroom-limits
 
 pub headroom-within-ceilings : HeadroomWithinCeilings
 headroom-within-ceilings p =
@@ -196,7 +196,7 @@ headroom-within-ceilings p =
 
 pub headroom-all-lent : HeadroomAllLent
 headroom-all-lent p =
-    of-plan p (λ r demands plan. (root : ℕ) → Root r root → sumBeneath r root (at (plan .headroom)) ≡ rootHeadroom r demands root) headroom-lent
+    of-plan p (λ r demands plan. (root : ℕ) → Root r root → wattsBeneath r root (at (plan .headroom)) ≡ rootHeadroom r demands root) headroom-lent
 
 -- ---- A.2
 

@@ -13,15 +13,16 @@ use Rattle.figures.proofs.Sums.{sum-cong, sum-zero}
 use Rattle.rooms.specs.Table.{mostNodes, mostCords, mostWatts, highestRank}
 use Rattle.figures.specs.Figures.{at, cell}
 use Rattle.deals.specs.Metrics.{dealFrom}
-use Rattle.figures.specs.Places.{Absent}
+use Rattle.figures.specs.Places.{Absent, Zeros}
 use Rattle.deals.specs.Levels.{ActiveNodes, CordsActive, CordsOf, LevelLists, entries, fromColumn, toColumn, countColumn}
 use Rattle.deals.proofs.Ordering.{entries-length}
-use Rattle.deals.specs.Passes.{LevelCords, overListed, cordWeight, CordsSummed, weightOf, overChildren, FullRows, WeightsListed, MayWeigh, Weighed, MayRequest, Requested, NodesDealt, CordsDealt}
-use Rattle.deals.proofs.NodeSums.{beneathAll}
+use Rattle.deals.specs.Passes.{LevelCords, overListed, cordWeight, CordsSummed, weightOf, FullRows, WeightsListed, MayWeigh, Weighed, MayRequest, Requested, NodesDealt, CordsDealt}
 use Rattle.deals.proofs.Requesting.{beneath-none}
 use Rattle.deals.proofs.Gathered.{requestWeight, Gathered, gathered, weight-listed, children-cong, dealt-again}
-use Rattle.deals.specs.Ranks.{NodeLists, CordLists, DealLists, DealGiven, SomeDeal, Uncut, DealMade}
+use Rattle.deals.specs.Ranks.{NodeLists, CordLists, DealLists, DealGiven, SomeDeal, DealMade}
 use Rattle.deals.proofs.Ranks.{State, state-start, state-end, state-skip, sums-most, gather-asks, nodes-ask, cords-ask, state-turn}
+use Rattle.rooms.specs.Trees.{ParentsFirst, childSum}
+use Rattle.rooms.specs.Credits.{treeSum}
 
 -- The length of the lists with a rank's figure of each node.
 abbrev pub figuresLength : ℕ
@@ -249,13 +250,13 @@ module _ {parents : List ℕ} {rows : List (List ℕ)} {order : List ℕ} {activ
             g = gathered weighed requested
 
             abbrev weight : ℕ → ℕ
-            weight = requestWeight requests₁ level (beneathAll parents b)
+            weight = requestWeight requests₁ level (treeSum (at parents) (length parents) (at b))
 
             weight-is : (n : ℕ) → n < length parents → weight n ≡ weightOf weights w₁ n
             weight-is = weight-listed weighed requested
 
-            room : (n : ℕ) → n < length parents → (beneathAll parents b n ≤ cell requests₁ n level) × (cell requests₁ n level ≤ mostWatts) × (weight n ≤ at w₁ n)
-                × (at w₁ n ≤ mostCords * mostWatts) × (overChildren parents weight n ≤ at w₁ n)
+            room : (n : ℕ) → n < length parents → (treeSum (at parents) (length parents) (at b) n ≤ cell requests₁ n level) × (cell requests₁ n level ≤ mostWatts) × (weight n ≤ at w₁ n)
+                × (at w₁ n ≤ mostCords * mostWatts) × (childSum (length parents) (at parents) n weight ≤ at w₁ n)
             room =
                 nodes-ask parents (some-deal .limits) nodes (some-deal .levels) (some-deal .lows) starts wants lists level here listed of b w (sums .on-nodes .on-starts) (sums .on-nodes .on-weights)
                 requests₁ left₁ cuts₁ w₁ g
@@ -266,9 +267,9 @@ module _ {parents : List ℕ} {rows : List (List ℕ)} {order : List ℕ} {activ
                 omega (arith, requested .request n l, beneath-none nodes-active (ns .rises) b no-starts n l none, weighed .listed .idle n l none)
 
             -- What `deal_nodes` asks.
-            pub deal-nodes-asks : ((length parents ≤ length before₀) × (length dealt₀ ≡ length before₀) × ((m : ℕ) → m < length parents → at parents m ≤ m))
+            pub deal-nodes-asks : ((length parents ≤ length before₀) × (length dealt₀ ≡ length before₀) × ParentsFirst (length parents) (at parents))
                 × (WeightsListed parents active count w₁ weights
-                × ((n : ℕ) → n < length parents → (weightOf weights w₁ n ≤ mostWatts) × (at w₁ n ≤ mostCords * mostWatts) × (overChildren parents (weightOf weights w₁) n ≤ at w₁ n)))
+                × ((n : ℕ) → n < length parents → (weightOf weights w₁ n ≤ mostWatts) × (at w₁ n ≤ mostCords * mostWatts) × (childSum (length parents) (at parents) n (weightOf weights w₁) ≤ at w₁ n)))
             deal-nodes-asks = (
               (enough (inv .before-size), inv .dealt-size ∙ sym (inv .before-size), ns .rises),
               (
@@ -330,7 +331,7 @@ module _ {parents : List ℕ} {rows : List (List ℕ)} {order : List ℕ} {activ
 
 -- Before the first rank.
 pub loop-start : {parents : List ℕ} {rows : List (List ℕ)} {order : List ℕ} {actives : List (List ℕ)} {nodes starts wants left cuts : List ℕ} {requests : List (List ℕ)}
-    {grants bases wholes amounts before dealt : List ℕ} → SomeDeal parents rows order actives nodes starts wants left → Uncut (length parents) cuts → length grants ≡ length nodes
+    {grants bases wholes amounts before dealt : List ℕ} → SomeDeal parents rows order actives nodes starts wants left → Zeros (length parents) cuts → length grants ≡ length nodes
     → BlankRows (length parents) rows actives requests
     → length bases ≡ figuresLength → ((n : ℕ) → n < length parents → at bases n ≡ 0) → length wholes ≡ figuresLength → length amounts ≡ figuresLength → length before ≡ figuresLength → length dealt ≡ figuresLength
     → RankLoop parents rows order actives nodes starts wants left highestRank left cuts requests grants bases wholes amounts before dealt

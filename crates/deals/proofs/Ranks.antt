@@ -13,30 +13,31 @@ use borrow.Author.Tests.{ne-eqb, eqb-true, eqb-false, le-ltb}
 use Rattle.figures.specs.Sums.{on, sum}
 use Rattle.rooms.specs.Table.{mostWatts, mostCords, highestRank}
 use Rattle.rooms.specs.Limits.{beneath}
-use Rattle.rooms.specs.Credits.{sumBeneath}
+use Rattle.rooms.specs.Credits.{treeSum}
 use Rattle.figures.proofs.Sums.{on-comm, on-no, sum-cong, sum-zero, sum-suc, sum-le, sum-none, up, up-suc}
-use Rattle.rooms.proofs.Trees.{kids, own, under, kids-cong, down, rise}
-use Rattle.rooms.proofs.Credits.{sumBeneath-step}
+use Rattle.rooms.proofs.Trees.{own, under, kids-cong, down, rise, childSum-none}
+use Rattle.rooms.proofs.Credits.{treeSum-step}
 use Rattle.figures.specs.Figures.{at, cell}
 use Rattle.deals.specs.Metrics.{Deal, dealFrom, metrics, atLevel}
 use Rattle.splits.specs.Split.{part}
 use Rattle.deals.specs.Dealing.{granted, reached}
 use Rattle.deals.specs.Held.{cutAt}
-use Rattle.deals.specs.Ranks.{NodeLists, CordLists, DealLists, Spare, Uncut, wattsUnder, DealMade}
+use Rattle.deals.specs.Ranks.{NodeLists, CordLists, DealLists, Spare, listBeneath, DealMade}
 use Rattle.deals.proofs.Cuts.{Marked, ltb-cong, marked-start, marked-turn, marked-skip}
-use Rattle.deals.specs.Passes.{listedBefore, overListed, cordWeight, childrenBefore, overChildren, NodesDealt, CordsDealt}
+use Rattle.deals.specs.Passes.{listedBefore, overListed, cordWeight, NodesDealt, CordsDealt}
 use Rattle.deals.proofs.Gathered.{requestWeight, Gathered}
-use Rattle.figures.specs.Places.{Present}
+use Rattle.figures.specs.Places.{Present, Zeros}
 use Rattle.deals.specs.Levels.{ActiveNodes, CordsActive, CordsOf}
 use Rattle.deals.proofs.Ordering.{listed-before, listed-all}
 use Rattle.figures.proofs.Lists.{figures-length}
-use Rattle.deals.proofs.Amounts.{own-sum}
+use Rattle.deals.proofs.Amounts.{childCords-most}
 use Rattle.deals.proofs.Requests.{Dealable, later, sumBelow, asked, request-asked, sumBelow-unique, sumBelow-all}
 use Rattle.deals.proofs.Equations.{Dealt, weights, weights-are, pcapmin-starts}
 use Rattle.deals.proofs.Computed.{pcapmin, request, startsOf, amountOf, measured, dealt, granted-at, Startable}
 use Rattle.deals.proofs.Bounds.{asked-most, request-most}
 use Rattle.deals.proofs.Totals.{requestTotal-is, startsBelow-is}
-use Rattle.deals.proofs.NodeSums.{on-zero, beneathAll, kids-none}
+use Rattle.deals.proofs.NodeSums.{on-zero}
+use Rattle.rooms.specs.Trees.{childSum}
 
 -- What is left before a level is what the limit has over the Requests of the higher ones and the starts of this one and the lower ones. The
 -- definition's bracket has Pcapmin, which is no more, in the place of the starts of the lower levels. Where the bracket counts, the
@@ -49,7 +50,7 @@ row-left limit higher lower starts start left whole request less is row fits = o
 
 -- Whether a node is cut, by what its children ask.
 cut-is : (d : Deal) (n j : ℕ) → cutAt d (metrics d) n j ≡ ltb (request d n j) (asked d (request d) n j)
-unfolding request asked kids own
+unfolding request asked own
 cut-is d n j = refl
 
 module _ (d : Deal) (ok : Dealable d) where
@@ -58,12 +59,12 @@ module _ (d : Deal) (ok : Dealable d) where
   -- What sums a figure of a level's cords over each node's children is, at each node, the sum over the nodes beneath of what hangs on each.
   pub beneath-sum : (figure : ℕ → ℕ) (sums : ℕ → ℕ → ℕ) (j : ℕ)
       → ((n : ℕ) → n < nodes → sums n j ≡ kids nodes parent n (λ m. sums m j) + own cords node n (atLevel d j figure))
-      → (n : ℕ) → n < nodes → sums n j ≡ sumBeneath parent nodes (λ m. own cords node m (atLevel d j figure)) n
-  beneath-sum figure sums j by-children = down nodes (λ n. sums n j ≡ sumBeneath parent nodes (λ m. own cords node m (atLevel d j figure)) n) (λ n l ih.
+      → (n : ℕ) → n < nodes → sums n j ≡ treeSum parent nodes (λ m. own cords node m (atLevel d j figure)) n
+  beneath-sum figure sums j by-children = down nodes (λ n. sums n j ≡ treeSum parent nodes (λ m. own cords node m (atLevel d j figure)) n) (λ n l ih.
       let f : ℕ → ℕ = λ m. own cords node m (atLevel d j figure) in
-      let k : kids nodes parent n (λ m. sums m j) ≡ kids nodes parent n (sumBeneath parent nodes f)
+      let k : kids nodes parent n (λ m. sums m j) ≡ kids nodes parent n (treeSum parent nodes f)
       = kids-cong nodes parent n _ _ (λ m lm q. ih m lm (subst (λ (z : ℕ). z ≤ m) q (ok .rises m lm))) in
-      omega (arith, by-children n l, sumBeneath-step nodes parent (ok .rises) f n l))
+      omega (arith, by-children n l, treeSum-step nodes parent (ok .rises) f n l))
 
   -- The starts beneath a node, over all levels.
   pub starts-all : (n : ℕ) → n < nodes → sum levels (startsOf d n) ≡ sumBelow d n start
@@ -73,21 +74,21 @@ module _ (d : Deal) (ok : Dealable d) where
 
   -- A level that no cord has: no starts and no Request, and no node is cut there.
   module _ (j : ℕ) (h : j < levels) (none : (c : ℕ) → c < cords → level c ≡ j → ⊥) where
-    own-none : (f : ℕ → ℕ) (n : ℕ) → own cords node n (atLevel d j f) ≡ 0
+    childCords-none : (f : ℕ → ℕ) (n : ℕ) → own cords node n (atLevel d j f) ≡ 0
     unfolding own
-    own-none f n = sum-cong cords _ _ (λ c l. zero-at c l) ∙ sum-zero cords
+    childCords-none f n = sum-cong cords _ _ (λ c l. zero-at c l) ∙ sum-zero cords
       where
         zero-at : (c : ℕ) → c < cords → on (eqb (node c) (suc n)) (atLevel d j f c) ≡ 0
         zero-at c l = on-zero (eqb (node c) (suc n)) (atLevel d j f c) (on-no (eqb (level c) j) (f c) (ne-eqb (level c) j (none c l)))
 
     pub starts-none : (n : ℕ) → n < nodes → startsOf d n j ≡ 0
     starts-none = down nodes (λ n. startsOf d n j ≡ 0) (λ n l ih.
-        omega (arith, dealt d ok .starts n j l h, own-none start n, kids-none nodes parent n (λ m. startsOf d m j) (λ m lm q. ih m lm (later d ok m n lm q))))
+        omega (arith, dealt d ok .starts n j l h, childCords-none start n, childSum-none nodes parent n (λ m. startsOf d m j) (λ m lm q. ih m lm (later d ok m n lm q))))
 
     asked-none : (n : ℕ) → n < nodes → ((m : ℕ) → m < nodes → n < m → request d m j ≡ 0) → asked d (request d) n j ≡ 0
     unfolding asked
     asked-none n l none-below =
-        omega (arith, own-none want n, kids-none nodes parent n (λ m. request d m j) (λ m lm q. none-below m lm (later d ok m n lm q)))
+        omega (arith, childCords-none want n, childSum-none nodes parent n (λ m. request d m j) (λ m lm q. none-below m lm (later d ok m n lm q)))
 
     pub request-none : (n : ℕ) → n < nodes → request d n j ≡ 0
     request-none = down nodes (λ n. request d n j ≡ 0) (λ n l ih.
@@ -182,13 +183,13 @@ module _ (parents limits nodes levels lows starts wants : List ℕ) (lists : Dea
     pub grants-are : (c : ℕ) → c < length nodes → above ≤ at levels c → at grants c ≡ at (granted theDeal) c
 
   -- Before the first rank.
-  pub state-start : (rows : List (List ℕ)) (left cuts grants : List ℕ) → Spare parents limits nodes starts left → Uncut (length parents) cuts → State highestRank rows left cuts grants
+  pub state-start : (rows : List (List ℕ)) (left cuts grants : List ℕ) → Spare parents limits nodes starts left → Zeros (length parents) cuts → State highestRank rows left cuts grants
   unfolding dealFrom under up
   state-start rows left cuts grants spare uncut = record {
     higher = 0;
     sum-is = omega arith;
     left-is = λ n l.
-        let e : wattsUnder parents nodes starts n ≡ sum highestRank (base n) = sym (starts-all theDeal dealable n l) in
+        let e : listBeneath parents nodes starts n ≡ sum highestRank (base n) = sym (starts-all theDeal dealable n l) in
         omega (arith, spare .over n l);
     cuts-are = λ n l. subst (Marked theDeal highestRank n) (sym (uncut .none n l)) (marked-start theDeal n);
     filled = λ n j l a b. absurd (omega arith);
@@ -271,7 +272,7 @@ module _ (parents limits nodes levels lows starts wants : List ℕ) (lists : Dea
       unfolding dealFrom own
       figures-sum list figure is most =
           le-trans (le-of-eq (sum-cong (length parents) _ _ (λ n l. is n l ∙ listed-level figure n)))
-          (le-trans (own-sum (length parents) (length nodes) (at nodes) (dealable .hangs) (dealable .here) (atLevel theDeal j figure) mostWatts (level-most figure most)) (mul-le-mul-right mostWatts (cs .few)))
+          (le-trans (childCords-most (length parents) (length nodes) (at nodes) (dealable .hangs) (dealable .here) (atLevel theDeal j figure) mostWatts (level-most figure most)) (mul-le-mul-right mostWatts (cs .few)))
 
       pub sums-most : (sum (length parents) (at starts₀) ≤ mostCords * mostWatts) × (sum (length parents) (at weights₀) ≤ mostCords * mostWatts)
       sums-most = (
@@ -281,32 +282,32 @@ module _ (parents limits nodes levels lows starts wants : List ℕ) (lists : Dea
 
       beneath-is : (list : List ℕ) (figure : ℕ → ℕ) (sums : ℕ → ℕ → ℕ) → ((n : ℕ) → n < length parents → at list n ≡ overListed listed nodes figure n)
           → ((n : ℕ) → n < length parents → sums n j ≡ kids (length parents) (at parents) n (λ m. sums m j) + own (length nodes) (at nodes) n (atLevel theDeal j figure))
-          → (n : ℕ) → n < length parents → sumBeneath (at parents) (length parents) (at list) n ≡ sums n j
-      unfolding dealFrom own sumBeneath
+          → (n : ℕ) → n < length parents → treeSum (at parents) (length parents) (at list) n ≡ sums n j
+      unfolding dealFrom own treeSum
       beneath-is list figure sums is by-children n l =
           sum-cong (length parents) _ _ (λ m h. ap (λ (z : ℕ). on (beneath (at parents) (length parents) n (suc m)) z) (is m h ∙ listed-level figure m))
           ∙ sym (beneath-sum theDeal dealable figure sums j by-children n l)
 
-      starts-beneath : (n : ℕ) → n < length parents → sumBeneath (at parents) (length parents) (at starts₀) n ≡ base n j
+      starts-beneath : (n : ℕ) → n < length parents → treeSum (at parents) (length parents) (at starts₀) n ≡ base n j
       unfolding dealFrom
       starts-beneath = beneath-is starts₀ (at starts) base own-starts (λ n l. equations .starts n j l level-fits)
 
-      pub gather-asks : (n : ℕ) → n < length parents → at left n + sumBeneath (at parents) (length parents) (at starts₀) n ≤ mostWatts
+      pub gather-asks : (n : ℕ) → n < length parents → at left n + treeSum (at parents) (length parents) (at starts₀) n ≤ mostWatts
       gather-asks n l = omega (arith, starts-beneath n l, s .left-is n l, sum-suc j (base n), ns .most n l)
 
       module _ (rows′ : List (List ℕ)) (left′ cuts′ wholes : List ℕ) (g : Gathered parents j left cuts starts₀ weights₀ rows₀ left′ cuts′ wholes rows′) where
         -- The starts beneath each node.
         abbrev bases : ℕ → ℕ
-        bases = beneathAll parents starts₀
+        bases = treeSum (at parents) (length parents) (at starts₀)
 
         bases-are : (n : ℕ) → n < length parents → bases n ≡ base n j
         bases-are = starts-beneath
 
         -- The children's weights, once those of the child nodes are the deal's.
         whole-by : (n : ℕ) → n < length parents → ((m : ℕ) → m < length parents → n < m → cell rows′ m j ≡ req m j) → at wholes n ≡ weights theDeal base req n j
-        unfolding dealFrom weights kids own
+        unfolding dealFrom weights own
         whole-by n l ih =
-            let c : overChildren parents (requestWeight rows′ j bases) n ≡ overChildren parents (λ m. req m j - base m j) n
+            let c : childSum (length parents) (at parents) n (requestWeight rows′ j bases) ≡ childSum (length parents) (at parents) n (λ m. req m j - base m j)
             = kids-cong (length parents) (at parents) n _ _ (λ m lm q. ap₂ _-_ (ih m lm (subst (λ (z : ℕ). z ≤ m) q (ns .rises m lm))) (bases-are m lm)) in
             omega (arith, g .children n l, own-weights n l, listed-level (cordWeight starts wants) n)
 
@@ -331,11 +332,11 @@ module _ (parents limits nodes levels lows starts wants : List ℕ) (lists : Dea
             (λ h. omega (arith, request-left n l, asked-is n j l level-fits, whole-is n l))
             (λ h. omega (arith, request-left n l, asked-is n j l level-fits, whole-is n l))
 
-        children-is : (n m : ℕ) → m ≤ length parents → childrenBefore parents (requestWeight rows′ j bases) n m ≡ sum m (λ h. on (eqb (at parents h) (suc n)) (req h j - base h j))
+        children-is : (n m : ℕ) → m ≤ length parents → childSum m (at parents) n (requestWeight rows′ j bases) ≡ sum m (λ h. on (eqb (at parents h) (suc n)) (req h j - base h j))
         children-is n m h = sum-cong m _ _ (λ i l. ap (λ (z : ℕ). on (eqb (at parents i) (suc n)) z) (weight-is i (omega arith)))
 
         pub nodes-ask : (n : ℕ) → n < length parents → (bases n ≤ cell rows′ n j) × (cell rows′ n j ≤ mostWatts) × (requestWeight rows′ j bases n ≤ at wholes n)
-            × (at wholes n ≤ mostCords * mostWatts) × (overChildren parents (requestWeight rows′ j bases) n ≤ at wholes n)
+            × (at wholes n ≤ mostCords * mostWatts) × (childSum (length parents) (at parents) n (requestWeight rows′ j bases) ≤ at wholes n)
         unfolding dealFrom request
         nodes-ask n l =
             let r = requests-are n l in
@@ -358,13 +359,12 @@ module _ (parents limits nodes levels lows starts wants : List ℕ) (lists : Dea
               go m l ih some (suc n) e =
                   let u : n < m = subst (λ (z : ℕ). z ≤ m) e (ns .rises m l) in
                   nd .inner m n l some e
-                  ∙ ap (λ (z : ℕ). part (at amounts n) (at wholes n) (childrenBefore parents (requestWeight rows′ j bases) n m) z) (weight-is m l)
+                  ∙ ap (λ (z : ℕ). part (at amounts n) (at wholes n) (childSum m (at parents) n (requestWeight rows′ j bases)) z) (weight-is m l)
                   ∙ ap (λ (z : ℕ). part (at amounts n) (at wholes n) z (req m j - base m j)) (children-is n m (omega arith))
                   ∙ ap₂ (λ (x w : ℕ). part x w (sum m (λ h. on (eqb (at parents h) (suc n)) (req h j - base h j))) (req m j - base m j)) (ih n u (λ none. some (nodes-active .closed m n l e none))) (whole-is n (omega arith))
                   ∙ sym (equations .inner m n j l e)
 
           served-is : (n : ℕ) → n < length parents → Present active count n → at before n ≡ kids (length parents) (at parents) n (λ m. req m j - base m j)
-          unfolding kids
           served-is n l some = nd .served n l some ∙ children-is n (length parents) (le-refl (length parents))
 
           -- A node with a listed cord on it is active.
@@ -408,7 +408,7 @@ module _ (parents limits nodes levels lows starts wants : List ℕ) (lists : Dea
           module _ (grants′ : List ℕ) (cd : CordsDealt listed nodes starts wants wholes amounts before grants grants′) where
             -- A listed cord's grant is the deal's.
             listed-grant : (i n : ℕ) → i < length listed → at nodes (at listed i) ≡ suc n → at grants′ (at listed i) ≡ at (granted theDeal) (at listed i)
-            unfolding dealFrom kids
+            unfolding dealFrom
             listed-grant i n h q =
                 let c : ℕ = at listed i in
                 let ln = there i n h q in

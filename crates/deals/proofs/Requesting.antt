@@ -16,34 +16,36 @@ use Rattle.figures.specs.Sums.{on}
 use Rattle.figures.proofs.Sums.{on-no}
 use Rattle.figures.proofs.Credits.{credited-at, credited-past, credited-length}
 use Rattle.figures.proofs.Lists.{passed-down}
-use Rattle.rooms.proofs.Trees.{down}
-use Rattle.rooms.proofs.Credits.{sumBeneath-step}
+use Rattle.rooms.proofs.Trees.{down, childSum-none}
+use Rattle.rooms.proofs.Credits.{treeSum-step}
 use Rattle.figures.specs.Places.{Absent}
 use Rattle.deals.specs.Levels.{ActiveNodes}
 use Rattle.figures.proofs.Cells.{stored, cell-here, cell-elsewhere, cell-others, stored-full}
 use Rattle.deals.proofs.Active.{Parted, parted-none, parted-all, parted-after, between}
 use Rattle.deals.specs.Passes.{weightOf, cutMark, FullRows, MayWeigh, Weighed, MayRequest, Requested}
-use Rattle.deals.proofs.NodeSums.{Rises, beneathAll, kids-none, Summing, summing-start, whole-at, summing-fits, summing-at, summing-idle}
+use Rattle.deals.proofs.NodeSums.{Summing, summing-start, whole-at, summing-fits, summing-at, summing-idle}
 use Rattle.deals.proofs.Weighing.{Weighing, WeighTurn, weighing-start, weigh-end, passed, parted-here, weighed-here, from-here}
+use Rattle.rooms.specs.Trees.{ParentsFirst}
+use Rattle.rooms.specs.Credits.{treeSum}
 
 -- Where children weigh nothing, a mark stays.
 uncut : (mark level weight : ℕ) → cutMark mark level weight 0 ≡ mark
 uncut mark level weight = omega (arith, on-no (ltb weight 0) (suc level) (le-ltb weight 0 (omega arith)))
 
 -- Nothing stands beneath a node that is not active, if nothing stands on those that are not.
-pub beneath-none : {parents active : List ℕ} {count : ℕ} → ActiveNodes parents active count → Rises parents → (starts : List ℕ) → ((m : ℕ) → m < length parents → Absent active count m → at starts m ≡ 0)
-    → (m : ℕ) → m < length parents → Absent active count m → beneathAll parents starts m ≡ 0
-beneath-none {parents} {active} {count} nodes rises starts idle = down (length parents) (λ m. Absent active count m → beneathAll parents starts m ≡ 0) (λ m l below none.
+pub beneath-none : {parents active : List ℕ} {count : ℕ} → ActiveNodes parents active count → ParentsFirst (length parents) (at parents) → (starts : List ℕ) → ((m : ℕ) → m < length parents → Absent active count m → at starts m ≡ 0)
+    → (m : ℕ) → m < length parents → Absent active count m → treeSum (at parents) (length parents) (at starts) m ≡ 0
+beneath-none {parents} {active} {count} nodes rises starts idle = down (length parents) (λ m. Absent active count m → treeSum (at parents) (length parents) (at starts) m ≡ 0) (λ m l below none.
     omega (
       arith,
-      sumBeneath-step (length parents) (at parents) rises (at starts) m l,
+      treeSum-step (length parents) (at parents) rises (at starts) m l,
       idle m l none,
-      kids-none (length parents) (at parents) m (beneathAll parents starts) (λ k h e. below k h (omega (arith, rises k h)) (nodes .closed k m h e none)),
+      childSum-none (length parents) (at parents) m (treeSum (at parents) (length parents) (at starts)) (λ k h e. below k h (omega (arith, rises k h)) (nodes .closed k m h e none)),
     ))
 
 -- What the turn of the node at place m leaves.
 pub record Settled (parents : List ℕ) (level : ℕ) (left wholes cuts₀ starts cuts : List ℕ) (rows : List (List ℕ)) (m : ℕ) : Type 0 where
-  pub request : cell rows m level ≡ beneathAll parents starts m + weightOf left wholes m
+  pub request : cell rows m level ≡ treeSum (at parents) (length parents) (at starts) m + weightOf left wholes m
   pub cut-is : at cuts m ≡ cutMark (at cuts₀ m) level (weightOf left wholes m) (at wholes m)
 
 -- Before the turn of the node at place n - 1. The nodes from n on have passed their starts on and are cleared; `sums` are what would stand
@@ -62,7 +64,7 @@ pub record Requesting (parents active : List ℕ) (count level : ℕ) (left₀ c
   pub cleared : (m : ℕ) → n ≤ m → m < length parents → at bases m ≡ 0
   pub bases-size : length bases ≡ length starts
 
-module _ {parents active : List ℕ} {count level : ℕ} {left₀ cuts₀ starts : List ℕ} {rows₀ : List (List ℕ)} (nodes : ActiveNodes parents active count) (rises : Rises parents) where
+module _ {parents active : List ℕ} {count level : ℕ} {left₀ cuts₀ starts : List ℕ} {rows₀ : List (List ℕ)} (nodes : ActiveNodes parents active count) (rises : ParentsFirst (length parents) (at parents)) where
   -- The turn of a node that is not active changes nothing.
   turn-idle : {k : ℕ} {wholes cuts bases : List ℕ} {rows : List (List ℕ)} → Absent active count k → at wholes k ≡ 0
       → Requesting parents active count level left₀ cuts₀ starts rows₀ (suc k) wholes cuts bases rows
@@ -70,7 +72,7 @@ module _ {parents active : List ℕ} {count level : ℕ} {left₀ cuts₀ starts
   turn-idle {k} {wholes} {cuts} away whole inv =
       let given = inv .given in
       let l : k < length parents = omega (arith, inv .summed .all) in
-      let base : beneathAll parents starts k ≡ 0 = beneath-none nodes rises starts (λ m h none. given .idle m h none .0) k l away in
+      let base : treeSum (at parents) (length parents) (at starts) k ≡ 0 = beneath-none nodes rises starts (λ m h none. given .idle m h none .0) k l away in
       let weight : weightOf left₀ wholes k ≡ 0 = omega arith in
       record {
         given = given;
@@ -184,7 +186,7 @@ module _ {parents active : List ℕ} {count level : ℕ} {left₀ own cuts₀ st
       base-sum : at bases n ≡ at (here .sums) n
       base-sum = here .bases-kept n (omega arith)
 
-      base-is : at bases n ≡ beneathAll parents starts n
+      base-is : at bases n ≡ treeSum (at parents) (length parents) (at starts) n
       base-is = base-sum ∙ whole-at (weighs .rises) (here .summed)
 
       pub request-fits : {v : ℕ} → v ≡ min (at left n) (at wholes n) → at bases n + v ≤ mostWatts
@@ -232,7 +234,7 @@ module _ {parents active : List ℕ} {count level : ℕ} {left₀ own cuts₀ st
                     let s = here .settled m g l in
                     let same = sym (whole-same m (omega arith)) in
                     record {
-                      request = cell-elsewhere rows n level asked in-list m level (λ e. omega arith) ∙ s .request ∙ ap (λ (x : ℕ). beneathAll parents starts m + min (at left₀ m) x) same;
+                      request = cell-elsewhere rows n level asked in-list m level (λ e. omega arith) ∙ s .request ∙ ap (λ (x : ℕ). treeSum (at parents) (length parents) (at starts) m + min (at left₀ m) x) same;
                       cut-is = getD-set-other cuts n m mark 0 (λ e. omega arith) ∙ s .cut-is ∙ ap (λ (x : ℕ). cutMark (at cuts₀ m) level (min (at left₀ m) x) x) same;
                     });
                 cuts-kept = λ m l. getD-set-other cuts n m mark 0 (λ e. omega arith) ∙ here .cuts-kept m (omega arith);

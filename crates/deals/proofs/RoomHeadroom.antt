@@ -12,17 +12,17 @@ use Rattle.rooms.specs.Limits.{limit, nodeAt}
 use Rattle.rooms.specs.Cords.{cordAt, serverAt}
 use Rattle.rooms.proofs.Accepted.{Accepted}
 use Rattle.rooms.proofs.Carried.{carried-most}
-use Rattle.rooms.proofs.Trees.{under}
 use Rattle.deals.specs.Metrics.{metrics}
 use Rattle.deals.specs.Dealing.{granted}
 use Rattle.deals.specs.Wants.{needs, firstWants}
 use Rattle.deals.specs.SecondDeal.{secondDeal, secondWants, secondGrants}
 use Rattle.deals.specs.Headroom.{ceilingsOf, nodeCeiling, requestsAt, headroomOver, headroom, rootHeadroom}
-use Rattle.deals.specs.Ways.{Root, sumBeneath}
+use Rattle.deals.specs.Ways.{Root, wattsBeneath}
 use Rattle.deals.specs.Properties.{HeadroomBounded}
 use Rattle.deals.proofs.BothDeals.{server-facts, cord-facts, carriedBy-at, carriedBy-length, carriedBy-mono, need-le, secondWants-wants, second-starts, secondRoomDeal, secondRoomDeal-dealable, of-secondRoomDeal}
 use Rattle.deals.proofs.Bounds.{limit-most}
 use Rattle.deals.proofs.Headroom.{root-lends, within-limit, within-ceiling, headroom-bounded}
+use Rattle.rooms.specs.Trees.{sumBeneath}
 
 -- ---- Worked by hand
 
@@ -70,10 +70,10 @@ module _ (r : Room) (ok : Accepted r) (demands : List ℕ) where
       (carriedBy-mono r ok (needs r demands) greatests (λ v lv. le-trans (need-le r ok demands v lv) (le-of-eq (sym (greatests-at v lv)))) c l)
 
   pub headroom-limits : (n : ℕ) → n < length (r .nodes)
-      → sumBeneath r n (λ c. at (secondGrants r demands) c + at (headroom r demands) c) ≤ limit (nodeAt r n)
-  unfolding sumBeneath under secondGrants headroom
+      → wattsBeneath r n (λ c. at (secondGrants r demands) c + at (headroom r demands) c) ≤ limit (nodeAt r n)
+  unfolding sumBeneath secondGrants headroom
   headroom-limits n l =
-      of-secondRoomDeal r ok demands (λ d. sumBeneath r n (λ c. at (granted d) c + at (headroomOver d (at (ceilingsOf r))) c) ≤ limit (nodeAt r n))
+      of-secondRoomDeal r ok demands (λ d. wattsBeneath r n (λ c. at (granted d) c + at (headroomOver d (at (ceilingsOf r))) c) ≤ limit (nodeAt r n))
       (within-limit (secondRoomDeal r ok demands) (secondRoomDeal-dealable r ok demands) (at (ceilingsOf r)) wants-ceilings (second-starts r ok demands) n l)
 
   pub headroom-ceilings : (c : ℕ) → c < roomCords r → at (secondGrants r demands) c + at (headroom r demands) c ≤ at (ceilingsOf r) c
@@ -82,10 +82,10 @@ module _ (r : Room) (ok : Accepted r) (demands : List ℕ) where
       of-secondRoomDeal r ok demands (λ d. at (granted d) c + at (headroomOver d (at (ceilingsOf r))) c ≤ at (ceilingsOf r) c)
       (within-ceiling (secondRoomDeal r ok demands) (secondRoomDeal-dealable r ok demands) (at (ceilingsOf r)) wants-ceilings (second-starts r ok demands) c l)
 
-  pub headroom-lent : (root : ℕ) → Root r root → sumBeneath r root (at (headroom r demands)) ≡ rootHeadroom r demands root
-  unfolding sumBeneath under headroom rootHeadroom
+  pub headroom-lent : (root : ℕ) → Root r root → wattsBeneath r root (at (headroom r demands)) ≡ rootHeadroom r demands root
+  unfolding sumBeneath headroom rootHeadroom
   headroom-lent root top =
-      of-secondRoomDeal r ok demands (λ d. sumBeneath r root (at (headroomOver d (at (ceilingsOf r)))) ≡ nodeCeiling d (at (ceilingsOf r)) root - requestsAt (metrics d) root)
+      of-secondRoomDeal r ok demands (λ d. wattsBeneath r root (at (headroomOver d (at (ceilingsOf r)))) ≡ nodeCeiling d (at (ceilingsOf r)) root - requestsAt (metrics d) root)
       (root-lends (secondRoomDeal r ok demands) (secondRoomDeal-dealable r ok demands) (at (ceilingsOf r)) wants-ceilings root (top .node) (top .top))
 
   pub headroom-figures : HeadroomBounded (secondDeal r demands) (at (ceilingsOf r))

@@ -11,16 +11,16 @@ use Rattle.rooms.specs.Limits.{limit, nodeAt}
 use Rattle.rooms.specs.Cords.{cordAt, rankOf}
 use Rattle.rooms.specs.Lists.{lowsOf, levelsOf}
 use Rattle.rooms.proofs.Accepted.{Accepted}
-use Rattle.rooms.proofs.Trees.{under}
 use Rattle.deals.specs.Dealing.{granted}
 use Rattle.deals.specs.SecondDeal.{secondDeal, secondWants, secondGrants}
 use Rattle.deals.specs.Held.{heldOver, held}
-use Rattle.deals.specs.Ways.{cordBeneath, sumBeneath}
+use Rattle.deals.specs.Ways.{cordBeneath, wattsBeneath}
 use Rattle.deals.specs.Promises.{HoldsDown}
 use Rattle.deals.specs.Promises.{NearestCut}
 use Rattle.deals.proofs.RoomDeals.{levelsOf-at}
 use Rattle.deals.proofs.BothDeals.{server-facts, cord-facts, second-starts, secondRoomDeal, secondRoomDeal-dealable, of-secondRoomDeal}
 use Rattle.deals.proofs.Held.{holder-full, holder-lows, held-none, held-named, holder-nearest}
+use Rattle.rooms.specs.Trees.{sumBeneath}
 
 module _ (r : Room) (ok : Accepted r) (demands : List ℕ) where
   -- A cord of a lower rank is one of a lower level.
@@ -30,20 +30,20 @@ module _ (r : Room) (ok : Accepted r) (demands : List ℕ) where
 
   -- What is said of a node by its number, from the same by its place.
   by-number : (grants : List ℕ) (c n m : ℕ) → n ≡ suc m → m < length (r .nodes) → cordBeneath r m c ≡ true
-      → sumBeneath r m (at grants) ≡ limit (nodeAt r m)
+      → wattsBeneath r m (at grants) ≡ limit (nodeAt r m)
       → ((h : ℕ) → h < roomCords r → cordBeneath r m h ≡ true → rankOf r h < rankOf r c → at grants h ≡ at (lowsOf r) h) → HoldsDown r grants c n
   by-number grants c n m e l above full lower =
       let q : m ≡ n - 1 = omega arith in
       record {
         node = (omega arith, omega arith);
         above = subst (λ (z : ℕ). cordBeneath r z c ≡ true) q above;
-        full = subst (λ (z : ℕ). sumBeneath r z (at grants) ≡ limit (nodeAt r z)) q full;
+        full = subst (λ (z : ℕ). wattsBeneath r z (at grants) ≡ limit (nodeAt r z)) q full;
         lower = subst (λ (z : ℕ). (h : ℕ) → h < roomCords r → cordBeneath r z h ≡ true → rankOf r h < rankOf r c → at grants h ≡ at (lowsOf r) h) q lower;
       }
 
   pub room-held-named : (c : ℕ) → c < roomCords r → at (secondGrants r demands) c < at (secondWants r demands) c
       → HoldsDown r (secondGrants r demands) c (at (held r demands) c)
-  unfolding secondGrants held sumBeneath under
+  unfolding secondGrants held sumBeneath
   room-held-named c l =
       of-secondRoomDeal r ok demands (λ d. at (granted d) c < at (secondWants r demands) c → HoldsDown r (granted d) c (at (heldOver d) c)) (λ short.
       let d = secondRoomDeal r ok demands in

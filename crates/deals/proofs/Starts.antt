@@ -8,10 +8,10 @@ use lib.Dec.{eqb}
 use Rattle.figures.specs.Figures.{at}
 use Rattle.figures.specs.Sums.{sum}
 use Rattle.figures.proofs.Sums.{on-le, sum-cong, sum-le, sum-up, up}
-use Rattle.rooms.proofs.Trees.{kids-le, down}
+use Rattle.rooms.proofs.Trees.{childSum-le, down}
 use Rattle.deals.specs.Metrics.{Deal, atLevel}
 use Rattle.deals.specs.Dealing.{granted}
-use Rattle.deals.proofs.Requests.{Dealable, sumBelow-unique, sumBelow-le, asked, own-le, later, pcapmin-is, requests-fit, byWants, request-total-mono}
+use Rattle.deals.proofs.Requests.{Dealable, dealBeneath-unique, dealBeneath-le, asked, later, pcapmin-is, requests-fit, byWants, request-total-mono}
 use Rattle.deals.proofs.Computed.{pcapmin, request, startsOf, measured, dealt, Startable, granted-asked}
 
 -- What one Request x has room for, another, y, has too, where its higher ranks ask no more (b ≤ a) and its children ask for it.
@@ -40,8 +40,8 @@ module _ (d : Deal) (w s : ℕ → ℕ) (both : Later d w s) where
   starts-asked : (n j : ℕ) → n < d .nodes → j < d .levels → startsOf after n j ≤ request d n j
   starts-asked n j l h =
       le-trans
-      (le-of-eq (sumBelow-unique after ko (atLevel d j s) (λ m. startsOf after m j) (λ m lm. dealt after ko .starts m j lm h ∙ add-comm _ _) n l))
-      (le-trans (sumBelow-le d ok n _ _ (λ c lc b. on-le (eqb (d .level c) j) (s c) (at (granted d) c) (λ t. grants c lc))) (granted-asked d ok st n j l h))
+      (le-of-eq (dealBeneath-unique after ko (atLevel d j s) (λ m. startsOf after m j) (λ m lm. dealt after ko .starts m j lm h ∙ add-comm _ _) n l))
+      (le-trans (dealBeneath-le d ok n _ _ (λ c lc b. on-le (eqb (d .level c) j) (s c) (at (granted d) c) (λ t. grants c lc))) (granted-asked d ok st n j l h))
 
   -- The Requests of a rank and above sum to no more than in the first deal.
   requests-less : (k j : ℕ) → j + k ≡ d .levels → (n : ℕ) → n < d .nodes → up k j (request after n) ≤ up k j (request d n)
@@ -62,8 +62,8 @@ module _ (d : Deal) (w s : ℕ → ℕ) (both : Later d w s) where
       let e : suc j + k ≡ d .levels = omega arith in
       let children : startsOf after n j ≤ asked after (request after) n j
       = le-trans (le-of-eq (dealt after ko .starts n j l h))
-      (add-le-add (kids-le (d .nodes) (d .parent) n _ _ (λ m lm q. ih m lm (later d ok m n lm q) j h))
-      (own-le d ok n _ _ (λ c lc q. on-le (eqb (d .level c) j) (s c) (w c) (λ t. wants c lc)))) in
+      (add-le-add (childSum-le (d .nodes) (d .parent) n _ _ (λ m lm q. ih m lm (later d ok m n lm q) j h))
+      (childSum-le (d .cords) (d .node) n _ _ (λ c lc q. on-le (eqb (d .level c) j) (s c) (w c) (λ t. wants c lc)))) in
       let first : request d n j ≤ d .limit n - up k (suc j) (request d n) - sum j (pcapmin after n)
       = omega (arith, measured d ok .request n l k j e, lows-same n j l (omega arith)) in
       bracket (d .limit n) _ _ _ _ _ _ _ (requests-less k (suc j) e n l) first (measured after ko .request n l k j e) (starts-asked n j l h) children)

@@ -7,11 +7,12 @@ use lib.ListN.{getD}
 use Rattle.figures.specs.Sums.{sum}
 use Rattle.figures.proofs.Sums.{up}
 use Rattle.figures.proofs.Lists.{total-drop, sumOf-take}
-use Rattle.rooms.proofs.Trees.{kids, own, kids-cong}
+use Rattle.rooms.proofs.Trees.{childSum-cong}
 use Rattle.deals.specs.Metrics.{Deal, metrics}
 use Rattle.deals.specs.Properties.{requestTotal, pcapminBelow, startsBelow, fromLevel, TotalsOf}
 use Rattle.deals.proofs.Requests.{Dealable, request-total}
 use Rattle.deals.proofs.Computed.{pcapmins-levels, requests-levels, starts-levels, pcapmin, request, startsOf, measured}
+use Rattle.rooms.specs.Trees.{childSum}
 
 module _ (d : Deal) where
   pub requestTotal-is : (n : ℕ) → n < d .nodes → (k j : ℕ) → j + k ≡ d .levels → requestTotal d n j ≡ up k j (request d n)
@@ -27,12 +28,11 @@ module _ (d : Deal) where
   startsBelow-is n l j h = sumOf-take (getD (metrics d .starts) n []) j (omega (arith, starts-levels d n l))
 
   pub deal-totals : Dealable d → TotalsOf d
-  unfolding kids own
   deal-totals ok n j l h =
       let k : ℕ = d .levels - j in
       let e : j + k ≡ d .levels = omega arith in
       requestTotal-is n l k j e
       ∙ request-total d ok (pcapmin d) (request d) (measured d ok) n l k j e
-      ∙ ap₂ (λ (x y : ℕ). min (d .limit n - x) (y + own (d .cords) (d .node) n (fromLevel d j (d .want))))
+      ∙ ap₂ (λ (x y : ℕ). min (d .limit n - x) (y + childSum (d .cords) (d .node) n (fromLevel d j (d .want))))
       (sym (pcapminBelow-is n l j h))
-      (kids-cong (d .nodes) (d .parent) n _ _ (λ m lm q. sym (requestTotal-is m lm k j e)))
+      (childSum-cong (d .nodes) (d .parent) n _ _ (λ m lm q. sym (requestTotal-is m lm k j e)))

@@ -13,7 +13,7 @@ use borrow.Author.Tests.{ne-eqb}
 use Rattle.figures.specs.Sums.{on, sum}
 use Rattle.figures.specs.Credits.{credited}
 use Rattle.figures.proofs.Sums.{on-no, sum-suc, up-cong}
-use Rattle.rooms.proofs.Trees.{kids}
+use Rattle.rooms.proofs.Trees.{childSum-none}
 use Rattle.figures.proofs.Credits.{credited-at, credited-length, figure-in-sum, sum-credited}
 use Rattle.rooms.proofs.Gather.{Holds, holds-start, holds-turn, holds-end, holds-whole}
 use Rattle.figures.specs.Figures.{at}
@@ -22,7 +22,7 @@ use Rattle.figures.specs.Places.{Absent, Present}
 use Rattle.deals.specs.Levels.{ActiveNodes}
 use Rattle.figures.proofs.Lists.{passed-down}
 use Rattle.deals.proofs.Active.{Parted, parted-none, parted-all, parted-at, parted-after, between}
-use Rattle.deals.proofs.NodeSums.{credited-nothing, kids-none}
+use Rattle.deals.proofs.NodeSums.{credited-nothing}
 
 -- What the turn of the node at place m leaves.
 pub record Settled (active : List ℕ) (count : ℕ) (left₀ left wholes weights : List ℕ) (m : ℕ) : Type 0 where
@@ -165,7 +165,6 @@ module _ {parents active : List ℕ} {count : ℕ} {left₀ own : List ℕ} wher
     Same m = Weighing parents active count left₀ own weights-length m left wholes weights
 
     pub passed : (m : ℕ) → Absent active count m → Same (suc m) → Same m
-    unfolding kids
     passed m none r =
         let l : m < length parents = omega (arith, r .all) in
         let asks : at wholes m ≡ 0
@@ -173,13 +172,12 @@ module _ {parents active : List ℕ} {count : ℕ} {left₀ own : List ℕ} wher
           arith,
           holds-whole (length parents) (at parents) (at own) (weightOf left₀ wholes) (given .rises) (r .done) m (at wholes) (r .all) (r .held),
           given .idle m l none,
-          kids-none (length parents) (at parents) m (weightOf left₀ wholes) (λ k h e.
+          childSum-none (length parents) (at parents) m (weightOf left₀ wholes) (λ k h e.
               let z : at wholes k ≡ 0 = r .settled k (omega (arith, given .rises k h)) h .none (given .nodes .closed k m h e none) in omega arith),
         ) in
         turn-idle m left wholes weights none asks r
 
     pub weigh-end : i ≤ 0 → Weighed parents active count left₀ own left wholes weights
-    unfolding kids
     weigh-end z =
         let e : i ≡ 0 = omega arith in
         let r : Same 0 = passed-down Same 0 (t .n) (omega arith) (λ h a b. passed h (between parted-none (rw e at (t .parted)) h a b)) (t .weighing) in

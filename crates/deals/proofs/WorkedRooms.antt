@@ -6,7 +6,8 @@ use Prim.Native.Nat.{ℕ}
 use Rattle.rooms.specs.Part.{follow, word, ensure, end, many}
 use Rattle.figures.specs.Figures.{total}
 use Rattle.rooms.specs.Table.{formOf, percent, node, cord, range, load, server, table}
-use Rattle.rooms.specs.Limits.{beneath, serverLows, lows, firstNode, overloaded}
+use Rattle.rooms.specs.Trees.{beneath}
+use Rattle.rooms.specs.Limits.{serverLows, lows, firstNode, overloaded}
 use Rattle.outcomes.specs.Outcome.{accepted, refused}
 use Rattle.deals.specs.Plan.{PlanOutcome, plan}
 use Rattle.deals.specs.declared.Lengths.{Lengths}

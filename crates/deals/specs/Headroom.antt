@@ -1,14 +1,13 @@
 -- Headroom (request A.1): watts at the roots that nobody is granted, lent out over the second deal's Requests.
 use mathlib.Core.List.{List, []}
-use Prim.Native.Nat.{ℕ, zero, suc, _+_, _-_, min}
-use lib.Dec.{eqb}
+use Prim.Native.Nat.{ℕ, zero, suc, _-_, min}
 use lib.ListN.{length, getD}
 use Rattle.figures.specs.Figures.{total, figuresFrom, figures, at, sumOf}
-use Rattle.figures.specs.Sums.{on, sum}
+use Rattle.figures.specs.Sums.{sum}
 use Rattle.rooms.specs.Table.{Room}
 use Rattle.rooms.specs.Cords.{serverAt}
 use Rattle.rooms.specs.Lists.{carriedBy}
-use Rattle.deals.specs.Metrics.{Deal, Metrics, metrics, overNodes}
+use Rattle.deals.specs.Metrics.{Deal, Metrics, metrics, overChildren}
 use Rattle.deals.specs.Dealing.{Child, node, cord, cordAmount}
 use Rattle.deals.specs.SecondDeal.{secondDeal}
 
@@ -23,7 +22,7 @@ unfoldable pub ceilingWithin : Deal → (ℕ → ℕ) → ℕ → ℕ → ℕ
 unfolding sum
 ceilingWithin d ceiling zero n = 0
 ceilingWithin d ceiling (suc steps) n =
-    min (d .limit n) (overNodes d n (ceilingWithin d ceiling steps) + sum (d .cords) (λ c. on (eqb (d .node c) (suc n)) (ceiling c)))
+    min (d .limit n) (overChildren d n (ceilingWithin d ceiling steps) ceiling)
 
 unfoldable pub nodeCeiling : Deal → (ℕ → ℕ) → ℕ → ℕ
 unfolding ceilingWithin

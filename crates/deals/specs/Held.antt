@@ -2,12 +2,12 @@
 -- higher one, in the second deal.
 use mathlib.Core.Bool.{Bool, false, cond, _||_}
 use mathlib.Core.List.{List}
-use Prim.Native.Nat.{ℕ, zero, suc, _+_, _-_}
+use Prim.Native.Nat.{ℕ, zero, suc, _-_}
 use lib.Dec.{eqb, ltb}
 use Rattle.figures.specs.Figures.{figuresFrom, figures, at, cell}
 use Rattle.figures.specs.Sums.{on, sum}
 use Rattle.rooms.specs.Table.{Room}
-use Rattle.deals.specs.Metrics.{Deal, Metrics, metrics, overNodes, overCords}
+use Rattle.deals.specs.Metrics.{Deal, Metrics, atLevel, metrics, overChildren}
 use Rattle.deals.specs.Dealing.{granted}
 use Rattle.deals.specs.SecondDeal.{secondDeal}
 
@@ -15,7 +15,7 @@ use Rattle.deals.specs.SecondDeal.{secondDeal}
 
 -- The Requests at level j of the children of the node at place n, summed; a cord's Request is its want.
 abbrev pub childRequests : Deal → Metrics → ℕ → ℕ → ℕ
-childRequests d f n j = overNodes d n (λ m. cell (f .requests) m j) + overCords d n j (d .want)
+childRequests d f n j = overChildren d n (λ m. cell (f .requests) m j) (atLevel d j (d .want))
 
 -- Whether the node at place n is cut at level j: its Request is less than its children's sum there.
 abbrev pub cutAt : Deal → Metrics → ℕ → ℕ → Bool

@@ -11,9 +11,10 @@ use Rattle.rooms.specs.Limits.{limit, nodeAt, parentOf}
 use Rattle.rooms.specs.Lists.{lowsOf}
 use Rattle.deals.specs.Wants.{firstWants}
 use Rattle.deals.specs.SecondDeal.{firstGrants}
-use Rattle.deals.specs.Ways.{sumBeneath, fromRank}
+use Rattle.deals.specs.Ways.{wattsBeneath, fromRank}
 use Rattle.deals.specs.declared.Verdict.{Verdict}
 use Rattle.deals.specs.declared.Verdict.the-variants.{Passes, BelowLow, AboveWant, OverLimit, Short}
+use Rattle.rooms.specs.Trees.{sumBeneath}
 
 -- ---- Failures
 
@@ -27,12 +28,12 @@ aboveWant r demands grants c = ltb (at (firstWants r demands) c) (at grants c)
 
 -- The grants beneath the node at place n sum to more than its limit.
 abbrev pub overLimit : Room → List ℕ → ℕ → Bool
-overLimit r grants n = ltb (limit (nodeAt r n)) (sumBeneath r n (at grants))
+overLimit r grants n = ltb (limit (nodeAt r n)) (wattsBeneath r n (at grants))
 
 -- The total of a rank and above, beneath the root at place n, is less than by the first deal. (That is the greatest possible:
 -- `FirstGreatest`.)
 abbrev pub shortAt : Room → List ℕ → List ℕ → ℕ → ℕ → Bool
-shortAt r demands grants n rank = ltb (sumBeneath r n (fromRank r rank grants)) (sumBeneath r n (fromRank r rank (firstGrants r demands)))
+shortAt r demands grants n rank = ltb (wattsBeneath r n (fromRank r rank grants)) (wattsBeneath r n (fromRank r rank (firstGrants r demands)))
 
 -- The highest number, up to k, of which a test holds; 0 if there is none.
 unfoldable pub highest : (ℕ → Bool) → ℕ → ℕ

@@ -6,6 +6,7 @@ use lib.ListN.{length, getD}
 use Rattle.figures.specs.Figures.{total, figuresFrom, figures, at, cell, sumOf}
 use Rattle.figures.specs.Sums.{on, sum}
 use Rattle.rooms.specs.Table.{Room, highestRank}
+use Rattle.rooms.specs.Trees.{childSum}
 use Rattle.rooms.specs.Lists.{parentsOf, limitsOf, nodesOf, levelsOf, lowsOf}
 
 -- What a deal goes by: nodes and cords by their places, counted from 0. A parent, and a cord's node, is a node's number:
@@ -49,23 +50,15 @@ atLevel d j figure c = on (eqb (d .level c) j) (figure c)
 
 -- ---- Sums over a node's children: its child nodes, and its own cords
 
--- A figure of the nodes, summed over the child nodes of the node at place n.
-abbrev pub overNodes : Deal → ℕ → (ℕ → ℕ) → ℕ
-overNodes d n figure = sum (d .nodes) (λ m. on (eqb (d .parent m) (suc n)) (figure m))
+-- A figure of the child nodes of the node at place n, and one of the cords that hang on it itself, summed.
+abbrev pub overChildren : Deal → ℕ → (ℕ → ℕ) → (ℕ → ℕ) → ℕ
+overChildren d n ofNode ofCord = childSum (d .nodes) (d .parent) n ofNode + childSum (d .cords) (d .node) n ofCord
 
--- A figure of the cords at a level, summed over the cords that hang on the node at place n itself.
-abbrev pub overCords : Deal → ℕ → ℕ → (ℕ → ℕ) → ℕ
-overCords d n j figure = sum (d .cords) (λ c. on (eqb (d .node c) (suc n)) (atLevel d j figure c))
-
--- The figures at level j of the rows of the nodes from place m on, summed over the child nodes of the node at place n.
-unfoldable pub overRows : Deal → ℕ → ℕ → ℕ → List (List ℕ) → ℕ
-overRows d n j m [] = 0
-overRows d n j m (row ∷ rows) = on (eqb (d .parent m) (suc n)) (at row j) + overRows d n j (suc m) rows
-
--- The children's figures at each level, summed: `rows` are those of the nodes after place n, where its child nodes are.
+-- The children's figures at each level, summed. `rows` are those of the nodes after place n, where its child nodes are: the row of the node
+-- at place m stands at m − (n + 1).
 unfoldable pub childSums : Deal → ℕ → List (List ℕ) → (ℕ → ℕ) → List ℕ
-unfolding figuresFrom sum overRows
-childSums d n rows figure = figures (d .levels) (λ j. overRows d n j (suc n) rows + overCords d n j figure)
+unfolding figuresFrom sum
+childSums d n rows figure = figures (d .levels) (λ j. overChildren d n (λ m. cell rows (m - suc n) j) (atLevel d j figure))
 
 -- ---- Pcapmin and Request
 

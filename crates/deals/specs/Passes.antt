@@ -3,15 +3,16 @@
 use mathlib.Core.Path.{_≡_}
 use mathlib.Core.List.{List}
 use Prim.Native.Nat.{ℕ, suc, _+_, _-_, _*_, _/_, _≤_, _<_, min, max}
-use lib.Dec.{eqb, ltb}
+use lib.Dec.{ltb}
 use lib.ListN.{length}
 use Rattle.figures.specs.Sums.{on, sum}
 use Rattle.rooms.specs.Table.{mostNodes, mostCords, mostWatts, highestRank}
-use Rattle.rooms.specs.Credits.{sumBeneath}
+use Rattle.rooms.specs.Credits.{treeSum}
 use Rattle.figures.specs.Figures.{at, cell}
 use Rattle.splits.specs.Split.{part}
 use Rattle.figures.specs.Places.{Absent, Present, Full}
 use Rattle.deals.specs.Levels.{ActiveNodes}
+use Rattle.rooms.specs.Trees.{ParentsFirst, childSum}
 
 -- The cords of a level, listed by their places, in a room of so many nodes; and for each cord its node's number, its start and its
 -- want.
@@ -28,7 +29,7 @@ pub record LevelCords (nodeCount : ℕ) (listed nodes starts wants : List ℕ) :
 
 -- A figure of the cords, summed over the first i listed ones that hang on the node at place n.
 abbrev pub listedBefore : List ℕ → List ℕ → (ℕ → ℕ) → ℕ → ℕ → ℕ
-listedBefore listed nodes figure n i = sum i (λ h. on (eqb (at nodes (at listed h)) (suc n)) (figure (at listed h)))
+listedBefore listed nodes figure n i = childSum i (λ h. at nodes (at listed h)) n (λ h. figure (at listed h))
 
 -- Over all listed ones.
 abbrev pub overListed : List ℕ → List ℕ → (ℕ → ℕ) → ℕ → ℕ
@@ -46,14 +47,6 @@ pub record CordsSummed (nodeCount : ℕ) (listed nodes starts wants bases wholes
 -- A row for each place of a node, with a figure for each level.
 abbrev pub FullRows : List (List ℕ) → Type 0
 FullRows = Full mostNodes highestRank
-
--- A figure of the nodes, summed over the child nodes of the node at place n that stand before place m.
-abbrev pub childrenBefore : List ℕ → (ℕ → ℕ) → ℕ → ℕ → ℕ
-childrenBefore parents figure n m = sum m (λ h. on (eqb (at parents h) (suc n)) (figure h))
-
--- Over all its child nodes.
-abbrev pub overChildren : List ℕ → (ℕ → ℕ) → ℕ → ℕ
-overChildren parents figure n = childrenBefore parents figure n (length parents)
 
 -- The weight of the node at place m in the split at its parent: its children's weights, cut to what is left of its limit. Where the cut
 -- weights stand in a list, cutting them again changes none.
@@ -77,7 +70,7 @@ pub record WeightsListed (parents active : List ℕ) (count : ℕ) (wholes weigh
 -- no more than the most cords can weigh. On a node that is not active there are none.
 pub record MayWeigh (parents active : List ℕ) (count : ℕ) (left own : List ℕ) (weights-length : ℕ) : Type 0 where
   pub nodes : ActiveNodes parents active count
-  pub rises : (m : ℕ) → m < length parents → at parents m ≤ m
+  pub rises : ParentsFirst (length parents) (at parents)
   pub left-size : length left ≡ length parents
   pub own-fit : (length parents ≤ length own) × (sum (length parents) (at own) ≤ mostCords * mostWatts)
   pub weights-size : length parents ≤ weights-length
@@ -86,7 +79,7 @@ pub record MayWeigh (parents active : List ℕ) (count : ℕ) (left own : List �
 -- From what is left of each limit over the Requests of higher ranks and the starts of this rank and those below, and the weights of the
 -- cords on each node: the children's weights at this rank, the active nodes' weights, and what is left for the next.
 pub record Weighed (parents active : List ℕ) (count : ℕ) (left own left′ wholes weights : List ℕ) : Type 0 where
-  pub children : (n : ℕ) → n < length parents → at wholes n ≡ at own n + overChildren parents (weightOf left wholes) n
+  pub children : (n : ℕ) → n < length parents → at wholes n ≡ at own n + childSum (length parents) (at parents) n (weightOf left wholes)
   pub left-is : (n : ℕ) → n < length parents → at left′ n ≡ at left n - at wholes n
   pub weights-are : (n : ℕ) → n < length parents → weightOf weights wholes n ≡ weightOf left wholes n
   pub listed : WeightsListed parents active count wholes weights
@@ -98,7 +91,7 @@ pub record MayRequest (parents active : List ℕ) (count level : ℕ) (left cuts
   pub ranked : level < highestRank
   pub cuts-size : length cuts ≡ length parents
   pub starts-fit : (length parents ≤ length starts) × (sum (length parents) (at starts) ≤ mostCords * mostWatts)
-  pub enough : (n : ℕ) → n < length parents → sumBeneath (at parents) (length parents) (at starts) n + at left n ≤ mostWatts
+  pub enough : (n : ℕ) → n < length parents → treeSum (at parents) (length parents) (at starts) n + at left n ≤ mostWatts
   pub idle : (n : ℕ) → n < length parents → Absent active count n → (at starts n ≡ 0) × (cell rows n level ≡ 0)
   pub full : FullRows rows
 
@@ -107,7 +100,7 @@ pub record MayRequest (parents active : List ℕ) (count level : ℕ) (left cuts
 pub record Requested (parents : List ℕ) (level : ℕ) (left wholes cuts starts : List ℕ) (rows : List (List ℕ))
     (cuts′ starts′ : List ℕ) (rows′ : List (List ℕ)) : Type 0 where
   pub request : (n : ℕ) → n < length parents
-      → cell rows′ n level ≡ sumBeneath (at parents) (length parents) (at starts) n + weightOf left wholes n
+      → cell rows′ n level ≡ treeSum (at parents) (length parents) (at starts) n + weightOf left wholes n
   pub others : (n j : ℕ) → (j ≡ level → ⊥) → cell rows′ n j ≡ cell rows n j
   pub cuts-are : (n : ℕ) → n < length parents → at cuts′ n ≡ cutMark (at cuts n) level (weightOf left wholes n) (at wholes n)
   pub cleared : (n : ℕ) → n < length parents → at starts′ n ≡ 0
@@ -117,9 +110,9 @@ pub record Requested (parents : List ℕ) (level : ℕ) (left wholes cuts starts
 pub record NodesDealt (parents active : List ℕ) (count : ℕ) (weight : ℕ → ℕ) (wholes amounts before dealt : List ℕ) : Type 0 where
   pub root : (m : ℕ) → m < length parents → Present active count m → at parents m ≡ 0 → at amounts m ≡ weight m
   pub inner : (m n : ℕ) → m < length parents → Present active count m → at parents m ≡ suc n
-      → at amounts m ≡ part (at amounts n) (at wholes n) (childrenBefore parents weight n m) (weight m)
+      → at amounts m ≡ part (at amounts n) (at wholes n) (childSum m (at parents) n weight) (weight m)
   pub most : (m : ℕ) → m < length parents → Present active count m → at amounts m ≤ weight m
-  pub served : (n : ℕ) → n < length parents → Present active count n → at before n ≡ overChildren parents weight n
+  pub served : (n : ℕ) → n < length parents → Present active count n → at before n ≡ childSum (length parents) (at parents) n weight
   pub dealt-is : (n : ℕ) → n < length parents → Present active count n → at dealt n ≡ at amounts n * at before n / at wholes n
 
 -- The grants after a rank: a listed cord has its start and its part of its node's amount, every other what it had.

@@ -9,7 +9,8 @@ use Prim.Native.Nat.{ℕ, suc, _+_, _-_, _≤_, _<_}
 use lib.ListN.{length}
 use Rattle.rooms.specs.Part.{good, Good}
 use Rattle.rooms.specs.Table.{Room, highestRank, roomCords, table}
-use Rattle.rooms.specs.Limits.{limit, nodeAt, beneath, checked}
+use Rattle.rooms.specs.Trees.{beneath}
+use Rattle.rooms.specs.Limits.{limit, nodeAt, checked}
 use Rattle.rooms.specs.Promises.{IsNode, Overloaded}
 use Rattle.rooms.specs.Versions.{secondVersion, thirdVersion}
 use Rattle.figures.specs.Figures.{total, at, cell, sumOf}
@@ -23,7 +24,7 @@ use Rattle.deals.specs.Headroom.{ceilingsOf, headroom, rootHeadroom}
 use Rattle.deals.specs.Held.{cutFrom, held}
 use Rattle.outcomes.specs.Outcome.{accepted}
 use Rattle.deals.specs.Plan.{Plan, plan, answerOf, planNumber, planFigure}
-use Rattle.deals.specs.Ways.{Root, Way, cordBeneath, sumBeneath, fromRank}
+use Rattle.deals.specs.Ways.{Root, Way, cordBeneath, wattsBeneath, fromRank}
 use Rattle.deals.specs.declared.Lengths.{Lengths}
 use Rattle.deals.specs.Judge.{verdict}
 use Rattle.deals.specs.declared.Planned.{Planned}
@@ -90,7 +91,7 @@ FirstByExcess = (p : AcceptedPlan) → DealtByExcess (firstDeal (p .room) (p .de
 pub record Kept (r : Room) (wants grants : List ℕ) : Type 0 where
   pub least : (c : ℕ) → c < roomCords r → at (lowsOf r) c ≤ at grants c
   pub most : (c : ℕ) → c < roomCords r → at grants c ≤ at wants c
-  pub within : (n : ℕ) → n < length (r .nodes) → sumBeneath r n (at grants) ≤ limit (nodeAt r n)
+  pub within : (n : ℕ) → n < length (r .nodes) → wattsBeneath r n (at grants) ≤ limit (nodeAt r n)
 
 abbrev pub FirstKept : Type 0
 FirstKept =
@@ -105,7 +106,7 @@ SecondKept = (p : AcceptedPlan) → Kept (p .room) (secondWants (p .room) (p .de
 abbrev pub Greatest : Room → List ℕ → List ℕ → Type 0
 Greatest r wants ours =
     (root : ℕ) → Root r root → (rank : ℕ) (watts : List ℕ) → Way r root wants watts
-    → sumBeneath r root (fromRank r rank watts) ≤ sumBeneath r root (fromRank r rank ours)
+    → wattsBeneath r root (fromRank r rank watts) ≤ wattsBeneath r root (fromRank r rank ours)
 
 abbrev pub FirstGreatest : Type 0
 FirstGreatest =
@@ -157,7 +158,7 @@ RefusalNine =
 abbrev pub HeadroomWithinLimits : Type 0
 HeadroomWithinLimits =
     (p : AcceptedPlan) (n : ℕ) → n < length (p .room .nodes)
-    → sumBeneath (p .room) n (λ c. at (p .answer .grants) c + at (p .answer .headroom) c) ≤ limit (nodeAt (p .room) n)
+    → wattsBeneath (p .room) n (λ c. at (p .answer .grants) c + at (p .answer .headroom) c) ≤ limit (nodeAt (p .room) n)
 
 -- No cord's grant and headroom pass its ceiling.
 abbrev pub HeadroomWithinCeilings : Type 0
@@ -169,7 +170,7 @@ HeadroomWithinCeilings =
 abbrev pub HeadroomAllLent : Type 0
 HeadroomAllLent =
     (p : AcceptedPlan) (root : ℕ) → Root (p .room) root
-    → sumBeneath (p .room) root (at (p .answer .headroom)) ≡ rootHeadroom (p .room) (p .demands) root
+    → wattsBeneath (p .room) root (at (p .answer .headroom)) ≡ rootHeadroom (p .room) (p .demands) root
 
 -- (Demand 3 and A.2 speak of grants, usable watts and caps alone, and no definition of these has headroom in it. So a cord's headroom may
 -- follow the demands of lower ranks; grants and caps still may not.)
@@ -233,7 +234,7 @@ EightyThroughout = (w : List ℕ) → at w 0 ≡ 1 → Good (table w 0) → Equa
 pub record HoldsDown (r : Room) (grants : List ℕ) (c n : ℕ) : Type 0 where
   pub node : IsNode r n
   pub above : cordBeneath r (n - 1) c ≡ true
-  pub full : sumBeneath r (n - 1) (at grants) ≡ limit (nodeAt r (n - 1))
+  pub full : wattsBeneath r (n - 1) (at grants) ≡ limit (nodeAt r (n - 1))
   pub lower : (h : ℕ) → h < roomCords r → cordBeneath r (n - 1) h ≡ true → rankOf r h < rankOf r c → at grants h ≡ at (lowsOf r) h
 
 -- Every cord with less than its second want has a node named, and that node holds it down.
@@ -270,18 +271,18 @@ abbrev pub WantsKept : List ℕ → List ℕ → ℕ → Type 0
 WantsKept wants grants upto = (c : ℕ) → c < upto → at grants c ≤ at wants c
 
 abbrev pub LimitsKept : Room → List ℕ → ℕ → Type 0
-LimitsKept r grants upto = (n : ℕ) → n < upto → sumBeneath r n (at grants) ≤ limit (nodeAt r n)
+LimitsKept r grants upto = (n : ℕ) → n < upto → wattsBeneath r n (at grants) ≤ limit (nodeAt r n)
 
 -- No way of dealing the tree of the root at place n gives its cords of a rank and above more than the list does.
 abbrev pub Unbeaten : Room → List ℕ → List ℕ → ℕ → ℕ → Type 0
 Unbeaten r wants grants n rank =
-    (watts : List ℕ) → Way r n wants watts → sumBeneath r n (fromRank r rank watts) ≤ sumBeneath r n (fromRank r rank grants)
+    (watts : List ℕ) → Way r n wants watts → wattsBeneath r n (fromRank r rank watts) ≤ wattsBeneath r n (fromRank r rank grants)
 
 -- Some way does: the tree is short at that rank.
 pub record Beaten (r : Room) (wants grants : List ℕ) (n rank : ℕ) : Type 0 where
   pub watts : List ℕ
   pub way : Way r n wants watts
-  pub more : sumBeneath r n (fromRank r rank grants) < sumBeneath r n (fromRank r rank watts)
+  pub more : wattsBeneath r n (fromRank r rank grants) < wattsBeneath r n (fromRank r rank watts)
 
 -- The cord at place c is the lowest below its low.
 pub record LowestBelow (r : Room) (grants : List ℕ) (c : ℕ) : Type 0 where
@@ -303,7 +304,7 @@ pub record LowestOver (r : Room) (wants grants : List ℕ) (number : ℕ) : Type
   pub place : ℕ
   pub numbered : number ≡ suc place
   pub node : place < length (r .nodes)
-  pub over : limit (nodeAt r place) < sumBeneath r place (at grants)
+  pub over : limit (nodeAt r place) < wattsBeneath r place (at grants)
   pub lower : LimitsKept r grants place
 
 -- Cords and limits are kept, and the node of this number is the lowest root whose tree is short, with the highest such rank.

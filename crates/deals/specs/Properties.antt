@@ -5,17 +5,18 @@ use mathlib.Core.Path.{_≡_}
 use mathlib.Core.Bool.{true, false}
 use mathlib.Core.List.{List, [], map}
 use Prim.Native.Nat.{ℕ, suc, _+_, _*_, _-_, _≤_, _<_, _^_, min}
-use lib.Dec.{eqb, leb}
+use lib.Dec.{leb}
 use lib.ListN.{length, getD, take, drop}
 use Rattle.rooms.specs.Part.{good}
 use Rattle.rooms.specs.Table.{Room, mostWatts, mostCords, roomCords}
-use Rattle.rooms.specs.Limits.{beneath, checked}
+use Rattle.rooms.specs.Trees.{beneath}
+use Rattle.rooms.specs.Limits.{checked}
 use Rattle.figures.specs.Figures.{total, at, cell, sumOf}
 use Rattle.figures.specs.Sums.{on, sum}
 use Rattle.rooms.specs.Cords.{serverAt}
 use Rattle.deals.specs.Wants.{needs, firstWants}
 use Rattle.rooms.specs.Lists.{carriedBy, lowsOf}
-use Rattle.deals.specs.Metrics.{Deal, atLevel, metrics, excess, cordExcess, overNodes, overCords, childSums}
+use Rattle.deals.specs.Metrics.{Deal, atLevel, metrics, excess, cordExcess, overChildren, childSums}
 use Rattle.deals.specs.Dealing.{Child, node, cord, children, nodeOver, cordOver, weightSum, partOf, nodeAmount, amount, reached, granted}
 use Rattle.deals.specs.SecondDeal.{firstDeal, firstGrants, firstUsable, firstUsed, freed, secondDeal, secondWants}
 use Rattle.deals.specs.Held.{cutFrom}
@@ -35,7 +36,7 @@ SecondWantsInRange =
 -- excess in the first deal, and its excess less what it was passed first in the second.
 pub record GivesAll (d : Deal) : Type 0 where
   pub all : (n j : ℕ) → n < d .nodes → j < d .levels
-      → overNodes d n (λ m. amount d (metrics d) (suc m) m j) + overCords d n j (reached d (metrics d))
+      → overChildren d n (λ m. amount d (metrics d) (suc m) m j) (atLevel d j (reached d (metrics d)))
       ≡ amount d (metrics d) (suc n) n j
   pub toNode : (m j : ℕ) → m < d .nodes → j < d .levels → amount d (metrics d) (suc m) m j ≤ nodeOver (metrics d) m j
   pub toCord : (c : ℕ) → c < d .cords → reached d (metrics d) c ≤ cordOver d c
@@ -72,7 +73,7 @@ TotalsOf d =
     (n j : ℕ) → n < d .nodes → j ≤ d .levels
     → requestTotal d n j
     ≡ min (d .limit n - pcapminBelow d n j)
-    (overNodes d n (λ m. requestTotal d m j) + sum (d .cords) (λ c. on (eqb (d .node c) (suc n)) (fromLevel d j (d .want) c)))
+    (overChildren d n (λ m. requestTotal d m j) (fromLevel d j (d .want)))
 
 -- Where the table is accepted, both deals are such, whatever the demands.
 abbrev pub Totals : Type 0
@@ -148,7 +149,7 @@ pub record HeadroomBounded (d : Deal) (ceiling : ℕ → ℕ) : Type 0 where
   pub limits : (n : ℕ) → n < d .nodes → nodeCeiling d ceiling n ≤ d .limit n
   pub requests : (n : ℕ) → n < d .nodes → requestsAt (metrics d) n ≤ nodeCeiling d ceiling n
   pub children : (n : ℕ) → n < d .nodes
-      → overNodes d n (nodeCeiling d ceiling) + sum (d .cords) (λ c. on (eqb (d .node c) (suc n)) (ceiling c)) ≤ mostSum
+      → overChildren d n (nodeCeiling d ceiling) ceiling ≤ mostSum
   pub enough : (n : ℕ) → n < d .nodes → headroomWeight d (metrics d) ceiling (node n) ≤ headroomWeights d ceiling n
   pub weights : (n : ℕ) → n < d .nodes → headroomWeights d ceiling n ≤ mostSum
   pub amounts : (n : ℕ) → n < d .nodes → headroomAt d ceiling n ≤ headroomWeight d (metrics d) ceiling (node n)

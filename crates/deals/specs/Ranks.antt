@@ -4,9 +4,8 @@ use mathlib.Core.List.{List}
 use Prim.Native.Nat.{ℕ, _+_, _≤_, _<_}
 use lib.Dec.{ltb}
 use lib.ListN.{length}
-use Rattle.figures.specs.Sums.{on, sum}
 use Rattle.rooms.specs.Table.{mostNodes, mostCords, mostWatts, highestRank}
-use Rattle.rooms.specs.Limits.{beneath}
+use Rattle.rooms.specs.Trees.{ParentsFirst, sumBeneath}
 use Rattle.figures.specs.Figures.{at, cell}
 use Rattle.deals.specs.Metrics.{Deal, dealFrom, metrics}
 use Rattle.deals.specs.Dealing.{granted}
@@ -19,7 +18,7 @@ use Rattle.deals.specs.Levels.{LevelLists}
 pub record NodeLists (parents limits : List ℕ) : Type 0 where
   pub few : length parents ≤ mostNodes
   pub limits-size : length limits ≡ length parents
-  pub rises : (m : ℕ) → m < length parents → at parents m ≤ m
+  pub rises : ParentsFirst (length parents) (at parents)
   pub most : (m : ℕ) → m < length parents → at limits m ≤ mostWatts
 
 -- The cords of a room of so many nodes: for each its node's number, its level (rank − 1), its low, its start and its want.
@@ -37,15 +36,15 @@ pub record CordLists (nodeCount : ℕ) (nodes levels lows starts wants : List �
   pub most : (c : ℕ) → c < length nodes → at wants c ≤ mostWatts
 
 -- The watts of all cords beneath the node at place n, at any depth: of the lows, rooms' `lowsBeneath`, over lists.
-abbrev pub wattsUnder : List ℕ → List ℕ → List ℕ → ℕ → ℕ
-wattsUnder parents nodes watts n = sum (length nodes) (λ c. on (beneath (at parents) (length parents) n (at nodes c)) (at watts c))
+abbrev pub listBeneath : List ℕ → List ℕ → List ℕ → ℕ → ℕ
+listBeneath parents nodes watts n = sumBeneath (length parents) (at parents) (length nodes) (at nodes) n (at watts)
 
 -- Lists of which a deal can be made: no node has a limit that the lows beneath it exceed, nor at any rank a Request that the starts
 -- beneath it exceed, and the Requests of any rank and above leave the lower ranks their starts.
 pub record DealLists (parents limits nodes levels lows starts wants : List ℕ) : Type 0 where
   pub of-nodes : NodeLists parents limits
   pub of-cords : CordLists (length parents) nodes levels lows starts wants
-  pub lows-within : (n : ℕ) → n < length parents → wattsUnder parents nodes lows n ≤ at limits n
+  pub lows-within : (n : ℕ) → n < length parents → listBeneath parents nodes lows n ≤ at limits n
   pub starts-within : (n j : ℕ) → n < length parents → j < highestRank
       → cell (metrics (dealFrom parents limits nodes levels lows starts wants) .starts) n j
       ≤ cell (metrics (dealFrom parents limits nodes levels lows starts wants) .requests) n j
@@ -54,7 +53,7 @@ pub record DealLists (parents limits nodes levels lows starts wants : List ℕ) 
 -- What each node's limit has over the watts of the cords beneath it.
 pub record Spare (parents limits nodes watts spare : List ℕ) : Type 0 where
   pub size : length spare ≡ length parents
-  pub over : (n : ℕ) → n < length parents → at spare n + wattsUnder parents nodes watts n ≡ at limits n
+  pub over : (n : ℕ) → n < length parents → at spare n + listBeneath parents nodes watts n ≡ at limits n
 
 -- The lists are those of a deal by these limits, levels and lows; `rows`, `order` and `actives` are what `levels` makes of the levels,
 -- and `spare` is what the limits have over the starts.
@@ -71,11 +70,6 @@ pub record SomeDeal (parents : List ℕ) (rows : List (List ℕ)) (order : List 
   pub levels : List ℕ
   pub lows : List ℕ
   pub given : DealGiven parents rows order actives nodes starts wants spare limits levels lows
-
--- No node is marked as cut.
-pub record Uncut (nodeCount : ℕ) (cuts : List ℕ) : Type 0 where
-  pub size : length cuts ≡ nodeCount
-  pub none : (n : ℕ) → n < nodeCount → at cuts n ≡ 0
 
 -- A deal is made: its grants, what each limit has over the Requests, and for each node the highest rank at which it is cut, 0 if there is
 -- none (a rank is its level + 1).

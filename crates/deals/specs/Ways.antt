@@ -5,8 +5,9 @@ use mathlib.Core.List.{List}
 use Prim.Native.Nat.{ℕ, suc, _≤_, _<_}
 use lib.Dec.{leb}
 use lib.ListN.{length}
-use Rattle.figures.specs.Sums.{on, sum}
+use Rattle.figures.specs.Sums.{on}
 use Rattle.rooms.specs.Table.{Room, roomCords}
+use Rattle.rooms.specs.Trees.{sumBeneath}
 use Rattle.rooms.specs.Limits.{limit, nodeAt, parentOf, hangsBeneath}
 use Rattle.figures.specs.Figures.{at}
 use Rattle.rooms.specs.Cords.{cordAt, rankOf}
@@ -25,9 +26,9 @@ cordBeneath r n c = hangsBeneath r n (cordAt r c .node)
 abbrev pub nodeBeneath : Room → ℕ → ℕ → Bool
 nodeBeneath r n m = hangsBeneath r n (suc m)
 
--- A figure, summed over all cords beneath the node at place n, at any depth.
-unfoldable pub sumBeneath : Room → ℕ → (ℕ → ℕ) → ℕ
-sumBeneath r n figure = sum (roomCords r) (λ c. on (cordBeneath r n c) (figure c))
+-- The watts of all cords beneath the node at place n, at any depth, summed.
+abbrev pub wattsBeneath : Room → ℕ → (ℕ → ℕ) → ℕ
+wattsBeneath r n watts = sumBeneath (length (r .nodes)) (parentOf r) (roomCords r) (λ c. cordAt r c .node) n watts
 
 -- The figures of the cords of a rank and above; 0 for the others.
 abbrev pub fromRank : Room → ℕ → List ℕ → ℕ → ℕ
@@ -39,4 +40,4 @@ fromRank r rank watts c = on (leb rank (rankOf r c)) (at watts c)
 pub record Way (r : Room) (root : ℕ) (wants watts : List ℕ) : Type 0 where
   pub least : (c : ℕ) → c < roomCords r → cordBeneath r root c ≡ true → at (lowsOf r) c ≤ at watts c
   pub most : (c : ℕ) → c < roomCords r → cordBeneath r root c ≡ true → at watts c ≤ at wants c
-  pub within : (n : ℕ) → n < length (r .nodes) → nodeBeneath r root n ≡ true → sumBeneath r n (at watts) ≤ limit (nodeAt r n)
+  pub within : (n : ℕ) → n < length (r .nodes) → nodeBeneath r root n ≡ true → wattsBeneath r n (at watts) ≤ limit (nodeAt r n)

@@ -5,7 +5,8 @@ ghost use mathlib.Core.List.{List};
 ghost use Prim.Native.Nat.{ℕ};
 ghost use lib.ListN.{length};
 ghost use Rattle.deals.specs.Metrics.{dealFrom};
-ghost use Rattle.deals.specs.Ranks.{SomeDeal, DealGiven, DealMade, Uncut};
+ghost use Rattle.deals.specs.Ranks.{SomeDeal, DealGiven, DealMade};
+ghost use Rattle.figures.specs.Places.{Zeros};
 use crate::dealing::deal_cords;
 use crate::dealing::deal_nodes;
 use crate::levels::COUNT;
@@ -39,7 +40,7 @@ pub fn deal(
     grants: &mut [u32],
 )
     requires lists { ⌜ SomeDeal (now parents) (now levels) (now order) (now actives) (now nodes) (now starts) (now wants) (now left)
-        × Uncut (length (now parents)) (now cuts) × (length (now grants) ≡ length (now nodes)) ⌝ }
+        × Zeros (length (now parents)) (now cuts) × (length (now grants) ≡ length (now nodes)) ⌝ }
     ensures dealt { λ _. ⌜ ((limits ranks lows : List ℕ) → DealGiven (now (parents .entry)) (now (levels .entry)) (now (order .entry))
         (now (actives .entry)) (now (nodes .entry)) (now (starts .entry)) (now (wants .entry)) (now (left .entry)) limits ranks lows
         → DealMade (dealFrom (now (parents .entry)) limits (now (nodes .entry)) ranks lows (now (starts .entry)) (now (wants .entry)))

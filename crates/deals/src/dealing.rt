@@ -4,7 +4,8 @@ ghost use Prim.Native.Nat.{ℕ, suc, _+_, _*_, _/_, _≤_, _<_};
 ghost use lib.ListN.{length};
 ghost use Rattle.rooms.specs.Table.{mostWatts, mostCords};
 ghost use Rattle.figures.specs.Figures.{at};
-ghost use Rattle.deals.specs.Passes.{LevelCords, WeightsListed, weightOf, overChildren, overListed, cordWeight, NodesDealt, CordsDealt};
+ghost use Rattle.deals.specs.Passes.{LevelCords, WeightsListed, weightOf, overListed, cordWeight, NodesDealt, CordsDealt};
+ghost use Rattle.rooms.specs.Trees.{ParentsFirst, childSum};
 use figures::index;
 use figures::wide;
 use splits::serve;
@@ -22,10 +23,11 @@ pub fn deal_nodes(
     dealt: &mut [u32],
 )
     requires nodes { ⌜ (length (now parents) ≤ length (now before)) × (length (now dealt) ≡ length (now before))
-        × ((m : ℕ) → m < length (now parents) → at (now parents) m ≤ m) ⌝ }
+        × ParentsFirst (length (now parents)) (at (now parents)) ⌝ }
     requires weights { ⌜ WeightsListed (now parents) (now active) count (now wholes) (now amounts) ⌝ }
     requires in_range { ⌜ ((n : ℕ) → n < length (now parents) → (weightOf (now amounts) (now wholes) n ≤ mostWatts)
-        × (at (now wholes) n ≤ mostCords * mostWatts) × (overChildren (now parents) (weightOf (now amounts) (now wholes)) n ≤ at (now wholes) n)) ⌝ }
+        × (at (now wholes) n ≤ mostCords * mostWatts)
+        × (childSum (length (now parents)) (at (now parents)) n (weightOf (now amounts) (now wholes)) ≤ at (now wholes) n)) ⌝ }
     ensures nodes_dealt { λ _. ⌜ NodesDealt (now (parents .entry)) (now (active .entry)) count (weightOf (now (amounts .entry)) (now (wholes .entry)))
         (now (wholes .entry)) (now (amounts .exit)) (now (before .exit)) (now (dealt .exit)) ⌝ }
 {

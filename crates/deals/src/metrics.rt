@@ -10,6 +10,7 @@ ghost use Rattle.deals.specs.Passes.{LevelCords, overListed, cordWeight,
 ghost use Rattle.deals.specs.Passes.{MayWeigh, Weighed, MayRequest, Requested};
 ghost use Rattle.figures.specs.Places.{Absent};
 ghost use Rattle.deals.specs.Levels.{ActiveNodes};
+ghost use Rattle.rooms.specs.Trees.{ParentsFirst};
 use figures::credit;
 use figures::index;
 use figures::least;
@@ -96,7 +97,7 @@ pub fn weigh(
     wholes: &mut [u64],
     weights: &mut [u32],
 )
-    requires nodes { ⌜ ActiveNodes (now parents) (now active) count × ((m : ℕ) → m < length (now parents) → at (now parents) m ≤ m) ⌝ }
+    requires nodes { ⌜ ActiveNodes (now parents) (now active) count × ParentsFirst (length (now parents)) (at (now parents)) ⌝ }
     requires sizes { ⌜ (length (now left) ≡ length (now parents)) × (length (now parents) ≤ length (now wholes))
         × (length (now parents) ≤ length (now weights)) ⌝ }
     requires sums_fit { ⌜ sum (length (now parents)) (at (now wholes)) ≤ mostCords * mostWatts ⌝ }

@@ -10,7 +10,7 @@ use lib.Seq.{getD-set-same, getD-set-other, length-take-le}
 use borrow.Author.Tests.{eqb-true, eqb-false}
 use Rattle.figures.specs.Figures.{at, cell}
 use Rattle.figures.proofs.Filled.{zeros-at}
-use Rattle.figures.specs.Places.{Full}
+use Rattle.figures.specs.Places.{Full, ZeroRows}
 
 -- The rows after a figure is stored at place i of the row at place k.
 module _ (rows : List (List ℕ)) (k i v : ℕ) where
@@ -68,3 +68,6 @@ rows-at row z (suc k) (suc n) j = rows-at row z k n j
 pub zeros-cells : (k m n j : ℕ) → cell (replicate k (replicate m 0)) n j ≡ 0
 unfolding zeros
 zeros-cells k m n j = rows-at (zeros m) (zeros-at m) k n j
+
+pub zeroRows : (k n : ℕ) → ZeroRows k n (replicate k (replicate n 0))
+zeroRows k n = record { full = zeros-rows k n; none = zeros-cells k n }

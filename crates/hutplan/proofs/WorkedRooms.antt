@@ -9,7 +9,8 @@ use Rattle.numbers.specs.Sheet.{sheetFrom}
 use Rattle.rooms.specs.Part.{Step, good, bad, follow, word, ensure, end, many}
 use Rattle.figures.specs.Figures.{total}
 use Rattle.rooms.specs.Table.{Room, formOf, percent, node, cord, range, load, server, table}
-use Rattle.rooms.specs.Limits.{beneath, serverLows, lows, firstNode, overloaded, checked}
+use Rattle.rooms.specs.Trees.{beneath}
+use Rattle.rooms.specs.Limits.{serverLows, lows, firstNode, overloaded, checked}
 use Rattle.rooms.specs.Outcome.{SheetOutcome, reading, answerOf, answerNumber, answerFigure}
 use Rattle.deals.specs.SecondDeal.{firstGrants, firstUsable}
 use Rattle.outcomes.specs.Outcome.{after}

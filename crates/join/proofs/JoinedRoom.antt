@@ -17,11 +17,12 @@ use Rattle.rooms.proofs.Accepted.{Accepted}
 use Rattle.deals.proofs.BothDeals.{parents-below, cord-facts}
 use Rattle.deals.proofs.RoomInside.{RoomInside}
 use Rattle.join.specs.Joined.{raisedNode, raisedCord, raisedServer, joined}
+use Rattle.rooms.specs.Trees.{ParentsFirst}
 
 -- ---- What a room's links keep, whatever its figures
 
 pub record Linked (r : Room) : Type 0 where
-  pub rises : (m : ℕ) → m < length (r .nodes) → parentOf r m ≤ m
+  pub rises : ParentsFirst (length (r .nodes)) (parentOf r)
   pub here : (c : ℕ) → c < roomCords r → cordAt r c .node ≤ length (r .nodes)
   pub served : (c : ℕ) → c < roomCords r → cordAt r c .server < length (r .servers)
 

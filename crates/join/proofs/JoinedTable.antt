@@ -19,18 +19,19 @@ use Rattle.rooms.specs.Promises.{IsNode, Within}
 use Rattle.rooms.proofs.All.{All}
 use Rattle.rooms.proofs.Accepted.{CordAccepted, ServerAccepted, Accepted}
 use Rattle.rooms.proofs.Cords.{lows-sum}
-use Rattle.rooms.proofs.Trees.{kids, own, below, below-step, under, under-is, kids-cong, down}
+use Rattle.rooms.proofs.Trees.{sumBeneath-step, sumBeneath-unique}
 use Rattle.rooms.specs.Words.{tableOf, NodeInRange}
 use Rattle.rooms.proofs.Tables.{Chain, RoomFits, table-reads}
 use Rattle.rooms.proofs.Words.{servers-fit}
 use Rattle.rooms.proofs.Promises.{refusal-nine}
 use Rattle.deals.specs.Metrics.{Deal}
-use Rattle.deals.proofs.Requests.{sumBelow}
+use Rattle.deals.proofs.Requests.{dealBeneath}
 use Rattle.deals.proofs.BothDeals.{parents-below, cord-facts}
-use Rattle.deals.proofs.Inside.{Inside, kids-in, own-in}
+use Rattle.deals.proofs.Inside.{Inside, childNodes-in, childCords-in}
 use Rattle.deals.proofs.RoomInside.{RoomInside}
 use Rattle.join.specs.Joined.{raisedNode, raisedCord, raisedServer, joined}
 use Rattle.join.proofs.JoinedRoom.{Linked, accepted-facts, Side, before, behind, side, nodes-joined, servers-joined, cords-count, first-inside, second-inside}
+use Rattle.rooms.specs.Trees.{sumBeneath, ParentsFirst}
 
 -- ---- Figures in range
 
@@ -131,18 +132,9 @@ plain r = record {
   levels = 1;
 }
 
-plain-lows : (r : Room) (n : ℕ) → sumBelow (plain r) n (plain r .low) ≡ lowsBeneath r n
-unfolding under
+plain-lows : (r : Room) (n : ℕ) → dealBeneath (plain r) n (plain r .low) ≡ lowsBeneath r n
+unfolding sumBeneath
 plain-lows r n = sym (lows-sum r (hangsBeneath r n))
-
--- Whatever adds up like the cords beneath a node is their sum.
-below-unique : (count : ℕ) (parent : ℕ → ℕ) → ((m : ℕ) → m < count → parent m ≤ m) → (cords : ℕ) (node : ℕ → ℕ) → ((c : ℕ) → c < cords → node c ≤ count)
-    → (w g : ℕ → ℕ) → ((n : ℕ) → n < count → g n ≡ own cords node n w + kids count parent n g) → (n : ℕ) → n < count → g n ≡ below count parent cords node n w
-below-unique count parent rises cords node here w g e =
-    down count (λ n. g n ≡ below count parent cords node n w) (λ n l ih.
-    e n l
-    ∙ ap (λ (z : ℕ). own cords node n w + z) (kids-cong count parent n g (λ m. below count parent cords node m w) (λ m lm q. ih m lm (subst (λ (z : ℕ). z ≤ m) q (rises m lm))))
-    ∙ sym (below-step count parent rises cords node here n w))
 
 module _ (r q : Room) (a b v : ℕ) (ins : RoomInside r q a b v) (facts : Linked r) (other : Linked q) where
   low-in : (c : ℕ) → c < roomCords r → plain q .low (c + b) ≡ plain r .low c
@@ -167,20 +159,17 @@ module _ (r q : Room) (a b v : ℕ) (ins : RoomInside r q a b v) (facts : Linked
   }
 
   pub lowsBeneath-in : (n : ℕ) → n < length (r .nodes) → lowsBeneath q (n + a) ≡ lowsBeneath r n
-  unfolding own
   lowsBeneath-in n l =
       sym (plain-lows q (n + a))
-      ∙ under-is (length (q .nodes)) (parentOf q) (other .rises) (roomCords q) (λ c. cordAt q c .node) (other .here) (n + a) (plain q .low)
-      ∙ below-unique (length (r .nodes)) (parentOf r) (facts .rises) (roomCords r) (λ c. cordAt r c .node) (facts .here) (plain r .low) (λ n. sums (n + a)) (λ n l.
-      below-step (length (q .nodes)) (parentOf q) (other .rises) (roomCords q) (λ c. cordAt q c .node) (other .here) (n + a) (plain q .low)
+      ∙ sumBeneath-unique (length (r .nodes)) (parentOf r) (facts .rises) (roomCords r) (λ c. cordAt r c .node) (facts .here) (plain r .low) (λ n. sums (n + a)) (λ n l.
+      sumBeneath-step (length (q .nodes)) (parentOf q) (other .rises) (roomCords q) (λ c. cordAt q c .node) (other .here) (n + a) (plain q .low)
       ∙ ap₂ _+_
-      (own-in (plain r) (plain q) a b 0 plain-inside n l (plain q .low) ∙ sum-cong (roomCords r) _ _ (λ c lc. ap (λ (e : ℕ). on (eqb (cordAt r c .node) (suc n)) e) (low-in c lc)))
-      (kids-in (plain r) (plain q) a b 0 plain-inside n l sums)) n l
-      ∙ sym (under-is (length (r .nodes)) (parentOf r) (facts .rises) (roomCords r) (λ c. cordAt r c .node) (facts .here) n (plain r .low))
+      (childCords-in (plain r) (plain q) a b 0 plain-inside n l (plain q .low) ∙ sum-cong (roomCords r) _ _ (λ c lc. ap (λ (e : ℕ). on (eqb (cordAt r c .node) (suc n)) e) (low-in c lc)))
+      (childNodes-in (plain r) (plain q) a b 0 plain-inside n l sums)) n l
       ∙ plain-lows r n
     where
       sums : ℕ → ℕ
-      sums n = below (length (q .nodes)) (parentOf q) (roomCords q) (λ c. cordAt q c .node) n (plain q .low)
+      sums n = dealBeneath (plain q) n (plain q .low)
 
 -- ---- The joined room
 
@@ -215,7 +204,7 @@ module _ (version : ℕ) (r q : Room) (fr : RoomFits version r) (fq : RoomFits v
     servers = servers-fit (r .scale) (length (whole .nodes)) (whole .servers) 0 (omega (arith, cords-count r q, may .cords)) joined-servers;
   }
 
-  parents-joined : (m : ℕ) → m < length (whole .nodes) → parentOf whole m ≤ m
+  parents-joined : ParentsFirst (length (whole .nodes)) (parentOf whole)
   parents-joined m l = go (side (length (r .nodes)) m)
     where
       go : Side (length (r .nodes)) m → parentOf whole m ≤ m

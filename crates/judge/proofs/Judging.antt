@@ -12,24 +12,24 @@ use Rattle.figures.specs.Sums.{on, sum}
 use Rattle.figures.proofs.Columns.{column-at}
 use Rattle.figures.proofs.Sums.{on-yes, on-add, sum-cong, sum-add}
 use Rattle.rooms.specs.Table.{Room, mostWatts, highestRank, roomCords}
-use Rattle.rooms.specs.Limits.{limit, nodeAt, parentOf, beneath, lowsBeneath, firstNode}
+use Rattle.rooms.specs.Trees.{beneath, sumBeneath, childSum}
+use Rattle.rooms.specs.Limits.{limit, nodeAt, parentOf, lowsBeneath, firstNode}
 use Rattle.rooms.specs.Lists.{limitsOf, levelsOf, lowsOf}
 use Rattle.rooms.specs.Rows.{nodeColumn, levelColumn}
 use Rattle.rooms.specs.Credits as credits
 use Rattle.rooms.proofs.Accepted.{Accepted}
-use Rattle.rooms.proofs.Credits.{sumBeneath-step}
+use Rattle.rooms.proofs.Credits.{treeSum-step}
 use Rattle.rooms.proofs.Search.{firstNode-cong, firstNode-none, firstNode-first}
-use Rattle.rooms.proofs.Trees.{kids, own, under}
 use Rattle.layout.proofs.Rows.{cords-count, node-at}
 use Rattle.deals.specs.Wants.{needs, firstWants}
 use Rattle.deals.specs.Metrics.{Deal, dealFrom, dealOf}
 use Rattle.deals.specs.SecondDeal.{firstDeal}
-use Rattle.deals.specs.Ways.{cordBeneath, sumBeneath}
+use Rattle.deals.specs.Ways.{cordBeneath, wattsBeneath}
 use Rattle.deals.specs.Properties as dealing
 use Rattle.deals.specs.Judge.{belowLow, aboveWant, overLimit, shortAt, shortRank, shortRoot, highest, atFirst, verdict}
 use Rattle.deals.specs.declared.Verdict.{Verdict}
 use Rattle.deals.specs.declared.Verdict.the-variants.{Passes, BelowLow, AboveWant, OverLimit, Short}
-use Rattle.deals.proofs.Requests.{Dealable, sumBelow, sumBelow-unique}
+use Rattle.deals.proofs.Requests.{Dealable, dealBeneath, dealBeneath-unique}
 use Rattle.deals.proofs.RoomDeals.{dealOf-is, parentsOf-length, parentsOf-at, limitsOf-at, nodesOf-length}
 use Rattle.deals.proofs.BothDeals.{parents-below, lowsOf-length, carriedBy-length, lows-under}
 use Rattle.deals.proofs.Bounds.{bounded}
@@ -160,54 +160,53 @@ module _ (r : Room) (ok : Accepted r) (demands : List ℕ) {parents spare : List
       -- ---- Sums on nodes, and beneath them
 
       on-is : (watts : List ℕ) (f : ℕ → ℕ) → ((c : ℕ) → at watts c ≡ f c) → (j n : ℕ)
-          → onNode cords (fromLevel cords j (overLow lows watts)) n ≡ own (d .cords) (d .node) n (dealing.fromLevel d j (totals.overLow d able f))
-      unfolding onNode own
+          → onNode cords (fromLevel cords j (overLow lows watts)) n ≡ childSum (d .cords) (d .node) n (dealing.fromLevel d j (totals.overLow d able f))
+      unfolding onNode
       on-is watts f e j n =
           ap (λ (k : ℕ). sum k (λ c. on (eqb (cell cords c nodeColumn) (suc n)) (fromLevel cords j (overLow lows watts) c))) cords-are
           ∙ sum-cong (roomCords r) _ _ (λ c l. rw (node-at (lists .rows-are) c, level-at c, low-at c, e c) refl)
 
-      kids-are : (n : ℕ) (g : ℕ → ℕ) → sum (length parents) (λ m. on (eqb (at parents m) (suc n)) (g m)) ≡ kids (d .nodes) (d .parent) n g
-      unfolding kids
-      kids-are n g =
+      childNodes-are : (n : ℕ) (g : ℕ → ℕ) → sum (length parents) (λ m. on (eqb (at parents m) (suc n)) (g m)) ≡ childSum (d .nodes) (d .parent) n g
+      childNodes-are n g =
           ap (λ (k : ℕ). sum k (λ m. on (eqb (at parents m) (suc n)) (g m))) nodes-are
           ∙ sum-cong (length (r .nodes)) _ _ (λ m l. ap (λ (x : ℕ). on (eqb x (suc n)) (g m)) (parent-at m))
 
-      lows-sum : (n : ℕ) → sumBelow d n (d .low) ≡ lowsBeneath r n
-      unfolding dealOf dealFrom under
+      lows-sum : (n : ℕ) → dealBeneath d n (d .low) ≡ lowsBeneath r n
+      unfolding dealOf dealFrom sumBeneath
       lows-sum n =
           ap (λ (x : Deal). sum (x .cords) (λ c. on (beneath (x .parent) (x .nodes) n (x .node c)) (x .low c))) (sym (dealOf-is r (lowsOf r) (firstWants r demands)))
           ∙ lows-under r ok n
 
-      spare-is : (n : ℕ) → n < length (r .nodes) → at spare n + sumBelow d n (d .low) ≡ limit (nodeAt r n)
+      spare-is : (n : ℕ) → n < length (r .nodes) → at spare n + dealBeneath d n (d .low) ≡ limit (nodeAt r n)
       spare-is n l = omega (arith, lists .spare-is n l, lows-sum n, limitsOf-at r n)
 
       -- The most that the cords of a level and above can have is the most by these lists.
       most-lists : IsMostFrom parents spare cords lows wants (mostOver d able)
       most-lists j h n l =
           let inside : n < length (r .nodes) = omega (arith, nodes-are) in
-          let room : d .limit n - sumBelow d n (d .low) ≡ at spare n = omega (arith, spare-is n inside) in
+          let room : d .limit n - dealBeneath d n (d .low) ≡ at spare n = omega (arith, spare-is n inside) in
           most-step d able j n (omega arith) inside
-          ∙ ap₂ min room (ap₂ _+_ (sym (on-is wants (d .want) want-at j n)) (sym (kids-are n (mostOver d able j))))
+          ∙ ap₂ min room (ap₂ _+_ (sym (on-is wants (d .want) want-at j n)) (sym (childNodes-are n (mostOver d able j))))
 
       -- What the grants have over the lows, beneath a node.
-      over-is : (j n : ℕ) → n < length (r .nodes) → overFrom parents cords lows grants j n ≡ sumBelow d n (dealing.fromLevel d j (totals.overLow d able (at grants)))
-      unfolding overFrom kids
-      over-is j = sumBelow-unique d able (dealing.fromLevel d j (totals.overLow d able (at grants))) (overFrom parents cords lows grants j) (λ n l.
-          sumBeneath-step (length parents) (at parents) (node-lists .rises) (onNode cords (fromLevel cords j (overLow lows grants))) n (omega (arith, nodes-are))
+      over-is : (j n : ℕ) → n < length (r .nodes) → overFrom parents cords lows grants j n ≡ dealBeneath d n (dealing.fromLevel d j (totals.overLow d able (at grants)))
+      unfolding overFrom
+      over-is j = dealBeneath-unique d able (dealing.fromLevel d j (totals.overLow d able (at grants))) (overFrom parents cords lows grants j) (λ n l.
+          treeSum-step (length parents) (at parents) (node-lists .rises) (onNode cords (fromLevel cords j (overLow lows grants))) n (omega (arith, nodes-are))
           ∙ ap₂ _+_ (on-is grants (at grants) (λ c. refl) j n) (step n))
         where
-          step : (n : ℕ) → kids (length parents) (at parents) n (overFrom parents cords lows grants j) ≡ kids (d .nodes) (d .parent) n (overFrom parents cords lows grants j)
-          step n = kids-are n (overFrom parents cords lows grants j)
+          step : (n : ℕ) → childSum (length parents) (at parents) n (overFrom parents cords lows grants j) ≡ childSum (d .nodes) (d .parent) n (overFrom parents cords lows grants j)
+          step n = childNodes-are n (overFrom parents cords lows grants j)
 
       -- ---- Nodes
 
-      all-levels : (n : ℕ) (f : ℕ → ℕ) → sumBelow d n (dealing.fromLevel d 0 f) ≡ sumBelow d n f
-      unfolding under
+      all-levels : (n : ℕ) (f : ℕ → ℕ) → dealBeneath d n (dealing.fromLevel d 0 f) ≡ dealBeneath d n f
+      unfolding sumBeneath
       all-levels n f = sum-cong (d .cords) _ _ (λ c l. ap (on (beneath (d .parent) (d .nodes) n (d .node c))) (on-yes (leb 0 (d .level c)) (f c) (leb·zero (d .level c))))
 
       -- What the grants beneath a node come to: what they have over the lows, and the lows.
-      over-and-lows : (n : ℕ) → sumBeneath r n (at grants) ≡ sumBelow d n (totals.overLow d able (at grants)) + sumBelow d n (d .low)
-      unfolding under sumBeneath
+      over-and-lows : (n : ℕ) → wattsBeneath r n (at grants) ≡ dealBeneath d n (totals.overLow d able (at grants)) + dealBeneath d n (d .low)
+      unfolding sumBeneath
       over-and-lows n =
           sum-cong (d .cords) _ _ (λ c l.
           let e : at grants c ≡ totals.overLow d able (at grants) c + d .low c = omega (arith, least c l) in
@@ -216,11 +215,11 @@ module _ (r : Room) (ok : Accepted r) (demands : List ℕ) {parents spare : List
 
       over-limit : (n : ℕ) → n < length (r .nodes) → ltb (at spare n) (overFrom parents cords lows grants 0 n) ≡ overLimit r grants n
       over-limit n l =
-          let over : overFrom parents cords lows grants 0 n ≡ sumBelow d n (totals.overLow d able (at grants))
+          let over : overFrom parents cords lows grants 0 n ≡ dealBeneath d n (totals.overLow d able (at grants))
           = over-is 0 n l ∙ all-levels n (totals.overLow d able (at grants)) in
-          let given : overFrom parents cords lows grants 0 n + sumBelow d n (d .low) ≡ sumBeneath r n (at grants)
-          = ap (λ (x : ℕ). x + sumBelow d n (d .low)) over ∙ sym (over-and-lows n) in
-          sym (ltb-add (at spare n) (overFrom parents cords lows grants 0 n) (sumBelow d n (d .low))) ∙ ap₂ ltb (spare-is n l) given
+          let given : overFrom parents cords lows grants 0 n + dealBeneath d n (d .low) ≡ wattsBeneath r n (at grants)
+          = ap (λ (x : ℕ). x + dealBeneath d n (d .low)) over ∙ sym (over-and-lows n) in
+          sym (ltb-add (at spare n) (overFrom parents cords lows grants 0 n) (dealBeneath d n (d .low))) ∙ ap₂ ltb (spare-is n l) given
 
       short-rank : {over : ℕ} {short : List ℕ} → Compared parents spare cords lows wants grants over short → over ≡ 0
           → (n : ℕ) → n < length (r .nodes) → parentOf r n ≡ 0 → at short n ≡ shortRank r demands grants n
@@ -229,7 +228,7 @@ module _ (r : Room) (ok : Accepted r) (demands : List ℕ) {parents spare : List
           compared .short-is (mostOver d able) most-lists none n (omega (arith, nodes-are))
           ∙ highest-cong (lessThan parents cords lows grants (mostOver d able) n) (shortAt r demands grants n) highestRank (λ j h.
           let e : suc j - 1 ≡ j = omega arith in
-          let less : lessThan parents cords lows grants (mostOver d able) n (suc j) ≡ ltb (sumBelow d n (dealing.fromLevel d j (totals.overLow d able (at grants)))) (mostOver d able j n)
+          let less : lessThan parents cords lows grants (mostOver d able) n (suc j) ≡ ltb (dealBeneath d n (dealing.fromLevel d j (totals.overLow d able (at grants)))) (mostOver d able j n)
           = rw e (ap (λ (x : ℕ). ltb x (mostOver d able j n)) (over-is j n l)) in
           less ∙ sym (shortAt-is r ok demands grants least n l top j h))
 

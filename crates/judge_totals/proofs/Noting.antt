@@ -20,14 +20,14 @@ use Rattle.rooms.specs.Table.{mostNodes, mostCords, mostWatts, highestRank}
 use Rattle.rooms.specs.Limits.{firstNode}
 use Rattle.rooms.specs.Rows.{nodeColumn, levelColumn}
 use Rattle.figures.specs.Credits.{credited}
-use Rattle.rooms.specs.Credits.{sumBeneath, exceeds}
+use Rattle.rooms.specs.Credits.{treeSum, exceeds}
 use Rattle.figures.proofs.Credits.{credited-length, credited-past}
-use Rattle.rooms.proofs.Credits.{sumBeneath-step}
+use Rattle.rooms.proofs.Credits.{treeSum-step}
 use Rattle.rooms.proofs.Gather.{Holds, holds-whole, Gathered, gathered-start, gathered-turn}
 use Rattle.rooms.proofs.Search.{firstNode-cong}
-use Rattle.rooms.proofs.Trees.{kids}
-use Rattle.judge_totals.specs.Totals.{NodeLists, CordLists, overLow, onNode, fromLevel, Noted, AllNoted, Unnoted, CordsNoted, merged, heldBack, IsMost, beneath, NodesNoted, overFrom, Compared}
+use Rattle.judge_totals.specs.Totals.{NodeLists, CordLists, overLow, onNode, fromLevel, Noted, AllNoted, Unnoted, CordsNoted, merged, heldBack, IsMost, NodesNoted, overFrom, Compared}
 use Rattle.judge_totals.proofs.Notes.{noted-same, noted-none, noted-cord, noted-held, noted-next, noted-highest, merged-length, merged-past}
+use Rattle.rooms.specs.Trees.{sumBeneath, childSum}
 
 on-most : (t : Bool) (a : ℕ) → on t a ≤ a
 on-most true a = omega arith
@@ -137,10 +137,10 @@ pub record NodeTurns (parents spare given₀ raised₀ wanting₀ : List ℕ) (o
   pub all : n + turns ≡ length parents
   pub to-come : (has own most : ℕ → ℕ → ℕ) → AllNoted (length parents) has own given₀ raised₀ wanting₀
       → ((j : ℕ) → j < highestRank → IsMost parents spare (own j) (most j)) → over ≡ 0 → (i : ℕ) → i < n
-      → Noted (λ j. partly parents (has j) (beneath parents (has j)) turns n i) (λ j. partly parents (own j) (most j) turns n i) (at given i) (at raised i) (at wanting i)
+      → Noted (λ j. partly parents (has j) (treeSum (at parents) (length parents) (has j)) turns n i) (λ j. partly parents (own j) (most j) turns n i) (at given i) (at raised i) (at wanting i)
   pub done : (has own most : ℕ → ℕ → ℕ) → AllNoted (length parents) has own given₀ raised₀ wanting₀
       → ((j : ℕ) → j < highestRank → IsMost parents spare (own j) (most j)) → over ≡ 0 → (i : ℕ) → n ≤ i → i < length parents
-      → Noted (λ j. beneath parents (has j) i) (λ j. most j i) (at given i) (at raised i) (at wanting i)
+      → Noted (λ j. treeSum (at parents) (length parents) (has j) i) (λ j. most j i) (at given i) (at raised i) (at wanting i)
 
 pub nodes-start : (parents spare given raised wanting : List ℕ) → NodeTurns parents spare given raised wanting 0 (length parents) given raised wanting
 unfolding up
@@ -172,7 +172,7 @@ module _ {parents spare given₀ raised₀ wanting₀ : List ℕ} (nodes : NodeL
     high = heldBack limit (at given m) (at raised m) (at wanting m)
 
     -- When its turn comes, all its children had theirs.
-    whole : (own passed : ℕ → ℕ) → partly parents own passed (inv .turns) (suc m) m ≡ own m + kids (length parents) (at parents) m passed
+    whole : (own passed : ℕ → ℕ) → partly parents own passed (inv .turns) (suc m) m ≡ own m + childSum (length parents) (at parents) m passed
     unfolding Holds
     whole own passed = holds-whole (length parents) (at parents) own passed (nodes .rises) (inv .turns) m (partly parents own passed (inv .turns) (suc m)) (inv .all) (λ i l. refl)
 
@@ -187,15 +187,14 @@ module _ {parents spare given₀ raised₀ wanting₀ : List ℕ} (nodes : NodeL
     module _ (has own most : ℕ → ℕ → ℕ) (all : AllNoted (length parents) has own given₀ raised₀ wanting₀)
         (is : (j : ℕ) → j < highestRank → IsMost parents spare (own j) (most j)) (z : cond (ltb limit (at given m)) (suc m) over ≡ 0) where
       -- The node's notes, with all beneath it.
-      here : Noted (λ j. beneath parents (has j) m) (λ j. most j m) (at given m) (at raised m) high
-      unfolding kids
+      here : Noted (λ j. treeSum (at parents) (length parents) (has j) m) (λ j. most j m) (at given m) (at raised m) high
       here =
           noted-same (noted-held (inv .to-come has own most all is (before z .1) m (omega arith)) limit (before z .0))
-          (λ j k. sumBeneath-step (length parents) (at parents) (nodes .rises) (has j) m inside ∙ sym (whole (has j) (beneath parents (has j))))
+          (λ j k. treeSum-step (length parents) (at parents) (nodes .rises) (has j) m inside ∙ sym (whole (has j) (treeSum (at parents) (length parents) (has j))))
           (λ j k. is j k m inside ∙ ap (min limit) (sym (whole (own j) (most j)))) refl refl refl
 
       come : (i : ℕ) → i < m
-          → Noted (λ j. partly parents (has j) (beneath parents (has j)) (suc (inv .turns)) m i) (λ j. partly parents (own j) (most j) (suc (inv .turns)) m i)
+          → Noted (λ j. partly parents (has j) (treeSum (at parents) (length parents) (has j)) (suc (inv .turns)) m i) (λ j. partly parents (own j) (most j) (suc (inv .turns)) m i)
           (at (credited (at parents m) (at given m) given) i) (at (merged min (at parents m) (at raised m) raised) i)
           (at (merged max (at parents m) high (set wanting m high)) i)
       unfolding up
@@ -209,7 +208,7 @@ module _ {parents spare given₀ raised₀ wanting₀ : List ℕ} (nodes : NodeL
           (λ j k. omega arith) (λ j k. omega arith) refl refl refl
 
       past : (i : ℕ) → (m ≡ i) ⊎ (m < i) → i < length parents
-          → Noted (λ j. beneath parents (has j) i) (λ j. most j i)
+          → Noted (λ j. treeSum (at parents) (length parents) (has j) i) (λ j. most j i)
           (at (credited (at parents m) (at given m) given) i) (at (merged min (at parents m) (at raised m) raised) i)
           (at (merged max (at parents m) high (set wanting m high)) i)
       past i (inl q) b =
@@ -311,8 +310,8 @@ module _ {parents spare : List ℕ} {cords : List (List ℕ)} {lows wants grants
         own : ℕ → ℕ → ℕ
         own j = onNode cords (fromLevel cords j (overLow lows wants))
 
-        same : (n : ℕ) → beneath parents (at given) n ≡ beneath parents (onNode cords (fromLevel cords 0 (overLow lows grants))) n
-        same n = sum-cong (length parents) _ _ (λ m l. ap (on (Rattle.rooms.specs.Limits.beneath (at parents) (length parents) n (suc m))) (noted m (omega (arith, nodes .few)) .watts-are))
+        same : (n : ℕ) → treeSum (at parents) (length parents) (at given) n ≡ treeSum (at parents) (length parents) (onNode cords (fromLevel cords 0 (overLow lows grants))) n
+        same n = sum-cong (length parents) _ _ (λ m l. ap (on (Rattle.rooms.specs.Trees.beneath (at parents) (length parents) n (suc m))) (noted m (omega (arith, nodes .few)) .watts-are))
 
 -- Nothing is noted before the first cord.
 pub unnoted : (k : ℕ) (wanting : List ℕ) → ((n : ℕ) → at wanting n ≡ 0) → (count : ℕ) → count ≤ k → Unnoted count (replicate k 0) (replicate k highestRank) wanting

@@ -10,16 +10,17 @@ use Rattle.figures.specs.Figures.{at, cell}
 use Rattle.figures.specs.Sums.{on, sum}
 use Rattle.rooms.specs.Table.{mostNodes, mostCords, mostWatts, highestRank}
 use Rattle.rooms.specs.Limits.{firstNode}
-use Rattle.rooms.specs.Credits.{sumBeneath}
+use Rattle.rooms.specs.Credits.{treeSum}
 use Rattle.rooms.specs.Rows.{nodeColumn, levelColumn, rowWidth}
 use Rattle.deals.specs.Judge.{highest}
+use Rattle.rooms.specs.Trees.{sumBeneath, ParentsFirst}
 
 -- ---- The lists
 
 -- The nodes: each parent's number, which is below its child's, and the watts that each limit has over the lows beneath it.
 pub record NodeLists (parents spare : List ℕ) : Type 0 where
   pub few : length parents ≤ mostNodes
-  pub rises : (m : ℕ) → m < length parents → at parents m ≤ m
+  pub rises : ParentsFirst (length parents) (at parents)
   pub spare-size : length spare ≡ length parents
   pub spare-most : (n : ℕ) → n < length parents → at spare n ≤ mostWatts
 
@@ -99,22 +100,18 @@ IsMost parents spare own most =
     (n : ℕ) → n < length parents
     → most n ≡ min (at spare n) (own n + sum (length parents) (λ m. on (eqb (at parents m) (suc n)) (most m)))
 
--- A figure that stands on nodes, summed over a node and all nodes beneath it.
-abbrev pub beneath : List ℕ → (ℕ → ℕ) → ℕ → ℕ
-beneath parents figure n = sumBeneath (at parents) (length parents) figure n
-
 -- What the pass over the nodes leaves, where no node is given more than it has to spare: of the notes of the nodes' own cords, whatever
 -- these are, those of all that is beneath each node.
 abbrev pub NodesNoted : (parents spare : List ℕ) (over : ℕ) (watts raised wanting watts′ raised′ wanting′ : List ℕ) → Type 0
 NodesNoted parents spare over watts raised wanting watts′ raised′ wanting′ =
     (given own most : ℕ → ℕ → ℕ) → AllNoted (length parents) given own watts raised wanting
     → ((j : ℕ) → j < highestRank → IsMost parents spare (own j) (most j)) → over ≡ 0
-    → AllNoted (length parents) (λ j. beneath parents (given j)) most watts′ raised′ wanting′
+    → AllNoted (length parents) (λ j. treeSum (at parents) (length parents) (given j)) most watts′ raised′ wanting′
 
 -- What the cords of a level and above, beneath the node at place n, have over their lows.
 unfoldable pub overFrom : List ℕ → List (List ℕ) → List ℕ → List ℕ → ℕ → ℕ → ℕ
 unfolding onNode sumBeneath
-overFrom parents cords lows watts j n = beneath parents (onNode cords (fromLevel cords j (overLow lows watts))) n
+overFrom parents cords lows watts j n = treeSum (at parents) (length parents) (onNode cords (fromLevel cords j (overLow lows watts))) n
 
 -- The most that the cords of each level and above can have over their lows, beneath each node.
 abbrev pub IsMostFrom : List ℕ → List ℕ → List (List ℕ) → List ℕ → List ℕ → (ℕ → ℕ → ℕ) → Type 0

@@ -11,15 +11,16 @@ use Rattle.figures.specs.Sums.{on, sum}
 use Rattle.figures.specs.Figures.{at}
 use Rattle.figures.proofs.Sums.{sum-cong}
 use Rattle.rooms.specs.Table.{mostCords, mostWatts}
-use Rattle.rooms.specs.Credits.{sumBeneath}
-use Rattle.rooms.proofs.Trees.{kids, own, kids-cong, kids-le, down}
-use Rattle.rooms.proofs.Credits.{sumBeneath-most, sumBeneath-step}
+use Rattle.rooms.specs.Credits.{treeSum}
+use Rattle.rooms.proofs.Trees.{childSum-cong, childSum-le, down}
+use Rattle.rooms.proofs.Credits.{treeSum-most, treeSum-step}
 use Rattle.splits.specs.Split.{part}
-use Rattle.deals.proofs.Amounts.{own-sum}
+use Rattle.deals.proofs.Amounts.{childCords-most}
 use Rattle.figures.specs.Places.{Absent, Present}
 use Rattle.deals.specs.Levels.{ActiveNodes}
-use Rattle.deals.specs.Passes.{LevelCords, listedBefore, overListed, cordWeight, childrenBefore, overChildren, weightOf, WeightsListed, Weighed, NodesDealt, CordsDealt}
+use Rattle.deals.specs.Passes.{LevelCords, listedBefore, overListed, cordWeight, weightOf, WeightsListed, Weighed, NodesDealt, CordsDealt}
 use Rattle.plan_headroom.specs.Passes.{AllPlaces, LendLists, cordsBefore, LendWeights, DealtOut}
+use Rattle.rooms.specs.Trees.{ParentsFirst, childSum}
 
 module _ {parents nodes wants ceilings all : List ℕ} (lists : LendLists parents nodes wants ceilings) (places : AllPlaces all) where
   abbrev weight : ℕ → ℕ
@@ -91,14 +92,13 @@ module _ {parents nodes wants ceilings all : List ℕ} (lists : LendLists parent
   OnNodes sums = (n : ℕ) → n < length parents → at sums n ≡ overListed listed nodes weight n
 
   sums-most : (sums : List ℕ) → OnNodes sums → sum (length parents) (at sums) ≤ mostCords * mostWatts
-  unfolding own
   sums-most sums on-nodes =
       le-trans (le-of-eq (sum-cong (length parents) _ _ (λ n l. on-nodes n l ∙ listed-all n)))
-      (le-trans (own-sum (length parents) (length nodes) (at nodes) (lists .hangs) (lists .within) weight mostWatts (λ c l. omega (arith, lists .most c l)))
+      (le-trans (childCords-most (length parents) (length nodes) (at nodes) (lists .hangs) (lists .within) weight mostWatts (λ c l. omega (arith, lists .most c l)))
       (mul-le-mul-right mostWatts (lists .few)))
 
   pub weigh-asks : (left sums : List ℕ) {weights-length : ℕ} → length left ≡ length parents → OnNodes sums → length parents ≤ length sums → length parents ≤ weights-length
-      → (ActiveNodes parents all (length parents) × ((m : ℕ) → m < length parents → at parents m ≤ m))
+      → (ActiveNodes parents all (length parents) × ParentsFirst (length parents) (at parents))
       × (((length left ≡ length parents) × (length parents ≤ length sums) × (length parents ≤ weights-length))
       × ((sum (length parents) (at sums) ≤ mostCords * mostWatts) × ((n : ℕ) → n < length parents → Absent all (length parents) n → at sums n ≡ 0)))
   weigh-asks left sums left-size on-nodes sums-size weights-size = (
@@ -108,25 +108,23 @@ module _ {parents nodes wants ceilings all : List ℕ} (lists : LendLists parent
 
   module _ {left sums left′ wholes weights : List ℕ} (g : Weighed parents all (length parents) left sums left′ wholes weights)
       (left-most : (n : ℕ) → n < length parents → at left n ≤ mostWatts) (on-nodes : OnNodes sums) where
-    children-are : (n : ℕ) → n < length parents → at wholes n ≡ overChildren parents (weightOf weights wholes) n + at sums n
-    unfolding kids
+    children-are : (n : ℕ) → n < length parents → at wholes n ≡ childSum (length parents) (at parents) n (weightOf weights wholes) + at sums n
     children-are n l =
         omega (
           arith,
           g .children n l,
-          kids-cong (length parents) (at parents) n (weightOf left wholes) (weightOf weights wholes) (λ m lm q. sym (g .weights-are m lm)),
+          childSum-cong (length parents) (at parents) n (weightOf left wholes) (weightOf weights wholes) (λ m lm q. sym (g .weights-are m lm)),
         )
 
     -- No node's children weight more than all cords beneath it.
-    wholes-beneath : (n : ℕ) → n < length parents → at wholes n ≤ sumBeneath (at parents) (length parents) (at sums) n
-    unfolding kids
-    wholes-beneath = down (length parents) (λ n. at wholes n ≤ sumBeneath (at parents) (length parents) (at sums) n) (λ n l ih.
+    wholes-beneath : (n : ℕ) → n < length parents → at wholes n ≤ treeSum (at parents) (length parents) (at sums) n
+    wholes-beneath = down (length parents) (λ n. at wholes n ≤ treeSum (at parents) (length parents) (at sums) n) (λ n l ih.
         omega (
           arith,
           children-are n l,
-          kids-le (length parents) (at parents) n (weightOf weights wholes) (sumBeneath (at parents) (length parents) (at sums)) (λ m lm q.
+          childSum-le (length parents) (at parents) n (weightOf weights wholes) (treeSum (at parents) (length parents) (at sums)) (λ m lm q.
               omega (arith, ih m lm (subst (λ (z : ℕ). z ≤ m) q (lists .rises m lm)))),
-          sumBeneath-step (length parents) (at parents) (lists .rises) (at sums) n l,
+          treeSum-step (length parents) (at parents) (lists .rises) (at sums) n l,
         ))
 
     pub lend-weights : LendWeights parents nodes wants ceilings weights wholes
@@ -134,16 +132,16 @@ module _ {parents nodes wants ceilings all : List ℕ} (lists : LendLists parent
       whole = λ n l. omega (arith, children-are n l, on-nodes n l, listed-all n);
       enough = λ n l. g .listed .within n l (here n l);
       most = λ n l. omega (arith, g .weights-are n l, left-most n l);
-      wholes-most = λ n l. omega (arith, wholes-beneath n l, sumBeneath-most (length parents) (at parents) (at sums) n, sums-most sums on-nodes);
+      wholes-most = λ n l. omega (arith, wholes-beneath n l, treeSum-most (length parents) (at parents) (at sums) n, sums-most sums on-nodes);
     }
 
   -- ---- What is dealt by them
 
   module _ {weights wholes : List ℕ} (weighed : LendWeights parents nodes wants ceilings weights wholes) where
     pub deal-nodes-asks : length parents ≤ length weights → length wholes ≡ length weights → {size-e size-d : ℕ} → size-e ≡ length weights → size-d ≡ length weights
-        → ((length parents ≤ size-e) × (size-d ≡ size-e) × ((m : ℕ) → m < length parents → at parents m ≤ m))
+        → ((length parents ≤ size-e) × (size-d ≡ size-e) × ParentsFirst (length parents) (at parents))
         × (WeightsListed parents all (length parents) wholes weights
-        × ((n : ℕ) → n < length parents → (weightOf weights wholes n ≤ mostWatts) × (at wholes n ≤ mostCords * mostWatts) × (overChildren parents (weightOf weights wholes) n ≤ at wholes n)))
+        × ((n : ℕ) → n < length parents → (weightOf weights wholes n ≤ mostWatts) × (at wholes n ≤ mostCords * mostWatts) × (childSum (length parents) (at parents) n (weightOf weights wholes) ≤ at wholes n)))
     deal-nodes-asks sa sw se sd = (
       (omega arith, sd ∙ sym se, lists .rises),
       (
@@ -188,13 +186,13 @@ module _ {parents nodes wants ceilings all : List ℕ} (lists : LendLists parent
       module _ {tops tops′ : List ℕ} (cd : CordsDealt listed nodes wants ceilings wholes amounts before tops tops′) where
         -- A cord's top is its want and its part.
         top-is : (c n : ℕ) → c < length nodes → at nodes c ≡ suc n
-            → at tops′ c ≡ at wants c + part (at amounts n) (at wholes n) (overChildren parents (weightOf weights wholes) n + cordsBefore nodes wants ceilings n c) (weight c)
+            → at tops′ c ≡ at wants c + part (at amounts n) (at wholes n) (childSum (length parents) (at parents) n (weightOf weights wholes) + cordsBefore nodes wants ceilings n c) (weight c)
         top-is c n l e =
             let q : n < length parents = omega (arith, lists .within c l) in
             let s : at listed c ≡ c = listed-at c l in
-            let b : at before n ≡ overChildren parents (weightOf weights wholes) n = nd .served n q (here n q) in
+            let b : at before n ≡ childSum (length parents) (at parents) n (weightOf weights wholes) = nd .served n q (here n q) in
             subst
-            (λ (h : ℕ). at tops′ h ≡ at wants h + part (at amounts n) (at wholes n) (overChildren parents (weightOf weights wholes) n + cordsBefore nodes wants ceilings n c) (weight h)) s
+            (λ (h : ℕ). at tops′ h ≡ at wants h + part (at amounts n) (at wholes n) (childSum (length parents) (at parents) n (weightOf weights wholes) + cordsBefore nodes wants ceilings n c) (weight h)) s
             (cd .ours c n (omega (arith, listed-length)) (ap (at nodes) s ∙ e)
             ∙ ap₂ (λ (a b : ℕ). at wants (at listed c) + part (at amounts n) (at wholes n) (a + b) (weight (at listed c))) b (listed-before n c (omega arith)))
 

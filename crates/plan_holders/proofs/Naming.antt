@@ -21,9 +21,10 @@ use Rattle.deals.specs.SecondDeal.{firstUsed, secondDeal, secondWants, secondGr
 use Rattle.deals.specs.Held.{cutFrom, nearestRoot, holder, heldOver, held}
 use Rattle.plan_holders.specs.Holding.{HeldLists, holderFrom, heldFrom}
 use Rattle.plan_holders.proofs.Rows.{heldAt}
+use Rattle.rooms.specs.Trees.{ParentsFirst}
 
 -- Two tests that agree on every node name the same one.
-nearest-cong : (nodes : ℕ) (parent : ℕ → ℕ) → ((m : ℕ) → m < nodes → parent m ≤ m) → (test other : ℕ → Bool) → ((n : ℕ) → n < nodes → test n ≡ other n)
+nearest-cong : (nodes : ℕ) (parent : ℕ → ℕ) → ParentsFirst nodes parent → (test other : ℕ → Bool) → ((n : ℕ) → n < nodes → test n ≡ other n)
     → (k v : ℕ) → v ≤ nodes → nearestRoot parent test k v ≡ nearestRoot parent other k v
 unfolding nearestRoot
 nearest-cong nodes parent rises test other e zero v h = refl
@@ -56,7 +57,7 @@ module _ (parents limits nodes levels lows starts wants : List ℕ) where
         let node-is : cell cords c nodeColumn ≡ at nodes c = sym (column-at nodeColumn cords c) ∙ ap (λ (z : List ℕ). at z c) n in
         let level-is : cell cords c levelColumn ≡ at levels c = sym (column-at levelColumn cords c) ∙ ap (λ (z : List ℕ). at z c) l in
         ap₂ (holderFrom parents cuts) level-is node-is
-        ∙ sym (nearest-cong (length parents) (at parents) (lists .rises) (cutFrom d (metrics d) (at levels c)) (λ i. ltb (at levels c) (at cuts i))
+        ∙ sym (nearest-cong (length parents) (at parents) (lists .of-nodes .rises) (cutFrom d (metrics d) (at levels c)) (λ i. ltb (at levels c) (at cuts i))
         (λ i q. marked i (at levels c) q (omega (arith, level-is, lists .ranked c h))) (length parents) (at nodes c) (omega (arith, node-is, lists .within c h)))
 
     pub held-over : column nodeColumn cords ≡ nodes → column levelColumn cords ≡ levels → grants ≡ granted (dealFrom parents limits nodes levels lows starts wants)

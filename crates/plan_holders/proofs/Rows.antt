@@ -9,21 +9,22 @@ use native.Mathlib.Omega.{arith}
 use native.Mathlib.Numerals.{add-one}
 use lib.Dec.{eqb, leb, ltb}
 use borrow.Author.Tests.{eqb-true, eqb-false}
-use lib.ListN.{length, getD, set, replicate, length-set, length-replicate, getD-replicate}
+use lib.ListN.{length, getD, set, length-set}
 use lib.Seq.{getD-set-same, getD-set-other, ext-getD}
 use Rattle.figures.specs.Figures.{at, cell}
+use Rattle.figures.specs.Places.{ZeroRows}
 use Rattle.figures.specs.Sums.{on}
-use Rattle.figures.proofs.Filled.{zeros-at}
 use Rattle.figures.proofs.Lists.{figures-at, figures-length}
 use Rattle.rooms.specs.Table.{mostNodes, highestRank}
 use Rattle.deals.specs.Held.{nearestRoot}
 use Rattle.rooms.specs.Rows.{nodeColumn, levelColumn}
-use Rattle.plan_holders.specs.Holding.{HeldLists, holderFrom, CutNodes, RowsByNumber, NoHolders, nextRow, HolderRows}
+use Rattle.plan_holders.specs.Holding.{HeldLists, holderFrom, CutNodes, RowsByNumber, nextRow, HolderRows}
+use Rattle.rooms.specs.Trees.{ParentsFirst}
 
 -- ---- The node nearest the root
 
 -- A parent's number is below its child's: steps beyond a node's number change nothing.
-module _ (nodes : ℕ) (parent : ℕ → ℕ) (rises : (m : ℕ) → m < nodes → parent m ≤ m) (test : ℕ → Bool) where
+module _ (nodes : ℕ) (parent : ℕ → ℕ) (rises : ParentsFirst nodes parent) (test : ℕ → Bool) where
   nearest-steps : (k l v : ℕ) → v ≤ k → v ≤ l → v ≤ nodes → nearestRoot parent test k v ≡ nearestRoot parent test l v
   unfolding nearestRoot
   nearest-steps zero zero v a b h = refl
@@ -94,7 +95,7 @@ pub record Filling (parents cuts : List ℕ) (n : ℕ) (rows : List (List ℕ)) 
   pub named : (v j : ℕ) → v ≤ n → j < highestRank → cell rows v j ≡ holderFrom parents cuts j v
 
 module _ {parents cuts : List ℕ} where
-  pub filling-start : {rows : List (List ℕ)} → CutNodes parents cuts → NoHolders rows → Filling parents cuts 0 rows
+  pub filling-start : {rows : List (List ℕ)} → CutNodes parents cuts → ZeroRows (suc mostNodes) highestRank rows → Filling parents cuts 0 rows
   filling-start {rows} ok none = record { full = none .full; named = go }
     where
       go : (v j : ℕ) → v ≤ 0 → j < highestRank → cell rows v j ≡ holderFrom parents cuts j v
@@ -145,30 +146,12 @@ module _ {parents cuts : List ℕ} where
   pub filling-end : {n : ℕ} {rows : List (List ℕ)} → Filling parents cuts n rows → length parents ≤ n → HolderRows parents cuts rows
   filling-end f h = record { full = f .full; named = λ v j q. f .named v j (omega arith) }
 
--- Rows of zeros name none.
-zeros-cells : (row : List ℕ) → ((j : ℕ) → at row j ≡ 0) → (k v j : ℕ) → cell (replicate k row) v j ≡ 0
-zeros-cells row z zero v j = refl
-zeros-cells row z (suc k) zero j = z j
-zeros-cells row z (suc k) (suc v) j = zeros-cells row z k v j
-
-pub zeros-none : (k n : ℕ) → k ≡ suc mostNodes → n ≡ highestRank → NoHolders (replicate k (replicate n 0))
-zeros-none k n e w = record {
-  full = (
-    length-replicate k (replicate n 0) ∙ e,
-    λ v h. ap length (getD-replicate k v (replicate n 0) [] (omega arith)) ∙ length-replicate n 0 ∙ w,
-  );
-  none = zeros-cells (replicate n 0) (zeros-at n) k;
-}
-
 -- ---- The cords
 
 -- What is named for the cord at place c.
 abbrev pub heldAt : List ℕ → List ℕ → List (List ℕ) → List ℕ → List ℕ → ℕ → ℕ
 heldAt parents cuts cords wants grants c =
     cond (eqb (at grants c) (at wants c)) 0 (holderFrom parents cuts (cell cords c levelColumn) (cell cords c nodeColumn))
-
-pub cut-nodes : {parents cuts : List ℕ} {cords : List (List ℕ)} {wants grants : List ℕ} → HeldLists parents cuts cords wants grants → CutNodes parents cuts
-cut-nodes h = record { few = h .few-nodes; rises = h .rises; cuts-size = h .cuts-size }
 
 -- By the row of its node, at its level.
 pub held-is : {parents cuts : List ℕ} {cords rows : List (List ℕ)} {wants grants : List ℕ} {c node level x : ℕ} → HeldLists parents cuts cords wants grants

@@ -1,21 +1,27 @@
 -- The nodes that hold cords down, from the marks of the nodes' cuts: what the contracts of `holders` cite.
 use mathlib.Core.Path.{_≡_}
 use mathlib.Core.Bool.{cond}
-use mathlib.Core.List.{List, []}
+use mathlib.Core.List.{List}
 use Prim.Native.Nat.{ℕ, suc, _≤_, _<_}
 use lib.Dec.{eqb, ltb}
-use lib.ListN.{length, getD}
+use lib.ListN.{length}
 use Rattle.figures.specs.Figures.{figures, at, cell}
 use Rattle.figures.specs.Sums.{on}
+use Rattle.figures.specs.Places.{Full}
 use Rattle.rooms.specs.Table.{mostNodes, mostCords, highestRank}
 use Rattle.rooms.specs.Rows.{nodeColumn, levelColumn}
 use Rattle.deals.specs.Held.{nearestRoot}
+use Rattle.rooms.specs.Trees.{ParentsFirst}
+
+-- The nodes of a room: for each its parent's number and the highest rank at which it is cut.
+pub record CutNodes (parents cuts : List ℕ) : Type 0 where
+  pub few : length parents ≤ mostNodes
+  pub rises : ParentsFirst (length parents) (at parents)
+  pub cuts-size : length cuts ≡ length parents
 
 -- The lists after a deal: the nodes' parents and the highest rank at which each is cut, and the cords' rows, wants and grants.
 pub record HeldLists (parents cuts : List ℕ) (cords : List (List ℕ)) (wants grants : List ℕ) : Type 0 where
-  pub few-nodes : length parents ≤ mostNodes
-  pub rises : (m : ℕ) → m < length parents → at parents m ≤ m
-  pub cuts-size : length cuts ≡ length parents
+  pub of-nodes : CutNodes parents cuts
   pub few : length cords ≤ mostCords
   pub wants-size : length wants ≡ length cords
   pub grants-size : length grants ≡ length cords
@@ -35,20 +41,9 @@ heldFrom parents cuts cords wants grants =
 
 -- ---- The holders of all nodes and levels
 
--- The nodes of a room: for each its parent's number and the highest rank at which it is cut.
-pub record CutNodes (parents cuts : List ℕ) : Type 0 where
-  pub few : length parents ≤ mostNodes
-  pub rises : (m : ℕ) → m < length parents → at parents m ≤ m
-  pub cuts-size : length cuts ≡ length parents
-
 -- A row for each node's number and one for 0, which is no node's, with a figure for each level.
 abbrev pub RowsByNumber : List (List ℕ) → Type 0
-RowsByNumber rows = (length rows ≡ suc mostNodes) × ((v : ℕ) → v < suc mostNodes → length (getD rows v []) ≡ highestRank)
-
--- Rows that name no node.
-pub record NoHolders (rows : List (List ℕ)) : Type 0 where
-  pub full : RowsByNumber rows
-  pub none : (v j : ℕ) → cell rows v j ≡ 0
+RowsByNumber = Full (suc mostNodes) highestRank
 
 -- The row of a node, from that of its parent: at each level the number from above, unless that is 0, or else the node's own if it is cut
 -- at the level or a higher one.

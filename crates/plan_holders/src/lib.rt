@@ -2,10 +2,13 @@
 // Private to Plan: no operation stands here.
 ghost use mathlib.Core.Path.{_≡_};
 ghost use mathlib.Core.Bool.{cond};
+ghost use Prim.Native.Nat.{suc};
 ghost use lib.Dec.{eqb, leb};
 ghost use lib.ListN.{length};
+ghost use Rattle.figures.specs.Places.{ZeroRows};
 ghost use Rattle.figures.specs.Sums.{on};
-ghost use Rattle.plan_holders.specs.Holding.{HeldLists, CutNodes, HolderRows, NoHolders, nextRow, heldFrom};
+ghost use Rattle.rooms.specs.Table.{mostNodes, highestRank};
+ghost use Rattle.plan_holders.specs.Holding.{HeldLists, CutNodes, HolderRows, nextRow, heldFrom};
 use figures::index;
 use figures::index_word;
 use figures::place;
@@ -40,7 +43,7 @@ fn next_row(above: [u16; 16], cut: u16, number: u16) -> [u16; 16]
 // The row of each node, by its number, from the first node to the last: a parent's stands before its child's. Row 0, which stands for a
 // root's parent, names none; all rows come as zeros.
 fn fill_rows(parents: &[u16], cuts: &[u16], rows: &mut [[u16; 16]; 513])
-    requires nodes { ⌜ CutNodes (now parents) (now cuts) × NoHolders (now rows) ⌝ }
+    requires nodes { ⌜ CutNodes (now parents) (now cuts) × ZeroRows (suc mostNodes) highestRank (now rows) ⌝ }
     ensures holders { λ _. ⌜ HolderRows (now (parents .entry)) (now (cuts .entry)) (now (rows .exit)) ⌝ }
 {
     for n in 0..parents.len() {

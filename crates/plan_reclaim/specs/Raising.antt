@@ -5,7 +5,8 @@ use Prim.Native.Nat.{ℕ, _+_, _≤_, _<_}
 use lib.ListN.{length}
 use Rattle.rooms.specs.Table.{mostNodes, mostCords, mostWatts}
 use Rattle.figures.specs.Figures.{at}
-use Rattle.deals.specs.Ranks.{wattsUnder}
+use Rattle.deals.specs.Ranks.{listBeneath}
+use Rattle.rooms.specs.Trees.{ParentsFirst}
 
 -- Lists of which the starts can be raised from the lows: `left` has what each limit has over the lows beneath, and that is enough.
 pub record Raisable (parents nodes lows starts left : List ℕ) : Type 0 where
@@ -14,9 +15,9 @@ pub record Raisable (parents nodes lows starts left : List ℕ) : Type 0 where
   pub left-size : length left ≡ length parents
   pub lows-size : length lows ≡ length nodes
   pub starts-size : length starts ≡ length nodes
-  pub rises : (m : ℕ) → m < length parents → at parents m ≤ m
+  pub rises : ParentsFirst (length parents) (at parents)
   pub hangs : (c : ℕ) → c < length nodes → 1 ≤ at nodes c
   pub within : (c : ℕ) → c < length nodes → at nodes c ≤ length parents
   pub least : (c : ℕ) → c < length nodes → at lows c ≤ at starts c
   pub most : (c : ℕ) → c < length nodes → at starts c ≤ mostWatts
-  pub enough : (n : ℕ) → n < length parents → wattsUnder parents nodes starts n ≤ at left n + wattsUnder parents nodes lows n
+  pub enough : (n : ℕ) → n < length parents → listBeneath parents nodes starts n ≤ at left n + listBeneath parents nodes lows n

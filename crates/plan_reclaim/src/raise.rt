@@ -6,9 +6,10 @@ ghost use lib.ListN.{length};
 ghost use Rattle.figures.specs.Figures.{at};
 ghost use Rattle.figures.specs.Sums.{sum};
 ghost use Rattle.rooms.specs.Table.{mostCords, mostWatts};
-ghost use Rattle.rooms.specs.Credits.{sumBeneath};
+ghost use Rattle.rooms.specs.Credits.{treeSum};
 ghost use Rattle.plan_reclaim.specs.Raising.{Raisable};
-ghost use Rattle.deals.specs.Ranks.{wattsUnder};
+ghost use Rattle.deals.specs.Ranks.{listBeneath};
+ghost use Rattle.rooms.specs.Trees.{ParentsFirst};
 use figures::credit;
 use figures::index;
 use figures::narrow;
@@ -24,8 +25,8 @@ fn credit_rises(nodes: &[u16], lows: &[u32], starts: &[u32], raised: &mut [u64])
     requires zeros { ⌜ ((n : ℕ) → at (now raised) n ≡ 0) ⌝ }
     ensures in_range { λ _. ⌜ sum (length (now (raised .entry))) (at (now (raised .exit))) ≤ mostCords * mostWatts ⌝ }
     ensures raised { λ _. ⌜ ((parents : List ℕ) (n : ℕ) → length parents ≡ length (now (raised .entry))
-        → sumBeneath (at parents) (length parents) (at (now (raised .exit))) n + wattsUnder parents (now (nodes .entry)) (now (lows .entry)) n
-        ≡ wattsUnder parents (now (nodes .entry)) (now (starts .entry)) n) ⌝ }
+        → treeSum (at parents) (length parents) (at (now (raised .exit))) n + listBeneath parents (now (nodes .entry)) (now (lows .entry)) n
+        ≡ listBeneath parents (now (nodes .entry)) (now (starts .entry)) n) ⌝ }
 {
     for c in 0..nodes.len() {
         credit(raised, index(nodes[c]), wide(starts[c] - lows[c]));
@@ -36,11 +37,11 @@ fn credit_rises(nodes: &[u16], lows: &[u32], starts: &[u32], raised: &mut [u64])
 fn take_rises(parents: &[u16], raised: &mut [u64], left: &mut [u32])
     requires sizes { ⌜ (length (now raised) ≡ length (now parents)) × (length (now left) ≡ length (now parents))
         × (sum (length (now parents)) (at (now raised)) ≤ mostCords * mostWatts) ⌝ }
-    requires parents_first { ⌜ ((m : ℕ) → m < length (now parents) → at (now parents) m ≤ m) ⌝ }
-    requires enough { ⌜ ((n : ℕ) → n < length (now parents) → sumBeneath (at (now parents)) (length (now parents)) (at (now raised)) n
+    requires parents_first { ⌜ (ParentsFirst (length (now parents)) (at (now parents))) ⌝ }
+    requires enough { ⌜ ((n : ℕ) → n < length (now parents) → treeSum (at (now parents)) (length (now parents)) (at (now raised)) n
         ≤ at (now left) n) ⌝ }
     ensures taken { λ _. ⌜ ((n : ℕ) → n < length (now (parents .entry))
-        → at (now (left .exit)) n + sumBeneath (at (now (parents .entry))) (length (now (parents .entry))) (at (now (raised .entry))) n
+        → at (now (left .exit)) n + treeSum (at (now (parents .entry))) (length (now (parents .entry))) (at (now (raised .entry))) n
         ≡ at (now (left .entry)) n) ⌝ }
 {
     let mut n = parents.len();
@@ -57,8 +58,8 @@ fn take_rises(parents: &[u16], raised: &mut [u64], left: &mut [u32])
 pub fn raise_starts(parents: &[u16], nodes: &[u16], lows: &[u32], starts: &[u32], left: &mut [u32])
     requires raisable { ⌜ Raisable (now parents) (now nodes) (now lows) (now starts) (now left) ⌝ }
     ensures raised { λ _. ⌜ ((n : ℕ) → n < length (now (parents .entry))
-        → at (now (left .exit)) n + wattsUnder (now (parents .entry)) (now (nodes .entry)) (now (starts .entry)) n
-        ≡ at (now (left .entry)) n + wattsUnder (now (parents .entry)) (now (nodes .entry)) (now (lows .entry)) n) ⌝ }
+        → at (now (left .exit)) n + listBeneath (now (parents .entry)) (now (nodes .entry)) (now (starts .entry)) n
+        ≡ at (now (left .entry)) n + listBeneath (now (parents .entry)) (now (nodes .entry)) (now (lows .entry)) n) ⌝ }
 {
     let mut raised = [0u64; MOST_NODES];
     let n = parents.len();

@@ -47,9 +47,7 @@ module _ {r : Room} (ok : Accepted r) {demands parents spare : List ℕ} {cords 
       let of-nodes = levels-nodes ok of in
       let of-cords = levels-cords ok of in
       record {
-        few-nodes = of-nodes .0;
-        rises = of-nodes .1;
-        cuts-size = size;
+        of-nodes = record { few = of-nodes .0; rises = of-nodes .1; cuts-size = size };
         few = of-cords .few;
         wants-size = given-count;
         grants-size = grants-count;

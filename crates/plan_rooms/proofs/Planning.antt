@@ -31,7 +31,7 @@ use Rattle.deals.proofs.Bounds.{bounded}
 use Rattle.deals.proofs.StartsFit.{first-fit, second-fit}
 use Rattle.deals.specs.Levels.{LevelLists, RoomCords}
 use Rattle.figures.proofs.Cells.{zeros-front}
-use Rattle.deals.specs.Ranks.{DealLists, wattsUnder, Spare, DealGiven, DealMade, Uncut}
+use Rattle.deals.specs.Ranks.{DealLists, listBeneath, Spare, DealGiven, DealMade}
 use Rattle.plan_reclaim.specs.Raising.{Raisable}
 use Rattle.plan_reclaim.specs.Reclaimed.{ServerLists, usableFrom, usedFrom, strandedFrom, wantsFrom, freedFrom}
 use Rattle.plan_reclaim.proofs.Reclaiming.{usable-lists}
@@ -39,9 +39,11 @@ use Rattle.rooms.specs.Rows.{CordRows, nodeColumn, serverColumn, levelColumn, s
 use Rattle.layout.proofs.Rows.{cords-count, server-at, share-at}
 use Rattle.layout.proofs.Loading.{carried-is}
 use Rattle.plan_rooms.specs.Planning.{RoomToDeal}
+use Rattle.figures.specs.Places.{Zeros}
+use Rattle.rooms.specs.Trees.{ParentsFirst}
 
 -- No node is marked as cut in a list of zeros.
-pub blank-marks : {n size : ℕ} → n ≤ mostNodes → n ≡ size → Uncut size (take n (replicate mostNodes 0))
+pub blank-marks : {n size : ℕ} → n ≤ mostNodes → n ≡ size → Zeros size (take n (replicate mostNodes 0))
 blank-marks {n} few e = record {
   size = zeros-front mostNodes n few ∙ e;
   none = λ m l. getD-take n (replicate mostNodes 0) m 0 (omega arith) ∙ zeros-at mostNodes m;
@@ -82,7 +84,7 @@ module _ (r : Room) (ok : Accepted r) (starts wants : List ℕ) (starts-size : l
       }
 
 -- The watts in use after the first deal keep the limits: they are no more than its grants.
-used-within : (r : Room) → Accepted r → (demands : List ℕ) (n : ℕ) → n < length (parentsOf r) → wattsUnder (parentsOf r) (nodesOf r) (firstUsed r demands) n ≤ at (limitsOf r) n
+used-within : (r : Room) → Accepted r → (demands : List ℕ) (n : ℕ) → n < length (parentsOf r) → listBeneath (parentsOf r) (nodesOf r) (firstUsed r demands) n ≤ at (limitsOf r) n
 unfolding dealOf dealFrom under firstGrants firstDeal
 used-within r ok demands =
     subst (λ (d : Deal). (n : ℕ) → n < d .nodes → sumBelow d n (at (firstUsed r demands)) ≤ d .limit n) (sym (dealOf-is r (lowsOf r) (firstWants r demands)))
@@ -142,7 +144,7 @@ module _ {r : Room} (ok : Accepted r) {demands parents spare : List ℕ} {cords 
       room-lists r ok (firstUsed r demands) (secondWants r demands) used-size (figures-length (roomCords r) _) (second-dealable r ok demands) (bounded r ok demands .second) (second-fit r ok demands)
 
   -- What is asked of the levels, and what they leave.
-  pub levels-nodes : (length parents ≤ mostNodes) × ((m : ℕ) → m < length parents → at parents m ≤ m)
+  pub levels-nodes : (length parents ≤ mostNodes) × ParentsFirst (length parents) (at parents)
   levels-nodes = rw (of .lists .parents-are) (lists-first .of-nodes .few, lists-first .of-nodes .rises)
 
   pub levels-cords : RoomCords (length parents) cords
@@ -173,7 +175,7 @@ module _ {r : Room} (ok : Accepted r) {demands parents spare : List ℕ} {cords 
     raisable =
         let l = of .lists .cords-are in
         let lists : DealLists parents (limitsOf r) nodes (levelsOf r) lows starts (secondWants r demands) = rw (of .lists .parents-are, of .nodes-are, l .lows-are, used) lists-second in
-        let within : (n : ℕ) → n < length parents → wattsUnder parents nodes starts n ≤ at (limitsOf r) n = rw (of .lists .parents-are, of .nodes-are, used) (used-within r ok demands) in
+        let within : (n : ℕ) → n < length parents → listBeneath parents nodes starts n ≤ at (limitsOf r) n = rw (of .lists .parents-are, of .nodes-are, used) (used-within r ok demands) in
         record {
           few-nodes = lists .of-nodes .few;
           few = lists .of-cords .few;
@@ -189,7 +191,7 @@ module _ {r : Room} (ok : Accepted r) {demands parents spare : List ℕ} {cords 
         }
 
     -- What the limits have over the used watts, once these are taken.
-    pub raised : {after : List ℕ} → length after ≡ length spare → ((n : ℕ) → n < length parents → at after n + wattsUnder parents nodes starts n ≡ at spare n + wattsUnder parents nodes lows n)
+    pub raised : {after : List ℕ} → length after ≡ length spare → ((n : ℕ) → n < length parents → at after n + listBeneath parents nodes starts n ≡ at spare n + listBeneath parents nodes lows n)
         → Spare parents (limitsOf r) nodes starts after
     raised kept over = record {
       size = kept ∙ of .lists .spare-size;

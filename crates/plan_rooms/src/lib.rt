@@ -9,7 +9,7 @@ ghost use Rattle.rooms.specs.Table.{Room};
 ghost use Rattle.rooms.specs.Limits.{checked};
 ghost use Rattle.plan_rooms.specs.Outputs.{lists};
 ghost use Rattle.plan_rooms.specs.Planning.{RoomToDeal, SomeRoom, DealtTwice, PlanGiven, SomePlan, PlanLeft};
-ghost use Rattle.deals.specs.Ranks.{Uncut};
+ghost use Rattle.figures.specs.Places.{Zeros};
 use deals::by_rank::deal;
 use deals::levels::list_levels;
 use layout::list_nodes;
@@ -37,7 +37,7 @@ fn deal_twice(
     scale: u32,
 ) -> u64
     requires room { ⌜ SomeRoom (now parents) (now left) (now cords) (now nodes) (now lows) (now wants) (now caps) scale ⌝ }
-    requires blank { ⌜ Uncut (length (now parents)) (now cuts) × (length (now grants) ≡ length (now nodes)) ⌝ }
+    requires blank { ⌜ Zeros (length (now parents)) (now cuts) × (length (now grants) ≡ length (now nodes)) ⌝ }
     ensures dealt { λ freed. ⌜ ((table demands : List ℕ) (r : Room) (end : ℕ) → checked table 0 ≡ good r end
         → RoomToDeal r demands (now (parents .entry)) (now (left .entry)) (now (cords .entry)) (now (nodes .entry)) (now (lows .entry))
         (now (wants .entry)) (now (caps .entry)) scale

@@ -10,12 +10,13 @@ use borrow.Author.Tests.{eqb-true, eqb-false, eq-eqb, ne-eqb}
 use Rattle.figures.specs.Sums.{on, sum}
 use Rattle.figures.specs.Figures.{total, at}
 use Rattle.rooms.specs.Table.{Cord, Server}
-use Rattle.rooms.specs.Limits.{low, beneath, serverLows, lows}
+use Rattle.rooms.specs.Trees.{ParentsFirst, beneath, childSum, sumBeneath}
+use Rattle.rooms.specs.Limits.{low, serverLows, lows}
 use Rattle.figures.proofs.Credits.{placed, on-most, credited-length, credited-past}
-use Rattle.rooms.specs.Credits.{sumBeneath, creditedCords, creditedServers}
+use Rattle.rooms.specs.Credits.{treeSum, creditedCords, creditedServers}
 use Rattle.figures.specs.Credits.{credited}
 use Rattle.figures.proofs.Sums.{on-no, sum-cong, sum-add, sum-le, sum-one, sum-zero}
-use Rattle.rooms.proofs.Trees.{kids, kids-cong, own, below, below-step, under, under-is}
+use Rattle.rooms.proofs.Trees.{sumBeneath-step}
 use Rattle.rooms.proofs.All.{All}
 use Rattle.rooms.proofs.Rows.{CordHangs, ServerHangs}
 
@@ -33,34 +34,28 @@ eqb-sym m n = go (eqb m n) refl
 
 -- ---- The sum beneath a node
 
-pub sumBeneath-most : (count : ℕ) (parent figure : ℕ → ℕ) (n : ℕ) → sumBeneath parent count figure n ≤ sum count figure
+pub treeSum-most : (count : ℕ) (parent figure : ℕ → ℕ) (n : ℕ) → treeSum parent count figure n ≤ sum count figure
 unfolding sumBeneath
-sumBeneath-most count parent figure n = sum-le count _ _ (λ m l. on-most (beneath parent count n (suc m)) (figure m))
+treeSum-most count parent figure n = sum-le count _ _ (λ m l. on-most (beneath parent count n (suc m)) (figure m))
 
-pub sumBeneath-zero : (count : ℕ) (parent figure : ℕ → ℕ) (n : ℕ) → ((i : ℕ) → figure i ≡ 0) → sumBeneath parent count figure n ≡ 0
-sumBeneath-zero count parent figure n z =
-    omega (arith, sumBeneath-most count parent figure n, sum-cong count figure (λ i. 0) (λ i g. z i), sum-zero count)
+pub treeSum-zero : (count : ℕ) (parent figure : ℕ → ℕ) (n : ℕ) → ((i : ℕ) → figure i ≡ 0) → treeSum parent count figure n ≡ 0
+treeSum-zero count parent figure n z =
+    omega (arith, treeSum-most count parent figure n, sum-cong count figure (λ i. 0) (λ i g. z i), sum-zero count)
 
 -- A node's sum is its own figure and its children's sums.
-pub sumBeneath-step : (count : ℕ) (parent : ℕ → ℕ) → ((m : ℕ) → m < count → parent m ≤ m) → (figure : ℕ → ℕ) (n : ℕ) → n < count
-    → sumBeneath parent count figure n ≡ figure n + kids count parent n (sumBeneath parent count figure)
-unfolding sumBeneath under own
-sumBeneath-step count parent rises figure n l =
-    whole n
-    ∙ below-step count parent rises count suc (λ c h. h) n figure
-    ∙ ap₂ _+_
+pub treeSum-step : (count : ℕ) (parent : ℕ → ℕ) → ParentsFirst count parent → (figure : ℕ → ℕ) (n : ℕ) → n < count
+    → treeSum parent count figure n ≡ figure n + childSum count parent n (treeSum parent count figure)
+treeSum-step count parent rises figure n l =
+    sumBeneath-step count parent rises count suc (λ c h. h) n figure
+    ∙ ap (λ (x : ℕ). x + childSum count parent n (treeSum parent count figure))
     (sum-cong count _ _ (λ c h. ap (λ (t : Bool). on t (figure c)) (eqb·suc-suc c n ∙ eqb-sym c n)) ∙ sum-one count n figure l)
-    (kids-cong count parent n _ _ (λ m h e. sym (whole m)))
-  where
-    whole : (m : ℕ) → sumBeneath parent count figure m ≡ below count parent count suc m figure
-    whole m = under-is count parent rises count suc (λ c h. h) m figure
 
 -- What is credited to a node counts at every node that it hangs beneath.
-pub sumBeneath-credited : (count : ℕ) (parent : ℕ → ℕ) (node figure : ℕ) (l : List ℕ) (n : ℕ) → 1 ≤ node → node ≤ count → count ≤ length l
-    → sumBeneath parent count (at (credited node figure l)) n ≡ sumBeneath parent count (at l) n + on (beneath parent count n node) figure
+pub treeSum-credited : (count : ℕ) (parent : ℕ → ℕ) (node figure : ℕ) (l : List ℕ) (n : ℕ) → 1 ≤ node → node ≤ count → count ≤ length l
+    → treeSum parent count (at (credited node figure l)) n ≡ treeSum parent count (at l) n + on (beneath parent count n node) figure
 unfolding sumBeneath
-sumBeneath-credited count parent zero figure l n one h k = absurd (omega arith)
-sumBeneath-credited count parent (suc m) figure l n one h k =
+treeSum-credited count parent zero figure l n one h k = absurd (omega arith)
+treeSum-credited count parent (suc m) figure l n one h k =
     sum-cong count _ _ (λ i r. ap (on (under-n i)) (placed m figure l i (omega arith)) ∙ on-add-on (under-n i) (eqb m i) (getD l i 0) figure)
     ∙ sum-add count (λ i. on (under-n i) (getD l i 0)) (λ i. on (eqb m i) (on (under-n i) figure))
     ∙ ap (λ (x : ℕ). sum count (λ i. on (under-n i) (getD l i 0)) + x) (sum-one count m (λ i. on (under-n i) figure) h)
@@ -70,7 +65,7 @@ sumBeneath-credited count parent (suc m) figure l n one h k =
 
 -- ---- The sum beneath goes by the parents of the nodes alone
 
-beneath-cong : (count : ℕ) (p q : ℕ → ℕ) → ((m : ℕ) → m < count → p m ≡ q m) → ((m : ℕ) → m < count → p m ≤ m) → (steps n v : ℕ) → v ≤ count
+beneath-cong : (count : ℕ) (p q : ℕ → ℕ) → ((m : ℕ) → m < count → p m ≡ q m) → ParentsFirst count p → (steps n v : ℕ) → v ≤ count
     → beneath p steps n v ≡ beneath q steps n v
 unfolding beneath
 beneath-cong count p q e rises zero n v h = refl
@@ -79,14 +74,14 @@ beneath-cong count p q e rises (suc steps) n (suc m) h =
     ap (λ (t : Bool). eqb m n || t)
     (beneath-cong count p q e rises steps n (p m) (omega (arith, rises m h)) ∙ ap (beneath q steps n) (e m h))
 
-pub sumBeneath-cong : (count : ℕ) (p q figure : ℕ → ℕ) → ((m : ℕ) → m < count → p m ≡ q m) → ((m : ℕ) → m < count → p m ≤ m) → (n : ℕ)
-    → sumBeneath p count figure n ≡ sumBeneath q count figure n
+pub treeSum-cong : (count : ℕ) (p q figure : ℕ → ℕ) → ((m : ℕ) → m < count → p m ≡ q m) → ParentsFirst count p → (n : ℕ)
+    → treeSum p count figure n ≡ treeSum q count figure n
 unfolding sumBeneath
-sumBeneath-cong count p q figure e rises n =
+treeSum-cong count p q figure e rises n =
     sum-cong count _ _ (λ m l. ap (λ (t : Bool). on t (figure m)) (beneath-cong count p q e rises count n (suc m) l))
 
 -- No way along the parents meets a place past all nodes, so nothing is beneath it.
-beneath-past : (count : ℕ) (parent : ℕ → ℕ) → ((m : ℕ) → m < count → parent m ≤ m) → (steps n v : ℕ) → v ≤ count → count ≤ n
+beneath-past : (count : ℕ) (parent : ℕ → ℕ) → ParentsFirst count parent → (steps n v : ℕ) → v ≤ count → count ≤ n
     → beneath parent steps n v ≡ false
 unfolding beneath
 beneath-past count parent rises zero n v h l = refl
@@ -94,10 +89,10 @@ beneath-past count parent rises (suc steps) n zero h l = refl
 beneath-past count parent rises (suc steps) n (suc m) h l =
     ap₂ _||_ (ne-eqb m n (λ e. omega arith)) (beneath-past count parent rises steps n (parent m) (omega (arith, rises m h)) l)
 
-pub sumBeneath-past : (count : ℕ) (parent figure : ℕ → ℕ) → ((m : ℕ) → m < count → parent m ≤ m) → (n : ℕ) → count ≤ n
-    → sumBeneath parent count figure n ≡ 0
+pub treeSum-past : (count : ℕ) (parent figure : ℕ → ℕ) → ParentsFirst count parent → (n : ℕ) → count ≤ n
+    → treeSum parent count figure n ≡ 0
 unfolding sumBeneath
-sumBeneath-past count parent figure rises n h =
+treeSum-past count parent figure rises n h =
     sum-cong count _ (λ m. 0) (λ m l. on-no _ (figure m) (beneath-past count parent rises count n (suc m) l h)) ∙ sum-zero count
 
 -- ---- The credits of cords and of servers
@@ -128,19 +123,19 @@ module _ (scale count i : ℕ) (h : count ≤ i) where
       creditedServers-past ss (creditedCords scale (s .least) (s .cords) l) (g .1) ∙ creditedCords-past (s .least) (s .cords) l (g .0)
 
 module _ (scale count : ℕ) (parent : ℕ → ℕ) (n : ℕ) where
-  sumBeneath-cords : (least : ℕ) (cs : List Cord) (l : List ℕ) → count ≤ length l → All (CordHangs count) cs
-      → sumBeneath parent count (at (creditedCords scale least cs l)) n
-      ≡ sumBeneath parent count (at l) n + total (λ c. on (beneath parent count n (c .node)) (low scale least c)) cs
+  treeSum-cords : (least : ℕ) (cs : List Cord) (l : List ℕ) → count ≤ length l → All (CordHangs count) cs
+      → treeSum parent count (at (creditedCords scale least cs l)) n
+      ≡ treeSum parent count (at l) n + total (λ c. on (beneath parent count n (c .node)) (low scale least c)) cs
   unfolding creditedCords All total
-  sumBeneath-cords least [] l h g = omega arith
-  sumBeneath-cords least (c ∷ cs) l h g =
-      sumBeneath-cords least cs (credited (c .node) (low scale least c) l) (omega (arith, credited-length (c .node) (low scale least c) l)) (g .1)
-      ∙ omega (arith, sumBeneath-credited count parent (c .node) (low scale least c) l n (g .0 .0) (g .0 .1) h)
+  treeSum-cords least [] l h g = omega arith
+  treeSum-cords least (c ∷ cs) l h g =
+      treeSum-cords least cs (credited (c .node) (low scale least c) l) (omega (arith, credited-length (c .node) (low scale least c) l)) (g .1)
+      ∙ omega (arith, treeSum-credited count parent (c .node) (low scale least c) l n (g .0 .0) (g .0 .1) h)
 
-  pub sumBeneath-servers : (ss : List Server) (l : List ℕ) → count ≤ length l → All (ServerHangs count) ss
-      → sumBeneath parent count (at (creditedServers scale ss l)) n ≡ sumBeneath parent count (at l) n + lows scale (beneath parent count n) ss
+  pub treeSum-servers : (ss : List Server) (l : List ℕ) → count ≤ length l → All (ServerHangs count) ss
+      → treeSum parent count (at (creditedServers scale ss l)) n ≡ treeSum parent count (at l) n + lows scale (beneath parent count n) ss
   unfolding creditedServers All lows serverLows total
-  sumBeneath-servers [] l h g = omega arith
-  sumBeneath-servers (s ∷ ss) l h g =
-      sumBeneath-servers ss (creditedCords scale (s .least) (s .cords) l) (omega (arith, creditedCords-length scale (s .least) (s .cords) l)) (g .1)
-      ∙ omega (arith, sumBeneath-cords (s .least) (s .cords) l h (g .0))
+  treeSum-servers [] l h g = omega arith
+  treeSum-servers (s ∷ ss) l h g =
+      treeSum-servers ss (creditedCords scale (s .least) (s .cords) l) (omega (arith, creditedCords-length scale (s .least) (s .cords) l)) (g .1)
+      ∙ omega (arith, treeSum-cords (s .least) (s .cords) l h (g .0))

@@ -11,8 +11,9 @@ use lib.Dec.{ltb}
 use borrow.Author.Tests.{ltb-true, ltb-false}
 use Rattle.rooms.specs.Part.{Step, good, bad}
 use Rattle.rooms.specs.Table.{Node, Room, mostNodes, mostServers, mostServerCords, mostWatts, formOf, nodes, servers, table, roomCords}
-use Rattle.rooms.specs.Limits.{limit, beneath, nodeAt, parentOf, lows, lowsBeneath, lowsFrom, nodeLows, firstNode, overloaded, lowsTold}
-use Rattle.rooms.specs.Credits.{nodeIndex, parentAt, limitAt, sumBeneath, exceeds, creditedServers, creditedRoom, LowsCredited, SumsGathered}
+use Rattle.rooms.specs.Limits.{limit, nodeAt, parentOf, lows, lowsBeneath, lowsFrom, nodeLows, firstNode, overloaded, lowsTold}
+use Rattle.rooms.specs.Trees.{beneath}
+use Rattle.rooms.specs.Credits.{nodeIndex, parentAt, limitAt, treeSum, exceeds, creditedServers, creditedRoom, LowsCredited, SumsGathered}
 use Rattle.figures.specs.Figures.{at}
 use Rattle.rooms.specs.Told.{told}
 use Rattle.rooms.specs.declared.Refusal.{Refusal}
@@ -22,7 +23,7 @@ use Rattle.rooms.proofs.Places.{Layout, layout, same-parent, same-limit
 use Rattle.rooms.proofs.Whole.{percentsOf}
 use Rattle.rooms.proofs.Rows.{servers-hang}
 use Rattle.figures.proofs.Filled.{zeros-at}
-use Rattle.rooms.proofs.Credits.{sumBeneath-cong, sumBeneath-zero, sumBeneath-past, sumBeneath-servers, creditedServers-length, creditedServers-past}
+use Rattle.rooms.proofs.Credits.{treeSum-cong, treeSum-zero, treeSum-past, treeSum-servers, creditedServers-length, creditedServers-past}
 use Rattle.rooms.proofs.Search.{firstNode-cong}
 
 -- ---- The lows beneath each place, as a list
@@ -54,11 +55,11 @@ module _ (w : List ℕ) (r : Room) (j n count-at : ℕ) (is : Layout w r j n cou
   parent = parentAt (percentsOf w) w
 
   module _ (l : List ℕ) (zeros : (i : ℕ) → getD l i 0 ≡ 0) (size : n ≤ length l) where
-    credited-lows : (m : ℕ) → sumBeneath parent n (at (creditedServers (r .scale) (r .servers) l)) m ≡ lowsBeneath r m
+    credited-lows : (m : ℕ) → treeSum parent n (at (creditedServers (r .scale) (r .servers) l)) m ≡ lowsBeneath r m
     credited-lows m =
-        sumBeneath-cong n parent (parentOf r) (at (creditedServers (r .scale) (r .servers) l)) (same-parent w r j n count-at is) (table-rises w r j n count-at is) m
-        ∙ sumBeneath-servers (r .scale) n (parentOf r) m (r .servers) l size (servers-hang (r .scale) n (getD w count-at 0) 0 w (count-at + 1) (r .servers) j (is .servers-are))
-        ∙ ap (λ (x : ℕ). x + lows (r .scale) (beneath (parentOf r) n m) (r .servers)) (sumBeneath-zero n (parentOf r) (at l) m zeros)
+        treeSum-cong n parent (parentOf r) (at (creditedServers (r .scale) (r .servers) l)) (same-parent w r j n count-at is) (table-rises w r j n count-at is) m
+        ∙ treeSum-servers (r .scale) n (parentOf r) m (r .servers) l size (servers-hang (r .scale) n (getD w count-at 0) 0 w (count-at + 1) (r .servers) j (is .servers-are))
+        ∙ ap (λ (x : ℕ). x + lows (r .scale) (beneath (parentOf r) n m) (r .servers)) (treeSum-zero n (parentOf r) (at l) m zeros)
         ∙ rw (← (node-count w r j n count-at is)) (omega arith)
 
     -- Gathered, the credited lows are those beneath each place.
@@ -75,7 +76,7 @@ module _ (w : List ℕ) (r : Room) (j n count-at : ℕ) (is : Layout w r j n cou
             g .past i past
             ∙ creditedServers-past (r .scale) n i past (r .servers) l (servers-hang (r .scale) n (getD w count-at 0) 0 w (count-at + 1) (r .servers) j (is .servers-are))
             ∙ zeros i
-            ∙ sym (sumBeneath-past n parent (at (creditedServers (r .scale) (r .servers) l)) (table-rises w r j n count-at is) i past)
+            ∙ sym (treeSum-past n parent (at (creditedServers (r .scale) (r .servers) l)) (table-rises w r j n count-at is) i past)
             ∙ credited-lows i
 
     pub overloaded-found : firstNode n 0 (exceeds parent (limitAt (percentsOf w) w) n (creditedServers (r .scale) (r .servers) l)) ≡ overloaded r

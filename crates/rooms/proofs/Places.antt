@@ -14,6 +14,7 @@ use Rattle.rooms.proofs.NodeWords.{percent-to}
 use Rattle.rooms.proofs.Inversion.{many-length, NodeIs}
 use Rattle.rooms.proofs.Whole.{percentsOf, table-is}
 use Rattle.rooms.proofs.Rows.{nodes-words, nodes-at}
+use Rattle.rooms.specs.Trees.{ParentsFirst}
 
 -- Where the parts of a good table stand: n nodes from index 2 on, and the count of servers at index `count-at`.
 pub record Layout (w : List ℕ) (r : Room) (j n count-at : ℕ) : Type 0 where
@@ -51,7 +52,7 @@ module _ (w : List ℕ) (r : Room) (j n count-at : ℕ) (is : Layout w r j n cou
   pub same-limit : (m : ℕ) → m < n → limitAt (percentsOf w) w m ≡ limit (nodeAt r m)
   same-limit m g = sym (ap (λ (x : Node). limit x) (node-at m g .is))
 
-  pub table-rises : (m : ℕ) → m < n → parentAt (percentsOf w) w m ≤ m
+  pub table-rises : ParentsFirst n (parentAt (percentsOf w) w)
   table-rises m g = omega (arith, node-at m g .parent, same-parent m g)
 
   pub nodes-read : {percents : Bool} → percents ≡ percentsOf w → count-at ≡ nodeIndex (percentsOf w) n → NodesRead percents w n

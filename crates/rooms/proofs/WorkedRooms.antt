@@ -10,7 +10,8 @@ use Rattle.outcomes.specs.Outcome.{unless}
 use Rattle.rooms.specs.Part.{follow, word, ensure, end, many}
 use Rattle.figures.specs.Figures.{total}
 use Rattle.rooms.specs.Table.{formOf, percent, node, cord, range, load, server, table}
-use Rattle.rooms.specs.Limits.{beneath, serverLows, lows, firstNode, overloaded, checked}
+use Rattle.rooms.specs.Trees.{beneath}
+use Rattle.rooms.specs.Limits.{serverLows, lows, firstNode, overloaded, checked}
 use Rattle.rooms.specs.Outcome.{SheetOutcome, answerOf, answerNumber, answerFigure, reading}
 
 -- Room H's 28 bytes.

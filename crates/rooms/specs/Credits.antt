@@ -8,10 +8,11 @@ use lib.ListN.{length, getD}
 use lib.Dec.{ltb}
 use Rattle.figures.specs.Credits.{credited}
 use Rattle.figures.specs.Figures.{at}
-use Rattle.figures.specs.Sums.{on, sum}
+use Rattle.figures.specs.Sums.{sum}
 use Rattle.rooms.specs.Part.{Step, good}
 use Rattle.rooms.specs.Table.{Node, Cord, Server, Room, mostNodes, nodeWords}
-use Rattle.rooms.specs.Limits.{limit, low, beneath}
+use Rattle.rooms.specs.Trees.{ParentsFirst, sumBeneath}
+use Rattle.rooms.specs.Limits.{limit, low}
 
 -- The node whose words start at an index of a table.
 abbrev pub nodeFrom : Bool → List ℕ → ℕ → Node
@@ -31,16 +32,16 @@ limitAt percents w m = limit (nodeFrom percents w (nodeIndex percents m))
 pub record NodesRead (percents : Bool) (w : List ℕ) (count : ℕ) : Type 0 where
   pub few : count ≤ mostNodes
   pub there : nodeIndex percents count ≤ length w
-  pub rises : (m : ℕ) → m < count → parentAt percents w m ≤ m
+  pub rises : ParentsFirst count (parentAt percents w)
   pub part : (m : ℕ) → m < count → nodeFrom percents w (nodeIndex percents m) .percent ≤ 100
 
 -- Figures that stand on nodes, summed over a node and all nodes beneath it, at any depth.
-unfoldable pub sumBeneath : (ℕ → ℕ) → ℕ → (ℕ → ℕ) → ℕ → ℕ
-sumBeneath parent count figure n = sum count (λ m. on (beneath parent count n (suc m)) (figure m))
+abbrev pub treeSum : (ℕ → ℕ) → ℕ → (ℕ → ℕ) → ℕ → ℕ
+treeSum parent count figure n = sumBeneath count parent count suc n figure
 
 -- Whether what stands on a node and beneath it exceeds its limit.
 abbrev pub exceeds : (ℕ → ℕ) → (ℕ → ℕ) → ℕ → List ℕ → ℕ → Bool
-exceeds parent limit count sums n = ltb (limit n) (sumBeneath parent count (at sums) n)
+exceeds parent limit count sums n = ltb (limit n) (treeSum parent count (at sums) n)
 
 -- The lows of a server's cords, by the scale and its least, credited to the cords' nodes; and those of all servers, of a room.
 unfoldable pub creditedCords : ℕ → ℕ → List Cord → List ℕ → List ℕ
@@ -67,5 +68,5 @@ pub record LowsCredited {A : Type 0} (step : Step A) (credit : A → List ℕ �
 -- and beneath it, and past the nodes nothing changes.
 pub record SumsGathered (parent : ℕ → ℕ) (count : ℕ) (sums sums′ : List ℕ) : Type 0 where
   pub size : length sums′ ≡ length sums
-  pub nodes : (n : ℕ) → n < count → getD sums′ n 0 ≡ sumBeneath parent count (at sums) n
+  pub nodes : (n : ℕ) → n < count → getD sums′ n 0 ≡ treeSum parent count (at sums) n
   pub past : (n : ℕ) → count ≤ n → getD sums′ n 0 ≡ getD sums n 0

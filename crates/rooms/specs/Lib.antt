@@ -1,6 +1,7 @@
 -- What a reader must believe of `rooms`: the table, what a node may carry, and the room's figures as lists and as rows.
 pub mod Part
 pub mod Table
+pub mod Trees
 pub mod Limits
 pub mod Cords
 pub mod Lists

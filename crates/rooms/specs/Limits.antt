@@ -1,5 +1,5 @@
 -- What a node may carry: limits, lows, and the cords beneath a node at any depth.
-use mathlib.Core.Bool.{Bool, false, cond, _||_}
+use mathlib.Core.Bool.{Bool, cond}
 use mathlib.Core.List.{List, [], _∷_}
 use Prim.Native.Nat.{ℕ, zero, suc, _+_, _-_, _*_, _/_}
 use lib.ListN.{length, getD, replicate}
@@ -8,6 +8,7 @@ use Rattle.rooms.specs.Part.{Step, good, bad, Part, _>>=_, give, ensure}
 use Rattle.figures.specs.Figures.{total}
 use Rattle.figures.specs.Sums.{on}
 use Rattle.rooms.specs.Table.{Node, Cord, Server, Room, mostNodes, table}
+use Rattle.rooms.specs.Trees.{beneath}
 use Rattle.rooms.specs.declared.Refusal.the-variants.{LowsAboveLimit}
 
 -- A node's limit: floor(rating × percent / 100).
@@ -21,13 +22,6 @@ carried scale share load = (share * load + (scale - 1)) / scale
 -- A cord's low, by the room's scale and its server's least: ceil(share × least / scale).
 abbrev pub low : ℕ → ℕ → Cord → ℕ
 low scale least c = carried scale (c .share) least
-
--- Whether the way from node number v along the parents, of at most so many steps, meets the node at place n.
--- A place counts from 0 and a number from 1; number 0 is no node, and ends the way.
-unfoldable pub beneath : (ℕ → ℕ) → ℕ → ℕ → ℕ → Bool
-beneath parent zero n v = false
-beneath parent (suc steps) n zero = false
-beneath parent (suc steps) n (suc m) = eqb m n || beneath parent steps n (parent m)
 
 -- The node at a place, and its parent's number.
 abbrev pub nodeAt : Room → ℕ → Node

@@ -7,7 +7,8 @@ use borrow.Author.Needs.{needs}
 use Rattle.rooms.specs.Table.{mostNodes, mostCords, highestRank}
 use Rattle.plan_holders.specs.Holding.{HeldLists}
 use Rattle.figures.proofs.Filled.{Filled, filled-none, filled-one, filled-all}
-use Rattle.plan_holders.proofs.Rows.{zeros-none, heldAt, cut-nodes, held-is}
+use Rattle.figures.proofs.Cells.{zeroRows}
+use Rattle.plan_holders.proofs.Rows.{heldAt, held-is}
 use Rattle.plan_holders.proofs.name_holders.Statement.{statement}
 use Rattle.plan_holders.proofs.name_holders.Tie as tie
 
@@ -48,7 +49,7 @@ level-fits : (r : Read) → r .index2 .result < highestRank
 level-fits r = omega (arith, r .index2 .ensures .0, lists (turn r) .ranked (turn r .before .loop .c) (turn r .loop-test .taken))
 
 fill-rows-requires : tie.Need-fill-rows-requires Inv-loop μ-loop
-fill-rows-requires c κs = (cut-nodes (entered c .pre .0), zeros-none 513 16 refl refl)
+fill-rows-requires c κs = (entered c .pre .0 .of-nodes, zeroRows 513 16)
 
 loop-holds : tie.Need-loop-holds Inv-loop μ-loop
 loop-holds c = filled-none _ _

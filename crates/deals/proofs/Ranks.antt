@@ -12,10 +12,10 @@ use lib.Seq.{ext-getD}
 use borrow.Author.Tests.{ne-eqb, eqb-true, eqb-false, le-ltb}
 use Rattle.figures.specs.Sums.{on, sum}
 use Rattle.rooms.specs.Table.{mostWatts, mostCords, highestRank}
-use Rattle.rooms.specs.Limits.{beneath}
+use Rattle.rooms.specs.Trees.{beneath, sumBeneath, childSum}
 use Rattle.rooms.specs.Credits.{treeSum}
 use Rattle.figures.proofs.Sums.{on-comm, on-no, sum-cong, sum-zero, sum-suc, sum-le, sum-none, up, up-suc}
-use Rattle.rooms.proofs.Trees.{own, under, kids-cong, down, rise, childSum-none}
+use Rattle.rooms.proofs.Trees.{childSum-cong, down, rise, childSum-none}
 use Rattle.rooms.proofs.Credits.{treeSum-step}
 use Rattle.figures.specs.Figures.{at, cell}
 use Rattle.deals.specs.Metrics.{Deal, dealFrom, metrics, atLevel}
@@ -31,13 +31,12 @@ use Rattle.deals.specs.Levels.{ActiveNodes, CordsActive, CordsOf}
 use Rattle.deals.proofs.Ordering.{listed-before, listed-all}
 use Rattle.figures.proofs.Lists.{figures-length}
 use Rattle.deals.proofs.Amounts.{childCords-most}
-use Rattle.deals.proofs.Requests.{Dealable, later, sumBelow, asked, request-asked, sumBelow-unique, sumBelow-all}
+use Rattle.deals.proofs.Requests.{Dealable, later, dealBeneath, asked, request-asked, dealBeneath-unique, dealBeneath-all}
 use Rattle.deals.proofs.Equations.{Dealt, weights, weights-are, pcapmin-starts}
 use Rattle.deals.proofs.Computed.{pcapmin, request, startsOf, amountOf, measured, dealt, granted-at, Startable}
 use Rattle.deals.proofs.Bounds.{asked-most, request-most}
 use Rattle.deals.proofs.Totals.{requestTotal-is, startsBelow-is}
 use Rattle.deals.proofs.NodeSums.{on-zero}
-use Rattle.rooms.specs.Trees.{childSum}
 
 -- What is left before a level is what the limit has over the Requests of the higher ones and the starts of this one and the lower ones. The
 -- definition's bracket has Pcapmin, which is no more, in the place of the starts of the lower levels. Where the bracket counts, the
@@ -50,7 +49,7 @@ row-left limit higher lower starts start left whole request less is row fits = o
 
 -- Whether a node is cut, by what its children ask.
 cut-is : (d : Deal) (n j : ℕ) → cutAt d (metrics d) n j ≡ ltb (request d n j) (asked d (request d) n j)
-unfolding request asked own
+unfolding request asked
 cut-is d n j = refl
 
 module _ (d : Deal) (ok : Dealable d) where
@@ -58,24 +57,23 @@ module _ (d : Deal) (ok : Dealable d) where
 
   -- What sums a figure of a level's cords over each node's children is, at each node, the sum over the nodes beneath of what hangs on each.
   pub beneath-sum : (figure : ℕ → ℕ) (sums : ℕ → ℕ → ℕ) (j : ℕ)
-      → ((n : ℕ) → n < nodes → sums n j ≡ kids nodes parent n (λ m. sums m j) + own cords node n (atLevel d j figure))
-      → (n : ℕ) → n < nodes → sums n j ≡ treeSum parent nodes (λ m. own cords node m (atLevel d j figure)) n
-  beneath-sum figure sums j by-children = down nodes (λ n. sums n j ≡ treeSum parent nodes (λ m. own cords node m (atLevel d j figure)) n) (λ n l ih.
-      let f : ℕ → ℕ = λ m. own cords node m (atLevel d j figure) in
-      let k : kids nodes parent n (λ m. sums m j) ≡ kids nodes parent n (treeSum parent nodes f)
-      = kids-cong nodes parent n _ _ (λ m lm q. ih m lm (subst (λ (z : ℕ). z ≤ m) q (ok .rises m lm))) in
+      → ((n : ℕ) → n < nodes → sums n j ≡ childSum nodes parent n (λ m. sums m j) + childSum cords node n (atLevel d j figure))
+      → (n : ℕ) → n < nodes → sums n j ≡ treeSum parent nodes (λ m. childSum cords node m (atLevel d j figure)) n
+  beneath-sum figure sums j by-children = down nodes (λ n. sums n j ≡ treeSum parent nodes (λ m. childSum cords node m (atLevel d j figure)) n) (λ n l ih.
+      let f : ℕ → ℕ = λ m. childSum cords node m (atLevel d j figure) in
+      let k : childSum nodes parent n (λ m. sums m j) ≡ childSum nodes parent n (treeSum parent nodes f)
+      = childSum-cong nodes parent n _ _ (λ m lm q. ih m lm (subst (λ (z : ℕ). z ≤ m) q (ok .rises m lm))) in
       omega (arith, by-children n l, treeSum-step nodes parent (ok .rises) f n l))
 
   -- The starts beneath a node, over all levels.
-  pub starts-all : (n : ℕ) → n < nodes → sum levels (startsOf d n) ≡ sumBelow d n start
+  pub starts-all : (n : ℕ) → n < nodes → sum levels (startsOf d n) ≡ dealBeneath d n start
   starts-all n l =
-      sum-cong levels _ _ (λ j h. sumBelow-unique d ok (atLevel d j start) (λ m. startsOf d m j) (λ m lm. dealt d ok .starts m j lm h ∙ add-comm _ _) n l)
-      ∙ sumBelow-all d ok n start
+      sum-cong levels _ _ (λ j h. dealBeneath-unique d ok (atLevel d j start) (λ m. startsOf d m j) (λ m lm. dealt d ok .starts m j lm h ∙ add-comm _ _) n l)
+      ∙ dealBeneath-all d ok n start
 
   -- A level that no cord has: no starts and no Request, and no node is cut there.
   module _ (j : ℕ) (h : j < levels) (none : (c : ℕ) → c < cords → level c ≡ j → ⊥) where
-    childCords-none : (f : ℕ → ℕ) (n : ℕ) → own cords node n (atLevel d j f) ≡ 0
-    unfolding own
+    childCords-none : (f : ℕ → ℕ) (n : ℕ) → childSum cords node n (atLevel d j f) ≡ 0
     childCords-none f n = sum-cong cords _ _ (λ c l. zero-at c l) ∙ sum-zero cords
       where
         zero-at : (c : ℕ) → c < cords → on (eqb (node c) (suc n)) (atLevel d j f c) ≡ 0
@@ -110,7 +108,7 @@ module _ (parents limits nodes levels lows starts wants : List ℕ) (lists : Dea
   theDeal = dealFrom parents limits nodes levels lows starts wants
 
   pub dealable : Dealable theDeal
-  unfolding dealFrom under
+  unfolding dealFrom sumBeneath
   dealable = record {
     rises = ns .rises;
     here = cs .within;
@@ -184,7 +182,7 @@ module _ (parents limits nodes levels lows starts wants : List ℕ) (lists : Dea
 
   -- Before the first rank.
   pub state-start : (rows : List (List ℕ)) (left cuts grants : List ℕ) → Spare parents limits nodes starts left → Zeros (length parents) cuts → State highestRank rows left cuts grants
-  unfolding dealFrom under up
+  unfolding dealFrom sumBeneath up
   state-start rows left cuts grants spare uncut = record {
     higher = 0;
     sum-is = omega arith;
@@ -269,7 +267,7 @@ module _ (parents limits nodes levels lows starts wants : List ℕ) (lists : Dea
 
       figures-sum : (list : List ℕ) (figure : ℕ → ℕ) → ((n : ℕ) → n < length parents → at list n ≡ overListed listed nodes figure n)
           → ((c : ℕ) → c < length nodes → figure c ≤ mostWatts) → sum (length parents) (at list) ≤ mostCords * mostWatts
-      unfolding dealFrom own
+      unfolding dealFrom
       figures-sum list figure is most =
           le-trans (le-of-eq (sum-cong (length parents) _ _ (λ n l. is n l ∙ listed-level figure n)))
           (le-trans (childCords-most (length parents) (length nodes) (at nodes) (dealable .hangs) (dealable .here) (atLevel theDeal j figure) mostWatts (level-most figure most)) (mul-le-mul-right mostWatts (cs .few)))
@@ -281,9 +279,9 @@ module _ (parents limits nodes levels lows starts wants : List ℕ) (lists : Dea
       )
 
       beneath-is : (list : List ℕ) (figure : ℕ → ℕ) (sums : ℕ → ℕ → ℕ) → ((n : ℕ) → n < length parents → at list n ≡ overListed listed nodes figure n)
-          → ((n : ℕ) → n < length parents → sums n j ≡ kids (length parents) (at parents) n (λ m. sums m j) + own (length nodes) (at nodes) n (atLevel theDeal j figure))
+          → ((n : ℕ) → n < length parents → sums n j ≡ childSum (length parents) (at parents) n (λ m. sums m j) + childSum (length nodes) (at nodes) n (atLevel theDeal j figure))
           → (n : ℕ) → n < length parents → treeSum (at parents) (length parents) (at list) n ≡ sums n j
-      unfolding dealFrom own treeSum
+      unfolding dealFrom sumBeneath
       beneath-is list figure sums is by-children n l =
           sum-cong (length parents) _ _ (λ m h. ap (λ (z : ℕ). on (beneath (at parents) (length parents) n (suc m)) z) (is m h ∙ listed-level figure m))
           ∙ sym (beneath-sum theDeal dealable figure sums j by-children n l)
@@ -305,10 +303,10 @@ module _ (parents limits nodes levels lows starts wants : List ℕ) (lists : Dea
 
         -- The children's weights, once those of the child nodes are the deal's.
         whole-by : (n : ℕ) → n < length parents → ((m : ℕ) → m < length parents → n < m → cell rows′ m j ≡ req m j) → at wholes n ≡ weights theDeal base req n j
-        unfolding dealFrom weights own
+        unfolding dealFrom weights
         whole-by n l ih =
             let c : childSum (length parents) (at parents) n (requestWeight rows′ j bases) ≡ childSum (length parents) (at parents) n (λ m. req m j - base m j)
-            = kids-cong (length parents) (at parents) n _ _ (λ m lm q. ap₂ _-_ (ih m lm (subst (λ (z : ℕ). z ≤ m) q (ns .rises m lm))) (bases-are m lm)) in
+            = childSum-cong (length parents) (at parents) n _ _ (λ m lm q. ap₂ _-_ (ih m lm (subst (λ (z : ℕ). z ≤ m) q (ns .rises m lm))) (bases-are m lm)) in
             omega (arith, g .children n l, own-weights n l, listed-level (cordWeight starts wants) n)
 
         request-left : (n : ℕ) → n < length parents → req n j ≡ base n j + min (at left n) (weights theDeal base req n j)
@@ -364,7 +362,7 @@ module _ (parents limits nodes levels lows starts wants : List ℕ) (lists : Dea
                   ∙ ap₂ (λ (x w : ℕ). part x w (sum m (λ h. on (eqb (at parents h) (suc n)) (req h j - base h j))) (req m j - base m j)) (ih n u (λ none. some (nodes-active .closed m n l e none))) (whole-is n (omega arith))
                   ∙ sym (equations .inner m n j l e)
 
-          served-is : (n : ℕ) → n < length parents → Present active count n → at before n ≡ kids (length parents) (at parents) n (λ m. req m j - base m j)
+          served-is : (n : ℕ) → n < length parents → Present active count n → at before n ≡ childSum (length parents) (at parents) n (λ m. req m j - base m j)
           served-is n l some = nd .served n l some ∙ children-is n (length parents) (le-refl (length parents))
 
           -- A node with a listed cord on it is active.
@@ -381,7 +379,7 @@ module _ (parents limits nodes levels lows starts wants : List ℕ) (lists : Dea
             pub cords-ask : (at amounts n ≤ mostWatts) × (at amounts n ≤ at wholes n) × (at wholes n ≤ mostCords * mostWatts)
                 × (at dealts n ≡ at amounts n * at before n / at wholes n)
                 × (at before n + overListed listed nodes (cordWeight starts wants) n ≤ at wholes n)
-            unfolding dealFrom weights own
+            unfolding dealFrom weights
             cords-ask =
                 let asks = nodes-ask n there in
                 let most = nd .most n there some in (
@@ -396,13 +394,13 @@ module _ (parents limits nodes levels lows starts wants : List ℕ) (lists : Dea
           reached-is : (c n i : ℕ) → c < length nodes → at nodes c ≡ suc n → at levels c ≡ i
               → reached theDeal (metrics theDeal) c
               ≡ part (amountOf theDeal n i) (weights theDeal base req n i)
-              (kids (length parents) (at parents) n (λ m. req m i - base m i) + ofLevel i (cordWeight starts wants) n c) (cordWeight starts wants c)
+              (childSum (length parents) (at parents) n (λ m. req m i - base m i) + ofLevel i (cordWeight starts wants) n c) (cordWeight starts wants c)
           unfolding dealFrom
           reached-is c n i l q e =
               subst
               (λ (i : ℕ). reached theDeal (metrics theDeal) c
               ≡ part (amountOf theDeal n i) (weights theDeal base req n i)
-              (kids (length parents) (at parents) n (λ m. req m i - base m i) + ofLevel i (cordWeight starts wants) n c) (cordWeight starts wants c)) e
+              (childSum (length parents) (at parents) n (λ m. req m i - base m i) + ofLevel i (cordWeight starts wants) n c) (cordWeight starts wants c)) e
               (equations .leaf c n l q)
 
           module _ (grants′ : List ℕ) (cd : CordsDealt listed nodes starts wants wholes amounts before grants grants′) where

@@ -13,7 +13,6 @@ use borrow.Author.Tests.{ne-eqb}
 use Rattle.figures.specs.Sums.{on, sum}
 use Rattle.figures.specs.Credits.{credited}
 use Rattle.figures.proofs.Sums.{on-no, sum-suc, up-cong}
-use Rattle.rooms.proofs.Trees.{childSum-none}
 use Rattle.figures.proofs.Credits.{credited-at, credited-length, figure-in-sum, sum-credited}
 use Rattle.rooms.proofs.Gather.{Holds, holds-start, holds-turn, holds-end, holds-whole}
 use Rattle.figures.specs.Figures.{at}
@@ -23,6 +22,7 @@ use Rattle.deals.specs.Levels.{ActiveNodes}
 use Rattle.figures.proofs.Lists.{passed-down}
 use Rattle.deals.proofs.Active.{Parted, parted-none, parted-all, parted-at, parted-after, between}
 use Rattle.deals.proofs.NodeSums.{credited-nothing}
+use Rattle.rooms.proofs.Trees.{childSum-none}
 
 -- What the turn of the node at place m leaves.
 pub record Settled (active : List ℕ) (count : ℕ) (left₀ left wholes weights : List ℕ) (m : ℕ) : Type 0 where

@@ -12,7 +12,7 @@ use Rattle.figures.specs.Figures.{at, cell}
 use Rattle.splits.specs.Split.{part}
 use Rattle.figures.specs.Places.{Absent, Present, Full}
 use Rattle.deals.specs.Levels.{ActiveNodes}
-use Rattle.rooms.specs.Trees.{ParentsFirst, childSum}
+use Rattle.rooms.specs.Trees.{childSum, ParentsFirst}
 
 -- The cords of a level, listed by their places, in a room of so many nodes; and for each cord its node's number, its start and its
 -- want.

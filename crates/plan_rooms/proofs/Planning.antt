@@ -11,7 +11,6 @@ use lib.Seq.{getD-take}
 use Rattle.rooms.specs.Table.{Room, roomCords, mostNodes}
 use Rattle.rooms.specs.Limits.{hangsBeneath}
 use Rattle.rooms.proofs.Accepted.{Accepted}
-use Rattle.rooms.proofs.Trees.{under}
 use Rattle.figures.specs.Figures.{figures, at, column, sumOf}
 use Rattle.figures.proofs.Columns.{column-at}
 use Rattle.figures.proofs.Lists.{figures-length}
@@ -24,7 +23,7 @@ use Rattle.deals.specs.Metrics.{Deal, dealFrom, dealOf}
 use Rattle.deals.specs.Properties.{DealBounded, StartsFit}
 use Rattle.deals.specs.SecondDeal.{leastOver, usable, stranded, wantsAfter, firstDeal, firstGrants, firstUsable, firstUsed, secondDeal, secondWants, secondGrants}
 use Rattle.deals.specs.SecondDeal as second
-use Rattle.deals.proofs.Requests.{Dealable, sumBelow}
+use Rattle.deals.proofs.Requests.{Dealable, dealBeneath}
 use Rattle.deals.proofs.RoomDeals.{dealOf-is, parentsOf-length, limitsOf-length, nodesOf-length, levelsOf-length, sharesOf-at, serversOf-at}
 use Rattle.deals.proofs.BothDeals.{cord-facts, lowsOf-length, carriedBy-length, lows-under, grants-way, firstWants-lows, first-starts, firstUsed-granted, first-dealable, second-dealable}
 use Rattle.deals.proofs.Bounds.{bounded}
@@ -39,8 +38,8 @@ use Rattle.rooms.specs.Rows.{CordRows, nodeColumn, serverColumn, levelColumn, s
 use Rattle.layout.proofs.Rows.{cords-count, server-at, share-at}
 use Rattle.layout.proofs.Loading.{carried-is}
 use Rattle.plan_rooms.specs.Planning.{RoomToDeal}
+use Rattle.rooms.specs.Trees.{sumBeneath, ParentsFirst}
 use Rattle.figures.specs.Places.{Zeros}
-use Rattle.rooms.specs.Trees.{ParentsFirst}
 
 -- No node is marked as cut in a list of zeros.
 pub blank-marks : {n size : ℕ} → n ≤ mostNodes → n ≡ size → Zeros size (take n (replicate mostNodes 0))
@@ -55,7 +54,7 @@ blank-marks {n} few e = record {
 module _ (r : Room) (ok : Accepted r) (starts wants : List ℕ) (starts-size : length starts ≡ roomCords r) (wants-size : length wants ≡ roomCords r)
     (d : Dealable (dealOf r starts wants)) (b : DealBounded (dealOf r starts wants)) (fit : StartsFit (dealOf r starts wants)) where
   pub room-lists : DealLists (parentsOf r) (limitsOf r) (nodesOf r) (levelsOf r) (lowsOf r) starts wants
-  unfolding dealOf dealFrom under
+  unfolding dealOf dealFrom sumBeneath
   room-lists =
       let n = nodesOf-length r in
       record {
@@ -85,9 +84,9 @@ module _ (r : Room) (ok : Accepted r) (starts wants : List ℕ) (starts-size : l
 
 -- The watts in use after the first deal keep the limits: they are no more than its grants.
 used-within : (r : Room) → Accepted r → (demands : List ℕ) (n : ℕ) → n < length (parentsOf r) → listBeneath (parentsOf r) (nodesOf r) (firstUsed r demands) n ≤ at (limitsOf r) n
-unfolding dealOf dealFrom under firstGrants firstDeal
+unfolding dealOf dealFrom sumBeneath firstGrants firstDeal
 used-within r ok demands =
-    subst (λ (d : Deal). (n : ℕ) → n < d .nodes → sumBelow d n (at (firstUsed r demands)) ≤ d .limit n) (sym (dealOf-is r (lowsOf r) (firstWants r demands)))
+    subst (λ (d : Deal). (n : ℕ) → n < d .nodes → dealBeneath d n (at (firstUsed r demands)) ≤ d .limit n) (sym (dealOf-is r (lowsOf r) (firstWants r demands)))
     (λ n l.
     le-trans (sum-le (roomCords r) _ _ (λ c h. on-le (hangsBeneath r n (cordAt r c .node)) _ _ (λ t. firstUsed-granted r ok demands c h)))
     (grants-way r ok (lowsOf r) (firstWants r demands) (firstWants-lows r ok demands) (first-starts r ok demands) .within n l))
@@ -162,6 +161,7 @@ module _ {r : Room} (ok : Accepted r) {demands parents spare : List ℕ} {cords 
 
   -- What the limits have over the lows.
   spared : Spare parents (limitsOf r) nodes lows spare
+  unfolding sumBeneath
   spared =
       rw (of .lists .parents-are, of .nodes-are, of .lists .cords-are .lows-are)
       (record {

@@ -96,7 +96,7 @@ plan-figures-requires : tie.Need-plan-figures-requires
 plan-figures-requires c κs = search needs
 
 array-share-prefix-granted : tie.Need-array-share-prefix-granted
-array-share-prefix-granted c = left (c .before .before .before .before) .lists-are Grants .few
+array-share-prefix-granted c = omega (arith, left (c .before .before .before .before) .lists-are Grants .few)
 
 slice-aggregate-store : tie.Need-slice-aggregate-store
 slice-aggregate-store c = sym (length-take-le _ _ (array-share-prefix-granted (c .before)))
@@ -105,7 +105,7 @@ store-requires : tie.Need-store-requires
 store-requires c κs = search needs
 
 array-share-prefix-capped : tie.Need-array-share-prefix-capped
-array-share-prefix-capped c = left (figures-s (c .before .before)) .lists-are Caps .few
+array-share-prefix-capped c = omega (arith, left (figures-s (c .before .before)) .lists-are Caps .few)
 
 slice-aggregate-store-2 : tie.Need-slice-aggregate-store-2
 slice-aggregate-store-2 c = sym (length-take-le _ _ (array-share-prefix-capped (c .before)))
@@ -114,7 +114,7 @@ store-requires-2 : tie.Need-store-requires-2
 store-requires-2 c κs = search needs
 
 array-share-prefix-lent : tie.Need-array-share-prefix-lent
-array-share-prefix-lent c = left (figures-s (store-2 (c .before .before))) .lists-are Headroom .few
+array-share-prefix-lent c = omega (arith, left (figures-s (store-2 (c .before .before))) .lists-are Headroom .few)
 
 slice-aggregate-store-3 : tie.Need-slice-aggregate-store-3
 slice-aggregate-store-3 c = sym (length-take-le _ _ (array-share-prefix-lent (c .before)))
@@ -123,7 +123,7 @@ store-requires-3 : tie.Need-store-requires-3
 store-requires-3 c κs = search needs
 
 array-share-prefix-holders : tie.Need-array-share-prefix-holders
-array-share-prefix-holders c = left (figures-s (store-2 (store-3 (c .before .before)))) .lists-are Held .few
+array-share-prefix-holders c = omega (arith, left (figures-s (store-2 (store-3 (c .before .before)))) .lists-are Held .few)
 
 slice-aggregate-store-4 : tie.Need-slice-aggregate-store-4
 slice-aggregate-store-4 c = sym (length-take-le _ _ (array-share-prefix-holders (c .before)))

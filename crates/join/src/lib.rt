@@ -203,19 +203,24 @@ fn admit(one: Hut, two: Hut, space: usize) -> JoinAnswer
     requires small { ⌜ Small one × Small two ⌝ }
     ensures answers { λ r. ⌜ ((f s : List ℕ) → HutOf f one → HutOf s two → r ≡ answerOf (joining f s space)) ⌝ }
 {
-    if one.version != two.version {
+    let version = one.version;
+    let other = two.version;
+    let nodes = one.nodes + two.nodes;
+    let servers = one.servers + two.servers;
+    let cords = one.cords + two.cords;
+    let words = one.words + two.words - 3;
+    if version != other {
         return JoinAnswer::Refused(JoinRefusal::VersionsDiffer);
     }
-    if rooms::MOST_NODES < one.nodes + two.nodes {
+    if rooms::MOST_NODES < nodes {
         return JoinAnswer::Refused(JoinRefusal::TooManyNodes);
     }
-    if rooms::MOST_SERVERS < one.servers + two.servers {
+    if rooms::MOST_SERVERS < servers {
         return JoinAnswer::Refused(JoinRefusal::TooManyServers);
     }
-    if rooms::MOST_CORDS < one.cords + two.cords {
+    if rooms::MOST_CORDS < cords {
         return JoinAnswer::Refused(JoinRefusal::TooManyCords);
     }
-    let words = one.words + two.words - 3;
     if space < words {
         return JoinAnswer::Refused(JoinRefusal::TableTooShort(words));
     }

@@ -1,40 +1,34 @@
--- A room's lists, as the private functions of `judge` have them, and what its checks come to. No public contract cites these.
+-- What the private functions of `judge` have to go by. No public contract cites these.
 use mathlib.Core.Path.{_≡_}
 use mathlib.Core.List.{List}
-use Prim.Native.Nat.{ℕ, _+_, _<_}
+use Prim.Native.Nat.{ℕ, _≤_}
 use lib.ListN.{length}
-use Rattle.outcomes.specs.Outcome.{accepted, refused}
-use Rattle.figures.specs.Figures.{at}
-use Rattle.rooms.specs.Part.{good}
-use Rattle.rooms.specs.Table.{Room}
-use Rattle.rooms.specs.Limits.{checked, lowsBeneath}
-use Rattle.rooms.specs.Lists.{parentsOf, limitsOf, lowsOf}
-use Rattle.rooms.specs.Rows.{CordRows}
+use Rattle.rooms.specs.Part.{Good}
+use Rattle.rooms.specs.Table.{Room, mostNodes, roomCords}
+use Rattle.rooms.specs.Limits.{checked, firstNode}
+use Rattle.rooms.specs.Lists.{nodesOf, levelsOf, lowsOf}
+use Rattle.rooms.specs.Rows.{OfRoom, NodesFit}
+use Rattle.layout.specs.Lists.{HasLowsBeneath}
 use Rattle.deals.specs.Wants.{firstWants}
-use Rattle.judge.specs.Outcome.{JudgeOutcome}
-use Rattle.judge.specs.declared.Admission.{Admission}
-use Rattle.judge.specs.declared.Admission.the-variants.{Good, Refused}
+use Rattle.deals.specs.Judge.{belowLow, aboveWant}
+use Rattle.judge_totals.specs.Totals.{CordsNoted}
 
--- The lists are those of a room, with given demands: its nodes' parents and what their limits have over the lows beneath, its cords' rows,
--- their lows, and their wants of the first deal.
-pub record RoomLists (r : Room) (demands parents spare : List ℕ) (cords : List (List ℕ)) (lows wants : List ℕ) : Type 0 where
-  pub parents-are : parents ≡ parentsOf r
-  pub spare-size : length spare ≡ length parents
-  pub spare-is : (n : ℕ) → n < length (r .nodes) → at spare n + lowsBeneath r n ≡ at (limitsOf r) n
-  pub rows-are : CordRows r cords
-  pub lows-are : lows ≡ lowsOf r
-  pub wants-are : wants ≡ firstWants r demands
+-- A good table, its count of nodes, and a list with the lows beneath each node.
+pub record NodesGiven (table : List ℕ) (nodes : ℕ) (beneath : List ℕ) : Type 0 where
+  pub good-table : Good (checked table 0)
+  pub nodes-fit : NodesFit table nodes
+  pub beneath-long : mostNodes ≤ length beneath
+  pub beneath-is : HasLowsBeneath table beneath
 
--- They are those of the room of some good table with some demands.
-pub record SomeRoom (parents spare : List ℕ) (cords : List (List ℕ)) (lows wants : List ℕ) : Type 0 where
-  pub table : List ℕ
+-- No cord has less than its low or more than its want, and the notes of all stand on their nodes.
+pub record CordsPass (r : Room) (demands grants : List ℕ) (count : ℕ) (given raised wanting : List ℕ) : Type 0 where
+  pub grants-size : length grants ≡ roomCords r
+  pub none-below : firstNode (roomCords r) 0 (belowLow r grants) ≡ 0
+  pub none-above : firstNode (roomCords r) 0 (aboveWant r demands grants) ≡ 0
+  pub noted : CordsNoted count (nodesOf r) (levelsOf r) (lowsOf r) (firstWants r demands) grants given raised wanting
+
+-- So it is of a table's room, with some demands and grants.
+pub record SomePass (table : List ℕ) (count : ℕ) (given raised wanting : List ℕ) : Type 0 where
   pub demands : List ℕ
-  pub room : Room
-  pub end : ℕ
-  pub is : checked table 0 ≡ good room end
-  pub lists : RoomLists room demands parents spare cords lows wants
-
--- What the checks come to: all is good, or the refusal.
-abbrev pub admission : JudgeOutcome → Admission
-admission (accepted v) = Good
-admission (refused refusal) = Refused refusal
+  pub grants : List ℕ
+  pub pass : OfRoom table (λ r. CordsPass r demands grants count given raised wanting)

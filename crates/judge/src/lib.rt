@@ -3,46 +3,38 @@ ghost use mathlib.Core.Path.{_≡_};
 ghost use mathlib.Core.List.{List};
 ghost use Prim.Native.Nat.{ℕ, suc, _≤_};
 ghost use lib.ListN.{length};
-ghost use Rattle.rooms.specs.Part.{Good, good};
-ghost use Rattle.rooms.specs.Table.{Room, mostNodes, mostServers, mostCords, mostWords};
-ghost use Rattle.rooms.specs.Limits.{checked, lowsTold};
-ghost use Rattle.rooms.specs.Rows.{OfRoom, ServersFit, CordsFit};
-ghost use Rattle.layout.specs.Lists.{HasLowsBeneath};
+ghost use Rattle.rooms.specs.Table.{mostNodes, mostServers, mostCords, mostWords};
+ghost use Rattle.rooms.specs.Rows.{OfRoom, ServersFit, CordsFit, ScaleIs};
 ghost use Rattle.deals.specs.Judge.{verdict};
-ghost use Rattle.judge.specs.Outcome.{judging, answerOf, judgeRefusalNumber, judgeRefusalPlace};
 ghost use Rattle.calls.specs.Call.{answered};
+ghost use Rattle.judge.specs.Outcome.{judging, answerOf, judgeRefusalNumber, judgeRefusalPlace};
 ghost use Rattle.judge.specs.Call.{judgedNumbers, JudgeCall};
-ghost use Rattle.judge.specs.Lists.{RoomLists, SomeRoom, admission};
+ghost use Rattle.judge.specs.Lists.{NodesGiven, CordsPass, SomePass};
 use deals::Verdict;
-use figures::first_not_below;
+use demands::DECIDING_DEMANDS;
 use figures::index;
-use figures::word_index;
-use judge_totals::compare;
-use judge_totals::first_below;
+use judge_totals::HIGHEST_RANK;
 use judge_totals::lowest_marked;
-use layout::load_cords;
+use judge_totals::note_cords;
+use judge_totals::note_nodes;
 use layout::load_nodes;
-use rooms::Checked;
+use layout::room::Counts;
+use layout::room::LoadRefusal;
+use layout::room::Loaded;
+use layout::room::admit;
 use rooms::DECIDING_WORDS;
-use rooms::lists::node_count;
-use rooms::lists::server_count;
+use rooms::MOST_CORDS;
+use rooms::MOST_NODES;
 
-// One more than the most watts of a demand.
-const TOO_MANY_WATTS: u32 = 16_777_216;
-
-// One more demand than a room has servers, and one more grant than it has cords: so many decide every answer.
-const DECIDING_DEMANDS: usize = 513;
-
-const DECIDING_GRANTS: usize = 1025;
+// One more grant than a room has cords: so many decide every answer.
+const DECIDING_GRANTS: usize = MOST_CORDS + 1;
 
 // The answer of the C call is four numbers of eight bytes each.
 const ANSWER_BYTES: usize = 32;
 
-// Why a list is turned back, and where: the table's refusal, the count of servers, a demand's index, or the count of cords.
+// Why a list is turned back, and where: the refusal of the table or of its servers' demands, or the count of cords.
 pub enum JudgeRefusal {
-    Table(rooms::Refusal),
-    DemandCount(usize),
-    DemandTooLarge(usize),
+    Load(LoadRefusal),
     GrantCount(usize),
 }
 
@@ -52,21 +44,13 @@ pub enum Judged {
     Refused(JudgeRefusal),
 }
 
-// What the checks come to.
-enum Admission {
-    Good,
-    Refused(JudgeRefusal),
-}
-
 impl JudgeRefusal {
     // The refusal's number.
     pub fn number(self) -> u64
         ensures result { λ r. ⌜ r ≡ judgeRefusalNumber self ⌝ }
     {
         match self {
-            JudgeRefusal::Table(refusal) => refusal.number(),
-            JudgeRefusal::DemandCount(_) => 10,
-            JudgeRefusal::DemandTooLarge(_) => 11,
+            JudgeRefusal::Load(refusal) => refusal.number(),
             JudgeRefusal::GrantCount(_) => 21,
         }
     }
@@ -76,108 +60,87 @@ impl JudgeRefusal {
         ensures result { λ r. ⌜ r ≡ judgeRefusalPlace self ⌝ }
     {
         match self {
-            JudgeRefusal::Table(refusal) => refusal.place(),
-            JudgeRefusal::DemandCount(place) => place,
-            JudgeRefusal::DemandTooLarge(place) => place,
+            JudgeRefusal::Load(refusal) => refusal.place(),
             JudgeRefusal::GrantCount(place) => place,
         }
     }
 }
 
-// All checks, in their order. Of a good table, `beneath` gets the lows beneath each node.
-fn admit(table: &[u32], demands: &[u32], grants: &[u32], beneath: &mut [u64; 512]) -> Admission
-    ensures result { λ r. ⌜ r ≡ admission (judging (now (table .entry)) (now (demands .entry)) (now (grants .entry))) ⌝ }
-    ensures beneath { λ _. ⌜ now (beneath .exit) ≡ lowsTold (checked (now (table .entry)) 0) ⌝ }
-{
-    let checked = rooms::parts::check_lows(table, beneath);
-    let count = match checked {
-        Checked::Good(cords, _) => cords,
-        Checked::Refused(refusal) => return Admission::Refused(JudgeRefusal::Table(refusal)),
-    };
-    let cords = word_index(count);
-    let servers = server_count(table);
-    if demands.len() != servers {
-        return Admission::Refused(JudgeRefusal::DemandCount(servers));
-    }
-    let large = first_not_below(TOO_MANY_WATTS, demands);
-    if large < demands.len() {
-        return Admission::Refused(JudgeRefusal::DemandTooLarge(large));
-    }
-    if grants.len() != cords {
-        return Admission::Refused(JudgeRefusal::GrantCount(cords));
-    }
-    Admission::Good
-}
-
-// The verdict on the grants of a room's cords, by its lists.
-fn judge_lists(
-    parents: &[u16],
-    spare: &[u32],
-    cords: &[[u16; 4]],
-    lows: &[u32],
-    wants: &[u32],
-    grants: &[u32],
+// The verdict on grants that no cord has too little or too much of, by the notes of a good table's cords on their nodes. `beneath` has the
+// lows beneath each node, as the check of the table leaves them.
+fn judge_nodes(
+    table: &[u32],
+    nodes: usize,
+    beneath: &[u64],
+    given: &mut [u64],
+    raised: &mut [u16],
+    wanting: &mut [u16],
 ) -> Verdict
-    requires lists { ⌜ SomeRoom (now parents) (now spare) (now cords) (now lows) (now wants) × (length (now grants) ≡ length (now cords)) ⌝ }
-    ensures result { λ v. ⌜ ((table demands : List ℕ) (r : Room) (end : ℕ) → checked table 0 ≡ good r end
-        → RoomLists r demands (now (parents .entry)) (now (spare .entry)) (now (cords .entry)) (now (lows .entry)) (now (wants .entry))
-        → v ≡ verdict r demands (now (grants .entry))) ⌝ }
+    requires table { ⌜ NodesGiven (now table) nodes (now beneath) ⌝ }
+    requires lengths { ⌜ (mostNodes ≤ length (now given)) × (length (now given) ≤ length (now raised))
+        × (length (now given) ≤ length (now wanting)) ⌝ }
+    requires noted { ⌜ SomePass (now table) (length (now given)) (now given) (now raised) (now wanting) ⌝ }
+    ensures result { λ v. ⌜ OfRoom (now (table .entry)) (λ r. (demands grants : List ℕ) → CordsPass r demands grants (length (now (given .entry)))
+        (now (given .entry)) (now (raised .entry)) (now (wanting .entry)) → v ≡ verdict r demands grants) ⌝ }
 {
-    let mut short = [0u16; 512];
-    let below = first_below(grants, lows);
-    if below != 0 {
-        return Verdict::BelowLow(below - 1);
-    }
-    let above = first_below(wants, grants);
-    if above != 0 {
-        return Verdict::AboveWant(above - 1);
-    }
-    let over = compare(parents, spare, cords, lows, wants, grants, &mut short);
+    let mut parents = [0u16; MOST_NODES];
+    let mut spare = [0u32; MOST_NODES];
+    load_nodes(
+        table,
+        &beneath[..nodes],
+        &mut parents[..nodes],
+        &mut spare[..nodes],
+    );
+    let over = note_nodes(&parents[..nodes], &spare[..nodes], given, raised, wanting);
     if over != 0 {
         return Verdict::OverLimit(over);
     }
-    let root = lowest_marked(parents, &short);
+    let root = lowest_marked(&parents[..nodes], wanting);
     if root != 0 {
-        return Verdict::Short(root, index(short[root - 1]));
+        return Verdict::Short(root, index(wanting[root - 1]));
     }
     Verdict::Passes
 }
 
-// The verdict on a good table with a demand for each server and a grant for each cord. `beneath` has the lows beneath each node, as the
-// check of the table leaves them. The ceilings and needs that are laid out too are not used.
-fn judge_room(table: &[u32], demands: &[u32], grants: &[u32], beneath: &[u64]) -> Verdict
-    requires good { ⌜ Good (checked (now table) 0) ⌝ }
+// The verdict on a good table with a demand for each server and a grant for each cord.
+fn judge_room(
+    table: &[u32],
+    demands: &[u32],
+    grants: &[u32],
+    counts: Counts,
+    beneath: &[u64],
+) -> Verdict
+    requires table { ⌜ NodesGiven (now table) (counts .nodes) (now beneath) × ScaleIs (now table) (counts .scale) ⌝ }
     requires sizes { ⌜ ServersFit (now table) (length (now demands)) × CordsFit (now table) (length (now grants)) ⌝ }
-    requires beneath { ⌜ (mostNodes ≤ length (now beneath)) × HasLowsBeneath (now table) (now beneath) ⌝ }
     ensures result { λ v. ⌜ OfRoom (now (table .entry)) (λ r. v ≡ verdict r (now (demands .entry)) (now (grants .entry))) ⌝ }
 {
-    let mut parents = [0u16; 512];
-    let mut spare = [0u32; 512];
-    let mut cords = [[0u16; 4]; 1024];
-    let mut lows = [0u32; 1024];
-    let mut wants = [0u32; 1024];
-    let mut ceilings = [0u32; 1024];
-    let mut needs = [0u32; 512];
-    let n = node_count(table);
-    let k = grants.len();
-    let v = demands.len();
-    load_nodes(table, &beneath[..n], &mut parents[..n], &mut spare[..n]);
-    load_cords(
+    let mut given = [0u64; MOST_NODES];
+    let mut raised = [HIGHEST_RANK; MOST_NODES];
+    let mut wanting = [0u16; MOST_NODES];
+    let faults = note_cords(
         table,
         demands,
-        &mut cords[..k],
-        &mut lows[..k],
-        &mut wants[..k],
-        &mut ceilings[..k],
-        &mut needs[..v],
-    );
-    judge_lists(
-        &parents[..n],
-        &spare[..n],
-        &cords[..k],
-        &lows[..k],
-        &wants[..k],
         grants,
+        counts.scale,
+        &mut given,
+        &mut raised,
+        &mut wanting,
+    );
+    let below = faults.below;
+    if below != 0 {
+        return Verdict::BelowLow(below - 1);
+    }
+    let above = faults.above;
+    if above != 0 {
+        return Verdict::AboveWant(above - 1);
+    }
+    judge_nodes(
+        table,
+        counts.nodes,
+        beneath,
+        &mut given,
+        &mut raised,
+        &mut wanting,
     )
 }
 
@@ -185,11 +148,17 @@ fn judge_room(table: &[u32], demands: &[u32], grants: &[u32], beneath: &[u64]) -
 pub fn judge(table: &[u32], demands: &[u32], grants: &[u32]) -> Judged
     ensures result { λ r. ⌜ r ≡ answerOf (judging (now (table .entry)) (now (demands .entry)) (now (grants .entry))) ⌝ }
 {
-    let mut beneath = [0u64; 512];
-    let admission = admit(table, demands, grants, &mut beneath);
-    match admission {
-        Admission::Good => Judged::Accepted(judge_room(table, demands, grants, &beneath)),
-        Admission::Refused(refusal) => Judged::Refused(refusal),
+    let mut beneath = [0u64; MOST_NODES];
+    let loaded = admit(table, demands, &mut beneath);
+    match loaded {
+        Loaded::Good(counts) => {
+            let cords = counts.cords;
+            if grants.len() != cords {
+                return Judged::Refused(JudgeRefusal::GrantCount(cords));
+            }
+            Judged::Accepted(judge_room(table, demands, grants, counts, &beneath))
+        }
+        Loaded::Refused(refusal) => Judged::Refused(JudgeRefusal::Load(refusal)),
     }
 }
 

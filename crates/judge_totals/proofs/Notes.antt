@@ -14,7 +14,7 @@ use Rattle.figures.specs.Sums.{on}
 use Rattle.figures.proofs.Sums.{on-yes, on-no, on-le}
 use Rattle.rooms.specs.Table.{highestRank}
 use Rattle.figures.specs.Credits.{credited}
-use Rattle.figures.proofs.Credits.{credited-at}
+use Rattle.figures.proofs.Credits.{on-most, credited-at}
 use Rattle.deals.specs.Judge.{highest}
 use Rattle.judge_totals.specs.Totals.{Noted, merged, heldBack}
 
@@ -50,10 +50,6 @@ noted-none = record {
 }
 
 -- ---- One cord
-
-on-most : (t : Bool) (a : ℕ) → on t a ≤ a
-on-most true a = omega arith
-on-most false a = omega arith
 
 -- A cord of a level with x watts, which could have y: it counts from the lowest level to its own.
 module _ (level x y : ℕ) (l : level < highestRank) (le : x ≤ y) where

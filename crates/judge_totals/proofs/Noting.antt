@@ -10,116 +10,137 @@ use native.Mathlib.Omega.{arith}
 use lib.Dec.{eqb, leb, ltb}
 use lib.ListN.{length, set, length-set, replicate, getD-replicate}
 use lib.Seq.{getD-set-same, getD-set-other}
-use borrow.Author.Tests.{ltb-true, ltb-false}
-use Rattle.figures.specs.Figures.{at, cell}
+use borrow.Author.Tests.{ltb-true, ltb-false, lt-ltb, le-ltb}
+use Rattle.figures.specs.Figures.{at}
 use Rattle.figures.specs.Sums.{on, sum}
 use Rattle.figures.proofs.Filled.{zeros-at}
 use Rattle.figures.proofs.Sums.{sum-suc, sum-none, sum-cong, up}
 use Rattle.figures.proofs.Lists.{sum-most}
 use Rattle.rooms.specs.Table.{mostNodes, mostCords, mostWatts, highestRank}
 use Rattle.rooms.specs.Limits.{firstNode}
-use Rattle.rooms.specs.Rows.{nodeColumn, levelColumn}
 use Rattle.figures.specs.Credits.{credited}
 use Rattle.rooms.specs.Credits.{treeSum, exceeds}
-use Rattle.figures.proofs.Credits.{credited-length, credited-past}
+use Rattle.figures.proofs.Credits.{on-most, credited-length, credited-at, credited-past}
 use Rattle.rooms.proofs.Credits.{treeSum-step}
 use Rattle.rooms.proofs.Gather.{Holds, holds-whole, Gathered, gathered-start, gathered-turn}
 use Rattle.rooms.proofs.Search.{firstNode-cong}
 use Rattle.judge_totals.specs.Totals.{NodeLists, CordLists, overLow, onNode, fromLevel, Noted, AllNoted, Unnoted, CordsNoted, merged, heldBack, IsMost, NodesNoted, overFrom, Compared}
 use Rattle.judge_totals.proofs.Notes.{noted-same, noted-none, noted-cord, noted-held, noted-next, noted-highest, merged-length, merged-past}
-use Rattle.rooms.specs.Trees.{sumBeneath, childSum}
-
-on-most : (t : Bool) (a : ℕ) → on t a ≤ a
-on-most true a = omega arith
-on-most false a = omega arith
+use Rattle.judge_totals.proofs.Searching.{Searching, searching-start, searching-next, first-more}
+use Rattle.rooms.specs.Trees.{childSum, sumBeneath}
 
 -- ---- The cords
 
 -- What the first c cords on the node at place n have, of a level and above.
-abbrev sofar : List (List ℕ) → (ℕ → ℕ) → ℕ → ℕ → ℕ → ℕ
-sofar cords figure c j n = sum c (λ h. on (eqb (cell cords h nodeColumn) (suc n)) (fromLevel cords j figure h))
+abbrev sofar : (nodes levels : List ℕ) → (ℕ → ℕ) → ℕ → ℕ → ℕ → ℕ
+sofar nodes levels figure c j n = sum c (λ h. on (eqb (at nodes h) (suc n)) (fromLevel levels j figure h))
 
--- The first c cords had their turns.
-pub record CordTurns (cords : List (List ℕ)) (lows wants grants given₀ raised₀ wanting₀ : List ℕ) (c : ℕ) (given raised wanting : List ℕ) : Type 0 where
-  pub given-size : length given ≡ length given₀
-  pub raised-size : length raised ≡ length raised₀
-  pub wanting-size : length wanting ≡ length wanting₀
-  pub all : c ≤ length cords
-  pub noted : AllNoted (length given₀) (sofar cords (overLow lows grants) c) (sofar cords (overLow lows wants) c) given raised wanting
+-- The first c cords had their turns: none of them is below its low, and they are noted if none is above its want. The lists keep their
+-- lengths.
+pub record CordTurns (nodes levels lows wants grants : List ℕ) (gn rn wn c above : ℕ) (given raised wanting : List ℕ) : Type 0 where
+  pub given-size : length given ≡ gn
+  pub raised-size : length raised ≡ rn
+  pub wanting-size : length wanting ≡ wn
+  pub small : (n : ℕ) → at given n ≤ c * 2 ^ 32
+  pub below : Searching (length nodes) (λ h. ltb (at grants h) (at lows h)) c
+  pub above-is : above ≡ firstNode c 0 (λ h. ltb (at wants h) (at grants h))
+  pub noted : above ≡ 0 → AllNoted gn (sofar nodes levels (overLow lows grants) c) (sofar nodes levels (overLow lows wants) c) given raised wanting
 
-module _ {cords : List (List ℕ)} {lows wants grants given₀ raised₀ wanting₀ : List ℕ} where
-  pub cords-start : Unnoted (length given₀) given₀ raised₀ wanting₀ → CordTurns cords lows wants grants given₀ raised₀ wanting₀ 0 given₀ raised₀ wanting₀
-  cords-start none = record {
+module _ {nodes levels lows wants grants : List ℕ} where
+  pub cords-start : {given raised wanting : List ℕ} → ((n : ℕ) → at given n ≡ 0) → Unnoted (length given) given raised wanting
+      → CordTurns nodes levels lows wants grants (length given) (length raised) (length wanting) 0 0 given raised wanting
+  unfolding firstNode
+  cords-start zeros none = record {
     given-size = refl;
     raised-size = refl;
     wanting-size = refl;
-    all = omega arith;
-    noted = λ n l. noted-same (none n l) (λ j k. sum-none _) (λ j k. sum-none _) refl refl refl;
+    small = λ n. omega (arith, zeros n);
+    below = searching-start (length nodes) _;
+    above-is = refl;
+    noted = λ z n l. noted-same (none n l) (λ j k. sum-none _) (λ j k. sum-none _) refl refl refl;
   }
 
-  module _ {c : ℕ} {given raised wanting : List ℕ} (inv : CordTurns cords lows wants grants given₀ raised₀ wanting₀ c given raised wanting) where
-    pub cords-end : length cords ≤ c → CordsNoted (length given₀) cords lows wants grants given raised wanting
+  module _ {gn rn wn c above : ℕ} {given raised wanting : List ℕ} (inv : CordTurns nodes levels lows wants grants gn rn wn c above given raised wanting) where
+    pub cords-end : length nodes ≤ c → above ≡ 0 → CordsNoted gn nodes levels lows wants grants given raised wanting
     unfolding onNode
-    cords-end h n l =
-        let e : length cords ≡ c = omega (arith, inv .all) in
-        noted-same (inv .noted n l)
-        (λ j k. ap (λ (x : ℕ). sofar cords (overLow lows grants) x j n) e) (λ j k. ap (λ (x : ℕ). sofar cords (overLow lows wants) x j n) e) refl refl refl
+    cords-end h z n l =
+        let e : length nodes ≡ c = omega (arith, inv .below .all) in
+        noted-same (inv .noted z n l)
+        (λ j k. ap (λ (x : ℕ). sofar nodes levels (overLow lows grants) x j n) e) (λ j k. ap (λ (x : ℕ). sofar nodes levels (overLow lows wants) x j n) e) refl refl refl
 
-    module _ (lists : CordLists (length given₀) cords lows wants grants) (l : c < length cords) where
-      -- What stands on a node is small.
-      pub cords-most : (n : ℕ) → n < length given₀ → at given n ≤ c * mostWatts
-      cords-most n k =
-          omega (
-            arith,
-            inv .noted n k .watts-are,
-            sum-most c mostWatts (λ h. on (eqb (cell cords h nodeColumn) (suc n)) (fromLevel cords 0 (overLow lows grants) h)) (λ h q.
-                omega (
-                  arith,
-                  on-most (eqb (cell cords h nodeColumn) (suc n)) (fromLevel cords 0 (overLow lows grants) h),
-                  on-most (leb 0 (cell cords h levelColumn)) (overLow lows grants h),
-                  lists .most h (omega arith),
-                  lists .wants-most h (omega arith),
-                )),
-          )
+    pub above-end : length nodes ≤ c → above ≡ firstNode (length nodes) 0 (λ h. ltb (at wants h) (at grants h))
+    above-end h =
+        let e : c ≡ length nodes = omega (arith, inv .below .all) in
+        inv .above-is ∙ ap (λ (k : ℕ). firstNode k 0 (λ h. ltb (at wants h) (at grants h))) e
 
+    module _ (l : c < length nodes) (ranked : at levels c < highestRank) (least : at lows c ≤ at grants c) where
       abbrev level : ℕ
-      level = cell cords c levelColumn
+      level = at levels c
+
+      abbrev node : ℕ
+      node = at nodes c
+
+      abbrev above′ : ℕ
+      above′ = cond (ltb 0 above) above (cond (ltb (at wants c) (at grants c)) (suc c) 0)
+
+      -- If no cord is above its want with this one, none was before, and it is not.
+      passed : above′ ≡ 0 → (above ≡ 0) × (at grants c ≤ at wants c)
+      passed = go (ltb 0 above) refl (ltb (at wants c) (at grants c)) refl
+        where
+          go : (s : Bool) → ltb 0 above ≡ s → (t : Bool) → ltb (at wants c) (at grants c) ≡ t → cond s above (cond t (suc c) 0) ≡ 0 → (above ≡ 0) × (at grants c ≤ at wants c)
+          go true e t f z = absurd (omega (arith, ltb-true 0 above e))
+          go false e true f z = absurd (omega arith)
+          go false e false f z = (omega (arith, ltb-false 0 above e), ltb-false (at wants c) (at grants c) f)
 
       -- The cord's own note.
-      own : Noted (λ j. fromLevel cords j (overLow lows grants) c) (λ j. fromLevel cords j (overLow lows wants) c) (overLow lows grants c)
+      own : at grants c ≤ at wants c → Noted (λ j. fromLevel levels j (overLow lows grants) c) (λ j. fromLevel levels j (overLow lows wants) c) (overLow lows grants c)
           (cond (ltb (at lows c) (at grants c)) (suc level) highestRank) (cond (ltb (at grants c) (at wants c)) (suc level) 0)
-      own =
-          let least = lists .least c l in
-          let most = lists .most c l in
-          noted-cord level (overLow lows grants c) (overLow lows wants c) (lists .ranked c l) (omega arith) (ltb (at lows c) (at grants c)) (ltb (at grants c) (at wants c))
+      own most =
+          noted-cord level (overLow lows grants c) (overLow lows wants c) ranked (omega arith) (ltb (at lows c) (at grants c)) (ltb (at grants c) (at wants c))
           (λ e. omega (arith, ltb-true (at lows c) (at grants c) e)) (λ e. omega (arith, ltb-false (at lows c) (at grants c) e))
           (λ e. omega (arith, ltb-true (at grants c) (at wants c) e)) (λ e. omega (arith, ltb-false (at grants c) (at wants c) e))
 
-      pub cords-next : length given₀ ≤ length raised₀ → length given₀ ≤ length wanting₀ → {node rank watts low high : ℕ} {given′ raised′ wanting′ : List ℕ}
-          → node ≡ cell cords c nodeColumn → rank ≡ level + 1 → watts ≡ overLow lows grants c
-          → low ≡ cond (ltb (at lows c) (at grants c)) rank highestRank → high ≡ cond (ltb (at grants c) (at wants c)) rank 0
-          → given′ ≡ credited node watts given → raised′ ≡ merged min node low raised → wanting′ ≡ merged max node high wanting
-          → CordTurns cords lows wants grants given₀ raised₀ wanting₀ (c + 1) given′ raised′ wanting′
-      cords-next lr lw {node} {rank} {watts} {low} {high} en er ew el eh eg ea eb =
-          let there : node ≤ length given₀ = omega (arith, lists .within c l) in
-          let rank-is : rank ≡ suc level = er ∙ add-one level in
-          let mine : Noted (λ j. fromLevel cords j (overLow lows grants) c) (λ j. fromLevel cords j (overLow lows wants) c) watts low high
-          = noted-same own (λ j k. refl) (λ j k. refl) ew
-          (el ∙ ap (λ (x : ℕ). cond (ltb (at lows c) (at grants c)) x highestRank) rank-is) (eh ∙ ap (λ (x : ℕ). cond (ltb (at grants c) (at wants c)) x 0) rank-is) in
-          let next : (figure : ℕ → ℕ) (j n : ℕ) → sofar cords figure (suc c) j n ≡ sofar cords figure c j n + on (eqb node (suc n)) (fromLevel cords j figure c)
-          = λ figure j n.
-          sum-suc c (λ h. on (eqb (cell cords h nodeColumn) (suc n)) (fromLevel cords j figure h))
-          ∙ ap (λ (x : ℕ). sofar cords figure c j n + on (eqb x (suc n)) (fromLevel cords j figure c)) (sym en) in
-          rw add-one (record {
-            given-size = ap length eg ∙ credited-length node watts given ∙ inv .given-size;
-            raised-size = ap length ea ∙ merged-length min node low raised ∙ inv .raised-size;
-            wanting-size = ap length eb ∙ merged-length max node high wanting ∙ inv .wanting-size;
-            all = l;
-            noted = λ n k. noted-same
-                (noted-next given raised wanting n node (omega (arith, inv .given-size)) (omega (arith, inv .raised-size)) (omega (arith, inv .wanting-size)) (inv .noted n k) mine)
-                (λ j q. next (overLow lows grants) j n) (λ j q. next (overLow lows wants) j n)
-                (ap (λ (x : List ℕ). at x n) eg) (ap (λ (x : List ℕ). at x n) ea) (ap (λ (x : List ℕ). at x n) eb);
-          })
+      -- The cord's turn.
+      module _ (there : node ≤ gn) (lr : gn ≤ rn) (lw : gn ≤ wn) (word : overLow lows grants c < 2 ^ 32) where
+        abbrev raised-by : ℕ
+        raised-by = cond (ltb (at lows c) (at grants c)) (suc level) highestRank
+
+        abbrev wanted-by : ℕ
+        wanted-by = cond (ltb (at grants c) (at wants c)) (suc level) 0
+
+        more : (figure : ℕ → ℕ) (j n : ℕ) → sofar nodes levels figure (suc c) j n ≡ sofar nodes levels figure c j n + on (eqb node (suc n)) (fromLevel levels j figure c)
+        more figure j n = sum-suc c (λ h. on (eqb (at nodes h) (suc n)) (fromLevel levels j figure h))
+
+        cord-turn : CordTurns nodes levels lows wants grants gn rn wn (suc c) above′
+            (credited node (overLow lows grants c) given) (merged min node raised-by raised) (merged max node wanted-by wanting)
+        cord-turn = record {
+          given-size = credited-length node (overLow lows grants c) given ∙ inv .given-size;
+          raised-size = merged-length min node raised-by raised ∙ inv .raised-size;
+          wanting-size = merged-length max node wanted-by wanting ∙ inv .wanting-size;
+          small = λ n.
+              omega (
+                arith,
+                credited-at node (overLow lows grants c) given n (omega (arith, inv .given-size)),
+                on-most (eqb node (suc n)) (overLow lows grants c),
+                inv .small n,
+              );
+          below = rw add-one at (searching-next (inv .below) l (le-ltb (at grants c) (at lows c) least));
+          above-is =
+              ap (λ (x : ℕ). cond (ltb 0 x) x (cond (ltb (at wants c) (at grants c)) (suc c) 0)) (inv .above-is)
+              ∙ sym (first-more (λ h. ltb (at wants h) (at grants h)) c);
+          noted = λ z n k. noted-same
+              (noted-next given raised wanting n node (omega (arith, inv .given-size)) (omega (arith, inv .raised-size)) (omega (arith, inv .wanting-size))
+              (inv .noted (passed z .0) n k) (own (passed z .1)))
+              (λ j q. more (overLow lows grants) j n) (λ j q. more (overLow lows wants) j n) refl refl refl;
+        }
+
+        -- The same in the terms of the code.
+        pub cords-next : {of rank low′ want grant above″ : ℕ} {given′ raised′ wanting′ : List ℕ} → of ≡ node → rank ≡ suc level → low′ ≡ at lows c → want ≡ at wants c
+            → grant ≡ at grants c → above″ ≡ cond (ltb 0 above) above (cond (ltb want grant) (suc c) 0)
+            → given′ ≡ credited of (grant - low′) given → raised′ ≡ merged min of (cond (ltb low′ grant) rank highestRank) raised
+            → wanting′ ≡ merged max of (cond (ltb grant want) rank 0) wanting
+            → CordTurns nodes levels lows wants grants gn rn wn (c + 1) above″ given′ raised′ wanting′
+        cords-next en er el ew eg ea e1 e2 e3 = rw (e1, e2, e3, ea, er, en, el, ew, eg, add-one) cord-turn
 
 -- ---- The nodes
 
@@ -251,25 +272,9 @@ module _ {parents spare given₀ raised₀ wanting₀ : List ℕ} (nodes : NodeL
 
 -- ---- Both
 
-module _ {parents spare : List ℕ} {cords : List (List ℕ)} {lows wants grants : List ℕ} (nodes : NodeLists parents spare)
-    (lists : CordLists (length parents) cords lows wants grants) where
-  -- The cords' lists, by the nodes that there can be at most.
-  pub for-all : (count : ℕ) → mostNodes ≤ count → CordLists count cords lows wants grants
-  for-all count h = record {
-    few = lists .few;
-    widths = lists .widths;
-    hangs = lists .hangs;
-    within = λ c l. omega (arith, lists .within c l, nodes .few);
-    ranked = lists .ranked;
-    lows-size = lists .lows-size;
-    wants-size = lists .wants-size;
-    grants-size = lists .grants-size;
-    least = lists .least;
-    most = lists .most;
-    wants-most = lists .wants-most;
-  }
-
-  module _ {count : ℕ} (given raised wanting : List ℕ) (noted : CordsNoted count cords lows wants grants given raised wanting) (all : mostNodes ≤ count) where
+module _ {parents spare nodes levels lows wants grants : List ℕ} (of-nodes : NodeLists parents spare)
+    (lists : CordLists (length parents) nodes levels lows wants grants) where
+  module _ {count : ℕ} (given raised wanting : List ℕ) (noted : CordsNoted count nodes levels lows wants grants given raised wanting) (all : mostNodes ≤ count) where
     -- All nodes' own watts together are few.
     pub given-few : sum (length parents) (at given) < 2 ^ 63
     unfolding onNode
@@ -278,40 +283,40 @@ module _ {parents spare : List ℕ} {cords : List (List ℕ)} {lows wants grants
         = sum-most (length parents) (mostCords * mostWatts) (at given) (λ n l.
         omega (
           arith,
-          noted n (omega (arith, nodes .few)) .watts-are,
+          noted n (omega (arith, of-nodes .few)) .watts-are,
           lists .few,
           mul-le-mul-right mostWatts (lists .few),
-          sum-most (length cords) mostWatts (λ h. on (eqb (cell cords h nodeColumn) (suc n)) (fromLevel cords 0 (overLow lows grants) h)) (λ h q. figure-most n h q),
+          sum-most (length nodes) mostWatts (λ h. on (eqb (at nodes h) (suc n)) (fromLevel levels 0 (overLow lows grants) h)) (λ h q. figure-most n h q),
         )) in
-        omega (arith, most, mul-le-mul-right (mostCords * mostWatts) (nodes .few))
+        omega (arith, most, mul-le-mul-right (mostCords * mostWatts) (of-nodes .few))
       where
-        figure-most : (n h : ℕ) → h < length cords → on (eqb (cell cords h nodeColumn) (suc n)) (fromLevel cords 0 (overLow lows grants) h) ≤ mostWatts
+        figure-most : (n h : ℕ) → h < length nodes → on (eqb (at nodes h) (suc n)) (fromLevel levels 0 (overLow lows grants) h) ≤ mostWatts
         figure-most n h q =
             omega (
               arith,
-              on-most (eqb (cell cords h nodeColumn) (suc n)) (fromLevel cords 0 (overLow lows grants) h),
-              on-most (leb 0 (cell cords h levelColumn)) (overLow lows grants h),
+              on-most (eqb (at nodes h) (suc n)) (fromLevel levels 0 (overLow lows grants) h),
+              on-most (leb 0 (at levels h)) (overLow lows grants h),
               lists .most h q,
               lists .wants-most h q,
             )
 
     pub compared : {over : ℕ} (given′ raised′ wanting′ : List ℕ)
         → over ≡ firstNode (length parents) 0 (exceeds (at parents) (at spare) (length parents) given)
-        → NodesNoted parents spare over given raised wanting given′ raised′ wanting′ → Compared parents spare cords lows wants grants over wanting′
+        → NodesNoted parents spare over given raised wanting given′ raised′ wanting′ → Compared parents spare nodes levels lows wants grants over wanting′
     unfolding overFrom sumBeneath
     compared given′ raised′ wanting′ o passed = record {
       over-is = o ∙ firstNode-cong (length parents) 0 _ _ (λ n l. ap (ltb (at spare n)) (same n));
-      short-is = λ most is none n l. sym (noted-highest (passed has own most (λ m k. noted m (omega (arith, nodes .few))) is none n l));
+      short-is = λ most is none n l. sym (noted-highest (passed has own most (λ m k. noted m (omega (arith, of-nodes .few))) is none n l));
     }
       where
         has : ℕ → ℕ → ℕ
-        has j = onNode cords (fromLevel cords j (overLow lows grants))
+        has j = onNode nodes (fromLevel levels j (overLow lows grants))
 
         own : ℕ → ℕ → ℕ
-        own j = onNode cords (fromLevel cords j (overLow lows wants))
+        own j = onNode nodes (fromLevel levels j (overLow lows wants))
 
-        same : (n : ℕ) → treeSum (at parents) (length parents) (at given) n ≡ treeSum (at parents) (length parents) (onNode cords (fromLevel cords 0 (overLow lows grants))) n
-        same n = sum-cong (length parents) _ _ (λ m l. ap (on (Rattle.rooms.specs.Trees.beneath (at parents) (length parents) n (suc m))) (noted m (omega (arith, nodes .few)) .watts-are))
+        same : (n : ℕ) → treeSum (at parents) (length parents) (at given) n ≡ treeSum (at parents) (length parents) (onNode nodes (fromLevel levels 0 (overLow lows grants))) n
+        same n = sum-cong (length parents) _ _ (λ m l. ap (on (Rattle.rooms.specs.Trees.beneath (at parents) (length parents) n (suc m))) (noted m (omega (arith, of-nodes .few)) .watts-are))
 
 -- Nothing is noted before the first cord.
 pub unnoted : (k : ℕ) (wanting : List ℕ) → ((n : ℕ) → at wanting n ≡ 0) → (count : ℕ) → count ≤ k → Unnoted count (replicate k 0) (replicate k highestRank) wanting

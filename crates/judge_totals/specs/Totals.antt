@@ -5,15 +5,17 @@ use mathlib.Core.Bool.{Bool, cond}
 use mathlib.Core.List.{List, []}
 use Prim.Native.Nat.{ℕ, zero, suc, _+_, _-_, _≤_, _<_, min}
 use lib.Dec.{eqb, leb, ltb}
-use lib.ListN.{length, getD, set}
-use Rattle.figures.specs.Figures.{at, cell}
+use lib.ListN.{length, set}
+use Rattle.figures.specs.Figures.{at}
 use Rattle.figures.specs.Sums.{on, sum}
-use Rattle.rooms.specs.Table.{mostNodes, mostCords, mostWatts, highestRank}
+use Rattle.rooms.specs.Table.{Room, mostNodes, mostCords, mostWatts, highestRank, roomCords}
 use Rattle.rooms.specs.Limits.{firstNode}
 use Rattle.rooms.specs.Credits.{treeSum}
-use Rattle.rooms.specs.Rows.{nodeColumn, levelColumn, rowWidth}
-use Rattle.deals.specs.Judge.{highest}
-use Rattle.rooms.specs.Trees.{sumBeneath, ParentsFirst}
+use Rattle.rooms.specs.Lists.{nodesOf, levelsOf, lowsOf}
+use Rattle.deals.specs.Wants.{firstWants}
+use Rattle.deals.specs.Judge.{highest, belowLow, aboveWant}
+use Rattle.judge_totals.specs.declared.Faults.{Faults}
+use Rattle.rooms.specs.Trees.{ParentsFirst, sumBeneath}
 
 -- ---- The lists
 
@@ -24,19 +26,15 @@ pub record NodeLists (parents spare : List ℕ) : Type 0 where
   pub spare-size : length spare ≡ length parents
   pub spare-most : (n : ℕ) → n < length parents → at spare n ≤ mostWatts
 
--- The cords: a row each, with its node and its level, and its low, want and grant, in this order.
-pub record CordLists (nodeCount : ℕ) (cords : List (List ℕ)) (lows wants grants : List ℕ) : Type 0 where
-  pub few : length cords ≤ mostCords
-  pub widths : (c : ℕ) → c < length cords → length (getD cords c []) ≡ rowWidth
-  pub hangs : (c : ℕ) → c < length cords → 1 ≤ cell cords c nodeColumn
-  pub within : (c : ℕ) → c < length cords → cell cords c nodeColumn ≤ nodeCount
-  pub ranked : (c : ℕ) → c < length cords → cell cords c levelColumn < highestRank
-  pub lows-size : length lows ≡ length cords
-  pub wants-size : length wants ≡ length cords
-  pub grants-size : length grants ≡ length cords
-  pub least : (c : ℕ) → c < length cords → at lows c ≤ at grants c
-  pub most : (c : ℕ) → c < length cords → at grants c ≤ at wants c
-  pub wants-most : (c : ℕ) → c < length cords → at wants c ≤ mostWatts
+-- The cords: the node and the level of each, and its low, want and grant, in this order.
+pub record CordLists (nodeCount : ℕ) (nodes levels lows wants grants : List ℕ) : Type 0 where
+  pub few : length nodes ≤ mostCords
+  pub hangs : (c : ℕ) → c < length nodes → 1 ≤ at nodes c
+  pub within : (c : ℕ) → c < length nodes → at nodes c ≤ nodeCount
+  pub ranked : (c : ℕ) → c < length nodes → at levels c < highestRank
+  pub least : (c : ℕ) → c < length nodes → at lows c ≤ at grants c
+  pub most : (c : ℕ) → c < length nodes → at grants c ≤ at wants c
+  pub wants-most : (c : ℕ) → c < length nodes → at wants c ≤ mostWatts
 
 -- ---- Sums on nodes
 
@@ -45,12 +43,12 @@ abbrev pub overLow : List ℕ → List ℕ → ℕ → ℕ
 overLow lows watts c = at watts c - at lows c
 
 -- A figure of the cords that hang on the node at place n itself, summed.
-unfoldable pub onNode : List (List ℕ) → (ℕ → ℕ) → ℕ → ℕ
-onNode cords figure n = sum (length cords) (λ c. on (eqb (cell cords c nodeColumn) (suc n)) (figure c))
+unfoldable pub onNode : List ℕ → (ℕ → ℕ) → ℕ → ℕ
+onNode nodes figure n = sum (length nodes) (λ c. on (eqb (at nodes c) (suc n)) (figure c))
 
 -- A figure of the cords of a level and above; 0 for the others.
-abbrev pub fromLevel : List (List ℕ) → ℕ → (ℕ → ℕ) → ℕ → ℕ
-fromLevel cords j figure c = on (leb j (cell cords c levelColumn)) (figure c)
+abbrev pub fromLevel : List ℕ → ℕ → (ℕ → ℕ) → ℕ → ℕ
+fromLevel levels j figure c = on (leb j (at levels c)) (figure c)
 
 -- ---- What is noted on nodes
 
@@ -78,9 +76,17 @@ abbrev pub Unnoted : ℕ → (watts raised wanting : List ℕ) → Type 0
 Unnoted count = AllNoted count (λ j n. 0) (λ j n. 0)
 
 -- The cords' own notes on their nodes.
-abbrev pub CordsNoted : ℕ → List (List ℕ) → (lows wants grants watts raised wanting : List ℕ) → Type 0
-CordsNoted count cords lows wants grants =
-    AllNoted count (λ j. onNode cords (fromLevel cords j (overLow lows grants))) (λ j. onNode cords (fromLevel cords j (overLow lows wants)))
+abbrev pub CordsNoted : ℕ → (nodes levels lows wants grants watts raised wanting : List ℕ) → Type 0
+CordsNoted count nodes levels lows wants grants =
+    AllNoted count (λ j. onNode nodes (fromLevel levels j (overLow lows grants))) (λ j. onNode nodes (fromLevel levels j (overLow lows wants)))
+
+-- What the pass over a room's cords finds and leaves: the first cord below its low; if there is none, the first above its want; and if
+-- there is none either, the notes of all.
+pub record CordsJudged (r : Room) (demands grants : List ℕ) (count : ℕ) (faults : Faults) (watts raised wanting : List ℕ) : Type 0 where
+  pub below-is : faults .below ≡ firstNode (roomCords r) 0 (belowLow r grants)
+  pub above-is : faults .below ≡ 0 → faults .above ≡ firstNode (roomCords r) 0 (aboveWant r demands grants)
+  pub noted : faults .below ≡ 0 → faults .above ≡ 0
+      → CordsNoted count (nodesOf r) (levelsOf r) (lowsOf r) (firstWants r demands) grants watts raised wanting
 
 -- A rank merged with the one that stands on a node, by the node's number; 0 is no node.
 unfoldable pub merged : (ℕ → ℕ → ℕ) → ℕ → ℕ → List ℕ → List ℕ
@@ -109,22 +115,22 @@ NodesNoted parents spare over watts raised wanting watts′ raised′ wanting′
     → AllNoted (length parents) (λ j. treeSum (at parents) (length parents) (given j)) most watts′ raised′ wanting′
 
 -- What the cords of a level and above, beneath the node at place n, have over their lows.
-unfoldable pub overFrom : List ℕ → List (List ℕ) → List ℕ → List ℕ → ℕ → ℕ → ℕ
+unfoldable pub overFrom : (parents nodes levels lows watts : List ℕ) → ℕ → ℕ → ℕ
 unfolding onNode sumBeneath
-overFrom parents cords lows watts j n = treeSum (at parents) (length parents) (onNode cords (fromLevel cords j (overLow lows watts))) n
+overFrom parents nodes levels lows watts j n = treeSum (at parents) (length parents) (onNode nodes (fromLevel levels j (overLow lows watts))) n
 
 -- The most that the cords of each level and above can have over their lows, beneath each node.
-abbrev pub IsMostFrom : List ℕ → List ℕ → List (List ℕ) → List ℕ → List ℕ → (ℕ → ℕ → ℕ) → Type 0
-IsMostFrom parents spare cords lows wants most =
-    (j : ℕ) → j < highestRank → IsMost parents spare (onNode cords (fromLevel cords j (overLow lows wants))) (most j)
+abbrev pub IsMostFrom : (parents spare nodes levels lows wants : List ℕ) → (ℕ → ℕ → ℕ) → Type 0
+IsMostFrom parents spare nodes levels lows wants most =
+    (j : ℕ) → j < highestRank → IsMost parents spare (onNode nodes (fromLevel levels j (overLow lows wants))) (most j)
 
 -- Whether the grants of a rank and above, beneath the node at place n, are less than the most.
-abbrev pub lessThan : List ℕ → List (List ℕ) → List ℕ → List ℕ → (ℕ → ℕ → ℕ) → ℕ → ℕ → Bool
-lessThan parents cords lows grants most n rank = ltb (overFrom parents cords lows grants (rank - 1) n) (most (rank - 1) n)
+abbrev pub lessThan : (parents nodes levels lows grants : List ℕ) → (ℕ → ℕ → ℕ) → ℕ → ℕ → Bool
+lessThan parents nodes levels lows grants most n rank = ltb (overFrom parents nodes levels lows grants (rank - 1) n) (most (rank - 1) n)
 
 -- What the passes come to: the lowest node that is given more than it has to spare, 0 if there is none; and, if there is none, each node's
 -- mark, the highest rank at which it has less than the most.
-pub record Compared (parents spare : List ℕ) (cords : List (List ℕ)) (lows wants grants : List ℕ) (over : ℕ) (short : List ℕ) : Type 0 where
-  pub over-is : over ≡ firstNode (length parents) 0 (λ n. ltb (at spare n) (overFrom parents cords lows grants 0 n))
-  pub short-is : (most : ℕ → ℕ → ℕ) → IsMostFrom parents spare cords lows wants most → over ≡ 0
-      → (n : ℕ) → n < length parents → at short n ≡ highest (lessThan parents cords lows grants most n) highestRank
+pub record Compared (parents spare nodes levels lows wants grants : List ℕ) (over : ℕ) (short : List ℕ) : Type 0 where
+  pub over-is : over ≡ firstNode (length parents) 0 (λ n. ltb (at spare n) (overFrom parents nodes levels lows grants 0 n))
+  pub short-is : (most : ℕ → ℕ → ℕ) → IsMostFrom parents spare nodes levels lows wants most → over ≡ 0
+      → (n : ℕ) → n < length parents → at short n ≡ highest (lessThan parents nodes levels lows grants most n) highestRank

@@ -11,35 +11,29 @@ ghost use lib.Dec.{eqb, ltb};
 ghost use lib.ListN.{length};
 ghost use Rattle.figures.specs.Figures.{at};
 ghost use Rattle.figures.specs.Sums.{sum};
-ghost use Rattle.rooms.specs.Table.{mostNodes};
-ghost use Rattle.rooms.specs.Limits.{firstNode};
-ghost use Rattle.rooms.specs.Credits.{exceeds};
 ghost use Rattle.figures.specs.Credits.{credited};
-ghost use Rattle.judge_totals.specs.Totals.{NodeLists, CordLists, merged, heldBack, Unnoted, CordsNoted, NodesNoted, Compared};
-use figures::credit;
+ghost use Rattle.rooms.specs.Part.{Good};
+ghost use Rattle.rooms.specs.Table.{mostNodes, mostCords, highestRank};
+ghost use Rattle.rooms.specs.Limits.{checked, firstNode};
+ghost use Rattle.rooms.specs.Rows.{OfRoom, ServersFit, CordsFit, ScaleIs};
+ghost use Rattle.rooms.specs.Credits.{exceeds};
+ghost use Rattle.judge_totals.specs.Totals.{NodeLists, merged, heldBack, Unnoted, CordsJudged, NodesNoted};
 use figures::index;
-use figures::place;
+use figures::short;
 use figures::wide;
-use rooms::lists::LEVEL;
-use rooms::lists::NODE;
-
-// The most nodes of a room.
-const MOST_NODES: usize = 512;
+use figures::word_index;
+use layout::need_of;
+use rooms::limits::carried_by;
+use rooms::lists::first_server;
 
 // The highest rank. It stands also for the lowest rank of no watts: no rank is above it.
-const HIGHEST_RANK: u16 = 16;
+pub const HIGHEST_RANK: u16 = 16;
 
-// The number, from 1, of the first place at which one list is below another; 0 if there is none.
-pub fn first_below(lesser: &[u32], greater: &[u32]) -> usize
-    requires lengths { ⌜ length (now lesser) ≡ length (now greater) ⌝ }
-    ensures result { λ r. ⌜ r ≡ firstNode (length (now (lesser .entry))) 0 (λ c. ltb (at (now (lesser .entry)) c) (at (now (greater .entry)) c)) ⌝ }
-{
-    for c in 0..lesser.len() {
-        if lesser[c] < greater[c] {
-            return c + 1;
-        }
-    }
-    0
+// What the pass over the cords finds: the number, from 1, of the first cord that has less than its low, and of the first that has more than
+// its want, of those before it; 0 if there is none.
+pub struct Faults {
+    pub below: usize,
+    pub above: usize,
 }
 
 // The lower, and the higher, of two ranks.
@@ -62,30 +56,6 @@ fn rank_if(lesser: u32, greater: u32, rank: u16, none: u16) -> u16
     if lesser < greater { rank } else { none }
 }
 
-// The lower of a rank and of the one that stands on a node is put there, by the node's number; 0 is no node.
-fn put_lower(ranks: &mut [u16], node: usize, rank: u16)
-    requires node { ⌜ node ≤ length (now ranks) ⌝ }
-    ensures merged { λ _. ⌜ now (ranks .exit) ≡ merged min node rank (now (ranks .entry)) ⌝ }
-{
-    if node == 0 {
-        return;
-    }
-    let place = node - 1;
-    ranks[place] = lower(ranks[place], rank);
-}
-
-// So is the higher one.
-fn put_higher(ranks: &mut [u16], node: usize, rank: u16)
-    requires node { ⌜ node ≤ length (now ranks) ⌝ }
-    ensures merged { λ _. ⌜ now (ranks .exit) ≡ merged max node rank (now (ranks .entry)) ⌝ }
-{
-    if node == 0 {
-        return;
-    }
-    let place = node - 1;
-    ranks[place] = higher(ranks[place], rank);
-}
-
 // Notes on a node, by its number, what a cord or a child node has: watts, the lowest rank that they are of, and the highest rank that
 // could have more.
 fn note(
@@ -103,42 +73,112 @@ fn note(
         × (now (raised .exit) ≡ merged min node low (now (raised .entry)))
         × (now (wanting .exit) ≡ merged max node high (now (wanting .entry))) ⌝ }
 {
-    credit(given, node, watts);
-    put_lower(raised, node, low);
-    put_higher(wanting, node, high);
+    if node == 0 {
+        return;
+    }
+    let place = node - 1;
+    let sum = given[place];
+    given[place] = sum + watts;
+    raised[place] = lower(raised[place], low);
+    wanting[place] = higher(wanting[place], high);
 }
 
-// Notes what each cord has over its low, and its rank: where it has such watts, and where it wants more.
-fn note_cords(
-    cords: &[[u16; 4]],
-    lows: &[u32],
-    wants: &[u32],
-    grants: &[u32],
+// Notes on its node what a cord has over its low, and its rank: where it has such watts, and where it wants more.
+fn note_cord(
+    node: usize,
+    rank: u16,
+    low: u32,
+    want: u32,
+    grant: u32,
     given: &mut [u64],
     raised: &mut [u16],
     wanting: &mut [u16],
 )
-    requires cord_lists { ⌜ CordLists (length (now given)) (now cords) (now lows) (now wants) (now grants) ⌝ }
-    requires lengths { ⌜ (length (now given) ≤ length (now raised)) × (length (now given) ≤ length (now wanting)) ⌝ }
-    requires unnoted { ⌜ Unnoted (length (now given)) (now given) (now raised) (now wanting) ⌝ }
-    ensures noted { λ _. ⌜ CordsNoted (length (now (given .entry))) (now (cords .entry)) (now (lows .entry)) (now (wants .entry))
-        (now (grants .entry)) (now (given .exit)) (now (raised .exit)) (now (wanting .exit)) ⌝ }
+    requires node { ⌜ (node ≤ length (now given)) × (node ≤ length (now raised)) × (node ≤ length (now wanting)) ⌝ }
+    requires least { ⌜ low ≤ grant ⌝ }
+    requires sum_fits { ⌜ at (now given) (node - 1) < 2 ^ 63 ⌝ }
+    ensures noted { λ _. ⌜ (now (given .exit) ≡ credited node (grant - low) (now (given .entry)))
+        × (now (raised .exit) ≡ merged min node (cond (ltb low grant) rank highestRank) (now (raised .entry)))
+        × (now (wanting .exit) ≡ merged max node (cond (ltb grant want) rank 0) (now (wanting .entry))) ⌝ }
+    ensures word { λ _. ⌜ grant - low < 2 ^ 32 ⌝ }
 {
-    for c in 0..cords.len() {
-        let cord = cords[c];
-        let rank = place(index(cord[LEVEL]) + 1);
-        let low = lows[c];
-        let grant = grants[c];
-        note(
-            index(cord[NODE]),
-            wide(grant - low),
-            rank_if(low, grant, rank, HIGHEST_RANK),
-            rank_if(grant, wants[c], rank, 0),
-            given,
-            raised,
-            wanting,
-        );
+    note(
+        node,
+        wide(grant - low),
+        rank_if(low, grant, rank, HIGHEST_RANK),
+        rank_if(grant, want, rank, 0),
+        given,
+        raised,
+        wanting,
+    );
+}
+
+// What was found before, else the number, from 1, of a cord that has more than another figure, else 0.
+fn first_above(found: usize, want: u32, grant: u32, cord: usize) -> usize
+    requires cord { ⌜ cord < mostCords ⌝ }
+    ensures result { λ r. ⌜ r ≡ cond (ltb 0 found) found (cond (ltb want grant) (suc cord) 0) ⌝ }
+{
+    if 0 < found {
+        return found;
     }
+    if want < grant { cord + 1 } else { 0 }
+}
+
+// Notes what each cord of a good table has over its low, and its rank: where it has such watts, and where it wants more.
+pub fn note_cords(
+    table: &[u32],
+    demands: &[u32],
+    grants: &[u32],
+    scale: u32,
+    given: &mut [u64],
+    raised: &mut [u16],
+    wanting: &mut [u16],
+) -> Faults
+    requires good { ⌜ Good (checked (now table) 0) × ScaleIs (now table) scale ⌝ }
+    requires sizes { ⌜ ServersFit (now table) (length (now demands)) × CordsFit (now table) (length (now grants)) ⌝ }
+    requires lengths { ⌜ (mostNodes ≤ length (now given)) × (length (now given) ≤ length (now raised))
+        × (length (now given) ≤ length (now wanting)) ⌝ }
+    requires unnoted { ⌜ ((n : ℕ) → at (now given) n ≡ 0) × Unnoted (length (now given)) (now given) (now raised) (now wanting) ⌝ }
+    ensures judged { λ faults. ⌜ OfRoom (now (table .entry)) (λ r. CordsJudged r (now (demands .entry)) (now (grants .entry))
+        (length (now (given .entry))) faults (now (given .exit)) (now (raised .exit)) (now (wanting .exit))) ⌝ }
+{
+    let mut above = 0;
+    let mut start = first_server(table);
+    let mut first = 0;
+    for v in 0..demands.len() {
+        let rank = short(table[start]);
+        let least = table[start + 1];
+        let need = need_of(demands[v], least, table[start + 2]);
+        let count = word_index(table[start + 3]);
+        let mut word = start + 4;
+        for c in first..first + count {
+            let share = table[word + 1];
+            let low = carried_by(share, least, scale);
+            let want = carried_by(share, need, scale);
+            let grant = grants[c];
+            if grant < low {
+                return Faults {
+                    below: c + 1,
+                    above,
+                };
+            }
+            above = first_above(above, want, grant, c);
+            note_cord(
+                word_index(table[word]),
+                rank,
+                low,
+                want,
+                grant,
+                given,
+                raised,
+                wanting,
+            );
+            word += 2;
+        }
+        first += count;
+        start = word;
+    }
+    Faults { below: 0, above }
 }
 
 // The node's number where it has more than it may, else what was found before.
@@ -162,7 +202,7 @@ fn held_back(limit: u64, has: u64, low: u16, high: u16) -> u16
 
 // From the last node to the first: what each node has, with all that is beneath it, is held against its limit and noted on its parent.
 // The lowest node that is given more than it has to spare; 0 if there is none.
-fn note_nodes(
+pub fn note_nodes(
     parents: &[u16],
     spare: &[u32],
     given: &mut [u64],
@@ -191,28 +231,6 @@ fn note_nodes(
         note(index(parents[n]), has, low, high, given, raised, wanting);
     }
     over
-}
-
-// Marks each node whose cords of some rank and above are given less than they could have with the highest such rank, in `short`, which
-// comes with 0; this where no node is given more than it has to spare. The lowest node that is; 0 if there is none.
-pub fn compare(
-    parents: &[u16],
-    spare: &[u32],
-    cords: &[[u16; 4]],
-    lows: &[u32],
-    wants: &[u32],
-    grants: &[u32],
-    short: &mut [u16],
-) -> usize
-    requires node_lists { ⌜ NodeLists (now parents) (now spare) × CordLists (length (now parents)) (now cords) (now lows) (now wants) (now grants) ⌝ }
-    requires unmarked { ⌜ (mostNodes ≤ length (now short)) × ((n : ℕ) → at (now short) n ≡ 0) ⌝ }
-    ensures compared { λ over. ⌜ Compared (now (parents .entry)) (now (spare .entry)) (now (cords .entry)) (now (lows .entry)) (now (wants .entry))
-        (now (grants .entry)) over (now (short .exit)) ⌝ }
-{
-    let mut given = [0u64; MOST_NODES];
-    let mut raised = [HIGHEST_RANK; MOST_NODES];
-    note_cords(cords, lows, wants, grants, &mut given, &mut raised, short);
-    note_nodes(parents, spare, &mut given, &mut raised, short)
 }
 
 // The lowest root with a mark, by its number; 0 if there is none.

@@ -262,7 +262,7 @@ none-loaded table demands d r e = let h = d ∙ ap loadedOf e in let z : _≡_ {
 -- ---- A table and demands in bytes
 
 -- Demands that are cut after one more than there are servers still differ from them in count.
-count-cut : (demands : List ℕ) (servers m : ℕ) → servers < m → (length demands ≡ servers → ⊥) → length (take m demands) ≡ servers → ⊥
+pub count-cut : (demands : List ℕ) (servers m : ℕ) → servers < m → (length demands ≡ servers → ⊥) → length (take m demands) ≡ servers → ⊥
 count-cut demands servers m h n e = go (leb m (length demands)) refl
   where
     go : (t : Bool) → leb m (length demands) ≡ t → ⊥

@@ -11,6 +11,7 @@ use Rattle.figures.specs.Figures.{at}
 use Rattle.rooms.specs.Table.{Room, mostNodes, mostServers, mostCords, roomCords}
 use Rattle.rooms.specs.Limits.{lowsBeneath, checked}
 use Rattle.rooms.specs.Lists.{parentsOf, limitsOf}
+use Rattle.rooms.specs.Outcome.{refusalNumber, refusalPlace}
 use Rattle.deals.specs.Plan.{firstTooLarge}
 use Rattle.layout.specs.Lists.{CordsLaidOut}
 use Rattle.layout.specs.declared.room.Counts.{Counts}
@@ -45,6 +46,17 @@ countsOf r = record { nodes = length (r .nodes); servers = length (r .servers); 
 abbrev pub loadedOf : LoadOutcome → Loaded
 loadedOf (accepted r) = Good (countsOf r)
 loadedOf (refused refusal) = Refused refusal
+
+-- A refusal's number and its place: that of the table, the count of servers, or a demand's index.
+abbrev pub loadRefusalNumber : LoadRefusal → ℕ
+loadRefusalNumber (Table refusal) = refusalNumber refusal
+loadRefusalNumber (DemandCount place) = 10
+loadRefusalNumber (DemandTooLarge place) = 11
+
+abbrev pub loadRefusalPlace : LoadRefusal → ℕ
+loadRefusalPlace (Table refusal) = refusalPlace refusal
+loadRefusalPlace (DemandCount place) = place
+loadRefusalPlace (DemandTooLarge place) = place
 
 -- ---- The lists
 

@@ -54,7 +54,7 @@ pub fn load_nodes(table: &[u32], beneath: &[u64], parents: &mut [u16], spare: &m
 }
 
 // The need of a server: its demand, brought into the range from least to greatest.
-fn need_of(demand: u32, least: u32, greatest: u32) -> u32
+pub fn need_of(demand: u32, least: u32, greatest: u32) -> u32
     ensures need { λ r. ⌜ r ≡ min (max demand least) greatest ⌝ }
 {
     let raised = if demand < least { least } else { demand };

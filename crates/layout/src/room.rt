@@ -6,7 +6,7 @@ ghost use Rattle.outcomes.specs.Outcome.{accepted};
 ghost use Rattle.words.specs.Bytes.{wordsOf};
 ghost use Rattle.rooms.specs.Table.{Room};
 ghost use Rattle.rooms.specs.Limits.{checked, lowsTold};
-ghost use Rattle.layout.specs.Room.{loading, loadedOf, LoadSpace, RoomLoaded};
+ghost use Rattle.layout.specs.Room.{loading, loadedOf, loadRefusalNumber, loadRefusalPlace, LoadSpace, RoomLoaded};
 use crate::load_cords;
 use crate::load_nodes;
 use demands::DECIDING_DEMANDS;
@@ -36,6 +36,30 @@ pub enum LoadRefusal {
     DemandTooLarge(usize),
 }
 
+impl LoadRefusal {
+    // The refusal's number.
+    pub fn number(self) -> u64
+        ensures result { λ r. ⌜ r ≡ loadRefusalNumber self ⌝ }
+    {
+        match self {
+            LoadRefusal::Table(refusal) => refusal.number(),
+            LoadRefusal::DemandCount(_) => 10,
+            LoadRefusal::DemandTooLarge(_) => 11,
+        }
+    }
+
+    // The refusal's place.
+    pub fn place(self) -> usize
+        ensures result { λ r. ⌜ r ≡ loadRefusalPlace self ⌝ }
+    {
+        match self {
+            LoadRefusal::Table(refusal) => refusal.place(),
+            LoadRefusal::DemandCount(place) => place,
+            LoadRefusal::DemandTooLarge(place) => place,
+        }
+    }
+}
+
 // What loading comes to: the room's counts, or why it is turned back.
 pub enum Loaded {
     Good(Counts),
@@ -43,7 +67,7 @@ pub enum Loaded {
 }
 
 // The checks of a table and demands, in their order. Of a good table, `beneath` gets the lows beneath each node.
-fn admit(table: &[u32], demands: &[u32], beneath: &mut [u64; 512]) -> Loaded
+pub fn admit(table: &[u32], demands: &[u32], beneath: &mut [u64; 512]) -> Loaded
     ensures answer { λ r. ⌜ r ≡ loadedOf (loading (now (table .entry)) (now (demands .entry))) ⌝ }
     ensures lows { λ _. ⌜ now (beneath .exit) ≡ lowsTold (checked (now (table .entry)) 0) ⌝ }
 {

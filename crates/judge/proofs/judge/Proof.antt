@@ -1,63 +1,80 @@
--- `judge` meets its contract: what is admitted is judged by the room of its table.
-use mathlib.Core.Path.{sym, ap, _∙_}
+-- `judge` meets its contract: what is loaded, with a grant for each cord, is judged by the room of its table.
 use mathlib.Core.List.{List}
 use Prim.Native.Nat.{ℕ}
-use native.Mathlib.Nat.{le-of-eq}
-use Rattle.judge.specs.Outcome.{answerOf}
-use Rattle.judge.specs.declared.Judged.the-variants as judged
-use Rattle.judge.proofs.Admitting.{lows-long, lows-told, Admitted, admitted-good, refusal-told}
+use Rattle.layout.specs.declared.room.Counts.{Counts}
+use Rattle.layout.proofs.Loads.{RoomFound, found, lows-long}
+use Rattle.judge.proofs.Admitting.{load-told, count-told, scale-fits, servers-fit, nodes-given, grants-fit, verdict-told}
 use borrow.Author.Needs.{needs}
 use Rattle.judge.proofs.judge.Statement.{statement}
 use Rattle.judge.proofs.judge.Tie as tie
 
--- The table, the demands and the grants.
+-- The table, the demands and the grants, from when they are checked.
 abbrev start : tie.After-admit → tie.Start
-start c = c .before .before .before .before .before
+start a = a .before .before .before .before .before
 
-abbrev table : tie.After-admit → List ℕ
-table c = start c .args .table .now
+-- A room is found, with its counts.
+abbrev Known : Type 0
+Known = tie.After-known-told
 
--- What is admitted.
-abbrev admit-of : tie.After-beneath2 → tie.After-admit
-admit-of c = c .before .before .before
+abbrev admitted : Known → tie.After-admit
+admitted k = k .before .before .before
 
-admitted : (c : tie.After-beneath2) → Admitted (table (admit-of c)) (start (admit-of c) .args .demands .now) (start (admit-of c) .args .grants .now)
-admitted c = admitted-good _ _ _ (admit-of c .admit .ensures .0) (c .before .enum-told .given .1)
+abbrev table : Known → List ℕ
+table k = start (admitted k) .args .table .now
+
+abbrev demands : Known → List ℕ
+demands k = start (admitted k) .args .demands .now
+
+abbrev grants : Known → List ℕ
+grants k = start (admitted k) .args .grants .now
+
+abbrev counts : Known → Counts
+counts k = k .before .loaded .given .0 .0
+
+room : (k : Known) → RoomFound (table k) (demands k) (counts k)
+room k = found (admitted k .admit .ensures .0) (k .before .loaded .given .1)
 
 admit-requires : tie.Need-admit-requires
 admit-requires c κs = search needs
 
-enum-told : tie.Need-enum-told
-enum-told c = search needs
+enum-known-loaded : tie.Need-enum-known-loaded
+enum-known-loaded c = search needs
+
+returns : tie.Need-returns
+returns c = let k = c .before in count-told (table k) (demands k) (grants k) (room k) (c .if1 .taken)
 
 slice-aggregate-judge-room : tie.Need-slice-aggregate-judge-room
-slice-aggregate-judge-room c = lows-long (table (admit-of c)) _ (admit-of c .admit .ensures .1)
+slice-aggregate-judge-room c = let k = c .before .before in lows-long (table k) _ (admitted k .admit .ensures .1)
 
 judge-room-requires : tie.Need-judge-room-requires
 judge-room-requires c κs =
-    let a = admitted c in
-    let lows = admit-of c .admit .ensures .1 in
-    (a .room, ((a .demandsFit, a .grantsFit), (le-of-eq (lows-long (table (admit-of c)) _ lows), lows-told (table (admit-of c)) _ lows)))
+    let e = c .before in
+    let k = e .before in (
+      (nodes-given (table k) (demands k) (grants k) (room k) (admitted k .admit .ensures .1), scale-fits (table k) (demands k) (grants k) (room k)),
+      (servers-fit (table k) (demands k) (grants k) (room k), grants-fit (table k) (demands k) (grants k) (room k) (e .if1 .left)),
+    )
 
-enum-known-admission : tie.Need-enum-known-admission
-enum-known-admission c = search needs
-
-returns : tie.Need-returns
-returns c =
-    let a = admitted (c .before) in
-    ap judged.Accepted (c .judge-room .ensures (a .room .value) (a .room .next) (a .room .is)) ∙ sym (ap answerOf (a .is))
+enum-known-loaded-2 : tie.Need-enum-known-loaded-2
+enum-known-loaded-2 c = search needs
 
 returns-2 : tie.Need-returns-2
-returns-2 c = refusal-told _ _ _ (c .before .before .before .admit .ensures .0) (c .before .admission .given .1)
+returns-2 c =
+    let e = c .before .before in
+    let k = e .before in
+    verdict-told (table k) (demands k) (grants k) (room k) (e .if1 .left) (c .judge-room .ensures)
+
+returns-3 : tie.Need-returns-3
+returns-3 c = let a = c .before .before .before in load-told _ _ _ (a .admit .ensures .0) (c .before .loaded2 .given .1)
 
 pub judge-spec : {M : Type 1} → statement M
 judge-spec =
     tie.close
     (tie.spec
     admit-requires
-    enum-told
+    enum-known-loaded
+    returns
     slice-aggregate-judge-room
     judge-room-requires
-    enum-known-admission
-    returns
-    returns-2)
+    enum-known-loaded-2
+    returns-2
+    returns-3)

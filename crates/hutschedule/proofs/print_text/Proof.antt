@@ -30,22 +30,24 @@ same-length c = search needs
 same-length-2 : tie.Need-same-length-2
 same-length-2 c = search needs
 
+abbrev start : tie.After-schedule → tie.Start
+start c = let lists = c .before .before in lists .before .before .before
+
 returns : tie.Need-returns
 returns c =
     let put = c .before .before in
-    let known = put .before .before .before .before .before in
+    let numbered = put .before .before .before in
+    let known = numbered .before .before in
     let call = known .before .before .before .before in
-    let start = call .before .before .before .before .before in
-    let number = put .before .before .before .number .ensures in
-    let place = put .before .before .place .ensures in
-    (text-refused _ _ (start .pre .0) (start .pre .1) (sym (known .scheduled2 .given .1) ∙ call .schedule .ensures .0) (rw (number, place) at (put .refusal .ensures .0)), put .refusal .ensures .1)
+    let begun = start call in
+    (text-refused _ _ (begun .pre .0) (begun .pre .1) (sym (known .scheduled2 .given .1) ∙ call .schedule .ensures .0) (rw (numbered .number .ensures, put .before .before .place .ensures) at (put .refusal .ensures .0)), put .refusal .ensures .1)
 
 slice-reshare-prefix-write : tie.Need-slice-reshare-prefix-write
 slice-reshare-prefix-write c =
     let known = c .before in
     let call = known .before .before .before .before in
-    let start = call .before .before .before .before .before in
-    stands (start .args .text .now) (start .args .table .now) (start .pre .0) (sym (known .scheduled .given .1) ∙ call .schedule .ensures .0) (call .schedule .ensures .1) .fits
+    let begun = start call in
+    stands (begun .args .text .now) (begun .args .table .now) (begun .pre .0) (sym (known .scheduled .given .1) ∙ call .schedule .ensures .0) (call .schedule .ensures .1) .fits
 
 slice-aggregate-write : tie.Need-slice-aggregate-write
 slice-aggregate-write c = sym (length-take-le _ _ (slice-reshare-prefix-write (c .before)))
@@ -67,10 +69,10 @@ returns-2 c =
     let write = c .before .before .before in
     let known = write .before .before .before .before in
     let call = known .before .before .before .before in
-    let start = call .before .before .before .before .before in
-    sheet-written _ _ (start .args .buffer .now)
-    (stands (start .args .text .now) (start .args .table .now) (start .pre .0) (sym (known .scheduled .given .1) ∙ call .schedule .ensures .0) (call .schedule .ensures .1))
-    (start .pre .1) (write .write .ensures .0) (write .write .ensures .1) (c .figure .ensures)
+    let begun = start call in
+    sheet-written _ _ (begun .args .buffer .now)
+    (stands (begun .args .text .now) (begun .args .table .now) (begun .pre .0) (sym (known .scheduled .given .1) ∙ call .schedule .ensures .0) (call .schedule .ensures .1))
+    (begun .pre .1) (write .write .ensures .0) (write .write .ensures .1) (c .figure .ensures)
 
 pub print-text-spec : {M : Type 1} → statement M
 print-text-spec =

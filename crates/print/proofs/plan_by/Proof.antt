@@ -6,7 +6,10 @@ use Rattle.print.proofs.plan_by.Statement.{statement}
 use Rattle.print.proofs.plan_by.Tie as tie
 
 lay-out-servers-requires : tie.Need-lay-out-servers-requires
-lay-out-servers-requires c κs = c .before .before .before .before .before .before .before .before .pre
+lay-out-servers-requires c κs =
+    let lent = c .before .before in
+    let figures = lent .before .before .before in
+    figures .before .before .before .pre
 
 put-plan-requires : tie.Need-put-plan-requires
 put-plan-requires c κs = search needs
@@ -23,7 +26,8 @@ same-length-3 c = search needs
 returns : tie.Need-returns
 returns c = (
   λ room end is.
-      let rows = c .before .before .before .before .before .before .before .before .lay-out-servers .ensures room end is in
+      let lent = c .before .before .before .before in
+      let rows = lent .before .before .before .before .lay-out-servers .ensures room end is in
       put-as (prints-room _ room end _ _ _ _ _ _ _ is (rows .0) (rows .1)) (c .before .before .put-plan .ensures .0),
   c .before .before .put-plan .ensures .1,
 )

@@ -48,12 +48,12 @@ returns : tie.Need-returns
 unfolding cordLine
 returns c =
     let last = c .before .before in
-    let p5 = last .before .before .before .before .before in
-    let p4 = p5 .before .before .before .before .before in
-    let p3 = p4 .before .before .before .before .before in
-    let p2 = p3 .before .before .before .before .before in
-    let p1 = p2 .before .before .before .before .before in
-    then (p1 .put-figure .ensures) (then (p2 .put-figure2 .ensures) (then (p3 .put-figure3 .ensures) (then (p4 .put-figure4 .ensures) (then (p5 .put-figure5 .ensures) (last .put .ensures)))))
+    let held = last .before .before .before .before .before in
+    let headroom = held .before .before .before .before .before in
+    let grant = headroom .before .before .before .before .before in
+    let node = grant .before .before .before .before .before in
+    let number = node .before .before .before .before .before in
+    then (number .put-figure .ensures) (then (node .put-figure2 .ensures) (then (grant .put-figure3 .ensures) (then (headroom .put-figure4 .ensures) (then (held .put-figure5 .ensures) (last .put .ensures)))))
 
 pub put-cord-spec : {M : Type 1} → statement M
 put-cord-spec =

@@ -54,7 +54,7 @@ word-requires-3 : tie.Need-word-requires-3 Inv-loop μ-loop
 word-requires-3 c κs = search needs
 
 put-cord-requires : tie.Need-put-cord-requires Inv-loop μ-loop
-put-cord-requires c κs = putting-within (c .before .before .before .before .before .before .loop .inv .1)
+put-cord-requires c κs = let node = c .before .before .before .before in putting-within (node .before .before .loop .inv .1)
 
 add-k : tie.Need-add-k Inv-loop μ-loop
 add-k c = search needs
@@ -65,14 +65,15 @@ loop-less c = search needs
 loop-again : tie.Need-loop-again Inv-loop μ-loop
 loop-again c =
     let put = c .before .before in
-    let at = put .before .before .before .before .before .before .before in
-    let args = at .before .before .before .before .before .args in
+    let grant = put .before .before .before .before in
+    let node = grant .before in
+    let at = node .before .before in
+    let lent = at .before .before in
+    let args = lent .before .before .before .args in
     let line = cordLineAt (args .cords .now) (planLine (args .grants .now) (args .headroom .now) (args .held .now)) (args .first) in
-    let node = put .before .before .before .before .before .node .ensures in
-    let grant = put .before .before .before .before .word .ensures .0 in
     let headroom = put .before .before .before .word2 .ensures .0 in
     let held = put .before .before .word3 .ensures .0 in
-    let cord = rw (node, grant, headroom, held) at (put .put-cord .ensures) in
+    let cord = rw (node .node .ensures, grant .word .ensures .0, headroom, held) at (put .put-cord .ensures) in
     (omega arith, lines-next line (args .count) (at .loop .k) (omega (arith, at)) (at .loop .inv .1) cord, search needs)
 
 same-length : tie.Need-same-length Inv-loop μ-loop

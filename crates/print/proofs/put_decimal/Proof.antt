@@ -22,10 +22,11 @@ same-length c = search needs
 
 returns : tie.Need-returns
 returns c =
-    let said = c .before .before .before .before .before in
+    let put = c .before .before in
+    let said = put .before .before .before in
     let digits = said .decimal .ensures in
     let number = said .before .before .before .args .number in
-    rw (digits .1 .1 ∙ digits-decimal number (said .decimal .result) (digits .1 .0) (search needs)) at (c .before .before .put .ensures)
+    rw (digits .1 .1 ∙ digits-decimal number (said .decimal .result) (digits .1 .0) (search needs)) at (put .put .ensures)
 
 pub put-decimal-spec : {M : Type 1} → statement M
 put-decimal-spec =

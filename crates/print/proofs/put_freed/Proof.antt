@@ -24,8 +24,8 @@ returns : tie.Need-returns
 unfolding freedLine
 returns c =
     let last = c .before .before in
-    let p1 = last .before .before .before .before .before in
-    then (p1 .put-figure .ensures) (last .put .ensures)
+    let watts = last .before .before .before .before .before in
+    then (watts .put-figure .ensures) (last .put .ensures)
 
 pub put-freed-spec : {M : Type 1} → statement M
 put-freed-spec =

@@ -30,9 +30,9 @@ returns : tie.Need-returns
 unfolding serverLine
 returns c =
     let last = c .before .before in
-    let p2 = last .before .before .before .before .before in
-    let p1 = p2 .before .before .before .before .before in
-    then (p1 .put-figure .ensures) (then (p2 .put-figure2 .ensures) (last .put .ensures))
+    let cap = last .before .before .before .before .before in
+    let number = cap .before .before .before .before .before in
+    then (number .put-figure .ensures) (then (cap .put-figure2 .ensures) (last .put .ensures))
 
 pub put-server-spec : {M : Type 1} → statement M
 put-server-spec =

@@ -30,9 +30,9 @@ returns : tie.Need-returns
 unfolding refusedLine
 returns c =
     let last = c .before .before in
-    let p2 = last .before .before .before .before .before in
-    let p1 = p2 .before .before .before .before .before in
-    let put = then (p1 .put-figure .ensures) (then (p2 .put-figure2 .ensures) (last .put .ensures)) in
+    let place = last .before .before .before .before .before in
+    let number = place .before .before .before .before .before in
+    let put = then (number .put-figure .ensures) (then (place .put-figure2 .ensures) (last .put .ensures)) in
     (put, counts put)
 
 pub refusal-spec : {M : Type 1} → statement M

@@ -31,9 +31,10 @@ same-length-2 c = search needs
 
 returns : tie.Need-returns
 returns c =
-    let counted = c .before .before .before .before .before in
+    let copy = c .before .before in
+    let counted = copy .before .before .before in
     let call = counted .before .before .before .schedule-words .ensures in
-    copied _ (call .0) (counted .written-count .ensures) (call .1) _ (c .before .before .copy .ensures)
+    copied _ (call .0) (counted .written-count .ensures) (call .1) _ (copy .copy .ensures)
 
 pub schedule-by-spec : {M : Type 1} → statement M
 schedule-by-spec =

@@ -18,12 +18,16 @@ enum-known-counted-2 c = search needs
 same-length : tie.Need-same-length
 same-length c = search needs
 
+-- The call that reads the lines.
+abbrev read : tie.After-slice-known2 → tie.After-read-lines
+read c = c .before .before
+
 returns : tie.Need-returns
-returns c = line-refused _ _ _ (c .before .before .before .before .before .read-lines .ensures .0) (c .before .counted2 .given .1)
+returns c = line-refused _ _ _ (read (c .before .before .before) .read-lines .ensures .0) (c .before .counted2 .given .1)
 
 -- The lines end with the text.
-lines-whole : (c : tie.After-known-told) → Whole (c .before .before .before .before .before .before .before .before .before .args .text .now) (c .before .counted .given .0 .0)
-lines-whole c = whole-so _ (c .before .before .before .before .before .read-lines .ensures .0) (c .before .counted .given .1)
+lines-whole : (c : tie.After-known-told) → Whole (read (c .before .before .before) .before .before .before .before .args .text .now) (c .before .counted .given .0 .0)
+lines-whole c = whole-so _ (read (c .before .before .before) .read-lines .ensures .0) (c .before .counted .given .1)
 
 same-length-2 : tie.Need-same-length-2
 same-length-2 c = search needs
@@ -71,8 +75,9 @@ same-length-4 c = search needs
 
 returns-4 : tie.Need-returns-4
 returns-4 c =
-    let read = c .before .before .before .before .before .before .before in
-    stands _ _ (lines-whole (c .before .before)) (c .before .if1 .left) _ _ (read .before .before .before .before .pre) (read .read-lines .ensures .1) (c .if2 .left)
+    let known = c .before .before in
+    let call = read (known .before .before .before) in
+    stands _ _ (lines-whole known) (c .before .if1 .left) _ _ (call .before .before .before .before .pre) (call .read-lines .ensures .1) (c .if2 .left)
 
 pub schedule-words-spec : {M : Type 1} → statement M
 schedule-words-spec =

@@ -29,19 +29,22 @@ enum-told c = search needs
 same-length : tie.Need-same-length
 same-length c = search needs
 
+abbrev begun : tie.After-answer-for → tie.Start
+begun c = let tested = c .before in tested .before .before .before .before
+
 returns-2 : tie.Need-returns-2
 returns-2 c =
     let tell = c .before .before .before .before in
     let call = tell .before .before in
-    let args = call .before .before .before .before .before .args in
+    let args = begun call .args in
     call-refused (args .count) (args .position) (args .m) (args .list .now) (args .answer .now) (omega (arith, call .before .if1 .left)) (call .answer-for .ensures) (tell .tell .ensures) (c .enum-told .given .1)
 
 -- What the answer tells once it accepts: no more servers are named than the list of words takes.
-abbrev start : tie.After-sent → tie.Start
-start c = c .before .before .before .before .before .before .before .before .before .before .before
-
 abbrev call : tie.After-sent → tie.After-answer-for
-call c = c .before .before .before .before .before .before
+call c = let tell = c .before .before .before .before in tell .before .before
+
+abbrev start : tie.After-sent → tie.Start
+start c = begun (call c)
 
 abbrev accepting : tie.After-sent → Type 0
 accepting c =
@@ -88,7 +91,8 @@ same-length-4 c = search needs
 returns-3 : tie.Need-returns-3
 returns-3 c =
     let store = c .before .before in
-    let name = store .before .before .before .before .before in
+    let back = store .before .before .before in
+    let name = back .before .before in
     let known = name .before .before .before in
     let tell = known .before .before .before .before in
     let args = start known .args in

@@ -18,10 +18,13 @@ read-words-requires c κs = search needs
 written-count-requires : tie.Need-written-count-requires
 written-count-requires c κs = search needs
 
+abbrev start : tie.Else1 → tie.Start
+start c = let lists = c .before in lists .before .before .before .before
+
 slice-reshare-prefix-store : tie.Need-slice-reshare-prefix-store
 slice-reshare-prefix-store c =
     let call = c .before .before .before in
-    let args = call .before .before .before .before .before .before .before .args in
+    let args = start (call .before .before) .args in
     let read = call .read-words .ensures in
     omega (arith, read-fits (args .sheet .now) (args .words .now) (args .table .now) (read .0) (λ n e. first-stands _ _ _ (read .0) e (read .1)) (c .written-count .ensures))
 
@@ -58,10 +61,10 @@ returns-2 c =
     let count = store .before .before .before in
     let call = count .before .before .before in
     let tested = call .before .before in
-    let start = tested .before .before .before .before .before in
+    let begun = start tested in
     let read = call .read-words .ensures in
-    read-done (start .args .sheet .now) (start .args .words .now) (start .args .table .now) (read .0) (λ n e. first-stands _ _ _ (read .0) e (read .1)) (count .written-count .ensures)
-    (start .pre) _ (omega (arith, tested .if1 .left)) (store .store .ensures) (number .number .ensures) (figure .figure .ensures) (stored .store-answer .ensures)
+    read-done (begun .args .sheet .now) (begun .args .words .now) (begun .args .table .now) (read .0) (λ n e. first-stands _ _ _ (read .0) e (read .1)) (count .written-count .ensures)
+    (begun .pre) _ (omega (arith, tested .if1 .left)) (store .store .ensures) (number .number .ensures) (figure .figure .ensures) (stored .store-answer .ensures)
 
 pub read-by-spec : {M : Type 1} → statement M
 read-by-spec =

@@ -49,9 +49,11 @@ returns-2 c =
     let figure = stored .before .before in
     let number = figure .before in
     let call = number .before .before .before in
-    let load = call .before .before .before .before .before in
+    let lent = call .before .before .before in
+    let load = lent .before .before in
     let tested = load .before .before in
-    let start = tested .before .before .before .before .before in
+    let lists = tested .before in
+    let start = lists .before .before .before .before in
     let args = start .args in
     let write = call .write .ensures in
     write-done (args .table .now) (args .words .now) (load .load .ensures .0) (load .load .ensures .1) (args .sheet .now) (args .answer .now) (start .pre)

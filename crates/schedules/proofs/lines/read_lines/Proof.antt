@@ -23,17 +23,18 @@ judge-line-requires c κs = search needs
 enum-known-parent : tie.Need-enum-known-parent Inv-loop μ-loop
 enum-known-parent c = search needs
 
--- A line that passes is none past the 512th, so that the list has its node's words.
-few : (c : tie.After-known-told Inv-loop μ-loop) → c .before .before .before .before .before .loop .count < mostNodes
+-- The turn of a line that passes.
+abbrev turn : tie.After-known-told Inv-loop μ-loop → tie.At-loop Inv-loop μ-loop
+turn c = let judge = c .before .before .before in judge .before .before
+
+-- Such a line is none past the 512th, so that the list has its node's words.
+few : (c : tie.After-known-told Inv-loop μ-loop) → turn c .loop .count < mostNodes
 few c =
     let judge = c .before .before .before in
     few-lines _ _ _ _ _ (judge .before .before .loop .inv) (judge .before .loop-test .taken) (judge .judge-line .ensures) (c .before .parent .given .1)
 
-long : (c : tie.After-known-told Inv-loop μ-loop)
-    → 2 + 2 * c .before .before .before .before .before .loop .count + 1 < length (c .before .before .before .before .before .loop .words)
-long c =
-    let turn = c .before .before .before .before .before in
-    omega (arith, few c, turn .loop .inv .size, turn .before .before .before .pre)
+long : (c : tie.After-known-told Inv-loop μ-loop) → 2 + 2 * turn c .loop .count + 1 < length (turn c .loop .words)
+long c = omega (arith, few c, turn c .loop .inv .size, turn c .before .before .before .pre)
 
 mul-index : tie.Need-mul-index Inv-loop μ-loop
 mul-index c = omega (arith, few c)

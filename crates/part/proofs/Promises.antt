@@ -1,17 +1,17 @@
 -- The promises of `part`, each proved under its name.
 use mathlib.Core.Path.{_≡_, refl, sym, ap, ap₂, _∙_, subst}
 use mathlib.Core.Bool.{Bool, true, false, not, _&&_, true≢false}
-use mathlib.Core.List.{List, [], _∷_, map}
+use mathlib.Core.List.{List, [], _∷_, _++_, map}
 use mathlib.Core.Logic.{inl, inr}
 use Prim.Native.Nat.{ℕ, zero, suc, _+_, _-_, _≤_, _<_}
 use native.Mathlib.Nat.{le-refl}
 use native.Mathlib.Omega.{arith}
-use lib.ListN.{length, take, drop, length-drop}
+use lib.ListN.{length, take, drop, length-drop, length-map, length-append, take-append-drop}
 use lib.Seq.{length-take-le, getD-take, getD-drop, take-append-seam, drop-append-seam}
-use lib.Dec.{leb}
-use borrow.Author.Tests.{ltb-false, le-ltb, leb-true}
+use lib.Dec.{leb, ltb}
+use borrow.Author.Tests.{ltb-true, ltb-false, le-ltb, leb-true}
 use Rattle.outcomes.specs.Outcome.{accepted, unless}
-use Rattle.outcomes.proofs.Outcomes.{unless-back, unless-is}
+use Rattle.outcomes.proofs.Outcomes.{accepted-is, unless-back, unless-is}
 use Rattle.figures.specs.Figures.{at}
 use Rattle.rooms.specs.Part.{good, within}
 use Rattle.rooms.specs.Table.{raised, Node, Cord, Room, formOf, cordCount, roomCords}
@@ -24,7 +24,9 @@ use Rattle.rooms.proofs.Accepted as rooms
 use Rattle.rooms.proofs.Whole.{checked-is}
 use Rattle.rooms.proofs.Tables.{table-fits}
 use Rattle.rooms.proofs.Reach.{next-is-length}
-use Rattle.deals.specs.Plan.{plan}
+use Rattle.deals.specs.Plan.{Plan, planOf, firstTooLarge, planRoom, plan}
+use Rattle.deals.specs.declared.Lengths.{Lengths}
+use Rattle.deals.proofs.Plans.{plan-good-table, Planning, planRoom-accepted}
 use Rattle.join.specs.Joined.{raisedNode, raisedCord, raisedServer, joined, joinedPlan}
 use Rattle.join.specs.Outcome.{joining}
 use Rattle.join.specs.Promises.{AcceptedJoin, Ample}
@@ -32,12 +34,16 @@ use Rattle.join.specs.Huts.{hutOf, HutOf}
 use Rattle.join.proofs.JoinedRoom.{nodes-joined, servers-joined, cords-count}
 use Rattle.join.proofs.TableWords.{words-are}
 use Rattle.join.proofs.HutLaws.{both-good, table-long, fits}
-use Rattle.join.proofs.Demands.{same-count}
+use Rattle.join.proofs.Demands.{first-in-first, first-in-second, same-count, DemandsFit, accepted-demands, ample-told}
 use Rattle.join.proofs.Promises.{join-gives-room, join-plans-both}
 use Rattle.part.specs.Parted.{front, back, Behind, cordOf, Uncrossed}
 use Rattle.part.specs.Crossing.{crossing}
 use Rattle.part.specs.Outcome.{Parts, partsOf, reasons}
+<<<<<<< HEAD
 use Rattle.part.specs.Promises.{PartsOfJoined, JoinedParts, Cut, GoodParts, PartsAreGood, AcceptedPart, PartGivesParts, PartsJoined, PartPlansBoth}
+=======
+use Rattle.part.specs.Promises.{PartsOfJoined, JoinedParts, Cut, GoodParts, PartsAreGood, AcceptedPart, PartsGiven, PartGivesParts, PartsJoined, PartPlansBoth, PlansParted, PlanOfParts}
+>>>>>>> 3fab2dcf4fe1aa117c5d7ad69898f9c269abfd49
 use Rattle.part.proofs.PartLaws.{BackWhole, parted-front, parted-back, joined-again}
 use Rattle.part.proofs.PartTables.{FrontCords, BackCords, front-checked, back-checked}
 use Rattle.part.proofs.OutcomeLaws.{table-good, both-fit}
@@ -216,6 +222,77 @@ part-plans-both p d e ours theirs lengths q t a b long =
     (ap (λ (x : Parts). plan (x .first) d ours) (sym (words p)) ∙ a) (ap (λ (x : Parts). plan (x .second) e theirs) (sym (words p)) ∙ b)
     (subst (λ (x : Room). Ample x lengths) (sym (both p .again)) long)
     ∙ ap (λ (n : ℕ). accepted (joinedPlan n q t)) (length-take-le (p .nodes) (p .room .nodes) (omega (arith, range p .1)))
+
+-- ---- The demands of each part
+
+module _ (d e : List ℕ) (h : length (d ++ e) ≤ firstTooLarge (d ++ e)) where
+  -- Where none of both is too large, none of either is.
+  none-first : length d ≤ firstTooLarge d
+  none-first = go (ltb (firstTooLarge d) (length d)) refl
+    where
+      go : (t : Bool) → ltb (firstTooLarge d) (length d) ≡ t → length d ≤ firstTooLarge d
+      go true q = let less = ltb-true _ _ q in omega (arith, first-in-first _ d e less, less, h, length-append d e)
+      go false q = ltb-false _ _ q
+
+  none-second : length e ≤ firstTooLarge e
+  none-second = omega (arith, first-in-second _ d e none-first, h, length-append d e)
+
+module _ (p : AcceptedPart) (demands : List ℕ) (lengths ours theirs : Lengths) (whole : Plan) (is : plan (p .table) demands lengths ≡ accepted whole) where
+  abbrev d : List ℕ
+  d = take (p .servers) demands
+
+  abbrev e : List ℕ
+  e = drop (p .servers) demands
+
+  of-room : planRoom (p .room) demands lengths ≡ accepted whole
+  of-room = sym (plan-good-table (p .table) demands lengths (p .room) (p .end) (p .isRoom)) ∙ is
+
+  fit : DemandsFit (p .room) demands lengths
+  fit = accepted-demands (p .room) demands lengths of-room
+
+  none : length (d ++ e) ≤ firstTooLarge (d ++ e)
+  none = subst (λ (x : List ℕ). length x ≤ firstTooLarge x) (sym (take-append-drop (p .servers) demands)) (fit .none)
+
+  fit-first : DemandsFit (front-room p) d ours
+  fit-first = record {
+    count = length-take-le (p .servers) demands (omega (arith, fit .count, checks p .1)) ∙ sym (length-take-le (p .servers) (p .room .servers) (checks p .1));
+    none = none-first d e none;
+  }
+
+  fit-second : DemandsFit (back-room p) e theirs
+  fit-second = record {
+    count = length-drop (p .servers) demands ∙ ap (λ (k : ℕ). k - p .servers) (fit .count)
+        ∙ sym (length-drop (p .servers) (p .room .servers)) ∙ sym (length-map (drop (p .servers) (p .room .servers)) _);
+    none = none-second d e none;
+  }
+
+  plan-first : Ample (front-room p) ours → plan (p .parts .first) d ours ≡ accepted (planOf (front-room p) d)
+  plan-first long = plan-good-table (p .parts .first) d ours (front-room p) _ (part-gives-parts p .first) ∙ ample-told (front-room p) d ours fit-first long
+
+  plan-second : Ample (back-room p) theirs → plan (p .parts .second) e theirs ≡ accepted (planOf (back-room p) e)
+  plan-second long = plan-good-table (p .parts .second) e theirs (back-room p) _ (part-gives-parts p .second) ∙ ample-told (back-room p) e theirs fit-second long
+
+  -- The lists of the whole were long enough.
+  ample : Ample (p .room) lengths
+  ample =
+      let fits = planRoom-accepted (p .room) demands lengths whole of-room in
+      record { grants = fits .grants .within; caps = fits .caps .within; headroom = fits .headroom .within; held = fits .held .within }
+
+  plans-parted : Ample (front-room p) ours → Ample (back-room p) theirs → PlansParted p demands ours theirs whole
+  plans-parted long wide =
+      let one = plan-first long in
+      let two = plan-second wide in
+      let again = part-plans-both p d e ours theirs lengths (planOf (front-room p) d) (planOf (back-room p) e) one two ample in
+      record {
+        first = planOf (front-room p) d;
+        second = planOf (back-room p) e;
+        isFirst = one;
+        isSecond = two;
+        isWhole = accepted-is (sym is ∙ ap (λ (x : List ℕ). plan (p .table) x lengths) (sym (take-append-drop (p .servers) demands)) ∙ again);
+      }
+
+pub plan-of-parts : PlanOfParts
+plan-of-parts = plans-parted
 
 -- ---- A joined table
 

@@ -2,7 +2,7 @@
 use mathlib.Core.Path.{_≡_}
 use mathlib.Core.List.{List, _++_}
 use Prim.Native.Nat.{ℕ, _≤_, _<_}
-use lib.ListN.{length}
+use lib.ListN.{length, take, drop}
 use Rattle.outcomes.specs.Outcome.{accepted}
 use Rattle.figures.specs.Figures.{at}
 use Rattle.rooms.specs.Part.{good}
@@ -84,3 +84,18 @@ abbrev pub PartPlansBoth : Type 0
 PartPlansBoth = (p : AcceptedPart) (d e : List ℕ) (ours theirs lengths : Lengths) (q t : Plan)
     → plan (p .parts .first) d ours ≡ accepted q → plan (p .parts .second) e theirs ≡ accepted t → Ample (p .room) lengths
     → plan (p .table) (d ++ e) lengths ≡ accepted (joinedPlan (p .nodes) q t)
+
+-- The other way round: the plan of a table is made up of its parts' plans, each with the demands of its own servers, which are accepted with
+-- lists that are long enough.
+pub record PlansParted (p : AcceptedPart) (demands : List ℕ) (ours theirs : Lengths) (whole : Plan) : Type 0 where
+  pub first : Plan
+  pub second : Plan
+  pub isFirst : plan (p .parts .first) (take (p .servers) demands) ours ≡ accepted first
+  pub isSecond : plan (p .parts .second) (drop (p .servers) demands) theirs ≡ accepted second
+  pub isWhole : whole ≡ joinedPlan (p .nodes) first second
+
+abbrev pub PlanOfParts : Type 0
+PlanOfParts = (p : AcceptedPart) (demands : List ℕ) (lengths ours theirs : Lengths) (whole : Plan)
+    → plan (p .table) demands lengths ≡ accepted whole
+    → Ample (front (p .nodes) (p .servers) (p .room)) ours → Ample (back (p .nodes) (p .servers) (p .room)) theirs
+    → PlansParted p demands ours theirs whole

@@ -57,6 +57,7 @@ promises = record {
   part-gives-parts = part.part-gives-parts;
   parts-joined = part.parts-joined;
   part-plans-both = part.part-plans-both;
+  plan-of-parts = part.plan-of-parts;
   used-granted = deals.used-granted;
   usable-in-range = deals.usable-in-range;
   caps-in-range = deals.caps-in-range;

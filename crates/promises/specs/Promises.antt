@@ -97,8 +97,9 @@ pub record Promises : Type 0 where
   pub part-gives-parts : part.PartGivesParts
   -- A.10, of the operation: a joined table, parted at its first half's counts, gives both tables.
   pub parts-joined : part.PartsJoined
-  -- A.10: the plans of the parts are the parts of the plan.
+  -- A.10: the plans of the parts are the parts of the plan: theirs make up a plan of the whole, and every plan of the whole is made up so.
   pub part-plans-both : part.PartPlansBoth
+  pub plan-of-parts : part.PlanOfParts
   -- A.11, over the scale: used is never above the grant.
   pub used-granted : deals.UsedGranted
   -- A.11: usable is never below the server's least, and so no cap is.

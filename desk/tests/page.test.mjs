@@ -18,7 +18,7 @@ before(async () => {
 });
 after(async () => {
   await page?.end();
-  rmSync(files, { recursive: true });
+  rmSync(files, { recursive: true, force: true, maxRetries: 5 });
 });
 
 const value = () => page.run('return document.getElementById("text").value');

@@ -314,7 +314,7 @@ function serversTool(tool, _, fresh) {
   if (fresh || !renewServers(tool, desk.listed, hut)) tool.innerHTML = serversHtml(hut);
   desk.listed = hut;
   const refused = desk.refusedDemands;
-  fillServers(tool, hut, hut.servers.map(demandOf), refused ? { wrong: refused.place } : { figures: desk.figures });
+  fillServers(tool, hut.servers.map(demandOf), refused ? { wrong: refused.place } : { figures: desk.figures });
   const line = $('demands-told');
   if (!line) return;
   line.innerHTML = refused ? told(tellDemands(table, refused, hut)) : '';
@@ -466,8 +466,9 @@ function makeDoor() {
   const date = new Date().toLocaleDateString('en-GB', { year: 'numeric', month: 'long', day: 'numeric' });
   $('door').innerHTML = `<h1>${escaped(titleOf($('text').value) ?? 'Hut')}</h1>
     <p>${date}. Planned for the demands below; ${watts(desk.figures.freed)} were freed by the first deal and dealt again.
-    A bar is a breaker's limit; what is granted is full, what is lent is hatched, a stroke marks the lows, and ◆ a cord
-    that is held.</p>
+    A bar is a breaker's limit; what is granted is full, what is lent is hatched, a stroke marks the lows, and a dashed
+    frame what is wanted beyond the grant. ◆ is a cord that is held, and a half circle one whose server could use no more
+    than this by its other cords, so that the rest was freed.</p>
     ${wholePicture(sceneOf(hut, cords, desk.figures), DOOR_WIDTH)}${doorTables(hut, cords, desk.figures)}`;
 }
 

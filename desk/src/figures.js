@@ -33,10 +33,10 @@ function groupsOf(servers) {
   return groups.filter(group => group.length > 0);
 }
 
-/// What each cord carries where its server draws its demand, brought into its range: what Plan grants it on
+/// What each server needs, and what each cord carries of it: the caps and grants that Plan gives where every cord has
 /// a breaker of its own that carries any load.
-export function carriedOf(hut, demands, calls) {
-  return groupsOf(hut.servers).flatMap(group => {
+export function unlimitedPlan(hut, demands, calls) {
+  const plans = groupsOf(hut.servers).map(group => {
     let node = 0;
     const servers = group.map(place => ({
       ...hut.servers[place],
@@ -44,13 +44,14 @@ export function carriedOf(hut, demands, calls) {
     }));
     const nodes = Array.from({ length: node }, () => ({ parent: 0, rating: MOST_WATTS, percent: FULL_PERCENT }));
     const apart = { version: Math.max(hut.version, 2), nodes, servers };
-    return calls.plan(tableOf(apart).words, group.map(place => demands[place]), node).grants;
+    return calls.plan(tableOf(apart).words, group.map(place => demands[place]), node);
   });
+  return { caps: plans.flatMap(({ caps }) => caps), grants: plans.flatMap(({ grants }) => grants) };
 }
 
 /// The figures of a hut that do not depend on demands. They are there also where lows exceed a limit (9).
 export function fixedFigures(hut, calls) {
-  const lows = carriedOf(hut, hut.servers.map(() => 0), calls);
+  const { grants: lows } = unlimitedPlan(hut, hut.servers.map(() => 0), calls);
   return { limits: limitsOf(hut, calls), lows, lowsBeneath: sumsBeneath(hut, lows) };
 }
 
@@ -58,11 +59,13 @@ export function fixedFigures(hut, calls) {
 export function planFigures(hut, words, demands, fixed, calls) {
   const plan = calls.plan(words, demands, fixed.lows.length);
   if (plan.number !== 0) return plan;
+  const { caps: needs, grants: wants } = unlimitedPlan(hut, demands, calls);
   return {
     ...fixed,
     ...plan,
     demands,
-    wants: carriedOf(hut, demands, calls),
+    needs,
+    wants,
     grantsBeneath: sumsBeneath(hut, plan.grants),
     headroomBeneath: sumsBeneath(hut, plan.headroom),
   };

@@ -21,8 +21,17 @@ function textOf(bytes) {
   }
 }
 
-/// A text that is no hut's: that of a page, or of an image in Intel HEX.
-const ofAnImage = text => /^\s*(?:<|:[\dA-F]{10})/i.test(text);
+/// A text that is no hut's: that of a page, or of an image in Intel HEX or S-records.
+const ofAnImage = text => /^\s*(?:<|:[\dA-F]{10}|S\d[\dA-F]{8})/i.test(text);
+
+const SEARCHED = 'An image is searched for its release as ELF, as raw bytes and as Intel HEX, not as S-records and not where it is packed.';
+
+/// What is said of such a text without the mark of a release.
+const NO_RELEASE = {
+  title: 'No hut and no release in it',
+  says: SEARCHED,
+  mend: 'Choose the image in one of these forms, or the sheet or the text of a hut.',
+};
 
 /// What an image comes to: { says } where a release is in it.
 function imageOf(name, bytes, calls) {
@@ -33,7 +42,8 @@ function imageOf(name, bytes, calls) {
 /// What a file with this name and these bytes comes to: { text, says }, { says } of an image, or { refused: { title, says, mend } }.
 export function opened(name, bytes, table, calls) {
   const text = /\.bin$/i.test(name) ? null : textOf(bytes);
-  if (text !== null) return (ofAnImage(text) && imageOf(name, bytes, calls)) || { text, says: `Opened the text ${name}.` };
+  if (text !== null && ofAnImage(text)) return imageOf(name, bytes, calls) ?? { refused: NO_RELEASE };
+  if (text !== null) return { text, says: `Opened the text ${name}.` };
   const read = calls.read(bytes);
   if (read.number !== 0) return imageOf(name, bytes, calls) ?? { refused: tellSheet(table, read, bytes) };
   const hut = hutOf(read.words);
@@ -41,9 +51,10 @@ export function opened(name, bytes, table, calls) {
   return { text: writeText(hut), says: `Opened the sheet ${name}: ${size}.` };
 }
 
-/// What is said of a file that is no hut's by its size alone.
-function tooLarge(size) {
-  const says = `It has ${(size / (1 << 20)).toFixed(1)} MB. The largest hut's sheet has 22,540 bytes, and no sheet or text above 1 MB is opened.`;
+/// What is said of a file that is no hut's by its size alone, and `more` of one that was searched for a release.
+function tooLarge(size, more = 'An image is searched up to 64 MB.') {
+  const says = `It has ${(size / (1 << 20)).toFixed(1)} MB. The largest hut's sheet has 22,540 bytes, and no sheet or text \
+above 1 MB is opened. ${more}`;
   return { refused: { title: 'Too large', says, mend: 'Choose the sheet (room.bin) or the text of a hut.' } };
 }
 
@@ -52,7 +63,7 @@ export async function openFile(file, table, calls) {
   if (file.size > MOST_IMAGE_BYTES) return tooLarge(file.size);
   try {
     const bytes = new Uint8Array(await file.arrayBuffer());
-    if (file.size > MOST_BYTES) return imageOf(file.name, bytes, calls) ?? tooLarge(file.size);
+    if (file.size > MOST_BYTES) return imageOf(file.name, bytes, calls) ?? tooLarge(file.size, `No release was found in it. ${SEARCHED}`);
     return opened(file.name, bytes, table, calls);
   } catch {
     const says = 'The browser could not read it.';

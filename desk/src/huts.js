@@ -109,9 +109,12 @@ function partNow(tool, desk) {
     const { keep, save } = event.target.dataset;
     const hut = [first, second][Number(keep ?? save)];
     if (keep !== undefined) desk.replaceText(writeText(hut), `This is the ${keep === '0' ? 'first' : 'second'} part.`);
-    if (save !== undefined) offer('room.bin', desk.calls.write(tableOf(hut).words).sheet, 'application/octet-stream');
+    if (save !== undefined) offer(PART_FILES[save], desk.calls.write(tableOf(hut).words).sheet, 'application/octet-stream');
   };
 }
+
+/// The parts' sheets have names of their own, so that neither takes the other's place.
+const PART_FILES = ['room-first.bin', 'room-second.bin'];
 
 const partChoice = (name, hut, place) => `<p>${name}: ${sizes(hut)}.</p>
   <div class="row"><button type="button" data-keep="${place}">Into the text</button>
@@ -122,9 +125,9 @@ function listenToSecond(tool, desk) {
   tool.querySelector('[data-open-second]').addEventListener('click', () => file.click());
   file.addEventListener('change', async () => {
     if (!file.files[0]) return;
-    const { text, refused } = await openFile(file.files[0], desk.table, desk.calls);
-    if (refused) tool.querySelector('#joined').innerHTML = told(refused);
-    else tool.querySelector('#second').value = text;
+    const { text, says, refused } = await openFile(file.files[0], desk.table, desk.calls);
+    tool.querySelector('#joined').innerHTML = refused ? told(refused) : `<p>${escaped(says)}</p>`;
+    if (text !== undefined) tool.querySelector('#second').value = text;
   });
 }
 

@@ -24,7 +24,7 @@ export const refusedPrint = ({ number, place }) => `refused ${number} at ${place
 
 /// The demands of a text, one a line: one to eight digits, and any other line is refused by Plan.
 export function demandsOf(text) {
-  const lines = text.split('\n').slice(0, MOST_LINES);
-  if (lines.at(-1) === '' && lines.length <= MOST_LINES) lines.pop();
-  return lines.map(line => (/^\d{1,8}$/.test(line) ? Number(line) : NO_DEMAND));
+  const lines = text.split('\n');
+  if (lines.at(-1) === '') lines.pop();
+  return lines.slice(0, MOST_LINES).map(line => (/^\d{1,8}$/.test(line) ? Number(line) : NO_DEMAND));
 }

@@ -59,7 +59,7 @@ export function renewServers(tool, before, hut) {
 
 /// Puts demands and caps into the servers' rows; without figures, where the demands are refused, `wrong` is the
 /// server whose demand it is. The field that has the focus is left to who types in it.
-export function fillServers(tool, hut, demands, { figures, wrong }) {
+export function fillServers(tool, demands, { figures, wrong }) {
   const each = (kind, put) => tool.querySelectorAll(`[data-${kind}]`)
     .forEach(element => put(element, Number(element.dataset[kind])));
   const setDemand = (element, place) => { if (element !== document.activeElement) element.value = demands[place]; };
@@ -69,10 +69,8 @@ export function fillServers(tool, hut, demands, { figures, wrong }) {
     markField(element, place === wrong);
   });
   each('cap', (element, place) => {
-    const cap = figures?.caps[place];
-    const { least, greatest } = hut.servers[place];
-    const need = Math.min(Math.max(demands[place], least), greatest);
-    const short = cap !== undefined && cap < need;
+    const [cap, need] = [figures?.caps[place], figures?.needs[place]];
+    const short = cap < need;
     element.textContent = cap === undefined ? '' : `${short ? '◆ ' : ''}${figure(cap)}`;
     element.className = short ? 'short' : '';
     element.title = short ? `${watts(need - cap)} less than it needs` : '';

@@ -1,11 +1,12 @@
 // A headless Chromium, driven by WebDriver over loopback with fetch alone.
 
 import { spawn } from 'node:child_process';
-import { once } from 'node:events';
-import { createServer } from 'node:net';
 import { writeFileSync, mkdirSync } from 'node:fs';
 
 const ELEMENT = 'element-6066-11e4-a52e-4f735466cecf';
+
+/// What WebDriver answers before it has done anything with an element.
+const NOT_DONE_YET = ['stale element reference', 'element click intercepted', 'element not interactable'];
 
 /// The letters by which WebDriver names keys.
 export const KEYS = {
@@ -13,43 +14,71 @@ export const KEYS = {
   left: '\ue012', up: '\ue013', right: '\ue014', down: '\ue015', backspace: '\ue003',
 };
 
-async function freePort() {
-  const server = createServer().listen(0, '127.0.0.1');
-  await once(server, 'listening');
-  const { port } = server.address();
-  server.close();
-  return port;
-}
-
 const pause = milliseconds => new Promise(resolve => { setTimeout(resolve, milliseconds); });
 
-/// Starts the driver and waits until it answers.
-async function startDriver() {
-  const port = await freePort();
-  const process = spawn('chromedriver', [`--port=${port}`], { stdio: 'ignore' });
-  const base = `http://127.0.0.1:${port}`;
-  for (let trial = 0; trial < 300; trial++) {
-    const status = await fetch(`${base}/status`).catch(() => null);
-    if (status?.ok) return { process, base };
-    await pause(100);
+/// How often the driver and the browser are started before it is given up.
+const MOST_STARTS = 5;
+
+/// How long the driver may take to tell its port, and an element to be one that can be used.
+const DRIVER_MILLISECONDS = 120_000;
+const ELEMENT_MILLISECONDS = 10_000;
+
+/// How long a script of the page, and opening it, may take: less than the 300 s for which fetch waits.
+const PAGE_MILLISECONDS = 290_000;
+
+/// Does something that a busy machine may let fail, some times.
+async function tried(act) {
+  for (let trial = 1; ; trial++) {
+    try {
+      return await act();
+    } catch (error) {
+      if (trial === MOST_STARTS) throw error;
+      await pause(500);
+    }
   }
-  process.kill();
-  throw new Error('chromedriver does not answer');
+}
+
+/// Starts the driver, which takes a port that is free and tells it.
+function startDriver() {
+  return new Promise((resolve, reject) => {
+    const process = spawn('chromedriver', ['--port=0'], { stdio: ['ignore', 'pipe', 'ignore'] });
+    const fail = why => {
+      clearTimeout(late);
+      process.kill();
+      reject(new Error(`chromedriver ${why}`));
+    };
+    const late = setTimeout(fail, DRIVER_MILLISECONDS, 'does not answer');
+    process.once('error', ({ message }) => fail(`does not start: ${message}`));
+    process.once('exit', () => fail('has ended'));
+    let told = '';
+    process.stdout.on('data', some => {
+      told += some;
+      const port = told.match(/successfully on port (\d+)/)?.[1];
+      if (!port) return;
+      clearTimeout(late);
+      resolve({ process, base: `http://127.0.0.1:${port}` });
+    });
+  });
 }
 
 /// A page in a browser, as a person meets it. `downloads` is where it saves files.
 export class Browser {
   static async start({ width, height, downloads }) {
-    const driver = await startDriver();
-    const browser = new Browser();
-    Object.assign(browser, driver);
+    const browser = Object.assign(new Browser(), await tried(startDriver));
     const options = {
       args: ['--headless=new', '--no-sandbox', '--disable-gpu', '--disable-dev-shm-usage', '--force-device-scale-factor=1', `--window-size=${width},${height}`],
       prefs: { 'download.default_directory': downloads, 'download.prompt_for_download': false },
     };
-    const answer = await browser.call('POST', '/session', { capabilities: { alwaysMatch: { browserName: 'chrome', 'goog:chromeOptions': options } } }, true);
-    browser.session = `/session/${answer.sessionId}`;
-    await browser.size(width, height);
+    const timeouts = { script: PAGE_MILLISECONDS, pageLoad: PAGE_MILLISECONDS };
+    const capabilities = { alwaysMatch: { browserName: 'chrome', timeouts, 'goog:chromeOptions': options } };
+    try {
+      const answer = await tried(() => browser.call('POST', '/session', { capabilities }, true));
+      browser.session = `/session/${answer.sessionId}`;
+      await browser.size(width, height);
+    } catch (error) {
+      await browser.end();
+      throw error;
+    }
     return browser;
   }
 
@@ -61,9 +90,11 @@ export class Browser {
     return value;
   }
 
-  /// The size of what is seen of the page.
-  size(width, height) {
-    return this.developer('Emulation.setDeviceMetricsOverride', { width, height, deviceScaleFactor: 1, mobile: false });
+  /// The size of what is seen of the page, which has it a moment later.
+  async size(width, height) {
+    await this.developer('Emulation.setDeviceMetricsOverride', { width, height, deviceScaleFactor: 1, mobile: false });
+    const has = () => this.run('return innerWidth === arguments[0] && innerHeight === arguments[1]', width, height);
+    await this.until(has, `the page is ${width} by ${height}`);
   }
 
   developer(cmd, params) { return this.call('POST', '/goog/cdp/execute', { cmd, params }); }
@@ -78,13 +109,13 @@ export class Browser {
   async find(selector) { return (await this.call('POST', '/element', { using: 'css selector', value: selector }))[ELEMENT]; }
 
   /// Does something with an element. The page may draw it anew after it was found and before it is used, as it does after
-  /// a scroll; then what stands there now is meant, as a person would mean it.
+  /// a scroll, or something may be above it for a moment; then what stands there now is meant, as a person would mean it.
   async on(selector, method, act, body) {
-    for (let trial = 0; ; trial++) {
+    for (const end = Date.now() + ELEMENT_MILLISECONDS; ;) {
       try {
         return await this.call(method, `/element/${await this.find(selector)}/${act}`, body);
       } catch (error) {
-        if (error.kind !== 'stale element reference' || trial === 20) throw error;
+        if (!NOT_DONE_YET.includes(error.kind) || Date.now() > end) throw error;
         await pause(50);
       }
     }

@@ -18,7 +18,7 @@ before(async () => {
 });
 after(async () => {
   await page?.end();
-  rmSync(files, { recursive: true });
+  rmSync(files, { recursive: true, force: true, maxRetries: 5 });
 });
 
 const value = () => page.run('return document.getElementById("text").value');
@@ -44,6 +44,10 @@ const saved = async name => {
   await page.until(() => existsSync(path), `${name} is saved`);
   return readFileSync(path);
 };
+
+/// The rows of the table in sight, and its figures, that are cut at a side.
+const cut = () => page.run(`return [...document.querySelectorAll(".tr, .tr .n, .tr .cap")]
+  .filter(each => each.scrollWidth > each.clientWidth).map(each => each.textContent)`);
 
 test('a hut is typed, and accepted', async () => {
   await write(ROOM_H);
@@ -72,6 +76,8 @@ test('a mistake is told, with its line and word marked, and mended', async () =>
 
 test('the plan shows what is held, and its print is that of hutplan', async () => {
   assert.match(await page.text('#totals'), /Freed\n13 W\nHeld\n◆ 2 cords/);
+  const caps = await page.run('return [...document.querySelectorAll("[data-cap]")].map(each => [each.textContent, each.title])');
+  assert.deepEqual(caps, [['◆ 240', '160 W less than it needs'], ['◆ 280', '120 W less than it needs']]);
   assert.match(await page.text('#picture'), /held by left/);
   await page.click('#tab-plan');
   assert.equal(`${await page.text('#tool pre')}\n`, text('samples/room-h.print'));
@@ -187,7 +193,7 @@ test('the page shows its release, and tells which one a dropped image has', asyn
   await drop('unit.bin', 100, letters(own.slice(8).padStart(4, '0')));
   await page.until(async () => (await page.text('#notice')).includes('the release of this page'), 'the release of this page');
   await drop('film.mp4', 3 * 1024 * 1024);
-  await page.until(async () => /film\.mp4: Too large\. It has 3\.0 MB/.test(await page.text('#notice')), 'an image without a mark');
+  await page.until(async () => /film\.mp4: Too large\. It has 3\.0 MB.*as ELF, as raw bytes and as Intel HEX/.test(await page.text('#notice')), 'an image without a mark');
   assert.equal(await value(), ROOM_H);
 });
 
@@ -304,10 +310,20 @@ test('a hut of full size is planned and drawn quickly', async t => {
 test('dark, a phone and paper', async () => {
   const samples = await page.run('return [...document.getElementById("sample").options].map(each => each.value)');
   await page.run('const box = document.getElementById("sample"); box.value = arguments[0]; box.dispatchEvent(new Event("change"))', samples.at(-1));
+  await page.size(390, 844);
+  assert.ok(await page.run('return document.querySelector("#notice span").clientWidth > 300'), 'the notice has room for its words beside its buttons');
+  await page.shot('phone-notice');
+  await page.size(1440, 900);
   await page.click('#notice button:last-child');
   await page.click('[data-row="7"] .server');
   await page.shot('valley');
-  await page.size(1280, 800);
+  for (const width of [1181, 1280]) {
+    await page.size(width, 800);
+    for (const tab of ['cords', 'servers']) {
+      await page.click(`#tab-${tab}`);
+      assert.deepEqual(await cut(), [], `${tab} at a width of ${width}`);
+    }
+  }
   await page.shot('desk', 'webp');
   await page.click('#theme');
   await page.click('#tab-cords');
@@ -321,13 +337,18 @@ test('dark, a phone and paper', async () => {
     assert.ok(await page.run('return document.documentElement.scrollWidth <= innerWidth'));
     await page.shot(`phone-${pane}`);
   }
+  assert.deepEqual(await cut(), []);
+  await page.click('#tab-cords');
+  assert.deepEqual(await cut(), []);
+  await page.shot('phone-cords');
+  await page.click('#tab-servers');
   await page.click('#theme');
   await page.size(1440, 900);
   const { data } = await page.developer('Page.printToPDF', { printBackground: true });
   writeFileSync('target/desk/door.pdf', Buffer.from(data, 'base64'));
   await page.run('dispatchEvent(new Event("beforeprint"))');
   await page.developer('Emulation.setEmulatedMedia', { media: 'print' });
-  assert.match(await page.text('#door'), /^Valley hut, as wired in spring\n/);
+  assert.match(await page.text('#door'), /^Valley hut, as wired in spring\n[^]*a dashed frame what is wanted[^]*a half circle one whose server/);
   await page.shot('door');
   await page.developer('Emulation.setEmulatedMedia', { media: '' });
 });
@@ -356,6 +377,20 @@ request('join', 'two huts are joined', async () => {
   await page.click('#notice button');
 });
 
+request('join', 'a file that is no hut’s is told where another hut is opened', async () => {
+  await page.click('#tab-servers');
+  await page.click('#tab-huts');
+  const open = async (name, content, told) => {
+    writeFileSync(join(files, name), content);
+    await page.type('.join [type="file"]', join(files, name));
+    await page.until(async () => told.test(await page.text('#joined')), name);
+    return page.run('return document.getElementById("second").value');
+  };
+  assert.equal(await open('unit.elf', '\x7fELF\0\0hutplan release 0907 by Yerkozan\0', /^unit\.elf has release 907 of hutplan in it/), '');
+  assert.equal(await open('unit.s19', 'S00600004844521B\nS9030000FC\n', /^No hut and no release in it/), '');
+  assert.equal(await open('far.txt', 'breaker far 100 W\n', /^Opened the text far\.txt/), 'breaker far 100 W\n');
+});
+
 request('part', 'a hut is parted where nothing crosses the cut', async () => {
   await page.click('#tab-servers');
   await page.click('#tab-huts');
@@ -372,6 +407,10 @@ request('part', 'a hut is parted where nothing crosses the cut', async () => {
   await page.click('.part [type="submit"]');
   assert.match(await page.text('#parted'), /The first: 2 breakers, 2 servers\.[^]*The second: 1 breaker, 0 servers\./);
   await page.shot('parted');
+  await page.click('[data-save="0"]');
+  assert.deepEqual(new Uint8Array(await saved('room-first.bin')), bytes('samples/room-h.bin'));
+  await page.click('[data-save="1"]');
+  assert.deepEqual([...await saved('room-second.bin')], [1, 1, 0, 100, 0]);
   await page.click('[data-keep="1"]');
   assert.equal(await value(), 'version 1\n\nbreaker far 100 W\n');
 });

@@ -34,6 +34,7 @@ test('demands are read as hutplan reads them', () => {
   assert.deepEqual(demandsOf('\n'), [16777216]);
   assert.deepEqual(demandsOf('x\n123456789\n 1\n'), [16777216, 16777216, 16777216]);
   assert.equal(demandsOf('7\n'.repeat(600)).length, 513);
+  assert.deepEqual(demandsOf(`${'7\n'.repeat(512)}\n`).slice(511), [7, 16777216]);
 });
 
 /// Document 01's own words for a limit and for what a cord carries, beside what Plan was asked for.
@@ -43,7 +44,7 @@ const carried = (hut, share, load) => {
   return Number((BigInt(share) * BigInt(load) + scale - 1n) / scale);
 };
 
-test('limits, lows and wants that are asked of Plan are those of the specification', () => {
+test('limits, lows, needs and wants that are asked of Plan are those of the specification', () => {
   for (const { sheet, demands: lines } of huts) {
     const read = calls.read(sheet);
     if (read.number !== 0) continue;
@@ -55,6 +56,7 @@ test('limits, lows and wants that are asked of Plan are those of the specificati
     const figures = planFigures(hut, read.words, demands, fixed, calls);
     if (figures.number !== 0) continue;
     const needs = hut.servers.map(({ least, greatest }, place) => Math.min(Math.max(demands[place], least), greatest));
+    assert.deepEqual(figures.needs, needs);
     assert.deepEqual(figures.wants, cordsOf(hut).map(({ share, server }) => carried(hut, share, needs[server])));
     figures.limits.forEach((limit, node) => assert.ok(figures.grantsBeneath[node] + figures.headroomBeneath[node] <= limit));
   }

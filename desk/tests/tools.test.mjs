@@ -123,5 +123,8 @@ test('an image that is opened gets a sentence on its release, and a hut is still
   assert.match(told('unit.hex', image(hexOf(image('\0', mark(3))))).says, /^unit\.hex has release 3 of hutplan in it/);
   assert.match(told('two.bin', image('\0', mark(1), '\0', mark(2))).says, /the marks of several releases of hutplan: 1, 2\.$/);
   assert.match(told('old.elf', image('\x7fELF\0\0')).refused.title, /^Refused /);
+  for (const [name, content] of [['unit.s19', 'S00600004844521B\nS9030000FC\n'], ['old.hex', hexOf(image('\0'.repeat(64)))]]) {
+    assert.match(told(name, image(content)).refused.says, /searched for its release as ELF, as raw bytes and as Intel HEX, not as S-records/);
+  }
   assert.equal(told('hut.txt', image(`# ${mark(9)}\nbreaker a 5 W\n`)).text, `# ${mark(9)}\nbreaker a 5 W\n`);
 });

@@ -68,6 +68,8 @@ BEGIN {
     if (!/^define noundef i32 @[a-z_0-9]+\((ptr noundef %a[0-9]+(, )?|i64 noundef %a[0-9]+(, )?)+\) #[0-9]+ {$/) stop("a call that takes more than pointers and numbers of 64 bits")
 }
 
+/(^| )call / && !/(^| )call [^%(]*@/ { stop("a call through a pointer") }
+
 { look_at($0); print }
 
 END { if (failed) exit 1 }

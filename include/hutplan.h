@@ -133,7 +133,7 @@ enum hutplan_refusal {
 
     /* The numbers of hutplan_send, before its list. */
     HUTPLAN_NO_MESSAGES = 27,          /* m is 0; place: 0 */
-    HUTPLAN_POSITION_OUT_OF_RANGE = 28      /* no server has the position, or there are none or more than
+    HUTPLAN_POSITION_OUT_OF_RANGE = 28 /* no server has the position, or there are none or more than
                                           512 of them; place: 1 */
 };
 

@@ -22,6 +22,13 @@ function note_call(callee) {
     called = 1
 }
 
+# Notes the call of the last instruction, where the assembler has filled it in: of a function in the same section, as a
+# function that calls itself.
+function note_inside() {
+    if (inside in frame) note_call(inside)
+    inside = ""
+}
+
 # Bytes that a function needs, its own frame and all that it calls.
 function stack_of(f,    list, count, i, deepest, below) {
     if (f in known) return known[f]
@@ -64,6 +71,7 @@ FILENAME ~ /\.su$/ {
     sub(/^[0-9a-f]+ </, "", begun)
     sub(/>:$/, "", begun)
     if (begun ~ /^[.$]/ || begun == "CODE") next
+    note_inside()
     end_function()
     if (!(begun in frame)) stop("no frame is reported of " begun)
     name = order[functions++] = begun
@@ -73,6 +81,7 @@ FILENAME ~ /\.su$/ {
 
 # A place that the linker fills in: the functions that are called stand here.
 /^\t\t\t?[0-9a-f]+: +R_/ {
+    inside = ""
     kind = $0
     sub(/^[^R]*/, "", kind)
     sub(/[ \t].*/, "", kind)
@@ -86,6 +95,8 @@ FILENAME ~ /\.su$/ {
 # An instruction.
 /^ +[0-9a-f]+:/ {
     sub(/^ +[0-9a-f]+:[ \t]*/, "")
+    note_inside()
+    if (/^(call[lq]?|blx?)[ \t].*<[^+>]*>/) { inside = $0; gsub(/.*<|>.*/, "", inside) }
     if (/^(call[lq]?[ \t]+\*|blx[ \t]+r|blr[ \t]|call_indirect)/ || (/^jalr/ && filled !~ /CALL/)) stop(name " calls through a pointer: " $0)
     if (/^call[ \t]+[0-9]+/) wasm_calls[name] = wasm_calls[name] " " $2
     if (target ~ /^x86_64/) look_at_pushes()
@@ -106,6 +117,7 @@ function look_at_pushes(    bytes) {
 
 END {
     if (failed) exit 1
+    note_inside()
     end_function()
     if (!functions) stop("no functions in the archive")
     for (f in wasm_calls) {

@@ -195,6 +195,7 @@ int main(void)
     /* With another release's code nothing is planned: the lists may not be those that it wants. */
     if (!right_release()) {
         print("the header is of another release\n");
+        end_run();
         return 1;
     }
     for (i = 0; i < SERVERS; i++)

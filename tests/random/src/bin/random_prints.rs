@@ -232,6 +232,10 @@ fn main() -> Result<()> {
     let count = option(&arguments, "--count", HELP).unwrap_or(COUNT);
     let seed = option(&arguments, "--seed", HELP).unwrap_or(1);
     let directory = env::temp_dir().join(format!("random_prints.{}", id()));
+    // A run that was killed has left its directory, and the numbers of processes come again.
+    if directory.exists() {
+        fs::remove_dir_all(&directory)?;
+    }
     fs::create_dir(&directory)?;
     let result = compare(&program, &directory, count, seed);
     fs::remove_dir_all(&directory)?;

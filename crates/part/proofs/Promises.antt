@@ -39,11 +39,7 @@ use Rattle.join.proofs.Promises.{join-gives-room, join-plans-both}
 use Rattle.part.specs.Parted.{front, back, Behind, cordOf, Uncrossed}
 use Rattle.part.specs.Crossing.{crossing}
 use Rattle.part.specs.Outcome.{Parts, partsOf, reasons}
-<<<<<<< HEAD
-use Rattle.part.specs.Promises.{PartsOfJoined, JoinedParts, Cut, GoodParts, PartsAreGood, AcceptedPart, PartGivesParts, PartsJoined, PartPlansBoth}
-=======
-use Rattle.part.specs.Promises.{PartsOfJoined, JoinedParts, Cut, GoodParts, PartsAreGood, AcceptedPart, PartsGiven, PartGivesParts, PartsJoined, PartPlansBoth, PlansParted, PlanOfParts}
->>>>>>> 3fab2dcf4fe1aa117c5d7ad69898f9c269abfd49
+use Rattle.part.specs.Promises.{PartsOfJoined, JoinedParts, Cut, GoodParts, PartsAreGood, AcceptedPart, PartGivesParts, PartsJoined, PartPlansBoth, PlansParted, PlanOfParts}
 use Rattle.part.proofs.PartLaws.{BackWhole, parted-front, parted-back, joined-again}
 use Rattle.part.proofs.PartTables.{FrontCords, BackCords, front-checked, back-checked}
 use Rattle.part.proofs.OutcomeLaws.{table-good, both-fit}

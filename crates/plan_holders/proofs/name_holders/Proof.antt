@@ -43,7 +43,7 @@ abbrev turn : Read → Turn
 turn r = r .before .before .before .before
 
 node-fits : (r : Read) → r .before .before .index .result ≤ mostNodes
-node-fits r = omega (arith, r .before .before .index .ensures .0, lists (turn r) .within (turn r .before .loop .c) (turn r .loop-test .taken), lists (turn r) .few-nodes)
+node-fits r = omega (arith, r .before .before .index .ensures .0, lists (turn r) .within (turn r .before .loop .c) (turn r .loop-test .taken), lists (turn r) .of-nodes .few)
 
 level-fits : (r : Read) → r .index2 .result < highestRank
 level-fits r = omega (arith, r .index2 .ensures .0, lists (turn r) .ranked (turn r .before .loop .c) (turn r .loop-test .taken))

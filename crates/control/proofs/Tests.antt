@@ -6,8 +6,8 @@ use mathlib.Core.Bool.{Bool, true, false, cond, not, _&&_}
 pub and-true : {p q r : Bool} → p ≡ true → r ≡ q → r ≡ p && q
 and-true e f = rw e f
 
-pub and-false : {p : Bool} (q : Bool) → p ≡ false → false ≡ p && q
-and-false q e = rw e
+pub false-and : {p : Bool} (q : Bool) → p ≡ false → false ≡ p && q
+false-and q e = rw e
 
 -- What a test of `!b` says of p, where b is p.
 pub was-true : {b p : Bool} → b ≡ p → not b ≡ false → p ≡ true

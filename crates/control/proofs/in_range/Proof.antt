@@ -3,7 +3,7 @@ use borrow.Author.Needs.{needs}
 use mathlib.Core.Path.{sym, ap, _∙_}
 use lib.Ieee.{Float, le, ofBits}
 use Rattle.control.specs.Step.{float0, mostWatts}
-use Rattle.control.proofs.Tests.{and-true, and-false}
+use Rattle.control.proofs.Tests.{and-true, false-and}
 use Rattle.control.proofs.FloatChoice.{range-of-two}
 use Rattle.control.proofs.in_range.Statement.{statement}
 use Rattle.control.proofs.in_range.Tie as tie
@@ -26,7 +26,7 @@ unfolding ofBits
 returns-2 c =
     let lesser = c .before in
     c .if1 .left
-    ∙ and-false _ (sym (ap (le float0) (lesser .lesser .ensures)) ∙ c .if1 .left)
+    ∙ false-and _ (sym (ap (le float0) (lesser .lesser .ensures)) ∙ c .if1 .left)
     ∙ range-of-two float0 mostWatts (lesser .before .args .first) (lesser .before .args .second)
 
 pub in-range-spec : {M : Type 1} → statement M

@@ -39,7 +39,8 @@ with-requires-3 c κs = search needs
 
 add-reading-at-3 : tie.Need-add-reading-at-3
 add-reading-at-3 c =
-    let lists = c .before .before .before .before .before .before .before .before in
+    let first = c .before .before .before .before in
+    let lists = first .before .before .before .before in
     search (needs, lists .shared-slice-known4)
 
 reading-at-requires-4 : tie.Need-reading-at-requires-4
@@ -59,7 +60,8 @@ returns c =
     let first = second .before .before in
     let judged = first .before .before in
     let controller = judged .before in
-    let args = controller .before .before .before .before .before .args in
+    let lists = controller .before in
+    let args = lists .before .before .before .before .args in
     let reading : ℕ → Reading = readingAt (args .working .now) (args .budgets .now) (args .measured .now) in
     rw (c .step-by .ensures, fourth .with4 .ensures, third .with3 .ensures, second .with2 .ensures, first .with .ensures, judged .judged .ensures, controller .controller-at .ensures, first .before .reading-at .ensures, second .before .reading-at2 .ensures, third .before .reading-at3 .ensures, fourth .before .reading-at4 .ensures)
     (steppedBy-four (controllerAt (args .controllers .now) (args .at)) (reading (args .at)) (reading (args .at + 1)) (reading (args .at + 2)) (reading (args .at + 3)))

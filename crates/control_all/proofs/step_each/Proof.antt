@@ -14,7 +14,7 @@ abbrev μ-loop : tie.MeasureT-loop
 μ-loop controllers₀ working budgets measured results₀ count stepped₀ i₀ controllers results stepped i = count - i
 
 loop-holds : tie.Need-loop-holds Inv-loop μ-loop
-loop-holds c = before-first _ _ _ _ _ (c .before .before .before .before .before .pre)
+loop-holds c = let lists = c .before .before in before-first _ _ _ _ _ (lists .before .before .before .pre)
 
 mul-step-at : tie.Need-mul-step-at Inv-loop μ-loop
 mul-step-at c = let inv = c .before .before .loop .inv in omega (arith, inv .fit .few)
@@ -34,15 +34,19 @@ keep-at-requires c κs =
     let inv = c .before .before .before .before .loop .inv in
     omega (arith, c .before .before .before .loop-test .taken, inv .fit .controllers-are, inv .controllers-kept)
 
+-- The turn in which a controller was kept.
+abbrev turn : tie.After-keep-at Inv-loop μ-loop → tie.At-loop Inv-loop μ-loop
+turn c = let step = c .before .before in step .before .before .before
+
 slice-write-results : tie.Need-slice-write-results Inv-loop μ-loop
-slice-write-results c = omega (arith, c .before .before .before .before .before .before .before .loop .inv .results-kept)
+slice-write-results c = omega (arith, turn (c .before .before) .loop .inv .results-kept)
 
 one-if-zero-requires : tie.Need-one-if-zero-requires Inv-loop μ-loop
 one-if-zero-requires c κs = search needs
 
 add-stepped : tie.Need-add-stepped Inv-loop μ-loop
 add-stepped c =
-    let inv = c .before .before .before .before .before .before .before .before .loop .inv in
+    let inv = turn (c .before .before .before) .loop .inv in
     omega (arith, inv .few, inv .fit .few, inv .within, c .one-if-zero .ensures .1)
 
 add-i : tie.Need-add-i Inv-loop μ-loop

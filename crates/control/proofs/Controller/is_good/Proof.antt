@@ -3,7 +3,7 @@ use borrow.Author.Needs.{needs}
 use mathlib.Core.Path.{sym, _∙_}
 use lib.Ieee.{ofBits}
 use Rattle.control.specs.Step.{goodController}
-use Rattle.control.proofs.Tests.{and-true, and-false, was-true, was-false}
+use Rattle.control.proofs.Tests.{and-true, false-and, was-true, was-false}
 use Rattle.control.proofs.Controller.is_good.Statement.{statement}
 use Rattle.control.proofs.Controller.is_good.Tie as tie
 
@@ -12,7 +12,7 @@ is-efficiency-requires c κs = search needs
 
 returns : tie.Need-returns
 unfolding goodController
-returns c = and-false _ (was-false (c .before .is-efficiency .ensures) (c .if1 .taken))
+returns c = false-and _ (was-false (c .before .is-efficiency .ensures) (c .if1 .taken))
 
 ordered-requires : tie.Need-ordered-requires
 ordered-requires c κs = search needs
@@ -32,7 +32,7 @@ unfolding goodController ofBits
 returns-3 c =
     let left = c .before in
     and-true (was-true (left .before .before .is-efficiency .ensures) (left .before .if1 .left))
-    (c .if2 .left ∙ and-false _ (sym (left .ordered .ensures) ∙ c .if2 .left))
+    (c .if2 .left ∙ false-and _ (sym (left .ordered .ensures) ∙ c .if2 .left))
 
 pub is-good-spec : {M : Type 1} → statement M
 is-good-spec = tie.close (tie.spec is-efficiency-requires returns ordered-requires ordered-requires-2 returns-2 returns-3)

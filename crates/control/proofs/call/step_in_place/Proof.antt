@@ -53,8 +53,9 @@ returns-2 c =
     let kept = number .before in
     let step = kept .before .before in
     let readings = step .before in
-    let before = readings .before in
-    call-done _ _ (omega (arith, before .before .before .before .before .before .if1 .left)) (before .of .ensures) (readings .readings .ensures) (step .step .ensures)
+    let held = readings .before in
+    let tested = held .before .before .before .before in
+    call-done _ _ (omega (arith, tested .before .if1 .left)) (held .of .ensures) (readings .readings .ensures) (step .step .ensures)
     (kept .keep-cap .ensures) (number .number .ensures) (stored .before .before .place .ensures) (stored .store-answer .ensures)
 
 pub step-in-place-spec : {M : Type 1} → statement M

@@ -34,7 +34,8 @@ returns-2 c =
     let stored = c .before .before in
     let figure = stored .before .before in
     let number = figure .before in
-    let pass = number .before .before .before .before .before in
+    let kept = number .before .before .before in
+    let pass = kept .before .before in
     call-done _ _ _ _ (omega (arith, pass .before .before .before .if1 .left)) (pass .step-all .ensures .0) (pass .step-all .ensures .1 .0) (pass .step-all .ensures .1 .1)
     (number .number .ensures) (figure .figure .ensures) (stored .store-answer .ensures)
 

@@ -2,7 +2,6 @@
 
 import test, { after } from 'node:test';
 import assert from 'node:assert/strict';
-import { once } from 'node:events';
 import { existsSync, mkdtempSync, readFileSync, rmSync, writeFileSync } from 'node:fs';
 import { tmpdir } from 'node:os';
 import { delimiter, join } from 'node:path';
@@ -50,9 +49,10 @@ function putDriver(kind) {
 const asked = () => readFileSync(join(folder, 'asked'), 'utf8').trim().split('\n').map(line => JSON.parse(line));
 const start = () => Browser.start({ width: 390, height: 844, downloads: folder });
 
-test('a driver that ends and sessions that are refused are tried again', async () => {
+test('a driver that ends and sessions that are refused are tried again', async t => {
   putDriver({ ends: 2, refuses: 3 });
   const browser = await start();
+  t.after(() => browser.end());
   assert.equal(asked().filter(each => each.start).length, 3);
   const sessions = asked().filter(({ url }) => url === '/session');
   assert.equal(sessions.length, 4);
@@ -60,16 +60,14 @@ test('a driver that ends and sessions that are refused are tried again', async (
   assert.ok(script > 200_000 && pageLoad > 200_000, 'a slow machine has its time');
   assert.equal(asked().filter(({ body }) => body?.includes('innerWidth')).length, 3, 'a size is waited for');
   assert.equal(await browser.text('p'), 'done', 'an element is tried again until it can be used');
-  const ended = once(browser.process, 'exit');
-  await browser.end();
-  await ended;
 });
 
-test('where no session can be had, the driver is ended and the failure told', async () => {
+test('where no session can be had, the driver is ended and the failure told', async t => {
   putDriver({ ends: 0, refuses: 99 });
   await assert.rejects(start(), /\/session: busy/);
   const [{ start: pid }] = asked();
   const ended = () => !existsSync(`/proc/${pid}`);
+  t.after(() => { if (!ended()) process.kill(pid); });
   for (let trial = 0; trial < 200 && !ended(); trial++) await new Promise(resolve => { setTimeout(resolve, 50); });
   assert.ok(ended());
 });

@@ -10,15 +10,12 @@ ghost use Rattle.deals.specs.Metrics.{dealFrom};
 ghost use Rattle.deals.specs.Headroom.{headroomOver};
 ghost use Rattle.plan_headroom.specs.Lending.{LendGiven, SomeLending};
 ghost use Rattle.plan_headroom.specs.Passes.{AllPlaces, LendLists, LendWeights, DealtOut};
+use deals::by_rank::FIGURES;
 use deals::dealing::deal_cords;
 use deals::dealing::deal_nodes;
 use deals::metrics::sum_cords;
 use deals::metrics::weigh;
 use figures::place;
-
-// The length of the lists with a figure of each node: a little more than the most nodes, so that no two start at the same place of
-// their pages, as in `deals::by_rank`.
-const FIGURES: usize = 520;
 
 // Lists all places.
 fn list_all(all: &mut [u16])

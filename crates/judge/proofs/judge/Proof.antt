@@ -1,6 +1,7 @@
 -- `judge` meets its contract: what is loaded, with a grant for each cord, is judged by the room of its table.
 use mathlib.Core.List.{List}
 use Prim.Native.Nat.{ℕ}
+use native.Mathlib.Omega.{arith}
 use Rattle.layout.specs.declared.room.Counts.{Counts}
 use Rattle.layout.proofs.Loads.{RoomFound, found, lows-long}
 use Rattle.judge.proofs.Admitting.{load-told, count-told, scale-fits, servers-fit, nodes-given, grants-fit, verdict-told}
@@ -41,7 +42,7 @@ enum-known-loaded : tie.Need-enum-known-loaded
 enum-known-loaded c = search needs
 
 returns : tie.Need-returns
-returns c = let k = c .before in count-told (table k) (demands k) (grants k) (room k) (c .if1 .taken)
+returns c = let k = c .before in count-told (table k) (demands k) (grants k) (room k) (λ q. absurd (omega (arith, q, c .if1 .taken)))
 
 slice-aggregate-judge-room : tie.Need-slice-aggregate-judge-room
 slice-aggregate-judge-room c = let k = c .before .before in lows-long (table k) _ (admitted k .admit .ensures .1)
@@ -51,7 +52,7 @@ judge-room-requires c κs =
     let e = c .before in
     let k = e .before in (
       (nodes-given (table k) (demands k) (grants k) (room k) (admitted k .admit .ensures .1), scale-fits (table k) (demands k) (grants k) (room k)),
-      (servers-fit (table k) (demands k) (grants k) (room k), grants-fit (table k) (demands k) (grants k) (room k) (e .if1 .left)),
+      (servers-fit (table k) (demands k) (grants k) (room k), grants-fit (table k) (demands k) (grants k) (room k) (omega (arith, e .if1 .left))),
     )
 
 enum-known-loaded-2 : tie.Need-enum-known-loaded-2
@@ -61,7 +62,7 @@ returns-2 : tie.Need-returns-2
 returns-2 c =
     let e = c .before .before in
     let k = e .before in
-    verdict-told (table k) (demands k) (grants k) (room k) (e .if1 .left) (c .judge-room .ensures)
+    verdict-told (table k) (demands k) (grants k) (room k) (omega (arith, e .if1 .left)) (c .judge-room .ensures)
 
 returns-3 : tie.Need-returns-3
 returns-3 c = let a = c .before .before .before in load-told _ _ _ (a .admit .ensures .0) (c .before .loaded2 .given .1)

@@ -58,7 +58,7 @@ loadRefusalPlace (Table refusal) = refusalPlace refusal
 loadRefusalPlace (DemandCount place) = place
 loadRefusalPlace (DemandTooLarge place) = place
 
--- ---- The lists
+-- ---- The lists, which contracts that are private to Plan cite
 
 -- Lists of these lengths take those of any room: a place for each node, for each cord, or for each server.
 pub record LoadSpace (parents spare cords lows wants ceilings needs : ℕ) : Type 0 where

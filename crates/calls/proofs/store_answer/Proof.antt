@@ -12,15 +12,6 @@ returns c =
     let args = c .before .before .args in
     sym (answered-short 2 (args .answer .now) (args .number ∷ args .figure ∷ []) (omega arith))
 
-store-number-requires : tie.Need-store-number-requires
-store-number-requires c κs = search needs
-
-store-number-requires-2 : tie.Need-store-number-requires-2
-store-number-requires-2 c κs = search needs
-
-same-length : tie.Need-same-length
-same-length c = search needs
-
 returns-2 : tie.Need-returns-2
 returns-2 c =
     let second = c .before .before in
@@ -29,4 +20,4 @@ returns-2 c =
     two-stored (args .number) (args .figure) (args .answer .now) (omega (arith, first .before .before)) (first .store-number .ensures) (second .store-number2 .ensures)
 
 pub store-answer-spec : {M : Type 1} → statement M
-store-answer-spec = tie.close (tie.spec returns store-number-requires store-number-requires-2 same-length returns-2)
+store-answer-spec = tie.close (tie.spec returns (λ c κs. search needs) (λ c κs. search needs) (λ c. search needs) returns-2)

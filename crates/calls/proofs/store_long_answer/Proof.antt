@@ -12,15 +12,6 @@ returns c =
     let args = c .before .before .args in
     sym (answered-short 3 (args .answer .now) (args .number ∷ args .first ∷ args .second ∷ []) (omega arith))
 
-store-answer-requires : tie.Need-store-answer-requires
-store-answer-requires c κs = search needs
-
-store-number-requires : tie.Need-store-number-requires
-store-number-requires c κs = search needs
-
-same-length : tie.Need-same-length
-same-length c = search needs
-
 returns-2 : tie.Need-returns-2
 returns-2 c =
     let third = c .before .before in
@@ -29,4 +20,4 @@ returns-2 c =
     three-stored (args .number) (args .first) (args .second) (args .answer .now) (omega (arith, two .before .before)) (two .store-answer .ensures) (third .store-number .ensures)
 
 pub store-long-answer-spec : {M : Type 1} → statement M
-store-long-answer-spec = tie.close (tie.spec returns store-answer-requires store-number-requires same-length returns-2)
+store-long-answer-spec = tie.close (tie.spec returns (λ c κs. search needs) (λ c κs. search needs) (λ c. search needs) returns-2)

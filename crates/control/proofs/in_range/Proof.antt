@@ -8,12 +8,6 @@ use Rattle.control.proofs.FloatChoice.{range-of-two}
 use Rattle.control.proofs.in_range.Statement.{statement}
 use Rattle.control.proofs.in_range.Tie as tie
 
-lesser-requires : tie.Need-lesser-requires
-lesser-requires c κs = search needs
-
-greater-requires : tie.Need-greater-requires
-greater-requires c κs = search needs
-
 returns : tie.Need-returns
 unfolding ofBits
 returns c =
@@ -30,4 +24,4 @@ returns-2 c =
     ∙ range-of-two float0 mostWatts (lesser .before .args .first) (lesser .before .args .second)
 
 pub in-range-spec : {M : Type 1} → statement M
-in-range-spec = tie.close (tie.spec lesser-requires greater-requires returns returns-2)
+in-range-spec = tie.close (tie.spec (λ c κs. search needs) (λ c κs. search needs) returns returns-2)

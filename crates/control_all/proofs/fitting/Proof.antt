@@ -9,9 +9,6 @@ use Rattle.control_all.proofs.fitting.Tie as tie
 returns : tie.Need-returns
 returns c = false-and _ (lt-leb _ _ (c .if1 .taken))
 
-mul-cords : tie.Need-mul-cords
-mul-cords c = search needs
-
 returns-2 : tie.Need-returns-2
 returns-2 c = and-true (le-leb _ _ (c .before .if1 .left)) (false-and _ (ne-eqb _ _ (c .if2 .taken)))
 
@@ -35,4 +32,4 @@ returns-5 c =
     (and-true (eq-eqb _ _ (second .if2 .left)) (and-true (eq-eqb _ _ (third .if3 .left)) (and-true (eq-eqb _ _ (c .if4 .left)) refl)))
 
 pub fitting-spec : {M : Type 1} → statement M
-fitting-spec = tie.close (tie.spec returns mul-cords returns-2 returns-3 returns-4 returns-5)
+fitting-spec = tie.close (tie.spec returns (λ c. search needs) returns-2 returns-3 returns-4 returns-5)

@@ -4,19 +4,10 @@ use Rattle.control_all.proofs.Passes.{test-fitting, pass-done, pass-ref
 use Rattle.control_all.proofs.step_all.Statement.{statement}
 use Rattle.control_all.proofs.step_all.Tie as tie
 
-fitting-requires : tie.Need-fitting-requires
-fitting-requires c κs = search needs
-
 step-each-requires : tie.Need-step-each-requires
 step-each-requires c κs =
     let taken = c .before .before in
     test-fitting _ _ _ _ _ (taken .before .fitting .ensures) (taken .if1 .taken)
-
-same-length : tie.Need-same-length
-same-length c = search needs
-
-same-length-2 : tie.Need-same-length-2
-same-length-2 c = search needs
 
 returns : tie.Need-returns
 returns c =
@@ -28,4 +19,4 @@ returns-2 : tie.Need-returns-2
 returns-2 c = pass-refused _ _ _ _ _ (c .before .fitting .ensures) (c .if1 .left)
 
 pub step-all-spec : {M : Type 1} → statement M
-step-all-spec = tie.close (tie.spec fitting-requires step-each-requires same-length same-length-2 returns returns-2)
+step-all-spec = tie.close (tie.spec (λ c κs. search needs) step-each-requires (λ c. search needs) (λ c. search needs) returns returns-2)

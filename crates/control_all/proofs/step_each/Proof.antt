@@ -41,9 +41,6 @@ turn c = let step = c .before .before in step .before .before .before
 slice-write-results : tie.Need-slice-write-results Inv-loop μ-loop
 slice-write-results c = omega (arith, turn (c .before .before) .loop .inv .results-kept)
 
-one-if-zero-requires : tie.Need-one-if-zero-requires Inv-loop μ-loop
-one-if-zero-requires c κs = search needs
-
 add-stepped : tie.Need-add-stepped Inv-loop μ-loop
 add-stepped c =
     let inv = turn (c .before .before .before) .loop .inv in
@@ -72,4 +69,4 @@ returns : tie.Need-returns Inv-loop μ-loop
 returns c = let e = before-last _ _ _ _ _ (c .before .loop .inv) (omega arith) in (e .0, (e .1, e .2))
 
 pub step-each-spec : {M : Type 1} → statement M
-step-each-spec = tie.close (tie.spec Inv-loop μ-loop loop-holds mul-step-at step-at-requires mul-keep-at keep-at-requires slice-write-results one-if-zero-requires add-stepped add-i loop-less loop-again same-length same-length-2 returns)
+step-each-spec = tie.close (tie.spec Inv-loop μ-loop loop-holds mul-step-at step-at-requires mul-keep-at keep-at-requires slice-write-results (λ c κs. search needs) add-stepped add-i loop-less loop-again same-length same-length-2 returns)

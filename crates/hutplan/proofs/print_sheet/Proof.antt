@@ -8,30 +8,6 @@ use borrow.Author.Needs.{needs}
 use Rattle.hutplan.proofs.print_sheet.Statement.{statement}
 use Rattle.hutplan.proofs.print_sheet.Tie as tie
 
-read-requires : tie.Need-read-requires
-read-requires c κs = search needs
-
-enum-known-answer : tie.Need-enum-known-answer
-enum-known-answer c = search needs
-
-enum-known-answer-2 : tie.Need-enum-known-answer-2
-enum-known-answer-2 c = search needs
-
-number-requires : tie.Need-number-requires
-number-requires c κs = search needs
-
-place-requires : tie.Need-place-requires
-place-requires c κs = search needs
-
-refusal-requires : tie.Need-refusal-requires
-refusal-requires c κs = search needs
-
-same-length : tie.Need-same-length
-same-length c = search needs
-
-same-length-2 : tie.Need-same-length-2
-same-length-2 c = search needs
-
 returns : tie.Need-returns
 returns c =
     let put = c .before .before in
@@ -57,27 +33,6 @@ slice-reshare-prefix-print-table c =
 slice-aggregate-print-table : tie.Need-slice-aggregate-print-table
 slice-aggregate-print-table c = sym (length-take-le _ _ (slice-reshare-prefix-print-table (c .before)))
 
-slice-aggregate-print-table-2 : tie.Need-slice-aggregate-print-table-2
-slice-aggregate-print-table-2 c = search needs
-
-slice-aggregate-print-table-3 : tie.Need-slice-aggregate-print-table-3
-slice-aggregate-print-table-3 c = search needs
-
-slice-aggregate-print-table-4 : tie.Need-slice-aggregate-print-table-4
-slice-aggregate-print-table-4 c = search needs
-
-slice-aggregate-print-table-5 : tie.Need-slice-aggregate-print-table-5
-slice-aggregate-print-table-5 c = search needs
-
-print-table-requires : tie.Need-print-table-requires
-print-table-requires c κs = search needs
-
-same-length-3 : tie.Need-same-length-3
-same-length-3 c = search needs
-
-same-length-4 : tie.Need-same-length-4
-same-length-4 c = search needs
-
 returns-2 : tie.Need-returns-2
 returns-2 c =
     let capped = c .before .before .before .before in
@@ -98,22 +53,11 @@ pub print-sheet-spec : {M : Type 1} → statement M
 print-sheet-spec =
     tie.close
     (tie.spec
-    read-requires
-    enum-known-answer
-    enum-known-answer-2
-    number-requires
-    place-requires
-    refusal-requires
-    same-length
-    same-length-2
+    (λ c κs. search needs) (λ c. search needs) (λ c. search needs) (λ c κs. search needs) (λ c κs. search needs)
+    (λ c κs. search needs) (λ c. search needs) (λ c. search needs)
     returns
     slice-reshare-prefix-print-table
     slice-aggregate-print-table
-    slice-aggregate-print-table-2
-    slice-aggregate-print-table-3
-    slice-aggregate-print-table-4
-    slice-aggregate-print-table-5
-    print-table-requires
-    same-length-3
-    same-length-4
+    (λ c. search needs) (λ c. search needs) (λ c. search needs) (λ c. search needs) (λ c κs. search needs)
+    (λ c. search needs) (λ c. search needs)
     returns-2)

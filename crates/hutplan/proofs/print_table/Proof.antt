@@ -48,12 +48,6 @@ room-text c =
     (grants plan) (caps plan) (headroom plan) (held plan)
     (c .planned .given .1) (said .answer-is) (said .lists-are Grants) (said .lists-are Caps) (said .lists-are Headroom) (said .lists-are Held)
 
-plan-requires : tie.Need-plan-requires
-plan-requires c κs = search needs
-
-enum-known-planned : tie.Need-enum-known-planned
-enum-known-planned c = search needs
-
 -- Where Plan has accepted, before its lists are lent to be printed.
 abbrev planned : tie.After-plan-arg9 → tie.After-planned
 planned c = let lent = c .before .before .before in lent .before .before .before
@@ -61,53 +55,11 @@ planned c = let lent = c .before .before .before in lent .before .before .before
 plan-requires-2 : tie.Need-plan-requires-2
 plan-requires-2 c κs = room-text (planned c) .good-table
 
-enum-known-planned-2 : tie.Need-enum-known-planned-2
-enum-known-planned-2 c = search needs
-
-number-requires : tie.Need-number-requires
-number-requires c κs = search needs
-
-place-requires : tie.Need-place-requires
-place-requires c κs = search needs
-
-refusal-requires : tie.Need-refusal-requires
-refusal-requires c κs = search needs
-
-same-length : tie.Need-same-length
-same-length c = search needs
-
-same-length-2 : tie.Need-same-length-2
-same-length-2 c = search needs
-
-same-length-3 : tie.Need-same-length-3
-same-length-3 c = search needs
-
-same-length-4 : tie.Need-same-length-4
-same-length-4 c = search needs
-
-same-length-5 : tie.Need-same-length-5
-same-length-5 c = search needs
-
 returns : tie.Need-returns
 returns c =
     let put = c .before .before .plan2 .ensures in
     let is = room-text (planned (c .before .before .before)) in
     (put-as (is .text) (put .0 (is .good-table .value) (is .good-table .next) (is .good-table .is)), put .1)
-
-same-length-6 : tie.Need-same-length-6
-same-length-6 c = search needs
-
-same-length-7 : tie.Need-same-length-7
-same-length-7 c = search needs
-
-same-length-8 : tie.Need-same-length-8
-same-length-8 c = search needs
-
-same-length-9 : tie.Need-same-length-9
-same-length-9 c = search needs
-
-same-length-10 : tie.Need-same-length-10
-same-length-10 c = search needs
 
 returns-2 : tie.Need-returns-2
 returns-2 c =
@@ -125,22 +77,10 @@ pub print-table-spec : {M : Type 1} → statement M
 print-table-spec =
     tie.close
     (tie.spec
-    plan-requires
-    enum-known-planned
+    (λ c κs. search needs) (λ c. search needs)
     plan-requires-2
-    enum-known-planned-2
-    number-requires
-    place-requires
-    refusal-requires
-    same-length
-    same-length-2
-    same-length-3
-    same-length-4
-    same-length-5
+    (λ c. search needs) (λ c κs. search needs) (λ c κs. search needs) (λ c κs. search needs) (λ c. search needs)
+    (λ c. search needs) (λ c. search needs) (λ c. search needs) (λ c. search needs)
     returns
-    same-length-6
-    same-length-7
-    same-length-8
-    same-length-9
-    same-length-10
+    (λ c. search needs) (λ c. search needs) (λ c. search needs) (λ c. search needs) (λ c. search needs)
     returns-2)

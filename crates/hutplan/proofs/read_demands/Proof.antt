@@ -16,39 +16,18 @@ Inv-loop list₀ reading₀ turns₀ list reading turns =
 abbrev μ-loop : tie.MeasureT-loop
 μ-loop list₀ reading₀ turns₀ list reading turns = turns
 
-start-requires : tie.Need-start-requires Inv-loop μ-loop
-start-requires c κs = search needs
-
 loop-holds : tie.Need-loop-holds Inv-loop μ-loop
 loop-holds c = (fed-none (ap (λ (r : Reading). held r (c .before .before .args .list .now)) (c .start .ensures)), refl)
-
-read-piece-requires : tie.Need-read-piece-requires Inv-loop μ-loop
-read-piece-requires c κs = search needs
-
-sub-turns : tie.Need-sub-turns Inv-loop μ-loop
-sub-turns c = search needs
-
-loop-less : tie.Need-loop-less Inv-loop μ-loop
-loop-less c = search needs
 
 loop-again : tie.Need-loop-again Inv-loop μ-loop
 loop-again c =
     let piece = c .before .before .before .before in
     (fed-more (piece .before .before .before .loop .inv .0) (piece .read-piece .ensures), search needs)
 
-loop-less-2 : tie.Need-loop-less-2 Inv-loop μ-loop
-loop-less-2 c = search needs
-
 loop-again-2 : tie.Need-loop-again-2 Inv-loop μ-loop
 loop-again-2 c =
     let piece = c .before .before .before .before in
     (fed-more (piece .before .before .before .loop .inv .0) (piece .read-piece .ensures), search needs)
-
-finish-requires : tie.Need-finish-requires Inv-loop μ-loop
-finish-requires c κs = search needs
-
-same-length : tie.Need-same-length Inv-loop μ-loop
-same-length c = search needs
 
 returns : tie.Need-returns Inv-loop μ-loop
 returns c =
@@ -61,14 +40,11 @@ read-demands-spec =
     (tie.spec
     Inv-loop
     μ-loop
-    start-requires
+    (λ c κs. search needs)
     loop-holds
-    read-piece-requires
-    sub-turns
-    loop-less
+    (λ c κs. search needs) (λ c. search needs) (λ c. search needs)
     loop-again
-    loop-less-2
+    (λ c. search needs)
     loop-again-2
-    finish-requires
-    same-length
+    (λ c κs. search needs) (λ c. search needs)
     returns)

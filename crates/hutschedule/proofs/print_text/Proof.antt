@@ -6,30 +6,6 @@ use Rattle.hutschedule.proofs.Prints.{text-refused, stands, sheet-writt
 use Rattle.hutschedule.proofs.print_text.Statement.{statement}
 use Rattle.hutschedule.proofs.print_text.Tie as tie
 
-schedule-requires : tie.Need-schedule-requires
-schedule-requires c κs = search needs
-
-enum-known-scheduled : tie.Need-enum-known-scheduled
-enum-known-scheduled c = search needs
-
-enum-known-scheduled-2 : tie.Need-enum-known-scheduled-2
-enum-known-scheduled-2 c = search needs
-
-number-requires : tie.Need-number-requires
-number-requires c κs = search needs
-
-place-requires : tie.Need-place-requires
-place-requires c κs = search needs
-
-refusal-requires : tie.Need-refusal-requires
-refusal-requires c κs = search needs
-
-same-length : tie.Need-same-length
-same-length c = search needs
-
-same-length-2 : tie.Need-same-length-2
-same-length-2 c = search needs
-
 abbrev start : tie.After-schedule → tie.Start
 start c = let lists = c .before .before in lists .before .before .before
 
@@ -52,18 +28,6 @@ slice-reshare-prefix-write c =
 slice-aggregate-write : tie.Need-slice-aggregate-write
 slice-aggregate-write c = sym (length-take-le _ _ (slice-reshare-prefix-write (c .before)))
 
-write-requires : tie.Need-write-requires
-write-requires c κs = search needs
-
-figure-requires : tie.Need-figure-requires
-figure-requires c κs = search needs
-
-same-length-3 : tie.Need-same-length-3
-same-length-3 c = search needs
-
-same-length-4 : tie.Need-same-length-4
-same-length-4 c = search needs
-
 returns-2 : tie.Need-returns-2
 returns-2 c =
     let write = c .before .before .before in
@@ -78,19 +42,10 @@ pub print-text-spec : {M : Type 1} → statement M
 print-text-spec =
     tie.close
     (tie.spec
-    schedule-requires
-    enum-known-scheduled
-    enum-known-scheduled-2
-    number-requires
-    place-requires
-    refusal-requires
-    same-length
-    same-length-2
+    (λ c κs. search needs) (λ c. search needs) (λ c. search needs) (λ c κs. search needs) (λ c κs. search needs)
+    (λ c κs. search needs) (λ c. search needs) (λ c. search needs)
     returns
     slice-reshare-prefix-write
     slice-aggregate-write
-    write-requires
-    figure-requires
-    same-length-3
-    same-length-4
+    (λ c κs. search needs) (λ c κs. search needs) (λ c. search needs) (λ c. search needs)
     returns-2)

@@ -15,15 +15,6 @@ start c = c .before .before .before .before .before .before .before .before
 abbrev tested : tie.Else1 → tie.Start
 tested c = start (c .before)
 
-add-nodes : tie.Need-add-nodes
-add-nodes c = search needs
-
-add-servers : tie.Need-add-servers
-add-servers c = search needs
-
-add-cords : tie.Need-add-cords
-add-cords c = search needs
-
 add-words : tie.Need-add-words
 add-words c = let pre = start c .pre in omega (arith, pre .0 .words .1, pre .1 .words .1)
 
@@ -75,9 +66,7 @@ pub admit-spec : {M : Type 1} → statement M
 admit-spec =
     tie.close
     (tie.spec
-    add-nodes
-    add-servers
-    add-cords
+    (λ c. search needs) (λ c. search needs) (λ c. search needs)
     add-words
     sub-words
     returns

@@ -4,15 +4,6 @@ use borrow.Author.Needs.{needs}
 use Rattle.join.proofs.examine.Statement.{statement}
 use Rattle.join.proofs.examine.Tie as tie
 
-check-requires : tie.Need-check-requires
-check-requires c κs = search needs
-
-enum-known-checked : tie.Need-enum-known-checked
-enum-known-checked c = search needs
-
-enum-known-checked-2 : tie.Need-enum-known-checked-2
-enum-known-checked-2 c = search needs
-
 returns : tie.Need-returns
 returns c = refused-told _ (c .before .before .before .check .ensures) (c .before .checked2 .given .1)
 
@@ -20,18 +11,6 @@ shared-slice-read-t8 : tie.Need-shared-slice-read-t8
 shared-slice-read-t8 c =
     let long = good-long _ (good-told _ (c .before .before .before .before .check .ensures) (c .before .before .checked .given .1)) in
     search needs
-
-node-count-requires : tie.Need-node-count-requires
-node-count-requires c κs = search needs
-
-server-count-requires : tie.Need-server-count-requires
-server-count-requires c κs = search needs
-
-word-index-requires : tie.Need-word-index-requires
-word-index-requires c κs = search needs
-
-servers-index-requires : tie.Need-servers-index-requires
-servers-index-requires c κs = search needs
 
 returns-2 : tie.Need-returns-2
 returns-2 c =
@@ -43,13 +22,8 @@ pub examine-spec : {M : Type 1} → statement M
 examine-spec =
     tie.close
     (tie.spec
-    check-requires
-    enum-known-checked
-    enum-known-checked-2
+    (λ c κs. search needs) (λ c. search needs) (λ c. search needs)
     returns
     shared-slice-read-t8
-    node-count-requires
-    server-count-requires
-    word-index-requires
-    servers-index-requires
+    (λ c κs. search needs) (λ c κs. search needs) (λ c κs. search needs) (λ c κs. search needs)
     returns-2)

@@ -11,12 +11,6 @@ use Rattle.join.proofs.join_by.Tie as tie
 returns : tie.Need-returns
 returns c = call-short _ _ _ (omega arith) refl
 
-join-words-requires : tie.Need-join-words-requires
-join-words-requires c κs = search needs
-
-written-count-requires : tie.Need-written-count-requires
-written-count-requires c κs = search needs
-
 slice-reshare-prefix-store : tie.Need-slice-reshare-prefix-store
 slice-reshare-prefix-store c =
     let call = c .before .before .before .join-words .ensures in
@@ -24,21 +18,6 @@ slice-reshare-prefix-store c =
 
 slice-aggregate-store : tie.Need-slice-aggregate-store
 slice-aggregate-store c = sym (length-take-le _ _ (slice-reshare-prefix-store (c .before)))
-
-store-requires : tie.Need-store-requires
-store-requires c κs = search needs
-
-tell-requires : tie.Need-tell-requires
-tell-requires c κs = search needs
-
-same-length : tie.Need-same-length
-same-length c = search needs
-
-same-length-2 : tie.Need-same-length-2
-same-length-2 c = search needs
-
-same-length-3 : tie.Need-same-length-3
-same-length-3 c = search needs
 
 -- Earlier steps, each seen from a later one.
 abbrev store-from-tell : tie.After-tell → tie.After-store
@@ -57,13 +36,8 @@ join-by-spec =
     tie.close
     (tie.spec
     returns
-    join-words-requires
-    written-count-requires
+    (λ c κs. search needs) (λ c κs. search needs)
     slice-reshare-prefix-store
     slice-aggregate-store
-    store-requires
-    tell-requires
-    same-length
-    same-length-2
-    same-length-3
+    (λ c κs. search needs) (λ c κs. search needs) (λ c. search needs) (λ c. search needs) (λ c. search needs)
     returns-2)

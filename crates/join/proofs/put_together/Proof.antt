@@ -80,9 +80,6 @@ room-left c =
 
 -- ---- The needs
 
-node-width-requires : tie.Need-node-width-requires
-node-width-requires c κs = search needs
-
 index-word-requires : tie.Need-index-word-requires
 index-word-requires c κs = omega (arith, fits-one _ _ (c .before .before .before .before .pre) .nodes)
 
@@ -178,7 +175,7 @@ pub put-together-spec : {M : Type 1} → statement M
 put-together-spec =
     tie.close
     (tie.spec
-    node-width-requires
+    (λ c κs. search needs)
     index-word-requires
     slice-write-words
     add-index-word

@@ -35,12 +35,6 @@ counts k = k .before .loaded .given .0 .0
 room : (k : Known) → RoomFound (table k) (demands k) (counts k)
 room k = found (admitted k .admit .ensures .0) (k .before .loaded .given .1)
 
-admit-requires : tie.Need-admit-requires
-admit-requires c κs = search needs
-
-enum-known-loaded : tie.Need-enum-known-loaded
-enum-known-loaded c = search needs
-
 returns : tie.Need-returns
 returns c = let k = c .before in count-told (table k) (demands k) (grants k) (room k) (λ q. absurd (omega (arith, q, c .if1 .taken)))
 
@@ -55,9 +49,6 @@ judge-room-requires c κs =
       (servers-fit (table k) (demands k) (grants k) (room k), grants-fit (table k) (demands k) (grants k) (room k) (omega (arith, e .if1 .left))),
     )
 
-enum-known-loaded-2 : tie.Need-enum-known-loaded-2
-enum-known-loaded-2 c = search needs
-
 returns-2 : tie.Need-returns-2
 returns-2 c =
     let e = c .before .before in
@@ -71,11 +62,10 @@ pub judge-spec : {M : Type 1} → statement M
 judge-spec =
     tie.close
     (tie.spec
-    admit-requires
-    enum-known-loaded
+    (λ c κs. search needs) (λ c. search needs)
     returns
     slice-aggregate-judge-room
     judge-room-requires
-    enum-known-loaded-2
+    (λ c. search needs)
     returns-2
     returns-3)

@@ -9,50 +9,14 @@ use Rattle.judge.proofs.judge_by.Tie as tie
 returns : tie.Need-returns
 returns c = call-short _ _ _ (omega arith) tt
 
-load-requires : tie.Need-load-requires
-load-requires c κs = search needs
-
-load-requires-2 : tie.Need-load-requires-2
-load-requires-2 c κs = search needs
-
-load-requires-3 : tie.Need-load-requires-3
-load-requires-3 c κs = search needs
-
-slice-reshare-prefix-judge : tie.Need-slice-reshare-prefix-judge
-slice-reshare-prefix-judge c = search needs
-
 slice-aggregate-judge : tie.Need-slice-aggregate-judge
 slice-aggregate-judge c = let l = c .before .before .before .before .before .before .before .before .before .before .before .load .ensures in loaded-front _ _ _ (l .0) (l .1)
-
-slice-reshare-prefix-judge-2 : tie.Need-slice-reshare-prefix-judge-2
-slice-reshare-prefix-judge-2 c = search needs
 
 slice-aggregate-judge-2 : tie.Need-slice-aggregate-judge-2
 slice-aggregate-judge-2 c = let l = c .before .before .before .before .before .before .before .before .load2 .ensures in loaded-front _ _ _ (l .0) (l .1)
 
-slice-reshare-prefix-judge-3 : tie.Need-slice-reshare-prefix-judge-3
-slice-reshare-prefix-judge-3 c = search needs
-
 slice-aggregate-judge-3 : tie.Need-slice-aggregate-judge-3
 slice-aggregate-judge-3 c = let l = c .before .before .before .before .before .load3 .ensures in loaded-front _ _ _ (l .0) (l .1)
-
-judge-requires : tie.Need-judge-requires
-judge-requires c κs = search needs
-
-tell-requires : tie.Need-tell-requires
-tell-requires c κs = search needs
-
-same-length : tie.Need-same-length
-same-length c = search needs
-
-same-length-2 : tie.Need-same-length-2
-same-length-2 c = search needs
-
-same-length-3 : tie.Need-same-length-3
-same-length-3 c = search needs
-
-same-length-4 : tie.Need-same-length-4
-same-length-4 c = search needs
 
 returns-2 : tie.Need-returns-2
 returns-2 c =
@@ -72,19 +36,12 @@ judge-by-spec =
     tie.close
     (tie.spec
     returns
-    load-requires
-    load-requires-2
-    load-requires-3
-    slice-reshare-prefix-judge
+    (λ c κs. search needs) (λ c κs. search needs) (λ c κs. search needs) (λ c. search needs)
     slice-aggregate-judge
-    slice-reshare-prefix-judge-2
+    (λ c. search needs)
     slice-aggregate-judge-2
-    slice-reshare-prefix-judge-3
+    (λ c. search needs)
     slice-aggregate-judge-3
-    judge-requires
-    tell-requires
-    same-length
-    same-length-2
-    same-length-3
-    same-length-4
+    (λ c κs. search needs) (λ c κs. search needs) (λ c. search needs) (λ c. search needs) (λ c. search needs)
+    (λ c. search needs)
     returns-2)

@@ -163,15 +163,6 @@ note-nodes-requires c κs =
       ),
     )
 
-same-length : tie.Need-same-length
-same-length c = search needs
-
-same-length-2 : tie.Need-same-length-2
-same-length-2 c = search needs
-
-same-length-3 : tie.Need-same-length-3
-same-length-3 c = search needs
-
 returns : tie.Need-returns
 returns c = λ r end is demands grants pass.
     let y = noted (c .before) in
@@ -186,26 +177,11 @@ slice-aggregate-lowest-marked c = lent-front (parents-lent (loaded (noted (c .be
 lowest-marked-requires : tie.Need-lowest-marked-requires
 lowest-marked-requires c κs = wanting-long (noted (c .before .before .before))
 
-sub-index : tie.Need-sub-index
-sub-index c = search needs
-
 mul-index : tie.Need-mul-index
 mul-index c = let z = c .before in omega (arith, root-there z (c .if2 .taken), nodes-few (loaded (noted (within z .before))))
 
 slice-read-index : tie.Need-slice-read-index
 slice-read-index c = let z = c .before .before in omega (arith, root-there z (c .before .if2 .taken), wanting-long (noted (within z .before)))
-
-index-requires : tie.Need-index-requires
-index-requires c κs = search needs
-
-same-length-4 : tie.Need-same-length-4
-same-length-4 c = search needs
-
-same-length-5 : tie.Need-same-length-5
-same-length-5 c = search needs
-
-same-length-6 : tie.Need-same-length-6
-same-length-6 c = search needs
 
 returns-2 : tie.Need-returns-2
 returns-2 c = λ r end is demands grants pass.
@@ -214,15 +190,6 @@ returns-2 c = λ r end is demands grants pass.
     let e = within z in
     let y = noted (e .before) in
     is-short r (accepted _ r end is) (nodes-at (loaded y) r end is) pass (compared-at y r end is pass) (e .if1 .left) (z .lowest-marked .ensures) (t .if2 .taken) (c .index .ensures .0)
-
-same-length-7 : tie.Need-same-length-7
-same-length-7 c = search needs
-
-same-length-8 : tie.Need-same-length-8
-same-length-8 c = search needs
-
-same-length-9 : tie.Need-same-length-9
-same-length-9 c = search needs
 
 returns-3 : tie.Need-returns-3
 returns-3 c = λ r end is demands grants pass.
@@ -246,22 +213,15 @@ judge-nodes-spec =
     array-share-prefix-spare
     slice-aggregate-note-nodes-2
     note-nodes-requires
-    same-length
-    same-length-2
-    same-length-3
+    (λ c. search needs) (λ c. search needs) (λ c. search needs)
     returns
     array-share-prefix-parents-2
     slice-aggregate-lowest-marked
     lowest-marked-requires
-    sub-index
+    (λ c. search needs)
     mul-index
     slice-read-index
-    index-requires
-    same-length-4
-    same-length-5
-    same-length-6
+    (λ c κs. search needs) (λ c. search needs) (λ c. search needs) (λ c. search needs)
     returns-2
-    same-length-7
-    same-length-8
-    same-length-9
+    (λ c. search needs) (λ c. search needs) (λ c. search needs)
     returns-3)

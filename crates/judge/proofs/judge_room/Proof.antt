@@ -59,15 +59,6 @@ passes e r end is =
 
 -- ---- The needs
 
-slice-aggregate-note-cords : tie.Need-slice-aggregate-note-cords
-slice-aggregate-note-cords c = search needs
-
-slice-aggregate-note-cords-2 : tie.Need-slice-aggregate-note-cords-2
-slice-aggregate-note-cords-2 c = search needs
-
-slice-aggregate-note-cords-3 : tie.Need-slice-aggregate-note-cords-3
-slice-aggregate-note-cords-3 c = search needs
-
 note-cords-requires : tie.Need-note-cords-requires
 note-cords-requires c κs =
     let s = start-w c in (
@@ -78,17 +69,11 @@ note-cords-requires c κs =
       ),
     )
 
-sub-t19 : tie.Need-sub-t19
-sub-t19 c = search needs
-
 returns : tie.Need-returns
 returns c = λ r end is.
     let n = let kept = c .before in kept .before .before .before in
     let args = start n .args in
     is-below r (args .demands .now) (args .grants .now) (n .note-cords .ensures r end is .below-is) (c .if1 .taken)
-
-sub-t20 : tie.Need-sub-t20
-sub-t20 c = search needs
 
 returns-2 : tie.Need-returns-2
 returns-2 c = λ r end is.
@@ -97,15 +82,6 @@ returns-2 c = λ r end is.
     let args = start n .args in
     let judged = n .note-cords .ensures r end is in
     is-above r (args .demands .now) (args .grants .now) (judged .below-is) (e .if1 .left) (judged .above-is (e .if1 .left)) (c .if2 .taken)
-
-slice-aggregate-judge-nodes : tie.Need-slice-aggregate-judge-nodes
-slice-aggregate-judge-nodes c = search needs
-
-slice-aggregate-judge-nodes-2 : tie.Need-slice-aggregate-judge-nodes-2
-slice-aggregate-judge-nodes-2 c = search needs
-
-slice-aggregate-judge-nodes-3 : tie.Need-slice-aggregate-judge-nodes-3
-slice-aggregate-judge-nodes-3 c = search needs
 
 judge-nodes-requires : tie.Need-judge-nodes-requires
 judge-nodes-requires c κs =
@@ -134,16 +110,12 @@ pub judge-room-spec : {M : Type 1} → statement M
 judge-room-spec =
     tie.close
     (tie.spec
-    slice-aggregate-note-cords
-    slice-aggregate-note-cords-2
-    slice-aggregate-note-cords-3
+    (λ c. search needs) (λ c. search needs) (λ c. search needs)
     note-cords-requires
-    sub-t19
+    (λ c. search needs)
     returns
-    sub-t20
+    (λ c. search needs)
     returns-2
-    slice-aggregate-judge-nodes
-    slice-aggregate-judge-nodes-2
-    slice-aggregate-judge-nodes-3
+    (λ c. search needs) (λ c. search needs) (λ c. search needs)
     judge-nodes-requires
     returns-3)

@@ -8,9 +8,6 @@ use Rattle.judge_totals.proofs.first_above.Tie as tie
 returns : tie.Need-returns
 returns c = rw (lt-ltb 0 (c .before .args .found) (c .if1 .taken))
 
-add-result : tie.Need-add-result
-add-result c = search needs
-
 returns-2 : tie.Need-returns-2
 returns-2 c =
     let args = c .before .before .args in
@@ -22,4 +19,4 @@ returns-3 c =
     rw (le-ltb 0 (args .found) (c .before .if1 .left), le-ltb (args .want) (args .grant) (c .if2 .left))
 
 pub first-above-spec : {M : Type 1} → statement M
-first-above-spec = tie.close (tie.spec returns add-result returns-2 returns-3)
+first-above-spec = tie.close (tie.spec returns (λ c. search needs) returns-2 returns-3)

@@ -20,32 +20,11 @@ abbrev μ-loop : tie.MeasureT-loop
 loop-holds : tie.Need-loop-holds Inv-loop μ-loop
 loop-holds c = searching-start _ _
 
-mul-is-short : tie.Need-mul-is-short Inv-loop μ-loop
-mul-is-short c = search needs
-
-shared-slice-read-is-short : tie.Need-shared-slice-read-is-short Inv-loop μ-loop
-shared-slice-read-is-short c = search needs
-
-mul-is-short-2 : tie.Need-mul-is-short-2 Inv-loop μ-loop
-mul-is-short-2 c = search needs
-
 shared-slice-read-is-short-2 : tie.Need-shared-slice-read-is-short-2 Inv-loop μ-loop
 shared-slice-read-is-short-2 c = omega (arith, c .before .before .loop-test .taken, c .before .before .before .before .before .before .pre)
 
-is-short-requires : tie.Need-is-short-requires Inv-loop μ-loop
-is-short-requires c κs = search needs
-
-add-result : tie.Need-add-result Inv-loop μ-loop
-add-result c = search needs
-
 returns : tie.Need-returns Inv-loop μ-loop
 returns c = searching-stop (c .before .before .before .before .before .loop .inv) (c .before .before .before .before .loop-test .taken) (sym (c .before .is-short .ensures) ∙ c .if1 .taken)
-
-add-n : tie.Need-add-n Inv-loop μ-loop
-add-n c = search needs
-
-loop-less : tie.Need-loop-less Inv-loop μ-loop
-loop-less c = search needs
 
 loop-again : tie.Need-loop-again Inv-loop μ-loop
 loop-again c = searching-next (c .before .before .before .before .before .loop .inv) (c .before .before .before .before .loop-test .taken) (sym (c .before .is-short .ensures) ∙ c .if1 .left)
@@ -60,14 +39,10 @@ lowest-marked-spec =
     Inv-loop
     μ-loop
     loop-holds
-    mul-is-short
-    shared-slice-read-is-short
-    mul-is-short-2
+    (λ c. search needs) (λ c. search needs) (λ c. search needs)
     shared-slice-read-is-short-2
-    is-short-requires
-    add-result
+    (λ c κs. search needs) (λ c. search needs)
     returns
-    add-n
-    loop-less
+    (λ c. search needs) (λ c. search needs)
     loop-again
     returns-2)

@@ -15,30 +15,6 @@ ranks c = c .before .before .before .before
 abbrev made : tie.After-slice-known6 → tie.After-note
 made c = let kept = c .before .before .before in kept .before .before .before
 
-sub-wide : tie.Need-sub-wide
-sub-wide c = search needs
-
-wide-requires : tie.Need-wide-requires
-wide-requires c κs = search needs
-
-rank-if-requires : tie.Need-rank-if-requires
-rank-if-requires c κs = search needs
-
-rank-if-requires-2 : tie.Need-rank-if-requires-2
-rank-if-requires-2 c κs = search needs
-
-note-requires : tie.Need-note-requires
-note-requires c κs = search needs
-
-same-length : tie.Need-same-length
-same-length c = search needs
-
-same-length-2 : tie.Need-same-length-2
-same-length-2 c = search needs
-
-same-length-3 : tie.Need-same-length-3
-same-length-3 c = search needs
-
 returns : tie.Need-returns
 returns c =
     let n = made c in
@@ -59,12 +35,6 @@ pub note-cord-spec : {M : Type 1} → statement M
 note-cord-spec =
     tie.close
     (tie.spec
-    sub-wide
-    wide-requires
-    rank-if-requires
-    rank-if-requires-2
-    note-requires
-    same-length
-    same-length-2
-    same-length-3
+    (λ c. search needs) (λ c κs. search needs) (λ c κs. search needs) (λ c κs. search needs)
+    (λ c κs. search needs) (λ c. search needs) (λ c. search needs) (λ c. search needs)
     returns)

@@ -93,9 +93,6 @@ fits k = cord-fits (k .before .loop2 .inv) (k .loop2-test .taken)
 
 -- ---- The needs
 
-first-server-requires : tie.Need-first-server-requires Inv-loop2 μ-loop2 Inv-loop μ-loop
-first-server-requires c κs = search needs
-
 loop-holds : tie.Need-loop-holds Inv-loop2 μ-loop2 Inv-loop μ-loop
 loop-holds c =
     let s = let m = c .before .before .before .before in m .before .before .before in
@@ -136,9 +133,6 @@ shared-slice-read-need-of-2 :
     tie.Need-shared-slice-read-need-of-2 Inv-loop2 μ-loop2 Inv-loop μ-loop
 shared-slice-read-need-of-2 c = omega (arith, standing (turn (c .before .before .before)) .there)
 
-need-of-requires : tie.Need-need-of-requires Inv-loop2 μ-loop2 Inv-loop μ-loop
-need-of-requires c κs = search needs
-
 add-word-index : tie.Need-add-word-index Inv-loop2 μ-loop2 Inv-loop μ-loop
 add-word-index c = omega (arith, standing (turn (ranked c)) .there)
 
@@ -148,9 +142,6 @@ mul-word-index c = omega (arith, standing (turn (ranked c)) .there)
 shared-slice-read-word-index :
     tie.Need-shared-slice-read-word-index Inv-loop2 μ-loop2 Inv-loop μ-loop
 shared-slice-read-word-index c = omega (arith, standing (turn (ranked (c .before))) .there)
-
-word-index-requires : tie.Need-word-index-requires Inv-loop2 μ-loop2 Inv-loop μ-loop
-word-index-requires c κs = search needs
 
 add-word : tie.Need-add-word Inv-loop2 μ-loop2 Inv-loop μ-loop
 add-word c = omega (arith, standing (counted c) .there)
@@ -213,9 +204,6 @@ mul-word-index-2 c = omega (arith, fits (cord-low (cord-grant (cord-found c))) .
 shared-slice-read-word-index-2 :
     tie.Need-shared-slice-read-word-index-2 Inv-loop2 μ-loop2 Inv-loop μ-loop
 shared-slice-read-word-index-2 c = omega (arith, fits (cord-low (cord-grant (cord-found (c .before)))) .there)
-
-word-index-requires-2 : tie.Need-word-index-requires-2 Inv-loop2 μ-loop2 Inv-loop μ-loop
-word-index-requires-2 c κs = search needs
 
 note-cord-requires : tie.Need-note-cord-requires Inv-loop2 μ-loop2 Inv-loop μ-loop
 note-cord-requires c κs =
@@ -282,7 +270,7 @@ note-cords-spec =
     μ-loop2
     Inv-loop
     μ-loop
-    first-server-requires
+    (λ c κs. search needs)
     loop-holds
     mul-short
     shared-slice-read-short
@@ -295,11 +283,11 @@ note-cords-spec =
     add-need-of
     mul-need-of-2
     shared-slice-read-need-of-2
-    need-of-requires
+    (λ c κs. search needs)
     add-word-index
     mul-word-index
     shared-slice-read-word-index
-    word-index-requires
+    (λ c κs. search needs)
     add-word
     add-c-end
     loop2-holds
@@ -318,7 +306,7 @@ note-cords-spec =
     first-above-requires
     mul-word-index-2
     shared-slice-read-word-index-2
-    word-index-requires-2
+    (λ c κs. search needs)
     note-cord-requires
     add-word-2
     add-c

@@ -58,56 +58,26 @@ there t =
 loop-holds : tie.Need-loop-holds Inv-loop μ-loop
 loop-holds c = nodes-start _ _ _ _ _
 
-sub-n : tie.Need-sub-n Inv-loop μ-loop
-sub-n c = search needs
-
-mul-wide : tie.Need-mul-wide Inv-loop μ-loop
-mul-wide c = search needs
-
 shared-slice-read-wide : tie.Need-shared-slice-read-wide Inv-loop μ-loop
 shared-slice-read-wide c = there (c .before) .1
-
-wide-requires : tie.Need-wide-requires Inv-loop μ-loop
-wide-requires c κs = search needs
-
-mul-has : tie.Need-mul-has Inv-loop μ-loop
-mul-has c = search needs
 
 slice-read-has : tie.Need-slice-read-has Inv-loop μ-loop
 slice-read-has c = there (turn (c .before)) .2
 
-mul-low : tie.Need-mul-low Inv-loop μ-loop
-mul-low c = search needs
-
 slice-read-low : tie.Need-slice-read-low Inv-loop μ-loop
 slice-read-low c = there (turn (c .before .before)) .3
-
-mul-held-back : tie.Need-mul-held-back Inv-loop μ-loop
-mul-held-back c = search needs
 
 slice-read-held-back : tie.Need-slice-read-held-back Inv-loop μ-loop
 slice-read-held-back c = there (turn (c .before .before .before)) .4
 
-held-back-requires : tie.Need-held-back-requires Inv-loop μ-loop
-held-back-requires c κs = search needs
-
 noted-requires : tie.Need-noted-requires Inv-loop μ-loop
 noted-requires c κs = let t = turn (limit c) in omega (arith, there t .0, start t .pre .0 .few)
-
-mul-wanting : tie.Need-mul-wanting Inv-loop μ-loop
-mul-wanting c = search needs
 
 slice-write-wanting : tie.Need-slice-write-wanting Inv-loop μ-loop
 slice-write-wanting c = there (turn (limit (c .before))) .4
 
-mul-index : tie.Need-mul-index Inv-loop μ-loop
-mul-index c = search needs
-
 shared-slice-read-index : tie.Need-shared-slice-read-index Inv-loop μ-loop
 shared-slice-read-index c = there (turn (limit (c .before .before))) .0
-
-index-requires : tie.Need-index-requires Inv-loop μ-loop
-index-requires c κs = search needs
 
 note-requires : tie.Need-note-requires Inv-loop μ-loop
 note-requires c κs =
@@ -126,9 +96,6 @@ note-requires c κs =
       ),
       omega (arith, most (l .n - 1) here, most (p .index .result - 1) (omega (arith, p .index .ensures .0, rise, here)), s .pre .1 .1),
     )
-
-loop-less : tie.Need-loop-less Inv-loop μ-loop
-loop-less c = search needs
 
 loop-again : tie.Need-loop-again Inv-loop μ-loop
 loop-again c =
@@ -161,25 +128,23 @@ note-nodes-spec =
     Inv-loop
     μ-loop
     loop-holds
-    sub-n
-    mul-wide
+    (λ c. search needs) (λ c. search needs)
     shared-slice-read-wide
-    wide-requires
-    mul-has
+    (λ c κs. search needs) (λ c. search needs)
     slice-read-has
-    mul-low
+    (λ c. search needs)
     slice-read-low
-    mul-held-back
+    (λ c. search needs)
     slice-read-held-back
-    held-back-requires
+    (λ c κs. search needs)
     noted-requires
-    mul-wanting
+    (λ c. search needs)
     slice-write-wanting
-    mul-index
+    (λ c. search needs)
     shared-slice-read-index
-    index-requires
+    (λ c κs. search needs)
     note-requires
-    loop-less
+    (λ c. search needs)
     loop-again
     same-length
     same-length-2

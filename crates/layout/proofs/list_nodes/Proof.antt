@@ -21,18 +21,6 @@ abbrev μ-loop : tie.MeasureT-loop
 loop-holds : tie.Need-loop-holds Inv-loop μ-loop
 loop-holds c = (omega arith, rw (← c .pre) (filled-none _ (c .args .nodes .now)))
 
-mul-nodes : tie.Need-mul-nodes Inv-loop μ-loop
-mul-nodes c = search needs
-
-index-1-nodes : tie.Need-index-1-nodes Inv-loop μ-loop
-index-1-nodes c = search needs
-
-index-2-nodes : tie.Need-index-2-nodes Inv-loop μ-loop
-index-2-nodes c = search needs
-
-mul-nodes-2 : tie.Need-mul-nodes-2 Inv-loop μ-loop
-mul-nodes-2 c = search needs
-
 slice-write-nodes : tie.Need-slice-write-nodes Inv-loop μ-loop
 slice-write-nodes c = omega (arith, c .before .before .loop .inv .1 .size-is, c .before .loop-test .taken)
 
@@ -64,10 +52,7 @@ list-nodes-spec =
     Inv-loop
     μ-loop
     loop-holds
-    mul-nodes
-    index-1-nodes
-    index-2-nodes
-    mul-nodes-2
+    (λ c. search needs) (λ c. search needs) (λ c. search needs) (λ c. search needs)
     slice-write-nodes
     add-c
     loop-less

@@ -17,21 +17,6 @@ slice-aggregate-load-rows c = let lent = start (c .before) .pre in servers-front
 load-rows-requires : tie.Need-load-rows-requires
 load-rows-requires c κs = let lent = start (c .before .before .before .before .before .before) .pre in (lent, servers-lent _ (lent .good-table) (lent .demands-fit) (replicate 4 0))
 
-same-length : tie.Need-same-length
-same-length c = search needs
-
-same-length-2 : tie.Need-same-length-2
-same-length-2 c = search needs
-
-same-length-3 : tie.Need-same-length-3
-same-length-3 c = search needs
-
-same-length-4 : tie.Need-same-length-4
-same-length-4 c = search needs
-
-same-length-5 : tie.Need-same-length-5
-same-length-5 c = search needs
-
 returns : tie.Need-returns
 returns c = c .before .before .before .before .before .before .before .before .before .before .load-rows .ensures
 
@@ -42,9 +27,5 @@ load-cords-spec =
     array-borrow-prefix-servers
     slice-aggregate-load-rows
     load-rows-requires
-    same-length
-    same-length-2
-    same-length-3
-    same-length-4
-    same-length-5
+    (λ c. search needs) (λ c. search needs) (λ c. search needs) (λ c. search needs) (λ c. search needs)
     returns)

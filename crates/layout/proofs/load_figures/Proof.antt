@@ -43,32 +43,8 @@ part p = omega (arith, start p .pre .0 .parts _ (turn p .loop-test .taken), p .b
 loop-holds : tie.Need-loop-holds Inv-loop μ-loop
 loop-holds c = let sizes = start-l c .pre .1 in (omega arith, loaded-none (sizes .0) (sizes .1) (sizes .2))
 
-mul-cord : tie.Need-mul-cord Inv-loop μ-loop
-mul-cord c = search needs
-
-shared-slice-copy-out-cord : tie.Need-shared-slice-copy-out-cord Inv-loop μ-loop
-shared-slice-copy-out-cord c = search needs
-
-array-read-word16 : tie.Need-array-read-word16 Inv-loop μ-loop
-array-read-word16 c = search needs
-
-word16-requires : tie.Need-word16-requires Inv-loop μ-loop
-word16-requires c κs = search needs
-
-array-read-index : tie.Need-array-read-index Inv-loop μ-loop
-array-read-index c = search needs
-
-index-requires : tie.Need-index-requires Inv-loop μ-loop
-index-requires c κs = search needs
-
-mul-carried-by : tie.Need-mul-carried-by Inv-loop μ-loop
-mul-carried-by c = search needs
-
 index-1-carried-by : tie.Need-index-1-carried-by Inv-loop μ-loop
 index-1-carried-by c = placed c
-
-index-2-carried-by : tie.Need-index-2-carried-by Inv-loop μ-loop
-index-2-carried-by c = search needs
 
 carried-by-requires : tie.Need-carried-by-requires Inv-loop μ-loop
 carried-by-requires c κs =
@@ -76,14 +52,8 @@ carried-by-requires c κs =
     let asked = start p .pre .0 in
     (asked .scaled, part p, asked .least-most _ (placed p))
 
-mul-lows : tie.Need-mul-lows Inv-loop μ-loop
-mul-lows c = search needs
-
 slice-write-lows : tie.Need-slice-write-lows Inv-loop μ-loop
 slice-write-lows c = omega (arith, turn (c .before .before) .before .loop .inv .1 .lows-done .size-is, turn (c .before .before) .loop-test .taken)
-
-mul-carried-by-2 : tie.Need-mul-carried-by-2 Inv-loop μ-loop
-mul-carried-by-2 c = search needs
 
 shared-slice-read-carried-by : tie.Need-shared-slice-read-carried-by Inv-loop μ-loop
 shared-slice-read-carried-by c = let p = c .before .before .before in omega (arith, placed p, start p .pre .0 .needs-size)
@@ -94,29 +64,17 @@ carried-by-requires-2 c κs =
     let asked = start p .pre .0 in
     (asked .scaled, part p, asked .need-most _ (placed p))
 
-mul-wants : tie.Need-mul-wants Inv-loop μ-loop
-mul-wants c = search needs
-
 slice-write-wants : tie.Need-slice-write-wants Inv-loop μ-loop
 slice-write-wants c = omega (arith, turn (c .before .before .before .before) .before .loop .inv .1 .wants-done .size-is, turn (c .before .before .before .before) .loop-test .taken)
 
-mul-carried-by-3 : tie.Need-mul-carried-by-3 Inv-loop μ-loop
-mul-carried-by-3 c = search needs
-
 index-1-carried-by-2 : tie.Need-index-1-carried-by-2 Inv-loop μ-loop
 index-1-carried-by-2 c = placed (c .before .before .before .before)
-
-index-2-carried-by-2 : tie.Need-index-2-carried-by-2 Inv-loop μ-loop
-index-2-carried-by-2 c = search needs
 
 carried-by-requires-3 : tie.Need-carried-by-requires-3 Inv-loop μ-loop
 carried-by-requires-3 c κs =
     let p = c .before .before .before .before .before in
     let asked = start p .pre .0 in
     (asked .scaled, part p, asked .greatest-most _ (placed p))
-
-mul-ceilings : tie.Need-mul-ceilings Inv-loop μ-loop
-mul-ceilings c = search needs
 
 slice-write-ceilings : tie.Need-slice-write-ceilings Inv-loop μ-loop
 slice-write-ceilings c = omega (arith, turn (place c) .before .loop .inv .1 .ceilings-done .size-is, turn (place c) .loop-test .taken)
@@ -155,28 +113,23 @@ load-figures-spec =
     Inv-loop
     μ-loop
     loop-holds
-    mul-cord
-    shared-slice-copy-out-cord
-    array-read-word16
-    word16-requires
-    array-read-index
-    index-requires
-    mul-carried-by
+    (λ c. search needs) (λ c. search needs) (λ c. search needs) (λ c κs. search needs) (λ c. search needs)
+    (λ c κs. search needs) (λ c. search needs)
     index-1-carried-by
-    index-2-carried-by
+    (λ c. search needs)
     carried-by-requires
-    mul-lows
+    (λ c. search needs)
     slice-write-lows
-    mul-carried-by-2
+    (λ c. search needs)
     shared-slice-read-carried-by
     carried-by-requires-2
-    mul-wants
+    (λ c. search needs)
     slice-write-wants
-    mul-carried-by-3
+    (λ c. search needs)
     index-1-carried-by-2
-    index-2-carried-by-2
+    (λ c. search needs)
     carried-by-requires-3
-    mul-ceilings
+    (λ c. search needs)
     slice-write-ceilings
     add-c
     loop-less

@@ -20,39 +20,6 @@ abbrev μ-loop : tie.MeasureT-loop
 loop-holds : tie.Need-loop-holds Inv-loop μ-loop
 loop-holds c = (omega arith, filled-none _ _)
 
-mul-server : tie.Need-mul-server Inv-loop μ-loop
-mul-server c = search needs
-
-shared-slice-copy-out-server : tie.Need-shared-slice-copy-out-server Inv-loop μ-loop
-shared-slice-copy-out-server c = search needs
-
-mul-need-of : tie.Need-mul-need-of Inv-loop μ-loop
-mul-need-of c = search needs
-
-shared-slice-read-need-of : tie.Need-shared-slice-read-need-of Inv-loop μ-loop
-shared-slice-read-need-of c = search needs
-
-array-read-need-of : tie.Need-array-read-need-of Inv-loop μ-loop
-array-read-need-of c = search needs
-
-array-read-need-of-2 : tie.Need-array-read-need-of-2 Inv-loop μ-loop
-array-read-need-of-2 c = search needs
-
-need-of-requires : tie.Need-need-of-requires Inv-loop μ-loop
-need-of-requires c κs = search needs
-
-mul-needs : tie.Need-mul-needs Inv-loop μ-loop
-mul-needs c = search needs
-
-slice-write-needs : tie.Need-slice-write-needs Inv-loop μ-loop
-slice-write-needs c = search needs
-
-add-v : tie.Need-add-v Inv-loop μ-loop
-add-v c = search needs
-
-loop-less : tie.Need-loop-less Inv-loop μ-loop
-loop-less c = search needs
-
 loop-again : tie.Need-loop-again Inv-loop μ-loop
 loop-again c = (omega (arith, c .before .before .before .loop-test .taken), filled-one _ (c .before .before .before .before .loop .inv .1) (search needs) (c .need-of .ensures))
 
@@ -69,17 +36,9 @@ load-needs-spec =
     Inv-loop
     μ-loop
     loop-holds
-    mul-server
-    shared-slice-copy-out-server
-    mul-need-of
-    shared-slice-read-need-of
-    array-read-need-of
-    array-read-need-of-2
-    need-of-requires
-    mul-needs
-    slice-write-needs
-    add-v
-    loop-less
+    (λ c. search needs) (λ c. search needs) (λ c. search needs) (λ c. search needs) (λ c. search needs)
+    (λ c. search needs) (λ c κs. search needs) (λ c. search needs) (λ c. search needs) (λ c. search needs)
+    (λ c. search needs)
     loop-again
     same-length
     returns)

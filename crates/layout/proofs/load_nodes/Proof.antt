@@ -8,19 +8,10 @@ use Rattle.layout.proofs.load_nodes.Tie as tie
 abbrev start : tie.After-lay-out-nodes → tie.Start
 start c = c .before .before .before .before .before .before .before
 
-lay-out-nodes-requires : tie.Need-lay-out-nodes-requires
-lay-out-nodes-requires c κs = search needs
-
 spare-limits-requires : tie.Need-spare-limits-requires
 spare-limits-requires c κs =
     let laid = c .before .before .before .before .before in
     spare-asked _ (start laid .args .beneath .now) (start laid .pre .1 .3) (laid .lay-out-nodes .ensures) (start laid .pre .0) (start laid .pre .1 .0)
-
-same-length : tie.Need-same-length
-same-length c = search needs
-
-same-length-2 : tie.Need-same-length-2
-same-length-2 c = search needs
 
 returns : tie.Need-returns
 returns c =
@@ -29,4 +20,4 @@ returns c =
     nodes-loaded _ (start laid .args .beneath .now) (start laid .pre .1 .3) (laid .lay-out-nodes .ensures) (spared .last .1 .0) (spared .ensures)
 
 pub load-nodes-spec : {M : Type 1} → statement M
-load-nodes-spec = tie.close (tie.spec lay-out-nodes-requires spare-limits-requires same-length same-length-2 returns)
+load-nodes-spec = tie.close (tie.spec (λ c κs. search needs) spare-limits-requires (λ c. search needs) (λ c. search needs) returns)

@@ -23,29 +23,8 @@ lay-out-servers-requires c κs = let asked = c .before .before .before .before .
 load-needs-requires : tie.Need-load-needs-requires
 load-needs-requires c κs = needs-asked (start-o (c .before .before .before .before) .pre .0) (c .before .before .before .before .lay-out-servers .ensures)
 
-table-scale-requires : tie.Need-table-scale-requires
-table-scale-requires c κs = search needs
-
 load-figures-requires : tie.Need-load-figures-requires
 load-figures-requires c κs = figures-asked (start c .pre .0) (rows c .lay-out-servers .ensures) (needed c .load-needs .ensures) (c .table-scale .ensures)
-
-same-length : tie.Need-same-length
-same-length c = search needs
-
-same-length-2 : tie.Need-same-length-2
-same-length-2 c = search needs
-
-same-length-3 : tie.Need-same-length-3
-same-length-3 c = search needs
-
-same-length-4 : tie.Need-same-length-4
-same-length-4 c = search needs
-
-same-length-5 : tie.Need-same-length-5
-same-length-5 c = search needs
-
-same-length-6 : tie.Need-same-length-6
-same-length-6 c = search needs
 
 returns : tie.Need-returns
 returns c =
@@ -59,12 +38,8 @@ load-rows-spec =
     (tie.spec
     lay-out-servers-requires
     load-needs-requires
-    table-scale-requires
+    (λ c κs. search needs)
     load-figures-requires
-    same-length
-    same-length-2
-    same-length-3
-    same-length-4
-    same-length-5
-    same-length-6
+    (λ c. search needs) (λ c. search needs) (λ c. search needs) (λ c. search needs) (λ c. search needs)
+    (λ c. search needs)
     returns)

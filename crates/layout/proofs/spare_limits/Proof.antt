@@ -24,17 +24,8 @@ turn c = c .before .before
 loop-holds : tie.Need-loop-holds Inv-loop μ-loop
 loop-holds c = spare-start
 
-mul-wide : tie.Need-mul-wide Inv-loop μ-loop
-mul-wide c = search needs
-
 slice-read-wide : tie.Need-slice-read-wide Inv-loop μ-loop
 slice-read-wide c = omega (arith, c .before .before .loop .inv .found .size-is, c .before .loop-test .taken)
-
-wide-requires : tie.Need-wide-requires Inv-loop μ-loop
-wide-requires c κs = search needs
-
-mul-narrow : tie.Need-mul-narrow Inv-loop μ-loop
-mul-narrow c = search needs
 
 shared-slice-read-narrow : tie.Need-shared-slice-read-narrow Inv-loop μ-loop
 shared-slice-read-narrow c = omega (arith, start (turn (c .before) .before) .pre .0, turn (c .before) .loop-test .taken)
@@ -47,17 +38,8 @@ sub-narrow c =
 narrow-requires : tie.Need-narrow-requires Inv-loop μ-loop
 narrow-requires c κs = omega (arith, c .before .wide .ensures .1)
 
-mul-limits : tie.Need-mul-limits Inv-loop μ-loop
-mul-limits c = search needs
-
 slice-write-limits : tie.Need-slice-write-limits Inv-loop μ-loop
 slice-write-limits c = let t = turn (c .before .before) in omega (arith, t .before .loop .inv .found .size-is, t .loop-test .taken)
-
-add-n : tie.Need-add-n Inv-loop μ-loop
-add-n c = search needs
-
-loop-less : tie.Need-loop-less Inv-loop μ-loop
-loop-less c = search needs
 
 loop-again : tie.Need-loop-again Inv-loop μ-loop
 loop-again c =
@@ -78,17 +60,15 @@ spare-limits-spec =
     Inv-loop
     μ-loop
     loop-holds
-    mul-wide
+    (λ c. search needs)
     slice-read-wide
-    wide-requires
-    mul-narrow
+    (λ c κs. search needs) (λ c. search needs)
     shared-slice-read-narrow
     sub-narrow
     narrow-requires
-    mul-limits
+    (λ c. search needs)
     slice-write-limits
-    add-n
-    loop-less
+    (λ c. search needs) (λ c. search needs)
     loop-again
     same-length
     returns)

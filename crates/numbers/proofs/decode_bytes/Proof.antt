@@ -15,32 +15,14 @@ abbrev μ-loop : tie.MeasureT-loop
 returns : tie.Need-returns Inv-loop μ-loop
 returns c = empty _ _ (search needs)
 
-shared-slice-read-wide : tie.Need-shared-slice-read-wide Inv-loop μ-loop
-shared-slice-read-wide c = search needs
-
-wide-requires : tie.Need-wide-requires Inv-loop μ-loop
-wide-requires c κs = search needs
-
-add-t14 : tie.Need-add-t14 Inv-loop μ-loop
-add-t14 c = search needs
-
 returns-2 : tie.Need-returns-2 Inv-loop μ-loop
 returns-2 c = single _ _ _ (c .before .wide .ensures .0) (search needs) (search needs)
-
-add-next : tie.Need-add-next Inv-loop μ-loop
-add-next c = search needs
 
 loop-holds : tie.Need-loop-holds Inv-loop μ-loop
 loop-holds c = begin _ _ _ (c .before .wide .ensures .0) (search needs) (search needs) (c .before .wide .ensures .1)
 
 returns-3 : tie.Need-returns-3 Inv-loop μ-loop
 returns-3 c = ended _ _ _ _ _ _ (search needs) (c .before .before .loop .inv) (search needs)
-
-shared-slice-read-wide-2 : tie.Need-shared-slice-read-wide-2 Inv-loop μ-loop
-shared-slice-read-wide-2 c = search needs
-
-wide-requires-2 : tie.Need-wide-requires-2 Inv-loop μ-loop
-wide-requires-2 c κs = search needs
 
 -- The turn in which a byte was read.
 abbrev turn : tie.After-wide2 Inv-loop μ-loop → tie.At-loop Inv-loop μ-loop
@@ -61,9 +43,6 @@ mul-t21 c = omega (arith, bounds (c .before) (c .before .before .wide2 .result) 
 add-t22 : tie.Need-add-t22 Inv-loop μ-loop
 add-t22 c = omega (arith, bounds (c .before) (c .before .before .wide2 .result) (search needs))
 
-add-t23 : tie.Need-add-t23 Inv-loop μ-loop
-add-t23 c = search needs
-
 returns-5 : tie.Need-returns-5 Inv-loop μ-loop
 returns-5 c =
     let read = c .before .before in
@@ -77,15 +56,6 @@ add-value c = omega (arith, bounds (c .before) (c .before .before .wide2 .result
 
 mul-unit : tie.Need-mul-unit Inv-loop μ-loop
 mul-unit c = omega (arith, bounds (c .before) 0 (omega arith))
-
-add-next-2 : tie.Need-add-next-2 Inv-loop μ-loop
-add-next-2 c = search needs
-
-sub-left : tie.Need-sub-left Inv-loop μ-loop
-sub-left c = search needs
-
-loop-less : tie.Need-loop-less Inv-loop μ-loop
-loop-less c = search needs
 
 loop-again : tie.Need-loop-again Inv-loop μ-loop
 loop-again c =
@@ -102,25 +72,20 @@ decode-bytes-spec =
     Inv-loop
     μ-loop
     returns
-    shared-slice-read-wide
-    wide-requires
-    add-t14
+    (λ c. search needs) (λ c κs. search needs) (λ c. search needs)
     returns-2
-    add-next
+    (λ c. search needs)
     loop-holds
     returns-3
-    shared-slice-read-wide-2
-    wide-requires-2
+    (λ c. search needs) (λ c κs. search needs)
     returns-4
     mul-t21
     add-t22
-    add-t23
+    (λ c. search needs)
     returns-5
     mul-value
     add-value
     mul-unit
-    add-next-2
-    sub-left
-    loop-less
+    (λ c. search needs) (λ c. search needs) (λ c. search needs)
     loop-again
     returns-6)

@@ -8,16 +8,10 @@ use Rattle.numbers.proofs.SheetLaws.{length-bytesOf≤, forms-below, wr
 use Rattle.numbers.proofs.encode_sheet.Statement.{statement}
 use Rattle.numbers.proofs.encode_sheet.Tie as tie
 
-first-not-below-requires : tie.Need-first-not-below-requires
-first-not-below-requires c κs = search needs
-
 returns : tie.Need-returns
 returns c =
     let large = c .before .first-not-below .ensures in
     (ap TooLarge large ∙ written-large _ _ (omega arith), refl)
-
-total-size-requires : tie.Need-total-size-requires
-total-size-requires c κs = search needs
 
 returns-2 : tie.Need-returns-2
 returns-2 c =
@@ -31,9 +25,6 @@ put-all-requires c κs =
       forms-below words (omega (arith, checked .first-not-below .ensures)),
       ⊎-elim (λ w. omega (arith, w .1 .ensures)) (λ w. omega (arith, length-bytesOf≤ words)) (c .before .if2 .came),
     )
-
-same-length : tie.Need-same-length
-same-length c = search needs
 
 returns-3 : tie.Need-returns-3
 returns-3 c =
@@ -50,10 +41,10 @@ pub encode-sheet-spec : {M : Type 1} → statement M
 encode-sheet-spec =
     tie.close
     (tie.spec
-    first-not-below-requires
+    (λ c κs. search needs)
     returns
-    total-size-requires
+    (λ c κs. search needs)
     returns-2
     put-all-requires
-    same-length
+    (λ c. search needs)
     returns-3)

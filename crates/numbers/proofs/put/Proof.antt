@@ -13,35 +13,14 @@ abbrev μ-loop : tie.MeasureT-loop
 loop-holds : tie.Need-loop-holds Inv-loop μ-loop
 loop-holds c = begin _ _ _ (c .pre .0) (c .pre .1)
 
-add-sheet : tie.Need-add-sheet Inv-loop μ-loop
-add-sheet c = search needs
-
-cast-sheet : tie.Need-cast-sheet Inv-loop μ-loop
-cast-sheet c = search needs
-
 slice-write-sheet : tie.Need-slice-write-sheet Inv-loop μ-loop
 slice-write-sheet c = place _ _ _ _ _ _ (c .before .loop .inv)
-
-add-next : tie.Need-add-next Inv-loop μ-loop
-add-next c = search needs
-
-loop-less : tie.Need-loop-less Inv-loop μ-loop
-loop-less c = search needs
 
 loop-again : tie.Need-loop-again Inv-loop μ-loop
 loop-again c = again _ _ _ _ _ _ (c .before .loop .inv) (search needs)
 
-cast-sheet-2 : tie.Need-cast-sheet-2 Inv-loop μ-loop
-cast-sheet-2 c = search needs
-
 slice-write-sheet-2 : tie.Need-slice-write-sheet-2 Inv-loop μ-loop
 slice-write-sheet-2 c = place _ _ _ _ _ _ (c .before .loop .inv)
-
-add-result : tie.Need-add-result Inv-loop μ-loop
-add-result c = search needs
-
-same-length : tie.Need-same-length Inv-loop μ-loop
-same-length c = search needs
 
 returns : tie.Need-returns Inv-loop μ-loop
 returns c = last _ _ _ _ _ _ (c .before .loop .inv) (search needs)
@@ -53,14 +32,11 @@ put-spec =
     Inv-loop
     μ-loop
     loop-holds
-    add-sheet
-    cast-sheet
+    (λ c. search needs) (λ c. search needs)
     slice-write-sheet
-    add-next
-    loop-less
+    (λ c. search needs) (λ c. search needs)
     loop-again
-    cast-sheet-2
+    (λ c. search needs)
     slice-write-sheet-2
-    add-result
-    same-length
+    (λ c. search needs) (λ c. search needs)
     returns)

@@ -15,26 +15,11 @@ abbrev μ-loop : tie.MeasureT-loop
 loop-holds : tie.Need-loop-holds Inv-loop μ-loop
 loop-holds c = writing-begin _ _
 
-add-loop : tie.Need-add-loop Inv-loop μ-loop
-add-loop c = search needs
-
-mul-put-followed : tie.Need-mul-put-followed Inv-loop μ-loop
-mul-put-followed c = search needs
-
-shared-slice-read-put-followed : tie.Need-shared-slice-read-put-followed Inv-loop μ-loop
-shared-slice-read-put-followed c = search needs
-
 put-followed-requires : tie.Need-put-followed-requires Inv-loop μ-loop
 put-followed-requires c κs =
     let turn = c .before .before .before in
     let entry = turn .before .before .before in
     (entry .pre .0 _, writing-fits-more _ _ _ _ _ (turn .loop .inv) (search needs) (entry .pre .1))
-
-add-done : tie.Need-add-done Inv-loop μ-loop
-add-done c = search needs
-
-loop-less : tie.Need-loop-less Inv-loop μ-loop
-loop-less c = search needs
 
 loop-again : tie.Need-loop-again Inv-loop μ-loop
 loop-again c =
@@ -43,29 +28,17 @@ loop-again c =
     let inv = call .before .before .before .before .loop .inv in
     writing-again _ _ _ _ _ inv (search needs) _ _ (put .ensures .0) (put .kept .1 .0) (put .ensures .1 _ (writing-more _ _ _ _ _ inv (search needs)))
 
-mul-put : tie.Need-mul-put Inv-loop μ-loop
-mul-put c = search needs
-
-shared-slice-read-put : tie.Need-shared-slice-read-put Inv-loop μ-loop
-shared-slice-read-put c = search needs
-
 put-requires : tie.Need-put-requires Inv-loop μ-loop
 put-requires c κs =
     let turn = c .before .before .before .before in
     let entry = turn .before .before .before in
     (entry .pre .0 _, writing-fits _ _ _ _ _ (turn .loop .inv) (search needs) (entry .pre .1))
 
-same-length : tie.Need-same-length Inv-loop μ-loop
-same-length c = search needs
-
 returns : tie.Need-returns Inv-loop μ-loop
 returns c =
     let call = c .before .before in
     let one-left = call .before .before .before in
     writing-last _ _ _ _ _ (one-left .before .before .loop .inv) (search needs) (search needs) _ _ (call .put .ensures .0) (call .put .ensures .1)
-
-same-length-2 : tie.Need-same-length-2 Inv-loop μ-loop
-same-length-2 c = search needs
 
 returns-2 : tie.Need-returns-2 Inv-loop μ-loop
 returns-2 c = writing-end _ _ _ _ _ (c .before .before .loop .inv) (search needs)
@@ -77,17 +50,13 @@ put-all-spec =
     Inv-loop
     μ-loop
     loop-holds
-    add-loop
-    mul-put-followed
-    shared-slice-read-put-followed
+    (λ c. search needs) (λ c. search needs) (λ c. search needs)
     put-followed-requires
-    add-done
-    loop-less
+    (λ c. search needs) (λ c. search needs)
     loop-again
-    mul-put
-    shared-slice-read-put
+    (λ c. search needs) (λ c. search needs)
     put-requires
-    same-length
+    (λ c. search needs)
     returns
-    same-length-2
+    (λ c. search needs)
     returns-2)

@@ -17,25 +17,10 @@ abbrev μ-loop : tie.MeasureT-loop
 loop-holds : tie.Need-loop-holds Inv-loop μ-loop
 loop-holds c = sizing-begin _
 
-mul-size : tie.Need-mul-size Inv-loop μ-loop
-mul-size c = search needs
-
-shared-slice-read-size : tie.Need-shared-slice-read-size Inv-loop μ-loop
-shared-slice-read-size c = search needs
-
-size-requires : tie.Need-size-requires Inv-loop μ-loop
-size-requires c κs = search needs
-
 add-total : tie.Need-add-total Inv-loop μ-loop
 add-total c =
     let turn = c .before .before .before in
     omega (arith, length-form≤4 (getD (turn .before .before .args .words .now) (turn .loop .index) 0))
-
-add-index : tie.Need-add-index Inv-loop μ-loop
-add-index c = search needs
-
-loop-less : tie.Need-loop-less Inv-loop μ-loop
-loop-less c = search needs
 
 loop-again : tie.Need-loop-again Inv-loop μ-loop
 loop-again c = sizing-again _ _ _ (c .before .before .before .loop .inv) _ (search needs) (c .size .ensures)
@@ -50,11 +35,8 @@ total-size-spec =
     Inv-loop
     μ-loop
     loop-holds
-    mul-size
-    shared-slice-read-size
-    size-requires
+    (λ c. search needs) (λ c. search needs) (λ c κs. search needs)
     add-total
-    add-index
-    loop-less
+    (λ c. search needs) (λ c. search needs)
     loop-again
     returns)

@@ -6,15 +6,6 @@ use borrow.Author.Needs.{needs}
 use Rattle.part.proofs.admit.Statement.{statement}
 use Rattle.part.proofs.admit.Tie as tie
 
-examine-requires : tie.Need-examine-requires
-examine-requires c κs = search needs
-
-enum-known-examined : tie.Need-enum-known-examined
-enum-known-examined c = search needs
-
-enum-known-examined-2 : tie.Need-enum-known-examined-2
-enum-known-examined-2 c = search needs
-
 returns : tie.Need-returns
 returns c =
     let known = c .before in
@@ -66,9 +57,7 @@ pub admit-spec : {M : Type 1} → statement M
 admit-spec =
     tie.close
     (tie.spec
-    examine-requires
-    enum-known-examined
-    enum-known-examined-2
+    (λ c κs. search needs) (λ c. search needs) (λ c. search needs)
     returns
     returns-2
     returns-3

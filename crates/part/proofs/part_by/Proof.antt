@@ -40,20 +40,8 @@ sides c =
 returns : tie.Need-returns
 returns c = call-short _ _ _ (omega arith) (record { first-after = refl; second-after = refl })
 
-load-requires : tie.Need-load-requires
-load-requires c κs = search needs
-
-slice-reshare-prefix-admit : tie.Need-slice-reshare-prefix-admit
-slice-reshare-prefix-admit c = search needs
-
 slice-aggregate-admit : tie.Need-slice-aggregate-admit
 slice-aggregate-admit c = let load = c .before .before .before .load .ensures in loaded-length _ _ (load .0) (load .1)
-
-admit-requires : tie.Need-admit-requires
-admit-requires c κs = search needs
-
-enum-known-admitted : tie.Need-enum-known-admitted
-enum-known-admitted c = search needs
 
 store-side-requires : tie.Need-store-side-requires
 store-side-requires c κs =
@@ -71,33 +59,6 @@ store-side-requires-2 c κs =
     let long : suc mostWords ≤ length (one .store-side .last .1 .1 .0) = omega (arith, one .store-side .kept, size, start load .pre) in
     (sides known .second-fits, (omega (arith, sides known .second-space .0), sides known .second-space .1))
 
-store-long-answer-requires : tie.Need-store-long-answer-requires
-store-long-answer-requires c κs = search needs
-
-enum-known-admitted-2 : tie.Need-enum-known-admitted-2
-enum-known-admitted-2 c = search needs
-
-number-requires : tie.Need-number-requires
-number-requires c κs = search needs
-
-place-requires : tie.Need-place-requires
-place-requires c κs = search needs
-
-store-answer-requires : tie.Need-store-answer-requires
-store-answer-requires c κs = search needs
-
-same-length : tie.Need-same-length
-same-length c = search needs
-
-same-length-2 : tie.Need-same-length-2
-same-length-2 c = search needs
-
-same-length-3 : tie.Need-same-length-3
-same-length-3 c = search needs
-
-same-length-4 : tie.Need-same-length-4
-same-length-4 c = search needs
-
 returns-2 : tie.Need-returns-2
 returns-2 c =
     let told = c .before .before in
@@ -107,12 +68,6 @@ returns-2 c =
     let args = start (loaded known) .args in
     call-parted _ (args .first .now) (args .second .now) (args .answer .now) (omega (arith, loaded known .before .before .if1 .left)) (sides known)
     (one .store-side .ensures) (two .store-side2 .ensures) (told .store-long-answer .ensures)
-
-same-length-5 : tie.Need-same-length-5
-same-length-5 c = search needs
-
-same-length-6 : tie.Need-same-length-6
-same-length-6 c = search needs
 
 returns-3 : tie.Need-returns-3
 returns-3 c =
@@ -133,23 +88,13 @@ part-by-spec =
     tie.close
     (tie.spec
     returns
-    load-requires
-    slice-reshare-prefix-admit
+    (λ c κs. search needs) (λ c. search needs)
     slice-aggregate-admit
-    admit-requires
-    enum-known-admitted
+    (λ c κs. search needs) (λ c. search needs)
     store-side-requires
     store-side-requires-2
-    store-long-answer-requires
-    enum-known-admitted-2
-    number-requires
-    place-requires
-    store-answer-requires
-    same-length
-    same-length-2
-    same-length-3
-    same-length-4
+    (λ c κs. search needs) (λ c. search needs) (λ c κs. search needs) (λ c κs. search needs)
+    (λ c κs. search needs) (λ c. search needs) (λ c. search needs) (λ c. search needs) (λ c. search needs)
     returns-2
-    same-length-5
-    same-length-6
+    (λ c. search needs) (λ c. search needs)
     returns-3)

@@ -80,29 +80,11 @@ store-4 s = s .before .before .before .before .before
 returns : tie.Need-returns
 returns c = plan-short _ _ _ (c .if1 .taken)
 
-slice-aggregate-plan-figures : tie.Need-slice-aggregate-plan-figures
-slice-aggregate-plan-figures c = search needs
-
-slice-aggregate-plan-figures-2 : tie.Need-slice-aggregate-plan-figures-2
-slice-aggregate-plan-figures-2 c = search needs
-
-slice-aggregate-plan-figures-3 : tie.Need-slice-aggregate-plan-figures-3
-slice-aggregate-plan-figures-3 c = search needs
-
-slice-aggregate-plan-figures-4 : tie.Need-slice-aggregate-plan-figures-4
-slice-aggregate-plan-figures-4 c = search needs
-
-plan-figures-requires : tie.Need-plan-figures-requires
-plan-figures-requires c κs = search needs
-
 array-share-prefix-granted : tie.Need-array-share-prefix-granted
 array-share-prefix-granted c = omega (arith, left (c .before .before .before .before) .lists-are Grants .few)
 
 slice-aggregate-store : tie.Need-slice-aggregate-store
 slice-aggregate-store c = sym (length-take-le _ _ (array-share-prefix-granted (c .before)))
-
-store-requires : tie.Need-store-requires
-store-requires c κs = search needs
 
 array-share-prefix-capped : tie.Need-array-share-prefix-capped
 array-share-prefix-capped c = omega (arith, left (figures-s (c .before .before)) .lists-are Caps .few)
@@ -110,50 +92,17 @@ array-share-prefix-capped c = omega (arith, left (figures-s (c .before .before))
 slice-aggregate-store-2 : tie.Need-slice-aggregate-store-2
 slice-aggregate-store-2 c = sym (length-take-le _ _ (array-share-prefix-capped (c .before)))
 
-store-requires-2 : tie.Need-store-requires-2
-store-requires-2 c κs = search needs
-
 array-share-prefix-lent : tie.Need-array-share-prefix-lent
 array-share-prefix-lent c = omega (arith, left (figures-s (store-2 (c .before .before))) .lists-are Headroom .few)
 
 slice-aggregate-store-3 : tie.Need-slice-aggregate-store-3
 slice-aggregate-store-3 c = sym (length-take-le _ _ (array-share-prefix-lent (c .before)))
 
-store-requires-3 : tie.Need-store-requires-3
-store-requires-3 c κs = search needs
-
 array-share-prefix-holders : tie.Need-array-share-prefix-holders
 array-share-prefix-holders c = omega (arith, left (figures-s (store-2 (store-3 (c .before .before)))) .lists-are Held .few)
 
 slice-aggregate-store-4 : tie.Need-slice-aggregate-store-4
 slice-aggregate-store-4 c = sym (length-take-le _ _ (array-share-prefix-holders (c .before)))
-
-store-requires-4 : tie.Need-store-requires-4
-store-requires-4 c κs = search needs
-
-number-requires : tie.Need-number-requires
-number-requires c κs = search needs
-
-figure-requires : tie.Need-figure-requires
-figure-requires c κs = search needs
-
-store-answer-requires : tie.Need-store-answer-requires
-store-answer-requires c κs = search needs
-
-same-length : tie.Need-same-length
-same-length c = search needs
-
-same-length-2 : tie.Need-same-length-2
-same-length-2 c = search needs
-
-same-length-3 : tie.Need-same-length-3
-same-length-3 c = search needs
-
-same-length-4 : tie.Need-same-length-4
-same-length-4 c = search needs
-
-same-length-5 : tie.Need-same-length-5
-same-length-5 c = search needs
 
 returns-2 : tie.Need-returns-2
 returns-2 c =
@@ -176,29 +125,18 @@ plan-bytes-spec =
     tie.close
     (tie.spec
     returns
-    slice-aggregate-plan-figures
-    slice-aggregate-plan-figures-2
-    slice-aggregate-plan-figures-3
-    slice-aggregate-plan-figures-4
-    plan-figures-requires
+    (λ c. search needs) (λ c. search needs) (λ c. search needs) (λ c. search needs) (λ c κs. search needs)
     array-share-prefix-granted
     slice-aggregate-store
-    store-requires
+    (λ c κs. search needs)
     array-share-prefix-capped
     slice-aggregate-store-2
-    store-requires-2
+    (λ c κs. search needs)
     array-share-prefix-lent
     slice-aggregate-store-3
-    store-requires-3
+    (λ c κs. search needs)
     array-share-prefix-holders
     slice-aggregate-store-4
-    store-requires-4
-    number-requires
-    figure-requires
-    store-answer-requires
-    same-length
-    same-length-2
-    same-length-3
-    same-length-4
-    same-length-5
+    (λ c κs. search needs) (λ c κs. search needs) (λ c κs. search needs) (λ c κs. search needs)
+    (λ c. search needs) (λ c. search needs) (λ c. search needs) (λ c. search needs) (λ c. search needs)
     returns-2)

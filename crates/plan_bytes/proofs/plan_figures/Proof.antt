@@ -100,65 +100,11 @@ known-p p = known-5 (p .before .before .before .before .before)
 abbrev planned-z : tie.After-slice-known10 → tie.After-plan-loaded
 planned-z c = c .before .before .before .before .before .before .before .before .before .before .before
 
-slice-aggregate-load-bytes : tie.Need-slice-aggregate-load-bytes
-slice-aggregate-load-bytes c = search needs
-
-slice-aggregate-load-bytes-2 : tie.Need-slice-aggregate-load-bytes-2
-slice-aggregate-load-bytes-2 c = search needs
-
-slice-aggregate-load-bytes-3 : tie.Need-slice-aggregate-load-bytes-3
-slice-aggregate-load-bytes-3 c = search needs
-
-slice-aggregate-load-bytes-4 : tie.Need-slice-aggregate-load-bytes-4
-slice-aggregate-load-bytes-4 c = search needs
-
-slice-aggregate-load-bytes-5 : tie.Need-slice-aggregate-load-bytes-5
-slice-aggregate-load-bytes-5 c = search needs
-
-load-bytes-requires : tie.Need-load-bytes-requires
-load-bytes-requires c κs = search needs
-
-admit-requires : tie.Need-admit-requires
-admit-requires c κs = search needs
-
-enum-known-admission : tie.Need-enum-known-admission
-enum-known-admission c = search needs
-
-slice-aggregate-plan-loaded : tie.Need-slice-aggregate-plan-loaded
-slice-aggregate-plan-loaded c = search needs
-
-slice-aggregate-plan-loaded-2 : tie.Need-slice-aggregate-plan-loaded-2
-slice-aggregate-plan-loaded-2 c = search needs
-
-slice-aggregate-plan-loaded-3 : tie.Need-slice-aggregate-plan-loaded-3
-slice-aggregate-plan-loaded-3 c = search needs
-
-slice-aggregate-plan-loaded-4 : tie.Need-slice-aggregate-plan-loaded-4
-slice-aggregate-plan-loaded-4 c = search needs
-
-slice-aggregate-plan-loaded-5 : tie.Need-slice-aggregate-plan-loaded-5
-slice-aggregate-plan-loaded-5 c = search needs
-
 plan-loaded-requires : tie.Need-plan-loaded-requires
 plan-loaded-requires c κs =
     let k = known-5 (c .before .before .before .before) in
     let a = admitted k in
     (record { table = table k; demands = demands k; room = a .room-found .room; given = given k }, (granted-long k, holders-long k))
-
-enum-known-admission-2 : tie.Need-enum-known-admission-2
-enum-known-admission-2 c = search needs
-
-same-length : tie.Need-same-length
-same-length c = search needs
-
-same-length-2 : tie.Need-same-length-2
-same-length-2 c = search needs
-
-same-length-3 : tie.Need-same-length-3
-same-length-3 c = search needs
-
-same-length-4 : tie.Need-same-length-4
-same-length-4 c = search needs
 
 returns : tie.Need-returns
 returns c =
@@ -166,12 +112,6 @@ returns c =
     let k = known-p p in
     let a = admitted k in
     figures-accepted a _ _ (p .plan-loaded .ensures (table k) (demands k) (a .room-found .room) (given k)) (each _ (granted-long k) (capped-long k) (lent-long k) (holders-long k))
-
-same-length-5 : tie.Need-same-length-5
-same-length-5 c = search needs
-
-same-length-6 : tie.Need-same-length-6
-same-length-6 c = search needs
 
 returns-2 : tie.Need-returns-2
 returns-2 c =
@@ -184,26 +124,11 @@ pub plan-figures-spec : {M : Type 1} → statement M
 plan-figures-spec =
     tie.close
     (tie.spec
-    slice-aggregate-load-bytes
-    slice-aggregate-load-bytes-2
-    slice-aggregate-load-bytes-3
-    slice-aggregate-load-bytes-4
-    slice-aggregate-load-bytes-5
-    load-bytes-requires
-    admit-requires
-    enum-known-admission
-    slice-aggregate-plan-loaded
-    slice-aggregate-plan-loaded-2
-    slice-aggregate-plan-loaded-3
-    slice-aggregate-plan-loaded-4
-    slice-aggregate-plan-loaded-5
+    (λ c. search needs) (λ c. search needs) (λ c. search needs) (λ c. search needs) (λ c. search needs)
+    (λ c κs. search needs) (λ c κs. search needs) (λ c. search needs) (λ c. search needs) (λ c. search needs)
+    (λ c. search needs) (λ c. search needs) (λ c. search needs)
     plan-loaded-requires
-    enum-known-admission-2
-    same-length
-    same-length-2
-    same-length-3
-    same-length-4
+    (λ c. search needs) (λ c. search needs) (λ c. search needs) (λ c. search needs) (λ c. search needs)
     returns
-    same-length-5
-    same-length-6
+    (λ c. search needs) (λ c. search needs)
     returns-2)

@@ -52,21 +52,6 @@ take-wants-requires c κs =
     let s = start n in
     take-wants-asks (lists s) (places s) (weights s) (n .deal-nodes .ensures) (d .deal-cords .ensures) (lists s .ceilings-size) (d .deal-cords .kept .1 .1 .1 .1 .1 .1 .1 .1 .0 ∙ s .pre .1 .0 .1)
 
-same-length : tie.Need-same-length
-same-length c = search needs
-
-same-length-2 : tie.Need-same-length-2
-same-length-2 c = search needs
-
-same-length-3 : tie.Need-same-length-3
-same-length-3 c = search needs
-
-same-length-4 : tie.Need-same-length-4
-same-length-4 c = search needs
-
-same-length-5 : tie.Need-same-length-5
-same-length-5 c = search needs
-
 returns : tie.Need-returns
 returns c =
     let d = c .before .before .before .before .before .before .before .before .before .before .before in
@@ -82,9 +67,5 @@ deal-out-spec =
     slice-aggregate-deal-cords
     deal-cords-requires
     take-wants-requires
-    same-length
-    same-length-2
-    same-length-3
-    same-length-4
-    same-length-5
+    (λ c. search needs) (λ c. search needs) (λ c. search needs) (λ c. search needs) (λ c. search needs)
     returns)

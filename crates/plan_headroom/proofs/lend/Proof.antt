@@ -131,12 +131,6 @@ weights-a c = c .before .before .before .before .before .before
 abbrev weights-b : tie.After-dealt → Weights
 weights-b c = weights-a (c .before .before .before)
 
-slice-aggregate-list-all : tie.Need-slice-aggregate-list-all
-slice-aggregate-list-all c = search needs
-
-list-all-requires : tie.Need-list-all-requires
-list-all-requires c κs = search needs
-
 array-share-prefix-all : tie.Need-array-share-prefix-all
 array-share-prefix-all c = let l : Listed = c .before in omega (arith, lists (start-l l) .few, l .list-all .ensures .size)
 
@@ -155,9 +149,6 @@ sum-cords-requires c κs =
     let s : Start = start-l l in
     sum-cords-asks (lists s) (l .list-all .ensures) (enough s new-list) (enough s new-list)
 
-slice-aggregate-weigh : tie.Need-slice-aggregate-weigh
-slice-aggregate-weigh c = search needs
-
 slice-aggregate-weigh-2 : tie.Need-slice-aggregate-weigh-2
 slice-aggregate-weigh-2 c = sym (sums-sized (sums-a c))
 
@@ -168,9 +159,6 @@ weigh-requires : tie.Need-weigh-requires
 weigh-requires c κs =
     let s : Sums = sums-a (c .before) in
     weigh-asks (lists (start s)) (places s) (start s .args .left .now) (sums-back s) (start s .pre .0 .given .left-size) (on-nodes s) (enough (start s) (sums-sized s)) (enough (start s) new-list)
-
-slice-aggregate-deal-out : tie.Need-slice-aggregate-deal-out
-slice-aggregate-deal-out c = search needs
 
 slice-aggregate-deal-out-2 : tie.Need-slice-aggregate-deal-out-2
 slice-aggregate-deal-out-2 c = sym (wholes-sized (weights-a c))
@@ -196,15 +184,6 @@ deal-out-requires c κs =
       ),
     )
 
-same-length : tie.Need-same-length
-same-length c = search needs
-
-same-length-2 : tie.Need-same-length-2
-same-length-2 c = search needs
-
-same-length-3 : tie.Need-same-length-3
-same-length-3 c = search needs
-
 returns : tie.Need-returns
 returns c =
     let d : Dealt = dealt-z c in
@@ -215,24 +194,21 @@ pub lend-spec : {M : Type 1} → statement M
 lend-spec =
     tie.close
     (tie.spec
-    slice-aggregate-list-all
-    list-all-requires
+    (λ c. search needs) (λ c κs. search needs)
     array-share-prefix-all
     slice-aggregate-sum-cords
     slice-aggregate-sum-cords-2
     slice-aggregate-sum-cords-3
     sum-cords-requires
-    slice-aggregate-weigh
+    (λ c. search needs)
     slice-aggregate-weigh-2
     slice-aggregate-weigh-3
     weigh-requires
-    slice-aggregate-deal-out
+    (λ c. search needs)
     slice-aggregate-deal-out-2
     slice-aggregate-deal-out-3
     slice-aggregate-deal-out-4
     slice-aggregate-deal-out-5
     deal-out-requires
-    same-length
-    same-length-2
-    same-length-3
+    (λ c. search needs) (λ c. search needs) (λ c. search needs)
     returns)

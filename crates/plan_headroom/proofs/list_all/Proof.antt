@@ -21,17 +21,8 @@ loop-holds c = filled-none (λ n. n) _
 place-requires : tie.Need-place-requires Inv-loop μ-loop
 place-requires c κs = omega (arith, c .before .before .before .pre, c .loop-test .taken)
 
-mul-all : tie.Need-mul-all Inv-loop μ-loop
-mul-all c = search needs
-
 slice-write-all : tie.Need-slice-write-all Inv-loop μ-loop
 slice-write-all c = omega (arith, c .before .before .loop .inv .size-is, c .before .loop-test .taken)
-
-add-i : tie.Need-add-i Inv-loop μ-loop
-add-i c = search needs
-
-loop-less : tie.Need-loop-less Inv-loop μ-loop
-loop-less c = search needs
 
 loop-again : tie.Need-loop-again Inv-loop μ-loop
 loop-again c = filled-one _ (c .before .before .loop .inv) (c .before .loop-test .taken) (c .place .ensures)
@@ -52,10 +43,9 @@ list-all-spec =
     μ-loop
     loop-holds
     place-requires
-    mul-all
+    (λ c. search needs)
     slice-write-all
-    add-i
-    loop-less
+    (λ c. search needs) (λ c. search needs)
     loop-again
     same-length
     returns)

@@ -18,32 +18,11 @@ abbrev μ-loop : tie.MeasureT-loop
 loop-holds : tie.Need-loop-holds Inv-loop μ-loop
 loop-holds c = filled-none _ _
 
-mul-want : tie.Need-mul-want Inv-loop μ-loop
-mul-want c = search needs
-
-shared-slice-read-want : tie.Need-shared-slice-read-want Inv-loop μ-loop
-shared-slice-read-want c = search needs
-
-mul-headroom : tie.Need-mul-headroom Inv-loop μ-loop
-mul-headroom c = search needs
-
-shared-slice-read-headroom : tie.Need-shared-slice-read-headroom Inv-loop μ-loop
-shared-slice-read-headroom c = search needs
-
 sub-headroom : tie.Need-sub-headroom Inv-loop μ-loop
 sub-headroom c = omega (arith, c .before .before .before .before .pre .2 (c .before .before .before .loop .c) (c .before .before .loop-test .taken))
 
-mul-headroom-2 : tie.Need-mul-headroom-2 Inv-loop μ-loop
-mul-headroom-2 c = search needs
-
 slice-write-headroom : tie.Need-slice-write-headroom Inv-loop μ-loop
 slice-write-headroom c = omega (arith, c .before .before .before .loop .inv .size-is, c .before .before .loop-test .taken)
-
-add-c : tie.Need-add-c Inv-loop μ-loop
-add-c c = search needs
-
-loop-less : tie.Need-loop-less Inv-loop μ-loop
-loop-less c = search needs
 
 loop-again : tie.Need-loop-again Inv-loop μ-loop
 loop-again c = filled-one _ (c .before .before .before .loop .inv) (c .before .before .loop-test .taken) refl
@@ -61,15 +40,11 @@ take-wants-spec =
     Inv-loop
     μ-loop
     loop-holds
-    mul-want
-    shared-slice-read-want
-    mul-headroom
-    shared-slice-read-headroom
+    (λ c. search needs) (λ c. search needs) (λ c. search needs) (λ c. search needs)
     sub-headroom
-    mul-headroom-2
+    (λ c. search needs)
     slice-write-headroom
-    add-c
-    loop-less
+    (λ c. search needs) (λ c. search needs)
     loop-again
     same-length
     returns)

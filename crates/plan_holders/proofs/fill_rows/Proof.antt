@@ -36,9 +36,6 @@ mul-index c = omega (arith, few c)
 shared-slice-read-index : tie.Need-shared-slice-read-index Inv-loop μ-loop
 shared-slice-read-index c = c .before .loop-test .taken
 
-index-requires : tie.Need-index-requires Inv-loop μ-loop
-index-requires c κs = search needs
-
 mul-above : tie.Need-mul-above Inv-loop μ-loop
 mul-above c = omega (arith, c .index .ensures .1)
 
@@ -57,9 +54,6 @@ add-place c = omega (arith, few (c .before .before .before .before))
 
 place-requires : tie.Need-place-requires Inv-loop μ-loop
 place-requires c κs = omega (arith, few (c .before .before .before .before))
-
-next-row-requires : tie.Need-next-row-requires Inv-loop μ-loop
-next-row-requires c κs = search needs
 
 -- Earlier steps, each seen from a later one.
 abbrev in-loop-from-shared-slice-known4 : tie.After-shared-slice-known4 Inv-loop μ-loop → tie.In-loop Inv-loop μ-loop
@@ -98,14 +92,14 @@ fill-rows-spec =
     loop-holds
     mul-index
     shared-slice-read-index
-    index-requires
+    (λ c κs. search needs)
     mul-above
     element-copy-out-above
     mul-next-row
     shared-slice-read-next-row
     add-place
     place-requires
-    next-row-requires
+    (λ c κs. search needs)
     add-t9
     mul-t18
     element-set-from-rows

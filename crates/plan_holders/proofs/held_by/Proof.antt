@@ -5,12 +5,6 @@ use borrow.Author.Tests.{eq-eqb, ne-eqb}
 use Rattle.plan_holders.proofs.held_by.Statement.{statement}
 use Rattle.plan_holders.proofs.held_by.Tie as tie
 
-index-requires : tie.Need-index-requires
-index-requires c κs = search needs
-
-index-word-requires : tie.Need-index-word-requires
-index-word-requires c κs = search needs
-
 returns : tie.Need-returns
 returns c = rw (eq-eqb (c .before .args .grant) (c .before .args .want) (c .if1 .taken))
 
@@ -20,4 +14,4 @@ returns-2 c =
     (c .index-word .ensures ∙ c .before .index .ensures .0)
 
 pub held-by-spec : {M : Type 1} → statement M
-held-by-spec = tie.close (tie.spec index-requires index-word-requires returns returns-2)
+held-by-spec = tie.close (tie.spec (λ c κs. search needs) (λ c κs. search needs) returns returns-2)

@@ -63,9 +63,6 @@ index-1-index c = c .loop-test .taken
 index-2-index : tie.Need-index-2-index Inv-loop μ-loop
 index-2-index c = omega arith
 
-index-requires : tie.Need-index-requires Inv-loop μ-loop
-index-requires c κs = search needs
-
 mul-index-2 : tie.Need-mul-index-2 Inv-loop μ-loop
 mul-index-2 c = omega (arith, few (c .before .before))
 
@@ -74,9 +71,6 @@ index-1-index-2 c = c .before .before .loop-test .taken
 
 index-2-index-2 : tie.Need-index-2-index-2 Inv-loop μ-loop
 index-2-index-2 c = omega arith
-
-index-requires-2 : tie.Need-index-requires-2 Inv-loop μ-loop
-index-requires-2 c κs = search needs
 
 mul-held-by : tie.Need-mul-held-by Inv-loop μ-loop
 mul-held-by c = omega (arith, few (c .before .before .before .before))
@@ -101,9 +95,6 @@ index-1-held-by c = omega (arith, node-fits (c .before .before))
 
 index-2-held-by : tie.Need-index-2-held-by Inv-loop μ-loop
 index-2-held-by c = omega (arith, level-fits (c .before .before))
-
-held-by-requires : tie.Need-held-by-requires Inv-loop μ-loop
-held-by-requires c κs = search needs
 
 mul-held : tie.Need-mul-held Inv-loop μ-loop
 mul-held c = omega (arith, few (turn (c .before .before .before .before)))
@@ -141,11 +132,11 @@ name-holders-spec =
     mul-index
     index-1-index
     index-2-index
-    index-requires
+    (λ c κs. search needs)
     mul-index-2
     index-1-index-2
     index-2-index-2
-    index-requires-2
+    (λ c κs. search needs)
     mul-held-by
     shared-slice-read-held-by
     mul-held-by-2
@@ -154,7 +145,7 @@ name-holders-spec =
     mul-held-by-4
     index-1-held-by
     index-2-held-by
-    held-by-requires
+    (λ c κs. search needs)
     mul-held
     slice-write-held
     add-c

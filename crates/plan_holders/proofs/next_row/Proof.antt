@@ -15,35 +15,8 @@ abbrev μ-loop : tie.MeasureT-loop
 loop-holds : tie.Need-loop-holds Inv-loop μ-loop
 loop-holds c = turning-start (search needs)
 
-mul-nearer-root : tie.Need-mul-nearer-root Inv-loop μ-loop
-mul-nearer-root c = search needs
-
-array-read-nearer-root : tie.Need-array-read-nearer-root Inv-loop μ-loop
-array-read-nearer-root c = search needs
-
-add-place : tie.Need-add-place Inv-loop μ-loop
-add-place c = search needs
-
 place-requires : tie.Need-place-requires Inv-loop μ-loop
 place-requires c κs = omega (arith, c .loop-test .taken)
-
-own-requires : tie.Need-own-requires Inv-loop μ-loop
-own-requires c κs = search needs
-
-nearer-root-requires : tie.Need-nearer-root-requires Inv-loop μ-loop
-nearer-root-requires c κs = search needs
-
-mul-row : tie.Need-mul-row Inv-loop μ-loop
-mul-row c = search needs
-
-array-write-row : tie.Need-array-write-row Inv-loop μ-loop
-array-write-row c = search needs
-
-add-level : tie.Need-add-level Inv-loop μ-loop
-add-level c = search needs
-
-loop-less : tie.Need-loop-less Inv-loop μ-loop
-loop-less c = search needs
 
 loop-again : tie.Need-loop-again Inv-loop μ-loop
 loop-again c =
@@ -60,15 +33,9 @@ next-row-spec =
     Inv-loop
     μ-loop
     loop-holds
-    mul-nearer-root
-    array-read-nearer-root
-    add-place
+    (λ c. search needs) (λ c. search needs) (λ c. search needs)
     place-requires
-    own-requires
-    nearer-root-requires
-    mul-row
-    array-write-row
-    add-level
-    loop-less
+    (λ c κs. search needs) (λ c κs. search needs) (λ c. search needs) (λ c. search needs) (λ c. search needs)
+    (λ c. search needs)
     loop-again
     returns)

@@ -32,20 +32,8 @@ below stranded x y few hx hy = rw (chosen stranded x y few) (go (ltb 0 stranded)
     go true = hx
     go false = hy
 
-add-some : tie.Need-add-some
-add-some c = search needs
-
-wide-requires : tie.Need-wide-requires
-wide-requires c κs = search needs
-
 mul-narrow : tie.Need-mul-narrow
 mul-narrow c = omega (arith, below _ _ 0 (c .before .pre) (c .wide .ensures .1) (omega arith))
-
-sub-narrow : tie.Need-sub-narrow
-sub-narrow c = search needs
-
-wide-requires-2 : tie.Need-wide-requires-2
-wide-requires-2 c κs = search needs
 
 mul-narrow-2 : tie.Need-mul-narrow-2
 mul-narrow-2 c = omega (arith, below _ _ _ (c .before .before .pre) (c .before .wide .ensures .1) (c .wide2 .ensures .1))
@@ -63,11 +51,9 @@ pub next-want-spec : {M : Type 1} → statement M
 next-want-spec =
     tie.close
     (tie.spec
-    add-some
-    wide-requires
+    (λ c. search needs) (λ c κs. search needs)
     mul-narrow
-    sub-narrow
-    wide-requires-2
+    (λ c. search needs) (λ c κs. search needs)
     mul-narrow-2
     add-narrow
     narrow-requires

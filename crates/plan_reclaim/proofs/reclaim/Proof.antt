@@ -41,27 +41,6 @@ wanted p = omega (arith, turn p .before .loop .inv .1 .wants-done .size-is, star
 loop-holds : tie.Need-loop-holds Inv-loop μ-loop
 loop-holds c = (omega arith, reclaiming-start)
 
-mul-cord : tie.Need-mul-cord Inv-loop μ-loop
-mul-cord c = search needs
-
-shared-slice-copy-out-cord : tie.Need-shared-slice-copy-out-cord Inv-loop μ-loop
-shared-slice-copy-out-cord c = search needs
-
-array-read-word16 : tie.Need-array-read-word16 Inv-loop μ-loop
-array-read-word16 c = search needs
-
-word16-requires : tie.Need-word16-requires Inv-loop μ-loop
-word16-requires c κs = search needs
-
-array-read-index : tie.Need-array-read-index Inv-loop μ-loop
-array-read-index c = search needs
-
-index-requires : tie.Need-index-requires Inv-loop μ-loop
-index-requires c κs = search needs
-
-mul-carried-by : tie.Need-mul-carried-by Inv-loop μ-loop
-mul-carried-by c = search needs
-
 shared-slice-read-carried-by : tie.Need-shared-slice-read-carried-by Inv-loop μ-loop
 shared-slice-read-carried-by c = placed (c .before)
 
@@ -71,20 +50,8 @@ carried-by-requires c κs =
     let lists = start p .pre .0 in
     (lists .scaled, omega (arith, lists .parts _ (turn p .loop-test .taken), p .before .word16 .ensures .0), lists .most _ (placed p))
 
-mul-wide : tie.Need-mul-wide Inv-loop μ-loop
-mul-wide c = search needs
-
 shared-slice-read-wide : tie.Need-shared-slice-read-wide Inv-loop μ-loop
 shared-slice-read-wide c = let p = c .before .before .before in omega (arith, start p .pre .0 .grants-size, turn p .loop-test .taken)
-
-wide-requires : tie.Need-wide-requires Inv-loop μ-loop
-wide-requires c κs = search needs
-
-wide-requires-2 : tie.Need-wide-requires-2 Inv-loop μ-loop
-wide-requires-2 c κs = search needs
-
-over-requires : tie.Need-over-requires Inv-loop μ-loop
-over-requires c κs = search needs
 
 -- Earlier steps, each seen from a later one.
 abbrev carried-by-from-over : tie.After-over Inv-loop μ-loop → tie.After-carried-by Inv-loop μ-loop
@@ -95,23 +62,14 @@ add-freed c =
     let p = carried-by-from-over c .before .before in
     omega (arith, turn p .before .loop .inv .1 .freed-most, turn p .loop-test .taken, start p .pre .0 .few, c .over .ensures, c .before .before .wide .ensures .1)
 
-mul-starts : tie.Need-mul-starts Inv-loop μ-loop
-mul-starts c = search needs
-
 slice-write-starts : tie.Need-slice-write-starts Inv-loop μ-loop
 slice-write-starts c = started (carried-by-from-over c .before .before)
-
-mul-next-want : tie.Need-mul-next-want Inv-loop μ-loop
-mul-next-want c = search needs
 
 slice-read-next-want : tie.Need-slice-read-next-want Inv-loop μ-loop
 slice-read-next-want c = wanted (carried-by-from-over (c .before) .before .before)
 
 next-want-requires : tie.Need-next-want-requires Inv-loop μ-loop
 next-want-requires c κs = omega (arith, c .before .over .ensures, c .before .before .before .wide .ensures .1)
-
-mul-wants : tie.Need-mul-wants Inv-loop μ-loop
-mul-wants c = search needs
 
 slice-write-wants : tie.Need-slice-write-wants Inv-loop μ-loop
 slice-write-wants c = wanted (carried-by-from-over (c .before .before) .before .before)
@@ -150,27 +108,20 @@ reclaim-spec =
     Inv-loop
     μ-loop
     loop-holds
-    mul-cord
-    shared-slice-copy-out-cord
-    array-read-word16
-    word16-requires
-    array-read-index
-    index-requires
-    mul-carried-by
+    (λ c. search needs) (λ c. search needs) (λ c. search needs) (λ c κs. search needs) (λ c. search needs)
+    (λ c κs. search needs) (λ c. search needs)
     shared-slice-read-carried-by
     carried-by-requires
-    mul-wide
+    (λ c. search needs)
     shared-slice-read-wide
-    wide-requires
-    wide-requires-2
-    over-requires
+    (λ c κs. search needs) (λ c κs. search needs) (λ c κs. search needs)
     add-freed
-    mul-starts
+    (λ c. search needs)
     slice-write-starts
-    mul-next-want
+    (λ c. search needs)
     slice-read-next-want
     next-want-requires
-    mul-wants
+    (λ c. search needs)
     slice-write-wants
     add-c
     loop-less

@@ -32,62 +32,14 @@ placed p = omega (arith, start p .pre .within _ (turn p .loop-test .taken), p .i
 loop-holds : tie.Need-loop-holds Inv-loop μ-loop
 loop-holds c = (omega arith, usable-none)
 
-mul-cord : tie.Need-mul-cord Inv-loop μ-loop
-mul-cord c = search needs
-
-shared-slice-copy-out-cord : tie.Need-shared-slice-copy-out-cord Inv-loop μ-loop
-shared-slice-copy-out-cord c = search needs
-
-array-read-word16 : tie.Need-array-read-word16 Inv-loop μ-loop
-array-read-word16 c = search needs
-
-word16-requires : tie.Need-word16-requires Inv-loop μ-loop
-word16-requires c κs = search needs
-
-wide-requires : tie.Need-wide-requires Inv-loop μ-loop
-wide-requires c κs = search needs
-
-array-read-index : tie.Need-array-read-index Inv-loop μ-loop
-array-read-index c = search needs
-
-index-requires : tie.Need-index-requires Inv-loop μ-loop
-index-requires c κs = search needs
-
-mul-wide : tie.Need-mul-wide Inv-loop μ-loop
-mul-wide c = search needs
-
 slice-read-wide : tie.Need-slice-read-wide Inv-loop μ-loop
 slice-read-wide c = placed (c .before)
-
-wide-requires-2 : tie.Need-wide-requires-2 Inv-loop μ-loop
-wide-requires-2 c κs = search needs
-
-wide-requires-3 : tie.Need-wide-requires-3 Inv-loop μ-loop
-wide-requires-3 c κs = search needs
-
-mul-wide-2 : tie.Need-mul-wide-2 Inv-loop μ-loop
-mul-wide-2 c = search needs
 
 shared-slice-read-wide : tie.Need-shared-slice-read-wide Inv-loop μ-loop
 shared-slice-read-wide c = let p = c .before .before .before .before in omega (arith, start p .pre .grants-size, turn p .loop-test .taken)
 
-wide-requires-4 : tie.Need-wide-requires-4 Inv-loop μ-loop
-wide-requires-4 c κs = search needs
-
 mul-least : tie.Need-mul-least Inv-loop μ-loop
 mul-least c = omega (arith, product-fits (c .before .before .wide3 .ensures .1) (c .wide4 .ensures .1))
-
-div-least : tie.Need-div-least Inv-loop μ-loop
-div-least c = search needs
-
-least-requires : tie.Need-least-requires Inv-loop μ-loop
-least-requires c κs = search needs
-
-narrow-requires : tie.Need-narrow-requires Inv-loop μ-loop
-narrow-requires c κs = search needs
-
-mul-usable : tie.Need-mul-usable Inv-loop μ-loop
-mul-usable c = search needs
 
 slice-write-usable : tie.Need-slice-write-usable Inv-loop μ-loop
 slice-write-usable c = let low = c .before .before .before in placed (low .before .before .before .before)
@@ -123,25 +75,14 @@ usable-of-spec =
     Inv-loop
     μ-loop
     loop-holds
-    mul-cord
-    shared-slice-copy-out-cord
-    array-read-word16
-    word16-requires
-    wide-requires
-    array-read-index
-    index-requires
-    mul-wide
+    (λ c. search needs) (λ c. search needs) (λ c. search needs) (λ c κs. search needs) (λ c κs. search needs)
+    (λ c. search needs) (λ c κs. search needs) (λ c. search needs)
     slice-read-wide
-    wide-requires-2
-    wide-requires-3
-    mul-wide-2
+    (λ c κs. search needs) (λ c κs. search needs) (λ c. search needs)
     shared-slice-read-wide
-    wide-requires-4
+    (λ c κs. search needs)
     mul-least
-    div-least
-    least-requires
-    narrow-requires
-    mul-usable
+    (λ c. search needs) (λ c κs. search needs) (λ c κs. search needs) (λ c. search needs)
     slice-write-usable
     add-c
     loop-less

@@ -328,17 +328,11 @@ array-borrow-prefix-spare c = omega (arith, nodes-few (start-a c), equal-length 
 slice-aggregate-copy : tie.Need-slice-aggregate-copy
 slice-aggregate-copy c = sym (zeros-front mostNodes _ (nodes-few (start-a (c .before))))
 
-copy-requires : tie.Need-copy-requires
-copy-requires c κs = search needs
-
 array-borrow-prefix-usable : tie.Need-array-borrow-prefix-usable
 array-borrow-prefix-usable c = omega (arith, servers-few (start-p (c .before .before)), equal-length {A = ℕ} mostServers 0)
 
 slice-aggregate-copy-2 : tie.Need-slice-aggregate-copy-2
 slice-aggregate-copy-2 c = sym (zeros-front mostServers _ (servers-few (start-p (c .before .before .before))))
-
-copy-requires-2 : tie.Need-copy-requires-2
-copy-requires-2 c κs = search needs
 
 array-borrow-prefix-order : tie.Need-array-borrow-prefix-order
 array-borrow-prefix-order c = omega (arith, cords-few (start-k (c .before .before)), equal-length {A = ℕ} mostCords 0)
@@ -445,14 +439,8 @@ same-length c = wants-size (reclaimed-e (raised-d (second-z (c .before .before))
 same-length-2 : tie.Need-same-length-2
 same-length-2 c = left-size-d (second-z (c .before .before))
 
-same-length-3 : tie.Need-same-length-3
-same-length-3 c = search needs
-
 same-length-4 : tie.Need-same-length-4
 same-length-4 c = grants-size-d (second-z (c .before .before)) ∙ sym (start-z (c .before .before) .pre .1 .1)
-
-same-length-5 : tie.Need-same-length-5
-same-length-5 c = search needs
 
 returns : tie.Need-returns
 returns c =
@@ -474,10 +462,10 @@ deal-twice-spec =
     (tie.spec
     array-borrow-prefix-spare
     slice-aggregate-copy
-    copy-requires
+    (λ c κs. search needs)
     array-borrow-prefix-usable
     slice-aggregate-copy-2
-    copy-requires-2
+    (λ c κs. search needs)
     array-borrow-prefix-order
     slice-aggregate-list-levels
     list-levels-requires
@@ -507,7 +495,7 @@ deal-twice-spec =
     usable-of-requires-2
     same-length
     same-length-2
-    same-length-3
+    (λ c. search needs)
     same-length-4
-    same-length-5
+    (λ c. search needs)
     returns)

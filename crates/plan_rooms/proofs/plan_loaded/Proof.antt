@@ -331,29 +331,11 @@ lend-requires c κs =
       sym (front-length _ _ (lows-long (some s))) ∙ lent-front (nodes-lent (listed-z z)),
     )
 
-same-length : tie.Need-same-length
-same-length c = search needs
-
-same-length-2 : tie.Need-same-length-2
-same-length-2 c = search needs
-
 same-length-3 : tie.Need-same-length-3
 same-length-3 c =
     let l = lent-y c in
     let z = dealt-h (named-l l) in
     lent-length {back = l .lend .last .1 .1 .1 .0} (lent (lent-few (left-lent z)) (l .lend .kept .1 .1 .1 .0)) ∙ lent-length (left-lent z)
-
-same-length-4 : tie.Need-same-length-4
-same-length-4 c = search needs
-
-same-length-5 : tie.Need-same-length-5
-same-length-5 c = search needs
-
-same-length-6 : tie.Need-same-length-6
-same-length-6 c = search needs
-
-same-length-7 : tie.Need-same-length-7
-same-length-7 c = search needs
 
 returns : tie.Need-returns
 returns c = λ table demands r g.
@@ -421,11 +403,7 @@ plan-loaded-spec =
     slice-relend-prefix-lend-3
     slice-aggregate-lend-6
     lend-requires
-    same-length
-    same-length-2
+    (λ c. search needs) (λ c. search needs)
     same-length-3
-    same-length-4
-    same-length-5
-    same-length-6
-    same-length-7
+    (λ c. search needs) (λ c. search needs) (λ c. search needs) (λ c. search needs)
     returns)

@@ -55,15 +55,6 @@ headroom-checked c = list-passed (loaded (known-3 c)) (lengths (known-3 c)) (cap
 abbrev held-checked : (c : tie.Else4) → Passed (known-4 c) 4
 held-checked c = list-passed (loaded (known-4 c)) (lengths (known-4 c)) (headroom-checked (c .before .before)) (c .if4 .left)
 
-enum-known-loaded : tie.Need-enum-known-loaded
-enum-known-loaded c = search needs
-
-enum-known-loaded-2 : tie.Need-enum-known-loaded-2
-enum-known-loaded-2 c = search needs
-
-refusal-of-requires : tie.Need-refusal-of-requires
-refusal-of-requires c κs = search needs
-
 returns : tie.Need-returns
 returns c = loading-told _ _ (c .before .before .loaded2 .given .1) (c .refusal-of .ensures)
 
@@ -86,9 +77,7 @@ pub admit-spec : {M : Type 1} → statement M
 admit-spec =
     tie.close
     (tie.spec
-    enum-known-loaded
-    enum-known-loaded-2
-    refusal-of-requires
+    (λ c. search needs) (λ c. search needs) (λ c κs. search needs)
     returns
     returns-2
     returns-3

@@ -131,44 +131,11 @@ copied-p p = copied-5 (p .before .before .before .before .before)
 abbrev planned-z : tie.After-slice-known10 → tie.After-plan-loaded
 planned-z c = c .before .before .before .before .before .before .before .before .before .before .before
 
-slice-aggregate-load-room : tie.Need-slice-aggregate-load-room
-slice-aggregate-load-room c = search needs
-
-slice-aggregate-load-room-2 : tie.Need-slice-aggregate-load-room-2
-slice-aggregate-load-room-2 c = search needs
-
-slice-aggregate-load-room-3 : tie.Need-slice-aggregate-load-room-3
-slice-aggregate-load-room-3 c = search needs
-
-slice-aggregate-load-room-4 : tie.Need-slice-aggregate-load-room-4
-slice-aggregate-load-room-4 c = search needs
-
-slice-aggregate-load-room-5 : tie.Need-slice-aggregate-load-room-5
-slice-aggregate-load-room-5 c = search needs
-
-slice-aggregate-load-room-6 : tie.Need-slice-aggregate-load-room-6
-slice-aggregate-load-room-6 c = search needs
-
-slice-aggregate-load-room-7 : tie.Need-slice-aggregate-load-room-7
-slice-aggregate-load-room-7 c = search needs
-
-load-room-requires : tie.Need-load-room-requires
-load-room-requires c κs = search needs
-
-admit-requires : tie.Need-admit-requires
-admit-requires c κs = search needs
-
-enum-known-admission : tie.Need-enum-known-admission
-enum-known-admission c = search needs
-
 array-share-prefix-ceilings : tie.Need-array-share-prefix-ceilings
 array-share-prefix-ceilings c = ceilings-few c
 
 slice-aggregate-copy : tie.Need-slice-aggregate-copy
 slice-aggregate-copy c = sym (length-take-le _ _ (ceilings-few (c .before)))
-
-copy-requires : tie.Need-copy-requires
-copy-requires c κs = search needs
 
 array-share-prefix-needs : tie.Need-array-share-prefix-needs
 array-share-prefix-needs c = needs-few (known-1 (c .before .before))
@@ -176,44 +143,11 @@ array-share-prefix-needs c = needs-few (known-1 (c .before .before))
 slice-aggregate-copy-2 : tie.Need-slice-aggregate-copy-2
 slice-aggregate-copy-2 c = sym (length-take-le _ _ (needs-few (known-1 (c .before .before .before))))
 
-copy-requires-2 : tie.Need-copy-requires-2
-copy-requires-2 c κs = search needs
-
-slice-aggregate-plan-loaded : tie.Need-slice-aggregate-plan-loaded
-slice-aggregate-plan-loaded c = search needs
-
-slice-aggregate-plan-loaded-2 : tie.Need-slice-aggregate-plan-loaded-2
-slice-aggregate-plan-loaded-2 c = search needs
-
-slice-aggregate-plan-loaded-3 : tie.Need-slice-aggregate-plan-loaded-3
-slice-aggregate-plan-loaded-3 c = search needs
-
-slice-aggregate-plan-loaded-4 : tie.Need-slice-aggregate-plan-loaded-4
-slice-aggregate-plan-loaded-4 c = search needs
-
-slice-aggregate-plan-loaded-5 : tie.Need-slice-aggregate-plan-loaded-5
-slice-aggregate-plan-loaded-5 c = search needs
-
 plan-loaded-requires : tie.Need-plan-loaded-requires
 plan-loaded-requires c κs =
     let y = copied-5 (c .before .before .before .before) in
     let a = admitted (known-2 y) in
     (record { table = table (known-2 y); demands = demands (known-2 y); room = a .room-found .room; given = given-2 y }, (a .long Grants, a .long Held))
-
-enum-known-admission-2 : tie.Need-enum-known-admission-2
-enum-known-admission-2 c = search needs
-
-same-length : tie.Need-same-length
-same-length c = search needs
-
-same-length-2 : tie.Need-same-length-2
-same-length-2 c = search needs
-
-same-length-3 : tie.Need-same-length-3
-same-length-3 c = search needs
-
-same-length-4 : tie.Need-same-length-4
-same-length-4 c = search needs
 
 returns : tie.Need-returns
 returns c =
@@ -241,32 +175,16 @@ pub plan-spec : {M : Type 1} → statement M
 plan-spec =
     tie.close
     (tie.spec
-    slice-aggregate-load-room
-    slice-aggregate-load-room-2
-    slice-aggregate-load-room-3
-    slice-aggregate-load-room-4
-    slice-aggregate-load-room-5
-    slice-aggregate-load-room-6
-    slice-aggregate-load-room-7
-    load-room-requires
-    admit-requires
-    enum-known-admission
+    (λ c. search needs) (λ c. search needs) (λ c. search needs) (λ c. search needs) (λ c. search needs)
+    (λ c. search needs) (λ c. search needs) (λ c κs. search needs) (λ c κs. search needs) (λ c. search needs)
     array-share-prefix-ceilings
     slice-aggregate-copy
-    copy-requires
+    (λ c κs. search needs)
     array-share-prefix-needs
     slice-aggregate-copy-2
-    copy-requires-2
-    slice-aggregate-plan-loaded
-    slice-aggregate-plan-loaded-2
-    slice-aggregate-plan-loaded-3
-    slice-aggregate-plan-loaded-4
-    slice-aggregate-plan-loaded-5
+    (λ c κs. search needs) (λ c. search needs) (λ c. search needs) (λ c. search needs) (λ c. search needs)
+    (λ c. search needs)
     plan-loaded-requires
-    enum-known-admission-2
-    same-length
-    same-length-2
-    same-length-3
-    same-length-4
+    (λ c. search needs) (λ c. search needs) (λ c. search needs) (λ c. search needs) (λ c. search needs)
     returns
     returns-2)

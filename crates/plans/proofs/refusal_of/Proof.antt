@@ -5,15 +5,6 @@ use borrow.Author.Needs.{needs}
 use Rattle.plans.proofs.refusal_of.Statement.{statement}
 use Rattle.plans.proofs.refusal_of.Tie as tie
 
-enum-known-refusal : tie.Need-enum-known-refusal
-enum-known-refusal c = search needs
-
-enum-known-refusal-2 : tie.Need-enum-known-refusal-2
-enum-known-refusal-2 c = search needs
-
-enum-known-refusal-3 : tie.Need-enum-known-refusal-3
-enum-known-refusal-3 c = search needs
-
 returns : tie.Need-returns
 returns c = ap refusalOf (sym (c .before .refusal .given .1))
 
@@ -27,9 +18,7 @@ pub refusal-of-spec : {M : Type 1} → statement M
 refusal-of-spec =
     tie.close
     (tie.spec
-    enum-known-refusal
-    enum-known-refusal-2
-    enum-known-refusal-3
+    (λ c. search needs) (λ c. search needs) (λ c. search needs)
     returns
     returns-2
     returns-3)

@@ -5,12 +5,6 @@ use borrow.Author.Needs.{needs}
 use Rattle.print.proofs.plan.Statement.{statement}
 use Rattle.print.proofs.plan.Tie as tie
 
-server-count-requires : tie.Need-server-count-requires
-server-count-requires c κs = search needs
-
-cord-count-requires : tie.Need-cord-count-requires
-cord-count-requires c κs = search needs
-
 -- Earlier steps, each seen from a later one.
 abbrev start-from-shared-slice-known4 : tie.After-shared-slice-known4 → tie.Start
 start-from-shared-slice-known4 c = c .before .before .before .before
@@ -44,8 +38,7 @@ pub plan-spec : {M : Type 1} → statement M
 plan-spec =
     tie.close
     (tie.spec
-    server-count-requires
-    cord-count-requires
+    (λ c κs. search needs) (λ c κs. search needs)
     array-borrow-prefix-servers
     slice-aggregate-plan-by
     array-borrow-prefix-cords

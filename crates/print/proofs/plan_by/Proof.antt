@@ -11,18 +11,6 @@ lay-out-servers-requires c κs =
     let figures = lent .before .before .before in
     figures .before .before .before .pre
 
-put-plan-requires : tie.Need-put-plan-requires
-put-plan-requires c κs = search needs
-
-same-length : tie.Need-same-length
-same-length c = search needs
-
-same-length-2 : tie.Need-same-length-2
-same-length-2 c = search needs
-
-same-length-3 : tie.Need-same-length-3
-same-length-3 c = search needs
-
 returns : tie.Need-returns
 returns c = (
   λ room end is.
@@ -37,8 +25,5 @@ plan-by-spec =
     tie.close
     (tie.spec
     lay-out-servers-requires
-    put-plan-requires
-    same-length
-    same-length-2
-    same-length-3
+    (λ c κs. search needs) (λ c. search needs) (λ c. search needs) (λ c. search needs)
     returns)

@@ -5,45 +5,6 @@ use borrow.Author.Needs.{needs}
 use Rattle.print.proofs.put_cord.Statement.{statement}
 use Rattle.print.proofs.put_cord.Tie as tie
 
-slice-aggregate-put-figure : tie.Need-slice-aggregate-put-figure
-slice-aggregate-put-figure c = search needs
-
-put-figure-requires : tie.Need-put-figure-requires
-put-figure-requires c κs = search needs
-
-slice-aggregate-put-figure-2 : tie.Need-slice-aggregate-put-figure-2
-slice-aggregate-put-figure-2 c = search needs
-
-put-figure-requires-2 : tie.Need-put-figure-requires-2
-put-figure-requires-2 c κs = search needs
-
-slice-aggregate-put-figure-3 : tie.Need-slice-aggregate-put-figure-3
-slice-aggregate-put-figure-3 c = search needs
-
-put-figure-requires-3 : tie.Need-put-figure-requires-3
-put-figure-requires-3 c κs = search needs
-
-slice-aggregate-put-figure-4 : tie.Need-slice-aggregate-put-figure-4
-slice-aggregate-put-figure-4 c = search needs
-
-put-figure-requires-4 : tie.Need-put-figure-requires-4
-put-figure-requires-4 c κs = search needs
-
-slice-aggregate-put-figure-5 : tie.Need-slice-aggregate-put-figure-5
-slice-aggregate-put-figure-5 c = search needs
-
-put-figure-requires-5 : tie.Need-put-figure-requires-5
-put-figure-requires-5 c κs = search needs
-
-slice-aggregate-put : tie.Need-slice-aggregate-put
-slice-aggregate-put c = search needs
-
-put-requires : tie.Need-put-requires
-put-requires c κs = search needs
-
-same-length : tie.Need-same-length
-same-length c = search needs
-
 returns : tie.Need-returns
 unfolding cordLine
 returns c =
@@ -59,17 +20,7 @@ pub put-cord-spec : {M : Type 1} → statement M
 put-cord-spec =
     tie.close
     (tie.spec
-    slice-aggregate-put-figure
-    put-figure-requires
-    slice-aggregate-put-figure-2
-    put-figure-requires-2
-    slice-aggregate-put-figure-3
-    put-figure-requires-3
-    slice-aggregate-put-figure-4
-    put-figure-requires-4
-    slice-aggregate-put-figure-5
-    put-figure-requires-5
-    slice-aggregate-put
-    put-requires
-    same-length
+    (λ c. search needs) (λ c κs. search needs) (λ c. search needs) (λ c κs. search needs) (λ c. search needs)
+    (λ c κs. search needs) (λ c. search needs) (λ c κs. search needs) (λ c. search needs) (λ c κs. search needs)
+    (λ c. search needs) (λ c κs. search needs) (λ c. search needs)
     returns)

@@ -26,41 +26,8 @@ loop-holds c =
     let all : c .before .before .before .before .args .count - 0 ≡ c .before .before .before .before .args .count = omega arith in
     (omega arith, rw all (putting-first _ _ _ (search needs)), refl)
 
-add-put-cord : tie.Need-add-put-cord Inv-loop μ-loop
-add-put-cord c = search needs
-
-add-node : tie.Need-add-node Inv-loop μ-loop
-add-node c = search needs
-
-node-requires : tie.Need-node-requires Inv-loop μ-loop
-node-requires c κs = search needs
-
-add-word : tie.Need-add-word Inv-loop μ-loop
-add-word c = search needs
-
-word-requires : tie.Need-word-requires Inv-loop μ-loop
-word-requires c κs = search needs
-
-add-word-2 : tie.Need-add-word-2 Inv-loop μ-loop
-add-word-2 c = search needs
-
-word-requires-2 : tie.Need-word-requires-2 Inv-loop μ-loop
-word-requires-2 c κs = search needs
-
-add-word-3 : tie.Need-add-word-3 Inv-loop μ-loop
-add-word-3 c = search needs
-
-word-requires-3 : tie.Need-word-requires-3 Inv-loop μ-loop
-word-requires-3 c κs = search needs
-
 put-cord-requires : tie.Need-put-cord-requires Inv-loop μ-loop
 put-cord-requires c κs = let node = c .before .before .before .before in putting-within (node .before .before .loop .inv .1)
-
-add-k : tie.Need-add-k Inv-loop μ-loop
-add-k c = search needs
-
-loop-less : tie.Need-loop-less Inv-loop μ-loop
-loop-less c = search needs
 
 loop-again : tie.Need-loop-again Inv-loop μ-loop
 loop-again c =
@@ -76,9 +43,6 @@ loop-again c =
     let cord = rw (node .node .ensures, grant .word .ensures .0, headroom, held) at (put .put-cord .ensures) in
     (omega arith, lines-next line (args .count) (at .loop .k) (omega (arith, at)) (at .loop .inv .1) cord, search needs)
 
-same-length : tie.Need-same-length Inv-loop μ-loop
-same-length c = search needs
-
 returns : tie.Need-returns Inv-loop μ-loop
 returns c = lines-last _ _ _ (omega arith) (c .before .loop .inv .1)
 
@@ -89,18 +53,10 @@ put-cords-spec =
     Inv-loop
     μ-loop
     loop-holds
-    add-put-cord
-    add-node
-    node-requires
-    add-word
-    word-requires
-    add-word-2
-    word-requires-2
-    add-word-3
-    word-requires-3
+    (λ c. search needs) (λ c. search needs) (λ c κs. search needs) (λ c. search needs) (λ c κs. search needs)
+    (λ c. search needs) (λ c κs. search needs) (λ c. search needs) (λ c κs. search needs)
     put-cord-requires
-    add-k
-    loop-less
+    (λ c. search needs) (λ c. search needs)
     loop-again
-    same-length
+    (λ c. search needs)
     returns)

@@ -5,15 +5,6 @@ use borrow.Author.Needs.{needs}
 use Rattle.print.proofs.put_figure.Statement.{statement}
 use Rattle.print.proofs.put_figure.Tie as tie
 
-put-requires : tie.Need-put-requires
-put-requires c κs = search needs
-
-put-decimal-requires : tie.Need-put-decimal-requires
-put-decimal-requires c κs = search needs
-
-same-length : tie.Need-same-length
-same-length c = search needs
-
 returns : tie.Need-returns
 unfolding labelled
 returns c =
@@ -22,4 +13,4 @@ returns c =
     then (word .put .ensures) (figure .put-decimal .ensures)
 
 pub put-figure-spec : {M : Type 1} → statement M
-put-figure-spec = tie.close (tie.spec put-requires put-decimal-requires same-length returns)
+put-figure-spec = tie.close (tie.spec (λ c κs. search needs) (λ c κs. search needs) (λ c. search needs) returns)

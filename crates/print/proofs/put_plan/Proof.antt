@@ -5,15 +5,6 @@ use borrow.Author.Needs.{needs}
 use Rattle.print.proofs.put_plan.Statement.{statement}
 use Rattle.print.proofs.put_plan.Tie as tie
 
-put-freed-requires : tie.Need-put-freed-requires
-put-freed-requires c κs = search needs
-
-put-servers-requires : tie.Need-put-servers-requires
-put-servers-requires c κs = search needs
-
-same-length : tie.Need-same-length
-same-length c = search needs
-
 returns : tie.Need-returns
 unfolding planPrint
 returns c =
@@ -23,4 +14,4 @@ returns c =
     (put, counts put)
 
 pub put-plan-spec : {M : Type 1} → statement M
-put-plan-spec = tie.close (tie.spec put-freed-requires put-servers-requires same-length returns)
+put-plan-spec = tie.close (tie.spec (λ c κs. search needs) (λ c κs. search needs) (λ c. search needs) returns)

@@ -16,32 +16,8 @@ Inv-loop servers cords caps grants headroom held buffer₀ start count first₀ 
 abbrev μ-loop : tie.MeasureT-loop
 μ-loop servers cords caps grants headroom held buffer₀ start count first₀ next₀ v₀ buffer first next v = count - v
 
-least-requires : tie.Need-least-requires Inv-loop μ-loop
-least-requires c κs = search needs
-
 loop-holds : tie.Need-loop-holds Inv-loop μ-loop
 loop-holds c = walking-first _ _ _ _ _ _ _ (search needs) (omega arith)
-
-mul-word-index : tie.Need-mul-word-index Inv-loop μ-loop
-mul-word-index c = search needs
-
-index-1-word-index : tie.Need-index-1-word-index Inv-loop μ-loop
-index-1-word-index c = search needs
-
-index-2-word-index : tie.Need-index-2-word-index Inv-loop μ-loop
-index-2-word-index c = search needs
-
-word-index-requires : tie.Need-word-index-requires Inv-loop μ-loop
-word-index-requires c κs = search needs
-
-least-requires-2 : tie.Need-least-requires-2 Inv-loop μ-loop
-least-requires-2 c κs = search needs
-
-add-put-server : tie.Need-add-put-server Inv-loop μ-loop
-add-put-server c = search needs
-
-word-requires : tie.Need-word-requires Inv-loop μ-loop
-word-requires c κs = search needs
 
 -- Earlier steps, each seen from a later one.
 abbrev in-loop-from-word : tie.After-word Inv-loop μ-loop → tie.In-loop Inv-loop μ-loop
@@ -49,18 +25,6 @@ in-loop-from-word c = c .before .before .before .before
 
 put-server-requires : tie.Need-put-server-requires Inv-loop μ-loop
 put-server-requires c κs = putting-within (in-loop-from-word (c .before) .before .loop .inv .put)
-
-put-cords-requires : tie.Need-put-cords-requires Inv-loop μ-loop
-put-cords-requires c κs = search needs
-
-add-first : tie.Need-add-first Inv-loop μ-loop
-add-first c = search needs
-
-add-v : tie.Need-add-v Inv-loop μ-loop
-add-v c = search needs
-
-loop-less : tie.Need-loop-less Inv-loop μ-loop
-loop-less c = search needs
 
 loop-again : tie.Need-loop-again Inv-loop μ-loop
 loop-again c =
@@ -85,20 +49,12 @@ put-servers-spec =
     (tie.spec
     Inv-loop
     μ-loop
-    least-requires
+    (λ c κs. search needs)
     loop-holds
-    mul-word-index
-    index-1-word-index
-    index-2-word-index
-    word-index-requires
-    least-requires-2
-    add-put-server
-    word-requires
+    (λ c. search needs) (λ c. search needs) (λ c. search needs) (λ c κs. search needs) (λ c κs. search needs)
+    (λ c. search needs) (λ c κs. search needs)
     put-server-requires
-    put-cords-requires
-    add-first
-    add-v
-    loop-less
+    (λ c κs. search needs) (λ c. search needs) (λ c. search needs) (λ c. search needs)
     loop-again
     same-length
     returns)

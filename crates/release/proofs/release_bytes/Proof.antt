@@ -9,18 +9,6 @@ use Rattle.release.proofs.release_bytes.Tie as tie
 returns : tie.Need-returns
 returns c = call-short _ _ _ (omega arith) tt
 
-least-requires : tie.Need-least-requires
-least-requires c κs = search needs
-
-release-number-requires : tie.Need-release-number-requires
-release-number-requires c κs = search needs
-
-store-long-answer-requires : tie.Need-store-long-answer-requires
-store-long-answer-requires c κs = search needs
-
-same-length : tie.Need-same-length
-same-length c = search needs
-
 returns-2 : tie.Need-returns-2
 returns-2 c =
     let stored = c .before .before in
@@ -32,8 +20,5 @@ release-bytes-spec =
     tie.close
     (tie.spec
     returns
-    least-requires
-    release-number-requires
-    store-long-answer-requires
-    same-length
+    (λ c κs. search needs) (λ c κs. search needs) (λ c κs. search needs) (λ c. search needs)
     returns-2)

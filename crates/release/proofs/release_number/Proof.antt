@@ -9,24 +9,6 @@ use Rattle.release.proofs.Marks.{shown-at}
 use Rattle.release.proofs.release_number.Statement.{statement}
 use Rattle.release.proofs.release_number.Tie as tie
 
-slice-aggregate-show-mark : tie.Need-slice-aggregate-show-mark
-slice-aggregate-show-mark c = search needs
-
-show-mark-requires : tie.Need-show-mark-requires
-show-mark-requires c κs = search needs
-
-array-read-decimal-of : tie.Need-array-read-decimal-of
-array-read-decimal-of c = search needs
-
-array-read-decimal-of-2 : tie.Need-array-read-decimal-of-2
-array-read-decimal-of-2 c = search needs
-
-array-read-decimal-of-3 : tie.Need-array-read-decimal-of-3
-array-read-decimal-of-3 c = search needs
-
-array-read-decimal-of-4 : tie.Need-array-read-decimal-of-4
-array-read-decimal-of-4 c = search needs
-
 -- What the text has at a place of the mark that is shown.
 digit : (c : tie.After-text2) (i : ℕ) → i < 20 → getD (c .before .show-mark .last .1 .0) i 0 ≡ getD mark i 0
 digit c i h =
@@ -46,11 +28,7 @@ pub release-number-spec : {M : Type 1} → statement M
 release-number-spec =
     tie.close
     (tie.spec
-    slice-aggregate-show-mark
-    show-mark-requires
-    array-read-decimal-of
-    array-read-decimal-of-2
-    array-read-decimal-of-3
-    array-read-decimal-of-4
+    (λ c. search needs) (λ c κs. search needs) (λ c. search needs) (λ c. search needs) (λ c. search needs)
+    (λ c. search needs)
     decimal-of-requires
     returns)

@@ -19,30 +19,12 @@ abbrev μ-loop : tie.MeasureT-loop
 loop-holds : tie.Need-loop-holds Inv-loop μ-loop
 loop-holds c = (omega arith, refl, refl)
 
-cast-mark-byte : tie.Need-cast-mark-byte Inv-loop μ-loop
-cast-mark-byte c = search needs
-
-mark-byte-requires : tie.Need-mark-byte-requires Inv-loop μ-loop
-mark-byte-requires c κs = search needs
-
-slice-write-text : tie.Need-slice-write-text Inv-loop μ-loop
-slice-write-text c = search needs
-
-add-i : tie.Need-add-i Inv-loop μ-loop
-add-i c = search needs
-
-loop-less : tie.Need-loop-less Inv-loop μ-loop
-loop-less c = search needs
-
 loop-again : tie.Need-loop-again Inv-loop μ-loop
 loop-again c =
     let at = c .before .before in
     let args = at .before .before .args in
     let turn = sets-turn (args .text .now) mark (at .loop .i) 0 (omega arith) in
     (omega arith, (cc), simp length-set (omega arith))
-
-same-length : tie.Need-same-length Inv-loop μ-loop
-same-length c = search needs
 
 returns : tie.Need-returns Inv-loop μ-loop
 returns c =
@@ -52,4 +34,4 @@ returns c =
     rw (← all) (at .loop .inv .1)
 
 pub show-mark-spec : {M : Type 1} → statement M
-show-mark-spec = tie.close (tie.spec Inv-loop μ-loop loop-holds cast-mark-byte mark-byte-requires slice-write-text add-i loop-less loop-again same-length returns)
+show-mark-spec = tie.close (tie.spec Inv-loop μ-loop loop-holds (λ c. search needs) (λ c κs. search needs) (λ c. search needs) (λ c. search needs) (λ c. search needs) loop-again (λ c. search needs) returns)

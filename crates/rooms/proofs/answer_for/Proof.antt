@@ -5,17 +5,8 @@ use borrow.Author.Needs.{needs}
 use Rattle.rooms.proofs.answer_for.Statement.{statement}
 use Rattle.rooms.proofs.answer_for.Tie as tie
 
-check-requires : tie.Need-check-requires
-check-requires c κs = search needs
-
-enum-known-checked : tie.Need-enum-known-checked
-enum-known-checked c = search needs
-
 returns : tie.Need-returns
 returns c = table-refused _ _ (refused-so _ _ (c .before .before .before .check .ensures) (c .before .checked .given .1))
-
-enum-told : tie.Need-enum-told
-enum-told c = search needs
 
 returns-2 : tie.Need-returns-2
 returns-2 c = table-short _ _ (known _ _ (c .before .before .before .check .ensures) (c .before .enum-told .given .1) .is) (c .if1 .taken)
@@ -25,4 +16,4 @@ returns-3 c = table-accepted _ _ (known _ _ (c .before .before .before .check .e
 
 pub answer-for-spec : {M : Type 1} → statement M
 answer-for-spec =
-    tie.close (tie.spec check-requires enum-known-checked returns enum-told returns-2 returns-3)
+    tie.close (tie.spec (λ c κs. search needs) (λ c. search needs) returns (λ c. search needs) returns-2 returns-3)

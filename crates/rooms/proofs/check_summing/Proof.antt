@@ -17,12 +17,6 @@ use Rattle.rooms.proofs.check_summing.Tie as tie
 check-table-requires : tie.Need-check-table-requires
 check-table-requires c κs = all-zeros _ _ (c .before .before .pre)
 
-enum-known-words : tie.Need-enum-known-words
-enum-known-words c = search needs
-
-enum-told : tie.Need-enum-told
-enum-told c = search needs
-
 returns : tie.Need-returns
 unfolding checked
 returns c = unclaimed _ (stop _ _ _ _ (c .before .before .check-table .ensures .0) (c .enum-told .given .1)) (c .enum-told .given .1)
@@ -62,8 +56,7 @@ check-summing-spec =
     tie.close
     (tie.spec
     check-table-requires
-    enum-known-words
-    enum-told
+    (λ c. search needs) (λ c. search needs)
     returns
     overloaded-requires
     returns-2

@@ -9,18 +9,6 @@ use borrow.Author.Needs.{needs}
 use Rattle.rooms.proofs.read_by.Statement.{statement}
 use Rattle.rooms.proofs.read_by.Tie as tie
 
-read-words-requires : tie.Need-read-words-requires
-read-words-requires c κs = search needs
-
-enum-known-read : tie.Need-enum-known-read
-enum-known-read c = search needs
-
-enum-told : tie.Need-enum-told
-enum-told c = search needs
-
-same-length : tie.Need-same-length
-same-length c = search needs
-
 abbrev call : tie.After-slice-known3 → tie.After-read-words
 call c = c .before .before
 
@@ -49,15 +37,6 @@ slice-reshare-prefix-copy c = omega (arith, stands c .fits)
 slice-aggregate-copy : tie.Need-slice-aggregate-copy
 slice-aggregate-copy c = sym (length-take-le _ (read (c .before) .read-words .last .1 .0) (slice-reshare-prefix-copy (c .before)))
 
-copy-requires : tie.Need-copy-requires
-copy-requires c κs = search needs
-
-same-length-2 : tie.Need-same-length-2
-same-length-2 c = search needs
-
-same-length-3 : tie.Need-same-length-3
-same-length-3 c = search needs
-
 returns-2 : tie.Need-returns-2
 returns-2 c =
     let copied = c .before .before in
@@ -68,14 +47,9 @@ pub read-by-spec : {M : Type 1} → statement M
 read-by-spec =
     tie.close
     (tie.spec
-    read-words-requires
-    enum-known-read
-    enum-told
-    same-length
+    (λ c κs. search needs) (λ c. search needs) (λ c. search needs) (λ c. search needs)
     returns
     slice-reshare-prefix-copy
     slice-aggregate-copy
-    copy-requires
-    same-length-2
-    same-length-3
+    (λ c κs. search needs) (λ c. search needs) (λ c. search needs)
     returns-2)

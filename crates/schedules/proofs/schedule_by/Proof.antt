@@ -6,12 +6,6 @@ use Rattle.schedules.proofs.TableLaws.{count-fits, copied}
 use Rattle.schedules.proofs.schedule_by.Statement.{statement}
 use Rattle.schedules.proofs.schedule_by.Tie as tie
 
-schedule-words-requires : tie.Need-schedule-words-requires
-schedule-words-requires c κs = search needs
-
-written-count-requires : tie.Need-written-count-requires
-written-count-requires c κs = search needs
-
 slice-reshare-prefix-copy : tie.Need-slice-reshare-prefix-copy
 slice-reshare-prefix-copy c =
     let call = c .before .before .before .schedule-words .ensures in
@@ -19,15 +13,6 @@ slice-reshare-prefix-copy c =
 
 slice-aggregate-copy : tie.Need-slice-aggregate-copy
 slice-aggregate-copy c = sym (length-take-le _ _ (slice-reshare-prefix-copy (c .before)))
-
-copy-requires : tie.Need-copy-requires
-copy-requires c κs = search needs
-
-same-length : tie.Need-same-length
-same-length c = search needs
-
-same-length-2 : tie.Need-same-length-2
-same-length-2 c = search needs
 
 returns : tie.Need-returns
 returns c =
@@ -40,11 +25,8 @@ pub schedule-by-spec : {M : Type 1} → statement M
 schedule-by-spec =
     tie.close
     (tie.spec
-    schedule-words-requires
-    written-count-requires
+    (λ c κs. search needs) (λ c κs. search needs)
     slice-reshare-prefix-copy
     slice-aggregate-copy
-    copy-requires
-    same-length
-    same-length-2
+    (λ c κs. search needs) (λ c. search needs) (λ c. search needs)
     returns)

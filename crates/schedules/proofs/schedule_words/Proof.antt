@@ -6,18 +6,6 @@ use Rattle.schedules.proofs.TableLaws.{Whole, whole-so, whole-few, line
 use Rattle.schedules.proofs.schedule_words.Statement.{statement}
 use Rattle.schedules.proofs.schedule_words.Tie as tie
 
-read-lines-requires : tie.Need-read-lines-requires
-read-lines-requires c κs = search needs
-
-enum-known-counted : tie.Need-enum-known-counted
-enum-known-counted c = search needs
-
-enum-known-counted-2 : tie.Need-enum-known-counted-2
-enum-known-counted-2 c = search needs
-
-same-length : tie.Need-same-length
-same-length c = search needs
-
 -- The call that reads the lines.
 abbrev read : tie.After-slice-known2 → tie.After-read-lines
 read c = c .before .before
@@ -28,9 +16,6 @@ returns c = line-refused _ _ _ (read (c .before .before .before) .read-lines .en
 -- The lines end with the text.
 lines-whole : (c : tie.After-known-told) → Whole (read (c .before .before .before) .before .before .before .before .args .text .now) (c .before .counted .given .0 .0)
 lines-whole c = whole-so _ (read (c .before .before .before) .read-lines .ensures .0) (c .before .counted .given .1)
-
-same-length-2 : tie.Need-same-length-2
-same-length-2 c = search needs
 
 returns-2 : tie.Need-returns-2
 returns-2 c = no-lines _ _ (lines-whole (c .before)) _ (search needs)
@@ -44,14 +29,8 @@ add-servers c = omega (arith, whole-few (lines-whole (c .before)))
 add-t15 : tie.Need-add-t15
 add-t15 c = omega (arith, whole-few (lines-whole (c .before .before)))
 
-same-length-3 : tie.Need-same-length-3
-same-length-3 c = search needs
-
 returns-3 : tie.Need-returns-3
 returns-3 c = too-short _ _ (lines-whole (c .before .before)) (c .before .if1 .left) _ (c .if2 .taken)
-
-slice-write-words : tie.Need-slice-write-words
-slice-write-words c = search needs
 
 cast-words : tie.Need-cast-words
 cast-words c = omega (arith, whole-few (lines-whole (c .before .before)))
@@ -67,12 +46,6 @@ slice-write-words-3 c =
     let few = whole-few (lines-whole (c .before .before)) in
     simp length-set (search needs)
 
-add-t14 : tie.Need-add-t14
-add-t14 c = search needs
-
-same-length-4 : tie.Need-same-length-4
-same-length-4 c = search needs
-
 returns-4 : tie.Need-returns-4
 returns-4 c =
     let known = c .before .before in
@@ -83,23 +56,19 @@ pub schedule-words-spec : {M : Type 1} → statement M
 schedule-words-spec =
     tie.close
     (tie.spec
-    read-lines-requires
-    enum-known-counted
-    enum-known-counted-2
-    same-length
+    (λ c κs. search needs) (λ c. search needs) (λ c. search needs) (λ c. search needs)
     returns
-    same-length-2
+    (λ c. search needs)
     returns-2
     mul-servers
     add-servers
     add-t15
-    same-length-3
+    (λ c. search needs)
     returns-3
-    slice-write-words
+    (λ c. search needs)
     cast-words
     slice-write-words-2
     mul-words
     slice-write-words-3
-    add-t14
-    same-length-4
+    (λ c. search needs) (λ c. search needs)
     returns-4)

@@ -8,9 +8,6 @@ use borrow.Author.Needs.{needs}
 use Rattle.sender.proofs.answer_for.Statement.{statement}
 use Rattle.sender.proofs.answer_for.Tie as tie
 
-out-of-range-requires : tie.Need-out-of-range-requires
-out-of-range-requires c κs = search needs
-
 returns : tie.Need-returns
 returns c =
     let args = c .before .before .args in
@@ -21,9 +18,6 @@ returns-2 c =
     let tested = c .before .before in
     let args = tested .before .args in
     sym (ap answerOf (sending-out-of-range (args .count) (args .position) (args .m) (args .space) (omega arith) (sym (tested .out-of-range .ensures) ∙ c .if2 .taken)))
-
-least-requires : tie.Need-least-requires
-least-requires c κs = search needs
 
 -- Past the second test the position and the count are in range.
 abbrev inside : (c : tie.Else2) → not (inRange (c .before .before .before .args .count) (c .before .before .before .args .position)) ≡ false
@@ -52,10 +46,10 @@ pub answer-for-spec : {M : Type 1} → statement M
 answer-for-spec =
     tie.close
     (tie.spec
-    out-of-range-requires
+    (λ c κs. search needs)
     returns
     returns-2
-    least-requires
+    (λ c κs. search needs)
     returns-3
     position-after-requires
     returns-4)

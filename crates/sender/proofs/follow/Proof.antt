@@ -5,12 +5,6 @@ use borrow.Author.Needs.{needs}
 use Rattle.sender.proofs.follow.Statement.{statement}
 use Rattle.sender.proofs.follow.Tie as tie
 
-add-if1 : tie.Need-add-if1
-add-if1 c = search needs
-
-add-result : tie.Need-add-result
-add-result c = search needs
-
 returns : tie.Need-returns
 returns c =
     let args = c .before .args in
@@ -22,4 +16,4 @@ returns-2 c =
     (omega (arith, following-last (args .count) (args .server) (omega arith)), omega arith)
 
 pub follow-spec : {M : Type 1} → statement M
-follow-spec = tie.close (tie.spec add-if1 add-result returns returns-2)
+follow-spec = tie.close (tie.spec (λ c. search needs) (λ c. search needs) returns returns-2)

@@ -26,24 +26,6 @@ loop-holds : tie.Need-loop-holds Inv-loop μ-loop
 unfolding positionAfter
 loop-holds c = (omega arith, refl, refl, omega arith, refl, refl)
 
-cast-list : tie.Need-cast-list Inv-loop μ-loop
-cast-list c = search needs
-
-mul-list : tie.Need-mul-list Inv-loop μ-loop
-mul-list c = search needs
-
-slice-write-list : tie.Need-slice-write-list Inv-loop μ-loop
-slice-write-list c = search needs
-
-follow-requires : tie.Need-follow-requires Inv-loop μ-loop
-follow-requires c κs = search needs
-
-add-i : tie.Need-add-i Inv-loop μ-loop
-add-i c = search needs
-
-loop-less : tie.Need-loop-less Inv-loop μ-loop
-loop-less c = search needs
-
 loop-again : tie.Need-loop-again Inv-loop μ-loop
 loop-again c =
     let at = c .before .before in
@@ -51,9 +33,6 @@ loop-again c =
     let turn = name-turn (args .count) (args .position) (args .list .now) (at .loop .i) (omega arith) in
     let moved = positionAfter-suc (args .count) (args .position) (at .loop .i) in
     (omega arith, refl, simp length-set (omega arith), c .follow .ensures .1, (cc), (cc))
-
-same-length : tie.Need-same-length Inv-loop μ-loop
-same-length c = search needs
 
 returns : tie.Need-returns Inv-loop μ-loop
 returns c =
@@ -69,12 +48,8 @@ name-servers-spec =
     Inv-loop
     μ-loop
     loop-holds
-    cast-list
-    mul-list
-    slice-write-list
-    follow-requires
-    add-i
-    loop-less
+    (λ c. search needs) (λ c. search needs) (λ c. search needs) (λ c κs. search needs) (λ c. search needs)
+    (λ c. search needs)
     loop-again
-    same-length
+    (λ c. search needs)
     returns)

@@ -6,12 +6,6 @@ use borrow.Author.Needs.{needs}
 use Rattle.sender.proofs.position_after.Statement.{statement}
 use Rattle.sender.proofs.position_after.Tie as tie
 
-sub-left : tie.Need-sub-left
-sub-left c = search needs
-
-add-result : tie.Need-add-result
-add-result c = search needs
-
 returns : tie.Need-returns
 returns c =
     let args = c .before .args in
@@ -23,4 +17,4 @@ returns-2 c =
     sym (positionAfter-round (args .count) (args .position) (args .named) (omega arith) (omega arith) (omega arith))
 
 pub position-after-spec : {M : Type 1} → statement M
-position-after-spec = tie.close (tie.spec sub-left add-result returns returns-2)
+position-after-spec = tie.close (tie.spec (λ c. search needs) (λ c. search needs) returns returns-2)

@@ -7,15 +7,6 @@ use borrow.Author.Needs.{needs}
 use Rattle.sender.proofs.send.Statement.{statement}
 use Rattle.sender.proofs.send.Tie as tie
 
-answer-for-requires : tie.Need-answer-for-requires
-answer-for-requires c κs = search needs
-
-enum-known-sent : tie.Need-enum-known-sent
-enum-known-sent c = search needs
-
-enum-told : tie.Need-enum-told
-enum-told c = search needs
-
 returns : tie.Need-returns
 returns c =
     let call = c .before .before in
@@ -40,9 +31,6 @@ slice-aggregate-name-servers c = sym (length-take-le _ _ (told (c .before .befor
 name-servers-requires : tie.Need-name-servers-requires
 name-servers-requires c κs = (told (c .before .before) .inside .below, told (c .before .before) .inside .most)
 
-same-length : tie.Need-same-length
-same-length c = search needs
-
 returns-2 : tie.Need-returns-2
 returns-2 c =
     let call = c .before .before in
@@ -56,12 +44,10 @@ pub send-spec : {M : Type 1} → statement M
 send-spec =
     tie.close
     (tie.spec
-    answer-for-requires
-    enum-known-sent
-    enum-told
+    (λ c κs. search needs) (λ c. search needs) (λ c. search needs)
     returns
     slice-relend-prefix-name-servers
     slice-aggregate-name-servers
     name-servers-requires
-    same-length
+    (λ c. search needs)
     returns-2)

@@ -14,21 +14,6 @@ use Rattle.sender.proofs.send_by.Tie as tie
 returns : tie.Need-returns
 returns c = call-short _ _ _ (omega arith) refl
 
-answer-for-requires : tie.Need-answer-for-requires
-answer-for-requires c κs = search needs
-
-tell-requires : tie.Need-tell-requires
-tell-requires c κs = search needs
-
-enum-known-sent : tie.Need-enum-known-sent
-enum-known-sent c = search needs
-
-enum-told : tie.Need-enum-told
-enum-told c = search needs
-
-same-length : tie.Need-same-length
-same-length c = search needs
-
 abbrev begun : tie.After-answer-for → tie.Start
 begun c = let tested = c .before in tested .before .before .before .before
 
@@ -76,18 +61,6 @@ slice-reshare-prefix-store c =
 slice-aggregate-store : tie.Need-slice-aggregate-store
 slice-aggregate-store c = sym (length-take-le _ _ (slice-reshare-prefix-store (c .before)))
 
-store-requires : tie.Need-store-requires
-store-requires c κs = search needs
-
-same-length-2 : tie.Need-same-length-2
-same-length-2 c = search needs
-
-same-length-3 : tie.Need-same-length-3
-same-length-3 c = search needs
-
-same-length-4 : tie.Need-same-length-4
-same-length-4 c = search needs
-
 returns-3 : tie.Need-returns-3
 returns-3 c =
     let store = c .before .before in
@@ -104,19 +77,12 @@ send-by-spec =
     tie.close
     (tie.spec
     returns
-    answer-for-requires
-    tell-requires
-    enum-known-sent
-    enum-told
-    same-length
+    (λ c κs. search needs) (λ c κs. search needs) (λ c. search needs) (λ c. search needs) (λ c. search needs)
     returns-2
     slice-relend-prefix-name-servers
     slice-aggregate-name-servers
     name-servers-requires
     slice-reshare-prefix-store
     slice-aggregate-store
-    store-requires
-    same-length-2
-    same-length-3
-    same-length-4
+    (λ c κs. search needs) (λ c. search needs) (λ c. search needs) (λ c. search needs)
     returns-3)

@@ -11,37 +11,10 @@ use Rattle.sheet_bytes.proofs.write_by.Tie as tie
 returns : tie.Need-returns
 returns c = call-short _ _ _ (omega arith) refl
 
-load-requires : tie.Need-load-requires
-load-requires c κs = search needs
-
-slice-reshare-prefix-write : tie.Need-slice-reshare-prefix-write
-slice-reshare-prefix-write c = search needs
-
 slice-aggregate-write : tie.Need-slice-aggregate-write
 slice-aggregate-write c =
     let load = c .before .before .before .load .ensures in
     loaded-length _ _ (load .0) (load .1)
-
-write-requires : tie.Need-write-requires
-write-requires c κs = search needs
-
-number-requires : tie.Need-number-requires
-number-requires c κs = search needs
-
-figure-requires : tie.Need-figure-requires
-figure-requires c κs = search needs
-
-store-answer-requires : tie.Need-store-answer-requires
-store-answer-requires c κs = search needs
-
-same-length : tie.Need-same-length
-same-length c = search needs
-
-same-length-2 : tie.Need-same-length-2
-same-length-2 c = search needs
-
-same-length-3 : tie.Need-same-length-3
-same-length-3 c = search needs
 
 returns-2 : tie.Need-returns-2
 returns-2 c =
@@ -64,14 +37,8 @@ write-by-spec =
     tie.close
     (tie.spec
     returns
-    load-requires
-    slice-reshare-prefix-write
+    (λ c κs. search needs) (λ c. search needs)
     slice-aggregate-write
-    write-requires
-    number-requires
-    figure-requires
-    store-answer-requires
-    same-length
-    same-length-2
-    same-length-3
+    (λ c κs. search needs) (λ c κs. search needs) (λ c κs. search needs) (λ c κs. search needs)
+    (λ c. search needs) (λ c. search needs) (λ c. search needs)
     returns-2)

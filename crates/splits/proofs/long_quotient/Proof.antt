@@ -8,18 +8,9 @@ use Rattle.splits.proofs.Ways.{quotientIn-is}
 use Rattle.splits.proofs.long_quotient.Statement.{statement}
 use Rattle.splits.proofs.long_quotient.Tie as tie
 
-wide-requires : tie.Need-wide-requires
-wide-requires c κs = search needs
-
 mul-narrow : tie.Need-mul-narrow
 mul-narrow c =
     record { fits = rw (c .wide .ensures .0) (lt-of-le-of-lt (mul-le-mul-left _ (c .before .pre .0)) (c .before .pre .1)) }
-
-greater-requires : tie.Need-greater-requires
-greater-requires c κs = search needs
-
-div-narrow : tie.Need-div-narrow
-div-narrow c = search needs
 
 narrow-requires : tie.Need-narrow-requires
 narrow-requires c κs =
@@ -41,4 +32,4 @@ returns c =
 pub long-quotient-spec : {M : Type 1} → statement M
 long-quotient-spec =
     tie.close
-    (tie.spec wide-requires mul-narrow greater-requires div-narrow narrow-requires returns)
+    (tie.spec (λ c κs. search needs) mul-narrow (λ c κs. search needs) (λ c. search needs) narrow-requires returns)

@@ -7,21 +7,6 @@ use Rattle.splits.proofs.Ways.{quotientIn-is, short-fits}
 use Rattle.splits.proofs.quotient.Statement.{statement}
 use Rattle.splits.proofs.quotient.Tie as tie
 
-wide-requires : tie.Need-wide-requires
-wide-requires c κs = search needs
-
-greater-requires : tie.Need-greater-requires
-greater-requires c κs = search needs
-
-narrow-requires : tie.Need-narrow-requires
-narrow-requires c κs = search needs
-
-narrow-requires-2 : tie.Need-narrow-requires-2
-narrow-requires-2 c κs = search needs
-
-short-quotient-requires : tie.Need-short-quotient-requires
-short-quotient-requires c κs = search needs
-
 returns : tie.Need-returns
 returns c =
     let short = c .before .before .before in
@@ -33,9 +18,6 @@ returns c =
     ∙ ap₂ (quotientIn 32 (args .amount)) (c .before .before .narrow .ensures) (c .before .narrow2 .ensures)
     ∙ quotientIn-is 32 (args .amount) (args .upto) (args .whole) (start .pre .0) (short-fits (args .amount) (args .whole) (omega (arith, greater, short .if1 .taken, wide .0)) (omega (arith, greater, short .if1 .taken, wide .0)))
 
-long-quotient-requires : tie.Need-long-quotient-requires
-long-quotient-requires c κs = search needs
-
 returns-2 : tie.Need-returns-2
 returns-2 c =
     let start = c .before .before .before .before in
@@ -45,11 +27,8 @@ pub quotient-spec : {M : Type 1} → statement M
 quotient-spec =
     tie.close
     (tie.spec
-    wide-requires
-    greater-requires
-    narrow-requires
-    narrow-requires-2
-    short-quotient-requires
+    (λ c κs. search needs) (λ c κs. search needs) (λ c κs. search needs) (λ c κs. search needs)
+    (λ c κs. search needs)
     returns
-    long-quotient-requires
+    (λ c κs. search needs)
     returns-2)

@@ -12,12 +12,6 @@ mul-result : tie.Need-mul-result
 mul-result c =
     record { fits = lt-of-le-of-lt (mul-le-mul-left (c .args .amount) (c .pre .2)) (short-fits (c .args .amount) (c .args .whole) (c .pre .0) (c .pre .1)) }
 
-short-greater-requires : tie.Need-short-greater-requires
-short-greater-requires c κs = search needs
-
-div-result : tie.Need-div-result
-div-result c = search needs
-
 returns : tie.Need-returns
 returns c =
     let amount = c .before .args .amount in
@@ -29,4 +23,4 @@ returns c =
     ∙ sym (quotientIn-is 32 amount upto whole (pre .2) (short-fits amount whole (pre .0) (pre .1)))
 
 pub short-quotient-spec : {M : Type 1} → statement M
-short-quotient-spec = tie.close (tie.spec mul-result short-greater-requires div-result returns)
+short-quotient-spec = tie.close (tie.spec mul-result (λ c κs. search needs) (λ c. search needs) returns)

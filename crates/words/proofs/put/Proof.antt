@@ -25,30 +25,12 @@ loop-holds c =
     let left : c .args .count - 0 ≡ c .args .count = omega arith in
     (omega arith, rw (start, left), refl)
 
-cast-bytes : tie.Need-cast-bytes Inv-loop μ-loop
-cast-bytes c = search needs
-
-add-bytes : tie.Need-add-bytes Inv-loop μ-loop
-add-bytes c = search needs
-
-slice-write-bytes : tie.Need-slice-write-bytes Inv-loop μ-loop
-slice-write-bytes c = search needs
-
-add-i : tie.Need-add-i Inv-loop μ-loop
-add-i c = search needs
-
-loop-less : tie.Need-loop-less Inv-loop μ-loop
-loop-less c = search needs
-
 loop-again : tie.Need-loop-again Inv-loop μ-loop
 loop-again c =
     let at = c .before in
     let args = at .before .args in
     let turn = sets-littleEndian-turn (at .loop .bytes) (args .at) (at .loop .i) (args .count) (at .loop .rest) (omega arith) in
     (omega arith, (cc), simp length-set (omega arith))
-
-same-length : tie.Need-same-length Inv-loop μ-loop
-same-length c = search needs
 
 returns : tie.Need-returns Inv-loop μ-loop
 unfolding littleEndian
@@ -64,11 +46,7 @@ put-spec =
     Inv-loop
     μ-loop
     loop-holds
-    cast-bytes
-    add-bytes
-    slice-write-bytes
-    add-i
-    loop-less
+    (λ c. search needs) (λ c. search needs) (λ c. search needs) (λ c. search needs) (λ c. search needs)
     loop-again
-    same-length
+    (λ c. search needs)
     returns)

@@ -13,19 +13,10 @@ returns c =
     let args = c .before .before .args in
     sym (numberStored-short (args .number) (args .bytes .now) (args .at) (omega arith))
 
-sub-if2 : tie.Need-sub-if2
-sub-if2 c = search needs
-
 returns-2 : tie.Need-returns-2
 returns-2 c =
     let args = c .before .before .before .args in
     sym (numberStored-short (args .number) (args .bytes .now) (args .at) (omega arith))
-
-put-requires : tie.Need-put-requires
-put-requires c κs = search needs
-
-same-length : tie.Need-same-length
-same-length c = search needs
 
 returns-3 : tie.Need-returns-3
 returns-3 c =
@@ -37,4 +28,4 @@ returns-3 c =
 
 pub store-number-spec : {M : Type 1} → statement M
 store-number-spec =
-    tie.close (tie.spec returns sub-if2 returns-2 put-requires same-length returns-3)
+    tie.close (tie.spec returns (λ c. search needs) returns-2 (λ c κs. search needs) (λ c. search needs) returns-3)

@@ -5,11 +5,8 @@ use Rattle.control.specs.Step.{ac}
 use Rattle.control.proofs.AcWatts.lesser.Statement.{statement}
 use Rattle.control.proofs.AcWatts.lesser.Tie as tie
 
-lesser-requires : tie.Need-lesser-requires
-lesser-requires c κs = search needs
-
 returns : tie.Need-returns
 returns c = ap ac (c .lesser .ensures)
 
 pub lesser-spec : {M : Type 1} → statement M
-lesser-spec = tie.close (tie.spec lesser-requires returns)
+lesser-spec = tie.close (tie.spec (λ c κs. search needs) returns)

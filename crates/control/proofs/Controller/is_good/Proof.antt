@@ -7,18 +7,9 @@ use Rattle.control.proofs.Tests.{and-true, false-and, was-true, was-fal
 use Rattle.control.proofs.Controller.is_good.Statement.{statement}
 use Rattle.control.proofs.Controller.is_good.Tie as tie
 
-is-efficiency-requires : tie.Need-is-efficiency-requires
-is-efficiency-requires c κs = search needs
-
 returns : tie.Need-returns
 unfolding goodController
 returns c = false-and _ (was-false (c .before .is-efficiency .ensures) (c .if1 .taken))
-
-ordered-requires : tie.Need-ordered-requires
-ordered-requires c κs = search needs
-
-ordered-requires-2 : tie.Need-ordered-requires-2
-ordered-requires-2 c κs = search needs
 
 returns-2 : tie.Need-returns-2
 unfolding goodController ofBits
@@ -35,4 +26,4 @@ returns-3 c =
     (c .if2 .left ∙ false-and _ (sym (left .ordered .ensures) ∙ c .if2 .left))
 
 pub is-good-spec : {M : Type 1} → statement M
-is-good-spec = tie.close (tie.spec is-efficiency-requires returns ordered-requires ordered-requires-2 returns-2 returns-3)
+is-good-spec = tie.close (tie.spec (λ c κs. search needs) returns (λ c κs. search needs) (λ c κs. search needs) returns-2 returns-3)

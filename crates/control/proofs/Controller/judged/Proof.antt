@@ -7,22 +7,13 @@ use Rattle.control.proofs.Tests.{cond-true, cond-false, was-true, was-f
 use Rattle.control.proofs.Controller.judged.Statement.{statement}
 use Rattle.control.proofs.Controller.judged.Tie as tie
 
-is-good-requires : tie.Need-is-good-requires
-is-good-requires c κs = search needs
-
-refused-requires : tie.Need-refused-requires
-refused-requires c κs = search needs
-
 returns : tie.Need-returns
 unfolding judgedFirst
 returns c = c .refused .ensures ∙ cond-false _ _ (was-false (c .before .before .is-good .ensures) (c .before .if1 .taken))
-
-none-requires : tie.Need-none-requires
-none-requires c κs = search needs
 
 returns-2 : tie.Need-returns-2
 unfolding judgedFirst
 returns-2 c = ap Good (c .none .ensures) ∙ cond-true _ _ (was-true (c .before .before .is-good .ensures) (c .before .if1 .left))
 
 pub judged-spec : {M : Type 1} → statement M
-judged-spec = tie.close (tie.spec is-good-requires refused-requires returns none-requires returns-2)
+judged-spec = tie.close (tie.spec (λ c κs. search needs) (λ c κs. search needs) returns (λ c κs. search needs) returns-2)

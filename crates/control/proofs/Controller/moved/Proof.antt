@@ -6,12 +6,6 @@ use Rattle.control.specs.Step.{sum, cut, withCap}
 use Rattle.control.proofs.Controller.moved.Statement.{statement}
 use Rattle.control.proofs.Controller.moved.Tie as tie
 
-dc-change-requires : tie.Need-dc-change-requires
-dc-change-requires c κs = search needs
-
-moved-requires : tie.Need-moved-requires
-moved-requires c κs = search needs
-
 returns : tie.Need-returns
 returns c =
     let change = c .before in
@@ -21,4 +15,4 @@ returns c =
     ∙ ap (λ (d : DcWatts). cut (sum (controller .cap) d) (controller .low) (controller .high)) (change .dc-change .ensures))
 
 pub moved-spec : {M : Type 1} → statement M
-moved-spec = tie.close (tie.spec dc-change-requires moved-requires returns)
+moved-spec = tie.close (tie.spec (λ c κs. search needs) (λ c κs. search needs) returns)

@@ -9,11 +9,8 @@ use Rattle.control.proofs.Controller.moved_by.Tie as tie
 returns : tie.Need-returns
 returns c = cond-true _ _ (eq-eqb _ _ (c .if1 .taken))
 
-moved-requires : tie.Need-moved-requires
-moved-requires c κs = search needs
-
 returns-2 : tie.Need-returns-2
 returns-2 c = c .moved .ensures ∙ cond-false _ _ (ne-eqb _ _ (c .before .before .if1 .left))
 
 pub moved-by-spec : {M : Type 1} → statement M
-moved-by-spec = tie.close (tie.spec returns moved-requires returns-2)
+moved-by-spec = tie.close (tie.spec returns (λ c κs. search needs) returns-2)

@@ -5,11 +5,8 @@ use Rattle.control.specs.Step.{dc}
 use Rattle.control.proofs.DcWatts.cut.Statement.{statement}
 use Rattle.control.proofs.DcWatts.cut.Tie as tie
 
-cut-requires : tie.Need-cut-requires
-cut-requires c κs = search needs
-
 returns : tie.Need-returns
 returns c = ap dc (c .cut .ensures)
 
 pub cut-spec : {M : Type 1} → statement M
-cut-spec = tie.close (tie.spec cut-requires returns)
+cut-spec = tie.close (tie.spec (λ c κs. search needs) returns)

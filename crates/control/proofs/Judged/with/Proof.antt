@@ -7,26 +7,11 @@ use Rattle.control.proofs.Tests.{cond-true, cond-false, was-true, was-f
 use Rattle.control.proofs.Judged.with.Statement.{statement}
 use Rattle.control.proofs.Judged.with.Tie as tie
 
-enum-known-self : tie.Need-enum-known-self
-enum-known-self c = search needs
-
-is-good-requires : tie.Need-is-good-requires
-is-good-requires c κs = search needs
-
-refused-requires : tie.Need-refused-requires
-refused-requires c κs = search needs
-
 returns : tie.Need-returns
 unfolding judgedWith
 returns c =
     let test = c .before .before in
     rw (test .before .before .self .given .1) (c .refused .ensures ∙ cond-false _ _ (was-false (test .is-good .ensures) (c .before .if1 .taken)))
-
-with-requires : tie.Need-with-requires
-with-requires c κs = search needs
-
-enum-told : tie.Need-enum-told
-enum-told c = search needs
 
 returns-2 : tie.Need-returns-2
 unfolding judgedWith
@@ -39,4 +24,4 @@ unfolding judgedWith
 returns-3 c = rw (c .enum-told .given .1) refl
 
 pub with-spec : {M : Type 1} → statement M
-with-spec = tie.close (tie.spec enum-known-self is-good-requires refused-requires returns with-requires enum-told returns-2 returns-3)
+with-spec = tie.close (tie.spec (λ c. search needs) (λ c κs. search needs) (λ c κs. search needs) returns (λ c κs. search needs) (λ c. search needs) returns-2 returns-3)

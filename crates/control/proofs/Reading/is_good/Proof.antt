@@ -4,15 +4,6 @@ use Rattle.control.specs.Step.{goodReading}
 use Rattle.control.proofs.Reading.is_good.Statement.{statement}
 use Rattle.control.proofs.Reading.is_good.Tie as tie
 
-enum-known-self : tie.Need-enum-known-self
-enum-known-self c = search needs
-
-in-range-requires : tie.Need-in-range-requires
-in-range-requires c κs = search needs
-
-enum-told : tie.Need-enum-told
-enum-told c = search needs
-
 returns : tie.Need-returns
 unfolding goodReading
 returns c = rw (c .before .before .self .given .1) (c .in-range .ensures)
@@ -22,4 +13,4 @@ unfolding goodReading
 returns-2 c = rw (c .enum-told .given .1)
 
 pub is-good-spec : {M : Type 1} → statement M
-is-good-spec = tie.close (tie.spec enum-known-self in-range-requires enum-told returns returns-2)
+is-good-spec = tie.close (tie.spec (λ c. search needs) (λ c κs. search needs) (λ c. search needs) returns returns-2)

@@ -8,27 +8,6 @@ use Rattle.control_all.proofs.call.step_all_in_place.Tie as tie
 returns : tie.Need-returns
 returns c = call-short _ _ _ _ (omega arith)
 
-step-all-requires : tie.Need-step-all-requires
-step-all-requires c κs = search needs
-
-number-requires : tie.Need-number-requires
-number-requires c κs = search needs
-
-figure-requires : tie.Need-figure-requires
-figure-requires c κs = search needs
-
-store-answer-requires : tie.Need-store-answer-requires
-store-answer-requires c κs = search needs
-
-same-length : tie.Need-same-length
-same-length c = search needs
-
-same-length-2 : tie.Need-same-length-2
-same-length-2 c = search needs
-
-same-length-3 : tie.Need-same-length-3
-same-length-3 c = search needs
-
 returns-2 : tie.Need-returns-2
 returns-2 c =
     let stored = c .before .before in
@@ -40,4 +19,4 @@ returns-2 c =
     (number .number .ensures) (figure .figure .ensures) (stored .store-answer .ensures)
 
 pub step-all-in-place-spec : {M : Type 1} → statement M
-step-all-in-place-spec = tie.close (tie.spec returns step-all-requires number-requires figure-requires store-answer-requires same-length same-length-2 same-length-3 returns-2)
+step-all-in-place-spec = tie.close (tie.spec returns (λ c κs. search needs) (λ c κs. search needs) (λ c κs. search needs) (λ c κs. search needs) (λ c. search needs) (λ c. search needs) (λ c. search needs) returns-2)

@@ -188,9 +188,6 @@ loop-holds c =
     loop-start (given .0) (given .1) (given .2) (record { full = zeros-rows mostNodes highestRank; blank = λ m j _ _ _. zeros-cells mostNodes highestRank m j })
     list-sized (λ n _. zeros-at figuresLength n) list-sized list-sized list-sized list-sized
 
-sub-level : tie.Need-sub-level Inv-loop μ-loop
-sub-level c = search needs
-
 mul-index : tie.Need-mul-index Inv-loop μ-loop
 mul-index c = omega (arith, fits c)
 
@@ -199,9 +196,6 @@ index-1-index c = fits c
 
 index-2-index : tie.Need-index-2-index Inv-loop μ-loop
 index-2-index c = omega arith
-
-index-requires : tie.Need-index-requires Inv-loop μ-loop
-index-requires c κs = search needs
 
 mul-index-2 : tie.Need-mul-index-2 Inv-loop μ-loop
 mul-index-2 c = omega (arith, fits (c .before .before))
@@ -212,9 +206,6 @@ index-1-index-2 c = fits (c .before .before)
 index-2-index-2 : tie.Need-index-2-index-2 Inv-loop μ-loop
 index-2-index-2 c = omega arith
 
-index-requires-2 : tie.Need-index-requires-2 Inv-loop μ-loop
-index-requires-2 c κs = search needs
-
 mul-index-3 : tie.Need-mul-index-3 Inv-loop μ-loop
 mul-index-3 c = omega (arith, fits (in-row (c .before)))
 
@@ -223,9 +214,6 @@ index-1-index-3 c = fits (in-row (c .before))
 
 index-2-index-3 : tie.Need-index-2-index-3 Inv-loop μ-loop
 index-2-index-3 c = omega arith
-
-index-requires-3 : tie.Need-index-requires-3 Inv-loop μ-loop
-index-requires-3 c κs = search needs
 
 mul-add-cords : tie.Need-mul-add-cords Inv-loop μ-loop
 mul-add-cords c = omega (arith, from-read c .index .ensures .1)
@@ -368,19 +356,19 @@ deal-spec =
     Inv-loop
     μ-loop
     loop-holds
-    sub-level
+    (λ c. search needs)
     mul-index
     index-1-index
     index-2-index
-    index-requires
+    (λ c κs. search needs)
     mul-index-2
     index-1-index-2
     index-2-index-2
-    index-requires-2
+    (λ c κs. search needs)
     mul-index-3
     index-1-index-3
     index-2-index-3
-    index-requires-3
+    (λ c κs. search needs)
     mul-add-cords
     sub-add-cords
     part-add-cords-start

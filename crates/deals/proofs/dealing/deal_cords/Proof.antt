@@ -59,47 +59,20 @@ loop-holds c =
     (sizes .2)
     (λ n has. bounds (has .entry) n (has .within) (has .hangs) .3)
 
-mul-index : tie.Need-mul-index Inv-loop μ-loop
-mul-index c = search needs
-
-shared-slice-read-index : tie.Need-shared-slice-read-index Inv-loop μ-loop
-shared-slice-read-index c = search needs
-
-index-requires : tie.Need-index-requires Inv-loop μ-loop
-index-requires c κs = search needs
-
-mul-index-2 : tie.Need-mul-index-2 Inv-loop μ-loop
-mul-index-2 c = search needs
-
 shared-slice-read-index-2 : tie.Need-shared-slice-read-index-2 Inv-loop μ-loop
 shared-slice-read-index-2 c = cord-there (c .before)
-
-index-requires-2 : tie.Need-index-requires-2 Inv-loop μ-loop
-index-requires-2 c κs = search needs
 
 sub-p : tie.Need-sub-p Inv-loop μ-loop
 sub-p c = node-there c .0
 
-mul-start : tie.Need-mul-start Inv-loop μ-loop
-mul-start c = search needs
-
 shared-slice-read-start : tie.Need-shared-slice-read-start Inv-loop μ-loop
 shared-slice-read-start c = omega (arith, cord-there (cord (c .before)), start (turn (cord (c .before)) .before) .pre .0 .starts-size)
-
-mul-serve : tie.Need-mul-serve-by-division Inv-loop μ-loop
-mul-serve c = search needs
 
 shared-slice-read-serve : tie.Need-shared-slice-read-serve-by-division Inv-loop μ-loop
 shared-slice-read-serve c = omega (arith, node-there (c .before .before))
 
-mul-serve-2 : tie.Need-mul-serve-by-division-2 Inv-loop μ-loop
-mul-serve-2 c = search needs
-
 shared-slice-read-serve-2 : tie.Need-shared-slice-read-serve-by-division-2 Inv-loop μ-loop
 shared-slice-read-serve-2 c = omega (arith, node-there (c .before .before .before), start (turn (cord (c .before .before .before)) .before) .pre .1 .0 .0)
-
-mul-wide : tie.Need-mul-wide Inv-loop μ-loop
-mul-wide c = search needs
 
 shared-slice-read-wide : tie.Need-shared-slice-read-wide Inv-loop μ-loop
 shared-slice-read-wide c = omega (arith, cord-there (cord (c .before .before .before .before)), start (turn (cord (c .before .before .before .before)) .before) .pre .0 .wants-size)
@@ -108,9 +81,6 @@ sub-wide : tie.Need-sub-wide Inv-loop μ-loop
 sub-wide c =
     let at-cord = cord (c .before .before .before .before) in
     cord-bounds (start (turn at-cord .before) .pre .0) (turn at-cord .loop-test .taken) (at-cord .index .ensures .0) .0
-
-wide-requires : tie.Need-wide-requires Inv-loop μ-loop
-wide-requires c κs = search needs
 
 serve-requires : tie.Need-serve-by-division-requires Inv-loop μ-loop
 serve-requires c κs =
@@ -126,19 +96,10 @@ add-grants c =
     let most = grant-most (turn at-cord .before .loop .inv) (turn at-cord .loop-test .taken) (at-cord .index .ensures .0) (at-node .index2 .ensures .0) _ (weight c .wide .ensures .0) (c .before .before .before .before .serve-by-division .ensures) in
     record { fits = omega (arith, most) }
 
-mul-grants : tie.Need-mul-grants Inv-loop μ-loop
-mul-grants c = search needs
-
 slice-write-grants : tie.Need-slice-write-grants Inv-loop μ-loop
 slice-write-grants c =
     let at-cord = cord (node (weight c)) in
     omega (arith, cord-there at-cord, turn at-cord .before .loop .inv .grants-size)
-
-add-i : tie.Need-add-i Inv-loop μ-loop
-add-i c = search needs
-
-loop-less : tie.Need-loop-less Inv-loop μ-loop
-loop-less c = search needs
 
 loop-again : tie.Need-loop-again Inv-loop μ-loop
 loop-again c =
@@ -165,29 +126,25 @@ deal-cords-spec =
     Inv-loop
     μ-loop
     loop-holds
-    mul-index
-    shared-slice-read-index
-    index-requires
-    mul-index-2
+    (λ c. search needs) (λ c. search needs) (λ c κs. search needs) (λ c. search needs)
     shared-slice-read-index-2
-    index-requires-2
+    (λ c κs. search needs)
     sub-p
-    mul-start
+    (λ c. search needs)
     shared-slice-read-start
-    mul-serve
+    (λ c. search needs)
     shared-slice-read-serve
-    mul-serve-2
+    (λ c. search needs)
     shared-slice-read-serve-2
-    mul-wide
+    (λ c. search needs)
     shared-slice-read-wide
     sub-wide
-    wide-requires
+    (λ c κs. search needs)
     serve-requires
     add-grants
-    mul-grants
+    (λ c. search needs)
     slice-write-grants
-    add-i
-    loop-less
+    (λ c. search needs) (λ c. search needs)
     loop-again
     same-length
     same-length-2

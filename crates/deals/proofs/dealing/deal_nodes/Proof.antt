@@ -52,59 +52,26 @@ loop-holds c =
     refl
     (pre .0 .1))
 
-mul-index : tie.Need-mul-index Inv-loop μ-loop
-mul-index c = search needs
-
 shared-slice-read-index : tie.Need-shared-slice-read-index Inv-loop μ-loop
 shared-slice-read-index c = omega (arith, c .before .before .loop .inv .turn .ready .listed .nodes .few, c .before .loop-test .taken)
-
-index-requires : tie.Need-index-requires Inv-loop μ-loop
-index-requires c κs = search needs
-
-mul-before : tie.Need-mul-before Inv-loop μ-loop
-mul-before c = search needs
 
 slice-write-before : tie.Need-slice-write-before Inv-loop μ-loop
 slice-write-before c = omega (arith, node-there c, turn c .before .loop .inv .turn .served .before-size, turn c .before .loop .inv .turn .enough)
 
-mul-dealt : tie.Need-mul-dealt Inv-loop μ-loop
-mul-dealt c = search needs
-
 slice-write-dealt : tie.Need-slice-write-dealt Inv-loop μ-loop
 slice-write-dealt c = omega (arith, node-there c, turn c .before .loop .inv .turn .served .dealt-size, turn c .before .loop .inv .turn .enough)
-
-mul-wide : tie.Need-mul-wide Inv-loop μ-loop
-mul-wide c = search needs
 
 slice-read-wide : tie.Need-slice-read-wide Inv-loop μ-loop
 slice-read-wide c = omega (arith, node-there (c .before), turn (c .before) .before .loop .inv .turn .amounts-size, turn (c .before) .before .loop .inv .turn .ready .listed .weights-size)
 
-wide-requires : tie.Need-wide-requires Inv-loop μ-loop
-wide-requires c κs = search needs
-
-mul-index-2 : tie.Need-mul-index-2 Inv-loop μ-loop
-mul-index-2 c = search needs
-
 shared-slice-read-index-2 : tie.Need-shared-slice-read-index-2 Inv-loop μ-loop
 shared-slice-read-index-2 c = node-there (node (c .before))
-
-index-requires-2 : tie.Need-index-requires-2 Inv-loop μ-loop
-index-requires-2 c κs = search needs
-
-sub-p : tie.Need-sub-p Inv-loop μ-loop
-sub-p c = search needs
-
-mul-serve : tie.Need-mul-serve Inv-loop μ-loop
-mul-serve c = search needs
 
 slice-read-serve : tie.Need-slice-read-serve Inv-loop μ-loop
 slice-read-serve c =
     let parent = c .before .before in
     let t = turn (node (weight parent)) .before .loop .inv .turn in
     omega (arith, parent-there parent (c .before .if1 .taken), t .amounts-size, t .ready .listed .weights-size)
-
-mul-serve-2 : tie.Need-mul-serve-2 Inv-loop μ-loop
-mul-serve-2 c = search needs
 
 shared-slice-read-serve : tie.Need-shared-slice-read-serve Inv-loop μ-loop
 shared-slice-read-serve c =
@@ -121,20 +88,11 @@ serve-requires c κs =
     let is = at-node .index .ensures .0 in
     node-may-serve (deal-here t more is) (deal-within t more is) (deal-present t more is) _ _ (weight parent .wide .ensures .0) (parent .index2 .ensures .0) (c .before .before .before .before .if1 .taken)
 
-mul-amounts : tie.Need-mul-amounts Inv-loop μ-loop
-mul-amounts c = search needs
-
 slice-write-amounts : tie.Need-slice-write-amounts Inv-loop μ-loop
 slice-write-amounts c =
     let at-node = node (weight (c .before .before .before .before .before .before .before .before .before .before)) in
     let t = turn at-node .before .loop .inv .turn in
     omega (arith, node-there at-node, t .amounts-size, t .ready .listed .weights-size)
-
-add-i : tie.Need-add-i Inv-loop μ-loop
-add-i c = search needs
-
-loop-less : tie.Need-loop-less Inv-loop μ-loop
-loop-less c = search needs
 
 loop-again : tie.Need-loop-again Inv-loop μ-loop
 loop-again c =
@@ -172,29 +130,24 @@ deal-nodes-spec =
     Inv-loop
     μ-loop
     loop-holds
-    mul-index
+    (λ c. search needs)
     shared-slice-read-index
-    index-requires
-    mul-before
+    (λ c κs. search needs) (λ c. search needs)
     slice-write-before
-    mul-dealt
+    (λ c. search needs)
     slice-write-dealt
-    mul-wide
+    (λ c. search needs)
     slice-read-wide
-    wide-requires
-    mul-index-2
+    (λ c κs. search needs) (λ c. search needs)
     shared-slice-read-index-2
-    index-requires-2
-    sub-p
-    mul-serve
+    (λ c κs. search needs) (λ c. search needs) (λ c. search needs)
     slice-read-serve
-    mul-serve-2
+    (λ c. search needs)
     shared-slice-read-serve
     serve-requires
-    mul-amounts
+    (λ c. search needs)
     slice-write-amounts
-    add-i
-    loop-less
+    (λ c. search needs) (λ c. search needs)
     loop-again
     same-length
     same-length-2

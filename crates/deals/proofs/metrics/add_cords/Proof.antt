@@ -59,41 +59,17 @@ bounds : (c : tie.After-index Inv-loop μ-loop)
     × (at (start (turn c .before) .args .wants .now) (c .index .result) ≤ mostWatts)
 bounds c = cord-bounds (start (turn c .before) .pre .0) (turn c .loop-test .taken) (c .index .ensures .0)
 
-clear-requires : tie.Need-clear-requires Inv-loop μ-loop
-clear-requires c κs = search needs
-
 loop-holds : tie.Need-loop-holds Inv-loop μ-loop
 loop-holds c =
     let second = c .before .before in
     let pre = entry second .pre in
     sums-start (pre .0) refl refl (pre .1 .0 .0) (omega (arith, pre .1 .0 .1, second .clear .kept .0)) (pre .1 .1) (second .clear .ensures)
 
-mul-index : tie.Need-mul-index Inv-loop μ-loop
-mul-index c = search needs
-
-shared-slice-read-index : tie.Need-shared-slice-read-index Inv-loop μ-loop
-shared-slice-read-index c = search needs
-
-index-requires : tie.Need-index-requires Inv-loop μ-loop
-index-requires c κs = search needs
-
-mul-index-2 : tie.Need-mul-index-2 Inv-loop μ-loop
-mul-index-2 c = search needs
-
 shared-slice-read-index-2 : tie.Need-shared-slice-read-index-2 Inv-loop μ-loop
 shared-slice-read-index-2 c = cord-there (c .before) .0
 
-index-requires-2 : tie.Need-index-requires-2 Inv-loop μ-loop
-index-requires-2 c κs = search needs
-
-mul-start : tie.Need-mul-start Inv-loop μ-loop
-mul-start c = search needs
-
 shared-slice-read-start : tie.Need-shared-slice-read-start Inv-loop μ-loop
 shared-slice-read-start c = omega (arith, cord-there (cord (c .before)))
-
-wide-requires : tie.Need-wide-requires Inv-loop μ-loop
-wide-requires c κs = search needs
 
 credit-requires : tie.Need-credit-requires Inv-loop μ-loop
 credit-requires c κs =
@@ -101,17 +77,11 @@ credit-requires c κs =
     start-fits (turn at-cord .before .loop .inv) (turn at-cord .loop-test .taken) (at-cord .index .ensures .0) (node c .index2 .ensures .0)
     (omega (arith, c .wide .ensures .0, bounds at-cord))
 
-mul-wide : tie.Need-mul-wide Inv-loop μ-loop
-mul-wide c = search needs
-
 shared-slice-read-wide : tie.Need-shared-slice-read-wide Inv-loop μ-loop
 shared-slice-read-wide c = omega (arith, cord-there (cord (node (begun c))))
 
 sub-wide : tie.Need-sub-wide Inv-loop μ-loop
 sub-wide c = omega (arith, bounds (cord (node (begun c))))
-
-wide-requires-2 : tie.Need-wide-requires-2 Inv-loop μ-loop
-wide-requires-2 c κs = search needs
 
 credit-requires-2 : tie.Need-credit-requires-2 Inv-loop μ-loop
 credit-requires-2 c κs =
@@ -119,12 +89,6 @@ credit-requires-2 c κs =
     let at-cord = cord at-node in
     weight-fits (turn at-cord .before .loop .inv) (turn at-cord .loop-test .taken) (at-cord .index .ensures .0) (at-node .index2 .ensures .0)
     (omega (arith, c .wide2 .ensures .0, bounds at-cord))
-
-add-i : tie.Need-add-i Inv-loop μ-loop
-add-i c = search needs
-
-loop-less : tie.Need-loop-less Inv-loop μ-loop
-loop-less c = search needs
 
 loop-again : tie.Need-loop-again Inv-loop μ-loop
 loop-again c =
@@ -153,25 +117,20 @@ add-cords-spec =
     (tie.spec
     Inv-loop
     μ-loop
-    clear-requires
+    (λ c κs. search needs)
     loop-holds
-    mul-index
-    shared-slice-read-index
-    index-requires
-    mul-index-2
+    (λ c. search needs) (λ c. search needs) (λ c κs. search needs) (λ c. search needs)
     shared-slice-read-index-2
-    index-requires-2
-    mul-start
+    (λ c κs. search needs) (λ c. search needs)
     shared-slice-read-start
-    wide-requires
+    (λ c κs. search needs)
     credit-requires
-    mul-wide
+    (λ c. search needs)
     shared-slice-read-wide
     sub-wide
-    wide-requires-2
+    (λ c κs. search needs)
     credit-requires-2
-    add-i
-    loop-less
+    (λ c. search needs) (λ c. search needs)
     loop-again
     same-length
     same-length-2

@@ -8,15 +8,6 @@ use Rattle.figures.proofs.Sums.{on-yes, on-no}
 use Rattle.deals.proofs.metrics.marked.Statement.{statement}
 use Rattle.deals.proofs.metrics.marked.Tie as tie
 
-index-requires : tie.Need-index-requires
-index-requires c κs = search needs
-
-add-place : tie.Need-add-place
-add-place c = search needs
-
-place-requires : tie.Need-place-requires
-place-requires c κs = search needs
-
 returns : tie.Need-returns
 returns c =
     let args = c .before .before .before .before .args in
@@ -36,4 +27,4 @@ returns-3 c =
 
 pub marked-spec : {M : Type 1} → statement M
 marked-spec =
-    tie.close (tie.spec index-requires add-place place-requires returns returns-2 returns-3)
+    tie.close (tie.spec (λ c κs. search needs) (λ c. search needs) (λ c κs. search needs) returns returns-2 returns-3)

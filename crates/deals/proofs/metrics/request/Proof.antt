@@ -82,33 +82,15 @@ read-again read start weight e = omega arith
 loop-holds : tie.Need-loop-holds Inv-loop μ-loop
 loop-holds c = request-start (entry c .pre .0) (entry c .pre .1)
 
-sub-i : tie.Need-sub-i Inv-loop μ-loop
-sub-i c = search needs
-
-mul-index : tie.Need-mul-index Inv-loop μ-loop
-mul-index c = search needs
-
 shared-slice-read-index : tie.Need-shared-slice-read-index Inv-loop μ-loop
 shared-slice-read-index c =
     let inv = c .before .before .loop .inv .weigh in
     omega (arith, inv .parted .reached, inv .weighing .given .nodes .few, c .before .loop-test .taken)
 
-index-requires : tie.Need-index-requires Inv-loop μ-loop
-index-requires c κs = search needs
-
-mul-index-2 : tie.Need-mul-index-2 Inv-loop μ-loop
-mul-index-2 c = search needs
-
 shared-slice-read-index-2 : tie.Need-shared-slice-read-index-2 Inv-loop μ-loop
 shared-slice-read-index-2 c =
     let at-node = c .before in
     in-parents (turn at-node .before .loop .inv .weigh) (turn at-node .loop-test .taken) (at-node .index .ensures .0)
-
-index-requires-2 : tie.Need-index-requires-2 Inv-loop μ-loop
-index-requires-2 c κs = search needs
-
-mul-whole : tie.Need-mul-whole Inv-loop μ-loop
-mul-whole c = search needs
 
 slice-read-whole : tie.Need-slice-read-whole Inv-loop μ-loop
 slice-read-whole c =
@@ -120,9 +102,6 @@ take-requires c κs =
     let at-node = node (c .before .before) in
     in-left (turn at-node .before .loop .inv .weigh) (turn at-node .loop-test .taken) (at-node .index .ensures .0)
 
-wide-requires : tie.Need-wide-requires Inv-loop μ-loop
-wide-requires c κs = search needs
-
 credit-requires : tie.Need-credit-requires Inv-loop μ-loop
 credit-requires c κs =
     let weighed = c .before .before .before .before in
@@ -130,9 +109,6 @@ credit-requires c κs =
     let at-node = node above in
     credit-fits (turn at-node .before .loop .inv .weigh) (turn at-node .loop-test .taken) (at-node .index .ensures .0) (above .index2 .ensures .0)
     (omega (arith, weighed .take .ensures .0, c .wide .ensures .0))
-
-mul-narrow : tie.Need-mul-narrow Inv-loop μ-loop
-mul-narrow c = search needs
 
 slice-read-narrow : tie.Need-slice-read-narrow Inv-loop μ-loop
 slice-read-narrow c =
@@ -145,22 +121,13 @@ narrow-requires c κs =
     let at-node = node (parent weighed) in
     omega (arith, request-fits (turn at-node .before .loop .inv) (turn at-node .loop-test .taken) (at-node .index .ensures .0) (weighed .take .ensures .0))
 
-mul-marked : tie.Need-mul-marked Inv-loop μ-loop
-mul-marked c = search needs
-
 slice-read-marked : tie.Need-slice-read-marked Inv-loop μ-loop
 slice-read-marked c =
     let at-node = node (parent (weight (passed-on (c .before .before)))) in
     in-cuts (turn at-node .before .loop .inv) (turn at-node .loop-test .taken) (at-node .index .ensures .0)
 
-wide-requires-2 : tie.Need-wide-requires-2 Inv-loop μ-loop
-wide-requires-2 c κs = search needs
-
 marked-requires : tie.Need-marked-requires Inv-loop μ-loop
 marked-requires c κs = turn (node (parent (weight (passed-on (c .before .before .before))))) .before .loop .inv .requesting .given .ranked
-
-mul-cuts : tie.Need-mul-cuts Inv-loop μ-loop
-mul-cuts c = search needs
 
 slice-write-cuts : tie.Need-slice-write-cuts Inv-loop μ-loop
 slice-write-cuts c = in-cuts (head c .loop .inv) (turn (place c) .loop-test .taken) (place c .index .ensures .0)
@@ -195,16 +162,10 @@ index-2-weights c = column c
 sub-weights : tie.Need-sub-weights Inv-loop μ-loop
 sub-weights c = omega (arith, row-read (c .before))
 
-mul-weights-3 : tie.Need-mul-weights-3 Inv-loop μ-loop
-mul-weights-3 c = search needs
-
 slice-write-weights : tie.Need-slice-write-weights Inv-loop μ-loop
 slice-write-weights c =
     let at-node = place (c .before) in
     in-weights (turn at-node .before .loop .inv .weigh) (turn at-node .loop-test .taken) (at-node .index .ensures .0)
-
-wide-requires-3 : tie.Need-wide-requires-3 Inv-loop μ-loop
-wide-requires-3 c κs = search needs
 
 credit-requires-2 : tie.Need-credit-requires-2 Inv-loop μ-loop
 credit-requires-2 c κs =
@@ -213,17 +174,11 @@ credit-requires-2 c κs =
     base-fits (head marked .loop .inv) (turn at-node .loop-test .taken) (at-node .index .ensures .0) (parent (taken marked) .index2 .ensures .0)
     (c .wide3 .ensures .0 ∙ begun marked .narrow .ensures)
 
-mul-bases : tie.Need-mul-bases Inv-loop μ-loop
-mul-bases c = search needs
-
 slice-write-bases : tie.Need-slice-write-bases Inv-loop μ-loop
 slice-write-bases c =
     let credited = c .before .before in
     let marked = credited .before .before .before .before in
     omega (arith, in-bases (head marked .loop .inv) (turn (place marked) .loop-test .taken) (place marked .index .ensures .0), credited .credit2 .kept .0)
-
-loop-less : tie.Need-loop-less Inv-loop μ-loop
-loop-less c = search needs
 
 loop-again : tie.Need-loop-again Inv-loop μ-loop
 loop-again c =
@@ -266,26 +221,23 @@ request-spec =
     Inv-loop
     μ-loop
     loop-holds
-    sub-i
-    mul-index
+    (λ c. search needs) (λ c. search needs)
     shared-slice-read-index
-    index-requires
-    mul-index-2
+    (λ c κs. search needs) (λ c. search needs)
     shared-slice-read-index-2
-    index-requires-2
-    mul-whole
+    (λ c κs. search needs) (λ c. search needs)
     slice-read-whole
     take-requires
-    wide-requires
+    (λ c κs. search needs)
     credit-requires
-    mul-narrow
+    (λ c. search needs)
     slice-read-narrow
     narrow-requires
-    mul-marked
+    (λ c. search needs)
     slice-read-marked
-    wide-requires-2
+    (λ c κs. search needs)
     marked-requires
-    mul-cuts
+    (λ c. search needs)
     slice-write-cuts
     add-requests
     mul-requests
@@ -297,13 +249,13 @@ request-spec =
     index-1-weights
     index-2-weights
     sub-weights
-    mul-weights-3
+    (λ c. search needs)
     slice-write-weights
-    wide-requires-3
+    (λ c κs. search needs)
     credit-requires-2
-    mul-bases
+    (λ c. search needs)
     slice-write-bases
-    loop-less
+    (λ c. search needs)
     loop-again
     same-length
     same-length-2

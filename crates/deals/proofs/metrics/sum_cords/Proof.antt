@@ -15,9 +15,6 @@ cleared c = c .before .before .before .before
 abbrev added : tie.After-slice-known5 → tie.After-add-cords
 added c = c .before .before .before .before
 
-clear-requires : tie.Need-clear-requires
-clear-requires c κs = search needs
-
 add-cords-requires : tie.Need-add-cords-requires
 add-cords-requires c κs =
     let pre = start (cleared c) .pre in
@@ -34,4 +31,4 @@ returns c = (added c .add-cords .ensures .on-starts, added c .add-cords .ensures
 
 pub sum-cords-spec : {M : Type 1} → statement M
 sum-cords-spec =
-    tie.close (tie.spec clear-requires add-cords-requires same-length same-length-2 returns)
+    tie.close (tie.spec (λ c κs. search needs) add-cords-requires same-length same-length-2 returns)

@@ -39,20 +39,8 @@ loop-holds c =
       idle = pre .1 .1 .1;
     })
 
-sub-i : tie.Need-sub-i Inv-loop μ-loop
-sub-i c = search needs
-
-mul-index : tie.Need-mul-index Inv-loop μ-loop
-mul-index c = search needs
-
 shared-slice-read-index : tie.Need-shared-slice-read-index Inv-loop μ-loop
 shared-slice-read-index c = omega (arith, c .before .before .loop .inv .parted .reached, c .before .before .loop .inv .weighing .given .nodes .few, c .before .loop-test .taken)
-
-index-requires : tie.Need-index-requires Inv-loop μ-loop
-index-requires c κs = search needs
-
-mul-take : tie.Need-mul-take Inv-loop μ-loop
-mul-take c = search needs
 
 slice-read-take : tie.Need-slice-read-take Inv-loop μ-loop
 slice-read-take c =
@@ -64,27 +52,15 @@ take-requires c κs =
     let at-node = c .before .before in
     in-left (turn at-node .before .loop .inv) (turn at-node .loop-test .taken) (at-node .index .ensures .0)
 
-mul-weights : tie.Need-mul-weights Inv-loop μ-loop
-mul-weights c = search needs
-
 slice-write-weights : tie.Need-slice-write-weights Inv-loop μ-loop
 slice-write-weights c =
     let at-node = node (c .before .before) in
     in-weights (turn at-node .before .loop .inv) (turn at-node .loop-test .taken) (at-node .index .ensures .0)
 
-mul-index-2 : tie.Need-mul-index-2 Inv-loop μ-loop
-mul-index-2 c = search needs
-
 shared-slice-read-index-2 : tie.Need-shared-slice-read-index-2 Inv-loop μ-loop
 shared-slice-read-index-2 c =
     let at-node = node (c .before .before .before .before) in
     in-parents (turn at-node .before .loop .inv) (turn at-node .loop-test .taken) (at-node .index .ensures .0)
-
-index-requires-2 : tie.Need-index-requires-2 Inv-loop μ-loop
-index-requires-2 c κs = search needs
-
-wide-requires : tie.Need-wide-requires Inv-loop μ-loop
-wide-requires c κs = search needs
 
 credit-requires : tie.Need-credit-requires Inv-loop μ-loop
 credit-requires c κs =
@@ -92,9 +68,6 @@ credit-requires c κs =
     let at-node = node weighed in
     credit-fits (turn at-node .before .loop .inv) (turn at-node .loop-test .taken) (at-node .index .ensures .0) (c .before .index2 .ensures .0)
     (omega (arith, weighed .take .ensures .0, c .wide .ensures .0))
-
-loop-less : tie.Need-loop-less Inv-loop μ-loop
-loop-less c = search needs
 
 loop-again : tie.Need-loop-again Inv-loop μ-loop
 loop-again c =
@@ -123,21 +96,18 @@ weigh-spec =
     Inv-loop
     μ-loop
     loop-holds
-    sub-i
-    mul-index
+    (λ c. search needs) (λ c. search needs)
     shared-slice-read-index
-    index-requires
-    mul-take
+    (λ c κs. search needs) (λ c. search needs)
     slice-read-take
     take-requires
-    mul-weights
+    (λ c. search needs)
     slice-write-weights
-    mul-index-2
+    (λ c. search needs)
     shared-slice-read-index-2
-    index-requires-2
-    wide-requires
+    (λ c κs. search needs) (λ c κs. search needs)
     credit-requires
-    loop-less
+    (λ c. search needs)
     loop-again
     same-length
     same-length-2

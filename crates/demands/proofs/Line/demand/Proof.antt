@@ -4,20 +4,11 @@ use borrow.Author.Tests.{le-leb, lt-leb}
 use Rattle.demands.proofs.Line.demand.Statement.{statement}
 use Rattle.demands.proofs.Line.demand.Tie as tie
 
-enum-known-self : tie.Need-enum-known-self
-enum-known-self c = search needs
-
-enum-told : tie.Need-enum-told
-enum-told c = search needs
-
 returns : tie.Need-returns
 returns c = rw (c .before .before .self .given .1, le-leb _ _ (c .if1 .taken))
 
 returns-2 : tie.Need-returns-2
 returns-2 c = rw (c .before .before .self .given .1, lt-leb _ _ (c .if1 .left))
 
-returns-3 : tie.Need-returns-3
-returns-3 c = search needs
-
 pub demand-spec : {M : Type 1} → statement M
-demand-spec = tie.close (tie.spec enum-known-self enum-told returns returns-2 returns-3)
+demand-spec = tie.close (tie.spec (λ c. search needs) (λ c. search needs) returns returns-2 (λ c. search needs))

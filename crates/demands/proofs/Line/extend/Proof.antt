@@ -5,21 +5,6 @@ use Rattle.figures.proofs.Tests.{and-false}
 use Rattle.demands.proofs.Line.extend.Statement.{statement}
 use Rattle.demands.proofs.Line.extend.Tie as tie
 
-enum-known-self : tie.Need-enum-known-self
-enum-known-self c = search needs
-
-add-t10 : tie.Need-add-t10
-add-t10 c = search needs
-
-mul-t11 : tie.Need-mul-t11
-mul-t11 c = search needs
-
-cast-t13 : tie.Need-cast-t13
-cast-t13 c = search needs
-
-add-t14 : tie.Need-add-t14
-add-t14 c = search needs
-
 returns : tie.Need-returns
 returns c =
     let at = c .before .before .before in
@@ -30,9 +15,6 @@ returns c =
       lt-ltb _ _ (c .before .if3 .taken),
       lt-ltb _ _ (c .if4 .taken),
     )
-
-enum-told : tie.Need-enum-told
-enum-told c = search needs
 
 returns-2 : tie.Need-returns-2
 returns-2 c = let digit = c .before .before in rw (digit .before .before .before .self .given .1, le-ltb _ _ (c .if4 .left), and-false, and-false)
@@ -46,22 +28,15 @@ returns-4 c = rw (c .before .before .before .self .given .1, lt-leb _ _ (c .if2 
 returns-5 : tie.Need-returns-5
 returns-5 c = rw (c .before .before .self .given .1, lt-leb _ _ (c .if1 .left))
 
-returns-6 : tie.Need-returns-6
-returns-6 c = search needs
-
 pub extend-spec : {M : Type 1} → statement M
 extend-spec =
     tie.close
     (tie.spec
-    enum-known-self
-    add-t10
-    mul-t11
-    cast-t13
-    add-t14
+    (λ c. search needs) (λ c. search needs) (λ c. search needs) (λ c. search needs) (λ c. search needs)
     returns
-    enum-told
+    (λ c. search needs)
     returns-2
     returns-3
     returns-4
     returns-5
-    returns-6)
+    (λ c. search needs))

@@ -5,24 +5,6 @@ use borrow.Author.Needs.{needs}
 use Rattle.demands.proofs.Reading.close.Statement.{statement}
 use Rattle.demands.proofs.Reading.close.Tie as tie
 
-least-requires : tie.Need-least-requires
-least-requires c κs = search needs
-
-demand-requires : tie.Need-demand-requires
-demand-requires c κs = search needs
-
-mul-list : tie.Need-mul-list
-mul-list c = search needs
-
-slice-write-list : tie.Need-slice-write-list
-slice-write-list c = search needs
-
-add-t9 : tie.Need-add-t9
-add-t9 c = search needs
-
-same-length : tie.Need-same-length
-same-length c = search needs
-
 returns : tie.Need-returns
 returns c =
     let args = c .before .before .before .before .args in
@@ -37,11 +19,7 @@ pub close-spec : {M : Type 1} → statement M
 close-spec =
     tie.close
     (tie.spec
-    least-requires
-    demand-requires
-    mul-list
-    slice-write-list
-    add-t9
-    same-length
+    (λ c κs. search needs) (λ c κs. search needs) (λ c. search needs) (λ c. search needs) (λ c. search needs)
+    (λ c. search needs)
     returns
     returns-2)

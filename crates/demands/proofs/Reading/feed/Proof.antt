@@ -19,26 +19,11 @@ abbrev μ-loop : tie.MeasureT-loop
 loop-holds : tie.Need-loop-holds Inv-loop μ-loop
 loop-holds c = (going-first _ _, refl)
 
-shared-slice-read-feed-byte : tie.Need-shared-slice-read-feed-byte Inv-loop μ-loop
-shared-slice-read-feed-byte c = search needs
-
-feed-byte-requires : tie.Need-feed-byte-requires Inv-loop μ-loop
-feed-byte-requires c κs = search needs
-
-add-i : tie.Need-add-i Inv-loop μ-loop
-add-i c = search needs
-
-loop-less : tie.Need-loop-less Inv-loop μ-loop
-loop-less c = search needs
-
 loop-again : tie.Need-loop-again Inv-loop μ-loop
 loop-again c =
     let byte = c .before .before in
     let at = byte .before .before .before .before in
     (going-next _ _ _ _ _ (at .loop .inv .0) (omega arith) (byte .feed-byte .ensures), search needs)
-
-same-length : tie.Need-same-length Inv-loop μ-loop
-same-length c = search needs
 
 returns : tie.Need-returns Inv-loop μ-loop
 returns c = going-last _ _ _ _ (c .before .loop .inv .0) (omega arith)
@@ -50,10 +35,7 @@ feed-spec =
     Inv-loop
     μ-loop
     loop-holds
-    shared-slice-read-feed-byte
-    feed-byte-requires
-    add-i
-    loop-less
+    (λ c. search needs) (λ c κs. search needs) (λ c. search needs) (λ c. search needs)
     loop-again
-    same-length
+    (λ c. search needs)
     returns)

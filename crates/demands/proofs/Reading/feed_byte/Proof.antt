@@ -5,12 +5,6 @@ use borrow.Author.Needs.{needs}
 use Rattle.demands.proofs.Reading.feed_byte.Statement.{statement}
 use Rattle.demands.proofs.Reading.feed_byte.Tie as tie
 
-close-requires : tie.Need-close-requires
-close-requires c κs = search needs
-
-same-length : tie.Need-same-length
-same-length c = search needs
-
 returns : tie.Need-returns
 returns c =
     let newline = c .before .before .before .before in
@@ -18,13 +12,10 @@ returns c =
     c .before .before .close .ensures
     ∙ sym (fedByte-newline (args .self) (args .list .now) (args .byte) (newline .if1 .taken))
 
-extend-requires : tie.Need-extend-requires
-extend-requires c κs = search needs
-
 returns-2 : tie.Need-returns-2
 returns-2 c =
     let args = c .before .before .before .args in
     rw (c .extend .ensures) (sym (fedByte-other (args .self) (args .list .now) (args .byte) (c .before .if1 .left)))
 
 pub feed-byte-spec : {M : Type 1} → statement M
-feed-byte-spec = tie.close (tie.spec close-requires same-length returns extend-requires returns-2)
+feed-byte-spec = tie.close (tie.spec (λ c κs. search needs) (λ c. search needs) returns (λ c κs. search needs) returns-2)

@@ -6,18 +6,6 @@ use borrow.Author.Needs.{needs}
 use Rattle.demands.proofs.Reading.finish.Statement.{statement}
 use Rattle.demands.proofs.Reading.finish.Tie as tie
 
-has-byte-requires : tie.Need-has-byte-requires
-has-byte-requires c κs = search needs
-
-close-requires : tie.Need-close-requires
-close-requires c κs = search needs
-
-least-requires : tie.Need-least-requires
-least-requires c κs = search needs
-
-same-length : tie.Need-same-length
-same-length c = search needs
-
 returns : tie.Need-returns
 returns c =
     let last = c .before .before .before in
@@ -26,9 +14,6 @@ returns c =
     let some = sym (tested .has-byte .ensures) ∙ last .before .before .if1 .taken in
     let is = last .close .ensures ∙ sym (finished-inside (args .self) (args .list .now) some) in
     (ap (λ (h : Held). h .list) is, c .least .ensures ∙ ap countIn is)
-
-least-requires-2 : tie.Need-least-requires-2
-least-requires-2 c κs = search needs
 
 returns-2 : tie.Need-returns-2
 returns-2 c =
@@ -41,10 +26,7 @@ pub finish-spec : {M : Type 1} → statement M
 finish-spec =
     tie.close
     (tie.spec
-    has-byte-requires
-    close-requires
-    least-requires
-    same-length
+    (λ c κs. search needs) (λ c κs. search needs) (λ c κs. search needs) (λ c. search needs)
     returns
-    least-requires-2
+    (λ c κs. search needs)
     returns-2)

@@ -7,9 +7,6 @@ use borrow.Author.Needs.{needs}
 use Rattle.join.proofs.pieces.node_width.Statement.{statement}
 use Rattle.join.proofs.pieces.node_width.Tie as tie
 
-has-percents-requires : tie.Need-has-percents-requires
-has-percents-requires c κs = search needs
-
 returns : tie.Need-returns
 returns c = width-is true (formOf (c .before .before .args .version) .percents) (sym (c .if1 .taken) ∙ c .before .has-percents .ensures)
 
@@ -17,4 +14,4 @@ returns-2 : tie.Need-returns-2
 returns-2 c = width-is false (formOf (c .before .before .args .version) .percents) (sym (c .if1 .left) ∙ c .before .has-percents .ensures)
 
 pub node-width-spec : {M : Type 1} → statement M
-node-width-spec = tie.close (tie.spec has-percents-requires returns returns-2)
+node-width-spec = tie.close (tie.spec (λ c κs. search needs) returns returns-2)

@@ -9,18 +9,6 @@ use borrow.Author.Needs.{needs}
 use Rattle.join.proofs.pieces.put_nodes.Statement.{statement}
 use Rattle.join.proofs.pieces.put_nodes.Tie as tie
 
-put-words-requires : tie.Need-put-words-requires
-put-words-requires c κs = search needs
-
-mul-renumber-every : tie.Need-mul-renumber-every
-mul-renumber-every c = search needs
-
-sub-renumber-every : tie.Need-sub-renumber-every
-sub-renumber-every c = search needs
-
-part-renumber-every-start : tie.Need-part-renumber-every-start
-part-renumber-every-start c = search needs
-
 part-renumber-every-end : tie.Need-part-renumber-every-end
 part-renumber-every-end c =
     let put = c .before .before .put-words .ensures in
@@ -38,9 +26,6 @@ renumber-every-requires c κs =
     let pre = put-words-arg-from-renumber-every-arg c .before .before .before .pre in
     (pre .1 .0, pre .1 .1, pre .1 .2, piece-below 2147483648 (put-words-arg-from-renumber-every-arg c .before .before .before .args .from) (put-words-arg-from-renumber-every-arg c .before .before .before .args .to) (wordsOf (put-words-arg-from-renumber-every-arg c .before .before .before .args .bytes .now)) (c .before .before .before .put-words .ensures) (pre .1 .3))
 
-same-length : tie.Need-same-length
-same-length c = search needs
-
 returns : tie.Need-returns
 returns c =
     put-changed (put-words-from-renumber-every-arg (c .before .before .before) .put-words .ensures) (renumberedEvery (put-words-arg-from-renumber-every-arg (c .before .before .before) .before .before .before .args .width - 1) (put-words-arg-from-renumber-every-arg (c .before .before .before) .before .before .before .args .up) (put-words-arg-from-renumber-every-arg (c .before .before .before) .before .before .before .args .down) 0)
@@ -50,11 +35,8 @@ pub put-nodes-spec : {M : Type 1} → statement M
 put-nodes-spec =
     tie.close
     (tie.spec
-    put-words-requires
-    mul-renumber-every
-    sub-renumber-every
-    part-renumber-every-start
+    (λ c κs. search needs) (λ c. search needs) (λ c. search needs) (λ c. search needs)
     part-renumber-every-end
     renumber-every-requires
-    same-length
+    (λ c. search needs)
     returns)

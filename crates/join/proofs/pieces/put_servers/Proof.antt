@@ -8,18 +8,6 @@ use borrow.Author.Needs.{needs}
 use Rattle.join.proofs.pieces.put_servers.Statement.{statement}
 use Rattle.join.proofs.pieces.put_servers.Tie as tie
 
-put-words-requires : tie.Need-put-words-requires
-put-words-requires c κs = search needs
-
-mul-renumber-cords : tie.Need-mul-renumber-cords
-mul-renumber-cords c = search needs
-
-sub-renumber-cords : tie.Need-sub-renumber-cords
-sub-renumber-cords c = search needs
-
-part-renumber-cords-start : tie.Need-part-renumber-cords-start
-part-renumber-cords-start c = search needs
-
 part-renumber-cords-end : tie.Need-part-renumber-cords-end
 part-renumber-cords-end c =
     let put = c .before .before .put-words .ensures in
@@ -37,9 +25,6 @@ renumber-cords-requires c κs =
     let pre = put-words-arg-from-renumber-cords-arg c .before .before .before .pre in
     (pre .1 .0, piece-below 2147483648 (put-words-arg-from-renumber-cords-arg c .before .before .before .args .from) (put-words-arg-from-renumber-cords-arg c .before .before .before .args .to) (wordsOf (put-words-arg-from-renumber-cords-arg c .before .before .before .args .bytes .now)) (c .before .before .before .put-words .ensures) (pre .1 .1))
 
-same-length : tie.Need-same-length
-same-length c = search needs
-
 returns : tie.Need-returns
 returns c = put-changed (put-words-from-renumber-cords-arg (c .before .before .before) .put-words .ensures) (renumberedCords (put-words-arg-from-renumber-cords-arg (c .before .before .before) .before .before .before .args .up) (put-words-arg-from-renumber-cords-arg (c .before .before .before) .before .before .before .args .down) 0) (cords-length (put-words-arg-from-renumber-cords-arg (c .before .before .before) .before .before .before .args .up) (put-words-arg-from-renumber-cords-arg (c .before .before .before) .before .before .before .args .down) 0 _) (c .before .before .renumber-cords .ensures) refl
 
@@ -47,11 +32,8 @@ pub put-servers-spec : {M : Type 1} → statement M
 put-servers-spec =
     tie.close
     (tie.spec
-    put-words-requires
-    mul-renumber-cords
-    sub-renumber-cords
-    part-renumber-cords-start
+    (λ c κs. search needs) (λ c. search needs) (λ c. search needs) (λ c. search needs)
     part-renumber-cords-end
     renumber-cords-requires
-    same-length
+    (λ c. search needs)
     returns)

@@ -18,40 +18,13 @@ abbrev μ-loop : tie.MeasureT-loop
 loop-holds : tie.Need-loop-holds Inv-loop μ-loop
 loop-holds c = turning-begin _ _
 
-count-at-requires : tie.Need-count-at-requires Inv-loop μ-loop
-count-at-requires c κs = search needs
-
-add-i : tie.Need-add-i Inv-loop μ-loop
-add-i c = search needs
-
-loop-less : tie.Need-loop-less Inv-loop μ-loop
-loop-less c = search needs
-
 loop-again : tie.Need-loop-again Inv-loop μ-loop
 loop-again c = server-again _ _ (c .before .before .if1 .taken) (c .count-at .ensures) (c .before .before .before .before .loop .inv)
-
-mul-renumbered : tie.Need-mul-renumbered Inv-loop μ-loop
-mul-renumbered c = search needs
-
-slice-read-renumbered : tie.Need-slice-read-renumbered Inv-loop μ-loop
-slice-read-renumbered c = search needs
 
 renumbered-requires : tie.Need-renumbered-requires Inv-loop μ-loop
 renumbered-requires c κs =
     let pre = c .before .before .before .before .before .pre in
     (subst (λ (v : ℕ). v < 2147483648) (sym (turning-at (c .before .before .before .loop .inv))) (pre .1 _), pre .0)
-
-mul-words : tie.Need-mul-words Inv-loop μ-loop
-mul-words c = search needs
-
-slice-write-words : tie.Need-slice-write-words Inv-loop μ-loop
-slice-write-words c = search needs
-
-add-i-2 : tie.Need-add-i-2 Inv-loop μ-loop
-add-i-2 c = search needs
-
-sub-left : tie.Need-sub-left Inv-loop μ-loop
-sub-left c = search needs
 
 loop-less-2 : tie.Need-loop-less-2 Inv-loop μ-loop
 loop-less-2 c = simp length-set (search needs)
@@ -72,17 +45,11 @@ renumber-cords-spec =
     Inv-loop
     μ-loop
     loop-holds
-    count-at-requires
-    add-i
-    loop-less
+    (λ c κs. search needs) (λ c. search needs) (λ c. search needs)
     loop-again
-    mul-renumbered
-    slice-read-renumbered
+    (λ c. search needs) (λ c. search needs)
     renumbered-requires
-    mul-words
-    slice-write-words
-    add-i-2
-    sub-left
+    (λ c. search needs) (λ c. search needs) (λ c. search needs) (λ c. search needs)
     loop-less-2
     loop-again-2
     same-length

@@ -18,25 +18,10 @@ abbrev μ-loop : tie.MeasureT-loop
 loop-holds : tie.Need-loop-holds Inv-loop μ-loop
 loop-holds c = turning-begin _ _
 
-mul-renumbered : tie.Need-mul-renumbered Inv-loop μ-loop
-mul-renumbered c = search needs
-
-slice-read-renumbered : tie.Need-slice-read-renumbered Inv-loop μ-loop
-slice-read-renumbered c = search needs
-
 renumbered-requires : tie.Need-renumbered-requires Inv-loop μ-loop
 renumbered-requires c κs =
     let pre = c .before .before .before .before .pre in
     (subst (λ (v : ℕ). v < 2147483648) (sym (turning-at (c .before .before .loop .inv))) (pre .3 _), pre .2)
-
-mul-words : tie.Need-mul-words Inv-loop μ-loop
-mul-words c = search needs
-
-slice-write-words : tie.Need-slice-write-words Inv-loop μ-loop
-slice-write-words c = search needs
-
-add-i : tie.Need-add-i Inv-loop μ-loop
-add-i c = search needs
 
 -- Earlier steps, each seen from a later one.
 abbrev start-from-slice-known2 : tie.After-slice-known2 Inv-loop μ-loop → tie.Start Inv-loop μ-loop
@@ -65,12 +50,9 @@ renumber-every-spec =
     Inv-loop
     μ-loop
     loop-holds
-    mul-renumbered
-    slice-read-renumbered
+    (λ c. search needs) (λ c. search needs)
     renumbered-requires
-    mul-words
-    slice-write-words
-    add-i
+    (λ c. search needs) (λ c. search needs) (λ c. search needs)
     loop-less
     loop-again
     same-length

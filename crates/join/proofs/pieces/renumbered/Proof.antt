@@ -4,12 +4,6 @@ use borrow.Author.Needs.{needs}
 use Rattle.join.proofs.pieces.renumbered.Statement.{statement}
 use Rattle.join.proofs.pieces.renumbered.Tie as tie
 
-returns : tie.Need-returns
-returns c = search needs
-
-add-raised : tie.Need-add-raised
-add-raised c = search needs
-
 returns-2 : tie.Need-returns-2
 returns-2 c = renumbered-low (c .before .before .args .up) (c .before .before .args .down) (c .before .before .args .number) (search needs)
 
@@ -17,4 +11,4 @@ returns-3 : tie.Need-returns-3
 returns-3 c = renumbered-is (c .before .before .args .up) (c .before .before .args .down) (c .before .before .args .number) (search needs)
 
 pub renumbered-spec : {M : Type 1} → statement M
-renumbered-spec = tie.close (tie.spec returns add-raised returns-2 returns-3)
+renumbered-spec = tie.close (tie.spec (λ c. search needs) (λ c. search needs) returns-2 returns-3)

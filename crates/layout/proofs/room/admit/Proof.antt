@@ -41,43 +41,19 @@ server-count c = c .server-count .ensures .0 (room (c .before) .value) (room (c 
 abbrev counted : (c : tie.Else1) → Left (table (c .before .before)) (demands (c .before .before)) (room (c .before .before) .value) (drop 1 (loadReasons (room (c .before .before) .value) (demands (c .before .before))))
 counted c = count-passed (table (c .before .before)) (demands (c .before .before)) (room (c .before .before)) _ (server-count (c .before)) (c .if1 .left)
 
-check-lows-requires : tie.Need-check-lows-requires
-check-lows-requires c κs = search needs
-
-enum-known-checked : tie.Need-enum-known-checked
-enum-known-checked c = search needs
-
-enum-known-checked-2 : tie.Need-enum-known-checked-2
-enum-known-checked-2 c = search needs
-
 returns : tie.Need-returns
 returns c = let told = c .before .before .before .check-lows .ensures in (table-told _ _ (told .0) (c .before .checked2 .given .1), told .1)
-
-server-count-requires : tie.Need-server-count-requires
-server-count-requires c κs = search needs
 
 returns-2 : tie.Need-returns-2
 returns-2 c =
     let k = c .before .before in
     (count-told (table k) (demands k) (room k) _ (server-count (c .before)) (c .if1 .taken), lows k)
 
-first-not-below-requires : tie.Need-first-not-below-requires
-first-not-below-requires c κs = search needs
-
 returns-3 : tie.Need-returns-3
 returns-3 c =
     let past = c .before .before in
     let k = past .before .before in
     (large-told (table k) (demands k) (room k) (counted past) _ (c .before .first-not-below .ensures) (c .if2 .taken), lows k)
-
-node-count-requires : tie.Need-node-count-requires
-node-count-requires c κs = search needs
-
-word-index-requires : tie.Need-word-index-requires
-word-index-requires c κs = search needs
-
-table-scale-requires : tie.Need-table-scale-requires
-table-scale-requires c κs = search needs
 
 returns-4 : tie.Need-returns-4
 returns-4 c =
@@ -98,15 +74,11 @@ pub admit-spec : {M : Type 1} → statement M
 admit-spec =
     tie.close
     (tie.spec
-    check-lows-requires
-    enum-known-checked
-    enum-known-checked-2
+    (λ c κs. search needs) (λ c. search needs) (λ c. search needs)
     returns
-    server-count-requires
+    (λ c κs. search needs)
     returns-2
-    first-not-below-requires
+    (λ c κs. search needs)
     returns-3
-    node-count-requires
-    word-index-requires
-    table-scale-requires
+    (λ c κs. search needs) (λ c κs. search needs) (λ c κs. search needs)
     returns-4)

@@ -43,18 +43,6 @@ figures-few f = omega (arith, f .load2 .ensures .0, f .load2 .kept .1 .0)
 words-few : (f : tie.After-load2) → words-f f .load .result ≤ length (words-f f .load .last .1 .0)
 words-few f = omega (arith, words-f f .load .ensures .0, words-f f .load .kept .1 .0)
 
-slice-aggregate-load : tie.Need-slice-aggregate-load
-slice-aggregate-load c = search needs
-
-load-requires : tie.Need-load-requires
-load-requires c κs = search needs
-
-slice-aggregate-load-2 : tie.Need-slice-aggregate-load-2
-slice-aggregate-load-2 c = search needs
-
-load-requires-2 : tie.Need-load-requires-2
-load-requires-2 c κs = search needs
-
 array-share-prefix-words : tie.Need-array-share-prefix-words
 array-share-prefix-words c = words-few (c .before)
 
@@ -66,30 +54,6 @@ array-share-prefix-figures c = figures-few (c .before .before)
 
 slice-aggregate-load-room-2 : tie.Need-slice-aggregate-load-room-2
 slice-aggregate-load-room-2 c = sym (length-take-le _ _ (figures-few (c .before .before .before)))
-
-load-room-requires : tie.Need-load-room-requires
-load-room-requires c κs = search needs
-
-same-length : tie.Need-same-length
-same-length c = search needs
-
-same-length-2 : tie.Need-same-length-2
-same-length-2 c = search needs
-
-same-length-3 : tie.Need-same-length-3
-same-length-3 c = search needs
-
-same-length-4 : tie.Need-same-length-4
-same-length-4 c = search needs
-
-same-length-5 : tie.Need-same-length-5
-same-length-5 c = search needs
-
-same-length-6 : tie.Need-same-length-6
-same-length-6 c = search needs
-
-same-length-7 : tie.Need-same-length-7
-same-length-7 c = search needs
 
 returns : tie.Need-returns
 returns c =
@@ -107,20 +71,11 @@ pub load-bytes-spec : {M : Type 1} → statement M
 load-bytes-spec =
     tie.close
     (tie.spec
-    slice-aggregate-load
-    load-requires
-    slice-aggregate-load-2
-    load-requires-2
+    (λ c. search needs) (λ c κs. search needs) (λ c. search needs) (λ c κs. search needs)
     array-share-prefix-words
     slice-aggregate-load-room
     array-share-prefix-figures
     slice-aggregate-load-room-2
-    load-room-requires
-    same-length
-    same-length-2
-    same-length-3
-    same-length-4
-    same-length-5
-    same-length-6
-    same-length-7
+    (λ c κs. search needs) (λ c. search needs) (λ c. search needs) (λ c. search needs) (λ c. search needs)
+    (λ c. search needs) (λ c. search needs) (λ c. search needs)
     returns)

@@ -84,12 +84,6 @@ nodes-x x = x .before .before .before .before .before .before .before .before .b
 abbrev cords-z : tie.After-slice-known12 → tie.After-load-cords
 cords-z c = c .before .before .before .before .before .before .before .before .before
 
-admit-requires : tie.Need-admit-requires
-admit-requires c κs = search needs
-
-enum-known-loaded : tie.Need-enum-known-loaded
-enum-known-loaded c = search needs
-
 array-share-prefix-beneath : tie.Need-array-share-prefix-beneath
 array-share-prefix-beneath c = beneath-few c
 
@@ -166,30 +160,6 @@ load-cords-requires c κs =
       needs-fit = servers-lent f _ (space k .for-needs);
     }
 
-enum-known-loaded-2 : tie.Need-enum-known-loaded-2
-enum-known-loaded-2 c = search needs
-
-same-length : tie.Need-same-length
-same-length c = search needs
-
-same-length-2 : tie.Need-same-length-2
-same-length-2 c = search needs
-
-same-length-3 : tie.Need-same-length-3
-same-length-3 c = search needs
-
-same-length-4 : tie.Need-same-length-4
-same-length-4 c = search needs
-
-same-length-5 : tie.Need-same-length-5
-same-length-5 c = search needs
-
-same-length-6 : tie.Need-same-length-6
-same-length-6 c = search needs
-
-same-length-7 : tie.Need-same-length-7
-same-length-7 c = search needs
-
 returns : tie.Need-returns
 returns c =
     let x = cords-z c in
@@ -220,8 +190,7 @@ pub load-room-spec : {M : Type 1} → statement M
 load-room-spec =
     tie.close
     (tie.spec
-    admit-requires
-    enum-known-loaded
+    (λ c κs. search needs) (λ c. search needs)
     array-share-prefix-beneath
     slice-aggregate-load-nodes
     slice-relend-prefix-load-nodes
@@ -240,13 +209,7 @@ load-room-spec =
     slice-relend-prefix-load-cords-5
     slice-aggregate-load-cords-5
     load-cords-requires
-    enum-known-loaded-2
-    same-length
-    same-length-2
-    same-length-3
-    same-length-4
-    same-length-5
-    same-length-6
-    same-length-7
+    (λ c. search needs) (λ c. search needs) (λ c. search needs) (λ c. search needs) (λ c. search needs)
+    (λ c. search needs) (λ c. search needs) (λ c. search needs)
     returns
     returns-2)

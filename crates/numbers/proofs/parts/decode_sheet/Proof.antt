@@ -16,18 +16,6 @@ abbrev μ-loop : tie.MeasureT-loop
 loop-holds : tie.Need-loop-holds Inv-loop μ-loop
 loop-holds c = reading-begin _ _ (λ i. c .before .shared-slice-known .given i .fits)
 
-decode-requires : tie.Need-decode-requires Inv-loop μ-loop
-decode-requires c κs = search needs
-
-enum-known-value : tie.Need-enum-known-value Inv-loop μ-loop
-enum-known-value c = search needs
-
-store-requires : tie.Need-store-requires Inv-loop μ-loop
-store-requires c κs = search needs
-
-add-count : tie.Need-add-count Inv-loop μ-loop
-add-count c = search needs
-
 loop-less : tie.Need-loop-less Inv-loop μ-loop
 loop-less c =
     let stored = c .before .before in
@@ -42,19 +30,10 @@ loop-again c =
     let turn = got .before .before .before .before .loop in
     reading-again _ _ _ _ _ (turn .inv) (search needs) _ _ (sym (got .value .given .1) ∙ got .before .before .decode .ensures) _ (stored .store .ensures)
 
-enum-known-fault : tie.Need-enum-known-fault Inv-loop μ-loop
-enum-known-fault c = search needs
-
-same-length : tie.Need-same-length Inv-loop μ-loop
-same-length c = search needs
-
 returns : tie.Need-returns Inv-loop μ-loop
 returns c =
     let call = c .before .before .before in
     reading-stop _ _ _ _ _ (call .before .before .loop .inv) (search needs) _ _ (sym (c .before .fault .given .1) ∙ call .decode .ensures)
-
-same-length-2 : tie.Need-same-length-2 Inv-loop μ-loop
-same-length-2 c = search needs
 
 returns-2 : tie.Need-returns-2 Inv-loop μ-loop
 returns-2 c = reading-end _ _ _ _ _ (c .before .loop .inv) (search needs)
@@ -66,14 +45,10 @@ decode-sheet-spec =
     Inv-loop
     μ-loop
     loop-holds
-    decode-requires
-    enum-known-value
-    store-requires
-    add-count
+    (λ c κs. search needs) (λ c. search needs) (λ c κs. search needs) (λ c. search needs)
     loop-less
     loop-again
-    enum-known-fault
-    same-length
+    (λ c. search needs) (λ c. search needs)
     returns
-    same-length-2
+    (λ c. search needs)
     returns-2)

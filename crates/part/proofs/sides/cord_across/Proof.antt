@@ -16,28 +16,10 @@ abbrev μ-loop : tie.MeasureT-loop
 loop-holds : tie.Need-loop-holds Inv-loop μ-loop
 loop-holds c = refl
 
-count-at-requires : tie.Need-count-at-requires Inv-loop μ-loop
-count-at-requires c κs = search needs
-
-add-i : tie.Need-add-i Inv-loop μ-loop
-add-i c = search needs
-
-loop-less : tie.Need-loop-less Inv-loop μ-loop
-loop-less c = search needs
-
 loop-again : tie.Need-loop-again Inv-loop μ-loop
 loop-again c =
     let loop = c .before .before in
     server-again _ _ _ _ _ _ (c .before .if1 .taken) (loop .before .before .before .pre) (c .count-at .ensures) (loop .before .loop .inv)
-
-mul-across : tie.Need-mul-across Inv-loop μ-loop
-mul-across c = search needs
-
-shared-slice-read-across : tie.Need-shared-slice-read-across Inv-loop μ-loop
-shared-slice-read-across c = search needs
-
-across-requires : tie.Need-across-requires Inv-loop μ-loop
-across-requires c κs = search needs
 
 returns : tie.Need-returns Inv-loop μ-loop
 returns c =
@@ -45,15 +27,6 @@ returns c =
     let some = across .before .before in
     let loop = some .before in
     cord-found _ _ _ _ _ _ (some .if1 .left) (loop .loop-test .taken) (loop .before .before .before .pre) (across .across .ensures) (c .if2 .taken) ∙ loop .before .loop .inv
-
-add-i-2 : tie.Need-add-i-2 Inv-loop μ-loop
-add-i-2 c = search needs
-
-sub-left : tie.Need-sub-left Inv-loop μ-loop
-sub-left c = search needs
-
-loop-less-2 : tie.Need-loop-less-2 Inv-loop μ-loop
-loop-less-2 c = search needs
 
 loop-again-2 : tie.Need-loop-again-2 Inv-loop μ-loop
 loop-again-2 c =
@@ -72,16 +45,10 @@ cord-across-spec =
     Inv-loop
     μ-loop
     loop-holds
-    count-at-requires
-    add-i
-    loop-less
+    (λ c κs. search needs) (λ c. search needs) (λ c. search needs)
     loop-again
-    mul-across
-    shared-slice-read-across
-    across-requires
+    (λ c. search needs) (λ c. search needs) (λ c κs. search needs)
     returns
-    add-i-2
-    sub-left
-    loop-less-2
+    (λ c. search needs) (λ c. search needs) (λ c. search needs)
     loop-again-2
     returns-2)

@@ -5,15 +5,6 @@ use borrow.Author.Needs.{needs}
 use Rattle.part.proofs.sides.first_across.Statement.{statement}
 use Rattle.part.proofs.sides.first_across.Tie as tie
 
-index-word-requires : tie.Need-index-word-requires
-index-word-requires c κs = search needs
-
-node-width-requires : tie.Need-node-width-requires
-node-width-requires c κs = search needs
-
-parent-across-requires : tie.Need-parent-across-requires
-parent-across-requires c κs = search needs
-
 returns : tie.Need-returns
 returns c =
     let parent = c .before in
@@ -21,9 +12,6 @@ returns c =
     let number = width .before in
     let args = number .before .before .args in
     parent-first (args .table .now) (args .one) (args .two) (number .index-word .ensures) (width .node-width .ensures .0) (parent .parent-across .ensures) (c .if1 .taken)
-
-cord-across-requires : tie.Need-cord-across-requires
-cord-across-requires c κs = search needs
 
 returns-2 : tie.Need-returns-2
 returns-2 c =
@@ -35,9 +23,6 @@ returns-2 c =
     let args = number .before .before .args in
     cord-first (args .table .now) (args .one) (args .two) (number .index-word .ensures) (width .node-width .ensures .0) (parent .parent-across .ensures)
     (omega (arith, none .if1 .left)) (cord .cord-across .ensures) (c .if2 .taken)
-
-cord-across-requires-2 : tie.Need-cord-across-requires-2
-cord-across-requires-2 c κs = search needs
 
 returns-3 : tie.Need-returns-3
 returns-3 c =
@@ -55,11 +40,9 @@ pub first-across-spec : {M : Type 1} → statement M
 first-across-spec =
     tie.close
     (tie.spec
-    index-word-requires
-    node-width-requires
-    parent-across-requires
+    (λ c κs. search needs) (λ c κs. search needs) (λ c κs. search needs)
     returns
-    cord-across-requires
+    (λ c κs. search needs)
     returns-2
-    cord-across-requires-2
+    (λ c κs. search needs)
     returns-3)

@@ -16,24 +16,12 @@ abbrev μ-loop : tie.MeasureT-loop
 loop-holds : tie.Need-loop-holds Inv-loop μ-loop
 loop-holds c = refl
 
-mul-across : tie.Need-mul-across Inv-loop μ-loop
-mul-across c = search needs
-
-shared-slice-read-across : tie.Need-shared-slice-read-across Inv-loop μ-loop
-shared-slice-read-across c = search needs
-
-across-requires : tie.Need-across-requires Inv-loop μ-loop
-across-requires c κs = search needs
-
 returns : tie.Need-returns Inv-loop μ-loop
 returns c =
     let across = c .before in
     let loop = across .before .before in
     let pre = loop .before .before .before .pre in
     parent-found _ _ _ _ _ (loop .loop-test .taken) (pre .1) (across .across .ensures) (c .if1 .taken) ∙ loop .before .loop .inv
-
-add-i : tie.Need-add-i Inv-loop μ-loop
-add-i c = search needs
 
 loop-less : tie.Need-loop-less Inv-loop μ-loop
 loop-less c =
@@ -58,11 +46,9 @@ parent-across-spec =
     Inv-loop
     μ-loop
     loop-holds
-    mul-across
-    shared-slice-read-across
-    across-requires
+    (λ c. search needs) (λ c. search needs) (λ c κs. search needs)
     returns
-    add-i
+    (λ c. search needs)
     loop-less
     loop-again
     returns-2)

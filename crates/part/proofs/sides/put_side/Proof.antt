@@ -27,15 +27,6 @@ size c =
     let args = start c .args in
     c .put-nodes .ensures .size ∙ head-length (args .words .now) (args .side .version) (counted c .index-word .result)
 
-node-width-requires : tie.Need-node-width-requires
-node-width-requires c κs = search needs
-
-slice-write-words : tie.Need-slice-write-words
-slice-write-words c = search needs
-
-index-word-requires : tie.Need-index-word-requires
-index-word-requires c κs = search needs
-
 slice-write-words-2 : tie.Need-slice-write-words-2
 slice-write-words-2 c =
     let start = c .before .before .before .before in
@@ -51,9 +42,6 @@ put-nodes-requires c κs =
       may-nodes (args .table .now) (args .side) (start .pre .0) (args .words .now) (start .pre .1) (head-length (args .words .now) (args .side .version) (counted .index-word .result)),
       (omega (arith, width .1), width .2, omega arith, start .pre .0 .below),
     )
-
-index-word-requires-2 : tie.Need-index-word-requires-2
-index-word-requires-2 c κs = search needs
 
 mul-words : tie.Need-mul-words
 mul-words c =
@@ -102,12 +90,10 @@ pub put-side-spec : {M : Type 1} → statement M
 put-side-spec =
     tie.close
     (tie.spec
-    node-width-requires
-    slice-write-words
-    index-word-requires
+    (λ c κs. search needs) (λ c. search needs) (λ c κs. search needs)
     slice-write-words-2
     put-nodes-requires
-    index-word-requires-2
+    (λ c κs. search needs)
     mul-words
     slice-write-words-3
     add-put-servers

@@ -12,9 +12,6 @@ returns c =
     let args = c .before .before .args in
     (span-past (args .words .now) (args .i) (omega arith), (omega arith, λ _. refl))
 
-count-at-requires : tie.Need-count-at-requires
-count-at-requires c κs = search needs
-
 -- A count is small.
 small : (c : tie.After-count-at) → c .count-at .result < 2147483648
 small c =
@@ -33,4 +30,4 @@ returns-2 c =
     (span-here (args .words .now) (args .i) (omega arith) (c .count-at .ensures), (omega (arith, small c), λ h. absurd (omega arith)))
 
 pub server-span-spec : {M : Type 1} → statement M
-server-span-spec = tie.close (tie.spec returns count-at-requires mul-result add-result returns-2)
+server-span-spec = tie.close (tie.spec returns (λ c κs. search needs) mul-result add-result returns-2)

@@ -26,12 +26,6 @@ server-span-requires c κs = c .before .before .before .pre .1
 add-i : tie.Need-add-i Inv-loop μ-loop
 add-i c = omega (arith, c .before .before .loop .inv .1, c .server-span .ensures .1 .0)
 
-add-counter : tie.Need-add-counter Inv-loop μ-loop
-add-counter c = search needs
-
-loop-less : tie.Need-loop-less Inv-loop μ-loop
-loop-less c = search needs
-
 loop-again : tie.Need-loop-again Inv-loop μ-loop
 loop-again c =
     let inv = c .before .before .loop .inv in
@@ -50,7 +44,6 @@ servers-end-spec =
     loop-holds
     server-span-requires
     add-i
-    add-counter
-    loop-less
+    (λ c. search needs) (λ c. search needs)
     loop-again
     returns)

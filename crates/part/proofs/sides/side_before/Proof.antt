@@ -9,9 +9,6 @@ use Rattle.part.proofs.sides.side_before.Tie as tie
 add-start : tie.Need-add-start
 add-start c = let within = starts-within (c .before .before .pre .0) in omega (arith, within .0, within .1)
 
-node-width-requires : tie.Need-node-width-requires
-node-width-requires c κs = search needs
-
 mul-t7 : tie.Need-mul-t7
 mul-t7 c = let pre = c .before .before .before .pre in omega (arith, nodes-small (pre .0) (pre .1) (c .node-width .ensures .0))
 
@@ -29,4 +26,4 @@ returns c =
 
 pub side-before-spec : {M : Type 1} → statement M
 side-before-spec =
-    tie.close (tie.spec add-start node-width-requires mul-t7 add-t8 servers-end-requires returns)
+    tie.close (tie.spec add-start (λ c κs. search needs) mul-t7 add-t8 servers-end-requires returns)

@@ -5,15 +5,6 @@ use borrow.Author.Needs.{needs}
 use Rattle.part.proofs.sides.side_behind.Statement.{statement}
 use Rattle.part.proofs.sides.side_behind.Tie as tie
 
-sub-t3 : tie.Need-sub-t3
-sub-t3 c = search needs
-
-sub-t4 : tie.Need-sub-t4
-sub-t4 c = search needs
-
-index-word-requires : tie.Need-index-word-requires
-index-word-requires c κs = search needs
-
 returns : tie.Need-returns
 returns c =
     let args = c .before .before .before .before .before .args in
@@ -29,4 +20,4 @@ returns c =
     }) (c .index-word .ensures)
 
 pub side-behind-spec : {M : Type 1} → statement M
-side-behind-spec = tie.close (tie.spec sub-t3 sub-t4 index-word-requires returns)
+side-behind-spec = tie.close (tie.spec (λ c. search needs) (λ c. search needs) (λ c κs. search needs) returns)

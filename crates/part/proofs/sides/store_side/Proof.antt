@@ -6,23 +6,11 @@ use borrow.Author.Needs.{needs}
 use Rattle.part.proofs.sides.store_side.Statement.{statement}
 use Rattle.part.proofs.sides.store_side.Tie as tie
 
-put-side-requires : tie.Need-put-side-requires
-put-side-requires c κs = search needs
-
 slice-reshare-prefix-store : tie.Need-slice-reshare-prefix-store
 slice-reshare-prefix-store c = search needs
 
 slice-aggregate-store : tie.Need-slice-aggregate-store
 slice-aggregate-store c = sym (length-take-le _ _ (slice-reshare-prefix-store (c .before)))
-
-store-requires : tie.Need-store-requires
-store-requires c κs = search needs
-
-same-length : tie.Need-same-length
-same-length c = search needs
-
-same-length-2 : tie.Need-same-length-2
-same-length-2 c = search needs
 
 returns : tie.Need-returns
 returns c =
@@ -36,10 +24,8 @@ pub store-side-spec : {M : Type 1} → statement M
 store-side-spec =
     tie.close
     (tie.spec
-    put-side-requires
+    (λ c κs. search needs)
     slice-reshare-prefix-store
     slice-aggregate-store
-    store-requires
-    same-length
-    same-length-2
+    (λ c κs. search needs) (λ c. search needs) (λ c. search needs)
     returns)

@@ -38,23 +38,8 @@ turn f = let placed = f .before .before .before in placed .before .before .befor
 loop-holds : tie.Need-loop-holds Inv-loop μ-loop
 loop-holds c = (omega arith, rises-start (c .before .before .before .before .pre .1 .1))
 
-mul-index : tie.Need-mul-index Inv-loop μ-loop
-mul-index c = search needs
-
-shared-slice-read-index : tie.Need-shared-slice-read-index Inv-loop μ-loop
-shared-slice-read-index c = search needs
-
-index-requires : tie.Need-index-requires Inv-loop μ-loop
-index-requires c κs = search needs
-
-mul-wide : tie.Need-mul-wide Inv-loop μ-loop
-mul-wide c = search needs
-
 shared-slice-read-wide : tie.Need-shared-slice-read-wide Inv-loop μ-loop
 shared-slice-read-wide c = let t = c .before .before .before .before in omega (arith, start (t .before) .pre .0 .2, t .loop-test .taken)
-
-mul-wide-2 : tie.Need-mul-wide-2 Inv-loop μ-loop
-mul-wide-2 c = search needs
 
 shared-slice-read-wide-2 : tie.Need-shared-slice-read-wide-2 Inv-loop μ-loop
 shared-slice-read-wide-2 c = let t = in-loop-from-index (c .before .before) in omega (arith, start (t .before) .pre .0 .1, t .loop-test .taken)
@@ -62,20 +47,11 @@ shared-slice-read-wide-2 c = let t = in-loop-from-index (c .before .before) in o
 sub-wide : tie.Need-sub-wide Inv-loop μ-loop
 sub-wide c = let t = in-loop-from-index (c .before .before) in start (t .before) .pre .1 .0 _ (t .loop-test .taken) .2
 
-wide-requires : tie.Need-wide-requires Inv-loop μ-loop
-wide-requires c κs = search needs
-
 credit-requires : tie.Need-credit-requires Inv-loop μ-loop
 credit-requires c κs =
     let t = turn c in
     let asked = start (t .before) .pre in
     rise-fits (t .before .loop .inv .1) (c .before .before .before .index .ensures .0) (c .wide .ensures .0) (asked .1 .0 _ (t .loop-test .taken)) (omega (arith, asked .0 .0, t .loop-test .taken))
-
-add-c : tie.Need-add-c Inv-loop μ-loop
-add-c c = search needs
-
-loop-less : tie.Need-loop-less Inv-loop μ-loop
-loop-less c = search needs
 
 loop-again : tie.Need-loop-again Inv-loop μ-loop
 loop-again c =
@@ -100,18 +76,14 @@ credit-rises-spec =
     Inv-loop
     μ-loop
     loop-holds
-    mul-index
-    shared-slice-read-index
-    index-requires
-    mul-wide
+    (λ c. search needs) (λ c. search needs) (λ c κs. search needs) (λ c. search needs)
     shared-slice-read-wide
-    mul-wide-2
+    (λ c. search needs)
     shared-slice-read-wide-2
     sub-wide
-    wide-requires
+    (λ c κs. search needs)
     credit-requires
-    add-c
-    loop-less
+    (λ c. search needs) (λ c. search needs)
     loop-again
     same-length
     returns)

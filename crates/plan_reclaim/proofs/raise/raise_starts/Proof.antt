@@ -67,9 +67,6 @@ slice-aggregate-take-rises c = lent-front (zeros-lent (c .before .before))
 take-rises-requires : tie.Need-take-rises-requires
 take-rises-requires c κs = let k = c .before .before .before in take-asks (start k .pre) (raised k)
 
-same-length : tie.Need-same-length
-same-length c = search needs
-
 returns : tie.Need-returns
 returns c = let k = raised2-from-raised4 (c .before .before) .before in raised-end (start k .pre) (raised k) (c .before .before .before .take-rises .last .1 .1 .0) (c .before .before .before .take-rises .ensures)
 
@@ -83,5 +80,5 @@ raise-starts-spec =
     array-borrow-prefix-raised-2
     slice-aggregate-take-rises
     take-rises-requires
-    same-length
+    (λ c. search needs)
     returns)

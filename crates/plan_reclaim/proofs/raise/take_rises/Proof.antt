@@ -36,23 +36,11 @@ there t = node-there (taken t)
 loop-holds : tie.Need-loop-holds Inv-loop μ-loop
 loop-holds c = taken-start
 
-sub-n : tie.Need-sub-n Inv-loop μ-loop
-sub-n c = search needs
-
-mul-more : tie.Need-mul-more Inv-loop μ-loop
-mul-more c = search needs
-
 slice-read-more : tie.Need-slice-read-more Inv-loop μ-loop
 slice-read-more c = let t = c .before in omega (arith, there t, taken t .summed .size, begun t .pre .0 .0)
 
-mul-wide : tie.Need-mul-wide Inv-loop μ-loop
-mul-wide c = search needs
-
 slice-read-wide : tie.Need-slice-read-wide Inv-loop μ-loop
 slice-read-wide c = let t = c .before .before in omega (arith, there t, taken t .size, begun t .pre .0 .1)
-
-wide-requires : tie.Need-wide-requires Inv-loop μ-loop
-wide-requires c κs = search needs
 
 sub-narrow : tie.Need-sub-narrow Inv-loop μ-loop
 sub-narrow c = let t = c .before .before .before in omega (arith, taken-fits (taken t) (begun t .pre .1 .0) (begun t .pre .1 .1), c .wide .ensures .0)
@@ -60,14 +48,8 @@ sub-narrow c = let t = c .before .before .before in omega (arith, taken-fits (ta
 narrow-requires : tie.Need-narrow-requires Inv-loop μ-loop
 narrow-requires c κs = omega (arith, c .wide .ensures .1)
 
-mul-left : tie.Need-mul-left Inv-loop μ-loop
-mul-left c = search needs
-
 slice-write-left : tie.Need-slice-write-left Inv-loop μ-loop
 slice-write-left c = let t = c .before .before .before .before in omega (arith, there t, taken t .size, begun t .pre .0 .1)
-
-mul-index : tie.Need-mul-index Inv-loop μ-loop
-mul-index c = search needs
 
 -- Earlier steps, each seen from a later one.
 abbrev in-loop-from-narrow : tie.After-narrow Inv-loop μ-loop → tie.In-loop Inv-loop μ-loop
@@ -82,17 +64,11 @@ narrow-from-credit c = c .before .before .before .before
 shared-slice-read-index : tie.Need-shared-slice-read-index Inv-loop μ-loop
 shared-slice-read-index c = there (in-loop-from-narrow (c .before .before))
 
-index-requires : tie.Need-index-requires Inv-loop μ-loop
-index-requires c κs = search needs
-
 credit-requires : tie.Need-credit-requires Inv-loop μ-loop
 credit-requires c κs =
     let t = in-loop-from-narrow (c .before .before .before) in
     let asked = begun t .pre in
     summing-fits (asked .1 .0) (omega (arith, asked .0 .0), asked .0 .2) (taken t .summed) (c .index .ensures .0)
-
-loop-less : tie.Need-loop-less Inv-loop μ-loop
-loop-less c = search needs
 
 loop-again : tie.Need-loop-again Inv-loop μ-loop
 loop-again c =
@@ -117,21 +93,20 @@ take-rises-spec =
     Inv-loop
     μ-loop
     loop-holds
-    sub-n
-    mul-more
+    (λ c. search needs) (λ c. search needs)
     slice-read-more
-    mul-wide
+    (λ c. search needs)
     slice-read-wide
-    wide-requires
+    (λ c κs. search needs)
     sub-narrow
     narrow-requires
-    mul-left
+    (λ c. search needs)
     slice-write-left
-    mul-index
+    (λ c. search needs)
     shared-slice-read-index
-    index-requires
+    (λ c κs. search needs)
     credit-requires
-    loop-less
+    (λ c. search needs)
     loop-again
     same-length
     same-length-2

@@ -10,9 +10,6 @@ use Rattle.rooms.proofs.form.limit_at.Tie as tie
 add-limit-of : tie.Need-add-limit-of
 add-limit-of c = omega (arith, c .before .before .pre .0)
 
-mul-limit-of : tie.Need-mul-limit-of
-mul-limit-of c = search needs
-
 shared-slice-read-limit-of : tie.Need-shared-slice-read-limit-of
 shared-slice-read-limit-of c = omega (arith, c .before .before .before .pre .0, words-two (c .before .before .before .args .percents))
 
@@ -31,14 +28,8 @@ limit-of-requires c κs = percent-most (c .before .before .before .before .args 
 add-limit-of-3 : tie.Need-add-limit-of-3
 add-limit-of-3 c = omega (arith, c .before .before .pre .0)
 
-mul-limit-of-3 : tie.Need-mul-limit-of-3
-mul-limit-of-3 c = search needs
-
 shared-slice-read-limit-of-3 : tie.Need-shared-slice-read-limit-of-3
 shared-slice-read-limit-of-3 c = omega (arith, c .before .before .before .pre .0, words-two (c .before .before .before .args .percents))
-
-limit-of-requires-2 : tie.Need-limit-of-requires-2
-limit-of-requires-2 c κs = search needs
 
 -- Earlier steps, each seen from a later one.
 abbrev start-from-shared-slice-known3 : tie.After-shared-slice-known3 → tie.Start
@@ -55,15 +46,15 @@ limit-at-spec =
     tie.close
     (tie.spec
     add-limit-of
-    mul-limit-of
+    (λ c. search needs)
     shared-slice-read-limit-of
     add-limit-of-2
     mul-limit-of-2
     shared-slice-read-limit-of-2
     limit-of-requires
     add-limit-of-3
-    mul-limit-of-3
+    (λ c. search needs)
     shared-slice-read-limit-of-3
-    limit-of-requires-2
+    (λ c κs. search needs)
     returns
     returns-2)

@@ -6,17 +6,8 @@ use borrow.Author.Needs.{needs}
 use Rattle.rooms.proofs.limits.carried_by.Statement.{statement}
 use Rattle.rooms.proofs.limits.carried_by.Tie as tie
 
-wide-requires : tie.Need-wide-requires
-wide-requires c κs = search needs
-
-wide-requires-2 : tie.Need-wide-requires-2
-wide-requires-2 c κs = search needs
-
 mul-parts : tie.Need-mul-parts
 mul-parts c = omega (arith, product-most (c .before .wide .ensures .0) (c .wide2 .ensures .0) (c .before .before .pre))
-
-wide-requires-3 : tie.Need-wide-requires-3
-wide-requires-3 c κs = search needs
 
 sub-parts : tie.Need-sub-parts
 sub-parts c = omega (arith, c .wide3 .ensures .0, c .before .before .before .pre .0 .0)
@@ -50,9 +41,6 @@ returns-2 : tie.Need-returns-2
 returns-2 c =
     carried-is (wide-from-Then2 (c .before) .wide .ensures .0) (c .before .before .before .before .wide2 .ensures .0) (c .before .before .before .wide3 .ensures .0) (sym (c .before .if2 .taken)) (c .narrow2 .ensures)
 
-wide-requires-4 : tie.Need-wide-requires-4
-wide-requires-4 c κs = search needs
-
 div-narrow : tie.Need-div-narrow
 div-narrow c = omega (arith, c .wide4 .ensures .0, wide-from-Else2 (c .before) .before .pre .0 .0)
 
@@ -68,17 +56,16 @@ pub carried-by-spec : {M : Type 1} → statement M
 carried-by-spec =
     tie.close
     (tie.spec
-    wide-requires
-    wide-requires-2
+    (λ c κs. search needs) (λ c κs. search needs)
     mul-parts
-    wide-requires-3
+    (λ c κs. search needs)
     sub-parts
     add-parts
     narrow-requires
     returns
     narrow-requires-2
     returns-2
-    wide-requires-4
+    (λ c κs. search needs)
     div-narrow
     narrow-requires-3
     returns-3)

@@ -6,12 +6,6 @@ use borrow.Author.Needs.{needs}
 use Rattle.rooms.proofs.limits.limit_of.Statement.{statement}
 use Rattle.rooms.proofs.limits.limit_of.Tie as tie
 
-wide-requires : tie.Need-wide-requires
-wide-requires c κs = search needs
-
-wide-requires-2 : tie.Need-wide-requires-2
-wide-requires-2 c κs = search needs
-
 mul-narrow : tie.Need-mul-narrow
 mul-narrow c = omega (arith, limit-most (c .wide2 .ensures .0) (c .before .wide .ensures .1) (c .before .before .pre) .0)
 
@@ -23,4 +17,4 @@ returns c = c .narrow .ensures ∙ rw (c .before .before .wide .ensures .0, c .b
 
 pub limit-of-spec : {M : Type 1} → statement M
 limit-of-spec =
-    tie.close (tie.spec wide-requires wide-requires-2 mul-narrow narrow-requires returns)
+    tie.close (tie.spec (λ c κs. search needs) (λ c κs. search needs) mul-narrow narrow-requires returns)

@@ -4,23 +4,8 @@ use Rattle.rooms.proofs.Counts.{cords-none, cords-told}
 use Rattle.rooms.proofs.lists.cord_count.Statement.{statement}
 use Rattle.rooms.proofs.lists.cord_count.Tie as tie
 
-first-server-requires : tie.Need-first-server-requires
-first-server-requires c κs = search needs
-
-server-count-requires : tie.Need-server-count-requires
-server-count-requires c κs = search needs
-
-mul-others : tie.Need-mul-others
-mul-others c = search needs
-
-add-others : tie.Need-add-others
-add-others c = search needs
-
 returns : tie.Need-returns
 returns c = cords-none _ (c .before .before .first-server .ensures .0) (c .before .server-count .ensures .0) (c .if1 .taken)
-
-sub-result : tie.Need-sub-result
-sub-result c = search needs
 
 returns-2 : tie.Need-returns-2
 returns-2 c = cords-told _ (c .before .before .first-server .ensures .0) (c .before .server-count .ensures .0)
@@ -29,10 +14,7 @@ pub cord-count-spec : {M : Type 1} → statement M
 cord-count-spec =
     tie.close
     (tie.spec
-    first-server-requires
-    server-count-requires
-    mul-others
-    add-others
+    (λ c κs. search needs) (λ c κs. search needs) (λ c. search needs) (λ c. search needs)
     returns
-    sub-result
+    (λ c. search needs)
     returns-2)

@@ -65,12 +65,6 @@ fits h = node-fits _ _ _ (h .node-index .ensures) (nodes (of-node h)) (h .before
 
 -- ---- The needs
 
-word-requires : tie.Need-word-requires Inv-loop μ-loop
-word-requires c κs = search needs
-
-has-percents-requires : tie.Need-has-percents-requires Inv-loop μ-loop
-has-percents-requires c κs = search needs
-
 loop-holds : tie.Need-loop-holds Inv-loop μ-loop
 loop-holds c = (omega arith, filled-none _ _, filled-none _ _)
 
@@ -146,8 +140,7 @@ lay-out-nodes-spec =
     (tie.spec
     Inv-loop
     μ-loop
-    word-requires
-    has-percents-requires
+    (λ c κs. search needs) (λ c κs. search needs)
     loop-holds
     node-index-requires
     mul-short

@@ -57,9 +57,6 @@ turn-passed p = turn-begun (p .before)
 
 -- ---- The needs
 
-first-server-requires : tie.Need-first-server-requires Inv-loop2 μ-loop2 Inv-loop μ-loop
-first-server-requires c κs = search needs
-
 loop-holds : tie.Need-loop-holds Inv-loop2 μ-loop2 Inv-loop μ-loop
 loop-holds c = (omega arith, omega arith, laying-start (c .before .before .pre .0) (c .before .before .pre .1 .0) (c .before .before .pre .1 .1) (c .first-server .ensures .0))
 
@@ -77,9 +74,6 @@ mul-word-index c = omega (arith, standing (c .before) .there)
 
 shared-slice-read-word-index : tie.Need-shared-slice-read-word-index Inv-loop2 μ-loop2 Inv-loop μ-loop
 shared-slice-read-word-index c = omega (arith, standing (c .before .before) .there)
-
-word-index-requires : tie.Need-word-index-requires Inv-loop2 μ-loop2 Inv-loop μ-loop
-word-index-requires c κs = search needs
 
 add-word : tie.Need-add-word Inv-loop2 μ-loop2 Inv-loop μ-loop
 add-word c = omega (arith, standing (c .before .before .before) .there)
@@ -192,14 +186,14 @@ lay-out-servers-spec =
     μ-loop2
     Inv-loop
     μ-loop
-    first-server-requires
+    (λ c κs. search needs)
     loop-holds
     mul-rank
     shared-slice-read-rank
     add-word-index
     mul-word-index
     shared-slice-read-word-index
-    word-index-requires
+    (λ c κs. search needs)
     add-word
     add-c-end
     loop2-holds

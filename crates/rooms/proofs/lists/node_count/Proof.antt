@@ -5,12 +5,6 @@ use Rattle.rooms.proofs.Counts.{nodes-told}
 use Rattle.rooms.proofs.lists.node_count.Statement.{statement}
 use Rattle.rooms.proofs.lists.node_count.Tie as tie
 
-word-requires : tie.Need-word-requires
-word-requires c κs = search needs
-
-word-index-requires : tie.Need-word-index-requires
-word-index-requires c κs = search needs
-
 returns : tie.Need-returns
 returns c = let is = c .word-index .ensures .0 ∙ c .before .word .ensures in (nodes-told _ is, (is, c .word-index .ensures .1))
 
@@ -18,6 +12,5 @@ pub node-count-spec : {M : Type 1} → statement M
 node-count-spec =
     tie.close
     (tie.spec
-    word-requires
-    word-index-requires
+    (λ c κs. search needs) (λ c κs. search needs)
     returns)

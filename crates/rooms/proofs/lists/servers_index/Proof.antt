@@ -4,18 +4,6 @@ use Rattle.rooms.proofs.Counts.{index-told}
 use Rattle.rooms.proofs.lists.servers_index.Statement.{statement}
 use Rattle.rooms.proofs.lists.servers_index.Tie as tie
 
-word-requires : tie.Need-word-requires
-word-requires c κs = search needs
-
-has-percents-requires : tie.Need-has-percents-requires
-has-percents-requires c κs = search needs
-
-node-count-requires : tie.Need-node-count-requires
-node-count-requires c κs = search needs
-
-node-index-requires : tie.Need-node-index-requires
-node-index-requires c κs = search needs
-
 returns : tie.Need-returns
 returns c =
     let read = c .before .before .before in
@@ -25,8 +13,5 @@ pub servers-index-spec : {M : Type 1} → statement M
 servers-index-spec =
     tie.close
     (tie.spec
-    word-requires
-    has-percents-requires
-    node-count-requires
-    node-index-requires
+    (λ c κs. search needs) (λ c κs. search needs) (λ c κs. search needs) (λ c κs. search needs)
     returns)

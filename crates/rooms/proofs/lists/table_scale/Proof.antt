@@ -4,12 +4,6 @@ use Rattle.rooms.proofs.Counts.{scale-told}
 use Rattle.rooms.proofs.lists.table_scale.Statement.{statement}
 use Rattle.rooms.proofs.lists.table_scale.Tie as tie
 
-word-requires : tie.Need-word-requires
-word-requires c κs = search needs
-
-scale-of-requires : tie.Need-scale-of-requires
-scale-of-requires c κs = search needs
-
 returns : tie.Need-returns
 returns c = scale-told _ (c .before .word .ensures) (c .scale-of .ensures)
 
@@ -17,6 +11,5 @@ pub table-scale-spec : {M : Type 1} → statement M
 table-scale-spec =
     tie.close
     (tie.spec
-    word-requires
-    scale-of-requires
+    (λ c κs. search needs) (λ c κs. search needs)
     returns)

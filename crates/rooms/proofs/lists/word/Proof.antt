@@ -5,15 +5,6 @@ use borrow.Author.Needs.{needs}
 use Rattle.rooms.proofs.lists.word.Statement.{statement}
 use Rattle.rooms.proofs.lists.word.Tie as tie
 
-mul-result : tie.Need-mul-result
-mul-result c = search needs
-
-shared-slice-read-result : tie.Need-shared-slice-read-result
-shared-slice-read-result c = search needs
-
-returns : tie.Need-returns
-returns c = search needs
-
 returns-2 : tie.Need-returns-2
 returns-2 c = sym (List·getD-eq-default (c .before .args .table .now) 0 {n = c .before .args .i} (c .if1 .left))
 
@@ -21,7 +12,5 @@ pub word-spec : {M : Type 1} → statement M
 word-spec =
     tie.close
     (tie.spec
-    mul-result
-    shared-slice-read-result
-    returns
+    (λ c. search needs) (λ c. search needs) (λ c. search needs)
     returns-2)

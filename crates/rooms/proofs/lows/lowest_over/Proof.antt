@@ -18,9 +18,6 @@ abbrev μ-loop : tie.MeasureT-loop
 loop-holds : tie.Need-loop-holds Inv-loop μ-loop
 loop-holds c = gathered-start _ _ _ _
 
-sub-n : tie.Need-sub-n Inv-loop μ-loop
-sub-n c = search needs
-
 mul-sum : tie.Need-mul-sum Inv-loop μ-loop
 mul-sum c = omega (arith, c .before .loop .inv .all, c .before .before .before .before .pre .0 .0 .few)
 
@@ -58,9 +55,6 @@ node-index-requires c κs = omega (arith, c .before .before .loop .inv .all, sta
 limit-at-requires : tie.Need-limit-at-requires Inv-loop μ-loop
 limit-at-requires c κs = node-fits _ _ _ (c .node-index .ensures) (start-from-in-loop (c .before .before) .pre .0 .0) (omega (arith, c .before .before .before .loop .inv .all, c .before .before .loop-test .taken))
 
-wide-requires : tie.Need-wide-requires Inv-loop μ-loop
-wide-requires c κs = search needs
-
 noted-requires : tie.Need-noted-requires Inv-loop μ-loop
 noted-requires c κs = omega (arith, in-loop-from-wide c .before .loop .inv .all, start-from-wide c .pre .0 .0 .few, c .before .before .before .before .loop-test .taken)
 
@@ -69,9 +63,6 @@ mul-word-index c = omega (arith, node-fits _ _ _ (c .before .before .before .bef
 
 shared-slice-read-word-index : tie.Need-shared-slice-read-word-index Inv-loop μ-loop
 shared-slice-read-word-index c = omega (arith, node-fits _ _ _ (node-index-from-wide (c .before .before .before) .node-index .ensures) (start-from-wide (c .before .before .before) .pre .0 .0) (omega (arith, in-loop-from-wide (c .before .before .before) .before .loop .inv .all, in-loop-from-wide (c .before .before .before) .loop-test .taken)) .0, words-two (start-from-wide (c .before .before .before) .args .percents))
-
-word-index-requires : tie.Need-word-index-requires Inv-loop μ-loop
-word-index-requires c κs = search needs
 
 credit-requires : tie.Need-credit-requires Inv-loop μ-loop
 credit-requires c κs =
@@ -84,9 +75,6 @@ credit-requires c κs =
       omega (arith, l .inv .all, l .inv .size, pre .0 .1, above, rise),
       omega (arith, most (l .n - 1) inside, most (c .word-index .result - 1) (omega (arith, l .inv .all, above, rise)), pre .1),
     )
-
-loop-less : tie.Need-loop-less Inv-loop μ-loop
-loop-less c = search needs
 
 loop-again : tie.Need-loop-again Inv-loop μ-loop
 loop-again c =
@@ -109,18 +97,18 @@ lowest-over-spec =
     Inv-loop
     μ-loop
     loop-holds
-    sub-n
+    (λ c. search needs)
     mul-sum
     slice-read-sum
     node-index-requires
     limit-at-requires
-    wide-requires
+    (λ c κs. search needs)
     noted-requires
     mul-word-index
     shared-slice-read-word-index
-    word-index-requires
+    (λ c κs. search needs)
     credit-requires
-    loop-less
+    (λ c. search needs)
     loop-again
     same-length
     returns)

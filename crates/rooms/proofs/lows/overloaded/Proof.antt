@@ -17,14 +17,8 @@ shared-slice-read-has-percents c = omega (arith, layout _ _ _ _ refl (c .before 
 abbrev start : tie.After-has-percents → tie.Start
 start c = c .before .before .before .before
 
-has-percents-requires : tie.Need-has-percents-requires
-has-percents-requires c κs = search needs
-
 shared-slice-read-word-index : tie.Need-shared-slice-read-word-index
 shared-slice-read-word-index c = omega (arith, layout _ _ _ _ refl (start (c .before) .pre .0 .0 .is) .there)
-
-word-index-requires : tie.Need-word-index-requires
-word-index-requires c κs = search needs
 
 lowest-over-requires : tie.Need-lowest-over-requires
 lowest-over-requires c κs =
@@ -37,9 +31,6 @@ lowest-over-requires c κs =
       (nodes-read _ _ _ _ _ is (formed .has-percents .ensures) refl, omega (arith, is .most, begun .pre .0 .1)),
       rw count (omega (arith, begun .pre .1 .grow (good .value) _ (good .is))),
     )
-
-same-length : tie.Need-same-length
-same-length c = search needs
 
 returns : tie.Need-returns
 returns c =
@@ -57,9 +48,9 @@ overloaded-spec =
     tie.close
     (tie.spec
     shared-slice-read-has-percents
-    has-percents-requires
+    (λ c κs. search needs)
     shared-slice-read-word-index
-    word-index-requires
+    (λ c κs. search needs)
     lowest-over-requires
-    same-length
+    (λ c. search needs)
     returns)

@@ -7,26 +7,11 @@ use Rattle.rooms.proofs.Outcomes.{refused-so}
 use Rattle.rooms.proofs.parts.check_lows.Statement.{statement}
 use Rattle.rooms.proofs.parts.check_lows.Tie as tie
 
-clear-requires : tie.Need-clear-requires
-clear-requires c κs = search needs
-
-check-summing-requires : tie.Need-check-summing-requires
-check-summing-requires c κs = search needs
-
-enum-told : tie.Need-enum-told
-enum-told c = search needs
-
-clear-requires-2 : tie.Need-clear-requires-2
-clear-requires-2 c κs = search needs
-
 returns : tie.Need-returns
 unfolding lowsTold
 returns c =
     let checked = c .before .before .before .before .check-summing .ensures .0 in
     (checked, c .clear2 .ensures ∙ sym (ap lowsTold (refused-so _ _ checked (c .before .before .enum-told .given .1))))
-
-enum-told-2 : tie.Need-enum-told-2
-enum-told-2 c = search needs
 
 returns-2 : tie.Need-returns-2
 unfolding lowsTold
@@ -39,10 +24,7 @@ pub check-lows-spec : {M : Type 1} → statement M
 check-lows-spec =
     tie.close
     (tie.spec
-    clear-requires
-    check-summing-requires
-    enum-told
-    clear-requires-2
+    (λ c κs. search needs) (λ c κs. search needs) (λ c. search needs) (λ c κs. search needs)
     returns
-    enum-told-2
+    (λ c. search needs)
     returns-2)

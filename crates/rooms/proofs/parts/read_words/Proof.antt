@@ -4,18 +4,6 @@ use borrow.Author.Needs.{needs}
 use Rattle.rooms.proofs.parts.read_words.Statement.{statement}
 use Rattle.rooms.proofs.parts.read_words.Tie as tie
 
-decode-sheet-requires : tie.Need-decode-sheet-requires
-decode-sheet-requires c κs = search needs
-
-enum-known-judged : tie.Need-enum-known-judged
-enum-known-judged c = search needs
-
-enum-known-judged-2 : tie.Need-enum-known-judged-2
-enum-known-judged-2 c = search needs
-
-same-length : tie.Need-same-length
-same-length c = search needs
-
 -- The call that reads the sheet.
 abbrev call : tie.After-slice-known2 → tie.After-decode-sheet
 call c = c .before .before
@@ -30,20 +18,8 @@ returns c =
     let sheet = read .decode-sheet .ensures in
     (first-bad-number (args .sheet .now) (args .words .now) (args .space) (sheet .0) (c .before .judged2 .given .1), sheet .1)
 
-least-requires : tie.Need-least-requires
-least-requires c κs = search needs
-
-slice-reshare-prefix-answer-for : tie.Need-slice-reshare-prefix-answer-for
-slice-reshare-prefix-answer-for c = search needs
-
 slice-aggregate-answer-for : tie.Need-slice-aggregate-answer-for
 slice-aggregate-answer-for c = front-length _ _ (c .before .least .ensures)
-
-answer-for-requires : tie.Need-answer-for-requires
-answer-for-requires c κs = search needs
-
-same-length-2 : tie.Need-same-length-2
-same-length-2 c = search needs
 
 returns-2 : tie.Need-returns-2
 returns-2 c =
@@ -58,14 +34,9 @@ pub read-words-spec : {M : Type 1} → statement M
 read-words-spec =
     tie.close
     (tie.spec
-    decode-sheet-requires
-    enum-known-judged
-    enum-known-judged-2
-    same-length
+    (λ c κs. search needs) (λ c. search needs) (λ c. search needs) (λ c. search needs)
     returns
-    least-requires
-    slice-reshare-prefix-answer-for
+    (λ c κs. search needs) (λ c. search needs)
     slice-aggregate-answer-for
-    answer-for-requires
-    same-length-2
+    (λ c κs. search needs) (λ c. search needs)
     returns-2)

@@ -6,21 +6,9 @@ use borrow.Author.Needs.{needs}
 use Rattle.rooms.proofs.table.check_cord.Statement.{statement}
 use Rattle.rooms.proofs.table.check_cord.Tie as tie
 
-check-word-requires : tie.Need-check-word-requires
-check-word-requires c κs = search needs
-
-enum-known-node : tie.Need-enum-known-node
-enum-known-node c = search needs
-
-enum-told : tie.Need-enum-told
-enum-told c = search needs
-
 returns : tie.Need-returns
 unfolding cord
 returns c = stop _ _ _ _ (c .before .before .check-word .ensures) (c .enum-told .given .1)
-
-check-word-requires-2 : tie.Need-check-word-requires-2
-check-word-requires-2 c κs = search needs
 
 returns-2 : tie.Need-returns-2
 unfolding cord
@@ -31,9 +19,7 @@ pub check-cord-spec : {M : Type 1} → statement M
 check-cord-spec =
     tie.close
     (tie.spec
-    check-word-requires
-    enum-known-node
-    enum-told
+    (λ c κs. search needs) (λ c. search needs) (λ c. search needs)
     returns
-    check-word-requires-2
+    (λ c κs. search needs)
     returns-2)

@@ -25,15 +25,6 @@ abbrev μ-loop : tie.MeasureT-loop
 loop-holds : tie.Need-loop-holds Inv-loop μ-loop
 loop-holds c = (omega (arith, c .before .before .pre .0 .1), row-start _ _ _ _ _ _ _, crediting-start _ _ _ 0 _)
 
-check-cord-requires : tie.Need-check-cord-requires Inv-loop μ-loop
-check-cord-requires c κs = search needs
-
-enum-known-cord : tie.Need-enum-known-cord Inv-loop μ-loop
-enum-known-cord c = search needs
-
-enum-told : tie.Need-enum-told Inv-loop μ-loop
-enum-told c = search needs
-
 same-length : tie.Need-same-length Inv-loop μ-loop
 same-length c = c .before .before .before .before .loop .inv .2 .length-is
 
@@ -73,12 +64,6 @@ mul-word-index c = omega (arith, next-cord _ _ (check-cord-from-carried-by (c .b
 shared-slice-read-word-index : tie.Need-shared-slice-read-word-index Inv-loop μ-loop
 shared-slice-read-word-index c = omega (arith, next-cord _ _ (check-cord-from-carried-by (c .before .before) .before .before .loop .inv .2) (check-cord-from-carried-by (c .before .before) .before .loop-test .taken) (check-cord-from-carried-by (c .before .before) .check-cord .ensures) (c .before .before .before .before .cord .given .1) .there)
 
-word-index-requires : tie.Need-word-index-requires Inv-loop μ-loop
-word-index-requires c κs = search needs
-
-wide-requires : tie.Need-wide-requires Inv-loop μ-loop
-wide-requires c κs = search needs
-
 credit-requires : tie.Need-credit-requires Inv-loop μ-loop
 credit-requires c κs =
     let n = next-cord _ _ (check-cord-from-wide c .before .before .loop .inv .2) (check-cord-from-wide c .before .loop-test .taken) (check-cord-from-wide c .check-cord .ensures) (carried-by-from-wide c .before .before .cord .given .1) in
@@ -89,12 +74,6 @@ credit-requires c κs =
 
 add-sum : tie.Need-add-sum Inv-loop μ-loop
 add-sum c = omega (arith, cord-most _ _ _ _ (check-cord-from-wide (c .before .before .before) .check-cord .ensures) (carried-by-from-wide (c .before .before .before) .before .before .cord .given .1), check-cord-from-wide (c .before .before .before) .before .before .loop .inv .0, shared-slice-known-from-wide (c .before .before .before) .before .pre .0 .0 .1)
-
-sub-left : tie.Need-sub-left Inv-loop μ-loop
-sub-left c = search needs
-
-loop-less : tie.Need-loop-less Inv-loop μ-loop
-loop-less c = search needs
 
 loop-again : tie.Need-loop-again Inv-loop μ-loop
 loop-again c =
@@ -122,20 +101,16 @@ check-cords-spec =
     Inv-loop
     μ-loop
     loop-holds
-    check-cord-requires
-    enum-known-cord
-    enum-told
+    (λ c κs. search needs) (λ c. search needs) (λ c. search needs)
     same-length
     returns
     carried-by-requires
     mul-word-index
     shared-slice-read-word-index
-    word-index-requires
-    wide-requires
+    (λ c κs. search needs) (λ c κs. search needs)
     credit-requires
     add-sum
-    sub-left
-    loop-less
+    (λ c. search needs) (λ c. search needs)
     loop-again
     same-length-2
     returns-2)

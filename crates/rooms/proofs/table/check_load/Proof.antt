@@ -14,21 +14,6 @@ use borrow.Author.Needs.{needs}
 use Rattle.rooms.proofs.table.check_load.Statement.{statement}
 use Rattle.rooms.proofs.table.check_load.Tie as tie
 
-sub-lesser : tie.Need-sub-lesser
-sub-lesser c = search needs
-
-lesser-requires : tie.Need-lesser-requires
-lesser-requires c κs = search needs
-
-check-word-requires : tie.Need-check-word-requires
-check-word-requires c κs = search needs
-
-enum-known-first : tie.Need-enum-known-first
-enum-known-first c = search needs
-
-enum-told : tie.Need-enum-told
-enum-told c = search needs
-
 returns : tie.Need-returns
 unfolding load
 returns c = stopped _ _ (stop _ _ _ _ (rw (c .before .before .before .lesser .ensures) at (c .before .before .check-word .ensures)) (c .enum-told .given .1)) (c .enum-told .given .1)
@@ -60,15 +45,6 @@ check-cords-requires c κs =
     let pre = start (c .before) .pre in
     ((pre .0 .0, omega (arith, few), pre .0 .2), (pre .1 .0, omega (arith, few, pre .1 .1)))
 
-enum-known-cords : tie.Need-enum-known-cords
-enum-known-cords c = search needs
-
-enum-told-2 : tie.Need-enum-told-2
-enum-told-2 c = search needs
-
-same-length : tie.Need-same-length
-same-length c = search needs
-
 returns-2 : tie.Need-returns-2
 unfolding load
 returns-2 c =
@@ -79,9 +55,6 @@ returns-2 c =
 abbrev call : tie.After-known-told2 → tie.After-check-cords
 call c = let given = c .before .before .before in given .before .before
 
-same-length-2 : tie.Need-same-length-2
-same-length-2 c = search needs
-
 returns-3 : tie.Need-returns-3
 unfolding load
 returns-3 c =
@@ -90,9 +63,6 @@ returns-3 c =
     (pass _ _ _ _ (call (c .before) .check-cords .ensures .0) (c .before .before .cords .given .1) (λ l is sum.
     denied _ _ _ _ _ _ (ne-eqb _ _ (λ z. c .if1 .taken (sym sum ∙ z))))))
     refl
-
-same-length-3 : tie.Need-same-length-3
-same-length-3 c = search needs
 
 returns-4 : tie.Need-returns-4
 unfolding load
@@ -109,18 +79,12 @@ pub check-load-spec : {M : Type 1} → statement M
 check-load-spec =
     tie.close
     (tie.spec
-    sub-lesser
-    lesser-requires
-    check-word-requires
-    enum-known-first
-    enum-told
+    (λ c. search needs) (λ c κs. search needs) (λ c κs. search needs) (λ c. search needs) (λ c. search needs)
     returns
     check-cords-requires
-    enum-known-cords
-    enum-told-2
-    same-length
+    (λ c. search needs) (λ c. search needs) (λ c. search needs)
     returns-2
-    same-length-2
+    (λ c. search needs)
     returns-3
-    same-length-3
+    (λ c. search needs)
     returns-4)

@@ -18,26 +18,8 @@ abbrev μ-loop : tie.MeasureT-loop
 loop-holds : tie.Need-loop-holds Inv-loop μ-loop
 loop-holds c = (search needs, search needs, row-start _ _ _ _ _ _ _)
 
-check-node-requires : tie.Need-check-node-requires Inv-loop μ-loop
-check-node-requires c κs = search needs
-
-enum-known-node : tie.Need-enum-known-node Inv-loop μ-loop
-enum-known-node c = search needs
-
-enum-told : tie.Need-enum-told Inv-loop μ-loop
-enum-told c = search needs
-
 returns : tie.Need-returns Inv-loop μ-loop
 returns c = row-stop _ _ _ _ _ _ _ (search needs) (c .before .before .before .before .loop .inv .2) (c .before .before .check-node .ensures) (c .enum-told .given .1) ∙ nothing-told _
-
-add-own : tie.Need-add-own Inv-loop μ-loop
-add-own c = search needs
-
-sub-left : tie.Need-sub-left Inv-loop μ-loop
-sub-left c = search needs
-
-loop-less : tie.Need-loop-less Inv-loop μ-loop
-loop-less c = search needs
 
 loop-again : tie.Need-loop-again Inv-loop μ-loop
 loop-again c =
@@ -54,12 +36,8 @@ check-nodes-spec =
     Inv-loop
     μ-loop
     loop-holds
-    check-node-requires
-    enum-known-node
-    enum-told
+    (λ c κs. search needs) (λ c. search needs) (λ c. search needs)
     returns
-    add-own
-    sub-left
-    loop-less
+    (λ c. search needs) (λ c. search needs) (λ c. search needs)
     loop-again
     returns-2)

@@ -7,15 +7,6 @@ use borrow.Author.Needs.{needs}
 use Rattle.rooms.proofs.table.check_percent.Statement.{statement}
 use Rattle.rooms.proofs.table.check_percent.Tie as tie
 
-check-word-requires : tie.Need-check-word-requires
-check-word-requires c κs = search needs
-
-enum-known-percent : tie.Need-enum-known-percent
-enum-known-percent c = search needs
-
-enum-told : tie.Need-enum-told
-enum-told c = search needs
-
 returns : tie.Need-returns
 unfolding percent
 returns c = pass-value _ _ _ _ (stop _ _ _ _ (c .before .before .check-word .ensures) (c .enum-told .given .1))
@@ -50,9 +41,7 @@ pub check-percent-spec : {M : Type 1} → statement M
 check-percent-spec =
     tie.close
     (tie.spec
-    check-word-requires
-    enum-known-percent
-    enum-told
+    (λ c κs. search needs) (λ c. search needs) (λ c. search needs)
     returns
     returns-2
     returns-3

@@ -32,27 +32,9 @@ greatest-passed c = record {
   decides = λ h. least-passed (c .before .before .before .before) .decides (pass-word _ _ _ (c .before .before .before .check-word2 .ensures) (c .before .second .given .1) h);
 }
 
-check-word-requires : tie.Need-check-word-requires
-check-word-requires c κs = search needs
-
-enum-known-first : tie.Need-enum-known-first
-enum-known-first c = search needs
-
-enum-told : tie.Need-enum-told
-enum-told c = search needs
-
 returns : tie.Need-returns
 unfolding range
 returns c = stop _ _ _ _ (c .before .before .check-word .ensures) (c .enum-told .given .1)
-
-check-word-requires-2 : tie.Need-check-word-requires-2
-check-word-requires-2 c κs = search needs
-
-enum-known-second : tie.Need-enum-known-second
-enum-known-second c = search needs
-
-enum-told-2 : tie.Need-enum-told-2
-enum-told-2 c = search needs
 
 returns-2 : tie.Need-returns-2
 unfolding range
@@ -70,13 +52,9 @@ pub check-range-spec : {M : Type 1} → statement M
 check-range-spec =
     tie.close
     (tie.spec
-    check-word-requires
-    enum-known-first
-    enum-told
+    (λ c κs. search needs) (λ c. search needs) (λ c. search needs)
     returns
-    check-word-requires-2
-    enum-known-second
-    enum-told-2
+    (λ c κs. search needs) (λ c. search needs) (λ c. search needs)
     returns-2
     returns-3
     returns-4)

@@ -9,27 +9,9 @@ use borrow.Author.Needs.{needs}
 use Rattle.rooms.proofs.table.check_server.Statement.{statement}
 use Rattle.rooms.proofs.table.check_server.Tie as tie
 
-check-word-requires : tie.Need-check-word-requires
-check-word-requires c κs = search needs
-
-enum-known-rank : tie.Need-enum-known-rank
-enum-known-rank c = search needs
-
-enum-told : tie.Need-enum-told
-enum-told c = search needs
-
 returns : tie.Need-returns
 unfolding server
 returns c = stopped _ _ (pass-value _ _ _ _ (stop _ _ _ _ (c .before .before .check-word .ensures) (c .enum-told .given .1))) (c .enum-told .given .1)
-
-check-range-requires : tie.Need-check-range-requires
-check-range-requires c κs = search needs
-
-enum-known-range : tie.Need-enum-known-range
-enum-known-range c = search needs
-
-enum-told-2 : tie.Need-enum-told-2
-enum-told-2 c = search needs
 
 -- Earlier steps, each seen from a later one.
 abbrev check-word-from-check-range : tie.After-check-range → tie.After-check-word
@@ -55,9 +37,6 @@ check-load-requires c κs =
     let ends = range-is _ _ (range .got) _ (range .is) in
     ((pre .0, pre .1, omega (arith, range .figure, ends .ordered, ends .greatest)), (pre .2, pre .3))
 
-same-length : tie.Need-same-length
-same-length c = search needs
-
 returns-3 : tie.Need-returns-3
 unfolding server
 returns-3 c =
@@ -71,14 +50,10 @@ pub check-server-spec : {M : Type 1} → statement M
 check-server-spec =
     tie.close
     (tie.spec
-    check-word-requires
-    enum-known-rank
-    enum-told
+    (λ c κs. search needs) (λ c. search needs) (λ c. search needs)
     returns
-    check-range-requires
-    enum-known-range
-    enum-told-2
+    (λ c κs. search needs) (λ c. search needs) (λ c. search needs)
     returns-2
     check-load-requires
-    same-length
+    (λ c. search needs)
     returns-3)

@@ -40,12 +40,6 @@ check-server-requires c κs =
     let inv = c .before .before .loop .inv in
     (start-from-in-loop (c .before) .pre .0, inv .0, omega (arith, inv .2 .length-is, start-from-in-loop (c .before) .pre .1), omega (arith, inv .2 .sum-is, start-from-in-loop (c .before) .pre .2, c .before .loop-test .taken))
 
-enum-known-server : tie.Need-enum-known-server Inv-loop μ-loop
-enum-known-server c = search needs
-
-enum-told : tie.Need-enum-told Inv-loop μ-loop
-enum-told c = search needs
-
 same-length : tie.Need-same-length Inv-loop μ-loop
 same-length c = omega (arith, c .before .before .before .before .check-server .kept, in-loop-from-slice-known2 (c .before .before) .before .loop .inv .2 .length-is)
 
@@ -54,12 +48,6 @@ returns c = stopped _ _ (row-stop _ _ _ _ _ _ _ (search needs) (in-loop-from-sli
 
 add-before : tie.Need-add-before Inv-loop μ-loop
 add-before c = omega (arith, server-most _ _ _ _ _ (in-loop-from-slice-known2 (c .before .before .before) .before .loop .inv .0) (check-server-from-slice-known2 (c .before .before .before) .check-server .ensures .0) (c .before .server .given .1))
-
-sub-left : tie.Need-sub-left Inv-loop μ-loop
-sub-left c = search needs
-
-loop-less : tie.Need-loop-less Inv-loop μ-loop
-loop-less c = search needs
 
 loop-again : tie.Need-loop-again Inv-loop μ-loop
 loop-again c =
@@ -85,13 +73,11 @@ check-servers-spec =
     μ-loop
     loop-holds
     check-server-requires
-    enum-known-server
-    enum-told
+    (λ c. search needs) (λ c. search needs)
     same-length
     returns
     add-before
-    sub-left
-    loop-less
+    (λ c. search needs) (λ c. search needs)
     loop-again
     same-length-2
     returns-2)

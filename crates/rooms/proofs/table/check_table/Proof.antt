@@ -85,43 +85,16 @@ abbrev servers-told : (s : tie.After-check-servers)
     (counted .before .third .given .0 .0) 0 (start (version before-nodes .before .before .before) .args .w .now) (counted .before .third .given .0 .1 .0))
 servers-told s = rw (s .before .before .scale-of .ensures) at (s .check-servers .ensures .0)
 
-check-word-requires : tie.Need-check-word-requires
-check-word-requires c κs = search needs
-
-enum-known-first : tie.Need-enum-known-first
-enum-known-first c = search needs
-
-enum-told : tie.Need-enum-told
-enum-told c = search needs
-
 returns : tie.Need-returns
 unfolding table
 returns c = stopped _ _ (stop _ _ _ _ (c .before .before .check-word .ensures) (c .enum-told .given .1)) (c .enum-told .given .1)
-
-check-word-requires-2 : tie.Need-check-word-requires-2
-check-word-requires-2 c κs = search needs
-
-enum-known-second : tie.Need-enum-known-second
-enum-known-second c = search needs
-
-enum-told-2 : tie.Need-enum-told-2
-enum-told-2 c = search needs
 
 returns-2 : tie.Need-returns-2
 unfolding table
 returns-2 c = stopped _ _ (version-passed (c .before .before .before) .decides (stop _ _ _ _ (c .before .before .check-word2 .ensures) (c .enum-told2 .given .1))) (c .enum-told2 .given .1)
 
-has-percents-requires : tie.Need-has-percents-requires
-has-percents-requires c κs = search needs
-
 check-nodes-requires : tie.Need-check-nodes-requires
 check-nodes-requires c κs = node-count-most (c .before)
-
-enum-known-nodes : tie.Need-enum-known-nodes
-enum-known-nodes c = search needs
-
-enum-told-3 : tie.Need-enum-told-3
-enum-told-3 c = search needs
 
 returns-3 : tie.Need-returns-3
 unfolding table
@@ -131,21 +104,9 @@ returns-3 c =
     (stop _ _ _ _ (rw (c .before .before .before .has-percents .ensures) at (c .before .before .check-nodes .ensures)) (c .enum-told3 .given .1)))
     (c .enum-told3 .given .1)
 
-check-word-requires-3 : tie.Need-check-word-requires-3
-check-word-requires-3 c κs = search needs
-
-enum-known-third : tie.Need-enum-known-third
-enum-known-third c = search needs
-
-enum-told-4 : tie.Need-enum-told-4
-enum-told-4 c = search needs
-
 returns-4 : tie.Need-returns-4
 unfolding table
 returns-4 c = stopped _ _ (nodes-passed (c .before .before .before) .decides (stop _ _ _ _ (c .before .before .check-word3 .ensures) (c .enum-told4 .given .1))) (c .enum-told4 .given .1)
-
-scale-of-requires : tie.Need-scale-of-requires
-scale-of-requires c κs = search needs
 
 check-servers-requires : tie.Need-check-servers-requires
 check-servers-requires c κs =
@@ -156,15 +117,6 @@ check-servers-requires c κs =
       omega (arith, node-count-most before-nodes, begun .pre .0),
       omega (arith, server-count-most counted, sum-zeros (before-nodes .before .second .given .0 .0) (begun .args .sums .now) (begun .pre .1)),
     )
-
-enum-known-servers : tie.Need-enum-known-servers
-enum-known-servers c = search needs
-
-enum-told-5 : tie.Need-enum-told-5
-enum-told-5 c = search needs
-
-same-length : tie.Need-same-length
-same-length c = search needs
 
 returns-5 : tie.Need-returns-5
 unfolding table
@@ -179,9 +131,6 @@ returns-5 c =
 abbrev servers-call : tie.After-known-told5 → tie.After-check-servers
 servers-call c = let given = c .before .before .before in given .before .before
 
-same-length-2 : tie.Need-same-length-2
-same-length-2 c = search needs
-
 returns-6 : tie.Need-returns-6
 unfolding table
 returns-6 c =
@@ -191,9 +140,6 @@ returns-6 c =
     (pass _ _ _ _ (servers-told call) (c .before .before .servers .given .1) (λ servers is cords.
     left-over _ _ _ _ (c .if1 .taken))))
     refl
-
-same-length-3 : tie.Need-same-length-3
-same-length-3 c = search needs
 
 returns-7 : tie.Need-returns-7
 unfolding table
@@ -221,30 +167,21 @@ pub check-table-spec : {M : Type 1} → statement M
 check-table-spec =
     tie.close
     (tie.spec
-    check-word-requires
-    enum-known-first
-    enum-told
+    (λ c κs. search needs) (λ c. search needs) (λ c. search needs)
     returns
-    check-word-requires-2
-    enum-known-second
-    enum-told-2
+    (λ c κs. search needs) (λ c. search needs) (λ c. search needs)
     returns-2
-    has-percents-requires
+    (λ c κs. search needs)
     check-nodes-requires
-    enum-known-nodes
-    enum-told-3
+    (λ c. search needs) (λ c. search needs)
     returns-3
-    check-word-requires-3
-    enum-known-third
-    enum-told-4
+    (λ c κs. search needs) (λ c. search needs) (λ c. search needs)
     returns-4
-    scale-of-requires
+    (λ c κs. search needs)
     check-servers-requires
-    enum-known-servers
-    enum-told-5
-    same-length
+    (λ c. search needs) (λ c. search needs) (λ c. search needs)
     returns-5
-    same-length-2
+    (λ c. search needs)
     returns-6
-    same-length-3
+    (λ c. search needs)
     returns-7)

@@ -8,9 +8,6 @@ use Rattle.schedules.proofs.LineLaws.{and-true, below-own}
 use Rattle.schedules.proofs.lines.in_range.Statement.{statement}
 use Rattle.schedules.proofs.lines.in_range.Tie as tie
 
-cast-parent : tie.Need-cast-parent
-cast-parent c = search needs
-
 returns : tie.Need-returns
 unfolding inRange
 returns c = rw (lt-leb 100 _ (c .if1 .taken))
@@ -24,13 +21,10 @@ unfolding inRange
 returns-3 c =
     rw (le-leb 100 _ (c .before .before .if1 .left), le-leb _ 480 (c .before .if2 .left), le-ltb _ 512 (c .if3 .taken), and-false)
 
-add-own : tie.Need-add-own
-add-own c = search needs
-
 returns-4 : tie.Need-returns-4
 unfolding inRange
 returns-4 c =
     rw (le-leb 100 _ (c .before .before .if1 .left), le-leb _ 480 (c .before .if2 .left), lt-ltb _ 512 (c .if3 .left), and-true, add-one, below-own)
 
 pub in-range-spec : {M : Type 1} → statement M
-in-range-spec = tie.close (tie.spec cast-parent returns returns-2 returns-3 add-own returns-4)
+in-range-spec = tie.close (tie.spec (λ c. search needs) returns returns-2 returns-3 (λ c. search needs) returns-4)

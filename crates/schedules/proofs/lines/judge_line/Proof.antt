@@ -7,28 +7,13 @@ use Rattle.schedules.proofs.LineLaws.{line-good, line-bad, rating-most,
 use Rattle.schedules.proofs.lines.judge_line.Statement.{statement}
 use Rattle.schedules.proofs.lines.judge_line.Tie as tie
 
-read-line-requires : tie.Need-read-line-requires
-read-line-requires c κs = search needs
-
-enum-known-read : tie.Need-enum-known-read
-enum-known-read c = search needs
-
-enum-told : tie.Need-enum-told
-enum-told c = search needs
-
 returns : tie.Need-returns
 returns c = not-a-line _ _ (line-bad _ (c .before .before .read-line .ensures) (c .enum-told .given .1))
-
-is-size-requires : tie.Need-is-size-requires
-is-size-requires c κs = search needs
 
 returns-2 : tie.Need-returns-2
 returns-2 c =
     let read = c .before .before .before in
     not-a-size _ _ (line-good _ (read .before .before .read-line .ensures) (read .read .given .1)) (sym (c .before .is-size .ensures) ∙ not-true _ (c .if1 .taken))
-
-in-range-requires : tie.Need-in-range-requires
-in-range-requires c κs = search needs
 
 returns-3 : tie.Need-returns-3
 returns-3 c =
@@ -60,13 +45,11 @@ pub judge-line-spec : {M : Type 1} → statement M
 judge-line-spec =
     tie.close
     (tie.spec
-    read-line-requires
-    enum-known-read
-    enum-told
+    (λ c κs. search needs) (λ c. search needs) (λ c. search needs)
     returns
-    is-size-requires
+    (λ c κs. search needs)
     returns-2
-    in-range-requires
+    (λ c κs. search needs)
     returns-3
     mul-t12
     returns-4)

@@ -17,12 +17,6 @@ abbrev μ-loop : tie.MeasureT-loop
 loop-holds : tie.Need-loop-holds Inv-loop μ-loop
 loop-holds c = begin _ _
 
-judge-line-requires : tie.Need-judge-line-requires Inv-loop μ-loop
-judge-line-requires c κs = search needs
-
-enum-known-parent : tie.Need-enum-known-parent Inv-loop μ-loop
-enum-known-parent c = search needs
-
 -- The turn of a line that passes.
 abbrev turn : tie.After-known-told Inv-loop μ-loop → tie.At-loop Inv-loop μ-loop
 turn c = let judge = c .before .before .before in judge .before .before
@@ -68,19 +62,10 @@ loop-again c =
     let judge = c .before .before .before in
     again _ _ _ _ _ (judge .before .before .loop .inv) (judge .before .loop-test .taken) (judge .judge-line .ensures) (c .before .parent .given .1)
 
-enum-known-refusal : tie.Need-enum-known-refusal Inv-loop μ-loop
-enum-known-refusal c = search needs
-
-same-length : tie.Need-same-length Inv-loop μ-loop
-same-length c = search needs
-
 returns : tie.Need-returns Inv-loop μ-loop
 returns c =
     let judge = c .before .before .before in
     stop _ _ _ _ _ (judge .before .before .loop .inv) (search needs) (judge .judge-line .ensures) (c .before .refusal .given .1)
-
-same-length-2 : tie.Need-same-length-2 Inv-loop μ-loop
-same-length-2 c = search needs
 
 returns-2 : tie.Need-returns-2 Inv-loop μ-loop
 returns-2 c = end _ _ _ _ _ (c .before .loop .inv) (search needs)
@@ -92,8 +77,7 @@ read-lines-spec =
     Inv-loop
     μ-loop
     loop-holds
-    judge-line-requires
-    enum-known-parent
+    (λ c κs. search needs) (λ c. search needs)
     mul-index
     add-index
     mul-words
@@ -104,8 +88,7 @@ read-lines-spec =
     add-count
     loop-less
     loop-again
-    enum-known-refusal
-    same-length
+    (λ c. search needs) (λ c. search needs)
     returns
-    same-length-2
+    (λ c. search needs)
     returns-2)

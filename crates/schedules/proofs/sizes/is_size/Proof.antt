@@ -15,21 +15,9 @@ abbrev μ-loop : tie.MeasureT-loop
 loop-holds : tie.Need-loop-holds Inv-loop μ-loop
 loop-holds c = begin _
 
-mul-size : tie.Need-mul-size Inv-loop μ-loop
-mul-size c = search needs
-
-array-read-size : tie.Need-array-read-size Inv-loop μ-loop
-array-read-size c = search needs
-
 returns : tie.Need-returns Inv-loop μ-loop
 unfolding sizes
 returns c = stop _ _ (c .before .before .loop .inv) (search needs) (c .if1 .taken)
-
-add-i : tie.Need-add-i Inv-loop μ-loop
-add-i c = search needs
-
-loop-less : tie.Need-loop-less Inv-loop μ-loop
-loop-less c = search needs
 
 loop-again : tie.Need-loop-again Inv-loop μ-loop
 unfolding sizes
@@ -40,4 +28,4 @@ unfolding sizes
 returns-2 c = end _ _ (c .before .loop .inv) (search needs)
 
 pub is-size-spec : {M : Type 1} → statement M
-is-size-spec = tie.close (tie.spec Inv-loop μ-loop loop-holds mul-size array-read-size returns add-i loop-less loop-again returns-2)
+is-size-spec = tie.close (tie.spec Inv-loop μ-loop loop-holds (λ c. search needs) (λ c. search needs) returns (λ c. search needs) (λ c. search needs) loop-again returns-2)

@@ -6,21 +6,9 @@ use Rattle.schedules.proofs.LineLaws.{number-good, number-bad, field-no
 use Rattle.schedules.proofs.text.read_field.Statement.{statement}
 use Rattle.schedules.proofs.text.read_field.Tie as tie
 
-read-number-requires : tie.Need-read-number-requires
-read-number-requires c κs = search needs
-
-enum-known-read : tie.Need-enum-known-read
-enum-known-read c = search needs
-
-enum-told : tie.Need-enum-told
-enum-told c = search needs
-
 returns : tie.Need-returns
 returns c =
     c .enum-told .given .1 ∙ field-none _ _ _ (number-bad _ (c .before .before .read-number .ensures) (c .enum-told .given .1))
-
-byte-at-requires : tie.Need-byte-at-requires
-byte-at-requires c κs = search needs
 
 returns-2 : tie.Need-returns-2
 returns-2 c =
@@ -38,4 +26,4 @@ returns-3 c =
     (sym (c .before .byte-at .ensures .0) ∙ c .if1 .left)
 
 pub read-field-spec : {M : Type 1} → statement M
-read-field-spec = tie.close (tie.spec read-number-requires enum-known-read enum-told returns byte-at-requires returns-2 add-t9 returns-3)
+read-field-spec = tie.close (tie.spec (λ c κs. search needs) (λ c. search needs) (λ c. search needs) returns (λ c κs. search needs) returns-2 add-t9 returns-3)

@@ -16,17 +16,11 @@ Inv-loop text at first value₀ next₀ left₀ value next left = Inv text at va
 abbrev μ-loop : tie.MeasureT-loop
 μ-loop text at first value₀ next₀ left₀ value next left = left
 
-byte-at-requires : tie.Need-byte-at-requires Inv-loop μ-loop
-byte-at-requires c κs = search needs
-
 add-t9 : tie.Need-add-t9 Inv-loop μ-loop
 add-t9 c = omega (arith, c .before .byte-at .ensures .1 (omega arith))
 
 returns : tie.Need-returns Inv-loop μ-loop
 returns c = zero-read _ _ _ (c .before .byte-at .ensures .0) (search needs)
-
-is-digit-requires : tie.Need-is-digit-requires Inv-loop μ-loop
-is-digit-requires c κs = search needs
 
 returns-2 : tie.Need-returns-2 Inv-loop μ-loop
 returns-2 c =
@@ -37,12 +31,6 @@ loop-holds : tie.Need-loop-holds Inv-loop μ-loop
 loop-holds c =
     let read = c .before .before .before .byte-at .ensures .0 in
     begin _ _ _ read (c .before .before .if1 .left) (sym (c .before .is-digit .ensures) ∙ not-false _ (c .if2 .left))
-
-byte-at-requires-2 : tie.Need-byte-at-requires-2 Inv-loop μ-loop
-byte-at-requires-2 c κs = search needs
-
-is-digit-requires-2 : tie.Need-is-digit-requires-2 Inv-loop μ-loop
-is-digit-requires-2 c κs = search needs
 
 returns-3 : tie.Need-returns-3 Inv-loop μ-loop
 returns-3 c =
@@ -72,12 +60,6 @@ add-value c = omega (arith, digit-range (c .before .before .byte-at2 .result) (d
 add-next : tie.Need-add-next Inv-loop μ-loop
 add-next c = omega (arith, c .before .before .byte-at2 .ensures .1 (omega (arith, digit-range (c .before .before .byte-at2 .result) (digit c))))
 
-sub-left : tie.Need-sub-left Inv-loop μ-loop
-sub-left c = search needs
-
-loop-less : tie.Need-loop-less Inv-loop μ-loop
-loop-less c = search needs
-
 loop-again : tie.Need-loop-again Inv-loop μ-loop
 loop-again c = again _ _ _ _ _ (c .before .before .byte-at2 .ensures .0) _ (search needs) (c .before .before .before .before .loop .inv) (digit c)
 
@@ -90,21 +72,19 @@ read-number-spec =
     (tie.spec
     Inv-loop
     μ-loop
-    byte-at-requires
+    (λ c κs. search needs)
     add-t9
     returns
-    is-digit-requires
+    (λ c κs. search needs)
     returns-2
     loop-holds
-    byte-at-requires-2
-    is-digit-requires-2
+    (λ c κs. search needs) (λ c κs. search needs)
     returns-3
     mul-value
     sub-value
     cast-value
     add-value
     add-next
-    sub-left
-    loop-less
+    (λ c. search needs) (λ c. search needs)
     loop-again
     returns-4)

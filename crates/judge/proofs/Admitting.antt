@@ -11,7 +11,7 @@ use Rattle.rooms.specs.Part.{good}
 use Rattle.rooms.specs.Table.{Room, roomCords}
 use Rattle.rooms.specs.Limits.{checked, lowsTold}
 use Rattle.rooms.specs.Rows.{OfRoom, ServersFit, CordsFit, ScaleIs}
-use Rattle.layout.specs.Room.{LoadOutcome, loading, loadedOf}
+use Rattle.layout.specs.Outcome.{LoadOutcome, loading, loadedOf}
 use Rattle.layout.specs.declared.room.Counts.{Counts}
 use Rattle.layout.specs.declared.room.LoadRefusal.{LoadRefusal}
 use Rattle.layout.specs.declared.room.Loaded.{Loaded}

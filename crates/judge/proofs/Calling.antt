@@ -15,7 +15,7 @@ use Rattle.words.proofs.Bytes.{take-loaded}
 use Rattle.calls.specs.Call.{answered}
 use Rattle.calls.proofs.Calls.{answered-long, number-more, call-done}
 use Rattle.rooms.specs.Table.{Room, mostServers, mostCords, mostWords, roomCords}
-use Rattle.layout.specs.Room.{LoadOutcome, loading}
+use Rattle.layout.specs.Outcome.{LoadOutcome, loading}
 use Rattle.layout.specs.declared.room.LoadRefusal.{LoadRefusal}
 use Rattle.layout.proofs.Loads.{count-cut, bytes-loading, bytes-demands, outcome-found, found-accepted}
 use Rattle.deals.specs.Judge.{verdictNumber, verdictNames, verdictRank}

@@ -6,7 +6,7 @@ use lib.Dec.{eqb}
 use lib.ListN.{length}
 use Rattle.outcomes.specs.Outcome.{Outcome, accepted, refused, Reason, unless}
 use Rattle.rooms.specs.Table.{Room, roomCords}
-use Rattle.layout.specs.Room.{LoadOutcome, loading, loadRefusalNumber, loadRefusalPlace}
+use Rattle.layout.specs.Outcome.{LoadOutcome, loading, loadRefusalNumber, loadRefusalPlace}
 use Rattle.deals.specs.Judge.{verdict}
 use Rattle.deals.specs.declared.Verdict.{Verdict}
 use Rattle.judge.specs.declared.JudgeRefusal.{JudgeRefusal}

@@ -32,7 +32,8 @@ use Rattle.rooms.proofs.Outcomes.{refused-so}
 use Rattle.rooms.proofs.Reach.{prefix-decides}
 use Rattle.deals.specs.Plan.{firstTooLarge}
 use Rattle.layout.specs.Lists.{HasLowsBeneath, CordsLaidOut}
-use Rattle.layout.specs.Room.{LoadOutcome, loadReasons, loading, countsOf, loadedOf, RoomLists, RoomLoaded}
+use Rattle.layout.specs.Outcome.{LoadOutcome, loadReasons, loading, countsOf, loadedOf}
+use Rattle.layout.specs.Room.{RoomLists, RoomLoaded}
 use Rattle.layout.specs.declared.room.Counts.{Counts}
 use Rattle.layout.specs.declared.room.LoadRefusal.{LoadRefusal}
 use Rattle.layout.specs.declared.room.LoadRefusal.the-variants.{Table, DemandCount, DemandTooLarge}

@@ -5,7 +5,7 @@ use Prim.Native.Nat.{ℕ}
 use lib.ListN.{length, drop}
 use Rattle.rooms.specs.Part.{Good}
 use Rattle.rooms.specs.Limits.{checked, lowsTold}
-use Rattle.layout.specs.Room.{loadReasons}
+use Rattle.layout.specs.Outcome.{loadReasons}
 use Rattle.layout.proofs.Loads.{table-good, cords-told, Left, table-told, count-told, count-passed, large-told, all-passed, room-told}
 use borrow.Author.Needs.{needs}
 use Rattle.layout.proofs.room.admit.Statement.{statement}

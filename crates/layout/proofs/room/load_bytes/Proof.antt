@@ -5,7 +5,7 @@ use native.Mathlib.Omega.{arith}
 use lib.ListN.{length, replicate, length-replicate}
 use lib.Seq.{length-take-le}
 use Rattle.rooms.specs.Table.{mostServers, mostWords}
-use Rattle.layout.specs.Room.{loadedOf}
+use Rattle.layout.specs.Outcome.{loadedOf}
 use Rattle.layout.proofs.Loads.{bytes-loading, bytes-demands}
 use borrow.Author.Needs.{needs}
 use Rattle.layout.proofs.room.load_bytes.Statement.{statement}

@@ -14,6 +14,7 @@ use figures::index;
 use figures::narrow;
 use figures::wide;
 use figures::word16;
+use rooms::MOST_SERVERS;
 use rooms::limits::carried_by;
 use rooms::lists::GREATEST;
 use rooms::lists::LEAST;
@@ -25,9 +26,6 @@ use rooms::lists::lay_out_servers;
 use rooms::lists::table_scale;
 
 pub mod room;
-
-// The most servers of a room.
-const MOST_SERVERS: usize = 512;
 
 // What each node's limit has over all lows beneath it, in the place of the limit.
 fn spare_limits(beneath: &[u64], limits: &mut [u32])

@@ -14,11 +14,8 @@ use layout::room::load_bytes;
 use plan_rooms::plan_loaded;
 use plans::Admission;
 use plans::admit;
-
-// A plan writes at most one entry a cord, or one a server, to each list.
-const MOST_CORDS: usize = 1024;
-
-const MOST_SERVERS: usize = 512;
+use rooms::MOST_CORDS;
+use rooms::MOST_SERVERS;
 
 // Plan: for each cord a grant, its headroom and the number of the node that holds it (0 for none), and for each server a cap, at the fronts
 // of their lists.

@@ -6,7 +6,7 @@ use Prim.Native.Nat.{ℕ, zero, suc, _+_, _-_, _≤_, _<_, min, zero-le}
 use native.Mathlib.Omega.{arith}
 use lib.Dec.{eqb, leb, ltb, leb·zero}
 use lib.ListN.{length}
-use borrow.Author.Tests.{eqb-true, ltb-true, ltb-false, lt-ltb, le-ltb}
+use borrow.Author.Tests.{eqb-true, ltb-false}
 use Rattle.figures.specs.Figures.{at}
 use Rattle.figures.specs.Sums.{on, sum}
 use Rattle.figures.proofs.Sums.{on-yes, on-add, sum-cong, sum-add}
@@ -26,13 +26,14 @@ use Rattle.deals.specs.Judge.{belowLow, aboveWant, overLimit, shortAt, shortRan
 use Rattle.deals.specs.declared.Verdict.{Verdict}
 use Rattle.deals.specs.declared.Verdict.the-variants.{Passes, BelowLow, AboveWant, OverLimit, Short}
 use Rattle.deals.proofs.Requests.{Dealable, dealBeneath, dealBeneath-unique}
+use Rattle.deals.specs.Ranks.{NodeLists}
 use Rattle.deals.proofs.RoomDeals.{dealOf-is, parentsOf-length, parentsOf-at, limitsOf-at, nodesOf-length, nodesOf-at}
 use Rattle.deals.proofs.BothDeals.{parents-below, lows-under}
 use Rattle.deals.proofs.Bounds.{bounded}
 use Rattle.deals.proofs.Judged.{atFirst-none, atFirst-some}
-use Rattle.deals.proofs.JudgedTotals.{mostOver, most-step, first, first-dealable, shortAt-is}
+use Rattle.deals.proofs.JudgedTotals.{ltb-both, mostOver, most-step, first, first-dealable, shortAt-is}
 use Rattle.deals.proofs.JudgedTotals as totals
-use Rattle.judge_totals.specs.Totals.{NodeLists, CordLists, overLow, onNode, fromLevel, overFrom, IsMostFrom, lessThan, Compared}
+use Rattle.judge_totals.specs.Totals.{CordLists, overLow, onNode, fromLevel, overFrom, IsMostFrom, lessThan, Compared}
 use Rattle.judge.specs.Lists.{CordsPass}
 use Rattle.rooms.specs.Trees.{beneath, sumBeneath, childSum}
 
@@ -57,14 +58,6 @@ highest-cong : (s t : ℕ → Bool) (k : ℕ) → ((j : ℕ) → j < k → s (su
 unfolding highest
 highest-cong s t zero e = refl
 highest-cong s t (suc k) e = ap₂ (λ (x : Bool) (y : ℕ). cond x (suc k) y) (e k (omega arith)) (highest-cong s t k (λ j l. e j (omega arith)))
-
--- Whether one figure is less than another does not change where both grow by the same.
-ltb-add : (a b more : ℕ) → ltb (a + more) (b + more) ≡ ltb a b
-ltb-add a b more = go (ltb a b) refl
-  where
-    go : (t : Bool) → ltb a b ≡ t → ltb (a + more) (b + more) ≡ t
-    go true e = lt-ltb (a + more) (b + more) (omega (arith, ltb-true a b e))
-    go false e = le-ltb (a + more) (b + more) (omega (arith, ltb-false a b e))
 
 and-cong : (s t u : Bool) → (s ≡ true → t ≡ u) → s && t ≡ s && u
 and-cong true t u e = e refl
@@ -93,8 +86,8 @@ module _ (r : Room) (ok : Accepted r) {parents spare : List ℕ} (lists : RoomNo
   node-lists = record {
     few = omega (arith, nodes-are, ok .fewNodes);
     rises = λ m l. omega (arith, parent-at m, parents-below r ok m (omega (arith, nodes-are)));
-    spare-size = lists .spare-size;
-    spare-most = λ n l. omega (arith, lists .spare-is n (omega (arith, nodes-are)), limit-most n (omega (arith, nodes-are)));
+    limits-size = lists .spare-size;
+    most = λ n l. omega (arith, lists .spare-is n (omega (arith, nodes-are)), limit-most n (omega (arith, nodes-are)));
   }
 
   -- ---- Cords that pass
@@ -205,7 +198,7 @@ module _ (r : Room) (ok : Accepted r) {parents spare : List ℕ} (lists : RoomNo
         = over-is 0 n l ∙ all-levels n (totals.overLow d able (at grants)) in
         let given : overFrom parents nodes levels lows grants 0 n + dealBeneath d n (d .low) ≡ wattsBeneath r n (at grants)
         = ap (λ (x : ℕ). x + dealBeneath d n (d .low)) over ∙ sym (over-and-lows n) in
-        sym (ltb-add (at spare n) (overFrom parents nodes levels lows grants 0 n) (dealBeneath d n (d .low))) ∙ ap₂ ltb (spare-is n l) given
+        sym (ltb-both (at spare n) (overFrom parents nodes levels lows grants 0 n) (dealBeneath d n (d .low))) ∙ ap₂ ltb (spare-is n l) given
 
     short-rank : {over : ℕ} {short : List ℕ} → Compared parents spare nodes levels lows wants grants over short → over ≡ 0
         → (n : ℕ) → n < length (r .nodes) → parentOf r n ≡ 0 → at short n ≡ shortRank r demands grants n

@@ -10,7 +10,7 @@ use native.Mathlib.Omega.{arith}
 use lib.Dec.{eqb, leb, ltb}
 use lib.ListN.{length, set, length-set, replicate, getD-replicate}
 use lib.Seq.{getD-set-same, getD-set-other}
-use borrow.Author.Tests.{ltb-true, ltb-false, lt-ltb, le-ltb}
+use borrow.Author.Tests.{ltb-true, ltb-false, le-ltb}
 use Rattle.figures.specs.Figures.{at}
 use Rattle.figures.specs.Sums.{on, sum}
 use Rattle.figures.proofs.Filled.{zeros-at}
@@ -24,7 +24,8 @@ use Rattle.figures.proofs.Credits.{on-most, credited-length, credited-at, credi
 use Rattle.rooms.proofs.Credits.{treeSum-step}
 use Rattle.rooms.proofs.Gather.{Holds, holds-whole, Gathered, gathered-start, gathered-turn}
 use Rattle.rooms.proofs.Search.{firstNode-cong}
-use Rattle.judge_totals.specs.Totals.{NodeLists, CordLists, overLow, onNode, fromLevel, Noted, AllNoted, Unnoted, CordsNoted, merged, heldBack, IsMost, NodesNoted, overFrom, Compared}
+use Rattle.deals.specs.Ranks.{NodeLists}
+use Rattle.judge_totals.specs.Totals.{CordLists, overLow, onNode, fromLevel, Noted, AllNoted, Unnoted, CordsNoted, merged, heldBack, IsMost, NodesNoted, overFrom, Compared}
 use Rattle.judge_totals.proofs.Notes.{noted-same, noted-none, noted-cord, noted-held, noted-next, noted-highest, merged-length, merged-past}
 use Rattle.judge_totals.proofs.Searching.{Searching, searching-start, searching-next, first-more}
 use Rattle.rooms.specs.Trees.{childSum, sumBeneath}

@@ -2,29 +2,22 @@
 -- and a cord's node, is a number: a place plus one, or 0 for none.
 use mathlib.Core.Path.{_≡_}
 use mathlib.Core.Bool.{Bool, cond}
-use mathlib.Core.List.{List, []}
+use mathlib.Core.List.{List}
 use Prim.Native.Nat.{ℕ, zero, suc, _+_, _-_, _≤_, _<_, min}
 use lib.Dec.{eqb, leb, ltb}
 use lib.ListN.{length, set}
 use Rattle.figures.specs.Figures.{at}
 use Rattle.figures.specs.Sums.{on, sum}
-use Rattle.rooms.specs.Table.{Room, mostNodes, mostCords, mostWatts, highestRank, roomCords}
+use Rattle.rooms.specs.Table.{Room, mostCords, mostWatts, highestRank, roomCords}
 use Rattle.rooms.specs.Limits.{firstNode}
 use Rattle.rooms.specs.Credits.{treeSum}
 use Rattle.rooms.specs.Lists.{nodesOf, levelsOf, lowsOf}
 use Rattle.deals.specs.Wants.{firstWants}
 use Rattle.deals.specs.Judge.{highest, belowLow, aboveWant}
 use Rattle.judge_totals.specs.declared.Faults.{Faults}
-use Rattle.rooms.specs.Trees.{ParentsFirst, sumBeneath}
+use Rattle.rooms.specs.Trees.{sumBeneath}
 
 -- ---- The lists
-
--- The nodes: each parent's number, which is below its child's, and the watts that each limit has over the lows beneath it.
-pub record NodeLists (parents spare : List ℕ) : Type 0 where
-  pub few : length parents ≤ mostNodes
-  pub rises : ParentsFirst (length parents) (at parents)
-  pub spare-size : length spare ≡ length parents
-  pub spare-most : (n : ℕ) → n < length parents → at spare n ≤ mostWatts
 
 -- The cords: the node and the level of each, and its low, want and grant, in this order.
 pub record CordLists (nodeCount : ℕ) (nodes levels lows wants grants : List ℕ) : Type 0 where

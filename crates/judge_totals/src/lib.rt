@@ -17,7 +17,9 @@ ghost use Rattle.rooms.specs.Table.{mostNodes, mostCords, highestRank};
 ghost use Rattle.rooms.specs.Limits.{checked, firstNode};
 ghost use Rattle.rooms.specs.Rows.{OfRoom, ServersFit, CordsFit, ScaleIs};
 ghost use Rattle.rooms.specs.Credits.{exceeds};
-ghost use Rattle.judge_totals.specs.Totals.{NodeLists, merged, heldBack, Unnoted, CordsJudged, NodesNoted};
+ghost use Rattle.deals.specs.Ranks.{NodeLists};
+ghost use Rattle.judge_totals.specs.Totals.{merged, heldBack, Unnoted, CordsJudged, NodesNoted};
+use figures::credit;
 use figures::index;
 use figures::short;
 use figures::wide;
@@ -76,9 +78,8 @@ fn note(
     if node == 0 {
         return;
     }
+    credit(given, node, watts);
     let place = node - 1;
-    let sum = given[place];
-    given[place] = sum + watts;
     raised[place] = lower(raised[place], low);
     wanting[place] = higher(wanting[place], high);
 }
@@ -201,7 +202,8 @@ fn held_back(limit: u64, has: u64, low: u16, high: u16) -> u16
 }
 
 // From the last node to the first: what each node has, with all that is beneath it, is held against its limit and noted on its parent.
-// The lowest node that is given more than it has to spare; 0 if there is none.
+// The lowest node that is given more than it has to spare; 0 if there is none. What a limit has over the lows beneath its node is the limit
+// here.
 pub fn note_nodes(
     parents: &[u16],
     spare: &[u32],

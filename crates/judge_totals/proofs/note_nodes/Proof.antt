@@ -49,7 +49,7 @@ there t =
     let pre = start t .pre in
     let here : t .before .loop .n - 1 < length (start t .args .parents .now) = omega (arith, inv .all, t .loop-test .taken) in (
       here,
-      omega (arith, here, pre .0 .spare-size),
+      omega (arith, here, pre .0 .limits-size),
       omega (arith, here, inv .gathered .size, pre .1 .0 .0),
       omega (arith, here, inv .raised-size, pre .1 .0 .1),
       omega (arith, here, inv .wanting-size, pre .1 .0 .2),

@@ -257,9 +257,6 @@ module _ (d : Deal) (ok : Dealable d) (lows : d .start ≡ d .low) where
   unfolding startsOf pcapmin metrics
   starts-are = ap (λ (w : ℕ → ℕ). cell (sumsFrom d w (d .nodes) 0)) lows
 
-  pub lows-dealt : Dealt d (pcapmin d) (request d) (amountOf d) (reached d (metrics d))
-  lows-dealt = subst (λ (s : ℕ → ℕ → ℕ). Dealt d s (request d) (amountOf d) (reached d (metrics d))) starts-are (dealt d ok)
-
   pub lows-starting : Starting d (pcapmin d) (request d)
   lows-starting = record {
     least = λ c l. le-of-eq (ap (λ (w : ℕ → ℕ). w c) (sym lows));

@@ -2,20 +2,19 @@
 use mathlib.Core.Path.{_≡_, refl, sym, ap, ap₂, _∙_, subst}
 use mathlib.Core.Bool.{Bool, true, false, cond, _&&_}
 use mathlib.Core.List.{List}
-use mathlib.Core.Logic.{_↔_, _⊎_, inl, inr}
+use mathlib.Core.Logic.{_⊎_, inl, inr}
 use Prim.Native.Nat.{ℕ, zero, suc, _+_, _≤_, _<_, zero-le}
-use native.Mathlib.Nat.{le-trans, le-of-eq, le-refl, eq-or-lt-of-le, le-of-suc-le-suc, suc-ne-zero}
+use native.Mathlib.Nat.{le-trans, le-of-eq, le-refl, eq-or-lt-of-le, suc-ne-zero}
 use native.Mathlib.Decide.{decLe}
 use native.Mathlib.Omega.{arith}
-use lib.Dec.{eqb, leb, ltb}
+use lib.Dec.{eqb, ltb}
 use lib.ListN.{length}
-use borrow.Author.Tests.{eqb-true, eq-eqb, ltb-true, ltb-false, lt-ltb, le-ltb, leb-true, le-leb, lt-leb}
+use borrow.Author.Tests.{eqb-true, eq-eqb, ltb-true, ltb-false, lt-ltb, le-ltb, le-leb, lt-leb}
 use Rattle.figures.specs.Figures.{at}
-use Rattle.figures.specs.Sums.{on, sum}
+use Rattle.figures.specs.Sums.{on}
 use Rattle.figures.proofs.Sums.{sum-cong, sum-zero}
-use Rattle.rooms.specs.Part.{good}
 use Rattle.rooms.specs.Table.{Room, highestRank, roomCords}
-use Rattle.rooms.specs.Limits.{limit, nodeAt, parentOf, checked}
+use Rattle.rooms.specs.Limits.{limit, nodeAt, parentOf}
 use Rattle.rooms.specs.Cords.{cordAt, rankOf}
 use Rattle.rooms.specs.Lists.{lowsOf}
 use Rattle.rooms.proofs.Accepted.{Accepted, accepted}
@@ -24,7 +23,7 @@ use Rattle.deals.specs.Wants.{firstWants}
 use Rattle.deals.specs.SecondDeal.{firstDeal, firstGrants}
 use Rattle.deals.specs.Ways.{Root, Way, cordBeneath, wattsBeneath, fromRank}
 use Rattle.deals.specs.Judge.{belowLow, aboveWant, overLimit, shortAt, shortRank, shortRoot, highest, atFirst, verdict}
-use Rattle.deals.specs.Promises.{Kept, Greatest, Unbeaten, Beaten, LowestBelow, LowestAbove, LowestOver, LowestShort, Says, JudgedExactly, FirstGrantsPass}
+use Rattle.deals.specs.Promises.{Kept, Greatest, Unbeaten, LowestShort, Says, JudgedExactly, FirstGrantsPass}
 use Rattle.deals.specs.declared.Verdict.{Verdict}
 use Rattle.deals.specs.declared.Verdict.the-variants.{Passes, BelowLow, AboveWant, OverLimit, Short}
 use Rattle.deals.proofs.BothDeals.{server-facts, cord-facts, firstWants-lows, first-starts}

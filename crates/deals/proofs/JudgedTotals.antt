@@ -3,8 +3,7 @@
 use mathlib.Core.Path.{_≡_, refl, sym, ap, ap₂, _∙_}
 use mathlib.Core.Bool.{Bool, true, false}
 use mathlib.Core.List.{List}
-use Prim.Native.Nat.{ℕ, zero, suc, _+_, _-_, _≤_, _<_, min}
-use native.Mathlib.Nat.{le-trans, le-of-eq, add-comm}
+use Prim.Native.Nat.{ℕ, suc, _+_, _-_, _≤_, _<_, min}
 use native.Mathlib.Omega.{arith}
 use lib.Dec.{eqb, leb, ltb}
 use lib.ListN.{length}
@@ -14,12 +13,11 @@ use Rattle.figures.specs.Sums.{on, sum}
 use Rattle.figures.proofs.Sums.{on-add, sum-cong, sum-add, sum-up, up, up-cong, up-le}
 use Rattle.rooms.specs.Table.{Room, roomCords, highestRank}
 use Rattle.rooms.specs.Trees.{beneath, childSum, sumBeneath}
-use Rattle.rooms.specs.Limits.{limit, nodeAt, parentOf}
-use Rattle.rooms.specs.Cords.{cordAt, rankOf}
+use Rattle.rooms.specs.Limits.{limit, parentOf}
 use Rattle.rooms.specs.Lists.{lowsOf}
 use Rattle.rooms.proofs.Accepted.{Accepted}
 use Rattle.rooms.proofs.Trees.{childSum-cong, childSum-add, sumBeneath-cong}
-use Rattle.deals.specs.Metrics.{Deal, metrics, atLevel, dealOf}
+use Rattle.deals.specs.Metrics.{Deal, metrics, dealOf}
 use Rattle.deals.specs.Dealing.{reached, granted}
 use Rattle.deals.specs.SecondDeal.{firstDeal, firstGrants}
 use Rattle.deals.specs.Wants.{firstWants}
@@ -42,7 +40,7 @@ less-one : (a b c : ℕ) → a + b ≡ c → a ≡ c - b
 less-one a b c e = omega arith
 
 -- Whether one figure is less than another does not change where both grow by the same.
-ltb-both : (a b more : ℕ) → ltb (a + more) (b + more) ≡ ltb a b
+pub ltb-both : (a b more : ℕ) → ltb (a + more) (b + more) ≡ ltb a b
 ltb-both a b more = go (ltb a b) refl
   where
     go : (t : Bool) → ltb a b ≡ t → ltb (a + more) (b + more) ≡ t

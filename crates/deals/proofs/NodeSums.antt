@@ -15,7 +15,7 @@ use Rattle.figures.specs.Credits.{credited}
 use Rattle.figures.proofs.Sums.{sum-suc, sum-up}
 use Rattle.figures.proofs.Credits.{credited-at, credited-length}
 use Rattle.rooms.proofs.Credits.{treeSum-step, treeSum-most}
-use Rattle.rooms.proofs.Gather.{Holds, holds-start, holds-turn, holds-most, holds-end, holds-whole}
+use Rattle.rooms.proofs.Gather.{Holds, holds-start, holds-turn, holds-most, holds-whole}
 use Rattle.figures.specs.Figures.{at}
 use Rattle.rooms.specs.Trees.{ParentsFirst}
 
@@ -47,12 +47,6 @@ summing-start parents start =
     record { done = 0; all = omega arith; held = holds-start (length parents) (at parents) (at start) (treeSum (at parents) (length parents) (at start)); size = refl }
 
 module _ {parents start : List ℕ} (rises : ParentsFirst (length parents) (at parents)) where
-  pub summing-end : {n : ℕ} {sums : List ℕ} → Summing parents start n sums → n ≤ 0 → (m : ℕ) → m < length parents → at sums m ≡ treeSum (at parents) (length parents) (at start) m
-  summing-end {n = zero} {sums = sums} inv z m l =
-      holds-end (length parents) (at parents) (at start) (treeSum (at parents) (length parents) (at start)) (inv .done) (at sums) (inv .all) (inv .held) m l
-      ∙ sym (treeSum-step (length parents) (at parents) rises (at start) m l)
-  summing-end {n = suc k} inv z m l = absurd (omega arith)
-
   -- No sum ever passes the sum of all.
   summing-most : {n : ℕ} {sums : List ℕ} → Summing parents start n sums → (m : ℕ) → m < length parents → at sums m ≤ sum (length parents) (at start)
   summing-most {n} {sums} inv m l =

@@ -1,5 +1,5 @@
 -- The loop over the ranks: what each pass of a rank asks, and what they leave together.
-use mathlib.Core.Path.{_≡_, refl, sym, ap, _∙_, subst}
+use mathlib.Core.Path.{_≡_, refl, sym, _∙_, subst}
 use mathlib.Core.Bool.{Bool, true, false}
 use mathlib.Core.List.{List, []}
 use Prim.Native.Nat.{ℕ, suc, _+_, _-_, _*_, _/_, _≤_, _<_}
@@ -10,7 +10,7 @@ use lib.ListN.{length, getD}
 use borrow.Author.Tests.{eqb-true, eqb-false}
 use Rattle.figures.specs.Sums.{on, sum}
 use Rattle.figures.proofs.Sums.{sum-cong, sum-zero}
-use Rattle.rooms.specs.Table.{mostNodes, mostCords, mostWatts, highestRank}
+use Rattle.rooms.specs.Table.{mostCords, mostWatts, highestRank}
 use Rattle.figures.specs.Figures.{at, cell}
 use Rattle.deals.specs.Metrics.{dealFrom}
 use Rattle.figures.specs.Places.{Absent, Zeros}
@@ -77,9 +77,6 @@ module _ {parents : List ℕ} {rows : List (List ℕ)} {order : List ℕ} {activ
   abbrev by-level : LevelLists parents nodes (some-deal .levels) rows order actives
   by-level = some-deal .given .by-level
 
-  pub few-nodes : length parents ≤ mostNodes
-  few-nodes = ns .few
-
   module _ {above : ℕ} {left cuts : List ℕ} {requests : List (List ℕ)} {grants bases₀ wholes₀ amounts₀ before₀ dealt₀ : List ℕ}
       (inv : RankLoop parents rows order actives nodes starts wants left₀ above left cuts requests grants bases₀ wholes₀ amounts₀ before₀ dealt₀) where
     -- After the last rank.
@@ -139,9 +136,6 @@ module _ {parents : List ℕ} {rows : List (List ℕ)} {order : List ℕ} {activ
 
         abbrev ec : count ≡ cell rows level countColumn
         ec = row .count-is
-
-        abbrev has : from < to
-        has = row .has-cords
 
         abbrev listed : List ℕ
         listed = entries order from to

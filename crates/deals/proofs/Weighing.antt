@@ -16,9 +16,8 @@ use Rattle.figures.proofs.Sums.{on-no, sum-suc, up-cong}
 use Rattle.figures.proofs.Credits.{credited-at, credited-length, figure-in-sum, sum-credited}
 use Rattle.rooms.proofs.Gather.{Holds, holds-start, holds-turn, holds-end, holds-whole}
 use Rattle.figures.specs.Figures.{at}
-use Rattle.deals.specs.Passes.{weightOf, WeightsListed, MayWeigh, Weighed}
+use Rattle.deals.specs.Passes.{weightOf, MayWeigh, Weighed}
 use Rattle.figures.specs.Places.{Absent, Present}
-use Rattle.deals.specs.Levels.{ActiveNodes}
 use Rattle.figures.proofs.Lists.{passed-down}
 use Rattle.deals.proofs.Active.{Parted, parted-none, parted-all, parted-at, parted-after, between}
 use Rattle.deals.proofs.NodeSums.{credited-nothing}

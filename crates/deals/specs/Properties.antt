@@ -2,7 +2,6 @@
 -- a rank and above sum to, that they leave the lower ranks their starts, and that the figures fit their words. Statements only;
 -- proofs/Promises.antt proves each: `SecondWantsInRange` as `second-wants-in-range`, and so on.
 use mathlib.Core.Path.{_≡_}
-use mathlib.Core.Bool.{true, false}
 use mathlib.Core.List.{List, [], map}
 use Prim.Native.Nat.{ℕ, suc, _+_, _*_, _-_, _≤_, _<_, _^_, min}
 use lib.Dec.{leb}
@@ -12,14 +11,12 @@ use Rattle.rooms.specs.Table.{Room, mostWatts, mostCords, roomCords}
 use Rattle.rooms.specs.Trees.{beneath}
 use Rattle.rooms.specs.Limits.{checked}
 use Rattle.figures.specs.Figures.{total, at, cell, sumOf}
-use Rattle.figures.specs.Sums.{on, sum}
-use Rattle.rooms.specs.Cords.{serverAt}
+use Rattle.figures.specs.Sums.{on}
 use Rattle.deals.specs.Wants.{needs, firstWants}
-use Rattle.rooms.specs.Lists.{carriedBy, lowsOf}
-use Rattle.deals.specs.Metrics.{Deal, atLevel, metrics, excess, cordExcess, overChildren, childSums}
-use Rattle.deals.specs.Dealing.{Child, node, cord, children, nodeOver, cordOver, weightSum, partOf, nodeAmount, amount, reached, granted}
-use Rattle.deals.specs.SecondDeal.{firstDeal, firstGrants, firstUsable, firstUsed, freed, secondDeal, secondWants}
-use Rattle.deals.specs.Held.{cutFrom}
+use Rattle.rooms.specs.Lists.{lowsOf}
+use Rattle.deals.specs.Metrics.{Deal, atLevel, metrics, excess, overChildren, childSums}
+use Rattle.deals.specs.Dealing.{node, children, nodeOver, cordOver, weightSum, nodeAmount, amount, reached}
+use Rattle.deals.specs.SecondDeal.{firstDeal, freed, secondDeal, secondWants}
 use Rattle.deals.specs.Headroom.{ceilingsOf, nodeCeiling, requestsAt, headroomWeight}
 use Rattle.deals.specs.Promises.{AcceptedPlan}
 

@@ -4,7 +4,7 @@ use mathlib.Core.List.{List, [], _∷_}
 use Prim.Native.Nat.{ℕ, _/_, _≤_, _<_}
 use native.Mathlib.Omega.{arith}
 use lib.ListN.{length, take}
-use lib.Seq.{sets, length-sets, length-take-le, take-all}
+use lib.Seq.{sets, length-sets, take-all}
 use Rattle.words.specs.Bytes.{bytesOf}
 use Rattle.figures.proofs.Stores.{take-sets}
 use Rattle.calls.specs.Call.{answered}

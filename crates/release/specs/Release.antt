@@ -1,5 +1,5 @@
 -- Which release the code is of, and the C call that tells it.
-use mathlib.Core.List.{List, [], _∷_, _++_}
+use mathlib.Core.List.{List, [], _∷_}
 use Prim.Native.Nat.{ℕ, _+_, _-_, _*_}
 use lib.ListN.{getD}
 use Rattle.calls.specs.Call.{Call}

@@ -9,7 +9,7 @@ use Rattle.words.specs.Bytes.{bytesOf}
 use Rattle.calls.specs.Call.{answered}
 use Rattle.calls.proofs.Calls.{two-of-three, answer-told, call-done}
 use Rattle.sender.specs.Period.{serversFrom, namedCount}
-use Rattle.sender.specs.Outcome.{SendOutcome, sending, answerOf, refusalNumber, refusalPlace}
+use Rattle.sender.specs.Outcome.{sending, answerOf, refusalNumber, refusalPlace}
 use Rattle.sender.specs.Call.{sentNumbers, SendCall}
 use Rattle.sender.specs.declared.Sent.{Sent}
 use Rattle.sender.specs.declared.Sent.the-variants.{Accepted, Refused}
@@ -40,9 +40,6 @@ named-fits count position words {named = named} {front = front} h f =
 
 module _ (count position m : ℕ) (list answer : List ℕ) {told : Sent} {answer′ : List ℕ} (long : 24 ≤ length answer)
     (is : told ≡ answerOf (sending count position m (length list / 4))) (a : answer′ ≡ answered 3 (sentNumbers told) answer) where
-  abbrev outcome : SendOutcome
-  outcome = sending count position m (length list / 4)
-
   pub call-refused : {q : SendRefusal} → told ≡ Refused q → SendCall count position m list answer 1 list answer′
   call-refused e = call-done _ answer _ (omega arith) (rw (refused-told count position m (length list / 4) is e)) (rw is at a)
 

@@ -1,5 +1,4 @@
 -- `plan_figures` meets its contract: what is loaded and admitted is planned, in lists that take any plan.
-use mathlib.Core.Path.{_≡_}
 use mathlib.Core.List.{List}
 use Prim.Native.Nat.{ℕ, _≤_}
 use native.Mathlib.Omega.{arith}

@@ -1,5 +1,4 @@
 -- `release_bytes` meets its contract: every buffer that holds the answer holds the digits' part of the mark.
-use mathlib.Core.List.{[], _∷_}
 use native.Mathlib.Omega.{arith}
 use borrow.Author.Needs.{needs}
 use Rattle.calls.proofs.Calls.{call-short, call-done}

@@ -2,27 +2,23 @@
 // Private to Plan: no operation stands here.
 ghost use mathlib.Core.Path.{_≡_};
 ghost use Prim.Native.Nat.{ℕ, _+_, _≤_, _<_, min, max};
-ghost use lib.ListN.{length};
+ghost use lib.ListN.{length, set};
 ghost use Rattle.figures.specs.Figures.{at, column};
 ghost use Rattle.rooms.specs.Part.{Good};
-ghost use Rattle.rooms.specs.Limits.{lowsBeneath, checked};
+ghost use Rattle.rooms.specs.Table.{IsScale, mostWatts};
+ghost use Rattle.rooms.specs.Limits.{lowsBeneath, carried, checked};
 ghost use Rattle.rooms.specs.Lists.{parentsOf, limitsOf};
-ghost use Rattle.rooms.specs.Rows.{OfRoom, NodesFit, ServersFit, nodeColumn};
+ghost use Rattle.rooms.specs.Rows.{OfRoom, NodesFit, nodeColumn};
 ghost use Rattle.layout.specs.Lists.{HasLowsBeneath, CordsLent, CordsLaidOut};
-ghost use Rattle.layout.specs.Loading.{needsFrom, CordsLoadable, CordsLoaded};
-use figures::index;
 use figures::narrow;
+use figures::place;
+use figures::short;
 use figures::wide;
-use figures::word16;
-use rooms::MOST_SERVERS;
+use figures::word_index;
 use rooms::limits::carried_by;
-use rooms::lists::GREATEST;
-use rooms::lists::LEAST;
 use rooms::lists::NODE;
-use rooms::lists::SERVER;
-use rooms::lists::SHARE;
+use rooms::lists::first_server;
 use rooms::lists::lay_out_nodes;
-use rooms::lists::lay_out_servers;
 use rooms::lists::table_scale;
 
 pub mod room;
@@ -59,74 +55,31 @@ pub fn need_of(demand: u32, least: u32, greatest: u32) -> u32
     if greatest < raised { greatest } else { raised }
 }
 
-// The need of each server, by the servers' rows and the demands.
-fn load_needs(servers: &[[u32; 4]], demands: &[u32], needs: &mut [u32])
-    requires sizes { ⌜ (length (now demands) ≡ length (now servers)) × (length (now needs) ≡ length (now servers)) ⌝ }
-    ensures needs { λ _. ⌜ now (needs .exit) ≡ needsFrom (now (servers .entry)) (now (demands .entry)) ⌝ }
-{
-    for v in 0..servers.len() {
-        let server = servers[v];
-        needs[v] = need_of(demands[v], server[LEAST], server[GREATEST]);
-    }
-}
-
-// What each cord carries of its server's least, need and greatest, by the rows.
-fn load_figures(
-    servers: &[[u32; 4]],
-    cords: &[[u16; 4]],
-    needs: &[u32],
-    lows: &mut [u32],
-    wants: &mut [u32],
-    ceilings: &mut [u32],
+// What the cord at place c carries of its server's least, need and greatest.
+fn load_cord(
+    c: usize,
+    share: u32,
     scale: u32,
-)
-    requires rows { ⌜ CordsLoadable scale (now servers) (now cords) (now needs) ⌝ }
-    requires sizes { ⌜ (length (now lows) ≡ length (now cords)) × (length (now wants) ≡ length (now cords))
-        × (length (now ceilings) ≡ length (now cords)) ⌝ }
-    ensures loaded { λ _. ⌜ CordsLoaded scale (now (servers .entry)) (now (cords .entry)) (now (needs .entry))
-        (now (lows .exit)) (now (wants .exit)) (now (ceilings .exit)) ⌝ }
-{
-    for c in 0..cords.len() {
-        let cord = cords[c];
-        let share = word16(cord[SHARE]);
-        let v = index(cord[SERVER]);
-        lows[c] = carried_by(share, servers[v][LEAST], scale);
-        wants[c] = carried_by(share, needs[v], scale);
-        ceilings[c] = carried_by(share, servers[v][GREATEST], scale);
-    }
-}
-
-// `load_cords`, with a list lent for the servers' rows.
-fn load_rows(
-    table: &[u32],
-    demands: &[u32],
-    servers: &mut [[u32; 4]],
-    cords: &mut [[u16; 4]],
+    least: u32,
+    need: u32,
+    greatest: u32,
     lows: &mut [u32],
     wants: &mut [u32],
     ceilings: &mut [u32],
-    needs: &mut [u32],
 )
-    requires lists { ⌜ CordsLent (now table) (now demands) (now cords) (now lows) (now wants) (now ceilings) (now needs) ⌝ }
-    requires servers { ⌜ ServersFit (now table) (length (now servers)) ⌝ }
-    ensures laid_out { λ _. ⌜ OfRoom (now (table .entry)) (λ r. CordsLaidOut r (now (demands .entry)) (now (cords .exit))
-        (now (lows .exit)) (now (wants .exit)) (now (ceilings .exit)) (now (needs .exit))) ⌝ }
+    requires place { ⌜ (c < length (now lows)) × (c < length (now wants)) × (c < length (now ceilings)) ⌝ }
+    requires in_range { ⌜ IsScale scale × (share ≤ scale) × (least ≤ mostWatts) × (need ≤ mostWatts) × (greatest ≤ mostWatts) ⌝ }
+    ensures loaded { λ _. ⌜ (now (lows .exit) ≡ set (now (lows .entry)) c (carried scale share least))
+        × (now (wants .exit) ≡ set (now (wants .entry)) c (carried scale share need))
+        × (now (ceilings .exit) ≡ set (now (ceilings .entry)) c (carried scale share greatest)) ⌝ }
 {
-    lay_out_servers(table, servers, cords);
-    load_needs(servers, demands, needs);
-    load_figures(
-        servers,
-        cords,
-        needs,
-        lows,
-        wants,
-        ceilings,
-        table_scale(table),
-    );
+    lows[c] = carried_by(share, least, scale);
+    wants[c] = carried_by(share, need, scale);
+    ceilings[c] = carried_by(share, greatest, scale);
 }
 
 // The rows of a good table's cords, their lows, wants and ceilings, and its servers' needs by the demands, one a server; the wants are
-// those of the first deal.
+// those of the first deal. One walk over the table makes them all: no row of a server is kept.
 pub fn load_cords(
     table: &[u32],
     demands: &[u32],
@@ -140,17 +93,37 @@ pub fn load_cords(
     ensures laid_out { λ _. ⌜ OfRoom (now (table .entry)) (λ r. CordsLaidOut r (now (demands .entry)) (now (cords .exit))
         (now (lows .exit)) (now (wants .exit)) (now (ceilings .exit)) (now (needs .exit))) ⌝ }
 {
-    let mut servers = [[0u32; 4]; MOST_SERVERS];
-    load_rows(
-        table,
-        demands,
-        &mut servers[..demands.len()],
-        cords,
-        lows,
-        wants,
-        ceilings,
-        needs,
-    )
+    let scale = table_scale(table);
+    let mut start = first_server(table);
+    let mut first = 0;
+    for v in 0..demands.len() {
+        let level = short(table[start] - 1);
+        let least = table[start + 1];
+        let greatest = table[start + 2];
+        let need = need_of(demands[v], least, greatest);
+        let count = word_index(table[start + 3]);
+        let mut word = start + 4;
+        for c in first..first + count {
+            let node = short(table[word]);
+            let share = table[word + 1];
+            cords[c] = [node, place(v), level, short(share)];
+            load_cord(
+                c,
+                share,
+                scale,
+                least,
+                need,
+                greatest,
+                lows,
+                wants,
+                ceilings,
+            );
+            word += 2;
+        }
+        needs[v] = need;
+        first += count;
+        start = word;
+    }
 }
 
 // The node of each cord, by the rows.

@@ -35,8 +35,7 @@ use Rattle.plan_reclaim.specs.Raising.{Raisable}
 use Rattle.plan_reclaim.specs.Reclaimed.{ServerLists, usableFrom, usedFrom, strandedFrom, wantsFrom, freedFrom}
 use Rattle.plan_reclaim.proofs.Reclaiming.{usable-lists}
 use Rattle.rooms.specs.Rows.{CordRows, nodeColumn, serverColumn, levelColumn, shareColumn}
-use Rattle.layout.proofs.Rows.{cords-count, server-at, share-at}
-use Rattle.layout.proofs.Loading.{carried-is}
+use Rattle.layout.proofs.Rows.{cords-count, server-at, share-at, carried-is}
 use Rattle.plan_rooms.specs.Planning.{RoomToDeal}
 use Rattle.rooms.specs.Trees.{sumBeneath, ParentsFirst}
 use Rattle.figures.specs.Places.{Zeros}

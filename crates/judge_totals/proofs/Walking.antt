@@ -1,5 +1,5 @@
 -- The walk over a good table's servers, in which each cord is judged and noted in its turn.
-use mathlib.Core.Path.{_≡_, refl, sym, ap, ap₂, _∙_}
+use mathlib.Core.Path.{_≡_, refl, sym, ap, _∙_}
 use mathlib.Core.Bool.{cond}
 use mathlib.Core.List.{List}
 use Prim.Native.Nat.{ℕ, suc, _+_, _-_, _*_, _^_, _≤_, _<_, min, max}
@@ -12,16 +12,16 @@ use Rattle.figures.specs.Credits.{credited}
 use Rattle.rooms.specs.Part.{good, Good}
 use Rattle.rooms.specs.Table.{Room, IsScale, mostNodes, mostServers, mostCords, mostWatts, highestRank, roomCords}
 use Rattle.rooms.specs.Limits.{checked, carried, firstNode}
-use Rattle.rooms.specs.Cords.{RoomCord, cordAt, serverAt}
+use Rattle.rooms.specs.Cords.{RoomCord, serverAt}
 use Rattle.rooms.specs.Lists.{nodesOf, levelsOf, lowsOf}
 use Rattle.rooms.specs.Rows.{ServersFit, CordsFit, ScaleIs}
 use Rattle.rooms.specs.Walk.{serversIndex}
 use Rattle.rooms.proofs.Accepted.{Accepted, accepted}
-use Rattle.rooms.proofs.Walk.{Walk, CordHere, ServerHere, walk-start, walk-server, walk-end}
-use Rattle.deals.specs.Wants.{needs, firstWants}
+use Rattle.rooms.proofs.Walk.{Walk, ServerHere, walk-start, walk-server, walk-end}
+use Rattle.deals.specs.Wants.{firstWants}
 use Rattle.deals.specs.Judge.{belowLow}
 use Rattle.deals.proofs.RoomDeals.{nodesOf-length, nodesOf-at, levelsOf-at}
-use Rattle.deals.proofs.BothDeals.{needs-at, carriedBy-at, lowsOf-at}
+use Rattle.layout.proofs.Carrying.{CordStands, cord-stands, carried-as, low-is, want-is}
 use Rattle.judge_totals.specs.Totals.{Unnoted, CordsJudged, merged}
 use Rattle.judge_totals.proofs.Searching.{searching-stop, searching-end}
 use Rattle.judge_totals.proofs.Noting.{CordTurns, cords-start, cords-next, cords-end, above-end}
@@ -173,35 +173,23 @@ module _ {table demands grants : List ℕ} {scale gn rn wn v start first rank le
       }
 
   module _ (short : c < first + count) where
-    cord-here : CordHere table r v start first (c - first)
-    cord-here = standing .cord (c - first) (omega (arith, server .counted, server .from))
-
-    at-c : first + (c - first) ≡ c
-    at-c = omega (arith, server .from)
-
-    at-word : start + 4 + 2 * (c - first) ≡ word
-    at-word = omega (arith, server .from, server .next)
-
-    at-share : start + 5 + 2 * (c - first) ≡ word + 1
-    at-share = omega (arith, server .from, server .next)
-
-    is : cordAt r c ≡ record { server = v; node = at table word; share = at table (word + 1) }
-    is = rw (at-c, at-word, at-share) at (cord-here .is)
+    cord : CordStands table r v c word
+    cord = cord-stands standing (server .from) (omega (arith, server .counted)) (server .next)
 
     within : c < roomCords r
-    within = rw at-c at (cord-here .within)
+    within = cord .within
 
     in-nodes : c < length (nodesOf r)
     in-nodes = omega (arith, within, nodesOf-length r)
 
     pub cord-fits : CordFits table grants scale least need c word given raised wanting
     cord-fits =
-        let node : at table word ≤ length (r .nodes) = rw at-word at (cord-here .node-most) in
-        let share : at table (word + 1) ≤ r .scale = rw at-share at (cord-here .share-most) in
+        let node = cord .node-most in
+        let share = cord .share-most in
         let few = ok walking .fewNodes in
         let turns = walking .turns in
         record {
-          there = omega (arith, cord-here .there, at-share);
+          there = cord .there;
           few = omega (arith, within, ok walking .fewCords);
           in-grants = omega (arith, within, walking .grants-size);
           scaled = rw (walking .scale-is) (ok walking .scaled);
@@ -216,30 +204,20 @@ module _ {table demands grants : List ℕ} {scale gn rn wn v start first rank le
 
     -- The cord's figures are those of the room.
     node-is : at (nodesOf r) c ≡ at table word
-    node-is = nodesOf-at r c ∙ ap (λ (x : RoomCord). x .node) is
+    node-is = nodesOf-at r c ∙ ap (λ (x : RoomCord). x .node) (cord .is)
 
     rank-at : rank ≡ suc (at (levelsOf r) c)
     rank-at =
-        omega (arith, server .rank-is, standing .lowest, standing .rank, levelsOf-at r c within, ap (λ (x : RoomCord). serverAt r (x .server) .rank) is)
+        omega (arith, server .rank-is, standing .lowest, standing .rank, levelsOf-at r c within, ap (λ (x : RoomCord). serverAt r (x .server) .rank) (cord .is))
 
     ranked : at (levelsOf r) c < highestRank
     ranked = omega (arith, rank-at, server .rank-is, standing .highest)
 
-    low-is : at (lowsOf r) c ≡ carried scale (at table (word + 1)) least
-    low-is =
-        lowsOf-at r (ok walking) c within
-        ∙ ap₂ (carried (r .scale)) (ap (λ (x : RoomCord). x .share) is) (ap (λ (x : RoomCord). serverAt r (x .server) .least) is ∙ standing .least ∙ sym (server .least-is))
-        ∙ ap (λ (s : ℕ). carried s (at table (word + 1)) least) (sym (walking .scale-is))
+    low-at : at (lowsOf r) c ≡ carried scale (at table (word + 1)) least
+    low-at = sym (carried-as (at table (word + 1)) (walking .scale-is) (server .least-is) (low-is standing cord (ok walking)))
 
-    want-is : at (firstWants r demands) c ≡ carried scale (at table (word + 1)) need
-    unfolding firstWants
-    want-is =
-        let load : at (needs r demands) v ≡ min (max (at demands v) (at table (start + 1))) (at table (start + 2))
-        = needs-at r demands v (omega (arith, server .more, walking .demands-size))
-        ∙ ap₂ (λ (x y : ℕ). min (max (at demands v) x) y) (standing .least) (standing .greatest) in
-        carriedBy-at r (needs r demands) c within
-        ∙ ap₂ (carried (r .scale)) (ap (λ (x : RoomCord). x .share) is) (ap (λ (x : RoomCord). at (needs r demands) (x .server)) is ∙ load ∙ sym (server .need-is))
-        ∙ ap (λ (s : ℕ). carried s (at table (word + 1)) need) (sym (walking .scale-is))
+    want-at : at (firstWants r demands) c ≡ carried scale (at table (word + 1)) need
+    want-at = sym (carried-as (at table (word + 1)) (walking .scale-is) (server .need-is) (want-is standing cord demands (omega (arith, server .more, walking .demands-size))))
 
     -- It has less than its low.
     pub judged-below : {low : ℕ} → low ≡ carried scale (at table (word + 1)) least → at grants c < low
@@ -250,7 +228,7 @@ module _ {table demands grants : List ℕ} {scale gn rn wn v start first rank le
         let same : r ≡ q = cc in
         rw (← same)
         (record {
-          below-is = searching-stop (walking .turns .below) in-nodes (lt-ltb (at grants c) (at (lowsOf r) c) (omega (arith, low-is)))
+          below-is = searching-stop (walking .turns .below) in-nodes (lt-ltb (at grants c) (at (lowsOf r) c) (omega (arith, low-at)))
               ∙ ap (λ (k : ℕ). firstNode k 0 (belowLow r grants)) (nodesOf-length r);
           above-is = λ z. absurd (omega arith);
           noted = λ z y. absurd (omega arith);
@@ -267,8 +245,8 @@ module _ {table demands grants : List ℕ} {scale gn rn wn v start first rank le
         let fits = cord-fits in
         let turns = walking .turns in
         let en′ : node ≡ at (nodesOf r) c = en ∙ sym node-is in
-        let el′ : low ≡ at (lowsOf r) c = el ∙ sym low-is in
-        let ew′ : want ≡ at (firstWants r demands) c = ew ∙ sym want-is in
+        let el′ : low ≡ at (lowsOf r) c = el ∙ sym low-at in
+        let ew′ : want ≡ at (firstWants r demands) c = ew ∙ sym want-at in
         let next : CordTurns (nodesOf r) (levelsOf r) (lowsOf r) (firstWants r demands) grants gn rn wn (c + 1) above′ given′ raised′ wanting′
         = cords-next turns in-nodes ranked (omega (arith, el′, eg, le)) (omega (arith, node-is, fits .in-given, turns .given-size)) (walking .raised-long) (walking .wanting-long)
         (omega (arith, el′, eg, lt)) en′ rank-at el′ ew′ eg ea e1 e2 e3 in

@@ -1,5 +1,5 @@
 -- A cord in the walk over a good table's servers: its words, and the room's figures of it.
-use mathlib.Core.Path.{_≡_, ap, ap₂, _∙_}
+use mathlib.Core.Path.{_≡_, sym, ap, ap₂, _∙_}
 use mathlib.Core.List.{List}
 use Prim.Native.Nat.{ℕ, _+_, _-_, _*_, _≤_, _<_, min, max}
 use native.Mathlib.Omega.{arith}
@@ -23,6 +23,10 @@ pub record CordStands (table : List ℕ) (r : Room) (v c word : ℕ) : Type 0 wh
   pub is : cordAt r c ≡ record { server = v; node = at table word; share = at table (word + 1) }
   pub node-most : at table word ≤ length (r .nodes)
   pub share-most : at table (word + 1) ≤ r .scale
+
+-- What a cord carries, where its scale and its load have other names.
+pub carried-as : (share : ℕ) {scale s load l figure : ℕ} → scale ≡ s → load ≡ l → figure ≡ carried s share l → carried scale share load ≡ figure
+carried-as share es el is = ap₂ (λ (x y : ℕ). carried x share y) es el ∙ sym is
 
 module _ {table : List ℕ} {r : Room} {v start first : ℕ} (standing : ServerHere table r v start first) where
   pub cord-stands : {c word : ℕ} → first ≤ c → c < first + at table (start + 3) → word + 2 * first ≡ start + 4 + 2 * c → CordStands table r v c word

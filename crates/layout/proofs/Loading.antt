@@ -23,7 +23,7 @@ use Rattle.deals.specs.Wants.{needs, firstWants}
 use Rattle.deals.specs.Headroom.{ceilingsOf}
 use Rattle.deals.proofs.BothDeals.{carriedBy-length, lowsOf-length}
 use Rattle.layout.specs.Lists.{CordsLent, CordsLaidOut}
-use Rattle.layout.proofs.Carrying.{CordStands, cord-stands, need-is, low-is, want-is, ceiling-is}
+use Rattle.layout.proofs.Carrying.{CordStands, cord-stands, carried-as, need-is, low-is, want-is, ceiling-is}
 
 -- The lists have the figures of the cords before place c, and the needs of the servers before place v.
 pub record FiguresDone (r : Room) (demands : List ℕ) (v c : ℕ) (lows wants ceilings needed : List ℕ) : Type 0 where
@@ -182,10 +182,7 @@ module _ {table demands : List ℕ} {scale v start first c : ℕ} {cords : List 
           figures = loading .figures;
         }
 
--- The figures of a cord may have other names.
-carried-as : (share : ℕ) {scale s load l figure : ℕ} → scale ≡ s → load ≡ l → figure ≡ carried s share l → carried scale share load ≡ figure
-carried-as share es el is = ap₂ (λ (x y : ℕ). carried x share y) es el ∙ sym is
-
+-- The figures of a row may have other names.
 row-as : {a b c d a′ b′ c′ d′ : ℕ} → a ≡ a′ → b ≡ b′ → c ≡ c′ → d ≡ d′ → _≡_ {A = List ℕ} (a ∷ b ∷ c ∷ d ∷ []) (a′ ∷ b′ ∷ c′ ∷ d′ ∷ [])
 row-as e f g h = λ i. e i ∷ f i ∷ g i ∷ h i ∷ []
 

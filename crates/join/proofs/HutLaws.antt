@@ -2,7 +2,7 @@
 use mathlib.Core.Path.{_≡_, refl, sym, ap, ap₂, _∙_, subst}
 use mathlib.Core.Bool.{Bool, not}
 use mathlib.Core.List.{List, _∷_, _++_, append-assoc}
-use Prim.Native.Nat.{ℕ, zero, suc, _+_, _-_, _/_, _≤_, _<_, min}
+use Prim.Native.Nat.{ℕ, zero, suc, _+_, _-_, _*_, _/_, _≤_, _<_, min}
 use native.Mathlib.Nat.{suc-ne-zero}
 use native.Mathlib.Omega.{arith}
 use lib.ListN.{length, take, drop, length-append}
@@ -15,7 +15,7 @@ use Rattle.figures.specs.Figures.{at}
 use Rattle.words.specs.Bytes.{wordsOf}
 use Rattle.figures.specs.Bounds.{AllBelow}
 use Rattle.words.proofs.Bytes.{take-loaded}
-use Rattle.rooms.specs.Part.{Step, good, bad}
+use Rattle.rooms.specs.Part.{Step, good, bad, Good}
 use Rattle.rooms.specs.Table.{raised, Room, mostNodes, mostServers, mostCords, mostWords, formOf, nodeWords, roomCords}
 use Rattle.rooms.specs.Limits.{checked}
 use Rattle.rooms.specs.Words.{tableOf, rowWords, wordsOfNode, wordsOfServer}
@@ -26,6 +26,7 @@ use Rattle.rooms.specs.declared.Refusal.{Refusal}
 use Rattle.rooms.specs.declared.Checked.{Checked}
 use Rattle.rooms.specs.declared.Checked.the-variants as checks
 use Rattle.rooms.proofs.Accepted as rooms
+use Rattle.rooms.proofs.Counts.{nodes-told, cords-told}
 use Rattle.rooms.proofs.Reach.{prefix-decides, length-is, length-small, words-small}
 use Rattle.join.specs.Joined.{joined}
 use Rattle.join.specs.Outcome.{JoinOutcome, JoinReason, reasons, joinRooms, joining}
@@ -35,7 +36,6 @@ use Rattle.join.specs.declared.Hut.{Hut}
 use Rattle.join.specs.declared.Examined.{Examined}
 use Rattle.join.specs.declared.Examined.the-variants as examineds
 use Rattle.join.specs.declared.JoinRefusal.the-variants.{First, Second, VersionsDiffer, TooManyNodes, TooManyServers, TooManyCords, TableTooShort}
-use Rattle.join.specs.declared.JoinAnswer.the-variants.{Refused}
 use Rattle.join.proofs.JoinedRoom.{nodes-joined, servers-joined}
 use Rattle.join.proofs.TableWords.{row-append, length-are, nodes-moved, servers-moved}
 use Rattle.join.proofs.PieceLaws.{every-length, cords-length}
@@ -83,22 +83,73 @@ module _ (w : List ℕ) {cords : ℕ} (g : GoodTable w cords) where
       }))
       ∙ sym (ap (examinedStep w) (g .is))
 
--- The first words of a longer list decide.
-pub examined-cut : (k : ℕ) (w : List ℕ) → suc mostWords ≤ k → examined (take k w) ≡ examined w
+pub bad-examined : (w : List ℕ) {k : Examined} {q : Refusal} → k ≡ examined w → k ≡ examineds.Refused q → checked w 0 ≡ bad q
 unfolding examinedStep
-examined-cut k w h = go (checked w 0) refl
+bad-examined w {k} {q} d e = go (checked w 0) refl d
   where
-    go : (s : Step Room) → checked w 0 ≡ s → examined (take k w) ≡ examined w
-    go (good r end) e = ap examined (take-all k w (omega (arith, length-small w r end e)))
-    go (bad q) e = ap (examinedStep (take k w)) (prefix-decides w k h ∙ e) ∙ sym (ap (examinedStep w) e)
+    go : (t : Step Room) → checked w 0 ≡ t → k ≡ examinedStep w t → checked w 0 ≡ bad q
+    go (good r end) z d = absurd (suc-ne-zero 0 (cc))
+    go (bad p) z d = let a : p ≡ q = cc in z ∙ ap bad a
 
 -- The words that are loaded decide.
 module _ (bytes list : List ℕ) {count : ℕ} {list′ : List ℕ} (n : count ≡ min (length bytes / 4) (length list)) (is : list′ ≡ sets list 0 (wordsOf bytes)) where
   pub loaded-length : count ≡ length (take count list′)
   loaded-length = sym (length-take-le count list′ (omega (arith, ap length is ∙ length-sets list 0 (wordsOf bytes))))
 
-  pub loaded-examined : {k : Examined} → suc mostWords ≤ length list → k ≡ examined (take count list′) → k ≡ examined (wordsOf bytes)
-  loaded-examined h e = e ∙ ap examined (take-loaded (length list) count bytes list list′ refl n is) ∙ examined-cut (length list) (wordsOf bytes) h
+  pub loaded-checked : {k : Checked} → suc mostWords ≤ length list → k ≡ told roomCords (checked (take count list′) 0) → k ≡ told roomCords (checked (wordsOf bytes) 0)
+  loaded-checked h e =
+      e ∙ ap (λ (w : List ℕ). told roomCords (checked w 0)) (take-loaded (length list) count bytes list list′ refl n is)
+      ∙ ap (told roomCords) (prefix-decides (wordsOf bytes) (length list) h)
+
+-- ---- What is kept of a table, read from its words
+
+pub checked-good : (w : List ℕ) {k : Checked} {cords next : ℕ} → k ≡ told roomCords (checked w 0) → k ≡ checks.Good cords next → Good (checked w 0)
+checked-good w d e = let g = good-told w d e in record { value = g .room; next = g .end; is = g .is }
+
+pub checked-bad : (w : List ℕ) {k : Checked} {q : Refusal} → k ≡ told roomCords (checked w 0) → k ≡ checks.Refused q → checked w 0 ≡ bad q
+checked-bad w d e = bad-examined w refl (sym (refused-told w d e))
+
+module _ (w : List ℕ) (g : Good (checked w 0)) where
+  abbrev width : ℕ
+  width = nodeWords (formOf (at w 0) .percents)
+
+  long : length w ≡ 3 + width * length (g .value .nodes) + 4 * length (g .value .servers) + 2 * roomCords (g .value)
+  long = length-is w (g .value) (g .next) (g .is)
+
+  counted : width * at w 1 ≡ width * length (g .value .nodes)
+  counted = ap (λ (n : ℕ). width * n) (nodes-told w refl (g .value) (g .next) (g .is))
+
+  pub counts-there : 3 ≤ length w
+  counts-there = omega (arith, long)
+
+  pub middle-there : serversIndex w < length w
+  middle-there = omega (arith, long, counted)
+
+  pub others-there : {servers : ℕ} → ServersFit w servers → serversIndex w + 1 + 4 * servers ≤ length w
+  others-there fit = omega (arith, long, counted, fit (g .value) (g .next) (g .is))
+
+  pub hut-read : {version nodes servers middle words : ℕ} → version ≡ at w 0 → NodesFit w nodes → ServersFit w servers → middle ≡ serversIndex w → words ≡ length w
+      → HutOf w (record { version = version; nodes = nodes; servers = servers; cords = (words - (middle + 1 + 4 * servers)) / 2; middle = middle; words = words })
+  hut-read {version} {nodes} {servers} {middle} {words} v n s m l =
+      let cords : (words - (middle + 1 + 4 * servers)) / 2 ≡ roomCords (g .value)
+      = ap (λ (x : ℕ). (x - (middle + 1 + 4 * servers)) / 2) l ∙ cords-told w (ap (λ (x : ℕ). x + 1) m) s (g .value) (g .next) (g .is) in
+      record {
+        room = g .value;
+        end = g .next;
+        good-table = g .is;
+        is = (λ i. record {
+          version = v i;
+          nodes = n (g .value) (g .next) (g .is) i;
+          servers = s (g .value) (g .next) (g .is) i;
+          cords = cords i;
+          middle = m i;
+          words = l i;
+        });
+      }
+
+  -- A good table has what is kept of it.
+  pub good-hut : HutOf w (hutOf w (g .value))
+  good-hut = record { room = g .value; end = g .next; good-table = g .is; is = refl }
 
 -- What a good answer keeps.
 pub hut-of : (w : List ℕ) {k : Examined} {hut : Hut} → k ≡ examined w → k ≡ examineds.Good hut → HutOf w hut
@@ -108,14 +159,6 @@ hut-of w {k} {hut} d e = go (checked w 0) refl d
     go : (s : Step Room) → checked w 0 ≡ s → k ≡ examinedStep w s → HutOf w hut
     go (good r end) q d = let a : hut ≡ hutOf w r = cc in record { room = r; end = end; good-table = q; is = a }
     go (bad refusal) q d = absurd (suc-ne-zero 0 (cc))
-
-pub bad-examined : (w : List ℕ) {k : Examined} {q : Refusal} → k ≡ examined w → k ≡ examineds.Refused q → checked w 0 ≡ bad q
-unfolding examinedStep
-bad-examined w {k} {q} d e = go (checked w 0) refl d
-  where
-    go : (t : Step Room) → checked w 0 ≡ t → k ≡ examinedStep w t → checked w 0 ≡ bad q
-    go (good r end) z d = absurd (suc-ne-zero 0 (cc))
-    go (bad p) z d = let a : p ≡ q = cc in z ∙ ap bad a
 
 pub hut-small : {w : List ℕ} {hut : Hut} → HutOf w hut → Small hut
 hut-small {w} {hut} h =
@@ -199,9 +242,6 @@ module _ (f s : List ℕ) (space : ℕ) where
   unfolding joining
   first-bad e = ap (λ (t : Step Room). whenGood First t (λ r. whenGood Second (checked s 0) (λ q. joinRooms (at f 0) (at s 0) r q space))) e
 
-  pub first-refused : {k : Examined} {q : Refusal} → k ≡ examined f → k ≡ examineds.Refused q → outcome ≡ refused (First q)
-  first-refused d e = first-bad (bad-examined f d e)
-
   module _ {one : Hut} (a : HutOf f one) where
     after-first : outcome ≡ whenGood Second (checked s 0) (λ q. joinRooms (at f 0) (at s 0) (a .room) q space)
     unfolding joining
@@ -209,9 +249,6 @@ module _ (f s : List ℕ) (space : ℕ) where
 
     pub second-bad : {q : Refusal} → checked s 0 ≡ bad q → outcome ≡ refused (Second q)
     second-bad e = after-first ∙ ap (λ (t : Step Room). whenGood Second t (λ q. joinRooms (at f 0) (at s 0) (a .room) q space)) e
-
-    pub second-refused : {k : Examined} {q : Refusal} → k ≡ examined s → k ≡ examineds.Refused q → outcome ≡ refused (Second q)
-    second-refused d e = second-bad (bad-examined s d e)
 
     module _ {two : Hut} (b : HutOf s two) where
       abbrev table : List ℕ

@@ -2,7 +2,7 @@
 use mathlib.Core.Path.{_≡_, refl, sym, ap, ap₂, _∙_, subst}
 use mathlib.Core.Bool.{Bool, true, false, cond}
 use mathlib.Core.List.{List, [], _∷_, _++_, append-assoc, append-nil}
-use Prim.Native.Nat.{ℕ, zero, suc, _+_, _-_, _*_, _≤_, _<_}
+use Prim.Native.Nat.{ℕ, zero, suc, _+_, _-_, _*_, _/_, _≤_, _<_}
 use native.Mathlib.Omega.{arith}
 use lib.ListN.{length, getD, take, drop, set, length-append, length-drop, length-set}
 use lib.Seq.{sets, length-take-le, take-nil, drop-nil, take-suc-set, drop-set-lt, drop-cons, take-add, drop-drop, take-take, getD-drop, take-at, drop-at, take-all}
@@ -75,14 +75,14 @@ turning-pass {change} {next} {wanted} {list} {now} {i} k step t = record {
       ∙ t .same;
 }
 
+head-at : (l : List ℕ) (i : ℕ) → getD l i 0 ≡ getD (drop i l) 0 0
+head-at [] i = sym (ap (λ (l : List ℕ). getD l 0 0) (drop-nil i))
+head-at (x ∷ l) zero = refl
+head-at (x ∷ l) (suc i) = head-at l i
+
 -- The entry at i is one of the list as it was.
 pub turning-at : {change : List ℕ → List ℕ} {wanted list now : List ℕ} {i : ℕ} → Turning change wanted list now i → getD now i 0 ≡ getD list i 0
-turning-at {change} {wanted} {list} {now} {i} t = head now i ∙ ap (λ (l : List ℕ). getD l 0 0) (t .ahead) ∙ sym (head list i)
-  where
-    head : (l : List ℕ) (i : ℕ) → getD l i 0 ≡ getD (drop i l) 0 0
-    head [] i = sym (ap (λ (l : List ℕ). getD l 0 0) (drop-nil i))
-    head (x ∷ l) zero = refl
-    head (x ∷ l) (suc i) = head l i
+turning-at {change} {wanted} {list} {now} {i} t = head-at now i ∙ ap (λ (l : List ℕ). getD l 0 0) (t .ahead) ∙ sym (head-at list i)
 
 -- ---- Every word of a width
 
@@ -272,6 +272,19 @@ piece-words bytes from to =
 
 pub piece-length : (words : List ℕ) (from to : ℕ) → to ≤ length words → length (piece from to words) ≡ to - from
 piece-length words from to h = length-take-le (to - from) (drop from words) (omega (arith, length-drop from words))
+
+-- A word that is loaded by itself is the one at its index.
+pub word-loaded : (bytes : List ℕ) (i : ℕ) {list : List ℕ} → i < length bytes / 4
+    → list ≡ sets (0 ∷ []) 0 (wordsOf (take (4 * (i + 1) - 4 * i) (drop (4 * i) bytes))) → getD list 0 0 ≡ getD (wordsOf bytes) i 0
+word-loaded bytes i h e =
+    let size : 1 ≡ length (piece i (i + 1) (wordsOf bytes)) = omega (arith, piece-length (wordsOf bytes) i (i + 1) (omega (arith, length-wordsOf bytes))) in
+    ap (λ (l : List ℕ). getD l 0 0) (e ∙ ap (sets (0 ∷ []) 0) (piece-words bytes i (i + 1)) ∙ sets-all (0 ∷ []) (piece i (i + 1) (wordsOf bytes)) size)
+    ∙ ap (λ (k : ℕ). getD (take k (drop i (wordsOf bytes))) 0 0) (let q : i + 1 - i ≡ 1 = omega arith in q)
+    ∙ first (drop i (wordsOf bytes)) ∙ sym (head-at (wordsOf bytes) i)
+  where
+    first : (l : List ℕ) → getD (take 1 l) 0 0 ≡ getD l 0 0
+    first [] = refl
+    first (x ∷ l) = refl
 
 -- Words that are loaded into the middle of a list are put there.
 pub put-loaded : (bytes list : List ℕ) (from to at : ℕ) {part list′ : List ℕ} → MayPut bytes from to list at

@@ -3,12 +3,17 @@
 // The tables come in bytes, as C hands them over. They pass through one list of words, one after the other, and the joined table is put
 // together there last: so the call needs the stack of Read, and not that of three tables.
 ghost use mathlib.Core.Path.{_≡_};
-ghost use Prim.Native.Nat.{ℕ, suc, _≤_};
+ghost use Prim.Native.Nat.{ℕ, suc, _/_, _≤_, _<_};
 ghost use lib.ListN.{length};
 ghost use mathlib.Core.List.{List, [], _∷_};
 ghost use Rattle.words.specs.Bytes.{wordsOf};
 ghost use Rattle.calls.specs.Call.{answered};
-ghost use Rattle.rooms.specs.Table.{mostWords};
+ghost use Rattle.figures.specs.Figures.{at};
+ghost use Rattle.rooms.specs.Part.{Good};
+ghost use Rattle.rooms.specs.Table.{mostWords, roomCords};
+ghost use Rattle.rooms.specs.Limits.{checked};
+ghost use Rattle.rooms.specs.Told.{told};
+ghost use Rattle.rooms.specs.Walk.{serversIndex};
 ghost use Rattle.join.specs.Outcome.{joinRefusalNumber, joinRefusalPlace, joinNumber, joinFigure, joining, answerOf};
 ghost use Rattle.join.specs.Call.{JoinCall};
 ghost use Rattle.join.specs.Huts.{examined, HutOf, Small, MayPutTogether, JoinedInFront, InFront, writtenCount};
@@ -22,6 +27,8 @@ use figures::word_index;
 use rooms::Checked;
 use rooms::DECIDING_WORDS;
 use rooms::Refusal;
+use rooms::form::has_percents;
+use rooms::form::node_index;
 use rooms::lists::node_count;
 use rooms::lists::server_count;
 use rooms::lists::servers_index;
@@ -152,16 +159,16 @@ fn join_words(first: &[u8], second: &[u8], words: &mut [u32], space: usize) -> J
     ensures answers { λ r. ⌜ r ≡ answerOf (joining (wordsOf (now (first .entry))) (wordsOf (now (second .entry))) space) ⌝ }
     ensures writes { λ _. ⌜ InFront (joining (wordsOf (now (first .entry))) (wordsOf (now (second .entry))) space) (now (words .exit)) ⌝ }
 {
-    let examined = examine_bytes(first, words);
-    let one = match examined {
-        Examined::Good(hut) => hut,
-        Examined::Refused(refusal) => return JoinAnswer::Refused(JoinRefusal::First(refusal)),
-    };
-    let examined_next = examine_bytes(second, words);
-    let two = match examined_next {
-        Examined::Good(hut) => hut,
-        Examined::Refused(refusal) => return JoinAnswer::Refused(JoinRefusal::Second(refusal)),
-    };
+    let checked = check_bytes(first, words);
+    if let Checked::Refused(refusal) = checked {
+        return JoinAnswer::Refused(JoinRefusal::First(refusal));
+    }
+    let checked_next = check_bytes(second, words);
+    if let Checked::Refused(refusal) = checked_next {
+        return JoinAnswer::Refused(JoinRefusal::Second(refusal));
+    }
+    let one = hut_in(first);
+    let two = hut_in(second);
     let told = admit(one, two, space);
     let JoinAnswer::Accepted(_) = told else {
         return told;
@@ -171,15 +178,55 @@ fn join_words(first: &[u8], second: &[u8], words: &mut [u32], space: usize) -> J
 }
 
 // The check of a table in bytes, by way of a list that takes its words.
-fn examine_bytes(bytes: &[u8], words: &mut [u32]) -> Examined
+fn check_bytes(bytes: &[u8], words: &mut [u32]) -> Checked
     requires deciding { ⌜ suc mostWords ≤ length (now words) ⌝ }
-    ensures is { λ r. ⌜ r ≡ examined (wordsOf (now (bytes .entry))) ⌝ }
+    ensures is { λ r. ⌜ r ≡ told roomCords (checked (wordsOf (now (bytes .entry))) 0) ⌝ }
 {
     let count = words::load(bytes, words);
-    examine(&words[..count])
+    rooms::check(&words[..count])
 }
 
-// The check of a table, with what is kept of it.
+// What is kept of a good table, read again from its bytes: if it were held from its check on, it would take stack while the other table is
+// checked.
+fn hut_in(bytes: &[u8]) -> Hut
+    requires good { ⌜ Good (checked (wordsOf (now bytes)) 0) ⌝ }
+    ensures hut { λ r. ⌜ HutOf (wordsOf (now (bytes .entry))) r ⌝ }
+{
+    let version = word_in(bytes, 0);
+    let nodes = word_index(word_in(bytes, 1));
+    let middle = middle_in(bytes);
+    let servers = word_index(word_in(bytes, middle));
+    let words = bytes.len() / 4;
+    Hut {
+        version: version,
+        nodes: nodes,
+        servers: servers,
+        cords: (words - (middle + 1 + 4 * servers)) / 2,
+        middle: middle,
+        words: words,
+    }
+}
+
+// The index of the count of servers, in a good table that stands in bytes.
+fn middle_in(bytes: &[u8]) -> usize
+    requires good { ⌜ Good (checked (wordsOf (now bytes)) 0) ⌝ }
+    ensures is { λ r. ⌜ (r ≡ serversIndex (wordsOf (now (bytes .entry)))) × (r < length (now (bytes .entry)) / 4) ⌝ }
+{
+    let percents = has_percents(word_in(bytes, 0));
+    node_index(percents, word_index(word_in(bytes, 1)))
+}
+
+// The word at an index of those that stand in bytes.
+fn word_in(bytes: &[u8], i: usize) -> u32
+    requires there { ⌜ i < length (now bytes) / 4 ⌝ }
+    ensures is { λ r. ⌜ r ≡ at (wordsOf (now (bytes .entry))) i ⌝ }
+{
+    let mut word = [0u32; 1];
+    words::load(&bytes[4 * i..4 * (i + 1)], &mut word);
+    word[0]
+}
+
+// The check of a table, with what is kept of it, for Part.
 pub fn examine(table: &[u32]) -> Examined
     ensures is { λ r. ⌜ r ≡ examined (now (table .entry)) ⌝ }
 {

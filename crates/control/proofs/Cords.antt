@@ -15,10 +15,10 @@ use Rattle.control.specs.declared.Reading.the-variants.{Working, Failed}
 use Rattle.control.specs.declared.Controller.{Controller}
 use Rattle.control.specs.declared.Stepped.{Stepped}
 use Rattle.control.specs.declared.Stepped.the-variants.{Next, Refused}
-use Rattle.control.specs.declared.Refusal.{Refusal}
+use Rattle.control.specs.declared.StepRefusal.{StepRefusal}
 use Rattle.control.specs.declared.Tally.{Tally}
-use Rattle.control.specs.declared.Judged.{Judged}
-use Rattle.control.specs.declared.Judged.the-variants.{Good, Bad}
+use Rattle.control.specs.declared.JudgedCords.{JudgedCords}
+use Rattle.control.specs.declared.JudgedCords.the-variants.{Good, Bad}
 use Rattle.control.specs.Step.{ac, goodController, goodReading, difference, errors, lesser, least, moved, successor, refusal, judged, stepped}
 use Rattle.control.specs.Judged.{tallyOf, noTally, tallied, movedBy, judgedFirst, judgedWith, steppedBy}
 use Rattle.control.specs.Promises.{SoundReading}
@@ -110,12 +110,12 @@ judged-same c i (Working budget measured ∷ rest) x y f = go (goodReading readi
 
 -- ---- Cords judged one by one
 
-unfoldable judgedAll : Judged → ℕ → List Reading → Judged
+unfoldable judgedAll : JudgedCords → ℕ → List Reading → JudgedCords
 unfolding judgedWith
 judgedAll j i [] = j
 judgedAll j i (reading ∷ rest) = judgedAll (judgedWith j i reading) (suc i) rest
 
-all-bad : (why : Refusal) (i : ℕ) (readings : List Reading) → judgedAll (Bad why) i readings ≡ Bad why
+all-bad : (why : StepRefusal) (i : ℕ) (readings : List Reading) → judgedAll (Bad why) i readings ≡ Bad why
 unfolding judgedAll judgedWith
 all-bad why i [] = refl
 all-bad why i (reading ∷ rest) = all-bad why (suc i) rest
@@ -136,12 +136,12 @@ all-good c tally i (reading ∷ rest) h = go (goodReading reading) refl (all-goo
         → steppedBy c (judgedAll (Good more) (suc i) rest) ≡ judged c (suc i) rest (Next (successorFrom c more (errors rest)))
         → steppedBy c (judgedAll (judgedWith (Good tally) i reading) (suc i) rest) ≡ judged c i (reading ∷ rest) after
     go true good later =
-        ap (λ (j : Judged). steppedBy c (judgedAll j (suc i) rest)) (sym (cond-true _ _ good))
+        ap (λ (j : JudgedCords). steppedBy c (judgedAll j (suc i) rest)) (sym (cond-true _ _ good))
         ∙ later
         ∙ ap (λ (next : Controller). judged c (suc i) rest (Next next)) (successorFrom-tallied c tally reading rest (omega (arith, h)))
         ∙ judged-good c i reading rest after good
     go false bad later =
-        ap (λ (j : Judged). steppedBy c (judgedAll j (suc i) rest)) (sym (cond-false _ _ bad))
+        ap (λ (j : JudgedCords). steppedBy c (judgedAll j (suc i) rest)) (sym (cond-false _ _ bad))
         ∙ ap (steppedBy c) (all-bad (refusal 17 i) (suc i) rest)
         ∙ judged-bad c i reading rest after bad
 
@@ -160,12 +160,12 @@ steppedBy-all c readings h = go (goodController c) refl
   where
     go : (b : Bool) → goodController c ≡ b → steppedBy c (judgedAll (judgedFirst c) 0 readings) ≡ stepped c readings
     go true good =
-        ap (λ (j : Judged). steppedBy c (judgedAll j 0 readings)) (sym (cond-true _ _ good))
+        ap (λ (j : JudgedCords). steppedBy c (judgedAll j 0 readings)) (sym (cond-true _ _ good))
         ∙ all-good c noTally 0 readings (omega (arith, h))
         ∙ judged-same c 0 readings _ _ (λ rs. ap Next (successorFrom-none c (errors readings) rs))
         ∙ cond-true _ _ good
     go false bad =
-        ap (λ (j : Judged). steppedBy c (judgedAll j 0 readings)) (sym (cond-false _ _ bad))
+        ap (λ (j : JudgedCords). steppedBy c (judgedAll j 0 readings)) (sym (cond-false _ _ bad))
         ∙ ap (steppedBy c) (all-bad (refusal 16 0) 0 readings)
         ∙ stepped-bad-controller c readings bad
 

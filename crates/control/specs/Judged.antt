@@ -9,8 +9,8 @@ use Rattle.control.specs.declared.Reading.{Reading}
 use Rattle.control.specs.declared.Reading.the-variants.{Working, Failed}
 use Rattle.control.specs.declared.Controller.{Controller}
 use Rattle.control.specs.declared.Tally.{Tally}
-use Rattle.control.specs.declared.Judged.{Judged}
-use Rattle.control.specs.declared.Judged.the-variants.{Good, Bad}
+use Rattle.control.specs.declared.JudgedCords.{JudgedCords}
+use Rattle.control.specs.declared.JudgedCords.the-variants.{Good, Bad}
 use Rattle.control.specs.declared.Stepped.{Stepped}
 use Rattle.control.specs.declared.Stepped.the-variants.{Next, Refused}
 use Rattle.control.specs.Step.{ac, goodController, goodReading, difference, lesser, moved, refusal}
@@ -40,17 +40,17 @@ movedBy c tally = cond (eqb (tally .working) 0) c (moved c (tally .least) (tally
 -- ---- A controller and its cords, judged in order
 
 -- The controller, before its cords.
-unfoldable pub judgedFirst : Controller → Judged
+unfoldable pub judgedFirst : Controller → JudgedCords
 unfolding goodController
 judgedFirst c = cond (goodController c) (Good noTally) (Bad (refusal 16 0))
 
 -- With the cord at a place; a refusal stands.
-unfoldable pub judgedWith : Judged → ℕ → Reading → Judged
+unfoldable pub judgedWith : JudgedCords → ℕ → Reading → JudgedCords
 unfolding goodReading
 judgedWith (Good tally) place reading = cond (goodReading reading) (Good (tallied tally reading)) (Bad (refusal 17 place))
 judgedWith (Bad why) place reading = Bad why
 
 -- The step, once all are judged.
-abbrev pub steppedBy : Controller → Judged → Stepped
+abbrev pub steppedBy : Controller → JudgedCords → Stepped
 steppedBy c (Good tally) = Next (movedBy c tally)
 steppedBy c (Bad why) = Refused why c

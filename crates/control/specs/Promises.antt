@@ -14,7 +14,7 @@ use Rattle.control.specs.declared.AcWatts.{AcWatts}
 use Rattle.control.specs.declared.Reading.{Reading}
 use Rattle.control.specs.declared.Reading.the-variants.{Working, Failed}
 use Rattle.control.specs.declared.Controller.{Controller}
-use Rattle.control.specs.declared.Refusal.{Refusal}
+use Rattle.control.specs.declared.StepRefusal.{StepRefusal}
 use Rattle.control.specs.declared.Stepped.the-variants.{Next, Refused}
 use Rattle.control.specs.Step.{float0, float1, mostWatts, ac, ordered, goodController, errors, least, stepped, stepNumber, stepPlace}
 use Rattle.control.specs.Call.{readingOf}
@@ -90,7 +90,7 @@ NoneWorkingKeepsCap = (s : AcceptedStep) → working (s .readings) ≡ 0 → s .
 
 -- A refused step leaves the controller unchanged.
 abbrev pub RefusedUnchanged : Type 0
-RefusedUnchanged = (c : Controller) (readings : List Reading) (why : Refusal) (after : Controller) → stepped c readings ≡ Refused why after
+RefusedUnchanged = (c : Controller) (readings : List Reading) (why : StepRefusal) (after : Controller) → stepped c readings ≡ Refused why after
     → after ≡ c
 
 -- What refusal 16 asks of a controller, in document 02's words.

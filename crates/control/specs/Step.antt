@@ -13,7 +13,7 @@ use Rattle.control.specs.declared.DcWatts.{DcWatts}
 use Rattle.control.specs.declared.Reading.{Reading}
 use Rattle.control.specs.declared.Reading.the-variants.{Working, Failed}
 use Rattle.control.specs.declared.Controller.{Controller}
-use Rattle.control.specs.declared.Refusal.{Refusal}
+use Rattle.control.specs.declared.StepRefusal.{StepRefusal}
 use Rattle.control.specs.declared.Stepped.{Stepped}
 use Rattle.control.specs.declared.Stepped.the-variants.{Next, Refused}
 
@@ -114,7 +114,7 @@ successor c (error ∷ rest) = moved c (least error rest) (suc (length rest))
 
 -- ---- The step
 
-abbrev pub refusal : ℕ → ℕ → Refusal
+abbrev pub refusal : ℕ → ℕ → StepRefusal
 refusal number place = record { number = number; place = place }
 
 -- Readings judged in order, the first being that of cord i: 17 at the first that is not good, or what follows if all are.

@@ -6,7 +6,7 @@ ghost use mathlib.Core.Bool.{_&&_};
 ghost use Prim.Native.Nat.{_+_, min};
 ghost use Rattle.control.specs.Step.{float0, mostWatts, ordered, isEfficiency, difference, lesserFigure, lesser, dcChange, sum, cutFigure};
 ghost use Rattle.control.specs.Step.{cut, goodReading, goodController, moved, stepped, refusal, stepNumber, stepPlace, controllerAfter};
-ghost use Rattle.control.specs.declared.Judged.the-variants.{Bad};
+ghost use Rattle.control.specs.declared.JudgedCords.the-variants.{Bad};
 ghost use Rattle.control.specs.Judged.{greaterFigure, noTally, tallied, movedBy, judgedFirst, judgedWith, steppedBy};
 
 pub mod call;
@@ -40,7 +40,7 @@ pub struct Controller {
 }
 
 // Why a step is turned back: document 02's number, and the place.
-pub struct Refusal {
+pub struct StepRefusal {
     pub number: u64,
     pub place: u64,
 }
@@ -48,7 +48,7 @@ pub struct Refusal {
 // What a step gives: the controller's successor; or the refusal, beside the controller as it was.
 pub enum Stepped {
     Next(Controller),
-    Refused(Refusal, Controller),
+    Refused(StepRefusal, Controller),
 }
 
 // What good cords come to: how many of them work, and the least error of those.
@@ -58,9 +58,9 @@ pub struct Tally {
 }
 
 // A controller and some of its cords, judged in order: all are good, and the cords come to a tally; or the refusal of the first that is not.
-pub enum Judged {
+pub enum JudgedCords {
     Good(Tally),
-    Bad(Refusal),
+    Bad(StepRefusal),
 }
 
 // Whether low ≤ x ≤ high, which no NaN does.
@@ -201,25 +201,25 @@ impl Tally {
 }
 
 // The judgement of what is not good.
-fn refused(number: u64, place: u64) -> Judged
+fn refused(number: u64, place: u64) -> JudgedCords
     ensures result { λ r. ⌜ r ≡ Bad (refusal number place) ⌝ }
 {
-    Judged::Bad(Refusal { number, place })
+    JudgedCords::Bad(StepRefusal { number, place })
 }
 
-impl Judged {
+impl JudgedCords {
     // The judgement with one cord more, which is judged if all before it are good.
-    pub fn with(self, place: u64, reading: Reading) -> Judged
+    pub fn with(self, place: u64, reading: Reading) -> JudgedCords
         ensures result { λ r. ⌜ r ≡ judgedWith self place reading ⌝ }
     {
         match self {
-            Judged::Good(tally) => {
+            JudgedCords::Good(tally) => {
                 if !reading.is_good() {
                     return refused(BAD_READING, place);
                 }
-                Judged::Good(tally.with(reading))
+                JudgedCords::Good(tally.with(reading))
             }
-            Judged::Bad(_) => self,
+            JudgedCords::Bad(_) => self,
         }
     }
 }
@@ -241,23 +241,23 @@ impl Controller {
     }
 
     // The controller judged, before its cords.
-    pub fn judged(self) -> Judged
+    pub fn judged(self) -> JudgedCords
         ensures result { λ r. ⌜ r ≡ judgedFirst self ⌝ }
     {
         if !self.is_good() {
             return refused(BAD_CONTROLLER, 0);
         }
-        Judged::Good(Tally::none())
+        JudgedCords::Good(Tally::none())
     }
 
     // The step, once the controller and its cords are judged. It moves whatever controller it is given: the caller hands over the
     // judgement of this one.
-    pub fn step_by(self, judged: Judged) -> Stepped
+    pub fn step_by(self, judged: JudgedCords) -> Stepped
         ensures result { λ r. ⌜ r ≡ steppedBy self judged ⌝ }
     {
         match judged {
-            Judged::Good(tally) => Stepped::Next(self.moved_by(tally)),
-            Judged::Bad(refusal) => Stepped::Refused(refusal, self),
+            JudgedCords::Good(tally) => Stepped::Next(self.moved_by(tally)),
+            JudgedCords::Bad(refusal) => Stepped::Refused(refusal, self),
         }
     }
 

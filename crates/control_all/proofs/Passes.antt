@@ -11,9 +11,9 @@ use Rattle.outcomes.proofs.Outcomes.{unless-stop, unless-pass, unless-none}
 use Rattle.calls.specs.Call.{answered}
 use Rattle.calls.proofs.Calls as calls
 use Rattle.figures.proofs.Stores.{sets-all}
-use Rattle.control_all.specs.declared.Answer.{Answer}
-use Rattle.control_all.specs.declared.Answer.the-variants.{Accepted, Refused}
-use Rattle.control_all.specs.Pass.{controllerCount, steppedTo, numbersTo, zeros, Pass, PassOutcome, unfit, passed, answerOf, answerNumber, answerFigure}
+use Rattle.control_all.specs.declared.PassAnswer.{PassAnswer}
+use Rattle.control_all.specs.declared.PassAnswer.the-variants.{Accepted, Refused}
+use Rattle.control_all.specs.Pass.{controllerCount, steppedTo, numbersTo, zeros, Pass, PassOutcome, unfit, passed, answerOf, passNumber, passFigure}
 use Rattle.control_all.specs.Call.{PassedCall}
 use Rattle.control_all.specs.Fitting.{Fitting}
 use Rattle.control_all.proofs.Turns.{length-steppedTo, length-numbersTo}
@@ -69,10 +69,10 @@ pub call-short : (outcome : PassOutcome) (controllers : List Float) (results ans
 call-short outcome controllers results answer h = calls.call-short _ answer _ (omega arith) (record { controllers-after = refl; results-after = refl })
 
 -- Where it is long enough, it has the answer of the pass.
-pub call-done : (outcome : PassOutcome) (controllers : List Float) (results answer : List ℕ) {told : Answer} {controllers′ : List Float} {results′ answer′ : List ℕ} {number figure : ℕ}
+pub call-done : (outcome : PassOutcome) (controllers : List Float) (results answer : List ℕ) {told : PassAnswer} {controllers′ : List Float} {results′ answer′ : List ℕ} {number figure : ℕ}
     → 16 ≤ length answer → told ≡ answerOf outcome → controllers′ ≡ after (λ pass. pass .controllers) outcome controllers → results′ ≡ after (λ pass. pass .results) outcome results
-    → number ≡ answerNumber told → figure ≡ answerFigure told → answer′ ≡ answered 2 (number ∷ figure ∷ []) answer
+    → number ≡ passNumber told → figure ≡ passFigure told → answer′ ≡ answered 2 (number ∷ figure ∷ []) answer
     → PassedCall outcome controllers results answer 1 controllers′ results′ answer′
 call-done outcome controllers results answer h t c r n f a =
     calls.call-done _ answer _ (omega arith) (record { controllers-after = c; results-after = r })
-    (calls.answer-told answer (n ∙ ap answerNumber t) (f ∙ ap answerFigure t) a)
+    (calls.answer-told answer (n ∙ ap passNumber t) (f ∙ ap passFigure t) a)

@@ -19,7 +19,7 @@ use Rattle.control.proofs.Outcomes.{Outcome, bad-controller, bad-reading, all-s
 use Rattle.control.proofs.Accepted.{successor-range}
 use Rattle.control.proofs.Promises.{refused-unchanged}
 use Rattle.outcomes.proofs.Outcomes.{accepted-is}
-use Rattle.control_all.specs.Pass.{Pass, controllerCount, ownStep, steppedTo, numbersTo, passed, answerOf, answerNumber, answerFigure}
+use Rattle.control_all.specs.Pass.{Pass, controllerCount, ownStep, steppedTo, numbersTo, passed, answerOf, passNumber, passFigure}
 use Rattle.control_all.specs.Promises.{AcceptedPass, single, EachAsSingle, StaysInside, Fits, RefusalEighteen}
 use Rattle.control_all.proofs.Turns.{figuresAfter-other, steppedTo-ahead, length-steppedTo, length-numbersTo}
 use Rattle.control_all.proofs.Lengths.{fit, fit-fits, unfit-fits}
@@ -117,7 +117,7 @@ lists p = go (fit (p .controllers) (p .working) (p .budgets) (p .measured) (p .r
           results-are = ap (λ (pass : Pass). pass .results) same;
         }
     go false unfit =
-        let n = ap answerNumber (ap answerOf (sym (p .is) ∙ passed-refused (p .controllers) (p .working) (p .budgets) (p .measured) (p .results) unfit)) in
+        let n = ap passNumber (ap answerOf (sym (p .is) ∙ passed-refused (p .controllers) (p .working) (p .budgets) (p .measured) (p .results) unfit)) in
         absurd (omega (arith, n))
 
 pub each-as-single : EachAsSingle
@@ -170,19 +170,19 @@ stays-inside p =
 
 module _ (controllers : List Float) (working : List ℕ) (budgets measured : List Float) (results : List ℕ) where
   abbrev number : ℕ
-  number = answerNumber (answerOf (passed controllers working budgets measured results))
+  number = passNumber (answerOf (passed controllers working budgets measured results))
 
   abbrev figure : ℕ
-  figure = answerFigure (answerOf (passed controllers working budgets measured results))
+  figure = passFigure (answerOf (passed controllers working budgets measured results))
 
   is-eighteen : (b : Bool) → fit controllers working budgets measured results ≡ b → number ≡ 18
       → (Fits controllers working budgets measured results → ⊥) × (figure ≡ controllerCount controllers)
-  is-eighteen true fitting e = absurd (omega (arith, e, ap answerNumber (ap answerOf (passed-accepted controllers working budgets measured results fitting))))
-  is-eighteen false unfit e = (unfit-fits controllers working budgets measured results unfit, ap answerFigure (ap answerOf (passed-refused controllers working budgets measured results unfit)))
+  is-eighteen true fitting e = absurd (omega (arith, e, ap passNumber (ap answerOf (passed-accepted controllers working budgets measured results fitting))))
+  is-eighteen false unfit e = (unfit-fits controllers working budgets measured results unfit, ap passFigure (ap answerOf (passed-refused controllers working budgets measured results unfit)))
 
   eighteen-is : (b : Bool) → fit controllers working budgets measured results ≡ b → (Fits controllers working budgets measured results → ⊥) → number ≡ 18
   eighteen-is true fitting not = absurd (not (fit-fits controllers working budgets measured results fitting))
-  eighteen-is false unfit not = ap answerNumber (ap answerOf (passed-refused controllers working budgets measured results unfit))
+  eighteen-is false unfit not = ap passNumber (ap answerOf (passed-refused controllers working budgets measured results unfit))
 
 pub refusal-eighteen : RefusalEighteen
 refusal-eighteen = record {

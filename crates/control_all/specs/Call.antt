@@ -5,7 +5,7 @@ use Prim.Native.Nat.{ℕ}
 use lib.Ieee.{Float}
 use Rattle.outcomes.specs.Outcome.{after}
 use Rattle.calls.specs.Call.{Call, Left}
-use Rattle.control_all.specs.Pass.{PassOutcome, passed, answerOf, answerNumber, answerFigure}
+use Rattle.control_all.specs.Pass.{PassOutcome, passed, answerOf, passNumber, passFigure}
 
 -- The lists that the call of a pass leaves.
 pub record ListsLeft (outcome : PassOutcome) (controllers : List Float) (results : List ℕ) (controllers′ : List Float) (results′ : List ℕ)
@@ -17,7 +17,7 @@ pub record ListsLeft (outcome : PassOutcome) (controllers : List Float) (results
 abbrev pub PassedCall : PassOutcome → (controllers : List Float) (results answer : List ℕ) (r : ℕ)
     (controllers′ : List Float) (results′ answer′ : List ℕ) → Type 0
 PassedCall outcome controllers results answer r controllers′ results′ answer′ =
-    Call 2 (answerNumber (answerOf outcome) ∷ answerFigure (answerOf outcome) ∷ []) answer
+    Call 2 (passNumber (answerOf outcome) ∷ passFigure (answerOf outcome) ∷ []) answer
     (ListsLeft outcome controllers results controllers′ results′) r answer′
 
 -- A pass, called from C. The marks, the budgets and the measured watts are not written.

@@ -12,8 +12,8 @@ use Rattle.outcomes.specs.Outcome.{Outcome, accepted, refused, Reason, unless}
 use Rattle.control.specs.declared.Stepped.{Stepped}
 use Rattle.control.specs.Step.{stepNumber}
 use Rattle.control.specs.Call.{stepAt, figuresAfter}
-use Rattle.control_all.specs.declared.Answer.{Answer}
-use Rattle.control_all.specs.declared.Answer.the-variants.{Accepted, Refused}
+use Rattle.control_all.specs.declared.PassAnswer.{PassAnswer}
+use Rattle.control_all.specs.declared.PassAnswer.the-variants.{Accepted, Refused}
 
 -- ---- Lists that fit
 
@@ -82,17 +82,17 @@ passed controllers working budgets measured results =
     })
 
 -- The answer: how many results are 0, or the refusal's place.
-abbrev pub answerOf : PassOutcome → Answer
+abbrev pub answerOf : PassOutcome → PassAnswer
 answerOf (accepted pass) = Accepted (zeros (pass .results))
 answerOf (refused count) = Refused count
 
 -- ---- Numbers and figures
 
 -- An answer's number, 0 if accepted, and its figure: how many controllers have 0, or the refusal's place.
-abbrev pub answerNumber : Answer → ℕ
-answerNumber (Accepted count) = 0
-answerNumber (Refused place) = 18
+abbrev pub passNumber : PassAnswer → ℕ
+passNumber (Accepted count) = 0
+passNumber (Refused place) = 18
 
-abbrev pub answerFigure : Answer → ℕ
-answerFigure (Accepted count) = count
-answerFigure (Refused place) = place
+abbrev pub passFigure : PassAnswer → ℕ
+passFigure (Accepted count) = count
+passFigure (Refused place) = place

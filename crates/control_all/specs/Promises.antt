@@ -10,7 +10,7 @@ use Rattle.control.specs.declared.Stepped.{Stepped}
 use Rattle.control.specs.Step.{stepNumber, controllerAfter}
 use Rattle.control.specs.Call.{controllerAt}
 use Rattle.outcomes.specs.Outcome.{accepted}
-use Rattle.control_all.specs.Pass.{mostControllers, controllerCount, ownStep, passed, answerOf, answerNumber, answerFigure}
+use Rattle.control_all.specs.Pass.{mostControllers, controllerCount, ownStep, passed, answerOf, passNumber, passFigure}
 
 -- A pass that is accepted: the lists before it, and those that it changes after it.
 pub record AcceptedPass : Type 0 where
@@ -56,7 +56,7 @@ pub record Fits (controllers : List Float) (working : List ℕ) (budgets measure
 -- 18 comes exactly if the lists do not fit, at the number of controllers.
 pub record RefusalEighteen : Type 0 where
   pub exactly : (controllers : List Float) (working : List ℕ) (budgets measured : List Float) (results : List ℕ)
-      → (answerNumber (answerOf (passed controllers working budgets measured results)) ≡ 18) ↔ (Fits controllers working budgets measured results → ⊥)
+      → (passNumber (answerOf (passed controllers working budgets measured results)) ≡ 18) ↔ (Fits controllers working budgets measured results → ⊥)
   pub place : (controllers : List Float) (working : List ℕ) (budgets measured : List Float) (results : List ℕ)
-      → answerNumber (answerOf (passed controllers working budgets measured results)) ≡ 18
-      → answerFigure (answerOf (passed controllers working budgets measured results)) ≡ controllerCount controllers
+      → passNumber (answerOf (passed controllers working budgets measured results)) ≡ 18
+      → passFigure (answerOf (passed controllers working budgets measured results)) ≡ controllerCount controllers

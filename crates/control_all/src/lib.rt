@@ -7,7 +7,7 @@ ghost use lib.ListN.{length};
 ghost use Rattle.outcomes.specs.Outcome.{after};
 ghost use Rattle.control.specs.Step.{stepNumber};
 ghost use Rattle.control.specs.Call.{controllerAt, readingAt, stepAt, figuresAfter};
-ghost use Rattle.control_all.specs.Pass.{fitting, steppedTo, numbersTo, zeros, answerNumber, answerFigure, passed, answerOf};
+ghost use Rattle.control_all.specs.Pass.{fitting, steppedTo, numbersTo, zeros, passNumber, passFigure, passed, answerOf};
 ghost use Rattle.control_all.specs.Fitting.{Fitting};
 use control::Controller;
 use control::Reading;
@@ -19,29 +19,29 @@ pub mod call;
 const MOST_CONTROLLERS: usize = 512;
 
 // The answer of a pass: how many controllers were stepped, or refused, with the number of controllers.
-pub enum Answer {
+pub enum PassAnswer {
     Accepted(usize),
     Refused(usize),
 }
 
-impl Answer {
+impl PassAnswer {
     // The refusal's number, or 0.
     pub fn number(self) -> u64
-        ensures result { λ r. ⌜ r ≡ answerNumber self ⌝ }
+        ensures result { λ r. ⌜ r ≡ passNumber self ⌝ }
     {
         match self {
-            Answer::Accepted(_) => 0,
-            Answer::Refused(_) => 18,
+            PassAnswer::Accepted(_) => 0,
+            PassAnswer::Refused(_) => 18,
         }
     }
 
     // How many controllers were stepped, or the refusal's place.
     pub fn figure(self) -> usize
-        ensures result { λ r. ⌜ r ≡ answerFigure self ⌝ }
+        ensures result { λ r. ⌜ r ≡ passFigure self ⌝ }
     {
         match self {
-            Answer::Accepted(count) => count,
-            Answer::Refused(place) => place,
+            PassAnswer::Accepted(count) => count,
+            PassAnswer::Refused(place) => place,
         }
     }
 }
@@ -55,7 +55,7 @@ pub fn step_all(
     budgets: &[f64],
     measured: &[f64],
     results: &mut [u8],
-) -> Answer
+) -> PassAnswer
     ensures answer { λ r. ⌜ r ≡ answerOf
         (passed (now (controllers .entry)) (now (working .entry)) (now (budgets .entry)) (now (measured .entry)) (now (results .entry))) ⌝ }
     ensures controllers { λ _. ⌜ now (controllers .exit) ≡ after (λ pass. pass .controllers)
@@ -73,9 +73,9 @@ pub fn step_all(
         measured.len(),
         results.len(),
     ) {
-        return Answer::Accepted(step_each(controllers, working, budgets, measured, results));
+        return PassAnswer::Accepted(step_each(controllers, working, budgets, measured, results));
     }
-    Answer::Refused(count)
+    PassAnswer::Refused(count)
 }
 
 // Whether there are at most 512 controllers, with four cords each in every list of the readings, and one result each.

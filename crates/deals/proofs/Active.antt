@@ -15,7 +15,7 @@ use borrow.Author.Count.{below-more}
 use borrow.Author.Tests.{eqb-true, eqb-false, ltb-true, ltb-false}
 use Rattle.rooms.specs.Table.{mostNodes, highestRank}
 use Rattle.figures.specs.Figures.{at, cell}
-use Rattle.deals.specs.Levels.{fromColumn, toColumn, countColumn, LevelRows, Ordered, Marked, MarksAdded, NodeMarks, Listed, FullLists, LevelsListed, ActivesListed, ActiveNodes, CordsActive, LevelLists}
+use Rattle.deals.specs.Levels.{fromColumn, toColumn, activeCountColumn, LevelRows, Ordered, Marked, MarksAdded, NodeMarks, Listed, FullLists, LevelsListed, ActivesListed, ActiveNodes, CordsActive, LevelLists}
 use Rattle.figures.specs.Places.{Absent}
 use Rattle.figures.proofs.Cells.{stored, cell-here, cell-elsewhere, cell-others, stored-full}
 use Rattle.rooms.specs.Trees.{ParentsFirst}
@@ -248,8 +248,8 @@ pub record Levelling (marks : List ℕ) (rows₀ : List (List ℕ)) (above : ℕ
   pub rows-full : LevelRows rows
   pub full : FullLists actives
   pub bounds : (j : ℕ) → (cell rows j fromColumn ≡ cell rows₀ j fromColumn) × (cell rows j toColumn ≡ cell rows₀ j toColumn)
-  pub listed : (j : ℕ) → above ≤ j → j < highestRank → cell rows₀ j fromColumn < cell rows₀ j toColumn → Listed marks j (getD actives j []) (cell rows j countColumn)
-  pub none : (j : ℕ) → above ≤ j → j < highestRank → cell rows₀ j toColumn ≤ cell rows₀ j fromColumn → cell rows j countColumn ≡ 0
+  pub listed : (j : ℕ) → above ≤ j → j < highestRank → cell rows₀ j fromColumn < cell rows₀ j toColumn → Listed marks j (getD actives j []) (cell rows j activeCountColumn)
+  pub none : (j : ℕ) → above ≤ j → j < highestRank → cell rows₀ j toColumn ≤ cell rows₀ j fromColumn → cell rows j activeCountColumn ≡ 0
 
 pub levelling-start : {marks : List ℕ} {rows actives : List (List ℕ)} → LevelRows rows → FullLists actives → Levelling marks rows highestRank rows actives
 levelling-start rows-full full = record {
@@ -296,46 +296,46 @@ module _ {marks : List ℕ} {rows₀ : List (List ℕ)} {above : ℕ} {rows acti
 
     -- A level's count is stored: the counts of other levels stand, and so do all bounds.
     module _ (v : ℕ) where
-      counted : cell (stored rows level countColumn v) level countColumn ≡ v
-      counted = cell-here rows level countColumn v level-there (omega (arith, level-width))
+      counted : cell (stored rows level activeCountColumn v) level activeCountColumn ≡ v
+      counted = cell-here rows level activeCountColumn v level-there (omega (arith, level-width))
 
-      uncounted : (j : ℕ) → above ≤ j → cell (stored rows level countColumn v) j countColumn ≡ cell rows j countColumn
-      uncounted j l = cell-elsewhere rows level countColumn v level-there j countColumn (λ q. omega arith)
+      uncounted : (j : ℕ) → above ≤ j → cell (stored rows level activeCountColumn v) j activeCountColumn ≡ cell rows j activeCountColumn
+      uncounted j l = cell-elsewhere rows level activeCountColumn v level-there j activeCountColumn (λ q. omega arith)
 
-      same-bounds : (j : ℕ) → (cell (stored rows level countColumn v) j fromColumn ≡ cell rows₀ j fromColumn) × (cell (stored rows level countColumn v) j toColumn ≡ cell rows₀ j toColumn)
+      same-bounds : (j : ℕ) → (cell (stored rows level activeCountColumn v) j fromColumn ≡ cell rows₀ j fromColumn) × (cell (stored rows level activeCountColumn v) j toColumn ≡ cell rows₀ j toColumn)
       same-bounds j = (
-        cell-others rows level countColumn v level-there j fromColumn (λ q. absurd (omega arith)) ∙ inv .bounds j .0,
-        cell-others rows level countColumn v level-there j toColumn (λ q. absurd (omega arith)) ∙ inv .bounds j .1,
+        cell-others rows level activeCountColumn v level-there j fromColumn (λ q. absurd (omega arith)) ∙ inv .bounds j .0,
+        cell-others rows level activeCountColumn v level-there j toColumn (λ q. absurd (omega arith)) ∙ inv .bounds j .1,
       )
 
     -- A level that no cord has.
-    pub levelling-skip : cell rows level toColumn ≤ cell rows level fromColumn → Levelling marks rows₀ level (stored rows level countColumn 0) actives
+    pub levelling-skip : cell rows level toColumn ≤ cell rows level fromColumn → Levelling marks rows₀ level (stored rows level activeCountColumn 0) actives
     levelling-skip none = record {
       within = omega (arith, inv .within);
-      rows-full = stored-full rows level countColumn 0 level-there (inv .rows-full);
+      rows-full = stored-full rows level activeCountColumn 0 level-there (inv .rows-full);
       full = inv .full;
       bounds = same-bounds 0;
-      listed = passed (λ j. cell rows₀ j fromColumn < cell rows₀ j toColumn → Listed marks j (getD actives j []) (cell (stored rows level countColumn 0) j countColumn))
+      listed = passed (λ j. cell rows₀ j fromColumn < cell rows₀ j toColumn → Listed marks j (getD actives j []) (cell (stored rows level activeCountColumn 0) j activeCountColumn))
           (λ j l h has. subst (Listed marks j (getD actives j [])) (sym (uncounted 0 j l)) (inv .listed j l h has))
           (λ has. absurd (omega (arith, inv .bounds level)));
-      none = passed (λ j. cell rows₀ j toColumn ≤ cell rows₀ j fromColumn → cell (stored rows level countColumn 0) j countColumn ≡ 0)
+      none = passed (λ j. cell rows₀ j toColumn ≤ cell rows₀ j fromColumn → cell (stored rows level activeCountColumn 0) j activeCountColumn ≡ 0)
           (λ j l h has. uncounted 0 j l ∙ inv .none j l h has) (λ has. counted 0);
     }
 
     pub levelling-turn : cell rows level fromColumn < cell rows level toColumn → (list : List ℕ) {v count : ℕ} → v ≡ count → length list ≡ length (getD actives level [])
-        → Listed marks level list count → Levelling marks rows₀ level (stored rows level countColumn v) (set actives level list)
+        → Listed marks level list count → Levelling marks rows₀ level (stored rows level activeCountColumn v) (set actives level list)
     levelling-turn some-cord list {v} {count} e size listed = record {
       within = omega (arith, inv .within);
-      rows-full = stored-full rows level countColumn v level-there (inv .rows-full);
+      rows-full = stored-full rows level activeCountColumn v level-there (inv .rows-full);
       full = (
         length-set actives level list ∙ inv .full .0,
         λ j h. set-length (eqb j level) j refl h,
       );
       bounds = same-bounds v;
-      listed = passed (λ j. cell rows₀ j fromColumn < cell rows₀ j toColumn → Listed marks j (getD (set actives level list) j []) (cell (stored rows level countColumn v) j countColumn))
+      listed = passed (λ j. cell rows₀ j fromColumn < cell rows₀ j toColumn → Listed marks j (getD (set actives level list) j []) (cell (stored rows level activeCountColumn v) j activeCountColumn))
           (λ j l h has. rw (getD-set-other actives level j list [] (λ q. omega arith)) (subst (Listed marks j (getD actives j [])) (sym (uncounted v j l)) (inv .listed j l h has)))
           (λ has. rw row (subst (Listed marks level list) (sym (counted v ∙ e)) listed));
-      none = passed (λ j. cell rows₀ j toColumn ≤ cell rows₀ j fromColumn → cell (stored rows level countColumn v) j countColumn ≡ 0)
+      none = passed (λ j. cell rows₀ j toColumn ≤ cell rows₀ j fromColumn → cell (stored rows level activeCountColumn v) j activeCountColumn ≡ 0)
           (λ j l h has. uncounted v j l ∙ inv .none j l h has) (λ has. absurd (omega (arith, inv .bounds level)));
     }
       where

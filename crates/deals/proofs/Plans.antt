@@ -3,9 +3,9 @@ use mathlib.Core.Path.{_≡_, refl, sym, ap, subst, _∙_}
 use mathlib.Core.Bool.{Bool, true, false, not, true≢false}
 use mathlib.Core.List.{List, [], _∷_, map}
 use mathlib.Core.Logic.{_↔_, Iff·trans}
-use Prim.Native.Nat.{ℕ, suc, _≤_}
+use Prim.Native.Nat.{ℕ, _≤_}
 use native.Mathlib.Omega.{arith}
-use lib.Dec.{eqb, ltb}
+use lib.Dec.{eqb}
 use lib.ListN.{length}
 use borrow.Author.Tests.{eqb-true, ltb-false, le-ltb}
 use Rattle.outcomes.specs.Outcome.{Outcome, accepted, refused, unless}
@@ -15,8 +15,8 @@ use Rattle.rooms.specs.Part.{Step, good, bad, Good}
 use Rattle.rooms.specs.Table.{Room, roomCords}
 use Rattle.rooms.specs.Limits.{checked}
 use Rattle.rooms.specs.Promises.{Overloaded}
-use Rattle.rooms.specs.declared.Refusal.{Refusal}
-use Rattle.rooms.specs.declared.Refusal.the-variants.{LowsAboveLimit}
+use Rattle.rooms.specs.declared.SheetRefusal.{SheetRefusal}
+use Rattle.rooms.specs.declared.SheetRefusal.the-variants.{LowsAboveLimit}
 use Rattle.rooms.proofs.All.{All}
 use Rattle.rooms.proofs.Overloaded.{checked-nine, nine-lows}
 use Rattle.figures.specs.Figures.{figures}
@@ -128,7 +128,7 @@ pub planRoom-is : (r : Room) (demands : List ℕ) (lengths : Lengths) → planRo
 unfolding planRoom
 planRoom-is r demands lengths = refl
 
-pub plan-bad-table : (table demands : List ℕ) (lengths : Lengths) (refusal : Refusal) → checked table 0 ≡ bad refusal
+pub plan-bad-table : (table demands : List ℕ) (lengths : Lengths) (refusal : SheetRefusal) → checked table 0 ≡ bad refusal
     → plan table demands lengths ≡ refused (Table refusal)
 unfolding plan
 plan-bad-table table demands lengths refusal e = ap (λ (s : Step Room). planStep s demands lengths) e

@@ -14,7 +14,7 @@ use Rattle.rooms.specs.Table.{mostCords, mostWatts, highestRank}
 use Rattle.figures.specs.Figures.{at, cell}
 use Rattle.deals.specs.Metrics.{dealFrom}
 use Rattle.figures.specs.Places.{Absent, Zeros}
-use Rattle.deals.specs.Levels.{ActiveNodes, CordsActive, CordsOf, LevelLists, entries, fromColumn, toColumn, countColumn}
+use Rattle.deals.specs.Levels.{ActiveNodes, CordsActive, CordsOf, LevelLists, entries, fromColumn, toColumn, activeCountColumn}
 use Rattle.deals.proofs.Ordering.{entries-length}
 use Rattle.deals.specs.Passes.{LevelCords, overListed, cordWeight, CordsSummed, weightOf, FullRows, WeightsListed, MayWeigh, Weighed, MayRequest, Requested, NodesDealt, CordsDealt}
 use Rattle.deals.proofs.Requesting.{beneath-none}
@@ -33,7 +33,7 @@ figuresLength = 520
 -- At each level the rows of nodes that are not active have 0.
 pub record BlankRows (nodeCount : ℕ) (levels actives requests : List (List ℕ)) : Type 0 where
   pub full : FullRows requests
-  pub blank : (n j : ℕ) → n < nodeCount → j < highestRank → Absent (getD actives j []) (cell levels j countColumn) n → cell requests n j ≡ 0
+  pub blank : (n j : ℕ) → n < nodeCount → j < highestRank → Absent (getD actives j []) (cell levels j activeCountColumn) n → cell requests n j ≡ 0
 
 -- Before the ranks below `above`.
 pub record RankLoop (parents : List ℕ) (rows : List (List ℕ)) (order : List ℕ) (actives : List (List ℕ)) (nodes starts wants left₀ : List ℕ) (above : ℕ) (left cuts : List ℕ)
@@ -56,7 +56,7 @@ pub record RankLoop (parents : List ℕ) (rows : List (List ℕ)) (order : List 
 pub record LevelRow (rows : List (List ℕ)) (level from to count : ℕ) : Type 0 where
   pub from-is : from ≡ cell rows level fromColumn
   pub to-is : to ≡ cell rows level toColumn
-  pub count-is : count ≡ cell rows level countColumn
+  pub count-is : count ≡ cell rows level activeCountColumn
   pub has-cords : from < to
 
 -- A number above 0 is one more than the number before it.
@@ -134,7 +134,7 @@ module _ {parents : List ℕ} {rows : List (List ℕ)} {order : List ℕ} {activ
         abbrev et : to ≡ cell rows level toColumn
         et = row .to-is
 
-        abbrev ec : count ≡ cell rows level countColumn
+        abbrev ec : count ≡ cell rows level activeCountColumn
         ec = row .count-is
 
         abbrev listed : List ℕ
@@ -317,7 +317,7 @@ module _ {parents : List ℕ} {rows : List (List ℕ)} {order : List ℕ} {activ
                       (sums .on-nodes .on-starts) (sums .on-nodes .on-weights) requests₁ left₁ cuts₁ w₁ g active count nodes-active (cords-active limits levels lows given) amounts before dealt nd grants₁ cd;
                 }
                   where
-                    kept : (n j : ℕ) → n < length parents → j < highestRank → Absent (getD actives j []) (cell rows j countColumn) n → (t : Bool) → eqb j level ≡ t → cell requests₁ n j ≡ 0
+                    kept : (n j : ℕ) → n < length parents → j < highestRank → Absent (getD actives j []) (cell rows j activeCountColumn) n → (t : Bool) → eqb j level ≡ t → cell requests₁ n j ≡ 0
                     kept n j h u absent true e =
                         let q = eqb-true j level e in
                         rw q (nodes-blank n h (rw ec (rw q at absent)))

@@ -9,7 +9,7 @@ use lib.Dec.{eqb, ltb}
 use lib.ListN.{length, set, length-set}
 use lib.Seq.{getD-set-same, getD-set-other}
 use borrow.Author.Tests.{le-ltb}
-use Rattle.rooms.specs.Table.{mostNodes, mostWatts, highestRank}
+use Rattle.rooms.specs.Table.{mostNodes, mostWatts}
 use Rattle.figures.specs.Credits.{credited}
 use Rattle.figures.specs.Figures.{at, cell}
 use Rattle.figures.specs.Sums.{on}

@@ -2,13 +2,13 @@
 use mathlib.Core.Path.{_≡_, refl, sym, ap, ap₂, _∙_, fun-ext}
 use mathlib.Core.Bool.{Bool, true, false, cond, _&&_}
 use mathlib.Core.List.{List}
-use Prim.Native.Nat.{ℕ, _*_, _/_, _-_, _<_}
+use Prim.Native.Nat.{ℕ, _*_, _/_, _<_}
 use native.Mathlib.Omega.{arith}
 use lib.Dec.{eqb, ltb}
 use lib.ListN.{length}
 use Rattle.figures.specs.Figures.{figures, at, sumOf}
 use Rattle.rooms.specs.Part.{good, follow, ensure}
-use Rattle.rooms.specs.declared.Refusal.the-variants.{LowsAboveLimit}
+use Rattle.rooms.specs.declared.SheetRefusal.the-variants.{LowsAboveLimit}
 use Rattle.rooms.specs.Table.{Server, Room, roomCords, table}
 use Rattle.rooms.specs.Limits.{overloaded, checked}
 use Rattle.rooms.specs.Cords.{RoomCord, cordAt, serverAt}

@@ -10,7 +10,7 @@ use Rattle.outcomes.specs.Part.{whenGood}
 use Rattle.rooms.specs.Part.{Step}
 use Rattle.rooms.specs.Table.{Room, mostWatts, mostServers, mostCords, roomCords}
 use Rattle.rooms.specs.Limits.{checked}
-use Rattle.rooms.specs.Outcome.{refusalNumber, refusalPlace}
+use Rattle.rooms.specs.Outcome.{sheetRefusalNumber, sheetRefusalPlace}
 use Rattle.deals.specs.SecondDeal.{freed, secondGrants, caps}
 use Rattle.deals.specs.Headroom.{headroom}
 use Rattle.deals.specs.Held.{held}
@@ -164,14 +164,14 @@ planListNumber Held = 15
 
 -- A refusal's number.
 abbrev pub planRefusalNumber : PlanRefusal → ℕ
-planRefusalNumber (Table refusal) = refusalNumber refusal
+planRefusalNumber (Table refusal) = sheetRefusalNumber refusal
 planRefusalNumber (DemandCount place) = 10
 planRefusalNumber (DemandTooLarge place) = 11
 planRefusalNumber (ListTooShort list place) = planListNumber list
 
 -- A refusal's place.
 abbrev pub planRefusalPlace : PlanRefusal → ℕ
-planRefusalPlace (Table refusal) = refusalPlace refusal
+planRefusalPlace (Table refusal) = sheetRefusalPlace refusal
 planRefusalPlace (DemandCount place) = place
 planRefusalPlace (DemandTooLarge place) = place
 planRefusalPlace (ListTooShort list place) = place

@@ -9,7 +9,7 @@ ghost use Rattle.deals.specs.Ranks.{SomeDeal, DealGiven, DealMade};
 ghost use Rattle.figures.specs.Places.{Zeros};
 use crate::dealing::deal_cords;
 use crate::dealing::deal_nodes;
-use crate::levels::COUNT;
+use crate::levels::ACTIVE_COUNT;
 use crate::levels::FROM;
 use crate::levels::TO;
 use crate::metrics::add_cords;
@@ -59,7 +59,7 @@ pub fn deal(
         let from = index(levels[level][FROM]);
         let to = index(levels[level][TO]);
         if from < to {
-            let count = index(levels[level][COUNT]);
+            let count = index(levels[level][ACTIVE_COUNT]);
             add_cords(
                 n,
                 &order[from..to],

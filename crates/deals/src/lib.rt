@@ -29,7 +29,7 @@ pub struct Lengths {
 // Why a plan is turned back, and where: the table's refusal, the count of servers, a demand's index, or a list and the length that it
 // needs.
 pub enum PlanRefusal {
-    Table(rooms::Refusal),
+    Table(rooms::SheetRefusal),
     DemandCount(usize),
     DemandTooLarge(usize),
     ListTooShort(PlanList, usize),

@@ -12,18 +12,18 @@ use lib.Dec.{leb, ltb}
 use lib.ListN.{length}
 use Rattle.demands.specs.Text.{mostDigits, noDemand, before, isDigit, areDigits, numberAfter, demandOf}
 use Rattle.demands.specs.Reading.{emptyLine, extended, hasByte, lineDemand}
-use Rattle.demands.specs.declared.Line.{Line}
-use Rattle.demands.specs.declared.Line.the-variants.{Digits, Other}
+use Rattle.demands.specs.declared.DemandLine.{DemandLine}
+use Rattle.demands.specs.declared.DemandLine.the-variants.{Digits, Other}
 use Rattle.figures.proofs.Tests.{and-false}
 
 -- ---- one line
 
 -- A line with some bytes more.
-unfoldable pub extendedBy : Line → List ℕ → Line
+unfoldable pub extendedBy : DemandLine → List ℕ → DemandLine
 extendedBy line [] = line
 extendedBy line (byte ∷ bytes) = extendedBy (extended line byte) bytes
 
-pub extendedBy-append : (line : Line) (bytes : List ℕ) (byte : ℕ)
+pub extendedBy-append : (line : DemandLine) (bytes : List ℕ) (byte : ℕ)
     → extendedBy line (bytes ++ (byte ∷ [])) ≡ extended (extendedBy line bytes) byte
 unfolding extendedBy
 extendedBy-append line [] byte = refl
@@ -94,7 +94,7 @@ lineDemand-whole line =
 
 -- ---- whether a line has a byte
 
-extended-hasByte : (line : Line) (byte : ℕ) → hasByte (extended line byte) ≡ true
+extended-hasByte : (line : DemandLine) (byte : ℕ) → hasByte (extended line byte) ≡ true
 extended-hasByte (Digits count number) byte = go (isDigit byte && (ltb count mostDigits && ltb number 10000000))
   where
     go : (test : Bool) → hasByte (cond test (Digits (count + 1) (number * 10 + (byte - 48))) Other) ≡ true
@@ -102,7 +102,7 @@ extended-hasByte (Digits count number) byte = go (isDigit byte && (ltb count mos
     go false = refl
 extended-hasByte Other byte = refl
 
-pub hasByte-some : (line : Line) (byte : ℕ) (bytes : List ℕ) → hasByte (extendedBy line (byte ∷ bytes)) ≡ true
+pub hasByte-some : (line : DemandLine) (byte : ℕ) (bytes : List ℕ) → hasByte (extendedBy line (byte ∷ bytes)) ≡ true
 unfolding extendedBy
 hasByte-some line byte [] = extended-hasByte line byte
 hasByte-some line byte (b ∷ bytes) = hasByte-some (extended line byte) b bytes

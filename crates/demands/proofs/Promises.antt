@@ -11,21 +11,21 @@ use lib.ListN.{length, take, set, length-append, length-take}
 use lib.Seq.{sets, length-sets, take-nil, take-all, take-take, take-length, take-append-le}
 use Rattle.figures.proofs.Stores.{sets-append, sets-take, take-sets}
 use Rattle.demands.specs.Text.{mostLines, newline, before, lines, demandOf, demandsOf}
-use Rattle.demands.specs.Reading.{Held, held, with, emptyLine, extended, hasByte, lineDemand, space, closed, fedByte, fed, fedPieces, finished, countIn}
+use Rattle.demands.specs.Reading.{HeldReading, heldReading, with, emptyLine, extended, hasByte, lineDemand, space, closed, fedByte, fed, fedPieces, finished, countIn}
 use Rattle.demands.specs.Promises.{joined, ReadsDemands}
-use Rattle.demands.specs.declared.Line.{Line}
+use Rattle.demands.specs.declared.DemandLine.{DemandLine}
 use Rattle.demands.proofs.Bytes.{closed-stores, closed-full}
 use Rattle.demands.proofs.Lines.{extendedBy, extendedBy-append, lineDemand-whole, hasByte-some, beforeAll, beforeAll-ended, beforeAll-append, beforeAll-last}
 
 -- ---- pieces
 
-pub fed-append : (h : Held) (s t : List ℕ) → fed h (s ++ t) ≡ fed (fed h s) t
+pub fed-append : (h : HeldReading) (s t : List ℕ) → fed h (s ++ t) ≡ fed (fed h s) t
 unfolding fed
 fed-append h [] t = refl
 fed-append h (byte ∷ s) t = fed-append (fedByte h byte) s t
 
 -- Pieces that are read one after the other are the text that they make up.
-pub fedPieces-joined : (h : Held) (pieces : List (List ℕ)) → fedPieces h pieces ≡ fed h (joined pieces)
+pub fedPieces-joined : (h : HeldReading) (pieces : List (List ℕ)) → fedPieces h pieces ≡ fed h (joined pieces)
 unfolding fedPieces joined fed
 fedPieces-joined h [] = refl
 fedPieces-joined h (piece ∷ rest) = fedPieces-joined (fed h piece) rest ∙ sym (fed-append h piece (joined rest))
@@ -33,14 +33,14 @@ fedPieces-joined h (piece ∷ rest) = fedPieces-joined (fed h piece) rest ∙ sy
 -- ---- what has been read
 
 -- The reading and its list, once lines of some demands have ended and a line is open; `most` go into the list.
-abbrev standing : List ℕ → ℕ → List ℕ → Line → Held
-standing list most demands line = held (with (min (length demands) most) line) (sets list 0 (take most demands))
+abbrev standing : List ℕ → ℕ → List ℕ → DemandLine → HeldReading
+standing list most demands line = heldReading (with (min (length demands) most) line) (sets list 0 (take most demands))
 
-abbrev reached : List ℕ → List ℕ → Line → Held
+abbrev reached : List ℕ → List ℕ → DemandLine → HeldReading
 reached list demands line = standing list (space list) demands line
 
 -- A line that ends is one demand more.
-closed-adds : (list demands : List ℕ) (line : Line)
+closed-adds : (list demands : List ℕ) (line : DemandLine)
     → closed (reached list demands line) ≡ reached list (demands ++ (lineDemand line ∷ [])) emptyLine
 closed-adds list demands line = go (ltb (length demands) (space list)) refl
   where
@@ -86,10 +86,10 @@ finished-fed list (byte ∷ text) demands line =
     go (eqb byte newline)
     (finished-fed list text (demands ++ (demandOf line ∷ [])) []) (finished-fed list text demands (line ++ (byte ∷ [])))
   where
-    now : Line
+    now : DemandLine
     now = extendedBy emptyLine line
 
-    after : Bool → Held
+    after : Bool → HeldReading
     after test = cond test (closed (reached list demands now)) (reached list demands (extended now byte))
 
     go : (test : Bool)
@@ -109,42 +109,42 @@ finished-fed list (byte ∷ text) demands line =
     go false ended further = rw (← beforeAll-append line byte (lines text), ← extendedBy-append emptyLine line byte) further
 
 -- A text, read from its start to its end.
-abbrev readWhole : List ℕ → List ℕ → Held
-readWhole list text = finished (fed (held (with 0 emptyLine) list) text)
+abbrev readWhole : List ℕ → List ℕ → HeldReading
+readWhole list text = finished (fed (heldReading (with 0 emptyLine) list) text)
 
 readWhole-is : (list text : List ℕ) → readWhole list text ≡ reached list (map demandOf (lines text)) emptyLine
 unfolding extendedBy beforeAll
 readWhole-is list text =
     let none : min 0 (space list) ≡ 0 = omega arith in
-    let start : reached list [] emptyLine ≡ held (with 0 emptyLine) list = rw (none, take-nil (space list)) in
+    let start : reached list [] emptyLine ≡ heldReading (with 0 emptyLine) list = rw (none, take-nil (space list)) in
     rw (← start) (finished-fed list text [] [])
 
 -- ---- enough
 
 -- Two readings with the same count and the same list.
-pub record Alike (h g : Held) : Type 0 where
+pub record Alike (h g : HeldReading) : Type 0 where
   pub list : h .list ≡ g .list
   pub count : h .reading .count ≡ g .reading .count
 
-alike : (h g k : Held) → Alike h g → Alike g k → Alike h k
+alike : (h g k : HeldReading) → Alike h g → Alike g k → Alike h k
 alike h g k p q = record { list = p .list ∙ q .list; count = p .count ∙ q .count }
 
 -- Once 513 lines are read, neither a line's end nor a byte nor the text's end changes count or list.
-closed-enough : (h : Held) → mostLines ≤ h .reading .count → Alike (closed h) h
+closed-enough : (h : HeldReading) → mostLines ≤ h .reading .count → Alike (closed h) h
 closed-enough h full =
     let is = closed-full (h .reading) (h .list) (omega arith) in
-    record { list = ap (λ (g : Held). g .list) is; count = ap (λ (g : Held). g .reading .count) is }
+    record { list = ap (λ (g : HeldReading). g .list) is; count = ap (λ (g : HeldReading). g .reading .count) is }
 
-fedByte-enough : (h : Held) (byte : ℕ) → mostLines ≤ h .reading .count → Alike (fedByte h byte) h
+fedByte-enough : (h : HeldReading) (byte : ℕ) → mostLines ≤ h .reading .count → Alike (fedByte h byte) h
 unfolding fedByte
 fedByte-enough h byte full = go (eqb byte newline)
   where
     go : (test : Bool)
-        → Alike (cond test (closed h) (held (with (h .reading .count) (extended (h .reading .line) byte)) (h .list))) h
+        → Alike (cond test (closed h) (heldReading (with (h .reading .count) (extended (h .reading .line) byte)) (h .list))) h
     go true = closed-enough h full
     go false = record { list = refl; count = refl }
 
-fed-enough : (h : Held) (piece : List ℕ) → mostLines ≤ h .reading .count → Alike (fed h piece) h
+fed-enough : (h : HeldReading) (piece : List ℕ) → mostLines ≤ h .reading .count → Alike (fed h piece) h
 unfolding fed
 fed-enough h [] full = record { list = refl; count = refl }
 fed-enough h (byte ∷ piece) full =
@@ -152,7 +152,7 @@ fed-enough h (byte ∷ piece) full =
     let still : mostLines ≤ fedByte h byte .reading .count = rw (one .count) full in
     alike _ _ _ (fed-enough (fedByte h byte) piece still) one
 
-finished-enough : (h : Held) → mostLines ≤ h .reading .count → Alike (finished h) h
+finished-enough : (h : HeldReading) → mostLines ≤ h .reading .count → Alike (finished h) h
 unfolding finished
 finished-enough h full = go (hasByte (h .reading .line))
   where
@@ -176,7 +176,7 @@ sets-space list demands =
 module _ (list text : List ℕ) where
   text-list : readWhole list text .list ≡ sets list 0 (demandsOf text)
   unfolding demandsOf
-  text-list = ap (λ (h : Held). h .list) (readWhole-is list text) ∙ sets-space list (map demandOf (lines text))
+  text-list = ap (λ (h : HeldReading). h .list) (readWhole-is list text) ∙ sets-space list (map demandOf (lines text))
 
   text-count : countIn (readWhole list text) ≡ min (length (demandsOf text)) (length list)
   unfolding demandsOf
@@ -204,10 +204,10 @@ reads-demands =
     }
   where
     joined-is : (list : List ℕ) (pieces : List (List ℕ))
-        → fedPieces (held (with 0 emptyLine) list) pieces ≡ fed (held (with 0 emptyLine) list) (joined pieces)
-    joined-is list pieces = fedPieces-joined (held (with 0 emptyLine) list) pieces
+        → fedPieces (heldReading (with 0 emptyLine) list) pieces ≡ fed (heldReading (with 0 emptyLine) list) (joined pieces)
+    joined-is list pieces = fedPieces-joined (heldReading (with 0 emptyLine) list) pieces
 
-    still : (h : Held) (piece : List ℕ) → mostLines ≤ h .reading .count
+    still : (h : HeldReading) (piece : List ℕ) → mostLines ≤ h .reading .count
         → (finished (fed h piece) .list ≡ h .list) × (countIn (finished (fed h piece)) ≡ countIn h)
     still h piece full =
         let read = fed-enough h piece full in

@@ -6,7 +6,7 @@ use Prim.Native.Nat.{ℕ, _≤_, min}
 use lib.ListN.{length, take}
 use lib.Seq.{sets}
 use Rattle.demands.specs.Text.{mostLines, demandsOf}
-use Rattle.demands.specs.Reading.{Held, held, with, emptyLine, fed, fedPieces, finished, countIn, isFull}
+use Rattle.demands.specs.Reading.{HeldReading, heldReading, with, emptyLine, fed, fedPieces, finished, countIn, isFull}
 
 -- The text that some pieces make up.
 unfoldable pub joined : List (List ℕ) → List ℕ
@@ -14,8 +14,8 @@ joined [] = []
 joined (piece ∷ rest) = piece ++ joined rest
 
 -- The reading of a text in pieces, from the start into a given list, to the text's end.
-abbrev pub readInto : List ℕ → List (List ℕ) → Held
-readInto list pieces = finished (fedPieces (held (with 0 emptyLine) list) pieces)
+abbrev pub readInto : List ℕ → List (List ℕ) → HeldReading
+readInto list pieces = finished (fedPieces (heldReading (with 0 emptyLine) list) pieces)
 
 -- However a text is cut into pieces:
 -- the list gets the text's demands at its front, as many as fit, and is otherwise as it was;
@@ -28,5 +28,5 @@ pub record ReadsDemands : Type 0 where
       → countIn (readInto list pieces) ≡ min (length (demandsOf (joined pieces))) (length list)
   pub whole : (list : List ℕ) (pieces : List (List ℕ)) → mostLines ≤ length list
       → take (countIn (readInto list pieces)) (readInto list pieces .list) ≡ demandsOf (joined pieces)
-  pub enough : (h : Held) (piece : List ℕ) → isFull (h .reading) ≡ true
+  pub enough : (h : HeldReading) (piece : List ℕ) → isFull (h .reading) ≡ true
       → (finished (fed h piece) .list ≡ h .list) × (countIn (finished (fed h piece)) ≡ countIn h)

@@ -1,7 +1,7 @@
 // Demands in decimal, one a line: a text, read in pieces of any size, turned into words.
 ghost use mathlib.Core.Path.{_≡_};
 ghost use Prim.Native.Nat.{};
-ghost use Rattle.demands.specs.Reading.{emptyLine, extended, hasByte, lineDemand, held, with, closed, fedByte, fed, finished, countIn, isFull};
+ghost use Rattle.demands.specs.Reading.{emptyLine, extended, hasByte, lineDemand, heldReading, with, closed, fedByte, fed, finished, countIn, isFull};
 use figures::counts::least;
 
 // One demand more than a room may have servers: so many decide every demand list, and no more lines are read.
@@ -14,7 +14,7 @@ const MOST_DIGITS: u32 = 8;
 const NO_DEMAND: u32 = 16_777_216;
 
 // What a line has come to so far.
-pub enum Line {
+pub enum DemandLine {
     // Digits alone: how many, and their number.
     Digits(u32, u32),
     // Not one to eight digits, whatever may follow.
@@ -22,23 +22,23 @@ pub enum Line {
 }
 
 // How many lines have ended, their demands being at the front of the list, and the line that is open.
-pub struct Reading {
+pub struct DemandReading {
     pub count: usize,
-    pub line: Line,
+    pub line: DemandLine,
 }
 
-impl Line {
+impl DemandLine {
     // The line with a byte more.
-    fn extend(self, byte: u8) -> Line
+    fn extend(self, byte: u8) -> DemandLine
         ensures result { λ r. ⌜ r ≡ extended self byte ⌝ }
     {
         match self {
-            Line::Digits(count, number) => {
+            DemandLine::Digits(count, number) => {
                 if b'0' <= byte {
                     if byte <= b'9' {
                         if count < MOST_DIGITS {
                             if number < 10_000_000 {
-                                return Line::Digits(
+                                return DemandLine::Digits(
                                     count + 1,
                                     number * 10 + ((byte - b'0') as u32),
                                 );
@@ -46,9 +46,9 @@ impl Line {
                         }
                     }
                 }
-                Line::Other
+                DemandLine::Other
             }
-            Line::Other => Line::Other,
+            DemandLine::Other => DemandLine::Other,
         }
     }
 
@@ -57,8 +57,8 @@ impl Line {
         ensures result { λ r. ⌜ r ≡ hasByte self ⌝ }
     {
         match self {
-            Line::Digits(count, _) => 1 <= count,
-            Line::Other => true,
+            DemandLine::Digits(count, _) => 1 <= count,
+            DemandLine::Other => true,
         }
     }
 
@@ -67,26 +67,26 @@ impl Line {
         ensures result { λ r. ⌜ r ≡ lineDemand self ⌝ }
     {
         match self {
-            Line::Digits(count, number) => { if 1 <= count { number } else { NO_DEMAND } }
-            Line::Other => NO_DEMAND,
+            DemandLine::Digits(count, number) => { if 1 <= count { number } else { NO_DEMAND } }
+            DemandLine::Other => NO_DEMAND,
         }
     }
 }
 
-impl Reading {
+impl DemandReading {
     // A reading before the first byte.
-    pub fn start() -> Reading
+    pub fn start() -> DemandReading
         ensures result { λ r. ⌜ r ≡ with 0 emptyLine ⌝ }
     {
-        Reading {
+        DemandReading {
             count: 0,
-            line: Line::Digits(0, 0),
+            line: DemandLine::Digits(0, 0),
         }
     }
 
     // The reading after a piece of the text, whose lines that end go into the list.
-    pub fn feed(self, piece: &[u8], list: &mut [u32]) -> Reading
-        ensures fed { λ r. ⌜ held r (now (list .exit)) ≡ fed (held self (now (list .entry))) (now (piece .entry)) ⌝ }
+    pub fn feed(self, piece: &[u8], list: &mut [u32]) -> DemandReading
+        ensures fed { λ r. ⌜ heldReading r (now (list .exit)) ≡ fed (heldReading self (now (list .entry))) (now (piece .entry)) ⌝ }
     {
         let mut reading = self;
         for i in 0..piece.len() {
@@ -98,8 +98,8 @@ impl Reading {
 
     // The end of the text: how many demands stand at the front of the list.
     pub fn finish(self, list: &mut [u32]) -> usize
-        ensures list { λ r. ⌜ now (list .exit) ≡ finished (held self (now (list .entry))) .list ⌝ }
-        ensures count { λ r. ⌜ r ≡ countIn (finished (held self (now (list .entry)))) ⌝ }
+        ensures list { λ r. ⌜ now (list .exit) ≡ finished (heldReading self (now (list .entry))) .list ⌝ }
+        ensures count { λ r. ⌜ r ≡ countIn (finished (heldReading self (now (list .entry)))) ⌝ }
     {
         let line = self.line;
         if line.has_byte() {
@@ -117,35 +117,35 @@ impl Reading {
     }
 
     // The reading after a byte.
-    fn feed_byte(self, byte: u8, list: &mut [u32]) -> Reading
-        ensures fed { λ r. ⌜ held r (now (list .exit)) ≡ fedByte (held self (now (list .entry))) byte ⌝ }
+    fn feed_byte(self, byte: u8, list: &mut [u32]) -> DemandReading
+        ensures fed { λ r. ⌜ heldReading r (now (list .exit)) ≡ fedByte (heldReading self (now (list .entry))) byte ⌝ }
     {
         if byte == b'\n' {
             return self.close(list);
         }
         let line = self.line;
-        Reading {
+        DemandReading {
             count: self.count,
             line: line.extend(byte),
         }
     }
 
     // The reading after the open line's end.
-    fn close(self, list: &mut [u32]) -> Reading
-        ensures closed { λ r. ⌜ held r (now (list .exit)) ≡ closed (held self (now (list .entry))) ⌝ }
+    fn close(self, list: &mut [u32]) -> DemandReading
+        ensures closed { λ r. ⌜ heldReading r (now (list .exit)) ≡ closed (heldReading self (now (list .entry))) ⌝ }
     {
         let count = self.count;
         let line = self.line;
         if count < least(DECIDING_DEMANDS, list.len()) {
             list[count] = line.demand();
-            return Reading {
+            return DemandReading {
                 count: count + 1,
-                line: Line::Digits(0, 0),
+                line: DemandLine::Digits(0, 0),
             };
         }
-        Reading {
+        DemandReading {
             count,
-            line: Line::Digits(0, 0),
+            line: DemandLine::Digits(0, 0),
         }
     }
 }

@@ -10,7 +10,7 @@ use lib.ListN.{length, take, getD, List·getD-eq-default}
 use Rattle.figures.specs.Bounds.{AllBelow}
 use Rattle.figures.specs.Figures.{at}
 use Rattle.rooms.specs.Part.{Step, good, bad}
-use Rattle.rooms.specs.Table.{Room, mostWatts, roomCords}
+use Rattle.rooms.specs.Table.{Room, mostWatts, roomCords, mostWords}
 use Rattle.rooms.specs.Limits.{checked}
 use Rattle.rooms.specs.Outcome.{SheetOutcome, reading}
 use Rattle.rooms.specs.Outcome as read
@@ -26,7 +26,7 @@ use Rattle.deals.proofs.Promises.{answer-of-both-deals, second-kept, caps-in-ra
 use Rattle.print.specs.Line.{Put}
 use Rattle.print.proofs.Putting.{put-whole}
 use Rattle.print.proofs.Size.{length-refusedLine, length-printOf}
-use Rattle.hutplan.specs.Printed.{mostText, mostWords, tableText, roomText, stepText, sheetText, readText}
+use Rattle.hutplan.specs.Printed.{mostText, tableText, roomText, stepText, sheetText, readText}
 
 -- A list whose entries are numbers of 24 bits has words for entries.
 words-below : (l : List ℕ) → ((i : ℕ) → i < length l → getD l i 0 ≤ mostWatts) → AllBelow (2 ^ 32) l
@@ -109,7 +109,7 @@ tableText-fits table demands = go (checked table 0) refl
 
     go : (s : Step Room) → checked table 0 ≡ s → length (stepText s demands) ≤ mostText
     go (good r end) q = room r end q (planRoom r demands mostLent) refl
-    go (bad refusal) q = omega (arith, length-refusedLine (read.refusalNumber refusal) (read.refusalPlace refusal))
+    go (bad refusal) q = omega (arith, length-refusedLine (read.sheetRefusalNumber refusal) (read.sheetRefusalPlace refusal))
 
 pub sheetText-fits : (sheet demands : List ℕ) → length (sheetText sheet demands) ≤ mostText
 unfolding sheetText
@@ -117,7 +117,7 @@ sheetText-fits sheet demands = go (reading sheet mostWords)
   where
     go : (o : SheetOutcome) → length (readText o demands) ≤ mostText
     go (outcomes.accepted table) = tableText-fits table demands
-    go (outcomes.refused refusal) = omega (arith, length-refusedLine (read.refusalNumber refusal) (read.refusalPlace refusal))
+    go (outcomes.refused refusal) = omega (arith, length-refusedLine (read.sheetRefusalNumber refusal) (read.sheetRefusalPlace refusal))
 
 -- So it stands whole in a buffer that is long enough.
 pub whole : (sheet demands : List ℕ) {a b : List ℕ} {n : ℕ} → Put a 0 b n (sheetText sheet demands) → mostText ≤ length a

@@ -5,16 +5,15 @@ use Prim.Native.Nat.{ℕ, _≤_}
 use native.Mathlib.Omega.{arith}
 use lib.ListN.{length, take}
 use lib.Seq.{sets, length-sets, take-length}
-use Rattle.numbers.specs.Sheet.{whole}
 use Rattle.numbers.specs.Sheet as numbers
 use Rattle.figures.proofs.Stores.{take-sets}
 use Rattle.rooms.specs.Part.{Step, good, bad, Good}
-use Rattle.rooms.specs.Table.{Room}
+use Rattle.rooms.specs.Table.{Room, mostWords}
 use Rattle.rooms.specs.Limits.{checked}
-use Rattle.rooms.specs.Outcome.{SheetOutcome, reading, refusalNumber, refusalPlace}
+use Rattle.rooms.specs.Outcome.{SheetOutcome, reading, sheetRefusalNumber, sheetRefusalPlace}
 use Rattle.rooms.specs.Outcome as read
-use Rattle.rooms.specs.declared.Refusal.{Refusal}
-use Rattle.rooms.specs.declared.Answer.the-variants as answer
+use Rattle.rooms.specs.declared.SheetRefusal.{SheetRefusal}
+use Rattle.rooms.specs.declared.SheetAnswer.the-variants as answer
 use Rattle.rooms.proofs.Lent.{reading-fits}
 use Rattle.outcomes.specs.Outcome.{after}
 use Rattle.outcomes.specs.Outcome as outcomes
@@ -31,7 +30,7 @@ use Rattle.deals.proofs.Lent.{plan-written}
 use Rattle.print.specs.Line.{refusedLine}
 use Rattle.print.specs.Print.{printOf}
 use Rattle.print.proofs.Room.{printOf-front}
-use Rattle.hutplan.specs.Printed.{mostWords, tableText, roomText, stepText, sheetText, readText}
+use Rattle.hutplan.specs.Printed.{tableText, roomText, stepText, sheetText, readText}
 
 -- What fits a list is no longer than it.
 fitting : {written : List ℕ} {needed entries : ℕ} → Fits written needed entries → length written ≤ entries
@@ -97,14 +96,14 @@ module _ (table demands : List ℕ) (given : Lists) (most : lent given ≡ mostL
 -- ---- Read
 
 -- A refused sheet.
-pub sheet-refused : (sheet demands : List ℕ) (n : ℕ) {q : Refusal} → n ≡ mostWords
+pub sheet-refused : (sheet demands : List ℕ) (n : ℕ) {q : SheetRefusal} → n ≡ mostWords
     → answer.Refused q ≡ read.answerOf (reading sheet n)
-    → sheetText sheet demands ≡ refusedLine (refusalNumber q) (refusalPlace q)
+    → sheetText sheet demands ≡ refusedLine (sheetRefusalNumber q) (sheetRefusalPlace q)
 unfolding sheetText
 sheet-refused sheet demands n {q} h e = go (reading sheet mostWords) (rw h at e)
   where
     go : (o : SheetOutcome) → answer.Refused q ≡ read.answerOf o
-        → readText o demands ≡ refusedLine (refusalNumber q) (refusalPlace q)
+        → readText o demands ≡ refusedLine (sheetRefusalNumber q) (sheetRefusalPlace q)
     go (outcomes.accepted words) e = let z : _≡_ {A = ℕ} 0 1 = cc in absurd (omega arith)
     go (outcomes.refused p) e = let same : q ≡ p = cc in rw same
 

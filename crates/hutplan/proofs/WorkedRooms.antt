@@ -14,7 +14,7 @@ use Rattle.figures.specs.Bounds.{firstNotBelow}
 use Rattle.rooms.specs.Table.{Room, formOf, percent, node, cord, range, load, server, table}
 use Rattle.rooms.specs.Trees.{beneath}
 use Rattle.rooms.specs.Limits.{serverLows, lows, firstNode, overloaded, checked}
-use Rattle.rooms.specs.Outcome.{SheetOutcome, reading, answerOf, answerNumber, answerFigure}
+use Rattle.rooms.specs.Outcome.{SheetOutcome, reading, answerOf, sheetNumber, sheetFigure}
 use Rattle.deals.specs.SecondDeal.{firstGrants, firstUsable}
 use Rattle.outcomes.specs.Outcome.{after}
 use Rattle.outcomes.specs.Outcome as outcomes
@@ -114,7 +114,7 @@ ofRoom (bad refusal) figure = []
 
 -- The number and the place of the answer to Read.
 abbrev numbered : SheetOutcome → ℕ × ℕ
-numbered outcome = (answerNumber (answerOf outcome), answerFigure (answerOf outcome))
+numbered outcome = (sheetNumber (answerOf outcome), sheetFigure (answerOf outcome))
 
 -- The grants of a plan; none if it is refused.
 abbrev grantsOf : PlanOutcome → List ℕ

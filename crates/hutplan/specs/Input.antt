@@ -9,14 +9,14 @@ use mathlib.Core.List.{List}
 use Prim.Native.Nat.{ℕ}
 use lib.ListN.{take}
 use Rattle.demands.specs.Text.{demandsOf}
-use Rattle.demands.specs.Reading.{Held, fed}
+use Rattle.demands.specs.Reading.{HeldReading, fed}
 
 -- The most bytes of the file that are read.
 abbrev pub mostBytes : ℕ
 mostBytes = 32768
 
 -- A reading after one more piece of the text, which may be empty.
-pub record FedPiece (before after : Held) : Type 0 where
+pub record FedPiece (before after : HeldReading) : Type 0 where
   pub piece : List ℕ
   pub is : after ≡ fed before piece
 

@@ -4,20 +4,15 @@ use mathlib.Core.List.{List}
 use Prim.Native.Nat.{ℕ, _+_, _*_, _≤_}
 use lib.ListN.{length, take}
 use Rattle.rooms.specs.Part.{Step, good, bad}
-use Rattle.rooms.specs.Table.{Room, mostServers, mostCords}
-use Rattle.rooms.specs.Table as rooms
+use Rattle.rooms.specs.Table.{Room, mostServers, mostCords, mostWords}
 use Rattle.rooms.specs.Limits.{checked}
-use Rattle.rooms.specs.Outcome.{SheetOutcome, reading, refusalNumber, refusalPlace}
+use Rattle.rooms.specs.Outcome.{SheetOutcome, reading, sheetRefusalNumber, sheetRefusalPlace}
 use Rattle.outcomes.specs.Outcome.{accepted, refused}
 use Rattle.deals.specs.Plan.{PlanOutcome, planRoom, mostLent, planRefusalNumber, planRefusalPlace}
 use Rattle.demands.specs.Text.{mostLines, demandsOf}
 use Rattle.print.specs.Line.{refusedLine}
 use Rattle.print.specs.Print.{printOf}
 use Rattle.hutplan.specs.Input.{mostBytes}
-
--- The most words of a table.
-abbrev pub mostWords : ℕ
-mostWords = rooms.mostWords
 
 -- The most bytes that are printed (proofs/Fits): 27 of the first line, 26 of each server's and 69 of each cord's.
 abbrev pub mostText : ℕ
@@ -31,7 +26,7 @@ roomText room (refused refusal) = refusedLine (planRefusalNumber refusal) (planR
 -- The print of what a table's check gives, with demands.
 abbrev pub stepText : Step Room → List ℕ → List ℕ
 stepText (good room end) demands = roomText room (planRoom room demands mostLent)
-stepText (bad refusal) demands = refusedLine (refusalNumber refusal) (refusalPlace refusal)
+stepText (bad refusal) demands = refusedLine (sheetRefusalNumber refusal) (sheetRefusalPlace refusal)
 
 -- The print of a table with demands.
 unfoldable pub tableText : List ℕ → List ℕ → List ℕ
@@ -40,7 +35,7 @@ tableText table demands = stepText (checked table 0) demands
 -- The print of what Read comes to, with demands.
 abbrev pub readText : SheetOutcome → List ℕ → List ℕ
 readText (accepted table) demands = tableText table demands
-readText (refused refusal) demands = refusedLine (refusalNumber refusal) (refusalPlace refusal)
+readText (refused refusal) demands = refusedLine (sheetRefusalNumber refusal) (sheetRefusalPlace refusal)
 
 -- The print of a sheet with demands.
 unfoldable pub sheetText : List ℕ → List ℕ → List ℕ

@@ -1,28 +1,29 @@
 // `hutplan`: reads a room from the file `room.bin` and its servers' demands from standard input, plans, and prints.
 use deals::Planned;
 use demands::DECIDING_DEMANDS;
-use demands::Reading;
+use demands::DemandReading;
 use libc::STDIN_FILENO;
 use libc::STDOUT_FILENO;
-use rooms::Answer;
 use rooms::MOST_WORDS;
+use rooms::SheetAnswer;
 ghost use mathlib.Core.Path.{_≡_};
 ghost use Prim.Native.Nat.{_≤_};
 ghost use lib.ListN.{length, take};
 ghost use Rattle.io.specs.Counts.{Counts};
 ghost use Rattle.deals.specs.Plan.{lists, lent, mostLent};
 ghost use Rattle.demands.specs.Text.{mostLines};
-ghost use Rattle.demands.specs.Reading.{held};
+ghost use Rattle.demands.specs.Reading.{heldReading};
 ghost use Rattle.print.specs.Line.{Put};
+ghost use Rattle.rooms.specs.Table.{mostWords};
 ghost use Rattle.hutplan.specs.Input.{mostBytes, FedPiece, ReadText};
-ghost use Rattle.hutplan.specs.Printed.{mostWords, mostText, tableText, sheetText, inputText, Lent};
+ghost use Rattle.hutplan.specs.Printed.{mostText, tableText, sheetText, inputText, Lent};
 
 // The most bytes of a print: 27 of the first line, 26 of each server's and 69 of each cord's.
 const MOST_TEXT: usize = 83_995;
 
 // What one read of standard input leaves: the reading, and whether there may be more to read.
 struct Turn {
-    reading: Reading,
+    reading: DemandReading,
     more: bool,
 }
 
@@ -41,8 +42,8 @@ fn read_sheet(sheet: &mut [u8]) -> usize
 }
 
 // One piece of standard input. No more is asked for once the last line that counts is read.
-fn read_piece(reading: Reading, list: &mut [u32]) -> Turn
-    ensures fed { λ r. ⌜ FedPiece (held reading (now (list .entry))) (held (r .reading) (now (list .exit))) ⌝ }
+fn read_piece(reading: DemandReading, list: &mut [u32]) -> Turn
+    ensures fed { λ r. ⌜ FedPiece (heldReading reading (now (list .entry))) (heldReading (r .reading) (now (list .exit))) ⌝ }
 {
     let mut piece = io::buffer();
     let got = libc::read(STDIN_FILENO, &mut piece);
@@ -66,7 +67,7 @@ fn read_demands(list: &mut [u32]) -> usize
     ensures text { λ r. ⌜ ReadText (now (list .exit)) r ⌝ }
     ensures counts { λ r. ⌜ Counts r (now (list .exit)) ⌝ }
 {
-    let mut reading = Reading::start();
+    let mut reading = DemandReading::start();
     // A loop has to end, and nothing says that the input does: no run uses up so many turns.
     let mut turns = u64::MAX;
     while turns > 0 {
@@ -112,8 +113,8 @@ fn print_sheet(sheet: &[u8], demands: &[u32], table: &mut [u32], buffer: &mut [u
 {
     let answer = rooms::read(sheet, table);
     let count = match answer {
-        Answer::Accepted(count) => count,
-        Answer::Refused(refusal) => {
+        SheetAnswer::Accepted(count) => count,
+        SheetAnswer::Refused(refusal) => {
             return print::refusal(refusal.number(), refusal.place(), buffer);
         }
     };

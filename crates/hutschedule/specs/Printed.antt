@@ -7,7 +7,7 @@ use lib.ListN.{length, take}
 use Rattle.numbers.specs.Sheet.{bytesOf}
 use Rattle.print.specs.Line.{refusedLine}
 use Rattle.outcomes.specs.Outcome.{accepted, refused}
-use Rattle.schedules.specs.Schedule.{ScheduleOutcome, mostWords, refusalNumber, refusalPlace, scheduling}
+use Rattle.schedules.specs.Schedule.{ScheduleOutcome, mostScheduleWords, scheduleRefusalNumber, scheduleRefusalPlace, scheduling}
 use Rattle.hutschedule.specs.declared.Output.{Output}
 
 -- The most bytes of standard input that are read: 514 lines of 15 bytes. The first 513 lines decide (`FirstBytesDecide`).
@@ -26,11 +26,11 @@ pub record Print : Type 0 where
 -- Accepted: the sheet of the table. Refused: `refused R at P`.
 abbrev pub printOf : ScheduleOutcome → Print
 printOf (accepted table) = record { refused = false; bytes = bytesOf table }
-printOf (refused refusal) = record { refused = true; bytes = refusedLine (refusalNumber refusal) (refusalPlace refusal) }
+printOf (refused refusal) = record { refused = true; bytes = refusedLine (scheduleRefusalNumber refusal) (scheduleRefusalPlace refusal) }
 
 -- What is written of a text.
 unfoldable pub printed : List ℕ → Print
-printed text = printOf (scheduling text mostWords)
+printed text = printOf (scheduling text mostScheduleWords)
 
 -- What an output says is written, with the buffer that it speaks of.
 abbrev pub at : Output → List ℕ → Print
@@ -39,4 +39,4 @@ at output buffer = record { refused = output .refused; bytes = take (output .len
 -- What `hutschedule` works in: space for 7,710 bytes of standard input, for the words of any table without servers and for all that
 -- is written.
 abbrev pub Lent : List ℕ → List ℕ → List ℕ → Type 0
-Lent text table buffer = (length text ≡ mostInput) × (length table ≡ mostWords) × (mostOutput ≤ length buffer)
+Lent text table buffer = (length text ≡ mostInput) × (length table ≡ mostScheduleWords) × (mostOutput ≤ length buffer)

@@ -7,7 +7,7 @@ ghost use mathlib.Core.Path.{_≡_};
 ghost use Prim.Native.Nat.{_≤_};
 ghost use lib.ListN.{length, take};
 ghost use Rattle.io.specs.Counts.{Counts};
-ghost use Rattle.schedules.specs.Schedule.{mostWords};
+ghost use Rattle.schedules.specs.Schedule.{mostScheduleWords};
 ghost use Rattle.hutschedule.specs.Printed.{mostOutput, printed, at, Lent};
 
 // What is written: so many bytes from the front of the buffer, to standard error if refused, else to standard output.
@@ -18,7 +18,7 @@ struct Output {
 
 // What is written of a text, by way of a list for the words of any table without servers.
 fn print_text(text: &[u8], table: &mut [u32], buffer: &mut [u8]) -> Output
-    requires sizes { ⌜ (length (now table) ≡ mostWords) × (mostOutput ≤ length (now buffer)) ⌝ }
+    requires sizes { ⌜ (length (now table) ≡ mostScheduleWords) × (mostOutput ≤ length (now buffer)) ⌝ }
     ensures printed { λ r. ⌜ at r (now (buffer .exit)) ≡ printed (now (text .entry)) ⌝ }
     ensures counts { λ r. ⌜ Counts (r .length) (now (buffer .exit)) ⌝ }
 {

@@ -6,7 +6,7 @@ use Prim.Native.Nat.{ℕ, zero, suc, _+_, _-_, _*_, _/_, _≤_, _<_, min}
 use native.Mathlib.Nat.{suc-ne-zero}
 use native.Mathlib.Omega.{arith}
 use lib.ListN.{length, take, drop, length-append}
-use lib.Seq.{sets, take-all, length-take-le, length-sets}
+use lib.Seq.{sets, length-take-le, length-sets}
 use borrow.Author.Tests.{eq-eqb, ne-eqb, lt-ltb, le-ltb}
 use Rattle.outcomes.specs.Outcome.{accepted, refused, unless}
 use Rattle.outcomes.specs.Part.{whenGood}
@@ -22,7 +22,7 @@ use Rattle.rooms.specs.Words.{tableOf, rowWords, wordsOfNode, wordsOfServer}
 use Rattle.rooms.specs.Rows.{NodesFit, ServersFit}
 use Rattle.rooms.specs.Walk.{serversIndex}
 use Rattle.rooms.specs.Told.{told}
-use Rattle.rooms.specs.declared.Refusal.{Refusal}
+use Rattle.rooms.specs.declared.SheetRefusal.{SheetRefusal}
 use Rattle.rooms.specs.declared.Checked.{Checked}
 use Rattle.rooms.specs.declared.Checked.the-variants as checks
 use Rattle.rooms.proofs.Accepted as rooms
@@ -57,7 +57,7 @@ good-told w {k} {cords} {next} d e = go (checked w 0) refl d
     go (good r end) q d = let c : cords ≡ roomCords r = cc in record { room = r; end = end; is = q; count = c }
     go (bad refusal) q d = absurd (suc-ne-zero 0 (cc))
 
-pub refused-told : (w : List ℕ) {k : Checked} {q : Refusal} → k ≡ told roomCords (checked w 0) → k ≡ checks.Refused q → examineds.Refused q ≡ examined w
+pub refused-told : (w : List ℕ) {k : Checked} {q : SheetRefusal} → k ≡ told roomCords (checked w 0) → k ≡ checks.Refused q → examineds.Refused q ≡ examined w
 unfolding told examinedStep
 refused-told w {k} {q} d e = go (checked w 0) d
   where
@@ -83,7 +83,7 @@ module _ (w : List ℕ) {cords : ℕ} (g : GoodTable w cords) where
       }))
       ∙ sym (ap (examinedStep w) (g .is))
 
-pub bad-examined : (w : List ℕ) {k : Examined} {q : Refusal} → k ≡ examined w → k ≡ examineds.Refused q → checked w 0 ≡ bad q
+pub bad-examined : (w : List ℕ) {k : Examined} {q : SheetRefusal} → k ≡ examined w → k ≡ examineds.Refused q → checked w 0 ≡ bad q
 unfolding examinedStep
 bad-examined w {k} {q} d e = go (checked w 0) refl d
   where
@@ -106,7 +106,7 @@ module _ (bytes list : List ℕ) {count : ℕ} {list′ : List ℕ} (n : count �
 pub checked-good : (w : List ℕ) {k : Checked} {cords next : ℕ} → k ≡ told roomCords (checked w 0) → k ≡ checks.Good cords next → Good (checked w 0)
 checked-good w d e = let g = good-told w d e in record { value = g .room; next = g .end; is = g .is }
 
-pub checked-bad : (w : List ℕ) {k : Checked} {q : Refusal} → k ≡ told roomCords (checked w 0) → k ≡ checks.Refused q → checked w 0 ≡ bad q
+pub checked-bad : (w : List ℕ) {k : Checked} {q : SheetRefusal} → k ≡ told roomCords (checked w 0) → k ≡ checks.Refused q → checked w 0 ≡ bad q
 checked-bad w d e = bad-examined w refl (sym (refused-told w d e))
 
 module _ (w : List ℕ) (g : Good (checked w 0)) where
@@ -238,7 +238,7 @@ module _ (f s : List ℕ) (space : ℕ) where
   abbrev outcome : JoinOutcome
   outcome = joining f s space
 
-  pub first-bad : {q : Refusal} → checked f 0 ≡ bad q → outcome ≡ refused (First q)
+  pub first-bad : {q : SheetRefusal} → checked f 0 ≡ bad q → outcome ≡ refused (First q)
   unfolding joining
   first-bad e = ap (λ (t : Step Room). whenGood First t (λ r. whenGood Second (checked s 0) (λ q. joinRooms (at f 0) (at s 0) r q space))) e
 
@@ -247,7 +247,7 @@ module _ (f s : List ℕ) (space : ℕ) where
     unfolding joining
     after-first = ap (λ (t : Step Room). whenGood First t (λ r. whenGood Second (checked s 0) (λ q. joinRooms (at f 0) (at s 0) r q space))) (a .good-table)
 
-    pub second-bad : {q : Refusal} → checked s 0 ≡ bad q → outcome ≡ refused (Second q)
+    pub second-bad : {q : SheetRefusal} → checked s 0 ≡ bad q → outcome ≡ refused (Second q)
     second-bad e = after-first ∙ ap (λ (t : Step Room). whenGood Second t (λ q. joinRooms (at f 0) (at s 0) (a .room) q space)) e
 
     module _ {two : Hut} (b : HutOf s two) where

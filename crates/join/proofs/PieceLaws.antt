@@ -12,7 +12,7 @@ use Rattle.figures.specs.Bounds.{AllBelow}
 use Rattle.figures.proofs.Stores.{sets-all}
 use Rattle.figures.proofs.Bounds.{drop-below}
 use Rattle.rooms.specs.Table.{nodeWords}
-use Rattle.join.specs.Pieces.{renumbered, renumberedEvery, renumberedCords, piece, MayPut, Put}
+use Rattle.join.specs.Pieces.{renumbered, renumberedEvery, renumberedCords, piece, MayPut, PiecePut}
 
 -- ---- A list of which the front is done and the rest is to be done
 
@@ -219,7 +219,7 @@ drop-take (suc at) (suc end) (x ∷ l) = drop-take at end l ∙ ap (λ (k : ℕ)
 
 -- A list with a new middle has it behind its front.
 pub put-middle : (list : List ℕ) (at end : ℕ) (words : List ℕ) {list′ : List ℕ} → end ≡ at + length words → end ≤ length list
-    → list′ ≡ take at list ++ (words ++ drop (end - at) (drop at list)) → Put list at words list′ end
+    → list′ ≡ take at list ++ (words ++ drop (end - at) (drop at list)) → PiecePut list at words list′ end
 put-middle list at end words {list′} e h is =
     let front : length (take at list) ≡ at = length-take-le at list (omega arith) in
     let rest = drop (end - at) (drop at list) in
@@ -231,7 +231,7 @@ put-middle list at end words {list′} e h is =
       front = ap (take end) done ∙ take-at (take at list ++ words) rest end (omega (arith, length-append (take at list) words));
     }
 
-module _ {list words list₁ : List ℕ} {at end : ℕ} (put : Put list at words list₁ end) where
+module _ {list words list₁ : List ℕ} {at end : ℕ} (put : PiecePut list at words list₁ end) where
   front-length : length (take at list) ≡ at
   front-length = length-take-le at list (omega (arith, put .ends, put .within))
 
@@ -244,19 +244,19 @@ module _ {list words list₁ : List ℕ} {at end : ℕ} (put : Put list at words
 
   -- What was put may be changed in its place.
   pub put-changed : (change : List ℕ → List ℕ) {part list₂ : List ℕ} → length (change words) ≡ length words
-      → part ≡ change (take (end - at) (drop at list₁)) → list₂ ≡ take at list₁ ++ (part ++ drop (end - at) (drop at list₁)) → Put list at (change words) list₂ end
+      → part ≡ change (take (end - at) (drop at list₁)) → list₂ ≡ take at list₁ ++ (part ++ drop (end - at) (drop at list₁)) → PiecePut list at (change words) list₂ end
   put-changed change e changed is =
       let p = put-middle list₁ at end (change words) (put .ends ∙ ap (λ (k : ℕ). at + k) (sym e)) (omega (arith, put .size, put .within))
       (is ∙ ap (λ (l : List ℕ). take at list₁ ++ (l ++ drop (end - at) (drop at list₁))) (changed ∙ ap change put-there)) in
       record { ends = p .ends; within = put .within; size = p .size ∙ put .size; front = p .front ∙ ap (λ (l : List ℕ). l ++ change words) put-before }
 
 -- A word is put by a store.
-pub put-word : (list : List ℕ) (at word : ℕ) → at < length list → Put list at (word ∷ []) (set list at word) (suc at)
+pub put-word : (list : List ℕ) (at word : ℕ) → at < length list → PiecePut list at (word ∷ []) (set list at word) (suc at)
 put-word list at word h = record { ends = omega arith; within = h; size = length-set list at word; front = take-suc-set list at word h }
 
 -- One piece behind another.
-pub put-both : {list list₁ list₂ words more : List ℕ} {at end last : ℕ} → Put list at words list₁ end → Put list₁ end more list₂ last
-    → Put list at (words ++ more) list₂ last
+pub put-both : {list list₁ list₂ words more : List ℕ} {at end last : ℕ} → PiecePut list at words list₁ end → PiecePut list₁ end more list₂ last
+    → PiecePut list at (words ++ more) list₂ last
 put-both {list} {list₁} {list₂} {words} {more} {at} p q = record {
   ends = omega (arith, p .ends, q .ends, length-append words more);
   within = omega (arith, p .size, q .within);
@@ -290,7 +290,7 @@ word-loaded bytes i h e =
 pub put-loaded : (bytes list : List ℕ) (from to at : ℕ) {part list′ : List ℕ} → MayPut bytes from to list at
     → part ≡ sets (take (at + (to - from) - at) (drop at list)) 0 (wordsOf (take (4 * to - 4 * from) (drop (4 * from) bytes)))
     → list′ ≡ take at list ++ (part ++ drop (at + (to - from) - at) (drop at list))
-    → Put list at (piece from to (wordsOf bytes)) list′ (at + (to - from))
+    → PiecePut list at (piece from to (wordsOf bytes)) list′ (at + (to - from))
 put-loaded bytes list from to at may loaded is =
     let words = piece from to (wordsOf bytes) in
     let size : length words ≡ to - from = piece-length (wordsOf bytes) from to (omega (arith, length-wordsOf bytes, may .there)) in
@@ -301,7 +301,7 @@ put-loaded bytes list from to at may loaded is =
     put-middle list at (at + (to - from)) words (ap (λ (k : ℕ). at + k) (sym size)) space (is ∙ ap (λ (l : List ℕ). take at list ++ (l ++ drop (at + (to - from) - at) (drop at list))) all)
 
 -- What was put stands there, no word of it above the bytes' own.
-pub piece-below : (bound from to : ℕ) (words : List ℕ) {at end : ℕ} {list list₁ : List ℕ} → Put list at (piece from to words) list₁ end → AllBelow bound words
+pub piece-below : (bound from to : ℕ) (words : List ℕ) {at end : ℕ} {list list₁ : List ℕ} → PiecePut list at (piece from to words) list₁ end → AllBelow bound words
     → AllBelow bound (take (end - at) (drop at list₁))
 piece-below bound from to words put all =
     subst (AllBelow bound) (sym (put-there put)) (take-below (to - from) (drop from words) (drop-below bound words from all))

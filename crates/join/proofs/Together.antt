@@ -24,7 +24,7 @@ use Rattle.rooms.proofs.Reach.{length-is}
 use Rattle.join.specs.Joined.{joined}
 use Rattle.join.specs.Outcome.{JoinOutcome, reasons, joining, answerOf, joinNumber, joinFigure}
 use Rattle.join.specs.Call.{joinNumbers}
-use Rattle.join.specs.Pieces.{renumberedEvery, renumberedCords, piece, MayPut, Put}
+use Rattle.join.specs.Pieces.{renumberedEvery, renumberedCords, piece, MayPut, PiecePut}
 use Rattle.join.specs.Huts.{hutOf, HutOf, MayPutTogether, JoinedInFront, written, InFront, writtenCount}
 use Rattle.join.specs.declared.Hut.{Hut}
 use Rattle.join.specs.declared.JoinRefusal.{JoinRefusal}
@@ -191,10 +191,10 @@ head-length l v n = length-set (set l 0 v) 1 n ∙ length-set l 0 v
 
 -- Where a piece ends.
 module _ {list list′ : List ℕ} {at end : ℕ} (words : List ℕ) (from to : ℕ) (h : to ≤ length words) where
-  pub ends-words : Put list at (piece from to words) list′ end → end ≡ at + (to - from)
+  pub ends-words : PiecePut list at (piece from to words) list′ end → end ≡ at + (to - from)
   ends-words p = p .ends ∙ ap (λ (k : ℕ). at + k) (piece-length words from to h)
 
-  pub ends-nodes : (gap up down : ℕ) → Put list at (renumberedEvery gap up down 0 (piece from to words)) list′ end → end ≡ at + (to - from)
+  pub ends-nodes : (gap up down : ℕ) → PiecePut list at (renumberedEvery gap up down 0 (piece from to words)) list′ end → end ≡ at + (to - from)
   ends-nodes gap up down p = p .ends ∙ ap (λ (k : ℕ). at + k) (every-length gap up down 0 (piece from to words) ∙ piece-length words from to h)
 
 -- ---- All pieces
@@ -247,14 +247,14 @@ module _ (first second : List ℕ) {one two : Hut} {entries : ℕ} (may : MayPut
         space = omega (arith, fits-one .inner, fits-two .two, fits-two .inner, may .space);
       }
 
-  pub behind-is : {list list₁ : List ℕ} {end : ℕ} → Put list 2 (piece 2 (one .middle) f) list₁ end → end ≡ one .middle
+  pub behind-is : {list list₁ : List ℕ} {end : ℕ} → PiecePut list 2 (piece 2 (one .middle) f) list₁ end → end ≡ one .middle
   behind-is p = omega (arith, ends-words f 2 (one .middle) (omega (arith, fits-one .inner, fits-one .long)) p, fits-one .two)
 
   module _ {list list₁ : List ℕ} {at end : ℕ} where
-    pub between-is : (gap by : ℕ) → at ≡ one .middle → Put list at (renumberedEvery gap by 0 0 (piece 2 (two .middle) s)) list₁ end → end ≡ one .middle + (two .middle - 2)
+    pub between-is : (gap by : ℕ) → at ≡ one .middle → PiecePut list at (renumberedEvery gap by 0 0 (piece 2 (two .middle) s)) list₁ end → end ≡ one .middle + (two .middle - 2)
     between-is gap by e p = omega (arith, ends-nodes s 2 (two .middle) (omega (arith, fits-two .inner, fits-two .long)) gap by 0 p)
 
-    pub next-is : Put list at (piece (one .middle + 1) (one .words) f) list₁ end → end ≡ at + (one .words - (one .middle + 1))
+    pub next-is : PiecePut list at (piece (one .middle + 1) (one .words) f) list₁ end → end ≡ at + (one .words - (one .middle + 1))
     next-is p = ends-words f (one .middle + 1) (one .words) (omega (arith, fits-one .long)) p
 
   -- The words that the pieces come to.
@@ -292,16 +292,16 @@ module _ (first second : List ℕ) {one two : Hut} {entries : ℕ} (may : MayPut
         ∙ sym (joined-words f s r q i j a b same)
 
     pub together : (list : List ℕ) {list₃ : List ℕ} (list₄ : List ℕ) {list₆ list₇ : List ℕ} {behind : ℕ} (middle : ℕ) {next end : ℕ} → 2 ≤ length list → middle < length list₄
-        → Put (set (set list 0 (one .version)) 1 nodes) 2 (piece 2 (one .middle) f) list₃ behind
-        → Put list₃ behind (renumberedEvery (width - 1) by 0 0 (piece 2 (two .middle) s)) list₄ middle
-        → Put (set list₄ middle servers) (middle + 1) (piece (one .middle + 1) (one .words) f) list₆ next
-        → Put list₆ next (renumberedCords by 0 0 (piece (two .middle + 1) (two .words) s)) list₇ end
+        → PiecePut (set (set list 0 (one .version)) 1 nodes) 2 (piece 2 (one .middle) f) list₃ behind
+        → PiecePut list₃ behind (renumberedEvery (width - 1) by 0 0 (piece 2 (two .middle) s)) list₄ middle
+        → PiecePut (set list₄ middle servers) (middle + 1) (piece (one .middle + 1) (one .words) f) list₆ next
+        → PiecePut list₆ next (renumberedCords by 0 0 (piece (two .middle + 1) (two .words) s)) list₇ end
         → JoinedInFront f s list₇
     together list {list₃} list₄ {list₆} {list₇} {behind} middle {next} {end} long more a b c d =
         let v = put-word list 0 (one .version) (omega arith) in
         let n = put-word (set list 0 (one .version)) 1 nodes (omega (arith, length-set list 0 (one .version))) in
-        let k : Put list₄ middle (servers ∷ []) (set list₄ middle servers) (middle + 1)
-        = subst (λ (e : ℕ). Put list₄ middle (servers ∷ []) (set list₄ middle servers) e) (let q : suc middle ≡ middle + 1 = omega arith in q) (put-word list₄ middle servers more) in
+        let k : PiecePut list₄ middle (servers ∷ []) (set list₄ middle servers) (middle + 1)
+        = subst (λ (e : ℕ). PiecePut list₄ middle (servers ∷ []) (set list₄ middle servers) e) (let q : suc middle ≡ middle + 1 = omega arith in q) (put-word list₄ middle servers more) in
         let all = put-both v (put-both n (put-both a (put-both b (put-both k (put-both c d))))) in
         λ r q i j e g.
         let is = pieces-are r q i j e g in

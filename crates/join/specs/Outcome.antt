@@ -10,7 +10,7 @@ use Rattle.outcomes.specs.Part.{whenGood}
 use Rattle.rooms.specs.Table.{Room, mostNodes, mostServers, mostCords, roomCords}
 use Rattle.rooms.specs.Limits.{checked}
 use Rattle.rooms.specs.Words.{tableOf}
-use Rattle.rooms.specs.Outcome.{refusalNumber, refusalPlace}
+use Rattle.rooms.specs.Outcome.{sheetRefusalNumber, sheetRefusalPlace}
 use Rattle.join.specs.Joined.{joined}
 use Rattle.join.specs.declared.JoinRefusal.{JoinRefusal}
 use Rattle.join.specs.declared.JoinRefusal.the-variants.{First, Second, VersionsDiffer, TooManyNodes, TooManyServers, TooManyCords}
@@ -63,8 +63,8 @@ answerOf (refused refusal) = Refused refusal
 
 -- A refusal's number.
 abbrev pub joinRefusalNumber : JoinRefusal → ℕ
-joinRefusalNumber (First refusal) = refusalNumber refusal
-joinRefusalNumber (Second refusal) = refusalNumber refusal
+joinRefusalNumber (First refusal) = sheetRefusalNumber refusal
+joinRefusalNumber (Second refusal) = sheetRefusalNumber refusal
 joinRefusalNumber VersionsDiffer = 19
 joinRefusalNumber TooManyNodes = 20
 joinRefusalNumber TooManyServers = 20
@@ -73,8 +73,8 @@ joinRefusalNumber (TableTooShort needed) = 12
 
 -- A refusal's place: that of the table that is refused; the first count that is too large; or the length needed.
 abbrev pub joinRefusalPlace : JoinRefusal → ℕ
-joinRefusalPlace (First refusal) = refusalPlace refusal
-joinRefusalPlace (Second refusal) = refusalPlace refusal
+joinRefusalPlace (First refusal) = sheetRefusalPlace refusal
+joinRefusalPlace (Second refusal) = sheetRefusalPlace refusal
 joinRefusalPlace VersionsDiffer = 0
 joinRefusalPlace TooManyNodes = 0
 joinRefusalPlace TooManyServers = 1

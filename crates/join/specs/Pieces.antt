@@ -44,7 +44,7 @@ pub record MayPut (bytes : List ℕ) (from to : ℕ) (list : List ℕ) (at : ℕ
   pub space : at + (to - from) ≤ length list
 
 -- The front of a list up to a place is followed by some words; `end` is the place behind them. What comes after is anything.
-pub record Put (list : List ℕ) (at : ℕ) (words : List ℕ) (list′ : List ℕ) (end : ℕ) : Type 0 where
+pub record PiecePut (list : List ℕ) (at : ℕ) (words : List ℕ) (list′ : List ℕ) (end : ℕ) : Type 0 where
   pub ends : end ≡ at + length words
   pub within : end ≤ length list
   pub size : length list′ ≡ length list

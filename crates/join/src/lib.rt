@@ -26,7 +26,7 @@ use figures::index_word;
 use figures::word_index;
 use rooms::Checked;
 use rooms::DECIDING_WORDS;
-use rooms::Refusal;
+use rooms::SheetRefusal;
 use rooms::form::has_percents;
 use rooms::form::node_index;
 use rooms::lists::node_count;
@@ -37,8 +37,8 @@ pub mod pieces;
 
 // Why two tables are turned back: the refusal of either, or of both together. A table that is too short is told with the length needed.
 pub enum JoinRefusal {
-    First(Refusal),
-    Second(Refusal),
+    First(SheetRefusal),
+    Second(SheetRefusal),
     VersionsDiffer,
     TooManyNodes,
     TooManyServers,
@@ -65,7 +65,7 @@ pub struct Hut {
 // A table that was checked: what is kept of it, or its refusal.
 pub enum Examined {
     Good(Hut),
-    Refused(Refusal),
+    Refused(SheetRefusal),
 }
 
 impl JoinRefusal {

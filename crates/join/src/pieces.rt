@@ -6,7 +6,7 @@ ghost use lib.ListN.{length, getD};
 ghost use Rattle.words.specs.Bytes.{wordsOf};
 ghost use Rattle.figures.specs.Bounds.{AllBelow};
 ghost use Rattle.rooms.specs.Table.{nodeWords, formOf};
-ghost use Rattle.join.specs.Pieces.{renumbered, renumberedEvery, renumberedCords, piece, Put, MayPut};
+ghost use Rattle.join.specs.Pieces.{renumbered, renumberedEvery, renumberedCords, piece, PiecePut, MayPut};
 use figures::word_index;
 use rooms::form::has_percents;
 
@@ -74,7 +74,7 @@ pub fn count_at(words: &[u32], i: usize) -> usize
 // The words of some bytes, from one index to another, at a place of the list; the place behind them.
 pub fn put_words(bytes: &[u8], from: usize, to: usize, words: &mut [u32], at: usize) -> usize
     requires may_put { ⌜ MayPut (now bytes) from to (now words) at ⌝ }
-    ensures put { λ r. ⌜ Put (now (words .entry)) at (piece from to (wordsOf (now (bytes .entry)))) (now (words .exit)) r ⌝ }
+    ensures put { λ r. ⌜ PiecePut (now (words .entry)) at (piece from to (wordsOf (now (bytes .entry)))) (now (words .exit)) r ⌝ }
 {
     let end = at + (to - from);
     words::load(&bytes[4 * from..4 * to], &mut words[at..end]);
@@ -94,7 +94,7 @@ pub fn put_nodes(
 ) -> usize
     requires may_put { ⌜ MayPut (now bytes) from to (now words) at ⌝ }
     requires fits { ⌜ (1 ≤ width) × (width ≤ 3) × (up < 2 ^ 31) × AllBelow (2 ^ 31) (wordsOf (now bytes)) ⌝ }
-    ensures put { λ r. ⌜ Put (now (words .entry)) at (renumberedEvery (width - 1) up down 0 (piece from to (wordsOf (now (bytes .entry)))))
+    ensures put { λ r. ⌜ PiecePut (now (words .entry)) at (renumberedEvery (width - 1) up down 0 (piece from to (wordsOf (now (bytes .entry)))))
         (now (words .exit)) r ⌝ }
 {
     let end = put_words(bytes, from, to, words, at);
@@ -114,7 +114,7 @@ pub fn put_servers(
 ) -> usize
     requires may_put { ⌜ MayPut (now bytes) from to (now words) at ⌝ }
     requires fits { ⌜ (up < 2 ^ 31) × AllBelow (2 ^ 31) (wordsOf (now bytes)) ⌝ }
-    ensures put { λ r. ⌜ Put (now (words .entry)) at (renumberedCords up down 0 (piece from to (wordsOf (now (bytes .entry)))))
+    ensures put { λ r. ⌜ PiecePut (now (words .entry)) at (renumberedCords up down 0 (piece from to (wordsOf (now (bytes .entry)))))
         (now (words .exit)) r ⌝ }
 {
     let end = put_words(bytes, from, to, words, at);

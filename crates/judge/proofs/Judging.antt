@@ -33,7 +33,7 @@ use Rattle.deals.proofs.Bounds.{bounded}
 use Rattle.deals.proofs.Judged.{atFirst-none, atFirst-some}
 use Rattle.deals.proofs.JudgedTotals.{ltb-both, mostOver, most-step, first, first-dealable, shortAt-is}
 use Rattle.deals.proofs.JudgedTotals as totals
-use Rattle.judge_totals.specs.Totals.{CordLists, overLow, onNode, fromLevel, overFrom, IsMostFrom, lessThan, Compared}
+use Rattle.judge_totals.specs.Totals.{GrantedCords, overLow, onNode, fromLevel, overFrom, IsMostFrom, lessThan, Compared}
 use Rattle.judge.specs.Lists.{CordsPass}
 use Rattle.rooms.specs.Trees.{beneath, sumBeneath, childSum}
 
@@ -125,7 +125,7 @@ module _ (r : Room) (ok : Accepted r) {parents spare : List ℕ} (lists : RoomNo
     most : (c : ℕ) → c < roomCords r → at grants c ≤ at (firstWants r demands) c
     most c l = ltb-false _ _ (firstNode-none (roomCords r) 0 (aboveWant r demands grants) (pass .none-above) c zero-le (omega arith))
 
-    pub cord-lists : CordLists (length parents) nodes levels lows wants grants
+    pub cord-lists : GrantedCords (length parents) nodes levels lows wants grants
     cord-lists = record {
       few = omega (arith, cords-are, ok .fewCords);
       hangs = λ c l. omega (arith, nodesOf-at r c, able .hangs c (omega (arith, cords-are)));

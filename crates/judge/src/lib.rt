@@ -13,7 +13,6 @@ ghost use Rattle.judge.specs.Lists.{NodesGiven, CordsPass, SomePass};
 use deals::Verdict;
 use demands::DECIDING_DEMANDS;
 use figures::index;
-use judge_totals::HIGHEST_RANK;
 use judge_totals::lowest_marked;
 use judge_totals::note_cords;
 use judge_totals::note_nodes;
@@ -23,6 +22,7 @@ use layout::room::LoadRefusal;
 use layout::room::Loaded;
 use layout::room::admit;
 use rooms::DECIDING_WORDS;
+use rooms::HIGHEST_RANK;
 use rooms::MOST_CORDS;
 use rooms::MOST_NODES;
 
@@ -30,7 +30,7 @@ use rooms::MOST_NODES;
 const DECIDING_GRANTS: usize = MOST_CORDS + 1;
 
 // The answer of the C call is four numbers of eight bytes each.
-const ANSWER_BYTES: usize = 32;
+const JUDGE_ANSWER_BYTES: usize = 32;
 
 // Why a list is turned back, and where: the refusal of the table or of its servers' demands, or the count of cords.
 pub enum JudgeRefusal {
@@ -195,7 +195,7 @@ fn judge_by(
     ensures called { λ r. ⌜ JudgeCall (now (table .entry)) (now (demands .entry)) (now (grants .entry)) (now (answer .entry)) r
         (now (answer .exit)) ⌝ }
 {
-    if answer.len() < ANSWER_BYTES {
+    if answer.len() < JUDGE_ANSWER_BYTES {
         return 0;
     }
     let word_count = words::load(table, words);

@@ -25,7 +25,7 @@ use Rattle.rooms.proofs.Credits.{treeSum-step}
 use Rattle.rooms.proofs.Gather.{Holds, holds-whole, Gathered, gathered-start, gathered-turn}
 use Rattle.rooms.proofs.Search.{firstNode-cong}
 use Rattle.deals.specs.Ranks.{NodeLists}
-use Rattle.judge_totals.specs.Totals.{CordLists, overLow, onNode, fromLevel, Noted, AllNoted, Unnoted, CordsNoted, merged, heldBack, IsMost, NodesNoted, overFrom, Compared}
+use Rattle.judge_totals.specs.Totals.{GrantedCords, overLow, onNode, fromLevel, Noted, AllNoted, Unnoted, CordsNoted, merged, heldBack, IsMost, NodesNoted, overFrom, Compared}
 use Rattle.judge_totals.proofs.Notes.{noted-same, noted-none, noted-cord, noted-held, noted-next, noted-highest, merged-length, merged-past}
 use Rattle.judge_totals.proofs.Searching.{Searching, searching-start, searching-next, first-more}
 use Rattle.rooms.specs.Trees.{childSum, sumBeneath}
@@ -274,7 +274,7 @@ module _ {parents spare given₀ raised₀ wanting₀ : List ℕ} (nodes : NodeL
 -- ---- Both
 
 module _ {parents spare nodes levels lows wants grants : List ℕ} (of-nodes : NodeLists parents spare)
-    (lists : CordLists (length parents) nodes levels lows wants grants) where
+    (lists : GrantedCords (length parents) nodes levels lows wants grants) where
   module _ {count : ℕ} (given raised wanting : List ℕ) (noted : CordsNoted count nodes levels lows wants grants given raised wanting) (all : mostNodes ≤ count) where
     -- All nodes' own watts together are few.
     pub given-few : sum (length parents) (at given) < 2 ^ 63

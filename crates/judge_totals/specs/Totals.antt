@@ -20,7 +20,7 @@ use Rattle.rooms.specs.Trees.{sumBeneath}
 -- ---- The lists
 
 -- The cords: the node and the level of each, and its low, want and grant, in this order.
-pub record CordLists (nodeCount : ℕ) (nodes levels lows wants grants : List ℕ) : Type 0 where
+pub record GrantedCords (nodeCount : ℕ) (nodes levels lows wants grants : List ℕ) : Type 0 where
   pub few : length nodes ≤ mostCords
   pub hangs : (c : ℕ) → c < length nodes → 1 ≤ at nodes c
   pub within : (c : ℕ) → c < length nodes → at nodes c ≤ nodeCount

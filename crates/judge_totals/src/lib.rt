@@ -25,11 +25,10 @@ use figures::short;
 use figures::wide;
 use figures::word_index;
 use layout::need_of;
+use rooms::HIGHEST_RANK;
 use rooms::limits::carried_by;
 use rooms::lists::first_server;
-
-// The highest rank. It stands also for the lowest rank of no watts: no rank is above it.
-pub const HIGHEST_RANK: u16 = 16;
+use rooms::lows::noted;
 
 // What the pass over the cords finds: the number, from 1, of the first cord that has less than its low, and of the first that has more than
 // its want, of those before it; 0 if there is none.
@@ -84,7 +83,8 @@ fn note(
     wanting[place] = higher(wanting[place], high);
 }
 
-// Notes on its node what a cord has over its low, and its rank: where it has such watts, and where it wants more.
+// Notes on its node what a cord has over its low, and its rank: where it has such watts, and where it wants more. The highest rank stands
+// also for the lowest rank of no watts: no rank is above it.
 fn note_cord(
     node: usize,
     rank: u16,
@@ -180,14 +180,6 @@ pub fn note_cords(
         start = word;
     }
     Faults { below: 0, above }
-}
-
-// The node's number where it has more than it may, else what was found before.
-fn noted(limit: u64, sum: u64, place: usize, found: usize) -> usize
-    requires place { ⌜ place < mostNodes ⌝ }
-    ensures result { λ r. ⌜ r ≡ cond (ltb limit sum) (suc place) found ⌝ }
-{
-    if limit < sum { place + 1 } else { found }
 }
 
 // The highest rank beneath a node that could have more, with the node's limit. A full node lets a rank rise only where it carries watts of

@@ -1,14 +1,14 @@
 -- Loading a room in the code's terms: what the checks come to, in their order, and what is left in the lists.
 use mathlib.Core.Path.{_≡_, refl, sym, ap, ap₂, subst, _∙_}
 use mathlib.Core.Bool.{Bool, true, false, not, true≢false}
-use mathlib.Core.List.{List, [], _∷_, _++_}
+use mathlib.Core.List.{List, _∷_, _++_}
 use Prim.Native.Nat.{ℕ, suc, _+_, _/_, _≤_, _<_, min}
 use native.Mathlib.Omega.{arith}
 use lib.Dec.{eqb, leb}
 use lib.ListN.{length, take, drop}
 use lib.Seq.{sets, length-take-le, take-all, take-at}
 use borrow.Author.Tests.{eqb-true, eqb-false, eq-eqb, ne-eqb, lt-ltb, le-ltb, leb-true, leb-false}
-use Rattle.outcomes.specs.Outcome.{Outcome, accepted, refused, Reason, unless}
+use Rattle.outcomes.specs.Outcome.{accepted, refused, Reason, unless}
 use Rattle.outcomes.specs.Part.{whenGood}
 use Rattle.outcomes.proofs.Outcomes.{unless-stop, unless-pass, unless-back, unless-none, unless-is, accepted-is}
 use Rattle.outcomes.proofs.Parts.{accepted-went}
@@ -19,11 +19,11 @@ use Rattle.rooms.specs.Part.{Step, good, bad, Good}
 use Rattle.rooms.specs.Table.{Room, mostNodes, mostServers, mostCords, mostWords, roomCords}
 use Rattle.rooms.specs.Limits.{lowsBeneath, checked, lowsTold}
 use Rattle.rooms.specs.Lists.{parentsOf, limitsOf}
-use Rattle.rooms.specs.Rows.{OfRoom, NodesFit, ServersFit, CordsFit, ScaleIs}
+use Rattle.rooms.specs.Rows.{OfRoom, NodesFit, ServersFit, CordsFit}
 use Rattle.rooms.specs.Told.{told}
 use Rattle.rooms.specs.declared.Checked.{Checked}
 use Rattle.rooms.specs.declared.Checked.the-variants as checks
-use Rattle.rooms.specs.declared.Refusal.{Refusal}
+use Rattle.rooms.specs.declared.SheetRefusal.{SheetRefusal}
 use Rattle.rooms.proofs.Found.{nodeLows-at, lowsTold-length}
 use Rattle.rooms.proofs.Accepted.{Accepted}
 use Rattle.rooms.proofs.Accepted as rooms
@@ -73,7 +73,7 @@ module _ (table demands : List ℕ) where
   pub loading-good : {r : Room} {end : ℕ} → checked table 0 ≡ good r end → loading table demands ≡ unless (loadReasons r demands) r
   loading-good e = loading-is e
 
-  pub loading-bad : {q : Refusal} → checked table 0 ≡ bad q → loading table demands ≡ refused (Table q)
+  pub loading-bad : {q : SheetRefusal} → checked table 0 ≡ bad q → loading table demands ≡ refused (Table q)
   loading-bad e = loading-is e
 
   -- A refusal is told.
@@ -81,7 +81,7 @@ module _ (table demands : List ℕ) where
   refused-told e = rw e refl
 
   -- The table's refusal stands.
-  pub table-told : {answer : Checked} {q : Refusal} → answer ≡ told roomCords (checked table 0) → answer ≡ checks.Refused q
+  pub table-told : {answer : Checked} {q : SheetRefusal} → answer ≡ told roomCords (checked table 0) → answer ≡ checks.Refused q
       → loads.Refused (Table q) ≡ loadedOf (loading table demands)
   table-told d e = refused-told (loading-bad (refused-so roomCords (checked table 0) d e))
 

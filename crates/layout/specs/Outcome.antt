@@ -8,7 +8,7 @@ use Rattle.outcomes.specs.Outcome.{Outcome, accepted, refused, Reason, unless}
 use Rattle.outcomes.specs.Part.{whenGood}
 use Rattle.rooms.specs.Table.{Room, roomCords}
 use Rattle.rooms.specs.Limits.{checked}
-use Rattle.rooms.specs.Outcome.{refusalNumber, refusalPlace}
+use Rattle.rooms.specs.Outcome.{sheetRefusalNumber, sheetRefusalPlace}
 use Rattle.deals.specs.Plan.{firstTooLarge}
 use Rattle.layout.specs.declared.room.Counts.{Counts}
 use Rattle.layout.specs.declared.room.LoadRefusal.{LoadRefusal}
@@ -43,11 +43,11 @@ loadedOf (refused refusal) = Refused refusal
 
 -- A refusal's number and its place: that of the table, the count of servers, or a demand's index.
 abbrev pub loadRefusalNumber : LoadRefusal → ℕ
-loadRefusalNumber (Table refusal) = refusalNumber refusal
+loadRefusalNumber (Table refusal) = sheetRefusalNumber refusal
 loadRefusalNumber (DemandCount place) = 10
 loadRefusalNumber (DemandTooLarge place) = 11
 
 abbrev pub loadRefusalPlace : LoadRefusal → ℕ
-loadRefusalPlace (Table refusal) = refusalPlace refusal
+loadRefusalPlace (Table refusal) = sheetRefusalPlace refusal
 loadRefusalPlace (DemandCount place) = place
 loadRefusalPlace (DemandTooLarge place) = place

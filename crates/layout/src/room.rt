@@ -15,12 +15,13 @@ use figures::first_not_below;
 use figures::word_index;
 use rooms::Checked;
 use rooms::DECIDING_WORDS;
+use rooms::MOST_WATTS;
 use rooms::lists::node_count;
 use rooms::lists::server_count;
 use rooms::lists::table_scale;
 
 // One more than the most watts of a demand.
-const TOO_MANY_WATTS: u32 = 16_777_216;
+const TOO_MANY_WATTS: u32 = MOST_WATTS + 1;
 
 // A room's counts, and its scale.
 pub struct Counts {
@@ -32,7 +33,7 @@ pub struct Counts {
 
 // Why a table or its servers' demands are turned back, and where: the table's refusal, the count of servers, or a demand's index.
 pub enum LoadRefusal {
-    Table(rooms::Refusal),
+    Table(rooms::SheetRefusal),
     DemandCount(usize),
     DemandTooLarge(usize),
 }

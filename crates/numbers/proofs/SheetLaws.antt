@@ -10,7 +10,7 @@ use Rattle.figures.specs.Bounds.{AllBelow}
 use Rattle.figures.proofs.Bounds.{cons-below, drop-below}
 use Rattle.figures.proofs.Search.{none-below, below-none}
 use Rattle.numbers.specs.Number.{Front, good, bad, number, form}
-use Rattle.numbers.specs.Sheet.{whole, Sheet, onto, sheetFrom, sheetOf, bytesOf, firstTooLarge, fitted, written}
+use Rattle.numbers.specs.Sheet.{whole, Sheet, onto, sheetFrom, sheetOf, bytesOf, firstFormless, fitted, written}
 use Rattle.numbers.specs.declared.Written.the-variants.{Bytes, TooLarge, TooShort}
 use Rattle.numbers.proofs.NumberLaws.{number-form, number-good, 1≤length-form, length-form≤4}
 
@@ -97,20 +97,20 @@ words-below bytes all = read-from (length bytes) 0 bytes (omega arith) all .belo
 -- ---- the answer on words that are to be written
 
 -- Where no word is too large, each has a form.
-pub forms-below : (words : List ℕ) → length words ≤ firstTooLarge words → AllBelow (2 ^ 28) words
+pub forms-below : (words : List ℕ) → length words ≤ firstFormless words → AllBelow (2 ^ 28) words
 forms-below words h = none-below (2 ^ 28) (omega arith) words h
 
 -- Words that all have forms are written where there is space.
 pub written-forms : (words : List ℕ) (space : ℕ) → AllBelow (2 ^ 28) words → written words space ≡ fitted (length (bytesOf words)) space
-written-forms words space h = rw (le-ltb (firstTooLarge words) (length words) (below-none (2 ^ 28) words h))
+written-forms words space h = rw (le-ltb (firstFormless words) (length words) (below-none (2 ^ 28) words h))
 
 module _ (words : List ℕ) (space : ℕ) where
-  pub written-large : firstTooLarge words < length words → TooLarge (firstTooLarge words) ≡ written words space
-  written-large l = rw (lt-ltb (firstTooLarge words) (length words) l)
+  pub written-large : firstFormless words < length words → TooLarge (firstFormless words) ≡ written words space
+  written-large l = rw (lt-ltb (firstFormless words) (length words) l)
 
-  module _ (h : length words ≤ firstTooLarge words) where
+  module _ (h : length words ≤ firstFormless words) where
     pub written-short : space < length (bytesOf words) → TooShort (length (bytesOf words)) ≡ written words space
-    written-short l = rw (le-ltb (firstTooLarge words) (length words) h, lt-leb (length (bytesOf words)) space l)
+    written-short l = rw (le-ltb (firstFormless words) (length words) h, lt-leb (length (bytesOf words)) space l)
 
     pub written-whole : length (bytesOf words) ≤ space → Bytes (length (bytesOf words)) ≡ written words space
-    written-whole l = rw (le-ltb (firstTooLarge words) (length words) h, le-leb (length (bytesOf words)) space l)
+    written-whole l = rw (le-ltb (firstFormless words) (length words) h, le-leb (length (bytesOf words)) space l)

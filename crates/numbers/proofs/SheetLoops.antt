@@ -11,7 +11,7 @@ use Rattle.numbers.specs.Sheet.{whole, onto, sheetFrom, sheetOf, answer,
 use Rattle.figures.specs.Bounds.{AllBelow}
 use Rattle.numbers.specs.declared.Fault.{Fault}
 use Rattle.numbers.specs.declared.Decoded.the-variants.{Number, Refused}
-use Rattle.numbers.specs.declared.Judged.the-variants.{Words, Refused as Turned}
+use Rattle.numbers.specs.declared.JudgedSheet.the-variants.{Words, Refused as Turned}
 use Rattle.numbers.proofs.NumberLaws.{Good, number-good, 1≤length-form, length-form≤4}
 use Rattle.figures.proofs.Bounds.{drop-below}
 use Rattle.figures.proofs.Stores.{sets-append}
@@ -32,7 +32,7 @@ decoded-bad : (at : ℕ) (fault : Fault) (place : ℕ) (f : Front) → Refused f
 decoded-bad at fault place (good v size) e = let z : _≡_ {A = ℕ} 0 1 = cc in absurd (omega arith)
 decoded-bad at fault place (bad g) e = let eg : fault ≡ g = cc in (rw eg, cc)
 
-pub record Reading (sheet words₀ words : List ℕ) (at count : ℕ) : Type 0 where
+pub record ReadingSheet (sheet words₀ words : List ℕ) (at count : ℕ) : Type 0 where
   pub bytes : AllBelow 256 sheet
   pub fuel : ℕ
   pub enough : length sheet ≤ at + fuel
@@ -42,7 +42,7 @@ pub record Reading (sheet words₀ words : List ℕ) (at count : ℕ) : Type 0 w
   pub answered : answer (count + length (sheetFrom fuel at (drop at sheet) .words)) (sheetFrom fuel at (drop at sheet) .ending) ≡ judged (sheetOf sheet)
   pub stored : sets words count (sheetFrom fuel at (drop at sheet) .words) ≡ sets words₀ 0 (sheetOf sheet .words)
 
-pub reading-begin : (sheet words : List ℕ) → AllBelow 256 sheet → Reading sheet words words 0 0
+pub reading-begin : (sheet words : List ℕ) → AllBelow 256 sheet → ReadingSheet sheet words words 0 0
 reading-begin sheet words all =
     record {
       bytes = all;
@@ -55,7 +55,7 @@ reading-begin sheet words all =
       stored = refl;
     }
 
-module _ (sheet words₀ words : List ℕ) (at count : ℕ) (inv : Reading sheet words₀ words at count) where
+module _ (sheet words₀ words : List ℕ) (at count : ℕ) (inv : ReadingSheet sheet words₀ words at count) where
   pub reading-end : length sheet ≤ at → (Words count ≡ judged (sheetOf sheet)) × (words ≡ sets words₀ 0 (sheetOf sheet .words))
   reading-end h =
       let e : sheetFrom (inv .fuel) at (drop at sheet) ≡ record { words = []; ending = whole } = rw (drop-of-length-le sheet h) (sheetFrom-end (inv .fuel) at) in
@@ -84,7 +84,7 @@ module _ (sheet words₀ words : List ℕ) (at count : ℕ) (inv : Reading sheet
       pub reading-falls : length sheet - next < length sheet - at
       reading-falls = omega (arith, is-good .some)
 
-      pub reading-again : (words′ : List ℕ) → words′ ≡ set words count value → Reading sheet words₀ words′ next (count + 1)
+      pub reading-again : (words′ : List ℕ) → words′ ≡ set words count value → ReadingSheet sheet words₀ words′ next (count + 1)
       reading-again words′ w =
           let b = decoded-good at value next (number (drop at sheet)) d in
           let n : at + (next - at) ≡ next = omega arith in

@@ -7,8 +7,8 @@ use lib.Seq.{sets}
 use lib.Dec.{ltb, leb}
 use Rattle.figures.specs.Bounds.{firstNotBelow}
 use Rattle.numbers.specs.declared.Fault.{Fault}
-use Rattle.numbers.specs.declared.Judged.{Judged}
-use Rattle.numbers.specs.declared.Judged.the-variants.{Words, Refused}
+use Rattle.numbers.specs.declared.JudgedSheet.{JudgedSheet}
+use Rattle.numbers.specs.declared.JudgedSheet.the-variants.{Words, Refused}
 use Rattle.numbers.specs.declared.Written.{Written}
 use Rattle.numbers.specs.declared.Written.the-variants.{Bytes, TooLarge, TooShort}
 use Rattle.numbers.specs.Number.{Front, good, bad, number, form, formLimit}
@@ -16,14 +16,14 @@ use Rattle.numbers.specs.Number.{Front, good, bad, number, form, formLim
 -- ---- reading
 
 -- How the numbers of a sheet end: with its last byte, or at a fault, in the number that starts at a place.
-pub data Ending : Type 0 where
-  whole : Ending
-  refused : Fault → ℕ → Ending
+pub data SheetEnding : Type 0 where
+  whole : SheetEnding
+  refused : Fault → ℕ → SheetEnding
 
 -- A sheet as it is read: the good numbers in front, in order, and how they end.
 pub record Sheet : Type 0 where
   pub words : List ℕ
-  pub ending : Ending
+  pub ending : SheetEnding
 
 -- What stands at a place of the sheet, followed by what the bytes after it hold.
 abbrev pub onto : ℕ → Front → (ℕ → Sheet) → Sheet
@@ -41,12 +41,12 @@ abbrev pub sheetOf : List ℕ → Sheet
 sheetOf bytes = sheetFrom (length bytes) 0 bytes
 
 -- The answer on a sheet of `count` good numbers.
-abbrev pub answer : ℕ → Ending → Judged
+abbrev pub answer : ℕ → SheetEnding → JudgedSheet
 answer count whole = Words count
 answer count (refused fault at) = Refused fault at
 
 -- The answer on a sheet.
-abbrev pub judged : Sheet → Judged
+abbrev pub judged : Sheet → JudgedSheet
 judged sheet = answer (length (sheet .words)) (sheet .ending)
 
 -- ---- writing
@@ -57,8 +57,8 @@ bytesOf [] = []
 bytesOf (w ∷ words) = form w ++ bytesOf words
 
 -- The index of the first word that has no form; the count of words, if each has one.
-abbrev pub firstTooLarge : List ℕ → ℕ
-firstTooLarge words = firstNotBelow formLimit words
+abbrev pub firstFormless : List ℕ → ℕ
+firstFormless words = firstNotBelow formLimit words
 
 -- What becomes of `size` bytes that are to stand in a sheet with space for so many.
 abbrev pub fitted : ℕ → ℕ → Written
@@ -66,7 +66,7 @@ fitted size space = cond (leb size space) (Bytes size) (TooShort size)
 
 -- What becomes of words that are to stand in a sheet with space for so many bytes.
 abbrev pub written : List ℕ → ℕ → Written
-written words space = cond (ltb (firstTooLarge words) (length words)) (TooLarge (firstTooLarge words)) (fitted (length (bytesOf words)) space)
+written words space = cond (ltb (firstFormless words) (length words)) (TooLarge (firstFormless words)) (fitted (length (bytesOf words)) space)
 
 -- The sheet after that answer: words that were not written left it unchanged.
 abbrev pub afterEncodeSheet : Written → List ℕ → List ℕ → List ℕ

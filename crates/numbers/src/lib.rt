@@ -26,7 +26,7 @@ pub enum Decoded {
 }
 
 // How many numbers a sheet has, or the first fault in it and the place where that number starts.
-pub enum Judged {
+pub enum JudgedSheet {
     Words(usize),
     Refused(Fault, usize),
 }

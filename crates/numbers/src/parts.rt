@@ -4,10 +4,10 @@ ghost use mathlib.Core.Path.{_≡_};
 ghost use lib.Seq.{sets};
 ghost use Rattle.numbers.specs.Sheet.{sheetOf, judged};
 use crate::Decoded;
-use crate::Judged;
+use crate::JudgedSheet;
 
 // Reads a sheet to its end or its first fault. The numbers go to the front of `words`, as many as it has space for.
-pub fn decode_sheet(sheet: &[u8], words: &mut [u32]) -> Judged
+pub fn decode_sheet(sheet: &[u8], words: &mut [u32]) -> JudgedSheet
     ensures result { λ r. ⌜ r ≡ judged (sheetOf (now (sheet .entry))) ⌝ }
     ensures words { λ r. ⌜ now (words .exit) ≡ sets (now (words .entry)) 0 (sheetOf (now (sheet .entry)) .words) ⌝ }
 {
@@ -20,8 +20,8 @@ pub fn decode_sheet(sheet: &[u8], words: &mut [u32]) -> Judged
                 count += 1;
                 at = next;
             }
-            Decoded::Refused(fault, place) => return Judged::Refused(fault, place),
+            Decoded::Refused(fault, place) => return JudgedSheet::Refused(fault, place),
         }
     }
-    Judged::Words(count)
+    JudgedSheet::Words(count)
 }

@@ -16,7 +16,7 @@ use Rattle.rooms.specs.Part.{Step, good, bad}
 use Rattle.rooms.specs.Table.{Room, mostWords}
 use Rattle.rooms.specs.Limits.{checked}
 use Rattle.rooms.specs.Rows.{OfRoom}
-use Rattle.rooms.specs.declared.Refusal.{Refusal}
+use Rattle.rooms.specs.declared.SheetRefusal.{SheetRefusal}
 use Rattle.rooms.proofs.Reach.{prefix-decides, length-small}
 use Rattle.join.specs.Huts.{examined, HutOf}
 use Rattle.join.specs.declared.Hut.{Hut}
@@ -39,11 +39,11 @@ module _ (w : List ℕ) (n s first second : ℕ) where
   abbrev outcome : PartOutcome
   outcome = parting w n s first second
 
-  pub table-bad : {q : Refusal} → checked w 0 ≡ bad q → outcome ≡ refused (Table q)
+  pub table-bad : {q : SheetRefusal} → checked w 0 ≡ bad q → outcome ≡ refused (Table q)
   unfolding parting
   table-bad e = bad-stands Table (λ r. partRoom (at w 0) r n s first second) e
 
-  pub table-refused : {k : Examined} {q : Refusal} → k ≡ examined w → k ≡ examineds.Refused q → outcome ≡ refused (Table q)
+  pub table-refused : {k : Examined} {q : SheetRefusal} → k ≡ examined w → k ≡ examineds.Refused q → outcome ≡ refused (Table q)
   table-refused d e = table-bad (bad-examined w d e)
 
   module _ {hut : Hut} (a : HutOf w hut) where

@@ -26,7 +26,7 @@ use Rattle.rooms.proofs.Tables.{table-fits}
 use Rattle.rooms.proofs.Reach.{next-is-length}
 use Rattle.deals.specs.Plan.{Plan, planOf, firstTooLarge, planRoom, plan}
 use Rattle.deals.specs.declared.Lengths.{Lengths}
-use Rattle.deals.proofs.Plans.{plan-good-table, Planning, planRoom-accepted}
+use Rattle.deals.proofs.Plans.{plan-good-table, planRoom-accepted}
 use Rattle.join.specs.Joined.{raisedNode, raisedCord, raisedServer, joined, joinedPlan}
 use Rattle.join.specs.Outcome.{joining}
 use Rattle.join.specs.Promises.{AcceptedJoin, Ample}

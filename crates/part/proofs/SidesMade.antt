@@ -18,7 +18,7 @@ use Rattle.rooms.specs.Rows.{OfRoom}
 use Rattle.rooms.proofs.Accepted as rooms
 use Rattle.rooms.proofs.Reach.{length-small}
 use Rattle.join.specs.Huts.{HutOf}
-use Rattle.join.specs.Pieces.{renumberedEvery, renumberedCords, piece, MayPut, Put}
+use Rattle.join.specs.Pieces.{renumberedEvery, renumberedCords, piece, MayPut, PiecePut}
 use Rattle.join.specs.declared.Hut.{Hut}
 use Rattle.join.proofs.TableWords.{middle-is, length-are}
 use Rattle.join.proofs.PieceLaws.{put-word, put-both}
@@ -122,7 +122,7 @@ module _ (bytes : List ℕ) (side : Side) (fits : SideFits (wordsOf bytes) side)
   }
 
   pub middle-ends : {list₁ list₂ : List ℕ} {middle : ℕ} (gap down : ℕ)
-      → Put list₁ 2 (renumberedEvery gap 0 down 0 (piece (side .top) (side .bottom) w)) list₂ middle → middle ≡ 2 + (side .bottom - side .top)
+      → PiecePut list₁ 2 (renumberedEvery gap 0 down 0 (piece (side .top) (side .bottom) w)) list₂ middle → middle ≡ 2 + (side .bottom - side .top)
   middle-ends gap down p = ends-nodes w (side .top) (side .bottom) (fits .nodeWords-there .1) gap 0 down p
 
   pub may-servers : {list₁ : List ℕ} {at : ℕ} → length list₁ ≡ length list → at ≡ 3 + (side .bottom - side .top) → MayPut bytes (side .start) (side .end) list₁ at
@@ -134,22 +134,22 @@ module _ (bytes : List ℕ) (side : Side) (fits : SideFits (wordsOf bytes) side)
 
   pub side-put : {width nodes servers middle end : ℕ} (list₁ : List ℕ) {list₂ : List ℕ} → width ≡ nodeWords (formOf (side .version) .percents) → nodes ≡ side .nodes
       → servers ≡ side .servers → middle < length list₁
-      → Put (set (set list 0 (side .version)) 1 nodes) 2 (renumberedEvery (width - 1) 0 (side .down) 0 (piece (side .top) (side .bottom) w)) list₁ middle
-      → Put (set list₁ middle servers) (middle + 1) (renumberedCords 0 (side .down) 0 (piece (side .start) (side .end) w)) list₂ end
-      → Put list 0 (sideTable side w) list₂ end
+      → PiecePut (set (set list 0 (side .version)) 1 nodes) 2 (renumberedEvery (width - 1) 0 (side .down) 0 (piece (side .top) (side .bottom) w)) list₁ middle
+      → PiecePut (set list₁ middle servers) (middle + 1) (renumberedCords 0 (side .down) 0 (piece (side .start) (side .end) w)) list₂ end
+      → PiecePut list 0 (sideTable side w) list₂ end
   side-put {width} {nodes} {servers} {middle} {end} list₁ {list₂} width-is nodes-are servers-are more a d =
       let v = put-word list 0 (side .version) (omega arith) in
       let n = put-word (set list 0 (side .version)) 1 nodes (omega (arith, length-set list 0 (side .version))) in
-      let k : Put list₁ middle (servers ∷ []) (set list₁ middle servers) (middle + 1)
-      = subst (λ (e : ℕ). Put list₁ middle (servers ∷ []) (set list₁ middle servers) e) (let q : suc middle ≡ middle + 1 = omega arith in q) (put-word list₁ middle servers more) in
-      subst (λ (l : List ℕ). Put list 0 l list₂ end)
+      let k : PiecePut list₁ middle (servers ∷ []) (set list₁ middle servers) (middle + 1)
+      = subst (λ (e : ℕ). PiecePut list₁ middle (servers ∷ []) (set list₁ middle servers) e) (let q : suc middle ≡ middle + 1 = omega arith in q) (put-word list₁ middle servers more) in
+      subst (λ (l : List ℕ). PiecePut list 0 l list₂ end)
       (λ i. side .version ∷ nodes-are i ∷ (renumberedEvery (width-is i - 1) 0 (side .down) 0 (piece (side .top) (side .bottom) w)
       ++ (servers-are i ∷ renumberedCords 0 (side .down) 0 (piece (side .start) (side .end) w))))
       (put-both v (put-both n (put-both a (put-both k d))))
 
 -- Put together, it is stored whole.
 pub side-stored : (bytes : List ℕ) (side : Side) → SideFits (wordsOf bytes) side → (list output : List ℕ) {list′ output′ : List ℕ} {count : ℕ}
-    → Put list 0 (sideTable side (wordsOf bytes)) list′ count → sideWords side ≤ length output / 4
+    → PiecePut list 0 (sideTable side (wordsOf bytes)) list′ count → sideWords side ≤ length output / 4
     → output′ ≡ sets output 0 (bytesOf (take (length output / 4) (take count list′)))
     → (count ≡ length (sideTable side (wordsOf bytes))) × (output′ ≡ sets output 0 (bytesOf (sideTable side (wordsOf bytes))))
 side-stored bytes side fits list output {list′} {output′} {count} put space is =

@@ -11,7 +11,7 @@ use Rattle.rooms.specs.Part.{within}
 use Rattle.rooms.specs.Table.{Room}
 use Rattle.rooms.specs.Limits.{checked}
 use Rattle.rooms.specs.Words.{tableOf}
-use Rattle.rooms.specs.Outcome.{refusalNumber, refusalPlace}
+use Rattle.rooms.specs.Outcome.{sheetRefusalNumber, sheetRefusalPlace}
 use Rattle.part.specs.Parted.{front, back}
 use Rattle.part.specs.Crossing.{crossing}
 use Rattle.part.specs.declared.PartRefusal.{PartRefusal}
@@ -61,7 +61,7 @@ parting table nodes servers first second = whenGood Table (checked table 0) (λ 
 
 -- A refusal's number.
 abbrev pub partRefusalNumber : PartRefusal → ℕ
-partRefusalNumber (Table refusal) = refusalNumber refusal
+partRefusalNumber (Table refusal) = sheetRefusalNumber refusal
 partRefusalNumber NodesOutOfRange = 22
 partRefusalNumber ServersOutOfRange = 22
 partRefusalNumber (LinkAcross index) = 23
@@ -70,7 +70,7 @@ partRefusalNumber (SecondTooShort needed) = 12
 
 -- A refusal's place: that of the table; the count that is out of range; the index of the word; or the length needed.
 abbrev pub partRefusalPlace : PartRefusal → ℕ
-partRefusalPlace (Table refusal) = refusalPlace refusal
+partRefusalPlace (Table refusal) = sheetRefusalPlace refusal
 partRefusalPlace NodesOutOfRange = 0
 partRefusalPlace ServersOutOfRange = 1
 partRefusalPlace (LinkAcross index) = index

@@ -5,7 +5,6 @@
 ghost use mathlib.Core.Path.{_≡_};
 ghost use Prim.Native.Nat.{suc, _≤_, _<_};
 ghost use lib.ListN.{length};
-ghost use Rattle.words.specs.Bytes.{wordsOf};
 ghost use Rattle.rooms.specs.Table.{mostWords};
 ghost use Rattle.join.specs.Huts.{HutOf};
 ghost use Rattle.part.specs.Outcome.{parting, partRefusalNumber, partRefusalPlace};
@@ -20,14 +19,14 @@ use calls::LONG_ANSWER_BYTES;
 use join::Examined;
 use join::Hut;
 use rooms::DECIDING_WORDS;
-use rooms::Refusal;
+use rooms::SheetRefusal;
 
 pub mod sides;
 
 // Why a table is not parted: its own refusal; a count that is out of range; a link that goes across the cut, at the index of its word; or an
 // output that is too short, told with the length needed.
 pub enum PartRefusal {
-    Table(Refusal),
+    Table(SheetRefusal),
     NodesOutOfRange,
     ServersOutOfRange,
     LinkAcross(usize),

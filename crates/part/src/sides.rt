@@ -8,7 +8,7 @@ ghost use Rattle.words.specs.Bytes.{wordsOf, bytesOf};
 ghost use Rattle.figures.specs.Bounds.{AllBelow};
 ghost use Rattle.rooms.specs.Rows.{OfRoom};
 ghost use Rattle.join.specs.Huts.{HutOf};
-ghost use Rattle.join.specs.Pieces.{piece, Put};
+ghost use Rattle.join.specs.Pieces.{piece, PiecePut};
 ghost use Rattle.part.specs.Crossing.{across};
 ghost use Rattle.part.specs.Sides.{everyAcross, cordsAcross, serverSpan, span, firstAcross};
 ghost use Rattle.part.specs.Sides.{sideBefore, behindOf, sideTable, sideWords, SideFits};
@@ -177,7 +177,7 @@ pub fn store_side(table: &[u8], side: Side, words: &mut [u32], output: &mut [u8]
 fn put_side(table: &[u8], side: Side, words: &mut [u32]) -> usize
     requires fits { ⌜ SideFits (wordsOf (now table)) side ⌝ }
     requires space { ⌜ sideWords side ≤ length (now words) ⌝ }
-    ensures put { λ r. ⌜ Put (now (words .entry)) 0 (sideTable side (wordsOf (now (table .entry)))) (now (words .exit)) r ⌝ }
+    ensures put { λ r. ⌜ PiecePut (now (words .entry)) 0 (sideTable side (wordsOf (now (table .entry)))) (now (words .exit)) r ⌝ }
 {
     let width = node_width(side.version);
     words[0] = side.version;

@@ -11,7 +11,7 @@ use borrow.Author.Tests.{leb-true, leb-false}
 use Rattle.figures.specs.Figures.{column}
 use Rattle.figures.proofs.Lists.{figures-length}
 use Rattle.figures.proofs.Stores.{sets-front}
-use Rattle.rooms.specs.Table.{Room, mostNodes, mostServers, mostCords, roomCords}
+use Rattle.rooms.specs.Table.{Room, mostNodes, mostCords, roomCords}
 use Rattle.rooms.specs.Rows.{nodeColumn}
 use Rattle.rooms.proofs.Accepted.{Accepted, accepted}
 use Rattle.deals.specs.Wants.{needs, firstWants}

@@ -25,7 +25,7 @@ use Rattle.deals.specs.declared.PlanRefusal.the-variants.{ListTooShort}
 use Rattle.deals.specs.declared.Planned.the-variants as planned
 use Rattle.deals.proofs.RoomHeadroom.{ceilings-count}
 use Rattle.deals.proofs.Plans.{lists-long, planRoom-is, plan-bad-table, plan-good-table}
-use Rattle.layout.specs.Outcome.{LoadOutcome, loadReasons, loading, countsOf, loadedOf}
+use Rattle.layout.specs.Outcome.{LoadOutcome, loading, countsOf, loadedOf}
 use Rattle.layout.specs.Room.{RoomLoaded}
 use Rattle.layout.specs.declared.room.Counts.{Counts}
 use Rattle.layout.specs.declared.room.Loaded.{Loaded}

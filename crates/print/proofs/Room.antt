@@ -14,7 +14,7 @@ use Rattle.rooms.specs.Table.{Server, Room, mostServerCords, cordCount, roomCor
 use Rattle.rooms.specs.Cords.{RoomCord, serverCords, cordsFrom, cordsOf, cordAt, serverAt}
 use Rattle.rooms.specs.Lists.{nodesOf}
 use Rattle.rooms.proofs.Cords.{noRoomCord, noServer, serverCords-length}
-use Rattle.rooms.specs.Rows.{countColumn, nodeColumn, ServerRows, CordRows}
+use Rattle.rooms.specs.Rows.{cordCountColumn, nodeColumn, ServerRows, CordRows}
 use Rattle.rooms.proofs.Walk.{serverCords-at}
 use Rattle.print.specs.Line.{freedLine, serverLine}
 use Rattle.print.specs.Print.{linesFrom, at, nodeAt, serverPrint, serversPrint, planLine, printOf}
@@ -42,8 +42,8 @@ module _ (r : Room) (servers : List (List ℕ)) {cords : List (List ℕ)} (caps 
     (few : (v : ℕ) → v < length (r .servers) → cordCount (serverAt r v) ≤ mostServerCords) where
   count-at : (v : ℕ) → v < length (r .servers) → cordsAt servers v ≡ cordCount (serverAt r v)
   count-at v h =
-      let is : cell servers v countColumn ≡ cordCount (serverAt r v)
-      = sym (column-at countColumn servers v) ∙ ap (λ (l : List ℕ). at l v) (sr .counts) ∙ figures-at (length (r .servers)) v _ h in
+      let is : cell servers v cordCountColumn ≡ cordCount (serverAt r v)
+      = sym (column-at cordCountColumn servers v) ∙ ap (λ (l : List ℕ). at l v) (sr .counts) ∙ figures-at (length (r .servers)) v _ h in
       omega (arith, is, few v h)
 
   node-at : (c : ℕ) → c < roomCords r → cell cords c nodeColumn ≡ cordAt r c .node

@@ -6,7 +6,7 @@ use Prim.Native.Nat.{ℕ, zero, suc, _+_, min}
 use lib.ListN.{length}
 use Rattle.figures.specs.Figures.{cell}
 use Rattle.rooms.specs.Table.{mostServers, mostServerCords}
-use Rattle.rooms.specs.Rows.{countColumn, nodeColumn}
+use Rattle.rooms.specs.Rows.{cordCountColumn, nodeColumn}
 use Rattle.print.specs.Line.{freedLine}
 use Rattle.print.specs.Print.{at, serverPrint, planLine}
 
@@ -16,7 +16,7 @@ cordLineAt cords line c k = line (k + 1) (cell cords (c + k) nodeColumn) (c + k)
 
 -- The count of cords of the server at a place.
 abbrev pub cordsAt : List (List ℕ) → ℕ → ℕ
-cordsAt servers v = min (cell servers v countColumn) mostServerCords
+cordsAt servers v = min (cell servers v cordCountColumn) mostServerCords
 
 -- So many servers from place v on, whose cords start at place c.
 unfoldable pub serversAt : List (List ℕ) → List (List ℕ) → List ℕ → (ℕ → ℕ → ℕ → List ℕ) → ℕ → ℕ → ℕ → List ℕ

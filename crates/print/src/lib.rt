@@ -14,12 +14,10 @@ use figures::counts::least;
 use figures::index;
 use figures::word_index;
 use rooms::MOST_CORDS;
+use rooms::MOST_SERVER_CORDS;
 use rooms::MOST_SERVERS;
-use rooms::lists::COUNT;
+use rooms::lists::CORD_COUNT;
 use rooms::lists::NODE;
-
-// The most cords of a server.
-const MOST_SERVER_CORDS: usize = 4;
 
 // The print of a good table's plan, at the front of the buffer: as much as fits. The result is how many bytes that is.
 pub fn plan(
@@ -125,7 +123,7 @@ fn put_servers(
     let mut first = 0usize;
     let mut next = start;
     for v in 0..count {
-        let few = least(word_index(servers[v][COUNT]), MOST_SERVER_CORDS);
+        let few = least(word_index(servers[v][CORD_COUNT]), MOST_SERVER_CORDS);
         let line = put_server(v + 1, word(caps, v), buffer, next);
         let past = put_cords(few, cords, grants, headroom, held, first, buffer, line);
         next = past;

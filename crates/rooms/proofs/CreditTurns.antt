@@ -13,7 +13,7 @@ use Rattle.figures.specs.Credits.{credited}
 use Rattle.rooms.specs.Credits.{creditedCords, creditedServer, creditedServers, LowsCredited}
 use Rattle.figures.specs.Figures.{at}
 use Rattle.rooms.specs.Told.{told}
-use Rattle.rooms.specs.declared.Refusal.{Refusal}
+use Rattle.rooms.specs.declared.SheetRefusal.{SheetRefusal}
 use Rattle.rooms.specs.declared.Checked.{Checked}
 use Rattle.rooms.specs.declared.Checked.the-variants.{Good, Refused}
 use Rattle.rooms.proofs.Inversion.{took, said, cord-is, load-is}
@@ -22,13 +22,13 @@ use Rattle.rooms.proofs.Carried.{carried-most}
 use Rattle.figures.proofs.Credits.{credited-length, sum-credited, figure-in-sum}
 
 -- Where a part is refused, nothing is claimed of the sums.
-pub credits-refused : {A : Type 0} (f : A → ℕ) (s : Step A) {credit : A → List ℕ → List ℕ} {nodeCount most : ℕ} {sums sums′ : List ℕ} {r : Checked} {q : Refusal}
+pub credits-refused : {A : Type 0} (f : A → ℕ) (s : Step A) {credit : A → List ℕ → List ℕ} {nodeCount most : ℕ} {sums sums′ : List ℕ} {r : Checked} {q : SheetRefusal}
     → r ≡ told f s → r ≡ Refused q → LowsCredited s credit nodeCount most sums sums′
 unfolding told
 credits-refused f (good a j) d e = absurd (suc-ne-zero 0 (cc))
 credits-refused f (bad m) d e = record { are = λ a j is. absurd (suc-ne-zero 0 (cc)); grow = λ a j is. absurd (suc-ne-zero 0 (cc)) }
 
-pub stopped : {A : Type 0} (f : A → ℕ) (s : Step A) {credit : A → List ℕ → List ℕ} {nodeCount most : ℕ} {sums sums′ : List ℕ} {r : Checked} {q : Refusal}
+pub stopped : {A : Type 0} (f : A → ℕ) (s : Step A) {credit : A → List ℕ → List ℕ} {nodeCount most : ℕ} {sums sums′ : List ℕ} {r : Checked} {q : SheetRefusal}
     → r ≡ told f s → r ≡ Refused q → (r ≡ told f s) × LowsCredited s credit nodeCount most sums sums′
 stopped f s d e = (d, credits-refused f s d e)
 

@@ -16,7 +16,7 @@ use Rattle.rooms.specs.Trees.{beneath}
 use Rattle.rooms.specs.Credits.{nodeIndex, parentAt, limitAt, treeSum, exceeds, creditedServers, creditedRoom, LowsCredited, SumsGathered}
 use Rattle.figures.specs.Figures.{at}
 use Rattle.rooms.specs.Told.{told}
-use Rattle.rooms.specs.declared.Refusal.{Refusal}
+use Rattle.rooms.specs.declared.SheetRefusal.{SheetRefusal}
 use Rattle.rooms.specs.declared.Checked.{Checked}
 use Rattle.rooms.specs.declared.Checked.the-variants.{Refused}
 use Rattle.rooms.proofs.Places.{Layout, layout, same-parent, same-limit, table-rises, node-count}
@@ -137,7 +137,7 @@ lows-from w n sums {sums′} formed count r j e es g =
     (subst (λ (l : List ℕ). SumsGathered (parentAt (percentsOf w) w) n l sums′) es (subst (λ (b : Bool). SumsGathered (parentAt b w) n sums sums′) formed g))
 
 -- Of a refused table nothing is claimed but the refusal.
-pub unclaimed : (s : Step Room) {r : Checked} {q : Refusal} {l : List ℕ} → r ≡ told roomCords s → r ≡ Refused q
+pub unclaimed : (s : Step Room) {r : Checked} {q : SheetRefusal} {l : List ℕ} → r ≡ told roomCords s → r ≡ Refused q
     → (r ≡ told roomCords s) × ((room : Room) (j : ℕ) → s ≡ good room j → l ≡ nodeLows room)
 unfolding told
 unclaimed (good a j) d e = absurd (suc-ne-zero 0 (cc))

@@ -9,8 +9,8 @@ use lib.ListN.{length, getD}
 use lib.Dec.{leb, ltb}
 use borrow.Author.Tests.{leb-true, leb-false, eqb-true, ltb-false}
 use Rattle.rooms.specs.Part.{Step, good, bad, Part, follow, word, ensure, end, many, within}
-use Rattle.rooms.specs.declared.Refusal.{Refusal}
-use Rattle.rooms.specs.declared.Refusal.the-variants.{WordMissing, WordOutOfRange, WordsLeftOver}
+use Rattle.rooms.specs.declared.SheetRefusal.{SheetRefusal}
+use Rattle.rooms.specs.declared.SheetRefusal.the-variants.{WordMissing, WordOutOfRange, WordsLeftOver}
 use Rattle.rooms.specs.Table.{Node, Cord, Server, Range, mostWatts, mostCords, mostServerCords, highestRank, nodeWords, percent, node, cord, cords, range, load, server, cordCount, shareSum}
 use Rattle.rooms.specs.Credits.{nodeFrom}
 use Rattle.rooms.specs.Words.{PercentFits}
@@ -36,7 +36,7 @@ unfolding follow
 said a i k b j e = e
 
 -- Where a good part has a test, the test holds.
-pub passed : {B : Type 0} (t : Bool) (q : Refusal) (w : List ℕ) (i : ℕ) (k : Bool → ℕ → Step B) (b : B) (j : ℕ)
+pub passed : {B : Type 0} (t : Bool) (q : SheetRefusal) (w : List ℕ) (i : ℕ) (k : Bool → ℕ → Step B) (b : B) (j : ℕ)
     → follow (ensure t q w i) k ≡ good b j → (t ≡ true) × (k true i ≡ good b j)
 unfolding follow ensure
 passed true q w i k b j e = (refl, e)

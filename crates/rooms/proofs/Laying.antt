@@ -17,7 +17,7 @@ use Rattle.rooms.specs.Limits.{checked}
 use Rattle.rooms.specs.Cords.{RoomCord, cordAt, serverAt, rankOf}
 use Rattle.rooms.specs.Lists.{nodesOf, levelsOf}
 use Rattle.rooms.proofs.Accepted.{accepted}
-use Rattle.rooms.specs.Rows.{ServersFit, CordsFit, rankColumn, leastColumn, greatestColumn, countColumn, nodeColumn, serverColumn, levelColumn, shareColumn, rowWidth, ServerRows, CordRows}
+use Rattle.rooms.specs.Rows.{ServersFit, CordsFit, rankColumn, leastColumn, greatestColumn, cordCountColumn, nodeColumn, serverColumn, levelColumn, shareColumn, rowWidth, ServerRows, CordRows}
 use Rattle.rooms.specs.Walk.{serversIndex}
 use Rattle.rooms.proofs.Walk.{begun, Walk, CordHere, ServerHere, walk-start, walk-server, walk-end}
 
@@ -52,7 +52,7 @@ pub record Laying (table : List ℕ) (v start first c : ℕ) (servers cords : Li
   pub ranks : Filled (λ h. serverAt room h .rank) (length (room .servers)) v (column rankColumn servers)
   pub leasts : Filled (λ h. serverAt room h .least) (length (room .servers)) v (column leastColumn servers)
   pub greatests : Filled (λ h. serverAt room h .greatest) (length (room .servers)) v (column greatestColumn servers)
-  pub counts : Filled (λ h. cordCount (serverAt room h)) (length (room .servers)) v (column countColumn servers)
+  pub counts : Filled (λ h. cordCount (serverAt room h)) (length (room .servers)) v (column cordCountColumn servers)
   pub servers-wide : Wide v servers
   pub nodes : Filled (λ h. cordAt room h .node) (roomCords room) c (column nodeColumn cords)
   pub places : Filled (λ h. cordAt room h .server) (roomCords room) c (column serverColumn cords)
@@ -86,7 +86,7 @@ laying-start {servers = servers} {cords = cords} g sf cf e =
       ranks = none-filled _ rankColumn servers s;
       leasts = none-filled _ leastColumn servers s;
       greatests = none-filled _ greatestColumn servers s;
-      counts = none-filled _ countColumn servers s;
+      counts = none-filled _ cordCountColumn servers s;
       servers-wide = λ h l. absurd (omega arith);
       nodes = none-filled _ nodeColumn cords k;
       places = none-filled _ serverColumn cords k;
@@ -254,7 +254,7 @@ module _ {table : List ℕ} {v start first count c word : ℕ} {servers cords : 
           ranks = column-filled servers rankColumn row (laying .ranks) place (sym (standing .rank));
           leasts = column-filled servers leastColumn row (laying .leasts) place (sym (standing .least));
           greatests = column-filled servers greatestColumn row (laying .greatests) place (sym (standing .greatest));
-          counts = column-filled servers countColumn row (laying .counts) place (sym (standing .count));
+          counts = column-filled servers cordCountColumn row (laying .counts) place (sym (standing .count));
           servers-wide = wide-one servers v row (laying .servers-wide) (server .more) refl;
           nodes = rw all (laying .nodes);
           places = rw all (laying .places);

@@ -9,14 +9,14 @@ use lib.Seq.{sets, length-sets, length-take-le, take-all}
 use Rattle.outcomes.specs.Outcome.{accepted, fitting}
 use Rattle.outcomes.proofs.Outcomes.{fitting-fits}
 use Rattle.outcomes.proofs.Parts.{accepted-went}
-use Rattle.numbers.specs.Sheet.{Ending, whole, sheetOf, bytesOf}
+use Rattle.numbers.specs.Sheet.{SheetEnding, whole, sheetOf, bytesOf}
 use Rattle.numbers.specs.Sheet as sheet
 use Rattle.rooms.specs.Part.{Step, good, bad}
 use Rattle.rooms.specs.Table.{Room, mostWords}
 use Rattle.rooms.specs.Limits.{checked}
-use Rattle.rooms.specs.declared.Refusal.the-variants.{OutputTooShort}
-use Rattle.rooms.specs.declared.Answer.{Answer}
-use Rattle.rooms.specs.declared.Answer.the-variants.{Accepted}
+use Rattle.rooms.specs.declared.SheetRefusal.the-variants.{OutputTooShort}
+use Rattle.rooms.specs.declared.SheetAnswer.{SheetAnswer}
+use Rattle.rooms.specs.declared.SheetAnswer.the-variants.{Accepted}
 use Rattle.rooms.specs.Outcome.{answerOf, ifGood, readWords, reading, readingFirst, writing}
 use Rattle.rooms.proofs.Reach.{prefix-decides, length-small}
 use Rattle.rooms.proofs.Outcomes.{accepted-told, accepted-is, front-sets, front-size}
@@ -41,7 +41,7 @@ module _ (bytes : List ℕ) (entries : ℕ) where
   unfolding reading readingFirst
   reading-first taken h = ending (sheetOf bytes .ending)
     where
-      ending : (e : Ending) → readWords (take taken words) e entries ≡ readWords words e entries
+      ending : (e : SheetEnding) → readWords (take taken words) e entries ≡ readWords words e entries
       ending whole = table-cut (λ l. l) words entries taken h
       ending (sheet.refused fault place) = refl
 
@@ -50,7 +50,7 @@ module _ (bytes : List ℕ) (entries : ℕ) where
   unfolding reading
   reading-fits {written = written} e = ending (sheetOf bytes .ending) e
     where
-      ending : (end : Ending) → readWords words end entries ≡ accepted written → length written ≤ entries
+      ending : (end : SheetEnding) → readWords words end entries ≡ accepted written → length written ≤ entries
       ending whole e =
           let went = accepted-went (λ q. q) (λ room. fitting OutputTooShort words entries) (checked words 0) e in
           fitting-fits OutputTooShort words entries (went .is)
@@ -66,11 +66,11 @@ module _ (bytes : List ℕ) (entries : ℕ) where
   unfolding readingFirst
   first-is taken {output = output} e = ending (sheetOf bytes .ending) e
     where
-      ending : (end : Ending) → readWords (take taken words) end entries ≡ accepted output → take taken words ≡ output
+      ending : (end : SheetEnding) → readWords (take taken words) end entries ≡ accepted output → take taken words ≡ output
       ending whole e = accepted-is (checked (take taken words) 0) (take taken words) entries e .1
       ending (sheet.refused fault place) e = let z : _≡_ {A = ℕ} 0 1 = cc in absurd (omega arith)
 
-  pub first-stands : (list : List ℕ) {list′ : List ℕ} {told : Answer} {count : ℕ} → told ≡ answerOf (readingFirst (length list) bytes entries) → told ≡ Accepted count
+  pub first-stands : (list : List ℕ) {list′ : List ℕ} {told : SheetAnswer} {count : ℕ} → told ≡ answerOf (readingFirst (length list) bytes entries) → told ≡ Accepted count
       → list′ ≡ sets list 0 words → Stands list list′ count
   first-stands list {list′ = list′} {count = count} d e s =
       let o = accepted-told _ d e in

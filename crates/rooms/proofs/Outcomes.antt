@@ -13,12 +13,12 @@ use Rattle.outcomes.specs.Outcome.{accepted, refused, fitting, after}
 use Rattle.outcomes.proofs.Outcomes.{fitting-short, fitting-whole, fitting-is}
 use Rattle.outcomes.proofs.Parts.{accepted-went}
 use Rattle.figures.proofs.Stores.{take-sets, take-min}
-use Rattle.numbers.specs.Sheet.{Ending, whole, sheetOf, judged, answer, bytesOf, written, fitted}
+use Rattle.numbers.specs.Sheet.{SheetEnding, whole, sheetOf, judged, answer, bytesOf, written, fitted}
 use Rattle.numbers.specs.Sheet as sheet
 use Rattle.numbers.specs.declared.Fault.{Fault}
-use Rattle.numbers.specs.declared.Judged.{Judged}
-use Rattle.numbers.specs.declared.Judged.the-variants.{Words}
-use Rattle.numbers.specs.declared.Judged.the-variants as judge
+use Rattle.numbers.specs.declared.JudgedSheet.{JudgedSheet}
+use Rattle.numbers.specs.declared.JudgedSheet.the-variants.{Words}
+use Rattle.numbers.specs.declared.JudgedSheet.the-variants as judge
 use Rattle.numbers.specs.declared.Written.{Written}
 use Rattle.numbers.specs.declared.Written.the-variants.{Bytes, TooLarge, TooShort}
 use Rattle.numbers.proofs.SheetLaws.{written-forms}
@@ -29,22 +29,22 @@ use Rattle.rooms.specs.Limits.{checked}
 use Rattle.rooms.specs.Told.{told}
 use Rattle.rooms.specs.Outcome.{SheetOutcome, answerOf, ifGood, readWords, reading, readingFirst, writing}
 use Rattle.rooms.proofs.Reach.{words-small}
-use Rattle.rooms.specs.declared.Refusal.{Refusal}
-use Rattle.rooms.specs.declared.Refusal.the-variants.{BadNumber, OutputTooShort}
-use Rattle.rooms.specs.declared.Answer.{Answer}
-use Rattle.rooms.specs.declared.Answer.the-variants.{Accepted}
-use Rattle.rooms.specs.declared.Answer.the-variants as answers
+use Rattle.rooms.specs.declared.SheetRefusal.{SheetRefusal}
+use Rattle.rooms.specs.declared.SheetRefusal.the-variants.{BadNumber, OutputTooShort}
+use Rattle.rooms.specs.declared.SheetAnswer.{SheetAnswer}
+use Rattle.rooms.specs.declared.SheetAnswer.the-variants.{Accepted}
+use Rattle.rooms.specs.declared.SheetAnswer.the-variants as answers
 use Rattle.rooms.specs.declared.Checked.{Checked}
 use Rattle.rooms.specs.declared.Checked.the-variants.{Good, Refused}
 
 -- A step that is told as refused is refused so.
-pub refused-so : {A : Type 0} (f : A → ℕ) (s : Step A) {r : Checked} {q : Refusal} → r ≡ told f s → r ≡ Refused q → s ≡ bad q
+pub refused-so : {A : Type 0} (f : A → ℕ) (s : Step A) {r : Checked} {q : SheetRefusal} → r ≡ told f s → r ≡ Refused q → s ≡ bad q
 unfolding told
 refused-so f (good a j) d e = absurd (suc-ne-zero 0 (cc))
 refused-so f (bad m) {q = q} d e = let z : m ≡ q = cc in ap bad z
 
 -- A refused operation leaves the list; an accepted one has written its output to the front.
-pub refused-done : (outcome : SheetOutcome) (list : List ℕ) {q : Refusal} → outcome ≡ refused q
+pub refused-done : (outcome : SheetOutcome) (list : List ℕ) {q : SheetRefusal} → outcome ≡ refused q
     → (answers.Refused q ≡ answerOf outcome) × (list ≡ after (λ l. l) outcome list)
 refused-done outcome list e = rw e (refl, refl)
 
@@ -54,7 +54,7 @@ pub accepted-done : (outcome : SheetOutcome) (list list′ output : List ℕ) {c
 accepted-done outcome list list′ output e n w = rw e (ap Accepted (sym n), w)
 
 -- What an answer tells of its outcome: that it is refused so, or accepted with an output of so many entries.
-pub refused-told : (outcome : SheetOutcome) {told : Answer} {q : Refusal} → told ≡ answerOf outcome → told ≡ answers.Refused q → outcome ≡ refused q
+pub refused-told : (outcome : SheetOutcome) {told : SheetAnswer} {q : SheetRefusal} → told ≡ answerOf outcome → told ≡ answers.Refused q → outcome ≡ refused q
 refused-told (accepted output) d e = absurd (suc-ne-zero 0 (cc))
 refused-told (refused r) {q = q} d e = let z : r ≡ q = cc in ap refused z
 
@@ -63,7 +63,7 @@ pub record Output (outcome : SheetOutcome) (count : ℕ) : Type 0 where
   pub is : outcome ≡ accepted output
   pub counted : length output ≡ count
 
-pub accepted-told : (outcome : SheetOutcome) {told : Answer} {count : ℕ} → told ≡ answerOf outcome → told ≡ Accepted count → Output outcome count
+pub accepted-told : (outcome : SheetOutcome) {told : SheetAnswer} {count : ℕ} → told ≡ answerOf outcome → told ≡ Accepted count → Output outcome count
 accepted-told (accepted output) d e = record { output = output; is = refl; counted = cc }
 accepted-told (refused refusal) d e = absurd (suc-ne-zero 0 (cc))
 
@@ -96,10 +96,10 @@ module _ (bytes : List ℕ) where
   abbrev words : List ℕ
   words = sheetOf bytes .words
 
-  pub whole-so : {r : Judged} {count : ℕ} → r ≡ judged (sheetOf bytes) → r ≡ Words count → Whole bytes count
+  pub whole-so : {r : JudgedSheet} {count : ℕ} → r ≡ judged (sheetOf bytes) → r ≡ Words count → Whole bytes count
   whole-so {r = r} {count = count} d e = go (sheetOf bytes .ending) refl d
     where
-      go : (ending : Ending) → sheetOf bytes .ending ≡ ending → r ≡ answer (length words) ending → Whole bytes count
+      go : (ending : SheetEnding) → sheetOf bytes .ending ≡ ending → r ≡ answer (length words) ending → Whole bytes count
       go whole is d = let n : length words ≡ count = cc in record { ends = is; counted = n }
       go (sheet.refused f p) is d = absurd (suc-ne-zero 0 (cc))
 
@@ -114,7 +114,7 @@ module _ (bytes : List ℕ) where
     unfolding reading
     reading-is {table = table} e = go (sheetOf bytes .ending) refl e
       where
-        go : (ending : Ending) → sheetOf bytes .ending ≡ ending → readWords words ending entries ≡ accepted table → Read table
+        go : (ending : SheetEnding) → sheetOf bytes .ending ≡ ending → readWords words ending entries ≡ accepted table → Read table
         go whole is e =
             let a = accepted-is (checked words 0) words entries e in
             record { ends = is; words-are = a .1; checks = rw (a .1) at (a .0) }
@@ -125,7 +125,7 @@ module _ (table : List ℕ) (entries : ℕ) where
   abbrev outcome : SheetOutcome
   outcome = ifGood (checked table 0) table entries
 
-  pub table-refused : {q : Refusal} → checked table 0 ≡ bad q → answers.Refused q ≡ answerOf outcome
+  pub table-refused : {q : SheetRefusal} → checked table 0 ≡ bad q → answers.Refused q ≡ answerOf outcome
   table-refused c = rw c refl
 
   pub table-short : {r : Room} {j : ℕ} → checked table 0 ≡ good r j → entries < length table → answers.Refused (OutputTooShort (length table)) ≡ answerOf outcome
@@ -136,12 +136,12 @@ module _ (table : List ℕ) (entries : ℕ) where
 
 -- Read by way of a list, which becomes `list′`.
 module _ (bytes list : List ℕ) (entries : ℕ) where
-  pub first-bad-number : {r : Judged} {f : Fault} {p : ℕ} → r ≡ judged (sheetOf bytes) → r ≡ judge.Refused f p
+  pub first-bad-number : {r : JudgedSheet} {f : Fault} {p : ℕ} → r ≡ judged (sheetOf bytes) → r ≡ judge.Refused f p
       → answers.Refused (BadNumber f p) ≡ answerOf (readingFirst (length list) bytes entries)
   unfolding readingFirst
   first-bad-number {r = r} {f = f} {p = p} d e = go (sheetOf bytes .ending) d
     where
-      go : (ending : Ending) → r ≡ answer (length (words bytes)) ending
+      go : (ending : SheetEnding) → r ≡ answer (length (words bytes)) ending
           → answers.Refused (BadNumber f p) ≡ answerOf (readWords (take (length list) (words bytes)) ending entries)
       go whole d = absurd (suc-ne-zero 0 (cc))
       go (sheet.refused g q) d =
@@ -149,7 +149,7 @@ module _ (bytes list : List ℕ) (entries : ℕ) where
           let b : q ≡ p = cc in
           rw (a, b)
 
-  pub first-answered : {count front : ℕ} {list′ : List ℕ} {told : Answer} → Whole bytes count → list′ ≡ sets list 0 (words bytes) → front ≡ min count (length list′)
+  pub first-answered : {count front : ℕ} {list′ : List ℕ} {told : SheetAnswer} → Whole bytes count → list′ ≡ sets list 0 (words bytes) → front ≡ min count (length list′)
       → told ≡ answerOf (outcome (take front list′) entries) → told ≡ answerOf (readingFirst (length list) bytes entries)
   unfolding readingFirst
   first-answered {front = front} {list′ = list′} is e f a =
@@ -160,7 +160,7 @@ module _ (bytes list : List ℕ) (entries : ℕ) where
 -- ---- Write
 
 module _ (table : List ℕ) (entries : ℕ) where
-  pub writing-refused : {q : Refusal} → checked table 0 ≡ bad q → writing table entries ≡ refused q
+  pub writing-refused : {q : SheetRefusal} → checked table 0 ≡ bad q → writing table entries ≡ refused q
   unfolding writing
   writing-refused c = rw c
 

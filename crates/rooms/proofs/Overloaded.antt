@@ -10,18 +10,18 @@ use native.Mathlib.Omega.{arith}
 use lib.ListN.{length, getD}
 use lib.Dec.{eqb, ltb, leb}
 use borrow.Author.Tests.{ltb-true, ltb-false, lt-ltb, le-ltb, eqb-false, eq-eqb, ne-eqb}
-use Rattle.numbers.specs.Sheet.{Ending, whole, sheetOf, bytesOf}
+use Rattle.numbers.specs.Sheet.{SheetEnding, whole, sheetOf, bytesOf}
 use Rattle.numbers.specs.Sheet as sheet
 use Rattle.numbers.specs.declared.Fault.the-variants.{TooLong, NotShortest, CutShort}
 use Rattle.rooms.specs.Part.{Step, good, bad, Good, Part, follow, word, ensure, end, many}
 use Rattle.rooms.specs.Table.{Room, percent, node, cord, range, load, server, table}
 use Rattle.rooms.specs.Limits.{limit, nodeAt, lowsBeneath, firstNode, overloaded, checked}
-use Rattle.rooms.specs.Outcome.{SheetOutcome, refusalNumber, refusalPlace, answerNumber, answerOf, ifGood, readWords, reading, writing}
+use Rattle.rooms.specs.Outcome.{SheetOutcome, sheetRefusalNumber, sheetRefusalPlace, sheetNumber, answerOf, ifGood, readWords, reading, writing}
 use Rattle.outcomes.specs.Outcome.{fitting}
 use Rattle.outcomes.proofs.Outcomes.{fitting-either}
 use Rattle.rooms.specs.Promises.{IsNode, Within, LowestExceeding, Overloaded, IsNine, RefusalNine}
-use Rattle.rooms.specs.declared.Refusal.{Refusal}
-use Rattle.rooms.specs.declared.Refusal.the-variants.{BadNumber, WordMissing, WordOutOfRange, GreatestBelowLeast, SharesNotWhole, WordsLeftOver, LowsAboveLimit, OutputTooShort}
+use Rattle.rooms.specs.declared.SheetRefusal.{SheetRefusal}
+use Rattle.rooms.specs.declared.SheetRefusal.the-variants.{BadNumber, WordMissing, WordOutOfRange, GreatestBelowLeast, SharesNotWhole, WordsLeftOver, LowsAboveLimit, OutputTooShort}
 use Rattle.rooms.proofs.Search.{firstNode-none, none-firstNode, firstNode-first, first-firstNode}
 
 -- ---- The overloaded node of a room
@@ -107,13 +107,13 @@ abbrev Early : {A : Type 0} → Step A → Type 0
 Early s = (n : ℕ) → s ≡ bad (LowsAboveLimit n) → ⊥
 
 -- A refusal other than 9.
-abbrev Other : Refusal → Type 0
+abbrev Other : SheetRefusal → Type 0
 Other refusal = (n : ℕ) → refusal ≡ LowsAboveLimit n → ⊥
 
 good-early : {A : Type 0} (a : A) (j : ℕ) → Early (good a j)
 good-early a j n e = suc-ne-zero 0 (cc)
 
-bad-early : {A : Type 0} (refusal : Refusal) → Other refusal → Early {A = A} (bad refusal)
+bad-early : {A : Type 0} (refusal : SheetRefusal) → Other refusal → Early {A = A} (bad refusal)
 bad-early refusal h n e = h n (cc)
 
 follow-early : {A B : Type 0} (s : Step A) (k : A → ℕ → Step B) → Early s → ((a : A) (j : ℕ) → Early (k a j)) → Early (follow s k)
@@ -121,7 +121,7 @@ unfolding follow
 follow-early (good a j) k h g n e = g a j n e
 follow-early (bad refusal) k h g n e = h n (cc)
 
-ensure-early : (t : Bool) (refusal : Refusal) (w : List ℕ) (i : ℕ) → Other refusal → Early (ensure t refusal w i)
+ensure-early : (t : Bool) (refusal : SheetRefusal) (w : List ℕ) (i : ℕ) → Other refusal → Early (ensure t refusal w i)
 unfolding ensure
 ensure-early true refusal w i h = good-early true i
 ensure-early false refusal w i h = bad-early refusal h
@@ -227,7 +227,7 @@ checked-nine w n = (found, λ o. lowest (o .room) (o .end) (o .isTable) .1 (o .l
 -- ---- The answers
 
 -- The refusal with the number 9.
-pub nine-lows : (refusal : Refusal) (n : ℕ) → refusalNumber refusal ≡ 9 → refusalPlace refusal ≡ n → refusal ≡ LowsAboveLimit n
+pub nine-lows : (refusal : SheetRefusal) (n : ℕ) → sheetRefusalNumber refusal ≡ 9 → sheetRefusalPlace refusal ≡ n → refusal ≡ LowsAboveLimit n
 nine-lows (BadNumber TooLong place) n e p = absurd (omega arith)
 nine-lows (BadNumber NotShortest place) n e p = absurd (omega arith)
 nine-lows (BadNumber CutShort place) n e p = absurd (omega arith)
@@ -240,8 +240,8 @@ nine-lows (LowsAboveLimit place) n e p = ap LowsAboveLimit p
 nine-lows (OutputTooShort place) n e p = absurd (omega arith)
 
 -- An output that follows a good table is accepted, or refused by 12.
-fitting-other : (output : List ℕ) (entries : ℕ) → answerNumber (answerOf (fitting OutputTooShort output entries)) ≡ 9 → ⊥
-fitting-other output entries = fitting-either OutputTooShort output entries (λ (o : SheetOutcome). answerNumber (answerOf o) ≡ 9 → ⊥) (λ e. omega arith) (λ e. omega arith)
+fitting-other : (output : List ℕ) (entries : ℕ) → sheetNumber (answerOf (fitting OutputTooShort output entries)) ≡ 9 → ⊥
+fitting-other output entries = fitting-either OutputTooShort output entries (λ (o : SheetOutcome). sheetNumber (answerOf o) ≡ 9 → ⊥) (λ e. omega arith) (λ e. omega arith)
 
 step-nine : (s : Step Room) (output : List ℕ) (entries n : ℕ)
     → IsNine (answerOf (ifGood s output entries)) n ↔ (s ≡ bad (LowsAboveLimit n))
@@ -267,7 +267,7 @@ read-nine bytes words n = go (sheetOf bytes .ending)
     given : List ℕ
     given = sheetOf bytes .words
 
-    go : (ending : Ending) → IsNine (answerOf (readWords given ending words)) n ↔ ((ending ≡ whole) × Overloaded given n)
+    go : (ending : SheetEnding) → IsNine (answerOf (readWords given ending words)) n ↔ ((ending ≡ whole) × Overloaded given n)
     go whole =
         let o = output-nine given given words n in
         (λ a. (refl, o .0 a), λ h. o .1 (h .1))

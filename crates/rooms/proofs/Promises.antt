@@ -5,7 +5,7 @@ use Rattle.outcomes.proofs.Outcomes.{fitting-whole}
 use Rattle.numbers.specs.Sheet.{bytesOf}
 use Rattle.numbers.proofs.Promises as numbers
 use Rattle.rooms.specs.Outcome.{reading}
-use Rattle.rooms.specs.declared.Refusal.the-variants.{OutputTooShort}
+use Rattle.rooms.specs.declared.SheetRefusal.the-variants.{OutputTooShort}
 use Rattle.rooms.specs.Promises.{GoodTableOfRoom, RoomReadsBack, RefusalNine, TableReadsBack, SheetWritesBack, ReadIsChecked, FirstWordsDecide}
 use Rattle.rooms.proofs.Reach.{words-small}
 use Rattle.rooms.proofs.Words as words

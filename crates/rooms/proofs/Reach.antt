@@ -11,7 +11,7 @@ use lib.Seq.{length-take-le, getD-take, take-all}
 use lib.Dec.{leb, ltb}
 use borrow.Author.Tests.{leb-true, leb-false, ltb-true, ltb-false, lt-leb, lt-ltb}
 use Rattle.rooms.specs.Part.{Step, good, bad, Part, _>>=_, give, here, follow, word, ensure, end, many, within}
-use Rattle.rooms.specs.declared.Refusal.{Refusal}
+use Rattle.rooms.specs.declared.SheetRefusal.{SheetRefusal}
 use Rattle.rooms.specs.Table.{Room, mostWatts, mostNodes, mostServers, mostCords, mostServerCords, highestRank, mostWords, mostNodeWords, mostScale, newestVersion, formOf, nodeWords, percent, node, nodes, cord, cords, range, load, server, servers, cordCount, roomCords, table}
 use Rattle.rooms.specs.Limits.{checked}
 use Rattle.rooms.proofs.NodeWords.{percent-words}
@@ -75,7 +75,7 @@ module _ (last : ℕ) (w : List ℕ) (i : ℕ) where
   unfolding follow
   here-reaches k r = record { same = r .same; taken = r .taken }
 
-  ensure-reaches : {B : Type 0} (t : Bool) (q : Refusal) (k : Bool → Part B) → Reaches last (k true) w i → Reaches last (_>>=_ (ensure t q) k) w i
+  ensure-reaches : {B : Type 0} (t : Bool) (q : SheetRefusal) (k : Bool → Part B) → Reaches last (k true) w i → Reaches last (_>>=_ (ensure t q) k) w i
   unfolding follow ensure
   ensure-reaches true q k r = record { same = r .same; taken = r .taken }
   ensure-reaches {B} false q k r = record { same = λ n l m. refl; taken = go }

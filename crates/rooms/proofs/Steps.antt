@@ -13,8 +13,8 @@ use Rattle.figures.specs.Figures.{total}
 use Rattle.rooms.specs.Table.{percent, cord, server, shareOf, cordCount, mostCords}
 use Rattle.rooms.proofs.Inversion.{word-is, cord-is, server-few}
 use Rattle.rooms.specs.Told.{told, nothing, itself}
-use Rattle.rooms.specs.declared.Refusal.{Refusal}
-use Rattle.rooms.specs.declared.Refusal.the-variants.{WordMissing, WordOutOfRange, WordsLeftOver}
+use Rattle.rooms.specs.declared.SheetRefusal.{SheetRefusal}
+use Rattle.rooms.specs.declared.SheetRefusal.the-variants.{WordMissing, WordOutOfRange, WordsLeftOver}
 use Rattle.rooms.specs.declared.Checked.{Checked}
 use Rattle.rooms.specs.declared.Checked.the-variants.{Good, Refused}
 
@@ -40,7 +40,7 @@ module _ (w : List ℕ) (i low high : ℕ) where
 -- ---- One part after the other
 
 -- A refusal stands, whatever was to follow.
-pub stop : {A B : Type 0} (f : A → ℕ) (g : B → ℕ) (s : Step A) (k : A → ℕ → Step B) {r : Checked} {q : Refusal}
+pub stop : {A B : Type 0} (f : A → ℕ) (g : B → ℕ) (s : Step A) (k : A → ℕ → Step B) {r : Checked} {q : SheetRefusal}
     → r ≡ told f s → r ≡ Refused q → r ≡ told g (follow s k)
 unfolding follow told
 stop f g (good a j) k d e = absurd (suc-ne-zero 0 (cc))
@@ -79,12 +79,12 @@ unfolding follow
 pass-value g a i k h = h
 
 -- A test that holds, and one that fails.
-pub ensured : {B : Type 0} (g : B → ℕ) (t : Bool) (q : Refusal) (w : List ℕ) (i : ℕ) (k : Bool → ℕ → Step B) {x : Checked}
+pub ensured : {B : Type 0} (g : B → ℕ) (t : Bool) (q : SheetRefusal) (w : List ℕ) (i : ℕ) (k : Bool → ℕ → Step B) {x : Checked}
     → t ≡ true → x ≡ told g (k true i) → x ≡ told g (follow (ensure t q w i) k)
 unfolding follow ensure
 ensured g t q w i k e h = rw e h
 
-pub denied : {B : Type 0} (g : B → ℕ) (t : Bool) (q : Refusal) (w : List ℕ) (i : ℕ) (k : Bool → ℕ → Step B) → t ≡ false
+pub denied : {B : Type 0} (g : B → ℕ) (t : Bool) (q : SheetRefusal) (w : List ℕ) (i : ℕ) (k : Bool → ℕ → Step B) → t ≡ false
     → Refused q ≡ told g (follow (ensure t q w i) k)
 unfolding follow told ensure
 denied g t q w i k e = rw e
@@ -150,7 +150,7 @@ module _ {A : Type 0} (f : A → ℕ) (part : ℕ → Part A) (next : ℕ → A 
   row-end {left = zero} {j = j} z r = ap (λ (x : ℕ). Good x j) (omega arith) ∙ r .same
   row-end {left = suc l} z r = absurd (omega arith)
 
-  pub row-stop : {acc left given j : ℕ} {r : Checked} {q : Refusal} → 0 < left → Row f part next w count given₀ i acc left given j
+  pub row-stop : {acc left given j : ℕ} {r : Checked} {q : SheetRefusal} → 0 < left → Row f part next w count given₀ i acc left given j
       → r ≡ told f (part given w j) → r ≡ Refused q → r ≡ told (total f) (many count part next given₀ w i)
   unfolding many
   row-stop {left = zero} z row d e = absurd (omega arith)

@@ -9,7 +9,7 @@ use lib.ListN.{length, getD, drop, drop-of-length-le, length-drop}
 use lib.Seq.{drop-cons}
 use borrow.Author.Tests.{eq-eqb, eqb-true, le-leb, lt-leb, le-ltb}
 use Rattle.rooms.specs.Part.{good, Part, _>>=_, give, here, follow, word, ensure, end, many, within}
-use Rattle.rooms.specs.declared.Refusal.{Refusal}
+use Rattle.rooms.specs.declared.SheetRefusal.{SheetRefusal}
 use Rattle.rooms.specs.Table.{Node, Cord, Server, Room, mostWatts, mostNodes, mostServers, mostCords, highestRank, newestVersion, formOf, percent, node, nodes, cord, cords, range, load, server, servers, cordCount, table}
 use Rattle.rooms.proofs.Fronts.{stands}
 use Rattle.rooms.specs.Words.{rowWords, wordsOfNode, wordsOfCord, wordsOfServer, tableOf, PercentFits, NodeInRange}
@@ -183,7 +183,7 @@ module _ (w : List ℕ) (i : ℕ) where
   unfolding follow
   here-reads k r = record { next = r .next; is = r .is; left = r .left }
 
-  ensure-reads : {B : Type 0} {b : B} {rest : List ℕ} (t : Bool) (q : Refusal) (k : Bool → Part B) → t ≡ true → Reads (k true) w i b rest
+  ensure-reads : {B : Type 0} {b : B} {rest : List ℕ} (t : Bool) (q : SheetRefusal) (k : Bool → Part B) → t ≡ true → Reads (k true) w i b rest
       → Reads (_>>=_ (ensure t q) k) w i b rest
   unfolding follow ensure
   ensure-reads t q k e r = rw e (record { next = r .next; is = r .is; left = r .left })

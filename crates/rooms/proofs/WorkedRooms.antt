@@ -12,7 +12,7 @@ use Rattle.figures.specs.Figures.{total}
 use Rattle.rooms.specs.Table.{formOf, percent, node, cord, range, load, server, table}
 use Rattle.rooms.specs.Trees.{beneath}
 use Rattle.rooms.specs.Limits.{serverLows, lows, firstNode, overloaded, checked}
-use Rattle.rooms.specs.Outcome.{SheetOutcome, answerOf, answerNumber, answerFigure, reading}
+use Rattle.rooms.specs.Outcome.{SheetOutcome, answerOf, sheetNumber, sheetFigure, reading}
 
 -- Room H's 28 bytes.
 abbrev sheetH : List ℕ
@@ -22,7 +22,7 @@ sheetH =
 
 -- The number and the place of the answer to an outcome.
 abbrev numbered : SheetOutcome → ℕ × ℕ
-numbered outcome = (answerNumber (answerOf outcome), answerFigure (answerOf outcome))
+numbered outcome = (sheetNumber (answerOf outcome), sheetFigure (answerOf outcome))
 
 pub turned-back : (numbered (reading sheetH 20) ≡ (12, 21)) × (numbered (reading [] 0) ≡ (4, 0))
 unfolding reading number later sheetFrom

@@ -9,7 +9,7 @@ use Rattle.figures.specs.Figures.{total}
 use Rattle.figures.specs.Sums.{on}
 use Rattle.rooms.specs.Table.{Node, Cord, Server, Room, mostNodes, table}
 use Rattle.rooms.specs.Trees.{beneath}
-use Rattle.rooms.specs.declared.Refusal.the-variants.{LowsAboveLimit}
+use Rattle.rooms.specs.declared.SheetRefusal.the-variants.{LowsAboveLimit}
 
 -- A node's limit: floor(rating × percent / 100).
 abbrev pub limit : Node → ℕ

@@ -3,60 +3,60 @@ use mathlib.Core.List.{List}
 use Prim.Native.Nat.{ℕ}
 use lib.ListN.{length, take}
 use Rattle.numbers.specs.Number.{faultNumber}
-use Rattle.numbers.specs.Sheet.{Ending, whole, sheetOf, bytesOf}
+use Rattle.numbers.specs.Sheet.{SheetEnding, whole, sheetOf, bytesOf}
 use Rattle.numbers.specs.Sheet as sheet
 use Rattle.outcomes.specs.Outcome.{Outcome, accepted, refused, fitting}
 use Rattle.outcomes.specs.Part.{whenGood}
 use Rattle.rooms.specs.Part.{Step}
 use Rattle.rooms.specs.Table.{Room}
 use Rattle.rooms.specs.Limits.{checked}
-use Rattle.rooms.specs.declared.Refusal.{Refusal}
-use Rattle.rooms.specs.declared.Refusal.the-variants.{BadNumber, WordMissing, WordOutOfRange, GreatestBelowLeast, SharesNotWhole, WordsLeftOver}
-use Rattle.rooms.specs.declared.Refusal.the-variants.{LowsAboveLimit, OutputTooShort}
-use Rattle.rooms.specs.declared.Answer.{Answer}
-use Rattle.rooms.specs.declared.Answer.the-variants.{Accepted, Refused}
+use Rattle.rooms.specs.declared.SheetRefusal.{SheetRefusal}
+use Rattle.rooms.specs.declared.SheetRefusal.the-variants.{BadNumber, WordMissing, WordOutOfRange, GreatestBelowLeast, SharesNotWhole, WordsLeftOver}
+use Rattle.rooms.specs.declared.SheetRefusal.the-variants.{LowsAboveLimit, OutputTooShort}
+use Rattle.rooms.specs.declared.SheetAnswer.{SheetAnswer}
+use Rattle.rooms.specs.declared.SheetAnswer.the-variants.{Accepted, Refused}
 
 -- ---- Numbers and places
 
 -- A refusal's number.
-abbrev pub refusalNumber : Refusal → ℕ
-refusalNumber (BadNumber fault place) = faultNumber fault
-refusalNumber (WordMissing place) = 4
-refusalNumber (WordOutOfRange place) = 5
-refusalNumber (GreatestBelowLeast place) = 6
-refusalNumber (SharesNotWhole place) = 7
-refusalNumber (WordsLeftOver place) = 8
-refusalNumber (LowsAboveLimit place) = 9
-refusalNumber (OutputTooShort place) = 12
+abbrev pub sheetRefusalNumber : SheetRefusal → ℕ
+sheetRefusalNumber (BadNumber fault place) = faultNumber fault
+sheetRefusalNumber (WordMissing place) = 4
+sheetRefusalNumber (WordOutOfRange place) = 5
+sheetRefusalNumber (GreatestBelowLeast place) = 6
+sheetRefusalNumber (SharesNotWhole place) = 7
+sheetRefusalNumber (WordsLeftOver place) = 8
+sheetRefusalNumber (LowsAboveLimit place) = 9
+sheetRefusalNumber (OutputTooShort place) = 12
 
 -- A refusal's place.
-abbrev pub refusalPlace : Refusal → ℕ
-refusalPlace (BadNumber fault place) = place
-refusalPlace (WordMissing place) = place
-refusalPlace (WordOutOfRange place) = place
-refusalPlace (GreatestBelowLeast place) = place
-refusalPlace (SharesNotWhole place) = place
-refusalPlace (WordsLeftOver place) = place
-refusalPlace (LowsAboveLimit place) = place
-refusalPlace (OutputTooShort place) = place
+abbrev pub sheetRefusalPlace : SheetRefusal → ℕ
+sheetRefusalPlace (BadNumber fault place) = place
+sheetRefusalPlace (WordMissing place) = place
+sheetRefusalPlace (WordOutOfRange place) = place
+sheetRefusalPlace (GreatestBelowLeast place) = place
+sheetRefusalPlace (SharesNotWhole place) = place
+sheetRefusalPlace (WordsLeftOver place) = place
+sheetRefusalPlace (LowsAboveLimit place) = place
+sheetRefusalPlace (OutputTooShort place) = place
 
 -- An answer's number, 0 if accepted, and its figure: the count written, or the refusal's place.
-abbrev pub answerNumber : Answer → ℕ
-answerNumber (Accepted count) = 0
-answerNumber (Refused refusal) = refusalNumber refusal
+abbrev pub sheetNumber : SheetAnswer → ℕ
+sheetNumber (Accepted count) = 0
+sheetNumber (Refused refusal) = sheetRefusalNumber refusal
 
-abbrev pub answerFigure : Answer → ℕ
-answerFigure (Accepted count) = count
-answerFigure (Refused refusal) = refusalPlace refusal
+abbrev pub sheetFigure : SheetAnswer → ℕ
+sheetFigure (Accepted count) = count
+sheetFigure (Refused refusal) = sheetRefusalPlace refusal
 
 -- ---- Outcomes
 
 -- What Read and Write come to: the words or bytes that are written, or a refusal.
 abbrev pub SheetOutcome : Type 0
-SheetOutcome = Outcome (List ℕ) Refusal
+SheetOutcome = Outcome (List ℕ) SheetRefusal
 
 -- The answer to an outcome.
-abbrev pub answerOf : SheetOutcome → Answer
+abbrev pub answerOf : SheetOutcome → SheetAnswer
 answerOf (accepted output) = Accepted (length output)
 answerOf (refused refusal) = Refused refusal
 
@@ -68,7 +68,7 @@ ifGood step output entries = whenGood (λ refusal. refusal) step (λ room. fitti
 -- ---- Read and Write
 
 -- The words of a sheet, all bytes judged before any word. Refused: the first number that is bad (1 to 3), where it starts.
-abbrev pub readWords : List ℕ → Ending → ℕ → SheetOutcome
+abbrev pub readWords : List ℕ → SheetEnding → ℕ → SheetOutcome
 readWords words whole entries = ifGood (checked words 0) words entries
 readWords words (sheet.refused fault place) entries = refused (BadNumber fault place)
 

@@ -8,15 +8,15 @@ use lib.Dec.{leb, ltb}
 use Rattle.outcomes.specs.Part as outcomes
 pub use Rattle.outcomes.specs.Part.{good, bad, Good, _>>=_, give}
 unfoldable pub use Rattle.outcomes.specs.Part.{follow}
-use Rattle.rooms.specs.declared.Refusal.{Refusal}
-use Rattle.rooms.specs.declared.Refusal.the-variants.{WordMissing, WordOutOfRange, WordsLeftOver}
+use Rattle.rooms.specs.declared.SheetRefusal.{SheetRefusal}
+use Rattle.rooms.specs.declared.SheetRefusal.the-variants.{WordMissing, WordOutOfRange, WordsLeftOver}
 
 -- What a part of a table comes to, and a part of a table.
 abbrev pub Step : Type 0 → Type 0
-Step A = outcomes.Step Refusal A
+Step A = outcomes.Step SheetRefusal A
 
 abbrev pub Part : Type 0 → Type 0
-Part A = outcomes.Part Refusal A
+Part A = outcomes.Part SheetRefusal A
 
 -- The index of the next word.
 abbrev pub here : Part ℕ
@@ -33,7 +33,7 @@ word inRange w i =
     (cond (inRange (getD w i 0)) (good (getD w i 0) (suc i)) (bad (WordOutOfRange i)))
 
 -- A test on what was read, with the refusal where it fails.
-unfoldable pub ensure : Bool → Refusal → Part Bool
+unfoldable pub ensure : Bool → SheetRefusal → Part Bool
 ensure test refusal w i = cond test (good true i) (bad refusal)
 
 -- The end of the table. Refused: words left over (8), at the first of them.

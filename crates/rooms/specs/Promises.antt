@@ -13,8 +13,8 @@ use Rattle.rooms.specs.Limits.{limit, nodeAt, lowsBeneath, checked}
 use Rattle.figures.specs.Figures.{at}
 use Rattle.rooms.specs.Words.{tableOf, RoomInRange}
 use Rattle.outcomes.specs.Outcome.{accepted}
-use Rattle.rooms.specs.Outcome.{answerOf, answerNumber, answerFigure, reading, readingFirst, writing}
-use Rattle.rooms.specs.declared.Answer.{Answer}
+use Rattle.rooms.specs.Outcome.{answerOf, sheetNumber, sheetFigure, reading, readingFirst, writing}
+use Rattle.rooms.specs.declared.SheetAnswer.{SheetAnswer}
 
 -- ---- The table of a room
 
@@ -53,8 +53,8 @@ pub record Overloaded (w : List ℕ) (n : ℕ) : Type 0 where
   pub lowest : LowestExceeding room n
 
 -- The answer is refusal 9, at place n.
-abbrev pub IsNine : Answer → ℕ → Type 0
-IsNine answer n = (answerNumber answer ≡ 9) × (answerFigure answer ≡ n)
+abbrev pub IsNine : SheetAnswer → ℕ → Type 0
+IsNine answer n = (sheetNumber answer ≡ 9) × (sheetFigure answer ≡ n)
 
 -- Refusal 9 comes exactly when the lows beneath some node exceed its limit, and names the lowest such node: in Write, and in
 -- Read where all bytes of the sheet are good. Where there is no such node, a good table passes the check.

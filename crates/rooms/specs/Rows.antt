@@ -37,8 +37,8 @@ leastColumn = 1
 abbrev pub greatestColumn : ℕ
 greatestColumn = 2
 
-abbrev pub countColumn : ℕ
-countColumn = 3
+abbrev pub cordCountColumn : ℕ
+cordCountColumn = 3
 
 -- The columns of a cord's row: the number of its node, the place of its server, its level and its share.
 abbrev pub nodeColumn : ℕ
@@ -67,7 +67,7 @@ pub record ServerRows (r : Room) (rows : List (List ℕ)) : Type 0 where
   pub ranks : column rankColumn rows ≡ figures (length (r .servers)) (λ v. serverAt r v .rank)
   pub leasts : column leastColumn rows ≡ figures (length (r .servers)) (λ v. serverAt r v .least)
   pub greatests : column greatestColumn rows ≡ figures (length (r .servers)) (λ v. serverAt r v .greatest)
-  pub counts : column countColumn rows ≡ figures (length (r .servers)) (λ v. cordCount (serverAt r v))
+  pub counts : column cordCountColumn rows ≡ figures (length (r .servers)) (λ v. cordCount (serverAt r v))
   pub widths : (v : ℕ) → v < length rows → length (getD rows v []) ≡ rowWidth
 
 -- The rows are those of the room's cords, in table order.

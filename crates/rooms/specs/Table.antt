@@ -6,7 +6,7 @@ use lib.ListN.{length}
 use lib.Dec.{leb, ltb, eqb}
 use Rattle.rooms.specs.Part.{Part, _>>=_, give, here, within, word, ensure, end, many}
 use Rattle.figures.specs.Figures.{total}
-use Rattle.rooms.specs.declared.Refusal.the-variants.{WordOutOfRange, GreatestBelowLeast, SharesNotWhole}
+use Rattle.rooms.specs.declared.SheetRefusal.the-variants.{WordOutOfRange, GreatestBelowLeast, SharesNotWhole}
 
 -- ---- The room
 

@@ -8,9 +8,9 @@ ghost use Rattle.rooms.specs.Part.{good};
 ghost use Rattle.rooms.specs.Limits.{checked, nodeLows};
 ghost use Rattle.rooms.specs.Table.{Room, mostNodes, mostWords, roomCords};
 ghost use Rattle.rooms.specs.Told.{told};
-ghost use Rattle.rooms.specs.Outcome.{refusalNumber, refusalPlace, answerNumber, answerFigure, answerOf, ifGood, reading, writing};
+ghost use Rattle.rooms.specs.Outcome.{sheetRefusalNumber, sheetRefusalPlace, sheetNumber, sheetFigure, answerOf, ifGood, reading, writing};
 use numbers::Fault;
-use numbers::Judged;
+use numbers::JudgedSheet;
 use numbers::Written;
 
 pub mod form;
@@ -21,7 +21,7 @@ pub mod parts;
 mod table;
 
 // Why an input is turned back, and where: a byte or a word by its place, a node by its number, or a length.
-pub enum Refusal {
+pub enum SheetRefusal {
     BadNumber(Fault, usize),
     WordMissing(usize),
     WordOutOfRange(usize),
@@ -35,24 +35,30 @@ pub enum Refusal {
 // What a check tells of a part of a table: a figure of it and the index of the next word, or its refusal.
 pub enum Checked {
     Good(u32, usize),
-    Refused(Refusal),
+    Refused(SheetRefusal),
 }
 
 // The answer of Read and Write: accepted with the count written, or refused.
-pub enum Answer {
+pub enum SheetAnswer {
     Accepted(usize),
-    Refused(Refusal),
+    Refused(SheetRefusal),
 }
 
 // The newest version of the sheet (specs/Table.antt).
 pub const NEWEST_VERSION: u32 = 3;
 
-// The most nodes, servers and cords of a room (specs/Table.antt).
+// The most nodes, servers and cords of a room, the most cords of a server, its highest rank and the most watts (specs/Table.antt).
 pub const MOST_NODES: usize = 512;
 
 pub const MOST_SERVERS: usize = 512;
 
 pub const MOST_CORDS: usize = 1024;
+
+pub const MOST_SERVER_CORDS: usize = 4;
+
+pub const HIGHEST_RANK: u16 = 16;
+
+pub const MOST_WATTS: u32 = 16_777_215;
 
 // The most words of a table, of whatever version: version, count of nodes, three words a node, count of servers, four a server and
 // two a cord (`mostWords`, specs/Table.antt).
@@ -72,58 +78,58 @@ fn fault_number(fault: Fault) -> u64
     }
 }
 
-impl Refusal {
+impl SheetRefusal {
     // The refusal's number.
     pub fn number(self) -> u64
-        ensures result { λ r. ⌜ r ≡ refusalNumber self ⌝ }
+        ensures result { λ r. ⌜ r ≡ sheetRefusalNumber self ⌝ }
     {
         match self {
-            Refusal::BadNumber(fault, _) => fault_number(fault),
-            Refusal::WordMissing(_) => 4,
-            Refusal::WordOutOfRange(_) => 5,
-            Refusal::GreatestBelowLeast(_) => 6,
-            Refusal::SharesNotWhole(_) => 7,
-            Refusal::WordsLeftOver(_) => 8,
-            Refusal::LowsAboveLimit(_) => 9,
-            Refusal::OutputTooShort(_) => 12,
+            SheetRefusal::BadNumber(fault, _) => fault_number(fault),
+            SheetRefusal::WordMissing(_) => 4,
+            SheetRefusal::WordOutOfRange(_) => 5,
+            SheetRefusal::GreatestBelowLeast(_) => 6,
+            SheetRefusal::SharesNotWhole(_) => 7,
+            SheetRefusal::WordsLeftOver(_) => 8,
+            SheetRefusal::LowsAboveLimit(_) => 9,
+            SheetRefusal::OutputTooShort(_) => 12,
         }
     }
 
     // The refusal's place.
     pub fn place(self) -> usize
-        ensures result { λ r. ⌜ r ≡ refusalPlace self ⌝ }
+        ensures result { λ r. ⌜ r ≡ sheetRefusalPlace self ⌝ }
     {
         match self {
-            Refusal::BadNumber(_, place) => place,
-            Refusal::WordMissing(place) => place,
-            Refusal::WordOutOfRange(place) => place,
-            Refusal::GreatestBelowLeast(place) => place,
-            Refusal::SharesNotWhole(place) => place,
-            Refusal::WordsLeftOver(place) => place,
-            Refusal::LowsAboveLimit(place) => place,
-            Refusal::OutputTooShort(place) => place,
+            SheetRefusal::BadNumber(_, place) => place,
+            SheetRefusal::WordMissing(place) => place,
+            SheetRefusal::WordOutOfRange(place) => place,
+            SheetRefusal::GreatestBelowLeast(place) => place,
+            SheetRefusal::SharesNotWhole(place) => place,
+            SheetRefusal::WordsLeftOver(place) => place,
+            SheetRefusal::LowsAboveLimit(place) => place,
+            SheetRefusal::OutputTooShort(place) => place,
         }
     }
 }
 
-impl Answer {
+impl SheetAnswer {
     // The refusal's number, or 0.
     pub fn number(self) -> u64
-        ensures result { λ r. ⌜ r ≡ answerNumber self ⌝ }
+        ensures result { λ r. ⌜ r ≡ sheetNumber self ⌝ }
     {
         match self {
-            Answer::Accepted(_) => 0,
-            Answer::Refused(refusal) => refusal.number(),
+            SheetAnswer::Accepted(_) => 0,
+            SheetAnswer::Refused(refusal) => refusal.number(),
         }
     }
 
     // The count written, or the refusal's place.
     pub fn figure(self) -> usize
-        ensures result { λ r. ⌜ r ≡ answerFigure self ⌝ }
+        ensures result { λ r. ⌜ r ≡ sheetFigure self ⌝ }
     {
         match self {
-            Answer::Accepted(count) => count,
-            Answer::Refused(refusal) => refusal.place(),
+            SheetAnswer::Accepted(count) => count,
+            SheetAnswer::Refused(refusal) => refusal.place(),
         }
     }
 }
@@ -147,7 +153,7 @@ fn check_summing(table: &[u32], lows: &mut [u64; 512]) -> Checked
     };
     let node = lows::overloaded(table, lows);
     if node != 0 {
-        return Checked::Refused(Refusal::LowsAboveLimit(node));
+        return Checked::Refused(SheetRefusal::LowsAboveLimit(node));
     }
     Checked::Good(cords, length)
 }
@@ -161,29 +167,29 @@ pub fn check(table: &[u32]) -> Checked
 }
 
 // The answer on a table whose words are to go to an output of `space` words.
-fn answer_for(table: &[u32], space: usize) -> Answer
+fn answer_for(table: &[u32], space: usize) -> SheetAnswer
     ensures result { λ r. ⌜ r ≡ answerOf (ifGood (checked (now (table .entry)) 0) (now (table .entry)) space) ⌝ }
 {
     let checked = check(table);
     if let Checked::Refused(refusal) = checked {
-        return Answer::Refused(refusal);
+        return SheetAnswer::Refused(refusal);
     }
     let count = table.len();
     if space < count {
-        return Answer::Refused(Refusal::OutputTooShort(count));
+        return SheetAnswer::Refused(SheetRefusal::OutputTooShort(count));
     }
-    Answer::Accepted(count)
+    SheetAnswer::Accepted(count)
 }
 
 // Read by way of a list of its own, which takes the words until all is checked.
-fn read_by(sheet: &[u8], words: &mut [u32], table: &mut [u32]) -> Answer
+fn read_by(sheet: &[u8], words: &mut [u32], table: &mut [u32]) -> SheetAnswer
     requires space { ⌜ suc mostWords ≤ length (now words) ⌝ }
     ensures result { λ r. ⌜ r ≡ answerOf (reading (now (sheet .entry)) (length (now (table .entry)))) ⌝ }
     ensures table { λ _. ⌜ now (table .exit) ≡ after (λ words. words) (reading (now (sheet .entry)) (length (now (table .entry))))
         (now (table .entry)) ⌝ }
 {
     let read = parts::read_words(sheet, words, table.len());
-    let Answer::Accepted(count) = read else {
+    let SheetAnswer::Accepted(count) = read else {
         return read;
     };
     figures::copy(&words[..count], table);
@@ -191,7 +197,7 @@ fn read_by(sheet: &[u8], words: &mut [u32], table: &mut [u32]) -> Answer
 }
 
 // Read: the words of a sheet, at the front of the table. Refused, it leaves the table unchanged.
-pub fn read(sheet: &[u8], table: &mut [u32]) -> Answer
+pub fn read(sheet: &[u8], table: &mut [u32]) -> SheetAnswer
     ensures result { λ r. ⌜ r ≡ answerOf (reading (now (sheet .entry)) (length (now (table .entry)))) ⌝ }
     ensures table { λ _. ⌜ now (table .exit) ≡ after (λ words. words) (reading (now (sheet .entry)) (length (now (table .entry))))
         (now (table .entry)) ⌝ }
@@ -201,19 +207,19 @@ pub fn read(sheet: &[u8], table: &mut [u32]) -> Answer
 }
 
 // Write: the words of a table as numbers, at the front of the sheet. Refused, it leaves the sheet unchanged.
-pub fn write(table: &[u32], sheet: &mut [u8]) -> Answer
+pub fn write(table: &[u32], sheet: &mut [u8]) -> SheetAnswer
     ensures result { λ r. ⌜ r ≡ answerOf (writing (now (table .entry)) (length (now (sheet .entry)))) ⌝ }
     ensures sheet { λ _. ⌜ now (sheet .exit) ≡ after (λ bytes. bytes) (writing (now (table .entry)) (length (now (sheet .entry))))
         (now (sheet .entry)) ⌝ }
 {
     let checked = check(table);
     if let Checked::Refused(refusal) = checked {
-        return Answer::Refused(refusal);
+        return SheetAnswer::Refused(refusal);
     }
     match numbers::encode_sheet(table, sheet) {
-        Written::Bytes(count) => Answer::Accepted(count),
-        Written::TooShort(needed) => Answer::Refused(Refusal::OutputTooShort(needed)),
+        Written::Bytes(count) => SheetAnswer::Accepted(count),
+        Written::TooShort(needed) => SheetAnswer::Refused(SheetRefusal::OutputTooShort(needed)),
         // No word of a good table is too large to be written.
-        Written::TooLarge(index) => Answer::Refused(Refusal::WordOutOfRange(index)),
+        Written::TooLarge(index) => SheetAnswer::Refused(SheetRefusal::WordOutOfRange(index)),
     }
 }

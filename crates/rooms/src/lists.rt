@@ -33,7 +33,7 @@ pub const LEAST: usize = 1;
 
 pub const GREATEST: usize = 2;
 
-pub const COUNT: usize = 3;
+pub const CORD_COUNT: usize = 3;
 
 // The word at an index; 0 past the table's end.
 fn word(table: &[u32], i: usize) -> u32

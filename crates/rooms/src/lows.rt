@@ -1,7 +1,7 @@
 // The lows beneath the nodes against the nodes' limits: refusal 9.
 ghost use mathlib.Core.Path.{_≡_};
 ghost use mathlib.Core.Bool.{cond};
-ghost use Prim.Native.Nat.{ℕ, suc, _+_, _-_, _*_, _^_, _<_, _≤_};
+ghost use Prim.Native.Nat.{ℕ, suc, _+_, _*_, _^_, _<_, _≤_};
 ghost use lib.ListN.{length, getD, replicate};
 ghost use lib.Dec.{ltb};
 ghost use Rattle.figures.specs.Sums.{sum};
@@ -19,7 +19,7 @@ use figures::wide;
 use figures::word_index;
 
 // The node's number where its sum exceeds its limit, else what was found before.
-fn noted(limit: u64, sum: u64, place: usize, found: usize) -> usize
+pub fn noted(limit: u64, sum: u64, place: usize, found: usize) -> usize
     requires place { ⌜ place < mostNodes ⌝ }
     ensures result { λ r. ⌜ r ≡ cond (ltb limit sum) (suc place) found ⌝ }
 {

@@ -8,10 +8,10 @@ ghost use Rattle.rooms.specs.Limits.{checked, lowsTold};
 ghost use Rattle.rooms.specs.Table.{roomCords};
 ghost use Rattle.rooms.specs.Told.{told};
 ghost use Rattle.rooms.specs.Outcome.{answerOf, readingFirst};
-use crate::Answer;
 use crate::Checked;
-use crate::Refusal;
-use numbers::Judged;
+use crate::SheetAnswer;
+use crate::SheetRefusal;
+use numbers::JudgedSheet;
 
 // The whole check of a table, as `check`, with the lows of all cords beneath each node, at any depth, by the nodes' places: a caller that
 // goes on with a good table need not sum them again. Past the nodes, and where the table is refused, the lows are 0.
@@ -31,15 +31,15 @@ pub fn check_lows(table: &[u32], lows: &mut [u64; 512]) -> Checked
 // Read by way of a lent list, for an output of `space` words: the list gets the first words of a sheet, as many as it takes, also
 // where the sheet is refused, and these are answered for. A list of DECIDING_WORDS words takes enough for the answer to be that of
 // Read (`FirstWordsDecide`). A shorter one may accept, by the words that it takes, a sheet that Read refuses.
-pub fn read_words(sheet: &[u8], words: &mut [u32], space: usize) -> Answer
+pub fn read_words(sheet: &[u8], words: &mut [u32], space: usize) -> SheetAnswer
     ensures result { λ r. ⌜ r ≡ answerOf (readingFirst (length (now (words .entry))) (now (sheet .entry)) space) ⌝ }
     ensures words { λ _. ⌜ now (words .exit) ≡ sets (now (words .entry)) 0 (sheetOf (now (sheet .entry)) .words) ⌝ }
 {
     let judged = numbers::parts::decode_sheet(sheet, words);
     let count = match judged {
-        Judged::Words(count) => count,
-        Judged::Refused(fault, place) => {
-            return Answer::Refused(Refusal::BadNumber(fault, place));
+        JudgedSheet::Words(count) => count,
+        JudgedSheet::Refused(fault, place) => {
+            return SheetAnswer::Refused(SheetRefusal::BadNumber(fault, place));
         }
     };
     let front = figures::counts::least(count, words.len());

@@ -12,8 +12,9 @@ ghost use Rattle.rooms.specs.Table.{shareOf, shareSum, leastOf, range, l
 ghost use Rattle.rooms.specs.Credits.{creditedCords, creditedServer, creditedServers, creditedRoom, LowsCredited};
 ghost use Rattle.rooms.specs.Told.{told, itself, nothing};
 use crate::Checked;
+use crate::MOST_WATTS;
 use crate::NEWEST_VERSION;
-use crate::Refusal;
+use crate::SheetRefusal;
 use crate::form::has_percents;
 use crate::form::scale_of;
 use crate::limits::carried_by;
@@ -28,25 +29,23 @@ const MOST_SERVERS: u32 = crate::MOST_SERVERS as u32;
 
 const MOST_CORDS: u32 = crate::MOST_CORDS as u32;
 
-const MOST_SERVER_CORDS: u32 = 4;
+const MOST_SERVER_CORDS: u32 = crate::MOST_SERVER_CORDS as u32;
 
-const HIGHEST_RANK: u32 = 16;
-
-const MOST_WATTS: u32 = 16_777_215;
+const HIGHEST_RANK: u32 = crate::HIGHEST_RANK as u32;
 
 // The word at i, from low to high.
 fn check_word(w: &[u32], i: usize, low: u32, high: u32) -> Checked
     ensures result { λ r. ⌜ r ≡ told itself (word (within low high) (now (w .entry)) i) ⌝ }
 {
     if w.len() <= i {
-        return Checked::Refused(Refusal::WordMissing(w.len()));
+        return Checked::Refused(SheetRefusal::WordMissing(w.len()));
     }
     let v = w[i];
     if v < low {
-        return Checked::Refused(Refusal::WordOutOfRange(i));
+        return Checked::Refused(SheetRefusal::WordOutOfRange(i));
     }
     if high < v {
-        return Checked::Refused(Refusal::WordOutOfRange(i));
+        return Checked::Refused(SheetRefusal::WordOutOfRange(i));
     }
     Checked::Good(v, i + 1)
 }
@@ -65,7 +64,7 @@ fn check_percent(w: &[u32], i: usize) -> Checked
     if v == 100 {
         return Checked::Good(0, next);
     }
-    Checked::Refused(Refusal::WordOutOfRange(i))
+    Checked::Refused(SheetRefusal::WordOutOfRange(i))
 }
 
 // The node at i, with its own number; whether it has a word for its percent.
@@ -164,7 +163,7 @@ fn check_range(w: &[u32], i: usize) -> Checked
         return second;
     };
     if greatest < least {
-        return Checked::Refused(Refusal::GreatestBelowLeast(at_greatest));
+        return Checked::Refused(SheetRefusal::GreatestBelowLeast(at_greatest));
     }
     Checked::Good(least, next)
 }
@@ -202,7 +201,7 @@ fn check_load(
         return cords;
     };
     if shares != scale {
-        return Checked::Refused(Refusal::SharesNotWhole(start));
+        return Checked::Refused(SheetRefusal::SharesNotWhole(start));
     }
     Checked::Good(count, next)
 }
@@ -292,7 +291,7 @@ pub(crate) fn check_table(w: &[u32], sums: &mut [u64]) -> Checked
         return servers;
     };
     if next < w.len() {
-        return Checked::Refused(Refusal::WordsLeftOver(next));
+        return Checked::Refused(SheetRefusal::WordsLeftOver(next));
     }
     Checked::Good(cords, next)
 }

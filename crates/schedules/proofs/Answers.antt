@@ -14,7 +14,7 @@ use Rattle.schedules.specs.Sizes.{isSize}
 use Rattle.outcomes.specs.Outcome.{accepted, refused, unless, fitting}
 use Rattle.outcomes.proofs.Outcomes.{unless-stop, unless-pass, fitting-short, fitting-whole}
 use Rattle.schedules.specs.Text.{Step, good, bad, malformed, line}
-use Rattle.schedules.specs.Schedule.{inRange, Judgement, judged, Ending, whole, stopped, onto, linesFrom, linesOf, tableOf, ScheduleOutcome, noLines, scheduledLines, scheduling, answerOf, answerNumber, answerFigure}
+use Rattle.schedules.specs.Schedule.{inRange, Judgement, judged, ScheduleEnding, whole, stopped, onto, linesFrom, linesOf, tableOf, ScheduleOutcome, noLines, scheduledLines, scheduling, answerOf, scheduleNumber, scheduleFigure}
 use Rattle.schedules.specs.Written.{Written, LineFirst, LinesFirst}
 use Rattle.schedules.specs.Written as written
 use Rattle.schedules.specs.Promises.{Tells, AllLines, NoLineAt, NoSizeAt, OutOfRangeAt}
@@ -24,8 +24,8 @@ use Rattle.schedules.proofs.RoomTable.{entries-pass}
 use Rattle.schedules.proofs.ReadsText.{line-read, lines-read}
 use Rattle.schedules.proofs.WritesText.{line-written, line-size, ahead, front-written, lines-written}
 use Rattle.schedules.specs.declared.Entry.{Entry}
-use Rattle.schedules.specs.declared.Refusal.{Refusal}
-use Rattle.schedules.specs.declared.Refusal.the-variants.{NotALine, NotASize, OutOfRange, TableTooShort}
+use Rattle.schedules.specs.declared.ScheduleRefusal.{ScheduleRefusal}
+use Rattle.schedules.specs.declared.ScheduleRefusal.the-variants.{NotALine, NotASize, OutOfRange, TableTooShort}
 
 -- ---- The line at a place of a text
 
@@ -71,12 +71,12 @@ line-some {e} l = omega (arith, ap length (l .is), length-append (l .own) (l .be
 
 -- ---- Why a line fails
 
-pub data Why (place : ℕ) (s : Step Entry) (q : Refusal) : Type 0 where
+pub data Why (place : ℕ) (s : Step Entry) (q : ScheduleRefusal) : Type 0 where
   no-line : s ≡ (bad malformed) → q ≡ NotALine place → Why place s q
   no-size : (e : Entry) (next : ℕ) → s ≡ good e next → isSize (e .amperes) ≡ false → q ≡ NotASize place → Why place s q
   out : (e : Entry) (next : ℕ) → s ≡ good e next → isSize (e .amperes) ≡ true → inRange place e ≡ false → q ≡ OutOfRange place → Why place s q
 
-why : (place : ℕ) (s : Step Entry) (q : Refusal) → judged place s ≡ bad q → Why place s q
+why : (place : ℕ) (s : Step Entry) (q : ScheduleRefusal) → judged place s ≡ bad q → Why place s q
 unfolding judged
 why place (bad malformed) q j = no-line refl (cc)
 why place (good e next) q j = size (isSize (e .amperes)) refl j
@@ -109,7 +109,7 @@ module _ (place : ℕ) (s : Step Entry) where
 -- ---- Lines that end at a refusal
 
 -- The entries are written in front of a place, where a line fails.
-pub record Stopped (text : List ℕ) (place at : ℕ) (entries : List Entry) (q : Refusal) : Type 0 where
+pub record Stopped (text : List ℕ) (place at : ℕ) (entries : List Entry) (q : ScheduleRefusal) : Type 0 where
   pub own : List ℕ
   pub next : ℕ
   pub bytes : drop at text ≡ own ++ drop next text
@@ -119,7 +119,7 @@ pub record Stopped (text : List ℕ) (place at : ℕ) (entries : List Entry) (q 
   pub further : place′ ≡ place + length entries
   pub fails : judged place′ (line text next) ≡ bad q
 
-stopped-is : (most : ℕ) (text : List ℕ) (place at : ℕ) (q : Refusal) → linesFrom most text place at .ending ≡ stopped q
+stopped-is : (most : ℕ) (text : List ℕ) (place at : ℕ) (q : ScheduleRefusal) → linesFrom most text place at .ending ≡ stopped q
     → Stopped text place at (linesFrom most text place at .entries) q
 unfolding linesFrom
 stopped-is zero text place at q e = absurd (suc-ne-zero 0 (cc))
@@ -159,7 +159,7 @@ stopped-is (suc most) text place at q e =
         }
 
 -- Behind lines that pass the text has more, and the line there fails: so do the lines.
-ends-so : (text rest : List ℕ) (place : ℕ) (q : Refusal) → LinesFirst place text rest → 1 ≤ length rest
+ends-so : (text rest : List ℕ) (place : ℕ) (q : ScheduleRefusal) → LinesFirst place text rest → 1 ≤ length rest
     → ((next : ℕ) → drop next text ≡ rest → judged place (line text next) ≡ bad q) → linesOf text .ending ≡ stopped q
 ends-so text rest place q f more fails =
     let r = front-written (f .lines) 0 (f .pass) (suc mostNodes) text 0 rest (f .is) (omega arith) (omega arith) in
@@ -177,7 +177,7 @@ ends-so text rest place q f more fails =
 
 -- What a schedule comes to, and why.
 pub data Reason (text : List ℕ) (words : ℕ) : Type 0 where
-  stops : (q : Refusal) → scheduling text words ≡ refused q → Stopped text 0 0 (linesOf text .entries) q → Reason text words
+  stops : (q : ScheduleRefusal) → scheduling text words ≡ refused q → Stopped text 0 0 (linesOf text .entries) q → Reason text words
   empty : scheduling text words ≡ refused (OutOfRange 0) → text ≡ [] → Reason text words
   short : (needed : ℕ) → scheduling text words ≡ refused (TableTooShort needed) → AllLines text needed → words < needed → Reason text words
   fits : (table : List ℕ) → scheduling text words ≡ accepted table → AllLines text (length table) → length table ≤ words → Reason text words
@@ -221,14 +221,14 @@ module _ (text : List ℕ) (words : ℕ) where
   unfolding scheduling
   reason = ended (linesOf text .ending) refl
     where
-      ended : (ending : Ending) → linesOf text .ending ≡ ending → Reason text words
+      ended : (ending : ScheduleEnding) → linesOf text .ending ≡ ending → Reason text words
       ended whole w = counted w (eqb (length entries) 0) refl (rw w)
       ended (stopped q) w = stops q (rw w) (stopped-is (suc mostNodes) text 0 0 q w)
 
   -- ---- From the text to the outcome
 
   -- Lines that end at a refusal.
-  refused-so : {q : Refusal} → linesOf text .ending ≡ stopped q → outcome ≡ refused q
+  refused-so : {q : ScheduleRefusal} → linesOf text .ending ≡ stopped q → outcome ≡ refused q
   unfolding scheduling
   refused-so w = rw w
 
@@ -254,11 +254,11 @@ module _ (text : List ℕ) (words : ℕ) where
   -- ---- The answers, one by one
 
   -- The outcome's number and figure, where it is known.
-  tells : {o : ScheduleOutcome} → outcome ≡ o → Tells outcome (answerNumber (answerOf o)) (answerFigure (answerOf o))
-  tells is = (ap (λ (x : ScheduleOutcome). answerNumber (answerOf x)) is, ap (λ (x : ScheduleOutcome). answerFigure (answerOf x)) is)
+  tells : {o : ScheduleOutcome} → outcome ≡ o → Tells outcome (scheduleNumber (answerOf o)) (scheduleFigure (answerOf o))
+  tells is = (ap (λ (x : ScheduleOutcome). scheduleNumber (answerOf x)) is, ap (λ (x : ScheduleOutcome). scheduleFigure (answerOf x)) is)
 
   -- What stands in front of the line that fails.
-  front : {q : Refusal} {place : ℕ} (s : Stopped text 0 0 entries q) → s .place′ ≡ place → LinesFirst place text (drop (s .next) text)
+  front : {q : ScheduleRefusal} {place : ℕ} (s : Stopped text 0 0 entries q) → s .place′ ≡ place → LinesFirst place text (drop (s .next) text)
   front s same =
       record {
         entries = entries;
@@ -272,9 +272,9 @@ module _ (text : List ℕ) (words : ℕ) where
   pub tells-24 : (place : ℕ) → Tells outcome 24 place ↔ NoLineAt text place
   tells-24 place = (λ t. go t reason, λ n. tells (refused-so (ends-so text (n .rest) place (NotALine place) (n .front) (n .more) (λ next d. fails-line place (line text next) (none-found text next d (n .none))))))
     where
-      stop : {q : Refusal} → Tells outcome 24 place → outcome ≡ refused q → (s : Stopped text 0 0 entries q) → Why (s .place′) (line text (s .next)) q → NoLineAt text place
+      stop : {q : ScheduleRefusal} → Tells outcome 24 place → outcome ≡ refused q → (s : Stopped text 0 0 entries q) → Why (s .place′) (line text (s .next)) q → NoLineAt text place
       stop t is s (no-line b r) =
-          let same : s .place′ ≡ place = sym (ap answerFigure (ap answerOf (is ∙ ap refused r))) ∙ t .1 in
+          let same : s .place′ ≡ place = sym (ap scheduleFigure (ap answerOf (is ∙ ap refused r))) ∙ t .1 in
           record { rest = drop (s .next) text; front = front s same; more = omega (arith, s .there, length-drop (s .next) text); none = none-first text (s .next) b }
       stop t is s (no-size e next g a r) = absurd (omega (arith, t .0, tells (is ∙ ap refused r) .0))
       stop t is s (out e next g a b r) = absurd (omega (arith, t .0, tells (is ∙ ap refused r) .0))
@@ -291,10 +291,10 @@ module _ (text : List ℕ) (words : ℕ) where
     λ n. tells (refused-so (ends-so text (n .rest) place (NotASize place) (n .front) (line-some (n .line)) (λ next d. fails-size place (line text next) (found text next d (n .line) .is) (n .other)))),
   )
     where
-      stop : {q : Refusal} → Tells outcome 25 place → outcome ≡ refused q → (s : Stopped text 0 0 entries q) → Why (s .place′) (line text (s .next)) q → NoSizeAt text place
+      stop : {q : ScheduleRefusal} → Tells outcome 25 place → outcome ≡ refused q → (s : Stopped text 0 0 entries q) → Why (s .place′) (line text (s .next)) q → NoSizeAt text place
       stop t is s (no-line b r) = absurd (omega (arith, t .0, tells (is ∙ ap refused r) .0))
       stop t is s (no-size e next g a r) =
-          let same : s .place′ ≡ place = sym (ap answerFigure (ap answerOf (is ∙ ap refused r))) ∙ t .1 in
+          let same : s .place′ ≡ place = sym (ap scheduleFigure (ap answerOf (is ∙ ap refused r))) ∙ t .1 in
           record { rest = drop (s .next) text; front = front s same; entry = e; line = line-first text (s .next) g; other = a }
       stop t is s (out e next g a b r) = absurd (omega (arith, t .0, tells (is ∙ ap refused r) .0))
 
@@ -311,11 +311,11 @@ module _ (text : List ℕ) (words : ℕ) where
       back (inl n) = tells (refused-so (ends-so text (n .rest) place (OutOfRange place) (n .front) (line-some (n .line)) (λ next d. fails-range place (line text next) (found text next d (n .line) .is) (n .size) (n .out))))
       back (inr e) = rw (e .1) (tells (empty-so (e .0)))
 
-      stop : {q : Refusal} → Tells outcome 26 place → outcome ≡ refused q → (s : Stopped text 0 0 entries q) → Why (s .place′) (line text (s .next)) q → OutOfRangeAt text place
+      stop : {q : ScheduleRefusal} → Tells outcome 26 place → outcome ≡ refused q → (s : Stopped text 0 0 entries q) → Why (s .place′) (line text (s .next)) q → OutOfRangeAt text place
       stop t is s (no-line b r) = absurd (omega (arith, t .0, tells (is ∙ ap refused r) .0))
       stop t is s (no-size e next g a r) = absurd (omega (arith, t .0, tells (is ∙ ap refused r) .0))
       stop t is s (out e next g a b r) =
-          let same : s .place′ ≡ place = sym (ap answerFigure (ap answerOf (is ∙ ap refused r))) ∙ t .1 in
+          let same : s .place′ ≡ place = sym (ap scheduleFigure (ap answerOf (is ∙ ap refused r))) ∙ t .1 in
           record { rest = drop (s .next) text; front = front s same; entry = e; line = line-first text (s .next) g; size = a; out = rw (← same) b }
 
       go : Tells outcome 26 place → Reason text words → OutOfRangeAt text place ⊎ ((text ≡ []) × (place ≡ 0))
@@ -325,7 +325,7 @@ module _ (text : List ℕ) (words : ℕ) where
       go t (fits table is a h) = absurd (omega (arith, t .0, tells is .0))
 
   -- A refusal of a line is none of the table's, and is no acceptance.
-  stops-over : {q : Refusal} {place : ℕ} {s : Step Entry} → outcome ≡ refused q → Why place s q → 24 ≤ answerNumber (answerOf outcome)
+  stops-over : {q : ScheduleRefusal} {place : ℕ} {s : Step Entry} → outcome ≡ refused q → Why place s q → 24 ≤ scheduleNumber (answerOf outcome)
   stops-over is (no-line b r) = omega (arith, tells (is ∙ ap refused r) .0)
   stops-over is (no-size e next g a r) = omega (arith, tells (is ∙ ap refused r) .0)
   stops-over is (out e next g a b r) = omega (arith, tells (is ∙ ap refused r) .0)

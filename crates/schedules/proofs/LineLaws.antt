@@ -15,14 +15,14 @@ use Rattle.schedules.specs.Schedule.{leastVolts, mostVolts, rating, inRa
 use Rattle.schedules.specs.Told.{toldNumber, toldLine, toldNode}
 use Rattle.schedules.proofs.SizeLaws.{and-left, and-right, size-most}
 use Rattle.schedules.specs.declared.Entry.{Entry}
-use Rattle.schedules.specs.declared.Refusal.{Refusal}
-use Rattle.schedules.specs.declared.Refusal.the-variants.{NotALine, NotASize, OutOfRange}
+use Rattle.schedules.specs.declared.ScheduleRefusal.{ScheduleRefusal}
+use Rattle.schedules.specs.declared.ScheduleRefusal.the-variants.{NotALine, NotASize, OutOfRange}
 use Rattle.schedules.specs.declared.text.Number.{Number}
 use Rattle.schedules.specs.declared.text.Number.the-variants.{Value, Nothing}
-use Rattle.schedules.specs.declared.text.Line.{Line}
-use Rattle.schedules.specs.declared.text.Line.the-variants as lines
-use Rattle.schedules.specs.declared.lines.Judged.{Judged}
-use Rattle.schedules.specs.declared.lines.Judged.the-variants.{Node, Refused}
+use Rattle.schedules.specs.declared.text.ScheduleLine.{ScheduleLine}
+use Rattle.schedules.specs.declared.text.ScheduleLine.the-variants as lines
+use Rattle.schedules.specs.declared.lines.JudgedLine.{JudgedLine}
+use Rattle.schedules.specs.declared.lines.JudgedLine.the-variants.{Node, Refused}
 
 -- ---- A number and a line, told
 
@@ -39,7 +39,7 @@ unfolding toldNumber
 number-bad (good v n) d e = absurd (suc-ne-zero 0 (cc))
 number-bad (bad malformed) d e = refl
 
-pub line-good : (s : Step Entry) {r : Line} {entry : Entry} {next : ℕ} → r ≡ toldLine s → r ≡ lines.Of entry next → s ≡ good entry next
+pub line-good : (s : Step Entry) {r : ScheduleLine} {entry : Entry} {next : ℕ} → r ≡ toldLine s → r ≡ lines.Of entry next → s ≡ good entry next
 unfolding toldLine
 line-good (good x n) {entry = entry} {next = next} d e =
     let a : x ≡ entry = cc in
@@ -47,7 +47,7 @@ line-good (good x n) {entry = entry} {next = next} d e =
     rw (a, b)
 line-good (bad malformed) d e = absurd (suc-ne-zero 0 (cc))
 
-pub line-bad : (s : Step Entry) {r : Line} → r ≡ toldLine s → r ≡ lines.Nothing → s ≡ (bad malformed)
+pub line-bad : (s : Step Entry) {r : ScheduleLine} → r ≡ toldLine s → r ≡ lines.Nothing → s ≡ (bad malformed)
 unfolding toldLine
 line-bad (good x n) d e = absurd (suc-ne-zero 0 (cc))
 line-bad (bad malformed) d e = refl
@@ -177,14 +177,14 @@ pub record Told (j : Judgement) (parent watts next : ℕ) : Type 0 where
   pub parent-is : entry .parent ≡ parent
   pub rating-is : rating entry ≡ watts
 
-pub node-told : (j : Judgement) {r : Judged} {parent watts next : ℕ} → r ≡ toldNode j → r ≡ Node parent watts next → Told j parent watts next
+pub node-told : (j : Judgement) {r : JudgedLine} {parent watts next : ℕ} → r ≡ toldNode j → r ≡ Node parent watts next → Told j parent watts next
 unfolding toldNode
 node-told (good x n) {next = next} d e =
     let b : n ≡ next = cc in
     record { entry = x; is = rw b; parent-is = cc; rating-is = cc }
 node-told (bad q) d e = absurd (suc-ne-zero 0 (cc))
 
-pub refusal-told : (j : Judgement) {r : Judged} {refusal : Refusal} → r ≡ toldNode j → r ≡ Refused refusal → j ≡ bad refusal
+pub refusal-told : (j : Judgement) {r : JudgedLine} {refusal : ScheduleRefusal} → r ≡ toldNode j → r ≡ Refused refusal → j ≡ bad refusal
 unfolding toldNode
 refusal-told (good x n) d e = absurd (suc-ne-zero 0 (cc))
 refusal-told (bad q) {refusal = refusal} d e = let a : q ≡ refusal = cc in rw a

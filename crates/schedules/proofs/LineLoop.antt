@@ -11,13 +11,13 @@ use Rattle.rooms.specs.Table.{mostNodes}
 use Rattle.schedules.specs.Text.{line}
 use Rattle.schedules.specs.Text.{good, bad}
 use Rattle.schedules.specs.Schedule.{rating, Judgement, judged, whole, onto, linesFrom, linesOf}
-use Rattle.schedules.specs.Nodes.{nodeWords}
+use Rattle.schedules.specs.Nodes.{entryWords}
 use Rattle.schedules.specs.Told.{toldNode, counted, toldLines}
 use Rattle.schedules.proofs.LineLaws.{passed-is, range-is, node-told, refusal-told}
 use Rattle.schedules.specs.declared.Entry.{Entry}
-use Rattle.schedules.specs.declared.Refusal.{Refusal}
-use Rattle.schedules.specs.declared.lines.Judged.{Judged}
-use Rattle.schedules.specs.declared.lines.Judged.the-variants.{Node, Refused}
+use Rattle.schedules.specs.declared.ScheduleRefusal.{ScheduleRefusal}
+use Rattle.schedules.specs.declared.lines.JudgedLine.{JudgedLine}
+use Rattle.schedules.specs.declared.lines.JudgedLine.the-variants.{Node, Refused}
 use Rattle.schedules.specs.declared.lines.Counted.the-variants as counts
 
 -- The lines of a text from a place on, one by one.
@@ -33,19 +33,19 @@ linesFrom-some most text place at h = rw (lt-leb (length text) at h)
 
 -- A node's two words, stored one after the other, and then those of the nodes after it.
 node-stored : (words : List ℕ) (index next parent watts : ℕ) (e : Entry) (rest : List Entry) → e .parent ≡ parent → rating e ≡ watts → next ≡ suc index
-    → sets (set (set words index parent) next watts) (suc (suc index)) (nodeWords rest) ≡ sets words index (nodeWords (e ∷ rest))
-unfolding nodeWords
+    → sets (set (set words index parent) next watts) (suc (suc index)) (entryWords rest) ≡ sets words index (entryWords (e ∷ rest))
+unfolding entryWords
 node-stored words index next parent watts e rest p w n = rw (n, ← p, ← w)
 
-pub record Reading (text words₀ words : List ℕ) (at count : ℕ) : Type 0 where
+pub record ReadingLines (text words₀ words : List ℕ) (at count : ℕ) : Type 0 where
   pub few : count ≤ mostNodes
   pub size : length words ≡ length words₀
   pub answered : counted (count + length (linesFrom (suc mostNodes - count) text count at .entries)) (linesFrom (suc mostNodes - count) text count at .ending)
       ≡ toldLines (linesOf text)
-  pub stored : sets words (2 + 2 * count) (nodeWords (linesFrom (suc mostNodes - count) text count at .entries))
-      ≡ sets words₀ 2 (nodeWords (linesOf text .entries))
+  pub stored : sets words (2 + 2 * count) (entryWords (linesFrom (suc mostNodes - count) text count at .entries))
+      ≡ sets words₀ 2 (entryWords (linesOf text .entries))
 
-pub begin : (text words : List ℕ) → Reading text words words 0 0
+pub begin : (text words : List ℕ) → ReadingLines text words words 0 0
 begin text words =
     record {
       few = omega arith;
@@ -54,10 +54,10 @@ begin text words =
       stored = refl;
     }
 
-module _ (text words₀ words : List ℕ) (at count : ℕ) (inv : Reading text words₀ words at count) where
+module _ (text words₀ words : List ℕ) (at count : ℕ) (inv : ReadingLines text words₀ words at count) where
   pub end : length text ≤ at
-      → (counts.Lines count ≡ toldLines (linesOf text)) × (words ≡ sets words₀ 2 (nodeWords (linesOf text .entries)))
-  unfolding nodeWords
+      → (counts.Lines count ≡ toldLines (linesOf text)) × (words ≡ sets words₀ 2 (entryWords (linesOf text .entries)))
+  unfolding entryWords
   end h =
       let e = linesFrom-end (suc mostNodes - count) text count at h in
       (ap counts.Lines (omega arith) ∙ (rw e at (inv .answered)), rw e at (inv .stored))
@@ -70,22 +70,22 @@ module _ (text words₀ words : List ℕ) (at count : ℕ) (inv : Reading text w
         let l : suc mostNodes - count ≡ suc (mostNodes - count) = omega (arith, inv .few) in
         rw (l, ← e) (linesFrom-some (mostNodes - count) text count at h)
 
-    pub stop : {r : Judged} {refusal : Refusal} → r ≡ toldNode (judged count (line text at)) → r ≡ Refused refusal
-        → (counts.Refused refusal ≡ toldLines (linesOf text)) × (words ≡ sets words₀ 2 (nodeWords (linesOf text .entries)))
-    unfolding nodeWords
+    pub stop : {r : JudgedLine} {refusal : ScheduleRefusal} → r ≡ toldNode (judged count (line text at)) → r ≡ Refused refusal
+        → (counts.Refused refusal ≡ toldLines (linesOf text)) × (words ≡ sets words₀ 2 (entryWords (linesOf text .entries)))
+    unfolding entryWords
     stop {refusal = refusal} d q =
         let e = rest (bad refusal) (refusal-told (judged count (line text at)) d q) in
         (rw e at (inv .answered), rw e at (inv .stored))
 
-    module _ {r : Judged} {parent watts next : ℕ} (d : r ≡ toldNode (judged count (line text at))) (q : r ≡ Node parent watts next) where
+    module _ {r : JudgedLine} {parent watts next : ℕ} (d : r ≡ toldNode (judged count (line text at))) (q : r ≡ Node parent watts next) where
       -- A line that passes is none past the 512th.
       pub few-lines : count < mostNodes
       few-lines =
           let told = node-told (judged count (line text at)) d q in
           range-is count (told .entry) (passed-is count (line text at) (told .entry) next (told .is) .range) .few
 
-      pub again : Reading text words₀ (set (set words (2 + 2 * count) parent) (2 + 2 * count + 1) watts) next (count + 1)
-      unfolding nodeWords
+      pub again : ReadingLines text words₀ (set (set words (2 + 2 * count) parent) (2 + 2 * count + 1) watts) next (count + 1)
+      unfolding entryWords
       again =
           let told = node-told (judged count (line text at)) d q in
           let e = rest (good (told .entry) next) (told .is) in

@@ -11,11 +11,11 @@ use borrow.Author.Tests.{eqb-true, eq-eqb, eqb-false}
 use Rattle.schedules.specs.Sizes.{sizes, isIn, isSize}
 use Rattle.outcomes.specs.Outcome.{accepted}
 use Rattle.outcomes.proofs.Outcomes.{unless-back, unless-is}
-use Rattle.schedules.specs.Schedule.{Ending, whole, stopped, linesOf, roomOf, tableOf, noLines, scheduledLines, scheduling}
+use Rattle.schedules.specs.Schedule.{ScheduleEnding, whole, stopped, linesOf, roomOf, tableOf, noLines, scheduledLines, scheduling}
 use Rattle.schedules.specs.Promises.{SizesRise, SizesAreTheTable, AcceptedIsWritten, WrittenIsRead, AnsweredExactly, ScheduleGivesRoom, FirstBytesDecide}
 use Rattle.schedules.proofs.SizeLaws as sizes
 use Rattle.schedules.proofs.TableLaws.{few-entries}
-use Rattle.schedules.specs.Written.{Pass}
+use Rattle.schedules.specs.Written.{LinesPass}
 use Rattle.schedules.proofs.RoomTable.{entries-pass, table-checked, table-written, node-of}
 use Rattle.schedules.proofs.ReadsText.{lines-read}
 use Rattle.schedules.proofs.WritesText.{lines-written}
@@ -72,7 +72,7 @@ accepted-is : (text table : List ℕ) (words : ℕ) → scheduling text words �
 unfolding scheduling
 accepted-is text table words e = ended (linesOf text .ending) refl e
   where
-    ended : (ending : Ending) → linesOf text .ending ≡ ending → scheduledLines (linesOf text .entries) ending words ≡ accepted table → AllLines text table
+    ended : (ending : ScheduleEnding) → linesOf text .ending ≡ ending → scheduledLines (linesOf text .entries) ending words ≡ accepted table → AllLines text table
     ended whole w e =
         let entries = linesOf text .entries in
         let some = unless-back (noLines entries) _ (tableOf entries) e .0 in
@@ -93,7 +93,7 @@ pub schedule-gives-room : ScheduleGivesRoom
 schedule-gives-room text table words e =
     let a = accepted-is text table words e in
     let entries = linesOf text .entries in
-    let p : Pass 0 entries = entries-pass 513 text 0 0 in
+    let p : LinesPass 0 entries = entries-pass 513 text 0 0 in
     rw (← a .is)
     (record {
       room = roomOf entries;

@@ -16,25 +16,25 @@ use Rattle.rooms.specs.Words.{NodeInRange}
 use Rattle.rooms.proofs.Tables.{Chain, RoomFits, Reads, table-reads}
 use Rattle.outcomes.specs.Outcome.{accepted}
 use Rattle.outcomes.proofs.Outcomes.{fitting-whole}
-use Rattle.rooms.specs.declared.Refusal.the-variants.{OutputTooShort}
+use Rattle.rooms.specs.declared.SheetRefusal.the-variants.{OutputTooShort}
 use Rattle.rooms.proofs.Outcomes.{writing-good}
 use Rattle.rooms.proofs.Promises.{refusal-nine}
 use Rattle.schedules.specs.Text.{line, good, bad}
 use Rattle.schedules.specs.Schedule.{rating, Judgement, judged, whole, onto, linesFrom, nodeOf, roomOf, tableOf}
-use Rattle.schedules.specs.Written.{Pass, none, more}
+use Rattle.schedules.specs.Written.{LinesPass, none, more}
 use Rattle.schedules.proofs.LineLaws.{range-is, rating-most, passed-is}
 use Rattle.schedules.specs.declared.Entry.{Entry}
 
 -- ---- Entries that pass
 
 -- The entries of a text pass.
-pub entries-pass : (most : ℕ) (text : List ℕ) (place at : ℕ) → Pass place (linesFrom most text place at .entries)
+pub entries-pass : (most : ℕ) (text : List ℕ) (place at : ℕ) → LinesPass place (linesFrom most text place at .entries)
 unfolding linesFrom
 entries-pass zero text place at = none
 entries-pass (suc most) text place at = go (leb (length text) at) (judged place (line text at)) refl (λ next. entries-pass most text (suc place) next)
   where
-    go : (t : Bool) (j : Judgement) → judged place (line text at) ≡ j → ((next : ℕ) → Pass (suc place) (linesFrom most text (suc place) next .entries))
-        → Pass place ((cond t (record { entries = []; ending = whole }) (onto j (λ next. linesFrom most text (suc place) next))) .entries)
+    go : (t : Bool) (j : Judgement) → judged place (line text at) ≡ j → ((next : ℕ) → LinesPass (suc place) (linesFrom most text (suc place) next .entries))
+        → LinesPass place ((cond t (record { entries = []; ending = whole }) (onto j (λ next. linesFrom most text (suc place) next))) .entries)
     go true j e further = none
     go false (good x next) e further = let p = passed-is place (line text at) x next e in more (p .size) (p .range) (further next)
     go false (bad q) e further = none
@@ -42,7 +42,7 @@ entries-pass (suc most) text place at = go (leb (length text) at) (judged place 
 -- ---- The room
 
 -- The nodes of entries that pass are in range; an entry at a place has a number that is one more.
-nodes-fit : {place : ℕ} {entries : List Entry} → Pass place entries → Chain (NodeInRange false) (λ own _. suc own) (suc place) (map nodeOf entries)
+nodes-fit : {place : ℕ} {entries : List Entry} → LinesPass place entries → Chain (NodeInRange false) (λ own _. suc own) (suc place) (map nodeOf entries)
 unfolding Chain
 nodes-fit none = tt
 nodes-fit (more {place} {e} s t p) =
@@ -50,7 +50,7 @@ nodes-fit (more {place} {e} s t p) =
 
 -- ---- The table
 
-module _ (entries : List Entry) (p : Pass 0 entries) (some : 1 ≤ length entries) (few : length entries ≤ mostNodes) where
+module _ (entries : List Entry) (p : LinesPass 0 entries) (some : 1 ≤ length entries) (few : length entries ≤ mostNodes) where
   room-fits : RoomFits 1 (roomOf entries)
   unfolding formOf Chain
   room-fits =

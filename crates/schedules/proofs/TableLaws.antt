@@ -20,14 +20,14 @@ use Rattle.schedules.specs.Text.{line}
 use Rattle.outcomes.specs.Outcome.{accepted, refused, tooShort, fitting, after}
 use Rattle.outcomes.proofs.Outcomes.{unless-stop, unless-pass, unless-either, unless-none, fitting-short, fitting-whole}
 use Rattle.schedules.specs.Text.{good, bad}
-use Rattle.schedules.specs.Schedule.{Judgement, judged, Ending, whole, stopped, onto, linesFrom, linesOf, rating, nodeOf, tableOf, ScheduleOutcome, noLines, scheduledLines, scheduling, answerOf, answerNumber, answerFigure, mostWords}
-use Rattle.schedules.specs.Nodes.{nodeWords}
+use Rattle.schedules.specs.Schedule.{Judgement, judged, ScheduleEnding, whole, stopped, onto, linesFrom, linesOf, rating, nodeOf, tableOf, ScheduleOutcome, noLines, scheduledLines, scheduling, answerOf, scheduleNumber, scheduleFigure, mostScheduleWords}
+use Rattle.schedules.specs.Nodes.{entryWords}
 use Rattle.schedules.specs.Call.{numbersOf}
 use Rattle.schedules.specs.Told.{counted, toldLines, written, InFront, writtenCount}
 use Rattle.schedules.proofs.LineLaws.{passed-is, range-is}
 use Rattle.schedules.specs.declared.Entry.{Entry}
-use Rattle.schedules.specs.declared.Refusal.{Refusal}
-use Rattle.schedules.specs.declared.Refusal.the-variants.{OutOfRange, TableTooShort}
+use Rattle.schedules.specs.declared.ScheduleRefusal.{ScheduleRefusal}
+use Rattle.schedules.specs.declared.ScheduleRefusal.the-variants.{OutOfRange, TableTooShort}
 use Rattle.schedules.specs.declared.Scheduled.{Scheduled}
 use Rattle.schedules.specs.declared.Scheduled.the-variants.{Accepted, Refused}
 use Rattle.schedules.specs.declared.lines.Counted.{Counted}
@@ -35,25 +35,25 @@ use Rattle.schedules.specs.declared.lines.Counted.the-variants as counts
 
 -- ---- Lengths
 
-pub length-nodeWords : (entries : List Entry) → length (nodeWords entries) ≡ 2 * length entries
-unfolding nodeWords
-length-nodeWords [] = refl
-length-nodeWords (e ∷ rest) = omega (arith, length-nodeWords rest)
+pub length-entryWords : (entries : List Entry) → length (entryWords entries) ≡ 2 * length entries
+unfolding entryWords
+length-entryWords [] = refl
+length-entryWords (e ∷ rest) = omega (arith, length-entryWords rest)
 
 -- The words of the entries are those of their nodes.
-nodes-words : (entries : List Entry) → nodeWords entries ≡ rowWords (wordsOfNode false) (map nodeOf entries)
-unfolding nodeWords rowWords
+nodes-words : (entries : List Entry) → entryWords entries ≡ rowWords (wordsOfNode false) (map nodeOf entries)
+unfolding entryWords rowWords
 nodes-words [] = refl
 nodes-words (e ∷ rest) = ap (λ (z : List ℕ). e .parent ∷ rating e ∷ z) (nodes-words rest)
 
 -- The table has its nodes' words, with version and counts around them.
-table-words : (entries : List Entry) → tableOf entries ≡ 1 ∷ length entries ∷ (nodeWords entries ++ (0 ∷ []))
+table-words : (entries : List Entry) → tableOf entries ≡ 1 ∷ length entries ∷ (entryWords entries ++ (0 ∷ []))
 unfolding formOf rowWords
 table-words entries = rw (nodes-words entries, length-map entries nodeOf)
 
 pub length-tableOf : (entries : List Entry) → length (tableOf entries) ≡ 3 + 2 * length entries
 length-tableOf entries =
-    ap length (table-words entries) ∙ omega (arith, length-append (nodeWords entries) (0 ∷ []), length-nodeWords entries)
+    ap length (table-words entries) ∙ omega (arith, length-append (entryWords entries) (0 ∷ []), length-entryWords entries)
 
 -- No more than 512 lines pass.
 few-from : (most : ℕ) (text : List ℕ) (place at : ℕ) → place ≤ mostNodes → place + length (linesFrom most text place at .entries) ≤ mostNodes
@@ -82,10 +82,10 @@ set-before l i (a ∷ t) j v h = set-before (set l i a) (suc i) t j v (omega ari
 
 -- The words of the nodes, then version and counts around them, are the table.
 table-sets : (words : List ℕ) (entries : List Entry) (count : ℕ) → length entries ≡ count
-    → set (set (set (sets words 2 (nodeWords entries)) 0 1) 1 count) (2 + 2 * count) 0 ≡ sets words 0 (tableOf entries)
+    → set (set (set (sets words 2 (entryWords entries)) 0 1) 1 count) (2 + 2 * count) 0 ≡ sets words 0 (tableOf entries)
 table-sets words entries count n =
-    let ns = nodeWords entries in
-    let place : 2 + length ns ≡ 2 + 2 * count = omega (arith, length-nodeWords entries) in
+    let ns = entryWords entries in
+    let place : 2 + length ns ≡ 2 + 2 * count = omega (arith, length-entryWords entries) in
     let front : set (set (sets words 2 ns) 0 1) 1 count ≡ sets (set (set words 0 1) 1 count) 2 ns =
     ap (λ (x : List ℕ). set x 1 count) (set-before words 2 ns 0 1 (omega arith)) ∙ set-before (set words 0 1) 2 ns 1 count (omega arith) in
     ap (λ (x : List ℕ). set x (2 + 2 * count) 0) front
@@ -100,7 +100,7 @@ pub record Whole (text : List ℕ) (count : ℕ) : Type 0 where
 pub whole-so : (text : List ℕ) {r : Counted} {count : ℕ} → r ≡ toldLines (linesOf text) → r ≡ counts.Lines count → Whole text count
 whole-so text {r = r} {count = count} d e = go (linesOf text .ending) refl d
   where
-    go : (ending : Ending) → linesOf text .ending ≡ ending → r ≡ counted (length (linesOf text .entries)) ending → Whole text count
+    go : (ending : ScheduleEnding) → linesOf text .ending ≡ ending → r ≡ counted (length (linesOf text .entries)) ending → Whole text count
     go whole is d = let n : length (linesOf text .entries) ≡ count = cc in record { ends = is; counts = n }
     go (stopped q) is d = absurd (suc-ne-zero 0 (cc))
 
@@ -115,15 +115,15 @@ module _ (text : List ℕ) (space : ℕ) where
   entries = linesOf text .entries
 
   -- A refused schedule has nothing in front.
-  refused-done : (words : List ℕ) {q : Refusal} → outcome ≡ refused q → (Refused q ≡ answerOf outcome) × InFront outcome words
+  refused-done : (words : List ℕ) {q : ScheduleRefusal} → outcome ≡ refused q → (Refused q ≡ answerOf outcome) × InFront outcome words
   refused-done words e = rw e (refl, record { is = refl })
 
-  pub line-refused : (words : List ℕ) {r : Counted} {q : Refusal} → r ≡ toldLines (linesOf text) → r ≡ counts.Refused q
+  pub line-refused : (words : List ℕ) {r : Counted} {q : ScheduleRefusal} → r ≡ toldLines (linesOf text) → r ≡ counts.Refused q
       → (Refused q ≡ answerOf outcome) × InFront outcome words
   unfolding scheduling
   line-refused words {r = r} {q = q} d e = refused-done words (go (linesOf text .ending) d)
     where
-      go : (ending : Ending) → r ≡ counted (length (linesOf text .entries)) ending → scheduledLines (linesOf text .entries) ending space ≡ refused q
+      go : (ending : ScheduleEnding) → r ≡ counted (length (linesOf text .entries)) ending → scheduledLines (linesOf text .entries) ending space ≡ refused q
       go whole d = absurd (suc-ne-zero 0 (cc))
       go (stopped p) d = let a : p ≡ q = cc in rw a
 
@@ -143,7 +143,7 @@ module _ (text : List ℕ) (space : ℕ) where
           refused-done words (fitted ∙ fitting-short TableTooShort (tableOf entries) space (omega arith) ∙ ap (λ (k : ℕ). refused (TableTooShort k)) n)
 
       -- The words of an accepted table, stored around those of the nodes.
-      pub stands : (words words₁ : List ℕ) → mostWords ≤ length words → words₁ ≡ sets words 2 (nodeWords (linesOf text .entries)) → 2 + 2 * count < space
+      pub stands : (words words₁ : List ℕ) → mostScheduleWords ≤ length words → words₁ ≡ sets words 2 (entryWords (linesOf text .entries)) → 2 + 2 * count < space
           → (Accepted (2 + 2 * count + 1) ≡ answerOf outcome) × InFront outcome (set (set (set words₁ 0 1) 1 count) (2 + 2 * count) 0)
       stands words words₁ long s h =
           let table = tableOf (linesOf text .entries) in
@@ -163,7 +163,7 @@ pub written-fits : (text : List ℕ) (space : ℕ) → length (written (scheduli
 unfolding scheduling
 written-fits text space = go (linesOf text .ending)
   where
-    go : (ending : Ending) → length (written (scheduledLines (linesOf text .entries) ending space)) ≤ space
+    go : (ending : ScheduleEnding) → length (written (scheduledLines (linesOf text .entries) ending space)) ≤ space
     go whole =
         let table = tableOf (linesOf text .entries) in
         unless-either (noLines (linesOf text .entries)) _ table (Fits space) (λ _. omega arith) (λ _.
@@ -193,9 +193,9 @@ module _ (outcome : ScheduleOutcome) {told : Scheduled} {count : ℕ} (is : told
     -- Stored in bytes, with the answer.
     pub stored : (table answer : List ℕ) {table′ answer′ : List ℕ} {number figure : ℕ} → length (written outcome) ≤ length table / 4 → 16 ≤ length answer
         → table′ ≡ sets table 0 (bytesOf (take (length table / 4) (take count words)))
-        → number ≡ answerNumber told → figure ≡ answerFigure told → answer′ ≡ answered 2 (number ∷ figure ∷ []) answer
+        → number ≡ scheduleNumber told → figure ≡ scheduleFigure told → answer′ ≡ answered 2 (number ∷ figure ∷ []) answer
         → OutcomeCall 2 numbersOf bytesOf outcome table answer 1 table′ answer′
     stored table answer fits long s k v a =
         let all : take (length table / 4) (take count words) ≡ written outcome = ap (take (length table / 4)) taken ∙ take-all (length table / 4) (written outcome) fits in
         call-done _ answer _ (omega arith) (s ∙ ap (λ (l : List ℕ). sets table 0 (bytesOf l)) all ∙ bytes-after (λ words. words) outcome table)
-        (answer-told answer (k ∙ ap answerNumber is) (v ∙ ap answerFigure is) a)
+        (answer-told answer (k ∙ ap scheduleNumber is) (v ∙ ap scheduleFigure is) a)

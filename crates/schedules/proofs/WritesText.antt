@@ -14,7 +14,7 @@ use Rattle.rooms.specs.Table.{mostNodes}
 use Rattle.schedules.specs.Sizes.{isSize}
 use Rattle.schedules.specs.Text.{byteAt, space, newline, isDigit, Step, good, bad, malformed, follow, byte, digits, number, field, line}
 use Rattle.schedules.specs.Schedule.{inRange, judged, whole, Lines, linesFrom, linesOf}
-use Rattle.schedules.specs.Written.{Decimal, digit, LineText, Written, Pass}
+use Rattle.schedules.specs.Written.{Decimal, digit, LineText, Written, LinesPass}
 use Rattle.schedules.specs.Written as written
 use Rattle.rooms.proofs.Fronts.{stands}
 use Rattle.schedules.proofs.SizeLaws.{size-most}
@@ -182,7 +182,7 @@ pub record FrontRead (entries : List Entry) (most : ℕ) (text : List ℕ) (plac
   pub enough : mostNodes < place′ + left
   pub is : linesFrom most text place at ≡ ahead entries (linesFrom left text place′ next)
 
-pub front-written : {entries : List Entry} {own : List ℕ} → Written entries own → (place : ℕ) → Pass place entries → (most : ℕ) (text : List ℕ) (at : ℕ) (rest : List ℕ)
+pub front-written : {entries : List Entry} {own : List ℕ} → Written entries own → (place : ℕ) → LinesPass place entries → (most : ℕ) (text : List ℕ) (at : ℕ) (rest : List ℕ)
     → drop at text ≡ own ++ rest → place ≤ mostNodes → mostNodes < place + most → FrontRead entries most text place at rest
 front-written written.none place p most text at rest d h k =
     record { next = at; bytes = d; left = most; place′ = place; further = omega arith; few = h; enough = k; is = refl }
@@ -205,7 +205,7 @@ front-written (written.line e others s t l w) place (written.more a b p) (suc mo
     }
 
 -- A text that is lines that pass, and nothing else.
-pub lines-written : {entries : List Entry} {text : List ℕ} → Written entries text → Pass 0 entries → linesOf text ≡ record { entries = entries; ending = whole }
+pub lines-written : {entries : List Entry} {text : List ℕ} → Written entries text → LinesPass 0 entries → linesOf text ≡ record { entries = entries; ending = whole }
 lines-written {entries} {text} w p =
     let f = front-written w 0 p (suc mostNodes) text 0 [] (sym (append-nil text)) (omega arith) (omega arith) in
     let ended : length text ≤ f .next = omega (arith, length-drop (f .next) text, ap length (f .bytes)) in

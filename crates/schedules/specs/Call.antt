@@ -6,11 +6,11 @@ use Prim.Native.Nat.{ℕ, _/_}
 use lib.ListN.{length}
 use Rattle.words.specs.Bytes.{bytesOf}
 use Rattle.calls.specs.Call.{OutcomeCall}
-use Rattle.schedules.specs.Schedule.{ScheduleOutcome, scheduling, answerOf, answerNumber, answerFigure}
+use Rattle.schedules.specs.Schedule.{ScheduleOutcome, scheduling, answerOf, scheduleNumber, scheduleFigure}
 
 -- The numbers of the answer to an outcome: its number, and its figure.
 abbrev pub numbersOf : ScheduleOutcome → List ℕ
-numbersOf outcome = answerNumber (answerOf outcome) ∷ answerFigure (answerOf outcome) ∷ []
+numbersOf outcome = scheduleNumber (answerOf outcome) ∷ scheduleFigure (answerOf outcome) ∷ []
 
 -- A schedule, called from C: the table holds a word for every four of its bytes.
 abbrev pub ScheduleCall : (text table answer : List ℕ) (r : ℕ) (table′ answer′ : List ℕ) → Type 0

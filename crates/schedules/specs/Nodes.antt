@@ -5,6 +5,6 @@ use Rattle.schedules.specs.Schedule.{rating}
 use Rattle.schedules.specs.declared.Entry.{Entry}
 
 -- Parent and rating of each.
-unfoldable pub nodeWords : List Entry → List ℕ
-nodeWords [] = []
-nodeWords (e ∷ rest) = e .parent ∷ rating e ∷ nodeWords rest
+unfoldable pub entryWords : List Entry → List ℕ
+entryWords [] = []
+entryWords (e ∷ rest) = e .parent ∷ rating e ∷ entryWords rest

@@ -13,9 +13,9 @@ use Rattle.rooms.specs.Limits.{nodeAt, checked}
 use Rattle.outcomes.specs.Outcome.{accepted}
 use Rattle.rooms.specs.Outcome.{writing}
 use Rattle.schedules.specs.Sizes.{sizes, isSize}
-use Rattle.schedules.specs.Schedule.{rating, inRange, whole, linesOf, tableOf, ScheduleOutcome, scheduling, answerOf, answerNumber}
-use Rattle.schedules.specs.Schedule.{answerFigure}
-use Rattle.schedules.specs.Written.{Written, Pass, LineFirst, LinesFirst}
+use Rattle.schedules.specs.Schedule.{rating, inRange, whole, linesOf, tableOf, ScheduleOutcome, scheduling, answerOf, scheduleNumber}
+use Rattle.schedules.specs.Schedule.{scheduleFigure}
+use Rattle.schedules.specs.Written.{Written, LinesPass, LineFirst, LinesFirst}
 use Rattle.schedules.specs.declared.Entry.{Entry}
 
 -- ---- The sizes
@@ -40,27 +40,27 @@ SizesAreTheTable = (amperes : ℕ) → (isSize amperes ≡ true) ↔ InTable amp
 -- A text that is accepted is the lines of its entries, written in decimal, and nothing else; each of them passes at its place.
 pub record WrittenText (text : List ℕ) : Type 0 where
   pub lines : Written (linesOf text .entries) text
-  pub pass : Pass 0 (linesOf text .entries)
+  pub pass : LinesPass 0 (linesOf text .entries)
 
 abbrev pub AcceptedIsWritten : Type 0
 AcceptedIsWritten = (text table : List ℕ) (words : ℕ) → scheduling text words ≡ accepted table → WrittenText text
 
 -- Every text that is written so is read: its lines are those entries, and end with the text.
 abbrev pub WrittenIsRead : Type 0
-WrittenIsRead = (entries : List Entry) (text : List ℕ) → Written entries text → Pass 0 entries
+WrittenIsRead = (entries : List Entry) (text : List ℕ) → Written entries text → LinesPass 0 entries
     → linesOf text ≡ record { entries = entries; ending = whole }
 
 -- ---- Answers
 
 -- An outcome's answer has this number and this figure.
 abbrev pub Tells : ScheduleOutcome → ℕ → ℕ → Type 0
-Tells outcome number figure = (answerNumber (answerOf outcome) ≡ number) × (answerFigure (answerOf outcome) ≡ figure)
+Tells outcome number figure = (scheduleNumber (answerOf outcome) ≡ number) × (scheduleFigure (answerOf outcome) ≡ figure)
 
 -- All of the text is lines that pass, at least one, whose table has so many words.
 pub record AllLines (text : List ℕ) (needed : ℕ) : Type 0 where
   pub entries : List Entry
   pub lines : Written entries text
-  pub pass : Pass 0 entries
+  pub pass : LinesPass 0 entries
   pub some : 1 ≤ length entries
   pub needs : length (tableOf entries) ≡ needed
 

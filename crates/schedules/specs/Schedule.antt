@@ -11,35 +11,35 @@ use Rattle.rooms.specs.Words as rooms
 use Rattle.schedules.specs.Sizes.{isSize}
 use Rattle.schedules.specs.Text.{Step, good, bad, malformed, line}
 use Rattle.schedules.specs.declared.Entry.{Entry}
-use Rattle.schedules.specs.declared.Refusal.{Refusal}
-use Rattle.schedules.specs.declared.Refusal.the-variants.{NotALine, NotASize, OutOfRange, TableTooShort}
+use Rattle.schedules.specs.declared.ScheduleRefusal.{ScheduleRefusal}
+use Rattle.schedules.specs.declared.ScheduleRefusal.the-variants.{NotALine, NotASize, OutOfRange, TableTooShort}
 use Rattle.schedules.specs.declared.Scheduled.{Scheduled}
 use Rattle.schedules.specs.declared.Scheduled.the-variants.{Accepted, Refused}
 
 -- ---- Numbers and places
 
 -- A refusal's number.
-abbrev pub refusalNumber : Refusal → ℕ
-refusalNumber (NotALine place) = 24
-refusalNumber (NotASize place) = 25
-refusalNumber (OutOfRange place) = 26
-refusalNumber (TableTooShort place) = 12
+abbrev pub scheduleRefusalNumber : ScheduleRefusal → ℕ
+scheduleRefusalNumber (NotALine place) = 24
+scheduleRefusalNumber (NotASize place) = 25
+scheduleRefusalNumber (OutOfRange place) = 26
+scheduleRefusalNumber (TableTooShort place) = 12
 
 -- A refusal's place: the line, counted from 0, or the length needed.
-abbrev pub refusalPlace : Refusal → ℕ
-refusalPlace (NotALine place) = place
-refusalPlace (NotASize place) = place
-refusalPlace (OutOfRange place) = place
-refusalPlace (TableTooShort place) = place
+abbrev pub scheduleRefusalPlace : ScheduleRefusal → ℕ
+scheduleRefusalPlace (NotALine place) = place
+scheduleRefusalPlace (NotASize place) = place
+scheduleRefusalPlace (OutOfRange place) = place
+scheduleRefusalPlace (TableTooShort place) = place
 
 -- An answer's number, 0 if accepted, and its figure: the word count, or the refusal's place.
-abbrev pub answerNumber : Scheduled → ℕ
-answerNumber (Accepted count) = 0
-answerNumber (Refused refusal) = refusalNumber refusal
+abbrev pub scheduleNumber : Scheduled → ℕ
+scheduleNumber (Accepted count) = 0
+scheduleNumber (Refused refusal) = scheduleRefusalNumber refusal
 
-abbrev pub answerFigure : Scheduled → ℕ
-answerFigure (Accepted count) = count
-answerFigure (Refused refusal) = refusalPlace refusal
+abbrev pub scheduleFigure : Scheduled → ℕ
+scheduleFigure (Accepted count) = count
+scheduleFigure (Refused refusal) = scheduleRefusalPlace refusal
 
 -- ---- One line
 
@@ -61,7 +61,7 @@ inRange place e = (leb leastVolts (e .volts) && leb (e .volts) mostVolts) && (le
 
 -- What the line at a place comes to: an entry and where the next line starts, or a refusal.
 abbrev pub Judgement : Type 0
-Judgement = outcomes.Step Refusal Entry
+Judgement = outcomes.Step ScheduleRefusal Entry
 
 -- Refused in order: not of the form (24), amperes not a size (25), volts or parent out of range (26).
 unfoldable pub judged : ℕ → Step Entry → Judgement
@@ -74,14 +74,14 @@ judged place (good e next) =
 -- ---- All lines
 
 -- How the lines end: with the last byte of the text, or at a refusal.
-pub data Ending : Type 0 where
-  whole : Ending
-  stopped : Refusal → Ending
+pub data ScheduleEnding : Type 0 where
+  whole : ScheduleEnding
+  stopped : ScheduleRefusal → ScheduleEnding
 
 -- The lines of a text: the entries in front, in order, and how they end.
 pub record Lines : Type 0 where
   pub entries : List Entry
-  pub ending : Ending
+  pub ending : ScheduleEnding
 
 -- A line, followed by the lines after it.
 abbrev pub onto : Judgement → (ℕ → Lines) → Lines
@@ -102,8 +102,8 @@ linesOf text = linesFrom (suc mostNodes) text 0 0
 -- ---- The table
 
 -- The most words of a table without servers: version, count of nodes, two for each of 512, count of servers.
-abbrev pub mostWords : ℕ
-mostWords = 1027
+abbrev pub mostScheduleWords : ℕ
+mostScheduleWords = 1027
 
 -- The room of the entries: a node for each, with the percent of version 1, and no servers.
 abbrev pub nodeOf : Entry → Node
@@ -118,14 +118,14 @@ tableOf entries = rooms.tableOf 1 (roomOf entries)
 
 -- What a schedule comes to: accepted with the words of its table, or refused.
 abbrev pub ScheduleOutcome : Type 0
-ScheduleOutcome = Outcome (List ℕ) Refusal
+ScheduleOutcome = Outcome (List ℕ) ScheduleRefusal
 
 -- There are no lines.
-abbrev pub noLines : List Entry → Reason Refusal
+abbrev pub noLines : List Entry → Reason ScheduleRefusal
 noLines entries = record { holds = eqb (length entries) 0; refusal = OutOfRange 0 }
 
 -- The table of lines. Refused: the first refusal of a line; no lines (26), at 0; the list too short (12), at the length needed.
-abbrev pub scheduledLines : List Entry → Ending → ℕ → ScheduleOutcome
+abbrev pub scheduledLines : List Entry → ScheduleEnding → ℕ → ScheduleOutcome
 scheduledLines entries whole words = unless (noLines entries ∷ tooShort TableTooShort words (length (tableOf entries)) ∷ []) (tableOf entries)
 scheduledLines entries (stopped refusal) words = refused refusal
 

@@ -5,16 +5,16 @@ use Prim.Native.Nat.{ℕ}
 use lib.ListN.{length, take}
 use Rattle.outcomes.specs.Outcome as outcomes
 use Rattle.schedules.specs.Text.{Step, good, bad, malformed}
-use Rattle.schedules.specs.Schedule.{rating, Judgement, Ending, whole, stopped, Lines, ScheduleOutcome}
+use Rattle.schedules.specs.Schedule.{rating, Judgement, ScheduleEnding, whole, stopped, Lines, ScheduleOutcome}
 use Rattle.schedules.specs.declared.Entry.{Entry}
 use Rattle.schedules.specs.declared.Scheduled.{Scheduled}
 use Rattle.schedules.specs.declared.Scheduled.the-variants.{Accepted, Refused}
 use Rattle.schedules.specs.declared.text.Number.{Number}
 use Rattle.schedules.specs.declared.text.Number.the-variants as numbers
-use Rattle.schedules.specs.declared.text.Line.{Line}
-use Rattle.schedules.specs.declared.text.Line.the-variants as lines
-use Rattle.schedules.specs.declared.lines.Judged.{Judged}
-use Rattle.schedules.specs.declared.lines.Judged.the-variants as judges
+use Rattle.schedules.specs.declared.text.ScheduleLine.{ScheduleLine}
+use Rattle.schedules.specs.declared.text.ScheduleLine.the-variants as lines
+use Rattle.schedules.specs.declared.lines.JudgedLine.{JudgedLine}
+use Rattle.schedules.specs.declared.lines.JudgedLine.the-variants as judges
 use Rattle.schedules.specs.declared.lines.Counted.{Counted}
 use Rattle.schedules.specs.declared.lines.Counted.the-variants as counts
 
@@ -24,17 +24,17 @@ toldNumber (good value next) = numbers.Value value next
 toldNumber (bad malformed) = numbers.Nothing
 
 -- An entry and the place after its line.
-unfoldable pub toldLine : Step Entry → Line
+unfoldable pub toldLine : Step Entry → ScheduleLine
 toldLine (good e next) = lines.Of e next
 toldLine (bad malformed) = lines.Nothing
 
 -- A line's node and the place after the line, or its refusal.
-unfoldable pub toldNode : Judgement → Judged
+unfoldable pub toldNode : Judgement → JudgedLine
 toldNode (good e next) = judges.Node (e .parent) (rating e) next
 toldNode (bad refusal) = judges.Refused refusal
 
 -- The count of lines, or the first refusal.
-abbrev pub counted : ℕ → Ending → Counted
+abbrev pub counted : ℕ → ScheduleEnding → Counted
 counted count whole = counts.Lines count
 counted count (stopped refusal) = counts.Refused refusal
 

@@ -30,10 +30,10 @@ pub data Written : List Entry → List ℕ → Type 0 where
   line : (e : Entry) (rest : List Entry) (s t : List ℕ) → LineText e s → Written rest t → Written (e ∷ rest) (s ++ t)
 
 -- Each entry has a size, and is in range at its place, the first being at a given one.
-pub data Pass : ℕ → List Entry → Type 0 where
-  none : {place : ℕ} → Pass place []
-  more : {place : ℕ} {e : Entry} {rest : List Entry} → isSize (e .amperes) ≡ true → inRange place e ≡ true → Pass (suc place) rest
-      → Pass place (e ∷ rest)
+pub data LinesPass : ℕ → List Entry → Type 0 where
+  none : {place : ℕ} → LinesPass place []
+  more : {place : ℕ} {e : Entry} {rest : List Entry} → isSize (e .amperes) ≡ true → inRange place e ≡ true → LinesPass (suc place) rest
+      → LinesPass place (e ∷ rest)
 
 -- ---- What a text begins with
 
@@ -57,5 +57,5 @@ pub record LinesFirst (count : ℕ) (text rest : List ℕ) : Type 0 where
   pub own : List ℕ
   pub is : text ≡ own ++ rest
   pub lines : Written entries own
-  pub pass : Pass 0 entries
+  pub pass : LinesPass 0 entries
   pub counted : length entries ≡ count

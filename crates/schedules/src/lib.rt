@@ -3,7 +3,7 @@ ghost use mathlib.Core.Path.{_≡_};
 ghost use Prim.Native.Nat.{_≤_};
 ghost use lib.ListN.{length};
 ghost use Rattle.outcomes.specs.Outcome.{after};
-ghost use Rattle.schedules.specs.Schedule.{refusalNumber, refusalPlace, answerNumber, answerFigure, mostWords, scheduling, answerOf};
+ghost use Rattle.schedules.specs.Schedule.{scheduleRefusalNumber, scheduleRefusalPlace, scheduleNumber, scheduleFigure, mostScheduleWords, scheduling, answerOf};
 ghost use Rattle.schedules.specs.Call.{ScheduleCall};
 ghost use Rattle.schedules.specs.Told.{InFront, writtenCount};
 use crate::lines::Counted;
@@ -21,7 +21,7 @@ pub struct Entry {
 }
 
 // Why a schedule is turned back, and where: a line by its place, counted from 0, or the length that the table needs.
-pub enum Refusal {
+pub enum ScheduleRefusal {
     NotALine(usize),
     NotASize(usize),
     OutOfRange(usize),
@@ -31,31 +31,31 @@ pub enum Refusal {
 // The answer on a schedule: accepted with the count of words, or refused.
 pub enum Scheduled {
     Accepted(usize),
-    Refused(Refusal),
+    Refused(ScheduleRefusal),
 }
 
-impl Refusal {
+impl ScheduleRefusal {
     // The refusal's number.
     pub fn number(self) -> u64
-        ensures result { λ r. ⌜ r ≡ refusalNumber self ⌝ }
+        ensures result { λ r. ⌜ r ≡ scheduleRefusalNumber self ⌝ }
     {
         match self {
-            Refusal::NotALine(_) => 24,
-            Refusal::NotASize(_) => 25,
-            Refusal::OutOfRange(_) => 26,
-            Refusal::TableTooShort(_) => 12,
+            ScheduleRefusal::NotALine(_) => 24,
+            ScheduleRefusal::NotASize(_) => 25,
+            ScheduleRefusal::OutOfRange(_) => 26,
+            ScheduleRefusal::TableTooShort(_) => 12,
         }
     }
 
     // The refusal's place.
     pub fn place(self) -> usize
-        ensures result { λ r. ⌜ r ≡ refusalPlace self ⌝ }
+        ensures result { λ r. ⌜ r ≡ scheduleRefusalPlace self ⌝ }
     {
         match self {
-            Refusal::NotALine(place) => place,
-            Refusal::NotASize(place) => place,
-            Refusal::OutOfRange(place) => place,
-            Refusal::TableTooShort(place) => place,
+            ScheduleRefusal::NotALine(place) => place,
+            ScheduleRefusal::NotASize(place) => place,
+            ScheduleRefusal::OutOfRange(place) => place,
+            ScheduleRefusal::TableTooShort(place) => place,
         }
     }
 }
@@ -63,7 +63,7 @@ impl Refusal {
 impl Scheduled {
     // The refusal's number, or 0.
     pub fn number(self) -> u64
-        ensures result { λ r. ⌜ r ≡ answerNumber self ⌝ }
+        ensures result { λ r. ⌜ r ≡ scheduleNumber self ⌝ }
     {
         match self {
             Scheduled::Accepted(_) => 0,
@@ -73,7 +73,7 @@ impl Scheduled {
 
     // The count of words, or the refusal's place.
     pub fn figure(self) -> usize
-        ensures result { λ r. ⌜ r ≡ answerFigure self ⌝ }
+        ensures result { λ r. ⌜ r ≡ scheduleFigure self ⌝ }
     {
         match self {
             Scheduled::Accepted(count) => count,
@@ -83,7 +83,7 @@ impl Scheduled {
 }
 
 // The words of the longest table without servers.
-const MOST_WORDS: usize = 1027;
+const MOST_SCHEDULE_WORDS: usize = 1027;
 
 // The table of a schedule, at the front of the list. Refused, it leaves the list unchanged.
 pub fn schedule(text: &[u8], table: &mut [u32]) -> Scheduled
@@ -91,7 +91,7 @@ pub fn schedule(text: &[u8], table: &mut [u32]) -> Scheduled
     ensures table { λ _. ⌜ now (table .exit) ≡ after (λ words. words) (scheduling (now (text .entry)) (length (now (table .entry))))
         (now (table .entry)) ⌝ }
 {
-    let mut words = [0u32; MOST_WORDS];
+    let mut words = [0u32; MOST_SCHEDULE_WORDS];
     schedule_by(text, &mut words, table)
 }
 
@@ -99,13 +99,13 @@ pub fn schedule(text: &[u8], table: &mut [u32]) -> Scheduled
 pub fn schedule_bytes(text: &[u8], table: &mut [u8], answer: &mut [u8]) -> u32
     ensures called { λ r. ⌜ ScheduleCall (now (text .entry)) (now (table .entry)) (now (answer .entry)) r (now (table .exit)) (now (answer .exit)) ⌝ }
 {
-    let mut words = [0u32; MOST_WORDS];
+    let mut words = [0u32; MOST_SCHEDULE_WORDS];
     schedule_bytes_by(text, &mut words, table, answer)
 }
 
 // A schedule by way of a list of its own, which takes the words until all is checked.
 fn schedule_by(text: &[u8], words: &mut [u32], table: &mut [u32]) -> Scheduled
-    requires words_long { ⌜ mostWords ≤ length (now words) ⌝ }
+    requires words_long { ⌜ mostScheduleWords ≤ length (now words) ⌝ }
     ensures answer { λ r. ⌜ r ≡ answerOf (scheduling (now (text .entry)) (length (now (table .entry)))) ⌝ }
     ensures table { λ _. ⌜ now (table .exit) ≡ after (λ words. words) (scheduling (now (text .entry)) (length (now (table .entry))))
         (now (table .entry)) ⌝ }
@@ -118,7 +118,7 @@ fn schedule_by(text: &[u8], words: &mut [u32], table: &mut [u32]) -> Scheduled
 
 // The C call by way of a list of words, of which those of an accepted table are stored.
 fn schedule_bytes_by(text: &[u8], words: &mut [u32], table: &mut [u8], answer: &mut [u8]) -> u32
-    requires words_long { ⌜ mostWords ≤ length (now words) ⌝ }
+    requires words_long { ⌜ mostScheduleWords ≤ length (now words) ⌝ }
     ensures called { λ r. ⌜ ScheduleCall (now (text .entry)) (now (table .entry)) (now (answer .entry)) r (now (table .exit)) (now (answer .exit)) ⌝ }
 {
     if answer.len() < ANSWER_BYTES {
@@ -133,7 +133,7 @@ fn schedule_bytes_by(text: &[u8], words: &mut [u32], table: &mut [u8], answer: &
 
 // The answer on a text whose table is to go to a list of `space` words. An accepted table stands at the front of `words`.
 fn schedule_words(text: &[u8], words: &mut [u32], space: usize) -> Scheduled
-    requires words_long { ⌜ mostWords ≤ length (now words) ⌝ }
+    requires words_long { ⌜ mostScheduleWords ≤ length (now words) ⌝ }
     ensures answer { λ r. ⌜ r ≡ answerOf (scheduling (now (text .entry)) space) ⌝ }
     ensures words { λ _. ⌜ InFront (scheduling (now (text .entry)) space) (now (words .exit)) ⌝ }
 {
@@ -145,11 +145,11 @@ fn schedule_words(text: &[u8], words: &mut [u32], space: usize) -> Scheduled
         }
     };
     if count == 0 {
-        return Scheduled::Refused(Refusal::OutOfRange(0));
+        return Scheduled::Refused(ScheduleRefusal::OutOfRange(0));
     }
     let servers = 2 + 2 * count;
     if space <= servers {
-        return Scheduled::Refused(Refusal::TableTooShort(servers + 1));
+        return Scheduled::Refused(ScheduleRefusal::TableTooShort(servers + 1));
     }
     words[0] = 1;
     words[1] = count as u32;

@@ -4,26 +4,26 @@ ghost use Prim.Native.Nat.{_≤_};
 ghost use lib.ListN.{length};
 ghost use lib.Seq.{sets};
 ghost use Rattle.schedules.specs.Text.{line};
-ghost use Rattle.schedules.specs.Schedule.{inRange, judged, linesOf, mostWords};
-ghost use Rattle.schedules.specs.Nodes.{nodeWords};
+ghost use Rattle.schedules.specs.Schedule.{inRange, judged, linesOf, mostScheduleWords};
+ghost use Rattle.schedules.specs.Nodes.{entryWords};
 ghost use Rattle.schedules.specs.Told.{toldNode, toldLines};
 use crate::Entry;
-use crate::Refusal;
+use crate::ScheduleRefusal;
 use crate::sizes::is_size;
-use crate::text::Line;
+use crate::text::ScheduleLine;
 use crate::text::read_line;
 use rooms::MOST_NODES;
 
 // The node of a line and the place after the line, or its refusal.
-pub enum Judged {
+pub enum JudgedLine {
     Node(u32, u32, usize),
-    Refused(Refusal),
+    Refused(ScheduleRefusal),
 }
 
 // How many lines there are, or the first refusal.
 pub enum Counted {
     Lines(usize),
-    Refused(Refusal),
+    Refused(ScheduleRefusal),
 }
 
 const LEAST_VOLTS: u32 = 100;
@@ -50,40 +50,40 @@ fn in_range(entry: Entry, place: usize) -> bool
 }
 
 // The line that starts at `at`, judged as the one at a place.
-fn judge_line(text: &[u8], at: usize, place: usize) -> Judged
+fn judge_line(text: &[u8], at: usize, place: usize) -> JudgedLine
     ensures result { λ r. ⌜ r ≡ toldNode (judged place (line (now (text .entry)) at)) ⌝ }
 {
     let read = read_line(text, at);
-    let Line::Of(entry, next) = read else {
-        return Judged::Refused(Refusal::NotALine(place));
+    let ScheduleLine::Of(entry, next) = read else {
+        return JudgedLine::Refused(ScheduleRefusal::NotALine(place));
     };
     if !is_size(entry.amperes) {
-        return Judged::Refused(Refusal::NotASize(place));
+        return JudgedLine::Refused(ScheduleRefusal::NotASize(place));
     }
     if !in_range(entry, place) {
-        return Judged::Refused(Refusal::OutOfRange(place));
+        return JudgedLine::Refused(ScheduleRefusal::OutOfRange(place));
     }
-    Judged::Node(entry.parent, entry.amperes * entry.volts, next)
+    JudgedLine::Node(entry.parent, entry.amperes * entry.volts, next)
 }
 
 // Judges all lines. The words of their nodes go to the list from index 2 on.
 pub fn read_lines(text: &[u8], words: &mut [u32]) -> Counted
-    requires words_long { ⌜ mostWords ≤ length (now words) ⌝ }
+    requires words_long { ⌜ mostScheduleWords ≤ length (now words) ⌝ }
     ensures result { λ r. ⌜ r ≡ toldLines (linesOf (now (text .entry))) ⌝ }
-    ensures words { λ _. ⌜ now (words .exit) ≡ sets (now (words .entry)) 2 (nodeWords (linesOf (now (text .entry)) .entries)) ⌝ }
+    ensures words { λ _. ⌜ now (words .exit) ≡ sets (now (words .entry)) 2 (entryWords (linesOf (now (text .entry)) .entries)) ⌝ }
 {
     let mut at = 0;
     let mut count = 0;
     while at < text.len() {
         match judge_line(text, at, count) {
-            Judged::Node(parent, watts, next) => {
+            JudgedLine::Node(parent, watts, next) => {
                 let index = 2 + 2 * count;
                 words[index] = parent;
                 words[index + 1] = watts;
                 count += 1;
                 at = next;
             }
-            Judged::Refused(refusal) => return Counted::Refused(refusal),
+            JudgedLine::Refused(refusal) => return Counted::Refused(refusal),
         }
     }
     Counted::Lines(count)

@@ -2,9 +2,9 @@
 ghost use mathlib.Core.Path.{_≡_};
 ghost use Rattle.schedules.specs.Sizes.{isSize};
 
-const COUNT: usize = 37;
+const SIZE_COUNT: usize = 37;
 
-const SIZES: [u32; COUNT] = [
+const SIZES: [u32; SIZE_COUNT] = [
     15,
     20,
     25,
@@ -48,7 +48,7 @@ const SIZES: [u32; COUNT] = [
 pub fn is_size(amperes: u32) -> bool
     ensures result { λ r. ⌜ r ≡ isSize amperes ⌝ }
 {
-    for i in 0..COUNT {
+    for i in 0..SIZE_COUNT {
         let size = SIZES[i];
         if amperes <= size {
             return amperes == size;

@@ -13,7 +13,7 @@ pub enum Number {
 }
 
 // The entry of a line and the place after it, or nothing of the form.
-pub enum Line {
+pub enum ScheduleLine {
     Of(Entry, usize),
     Nothing,
 }
@@ -77,22 +77,22 @@ fn read_field(text: &[u8], at: usize, end: u8) -> Number
 }
 
 // The line that starts at a place.
-pub fn read_line(text: &[u8], at: usize) -> Line
+pub fn read_line(text: &[u8], at: usize) -> ScheduleLine
     ensures result { λ r. ⌜ r ≡ toldLine (line (now (text .entry)) at) ⌝ }
 {
     let first = read_field(text, at, b' ');
     let Number::Value(parent, at_amperes) = first else {
-        return Line::Nothing;
+        return ScheduleLine::Nothing;
     };
     let second = read_field(text, at_amperes, b' ');
     let Number::Value(amperes, at_volts) = second else {
-        return Line::Nothing;
+        return ScheduleLine::Nothing;
     };
     let third = read_field(text, at_volts, b'\n');
     let Number::Value(volts, next) = third else {
-        return Line::Nothing;
+        return ScheduleLine::Nothing;
     };
-    Line::Of(
+    ScheduleLine::Of(
         Entry {
             parent,
             amperes,

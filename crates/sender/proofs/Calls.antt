@@ -9,7 +9,7 @@ use Rattle.words.specs.Bytes.{bytesOf}
 use Rattle.calls.specs.Call.{answered}
 use Rattle.calls.proofs.Calls.{two-of-three, answer-told, call-done}
 use Rattle.sender.specs.Period.{serversFrom, namedCount}
-use Rattle.sender.specs.Outcome.{sending, answerOf, refusalNumber, refusalPlace}
+use Rattle.sender.specs.Outcome.{sending, answerOf, sendRefusalNumber, sendRefusalPlace}
 use Rattle.sender.specs.Call.{sentNumbers, SendCall}
 use Rattle.sender.specs.declared.Sent.{Sent}
 use Rattle.sender.specs.declared.Sent.the-variants.{Accepted, Refused}
@@ -24,7 +24,7 @@ module _ (sent : Sent) (answer : List ℕ) {answer′ : List ℕ} where
       → answer′ ≡ answered 3 (sentNumbers sent) answer
   accepted-numbers e a = rw e a
 
-  pub refused-numbers : {q : SendRefusal} {number place : ℕ} → sent ≡ Refused q → 24 ≤ length answer → number ≡ refusalNumber q → place ≡ refusalPlace q
+  pub refused-numbers : {q : SendRefusal} {number place : ℕ} → sent ≡ Refused q → 24 ≤ length answer → number ≡ sendRefusalNumber q → place ≡ sendRefusalPlace q
       → answer′ ≡ answered 2 (number ∷ place ∷ []) answer → answer′ ≡ answered 3 (sentNumbers sent) answer
   refused-numbers e long n p a = rw e (answer-told answer n p a ∙ two-of-three _ answer long)
 

@@ -46,25 +46,25 @@ answerOf (refused refusal) = Refused refusal
 -- ---- Numbers and places
 
 -- A refusal's number.
-abbrev pub refusalNumber : SendRefusal → ℕ
-refusalNumber NoMessages = 27
-refusalNumber PositionOutOfRange = 28
-refusalNumber (ListTooShort needed) = 12
+abbrev pub sendRefusalNumber : SendRefusal → ℕ
+sendRefusalNumber NoMessages = 27
+sendRefusalNumber PositionOutOfRange = 28
+sendRefusalNumber (ListTooShort needed) = 12
 
 -- A refusal's place. That of a short list is how many servers would be named.
-abbrev pub refusalPlace : SendRefusal → ℕ
-refusalPlace NoMessages = 0
-refusalPlace PositionOutOfRange = 1
-refusalPlace (ListTooShort needed) = needed
+abbrev pub sendRefusalPlace : SendRefusal → ℕ
+sendRefusalPlace NoMessages = 0
+sendRefusalPlace PositionOutOfRange = 1
+sendRefusalPlace (ListTooShort needed) = needed
 
 -- An answer's number, 0 if accepted, and its figure: how many servers were named, or the refusal's place.
 abbrev pub sentNumber : Sent → ℕ
 sentNumber (Accepted named next) = 0
-sentNumber (Refused refusal) = refusalNumber refusal
+sentNumber (Refused refusal) = sendRefusalNumber refusal
 
 abbrev pub sentFigure : Sent → ℕ
 sentFigure (Accepted named next) = named
-sentFigure (Refused refusal) = refusalPlace refusal
+sentFigure (Refused refusal) = sendRefusalPlace refusal
 
 -- An answer's second value: the new position. A refusal has none, for which 0 stands here; the call writes none.
 abbrev pub sentPosition : Sent → ℕ

@@ -5,7 +5,7 @@ ghost use Prim.Native.Nat.{_≤_, _<_, min};
 ghost use lib.ListN.{length};
 ghost use Rattle.outcomes.specs.Outcome.{after};
 ghost use Rattle.sender.specs.Period.{following, serversFrom, positionAfter};
-ghost use Rattle.sender.specs.Outcome.{mostServers, inRange, sending, answerOf, refusalNumber, refusalPlace, sentNumber, sentFigure};
+ghost use Rattle.sender.specs.Outcome.{mostServers, inRange, sending, answerOf, sendRefusalNumber, sendRefusalPlace, sentNumber, sentFigure};
 ghost use Rattle.calls.specs.Call.{answered};
 ghost use Rattle.sender.specs.Call.{sentNumbers, SendCall};
 use calls::LONG_ANSWER_BYTES;
@@ -30,7 +30,7 @@ pub enum Sent {
 impl SendRefusal {
     // The refusal's number.
     pub fn number(self) -> u64
-        ensures result { λ r. ⌜ r ≡ refusalNumber self ⌝ }
+        ensures result { λ r. ⌜ r ≡ sendRefusalNumber self ⌝ }
     {
         match self {
             SendRefusal::NoMessages => 27,
@@ -41,7 +41,7 @@ impl SendRefusal {
 
     // The refusal's place.
     pub fn place(self) -> u64
-        ensures result { λ r. ⌜ r ≡ refusalPlace self ⌝ }
+        ensures result { λ r. ⌜ r ≡ sendRefusalPlace self ⌝ }
     {
         match self {
             SendRefusal::NoMessages => 0,

@@ -18,7 +18,7 @@ use Rattle.rooms.specs.Limits.{checked}
 use Rattle.outcomes.specs.Outcome.{accepted}
 use Rattle.outcomes.proofs.Outcomes.{fitting-fits}
 use Rattle.rooms.specs.Outcome.{reading, writing}
-use Rattle.rooms.specs.declared.Refusal.the-variants.{OutputTooShort}
+use Rattle.rooms.specs.declared.SheetRefusal.the-variants.{OutputTooShort}
 use Rattle.rooms.proofs.Reach.{length-small, words-small}
 use Rattle.rooms.proofs.Outcomes.{reading-is, writing-is, writing-good}
 use Rattle.rooms.proofs.Lent.{reading-fits}

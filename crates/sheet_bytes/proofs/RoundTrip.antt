@@ -15,10 +15,10 @@ use Rattle.words.proofs.Bytes.{length-littleEndian}
 use Rattle.calls.specs.Call.{answerBytes, holdsAnswer, answered, OutcomeCall}
 use Rattle.calls.proofs.Calls.{answered-long, holdsAnswer-short, holdsAnswer-long}
 use Rattle.numbers.specs.declared.Fault.the-variants.{TooLong, NotShortest, CutShort}
-use Rattle.rooms.specs.declared.Refusal.{Refusal}
-use Rattle.rooms.specs.declared.Refusal.the-variants.{BadNumber, WordMissing, WordOutOfRange, GreatestBelowLeast, SharesNotWhole, WordsLeftOver, LowsAboveLimit, OutputTooShort}
+use Rattle.rooms.specs.declared.SheetRefusal.{SheetRefusal}
+use Rattle.rooms.specs.declared.SheetRefusal.the-variants.{BadNumber, WordMissing, WordOutOfRange, GreatestBelowLeast, SharesNotWhole, WordsLeftOver, LowsAboveLimit, OutputTooShort}
 use Rattle.outcomes.specs.Outcome.{accepted, refused}
-use Rattle.rooms.specs.Outcome.{SheetOutcome, refusalNumber}
+use Rattle.rooms.specs.Outcome.{SheetOutcome, sheetRefusalNumber}
 use Rattle.sheet_bytes.specs.Call.{numbersOf}
 use Rattle.sheet_bytes.specs.Promises.{numberOf, Accepted}
 
@@ -103,7 +103,7 @@ module _ (number figure : ℕ) (answer : List ℕ) (h : 16 ≤ length answer) wh
   figure-of-told small = rw figure-told (numberOf-littleEndian 8 figure (eight-carry figure small))
 
 -- A refusal's number is none of an accepted call.
-refusal-number : (q : Refusal) → (0 < refusalNumber q) × (refusalNumber q ≤ 12)
+refusal-number : (q : SheetRefusal) → (0 < sheetRefusalNumber q) × (sheetRefusalNumber q ≤ 12)
 refusal-number (BadNumber TooLong p) = omega arith
 refusal-number (BadNumber NotShortest p) = omega arith
 refusal-number (BadNumber CutShort p) = omega arith
@@ -146,8 +146,8 @@ module _ (output : List ℕ → List ℕ) (buffer answer : List ℕ) {r : ℕ} {
   wrote (refused q) call a =
       let long = returned-one answer (call .returned) (a .returned) in
       let n = refusal-number q in
-      let z : refusalNumber q ≡ 0 =
-      sym (number-of-told (refusalNumber q) _ answer long (omega arith)) ∙ ap (λ (l : List ℕ). numberOf (take 8 l)) (sym (call .answer-after)) ∙ a .number in
+      let z : sheetRefusalNumber q ≡ 0 =
+      sym (number-of-told (sheetRefusalNumber q) _ answer long (omega arith)) ∙ ap (λ (l : List ℕ). numberOf (take 8 l)) (sym (call .answer-after)) ∙ a .number in
       absurd (omega arith)
 
   -- And the other way round: of an outcome that is accepted, a call with space for its answer tells so.

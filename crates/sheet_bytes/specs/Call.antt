@@ -6,11 +6,11 @@ use Prim.Native.Nat.{ℕ, _/_}
 use lib.ListN.{length}
 use Rattle.words.specs.Bytes.{wordsOf, bytesOf}
 use Rattle.calls.specs.Call.{OutcomeCall}
-use Rattle.rooms.specs.Outcome.{SheetOutcome, answerOf, answerNumber, answerFigure, reading, writing}
+use Rattle.rooms.specs.Outcome.{SheetOutcome, answerOf, sheetNumber, sheetFigure, reading, writing}
 
 -- The numbers of the answer to an outcome: its number, and its figure.
 abbrev pub numbersOf : SheetOutcome → List ℕ
-numbersOf outcome = answerNumber (answerOf outcome) ∷ answerFigure (answerOf outcome) ∷ []
+numbersOf outcome = sheetNumber (answerOf outcome) ∷ sheetFigure (answerOf outcome) ∷ []
 
 -- Read, called from C: the table holds a word for every four of its bytes.
 abbrev pub ReadCall : (sheet table answer : List ℕ) (r : ℕ) (table′ answer′ : List ℕ) → Type 0

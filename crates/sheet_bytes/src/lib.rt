@@ -6,8 +6,8 @@ ghost use Rattle.rooms.specs.Table.{mostWords};
 ghost use Rattle.sheet_bytes.specs.Call.{ReadCall, WriteCall};
 ghost use Rattle.sheet_bytes.specs.Counts.{writtenCount};
 use calls::ANSWER_BYTES;
-use rooms::Answer;
 use rooms::DECIDING_WORDS;
+use rooms::SheetAnswer;
 
 // Read, called from C: the words of the sheet, at the front of the table, and the answer in a buffer of its own. Returns 1; or 0 where
 // that buffer is too short.
@@ -56,11 +56,11 @@ fn write_by(table: &[u8], words: &mut [u32], sheet: &mut [u8], answer: &mut [u8]
 }
 
 // How many entries an answer says were written: none where refused.
-fn written_count(told: Answer) -> usize
+fn written_count(told: SheetAnswer) -> usize
     ensures counted { λ r. ⌜ r ≡ writtenCount told ⌝ }
 {
     match told {
-        Answer::Accepted(count) => count,
-        Answer::Refused(_) => 0,
+        SheetAnswer::Accepted(count) => count,
+        SheetAnswer::Refused(_) => 0,
     }
 }

@@ -3,7 +3,7 @@
 // An entry that was not written holds 7 (Read) or ee (Write).
 // The expected output, the file `stdout`, is written from the document.
 ghost use Prim.Native.Nat.{_≤_};
-use rooms::Answer;
+use rooms::SheetAnswer;
 use samples::ROOM_H;
 use samples::ROOM_S;
 
@@ -46,7 +46,7 @@ fn print_bytes(bytes: &[u8]) {
 }
 
 // The start of a line: operation, case, number and figure.
-fn print_answer(operation: &[u8], case: &[u8], answer: Answer) {
+fn print_answer(operation: &[u8], case: &[u8], answer: SheetAnswer) {
     print(operation);
     print(b" ");
     print(case);

@@ -2,8 +2,8 @@
 use borrow.Author.Needs.{needs}
 use mathlib.Core.Path.{_≡_, refl, ap}
 use lib.ListN.{length}
-use Rattle.demands.specs.Reading.{held, with, emptyLine}
-use Rattle.demands.specs.declared.Reading.{Reading}
+use Rattle.demands.specs.Reading.{heldReading, with, emptyLine}
+use Rattle.demands.specs.declared.DemandReading.{DemandReading}
 use Rattle.hutplan.specs.Input.{FedPiece}
 use Rattle.hutplan.proofs.Inputs.{fed-none, fed-more, read-text}
 use Rattle.hutplan.proofs.read_demands.Statement.{statement}
@@ -11,13 +11,13 @@ use Rattle.hutplan.proofs.read_demands.Tie as tie
 
 abbrev Inv-loop : tie.InvT-loop
 Inv-loop list₀ reading₀ turns₀ list reading turns =
-    FedPiece (held (with 0 emptyLine) list₀) (held reading list) × (length list ≡ length list₀)
+    FedPiece (heldReading (with 0 emptyLine) list₀) (heldReading reading list) × (length list ≡ length list₀)
 
 abbrev μ-loop : tie.MeasureT-loop
 μ-loop list₀ reading₀ turns₀ list reading turns = turns
 
 loop-holds : tie.Need-loop-holds Inv-loop μ-loop
-loop-holds c = (fed-none (ap (λ (r : Reading). held r (c .before .before .args .list .now)) (c .start .ensures)), refl)
+loop-holds c = (fed-none (ap (λ (r : DemandReading). heldReading r (c .before .before .args .list .now)) (c .start .ensures)), refl)
 
 loop-again : tie.Need-loop-again Inv-loop μ-loop
 loop-again c =

@@ -1,5 +1,5 @@
 -- `list_nodes` meets its contract: before each turn the list has the nodes of the cords passed.
-use mathlib.Core.Path.{refl, sym, ap, _∙_}
+use mathlib.Core.Path.{refl, sym, _∙_}
 use Prim.Native.Nat.{_-_, _≤_}
 use native.Mathlib.Omega.{arith}
 use lib.ListN.{length}

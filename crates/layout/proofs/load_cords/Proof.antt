@@ -252,8 +252,7 @@ load-cords-spec =
     μ-loop2
     Inv-loop
     μ-loop
-    (λ c κs. search needs)
-    (λ c κs. search needs)
+    (λ c κs. search needs) (λ c κs. search needs)
     loop-holds
     mul-short
     shared-slice-read-short

@@ -3,7 +3,7 @@ use Prim.Native.Nat.{ℕ}
 use mathlib.Core.Path.{refl, sym, ap, _∙_}
 use borrow.Author.Tests.{eq-eqb, ne-eqb}
 use Rattle.rooms.specs.Limits.{checked}
-use Rattle.rooms.specs.declared.Refusal.the-variants.{LowsAboveLimit}
+use Rattle.rooms.specs.declared.SheetRefusal.the-variants.{LowsAboveLimit}
 use Rattle.rooms.specs.declared.Checked.the-variants.{Refused}
 use Rattle.rooms.proofs.Whole.{checked-is}
 use Rattle.figures.proofs.Credits.{all-zeros}

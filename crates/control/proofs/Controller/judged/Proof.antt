@@ -1,7 +1,7 @@
 -- `Controller::judged` meets its contract: a good controller has no cord tallied yet.
 use borrow.Author.Needs.{needs}
 use mathlib.Core.Path.{ap, _∙_}
-use Rattle.control.specs.declared.Judged.the-variants.{Good}
+use Rattle.control.specs.declared.JudgedCords.the-variants.{Good}
 use Rattle.control.specs.Judged.{judgedFirst}
 use Rattle.control.proofs.Tests.{cond-true, cond-false, was-true, was-false}
 use Rattle.control.proofs.Controller.judged.Statement.{statement}

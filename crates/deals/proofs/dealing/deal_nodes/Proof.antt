@@ -1,10 +1,10 @@
 -- `deal_nodes` meets its contract: before each turn the active nodes passed have their amounts and are served as children, and the others
 -- their weights; a node that is not active has none.
-use mathlib.Core.Path.{_≡_, refl, sym, ap, _∙_}
+use mathlib.Core.Path.{_≡_, refl, sym, _∙_}
 use mathlib.Core.Logic.{⊎-elim}
 use Prim.Native.Nat.{_-_, _<_}
 use native.Mathlib.Omega.{arith}
-use lib.ListN.{length, set}
+use lib.ListN.{length}
 use borrow.Author.Needs.{needs}
 use Rattle.deals.proofs.NodeTurns.{nodes-start, parent-within, node-may-serve, root-next, inner-next, DealTurn, deal-start, deal-within, deal-present, deal-here, deal-next, deal-end}
 use Rattle.deals.proofs.dealing.deal_nodes.Statement.{statement}

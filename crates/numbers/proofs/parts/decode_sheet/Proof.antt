@@ -1,14 +1,14 @@
--- `decode_sheet` meets its contract: the numbers that are still to be read complete the answer and the list at every turn (`Reading`).
+-- `decode_sheet` meets its contract: the numbers that are still to be read complete the answer and the list at every turn (`ReadingSheet`).
 use borrow.Author.Needs.{needs}
 use mathlib.Core.Path.{sym, _∙_}
 use Prim.Native.Nat.{_-_}
 use lib.ListN.{length}
-use Rattle.numbers.proofs.SheetLoops.{Reading, reading-begin, reading-end, reading-stop, reading-falls, reading-again}
+use Rattle.numbers.proofs.SheetLoops.{ReadingSheet, reading-begin, reading-end, reading-stop, reading-falls, reading-again}
 use Rattle.numbers.proofs.parts.decode_sheet.Statement.{statement}
 use Rattle.numbers.proofs.parts.decode_sheet.Tie as tie
 
 abbrev Inv-loop : tie.InvT-loop
-Inv-loop sheet words₀ at₀ count₀ words at count = Reading sheet words₀ words at count
+Inv-loop sheet words₀ at₀ count₀ words at count = ReadingSheet sheet words₀ words at count
 
 abbrev μ-loop : tie.MeasureT-loop
 μ-loop sheet words₀ at₀ count₀ words at count = length sheet - at

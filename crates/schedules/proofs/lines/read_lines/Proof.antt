@@ -1,15 +1,15 @@
--- `read_lines` meets its contract: the lines that are still to be read complete the answer and the list at every turn (`Reading`).
+-- `read_lines` meets its contract: the lines that are still to be read complete the answer and the list at every turn (`ReadingLines`).
 use Prim.Native.Nat.{_+_, _-_, _*_, _<_}
 use native.Mathlib.Omega.{arith}
 use lib.ListN.{length, length-set}
 use borrow.Author.Needs.{needs}
 use Rattle.rooms.specs.Table.{mostNodes}
-use Rattle.schedules.proofs.LineLoop.{Reading, begin, end, stop, few-lines, again}
+use Rattle.schedules.proofs.LineLoop.{ReadingLines, begin, end, stop, few-lines, again}
 use Rattle.schedules.proofs.lines.read_lines.Statement.{statement}
 use Rattle.schedules.proofs.lines.read_lines.Tie as tie
 
 abbrev Inv-loop : tie.InvT-loop
-Inv-loop text words₀ at₀ count₀ words at count = Reading text words₀ words at count
+Inv-loop text words₀ at₀ count₀ words at count = ReadingLines text words₀ words at count
 
 abbrev μ-loop : tie.MeasureT-loop
 μ-loop text words₀ at₀ count₀ words at count = 512 - count

@@ -1,11 +1,11 @@
--- `Judged::with` meets its contract: a cord is judged if all before it are good, and then tallied or refused.
+-- `JudgedCords::with` meets its contract: a cord is judged if all before it are good, and then tallied or refused.
 use borrow.Author.Needs.{needs}
 use mathlib.Core.Path.{refl, ap, _∙_}
-use Rattle.control.specs.declared.Judged.the-variants.{Good}
+use Rattle.control.specs.declared.JudgedCords.the-variants.{Good}
 use Rattle.control.specs.Judged.{judgedWith}
 use Rattle.control.proofs.Tests.{cond-true, cond-false, was-true, was-false}
-use Rattle.control.proofs.Judged.with.Statement.{statement}
-use Rattle.control.proofs.Judged.with.Tie as tie
+use Rattle.control.proofs.JudgedCords.with.Statement.{statement}
+use Rattle.control.proofs.JudgedCords.with.Tie as tie
 
 returns : tie.Need-returns
 unfolding judgedWith

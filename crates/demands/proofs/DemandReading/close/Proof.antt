@@ -1,9 +1,9 @@
--- `Reading::close` meets its contract: the line's demand is stored where there is space.
+-- `DemandReading::close` meets its contract: the line's demand is stored where there is space.
 use mathlib.Core.Path.{sym}
 use Rattle.demands.proofs.Bytes.{closed-stores, closed-full}
 use borrow.Author.Needs.{needs}
-use Rattle.demands.proofs.Reading.close.Statement.{statement}
-use Rattle.demands.proofs.Reading.close.Tie as tie
+use Rattle.demands.proofs.DemandReading.close.Statement.{statement}
+use Rattle.demands.proofs.DemandReading.close.Tie as tie
 
 returns : tie.Need-returns
 returns c =

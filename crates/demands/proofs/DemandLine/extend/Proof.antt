@@ -1,9 +1,9 @@
--- `Line::extend` meets its contract: each test that fails makes the line another, and all that hold make it digits still.
+-- `DemandLine::extend` meets its contract: each test that fails makes the line another, and all that hold make it digits still.
 use borrow.Author.Needs.{needs}
 use borrow.Author.Tests.{le-leb, lt-leb, lt-ltb, le-ltb}
 use Rattle.figures.proofs.Tests.{and-false}
-use Rattle.demands.proofs.Line.extend.Statement.{statement}
-use Rattle.demands.proofs.Line.extend.Tie as tie
+use Rattle.demands.proofs.DemandLine.extend.Statement.{statement}
+use Rattle.demands.proofs.DemandLine.extend.Tie as tie
 
 returns : tie.Need-returns
 returns c =

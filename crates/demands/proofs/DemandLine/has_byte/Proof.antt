@@ -1,7 +1,7 @@
--- `Line::has_byte` meets its contract: a line of digits alone has a byte if it has a digit.
+-- `DemandLine::has_byte` meets its contract: a line of digits alone has a byte if it has a digit.
 use borrow.Author.Needs.{needs}
-use Rattle.demands.proofs.Line.has_byte.Statement.{statement}
-use Rattle.demands.proofs.Line.has_byte.Tie as tie
+use Rattle.demands.proofs.DemandLine.has_byte.Statement.{statement}
+use Rattle.demands.proofs.DemandLine.has_byte.Tie as tie
 
 returns : tie.Need-returns
 returns c = rw (c .before .self .given .1)

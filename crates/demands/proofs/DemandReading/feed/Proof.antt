@@ -1,17 +1,17 @@
--- `Reading::feed` meets its contract: what is left of the piece always takes the reading where the whole piece does.
+-- `DemandReading::feed` meets its contract: what is left of the piece always takes the reading where the whole piece does.
 use borrow.Author.Needs.{needs}
 use native.Mathlib.Omega.{arith}
 use mathlib.Core.Path.{_≡_, refl}
 use Prim.Native.Nat.{_-_}
 use lib.ListN.{length}
-use Rattle.demands.specs.Reading.{held}
+use Rattle.demands.specs.Reading.{heldReading}
 use Rattle.demands.proofs.Bytes.{Going, going-first, going-next, going-last}
-use Rattle.demands.proofs.Reading.feed.Statement.{statement}
-use Rattle.demands.proofs.Reading.feed.Tie as tie
+use Rattle.demands.proofs.DemandReading.feed.Statement.{statement}
+use Rattle.demands.proofs.DemandReading.feed.Tie as tie
 
 abbrev Inv-loop : tie.InvT-loop
 Inv-loop piece list₀ reading₀ i₀ i-end list reading i =
-    Going (held reading₀ list₀) piece (held reading list) i × (length list ≡ length list₀)
+    Going (heldReading reading₀ list₀) piece (heldReading reading list) i × (length list ≡ length list₀)
 
 abbrev μ-loop : tie.MeasureT-loop
 μ-loop piece list₀ reading₀ i₀ i-end list reading i = length piece - i

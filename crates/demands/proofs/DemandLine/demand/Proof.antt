@@ -1,8 +1,8 @@
--- `Line::demand` meets its contract: a line of digits alone has their number, if there is one.
+-- `DemandLine::demand` meets its contract: a line of digits alone has their number, if there is one.
 use borrow.Author.Needs.{needs}
 use borrow.Author.Tests.{le-leb, lt-leb}
-use Rattle.demands.proofs.Line.demand.Statement.{statement}
-use Rattle.demands.proofs.Line.demand.Tie as tie
+use Rattle.demands.proofs.DemandLine.demand.Statement.{statement}
+use Rattle.demands.proofs.DemandLine.demand.Tie as tie
 
 returns : tie.Need-returns
 returns c = rw (c .before .before .self .given .1, le-leb _ _ (c .if1 .taken))

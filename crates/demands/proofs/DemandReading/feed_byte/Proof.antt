@@ -1,9 +1,9 @@
--- `Reading::feed_byte` meets its contract: a newline ends the line, and any other byte goes onto it.
+-- `DemandReading::feed_byte` meets its contract: a newline ends the line, and any other byte goes onto it.
 use mathlib.Core.Path.{sym, _∙_}
 use Rattle.demands.proofs.Bytes.{fedByte-newline, fedByte-other}
 use borrow.Author.Needs.{needs}
-use Rattle.demands.proofs.Reading.feed_byte.Statement.{statement}
-use Rattle.demands.proofs.Reading.feed_byte.Tie as tie
+use Rattle.demands.proofs.DemandReading.feed_byte.Statement.{statement}
+use Rattle.demands.proofs.DemandReading.feed_byte.Tie as tie
 
 returns : tie.Need-returns
 returns c =

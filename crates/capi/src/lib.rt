@@ -16,7 +16,7 @@
 //                           uint8_t *answer, uint64_t answer_len);
 ghost use Rattle.words.specs.Bytes.{wordsOf};
 ghost use Rattle.sheet_bytes.specs.Call.{ReadCall, WriteCall};
-ghost use Rattle.plan_rooms.specs.Outputs.{lists};
+ghost use Rattle.deals.specs.Plan.{lists};
 ghost use Rattle.plan_bytes.specs.Call.{PlanCall};
 
 pub mod joins;

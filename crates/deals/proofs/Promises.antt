@@ -21,7 +21,8 @@ use Rattle.deals.specs.Metrics.{Deal, dealFrom, dealOf}
 use Rattle.deals.specs.Dealing.{granted}
 use Rattle.deals.specs.Wants.{needs}
 use Rattle.deals.specs.SecondDeal.{firstDeal, firstGrants, firstUsable, firstUsed, secondDeal, secondWants, secondGrants, caps}
-use Rattle.deals.specs.Plan.{Plan, planOf}
+use Rattle.deals.specs.Plan.{Plan, planOf, output}
+use Rattle.deals.specs.declared.PlanList.the-variants.{Grants, Caps}
 use Rattle.deals.specs.Headroom.{ceilingsOf, rootHeadroom}
 use Rattle.deals.specs.Ways.{Root, cordBeneath, wattsBeneath, fromRank}
 use Rattle.deals.specs.Promises.{AcceptedPlan, AcceptedHasRoom, Answered, AnswerOfBothDeals, FirstByExcess, SecondPassesFirst, CapsInRange, UsableInRange, UsedGranted, NearestCut, HeldNearest, Kept, FirstKept, SecondKept, Greatest, FirstGreatest, SecondGreatest, SettledFromRank, RefusalNine, CapsKeepUsable, GrantsKeepUsed, HeadroomWithinLimits, HeadroomWithinCeilings, HeadroomAllLent, HoldsDown, HeldNamed, HeldNone}
@@ -103,17 +104,7 @@ module _ (p : AcceptedPlan) where
       (sym (plan-good-table (p .table) (p .demands) (p .lengths) (p .room) (p .end) (p .isRoom)) ∙ p .isAnswer)
 
   answered : Answered p
-  answered = record {
-    freed = ap (λ (x : Plan). x .freed) (planning .is);
-    grants = ap (λ (x : Plan). x .grants) (planning .is);
-    caps = ap (λ (x : Plan). x .caps) (planning .is);
-    headroom = ap (λ (x : Plan). x .headroom) (planning .is);
-    held = ap (λ (x : Plan). x .held) (planning .is);
-    eachCord = planning .grants .count;
-    eachServer = planning .caps .count;
-    eachHeadroom = planning .headroom .count;
-    eachHeld = planning .held .count;
-  }
+  answered = record { is = planning .is; counts = λ list. planning .fits list .count }
 
   -- What holds of the plan of every accepted room holds of the answer.
   of-plan : (P : Room → List ℕ → Plan → Type 0) → ((r : Room) → Accepted r → (demands : List ℕ) → P r demands (planOf r demands))
@@ -172,12 +163,12 @@ settled-from-rank rank p q one same =
           ∙ ap (λ (z : List ℕ). at z c) (alike firstGrants _ refl);
       usable = λ v l k. firstUsable-same (p .room) (accepted-room p) rank (p .demands) (q .demands) same v l k
           ∙ ap (λ (z : List ℕ). at z v) (alike firstUsable _ refl);
-      second = λ c l k. ap (λ (z : List ℕ). at z c) (answered p .grants)
+      second = λ c l k. ap (λ (z : List ℕ). at z c) (ap (output Grants) (answered p .is))
           ∙ secondGrants-same (p .room) (accepted-room p) rank (p .demands) (q .demands) same c l k
-          ∙ ap (λ (z : List ℕ). at z c) (alike secondGrants _ (answered q .grants));
-      caps = λ v l k. ap (λ (z : List ℕ). at z v) (answered p .caps)
+          ∙ ap (λ (z : List ℕ). at z c) (alike secondGrants _ (ap (output Grants) (answered q .is)));
+      caps = λ v l k. ap (λ (z : List ℕ). at z v) (ap (output Caps) (answered p .is))
           ∙ caps-same (p .room) (accepted-room p) rank (p .demands) (q .demands) same v l k
-          ∙ ap (λ (z : List ℕ). at z v) (alike caps _ (answered q .caps));
+          ∙ ap (λ (z : List ℕ). at z v) (alike caps _ (ap (output Caps) (answered q .is)));
     }
 
 pub refusal-nine : RefusalNine

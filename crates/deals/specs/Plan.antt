@@ -1,6 +1,6 @@
 -- The whole plan: the table's refusals, those of the demands and of the lists, and the answer.
 use mathlib.Core.Bool.{not}
-use mathlib.Core.List.{List, [], _∷_}
+use mathlib.Core.List.{List, [], _∷_, map}
 use Prim.Native.Nat.{ℕ, suc}
 use lib.Dec.{eqb, ltb}
 use lib.ListN.{length}
@@ -47,6 +47,59 @@ planOf r demands = record {
 abbrev pub PlanOutcome : Type 0
 PlanOutcome = Outcome Plan PlanRefusal
 
+-- ---- Its lists
+
+-- The lists that a plan is written to, by their names, in the order in which they are checked. What is said of each is said once, of any
+-- name: they are told apart here, and where they are slices.
+abbrev pub allLists : List PlanList
+allLists = Grants ∷ Caps ∷ Headroom ∷ Held ∷ []
+
+-- What a plan has for a list.
+abbrev pub output : PlanList → Plan → List ℕ
+output Grants = λ plan. plan .grants
+output Caps = λ plan. plan .caps
+output Headroom = λ plan. plan .headroom
+output Held = λ plan. plan .held
+
+-- How many entries it has, in a room of so many cords and servers, and in a given room.
+abbrev pub count : (cords servers : ℕ) → PlanList → ℕ
+count cords servers Grants = cords
+count cords servers Caps = servers
+count cords servers Headroom = cords
+count cords servers Held = cords
+
+abbrev pub countIn : Room → PlanList → ℕ
+countIn r = count (roomCords r) (length (r .servers))
+
+-- The lengths of lists, each by its name, and the length of each.
+abbrev pub lengthsOf : (PlanList → ℕ) → Lengths
+lengthsOf entries = record { grants = entries Grants; caps = entries Caps; headroom = entries Headroom; held = entries Held }
+
+abbrev pub entries : Lengths → PlanList → ℕ
+entries lengths Grants = lengths .grants
+entries lengths Caps = lengths .caps
+entries lengths Headroom = lengths .headroom
+entries lengths Held = lengths .held
+
+-- A list for each name.
+abbrev pub Lists : Type 0
+Lists = PlanList → List ℕ
+
+-- These, as they stand among the parameters of the operation and of the C call.
+abbrev pub lists : (grants caps headroom held : List ℕ) → Lists
+lists grants caps headroom held Grants = grants
+lists grants caps headroom held Caps = caps
+lists grants caps headroom held Headroom = headroom
+lists grants caps headroom held Held = held
+
+-- The lengths of the lists that are lent.
+abbrev pub lent : Lists → Lengths
+lent given = lengthsOf (λ list. length (given list))
+
+-- The lengths of lists that take the plan of every room.
+abbrev pub mostLent : Lengths
+mostLent = lengthsOf (count mostCords mostServers)
+
 -- ---- Refusals
 
 -- The index of the first demand above the most watts; the count of demands if there is none.
@@ -65,16 +118,17 @@ countDiffers r demands = record { holds = not (eqb (length demands) (length (r .
 abbrev pub demandTooLarge : List ℕ → PlanReason
 demandTooLarge demands = record { holds = ltb (firstTooLarge demands) (length demands); refusal = DemandTooLarge (firstTooLarge demands) }
 
--- The reasons to refuse the plan of a good room, in their order (10 to 15).
+-- A list is too short for a room of so many cords and servers.
+abbrev pub listTooShort : (cords servers : ℕ) → Lengths → PlanList → PlanReason
+listTooShort cords servers lengths list = tooShort (ListTooShort list) (entries lengths list) (count cords servers list)
+
+-- The reasons of this kind, in their order (12 and on).
+abbrev pub listReasons : (cords servers : ℕ) → Lengths → List PlanReason
+listReasons cords servers lengths = map (listTooShort cords servers lengths) allLists
+
+-- All reasons to refuse the plan of a good room, in their order (10 and on).
 abbrev pub reasons : Room → List ℕ → Lengths → List PlanReason
-reasons r demands lengths =
-    countDiffers r demands
-    ∷ demandTooLarge demands
-    ∷ tooShort (ListTooShort Grants) (lengths .grants) (roomCords r)
-    ∷ tooShort (ListTooShort Caps) (lengths .caps) (length (r .servers))
-    ∷ tooShort (ListTooShort Headroom) (lengths .headroom) (roomCords r)
-    ∷ tooShort (ListTooShort Held) (lengths .held) (roomCords r)
-    ∷ []
+reasons r demands lengths = countDiffers r demands ∷ demandTooLarge demands ∷ listReasons (roomCords r) (length (r .servers)) lengths
 
 -- ---- Plan
 
@@ -91,14 +145,6 @@ planStep step demands lengths = whenGood Table step (λ room. planRoom room dema
 unfoldable pub plan : List ℕ → List ℕ → Lengths → PlanOutcome
 unfolding planRoom checked
 plan table demands lengths = planStep (checked table 0) demands lengths
-
--- The lengths of the lists that are lent.
-abbrev pub lent : (grants caps headroom held : List ℕ) → Lengths
-lent grants caps headroom held = record { grants = length grants; caps = length caps; headroom = length headroom; held = length held }
-
--- The lengths of lists that take the plan of every room.
-abbrev pub mostLent : Lengths
-mostLent = record { grants = mostCords; caps = mostServers; headroom = mostCords; held = mostCords }
 
 -- ---- What the caller sees
 

@@ -19,13 +19,14 @@ use Rattle.deals.specs.Wants.{needs, firstWants}
 use Rattle.rooms.specs.Lists.{carriedBy, lowsOf}
 use Rattle.deals.specs.Metrics.{Deal, metrics, atLevel, excess, cordExcess}
 use Rattle.deals.specs.Dealing.{Child, node, cord, children, partOf, granted}
-use Rattle.deals.specs.SecondDeal.{firstDeal, secondDeal, firstGrants, firstUsable, firstUsed, freed, secondWants, secondGrants, caps}
-use Rattle.deals.specs.Headroom.{ceilingsOf, headroom, rootHeadroom}
-use Rattle.deals.specs.Held.{cutFrom, held}
+use Rattle.deals.specs.SecondDeal.{firstDeal, secondDeal, firstGrants, firstUsable, firstUsed, secondWants}
+use Rattle.deals.specs.Headroom.{ceilingsOf, rootHeadroom}
+use Rattle.deals.specs.Held.{cutFrom}
 use Rattle.outcomes.specs.Outcome.{accepted}
-use Rattle.deals.specs.Plan.{Plan, plan, answerOf, planNumber, planFigure}
+use Rattle.deals.specs.Plan.{Plan, planOf, output, countIn, plan, answerOf, planNumber, planFigure}
 use Rattle.deals.specs.Ways.{Root, Way, cordBeneath, wattsBeneath, fromRank}
 use Rattle.deals.specs.declared.Lengths.{Lengths}
+use Rattle.deals.specs.declared.PlanList.{PlanList}
 use Rattle.deals.specs.Judge.{verdict}
 use Rattle.deals.specs.declared.Planned.{Planned}
 use Rattle.deals.specs.declared.Verdict.{Verdict}
@@ -48,18 +49,10 @@ AcceptedHasRoom =
     (table demands : List ℕ) (lengths : Lengths) (answer : Plan)
     → plan table demands lengths ≡ accepted answer → Good (checked table 0)
 
--- The answer is that of the two deals: a grant for each cord, a cap for each server, and for each cord its headroom and the node that
--- holds it down.
+-- The answer is the plan of the two deals, and each of its lists has an entry for each cord, or for each server.
 pub record Answered (p : AcceptedPlan) : Type 0 where
-  pub freed : p .answer .freed ≡ freed (p .room) (p .demands)
-  pub grants : p .answer .grants ≡ secondGrants (p .room) (p .demands)
-  pub caps : p .answer .caps ≡ caps (p .room) (p .demands)
-  pub headroom : p .answer .headroom ≡ headroom (p .room) (p .demands)
-  pub held : p .answer .held ≡ held (p .room) (p .demands)
-  pub eachCord : length (p .answer .grants) ≡ roomCords (p .room)
-  pub eachServer : length (p .answer .caps) ≡ length (p .room .servers)
-  pub eachHeadroom : length (p .answer .headroom) ≡ roomCords (p .room)
-  pub eachHeld : length (p .answer .held) ≡ roomCords (p .room)
+  pub is : p .answer ≡ planOf (p .room) (p .demands)
+  pub counts : (list : PlanList) → length (output list (p .answer)) ≡ countIn (p .room) list
 
 abbrev pub AnswerOfBothDeals : Type 0
 AnswerOfBothDeals = (p : AcceptedPlan) → Answered p

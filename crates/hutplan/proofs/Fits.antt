@@ -1,5 +1,5 @@
 -- What is printed is at most 83,995 bytes, whatever the sheet and the demands.
-use mathlib.Core.Path.{_≡_, refl, _∙_}
+use mathlib.Core.Path.{_≡_, refl, ap, _∙_}
 use mathlib.Core.Bool.{Bool, true, false}
 use mathlib.Core.List.{List}
 use Prim.Native.Nat.{ℕ, _^_, _≤_, _<_}
@@ -17,8 +17,9 @@ use Rattle.rooms.specs.Outcome as read
 use Rattle.rooms.proofs.Accepted.{accepted}
 use Rattle.deals.specs.SecondDeal.{secondDeal, secondWants}
 use Rattle.outcomes.specs.Outcome as outcomes
-use Rattle.deals.specs.Plan.{PlanOutcome, planRoom, mostLent, planRefusalNumber, planRefusalPlace}
+use Rattle.deals.specs.Plan.{Plan, PlanOutcome, mostLent, planRoom, planRefusalNumber, planRefusalPlace}
 use Rattle.deals.specs.Promises.{AcceptedPlan}
+use Rattle.deals.specs.declared.PlanList.the-variants.{Grants, Caps, Headroom, Held}
 use Rattle.figures.proofs.Lists.{figures-length}
 use Rattle.deals.proofs.Plans.{plan-good-table}
 use Rattle.deals.proofs.Promises.{answer-of-both-deals, second-kept, caps-in-range, headroom-within-ceilings, held-named, held-none, figures-fit, headroom-fits}
@@ -41,7 +42,7 @@ module _ (p : AcceptedPlan) where
   cap-words =
       let bounded = figures-fit (p .table) (p .room) (p .end) (p .isRoom) (p .demands) in
       words-below (p .answer .caps) (λ v h.
-      let there : v < length (p .room .servers) = omega (arith, answer-of-both-deals p .eachServer) in
+      let there : v < length (p .room .servers) = omega (arith, answer-of-both-deals p .counts Caps) in
       omega (arith, caps-in-range p v there .1, bounded .needs v there))
 
   grant-words : AllBelow (2 ^ 32) (p .answer .grants)
@@ -49,7 +50,7 @@ module _ (p : AcceptedPlan) where
   grant-words =
       let bounded = figures-fit (p .table) (p .room) (p .end) (p .isRoom) (p .demands) in
       words-below (p .answer .grants) (λ c h.
-      let there : c < roomCords (p .room) = omega (arith, answer-of-both-deals p .eachCord) in
+      let there : c < roomCords (p .room) = omega (arith, answer-of-both-deals p .counts Grants) in
       let most = bounded .second .wants c (rw (figures-length (roomCords (p .room)) _) there) in
       omega (arith, second-kept p .most c there, most))
 
@@ -58,7 +59,7 @@ module _ (p : AcceptedPlan) where
   headroom-words =
       let bounded = headroom-fits (p .table) (p .room) (p .end) (p .isRoom) (p .demands) in
       words-below (p .answer .headroom) (λ c h.
-      let there : c < roomCords (p .room) = omega (arith, answer-of-both-deals p .eachHeadroom) in
+      let there : c < roomCords (p .room) = omega (arith, answer-of-both-deals p .counts Headroom) in
       let most = bounded .ceilings c (rw (figures-length (roomCords (p .room)) _) there) in
       omega (arith, headroom-within-ceilings p c there, most))
 
@@ -66,7 +67,7 @@ module _ (p : AcceptedPlan) where
   held-words : AllBelow (2 ^ 32) (p .answer .held)
   held-words =
       words-below (p .answer .held) (λ c h.
-      let there : c < roomCords (p .room) = omega (arith, answer-of-both-deals p .eachHeld) in
+      let there : c < roomCords (p .room) = omega (arith, answer-of-both-deals p .counts Held) in
       go c there (ltb (at (p .answer .grants) c) (at (secondWants (p .room) (p .demands)) c)) refl)
     where
       go : (c : ℕ) → c < roomCords (p .room) → (short : Bool) → ltb (at (p .answer .grants) c) (at (secondWants (p .room) (p .demands)) c) ≡ short
@@ -82,7 +83,7 @@ module _ (p : AcceptedPlan) where
   plan-fits =
       let freed = figures-fit (p .table) (p .room) (p .end) (p .isRoom) (p .demands) .freed in
       length-printOf (p .room) (p .answer .freed) (p .answer .caps) (p .answer .grants) (p .answer .headroom) (p .answer .held)
-      (accepted (p .table) (p .room) (p .end) (p .isRoom)) (omega (arith, answer-of-both-deals p .freed, freed))
+      (accepted (p .table) (p .room) (p .end) (p .isRoom)) (omega (arith, ap (λ (x : Plan). x .freed) (answer-of-both-deals p .is), freed))
       cap-words grant-words headroom-words held-words
 
 pub tableText-fits : (table demands : List ℕ) → length (tableText table demands) ≤ mostText

@@ -1,5 +1,5 @@
 -- The print of each outcome is the one that the definition gives.
-use mathlib.Core.Path.{_≡_, refl, sym, ap, subst, _∙_}
+use mathlib.Core.Path.{_≡_, refl, sym, ap, subst, _∙_, fun-ext}
 use mathlib.Core.List.{List}
 use Prim.Native.Nat.{ℕ, _≤_}
 use native.Mathlib.Omega.{arith}
@@ -15,32 +15,37 @@ use Rattle.rooms.specs.Outcome.{SheetOutcome, reading, refusalNumber, refusalPl
 use Rattle.rooms.specs.Outcome as read
 use Rattle.rooms.specs.declared.Refusal.{Refusal}
 use Rattle.rooms.specs.declared.Answer.the-variants as answer
-use Rattle.rooms.proofs.Accepted.{accepted}
 use Rattle.rooms.proofs.Lent.{reading-fits}
 use Rattle.outcomes.specs.Outcome.{after}
 use Rattle.outcomes.specs.Outcome as outcomes
-use Rattle.deals.specs.Plan.{Plan, PlanOutcome, plan, planRoom, planStep, lent, mostLent, answerOf, planRefusalNumber, planRefusalPlace}
+use Rattle.deals.specs.Plan.{Plan, PlanOutcome, output, Lists, lent, mostLent, plan, planRoom, planStep, answerOf, planRefusalNumber, planRefusalPlace}
 use Rattle.deals.specs.declared.Lengths.{Lengths}
+use Rattle.deals.specs.declared.PlanList.{PlanList}
+use Rattle.deals.specs.declared.PlanList.the-variants.{Grants, Caps, Headroom, Held}
 use Rattle.deals.specs.declared.PlanRefusal.{PlanRefusal}
 use Rattle.deals.specs.declared.Planned.{Planned}
 use Rattle.deals.specs.declared.Planned.the-variants.{Accepted, Refused}
 use Rattle.deals.specs.declared.PlanRefusal.the-variants.{Table}
-use Rattle.deals.proofs.Plans.{plan-good, plan-good-table}
-use Rattle.deals.proofs.Promises.{answer-of-both-deals}
+use Rattle.deals.proofs.Plans.{plan-good-table, Fits}
+use Rattle.deals.proofs.Lent.{plan-written}
 use Rattle.print.specs.Line.{refusedLine}
 use Rattle.print.specs.Print.{printOf}
 use Rattle.print.proofs.Room.{printOf-front}
 use Rattle.hutplan.specs.Printed.{mostWords, tableText, roomText, stepText, sheetText, readText}
 
--- A good table, and the print of its room, which is the table's text.
-pub record RoomText (table demands : List ℕ) (f : ℕ) (caps grants headroom held : List ℕ) : Type 0 where
+-- What fits a list is no longer than it.
+fitting : {written : List ℕ} {needed entries : ℕ} → Fits written needed entries → length written ≤ entries
+fitting fits = omega (arith, fits .count, fits .within)
+
+-- A good table, and the print of its room with these lists, which is the table's text.
+pub record RoomText (table demands : List ℕ) (f : ℕ) (left : Lists) : Type 0 where
   pub good-table : Good (checked table 0)
-  pub text : printOf f (good-table .value .servers) caps grants headroom held ≡ tableText table demands
+  pub text : printOf f (good-table .value .servers) (left Caps) (left Grants) (left Headroom) (left Held) ≡ tableText table demands
 
 -- Lists that take the plan of every room, and what Plan comes to with them.
-module _ (table demands grants caps headroom held : List ℕ) (most : lent grants caps headroom held ≡ mostLent) where
+module _ (table demands : List ℕ) (given : Lists) (most : lent given ≡ mostLent) where
   abbrev outcome : PlanOutcome
-  outcome = plan table demands (lent grants caps headroom held)
+  outcome = plan table demands (lent given)
 
   -- A refused plan.
   pub table-refused : {a : Planned} {q : PlanRefusal} → a ≡ Refused q → a ≡ answerOf outcome
@@ -60,52 +65,34 @@ module _ (table demands grants caps headroom held : List ℕ) (most : lent grant
       go (bad refusal) e = let same : q ≡ Table refusal = cc in rw same
 
   -- An accepted plan, whose figures stand at the front of the lists.
-  pub table-accepted : (grants' caps' headroom' held' : List ℕ) {a : Planned} {f : ℕ} → a ≡ Accepted f → a ≡ answerOf outcome
-      → grants' ≡ after (λ p. p .grants) outcome grants → caps' ≡ after (λ p. p .caps) outcome caps
-      → headroom' ≡ after (λ p. p .headroom) outcome headroom → held' ≡ after (λ p. p .held) outcome held
-      → RoomText table demands f caps' grants' headroom' held'
+  pub table-accepted : (left : Lists) {a : Planned} {f : ℕ} → a ≡ Accepted f → a ≡ answerOf outcome
+      → ((list : PlanList) → left list ≡ after (output list) outcome (given list)) → RoomText table demands f left
   unfolding tableText
-  table-accepted grants' caps' headroom' held' {f = f} told e eg ec eh ed = go outcome refl (sym told ∙ e) eg ec eh ed
+  table-accepted left {f = f} told e stored = go outcome refl (sym told ∙ e) stored
     where
       in-room : (answer : Plan) → outcome ≡ outcomes.accepted answer
-          → RoomText table demands (answer .freed) (sets caps 0 (answer .caps)) (sets grants 0 (answer .grants)) (sets headroom 0 (answer .headroom))
-          (sets held 0 (answer .held))
+          → RoomText table demands (answer .freed) (λ list. sets (given list) 0 (output list answer))
       in-room answer is =
-          let g = plan-good table demands (lent grants caps headroom held) answer is in
-          let few = accepted table (g .value) (g .next) (g .is) in
-          let whole =
-          answer-of-both-deals
-          (record {
-            table = table;
-            demands = demands;
-            lengths = lent grants caps headroom held;
-            room = g .value;
-            end = g .next;
-            answer = answer;
-            isRoom = g .is;
-            isAnswer = is;
-          }) in
-          let room : planRoom (g .value) demands mostLent ≡ outcomes.accepted answer =
-          rw (← most) (sym (plan-good-table table demands (lent grants caps headroom held) (g .value) (g .next) (g .is)) ∙ is) in
+          let w = plan-written table demands (lent given) is in
+          let fits = w .planning .fits in
+          let room : planRoom (w .room) demands mostLent ≡ outcomes.accepted answer =
+          rw (← most) (sym (plan-good-table table demands (lent given) (w .room) (w .end) (w .isRoom)) ∙ is) in
           record {
-            good-table = g;
+            good-table = record { value = w .room; next = w .end; is = w .isRoom };
             text =
-                printOf-front (g .value) (answer .freed) (answer .caps) (answer .grants) (answer .headroom) (answer .held) caps grants headroom held
-                (whole .eachServer) (whole .eachCord) (whole .eachHeadroom) (whole .eachHeld)
-                (omega (arith, few .fewServers, whole .eachServer, ap (λ (l : Lengths). l .caps) most))
-                (omega (arith, few .fewCords, whole .eachCord, ap (λ (l : Lengths). l .grants) most))
-                (omega (arith, few .fewCords, whole .eachHeadroom, ap (λ (l : Lengths). l .headroom) most))
-                (omega (arith, few .fewCords, whole .eachHeld, ap (λ (l : Lengths). l .held) most))
-                ∙ sym (ap (λ (s : Step Room). stepText s demands) (g .is) ∙ ap (roomText (g .value)) room);
+                printOf-front (w .room) (answer .freed) (answer .caps) (answer .grants) (answer .headroom) (answer .held)
+                (given Caps) (given Grants) (given Headroom) (given Held)
+                (fits Caps .count) (fits Grants .count) (fits Headroom .count) (fits Held .count)
+                (fitting (fits Caps)) (fitting (fits Grants)) (fitting (fits Headroom)) (fitting (fits Held))
+                ∙ sym (ap (λ (s : Step Room). stepText s demands) (w .isRoom) ∙ ap (roomText (w .room)) room);
           }
 
-      go : (o : PlanOutcome) → outcome ≡ o → Accepted f ≡ answerOf o → grants' ≡ after (λ p. p .grants) o grants
-          → caps' ≡ after (λ p. p .caps) o caps → headroom' ≡ after (λ p. p .headroom) o headroom → held' ≡ after (λ p. p .held) o held
-          → RoomText table demands f caps' grants' headroom' held'
-      go (outcomes.refused q) is e eg ec eh ed = let z : _≡_ {A = ℕ} 0 1 = cc in absurd (omega arith)
-      go (outcomes.accepted answer) is e eg ec eh ed =
+      go : (o : PlanOutcome) → outcome ≡ o → Accepted f ≡ answerOf o → ((list : PlanList) → left list ≡ after (output list) o (given list))
+          → RoomText table demands f left
+      go (outcomes.refused q) is e stored = let z : _≡_ {A = ℕ} 0 1 = cc in absurd (omega arith)
+      go (outcomes.accepted answer) is e stored =
           let same : f ≡ answer .freed = cc in
-          rw (same, eg, ec, eh, ed) (in-room answer is)
+          rw (same, fun-ext stored) (in-room answer is)
 
 -- ---- Read
 

@@ -1,13 +1,16 @@
 -- The starred rooms of document 01, which has their figures by hand: one check of all, which the definitions compute. And room H with
 -- demands that leave headroom (request A.1), and a room each of versions 2 and 3 (requests A.3 and A.11).
-use mathlib.Core.Path.{_≡_, refl}
+use mathlib.Core.Path.{_≡_, refl, ap, _∙_}
 use mathlib.Core.List.{List, [], _∷_, _++_}
 use Prim.Native.Nat.{ℕ}
+use native.Mathlib.Omega.{arith}
 use lib.ListN.{length}
+use lib.Seq.{sets}
 use Rattle.numbers.specs.Number.{number, later}
 use Rattle.numbers.specs.Sheet.{sheetFrom}
 use Rattle.rooms.specs.Part.{Step, good, bad, follow, word, ensure, end, many}
 use Rattle.figures.specs.Figures.{total}
+use Rattle.figures.specs.Bounds.{firstNotBelow}
 use Rattle.rooms.specs.Table.{Room, formOf, percent, node, cord, range, load, server, table}
 use Rattle.rooms.specs.Trees.{beneath}
 use Rattle.rooms.specs.Limits.{serverLows, lows, firstNode, overloaded, checked}
@@ -15,10 +18,14 @@ use Rattle.rooms.specs.Outcome.{SheetOutcome, reading, answerOf, answerNumber, 
 use Rattle.deals.specs.SecondDeal.{firstGrants, firstUsable}
 use Rattle.outcomes.specs.Outcome.{after}
 use Rattle.outcomes.specs.Outcome as outcomes
-use Rattle.deals.specs.Plan.{PlanOutcome, plan, mostLent}
+use Rattle.outcomes.proofs.Outcomes.{unless-pass}
+use Rattle.deals.specs.Plan.{PlanOutcome, planOf, output, Lists, lent, mostLent, plan}
 use Rattle.deals.specs.Plan as plan
 use Rattle.deals.specs.declared.Lengths.{Lengths}
+use Rattle.deals.specs.declared.PlanList.{PlanList}
 use Rattle.deals.specs.declared.Planned.the-variants.{Accepted}
+use Rattle.deals.proofs.Plans.{count-none, output-length, lists-passed, planRoom-is, plan-good-table}
+use Rattle.deals.proofs.WorkedRooms.{figuresOf, planned}
 use Rattle.demands.specs.Text.{before, lines, areDigits, numberAfter, demandOf, demandsOf}
 use Rattle.print.specs.Line.{numeral, freedLine, serverLine, cordLine, refusedLine}
 use Rattle.print.specs.Print.{linesFrom, serverPrint, serversPrint, printOf}
@@ -100,10 +107,6 @@ demandsS = 430 ∷ 430 ∷ 430 ∷ 430 ∷ []
 abbrev noServers : List ℕ
 noServers = 1 ∷ 1 ∷ 0 ∷ 100 ∷ 0 ∷ []
 
--- Two words for grants, one for caps, three for headroom and one for the nodes that hold cords.
-abbrev someLent : Lengths
-someLent = record { grants = 2; caps = 1; headroom = 3; held = 1 }
-
 -- Figures of the room that a table gives.
 abbrev ofRoom : Step Room → (Room → List ℕ) → List ℕ
 ofRoom (good r end) figure = figure r
@@ -133,11 +136,30 @@ pub record Starred : Type 0 where
   pub byte80 : numbered (reading (0x80 ∷ []) 1) ≡ (3, 0)
   pub bytes018000 : numbered (reading (0x01 ∷ 0x80 ∷ 0x00 ∷ []) 3) ≡ (2, 1)
   pub bytes80808080 : numbered (reading (0x80 ∷ 0x80 ∷ 0x80 ∷ 0x80 ∷ []) 4) ≡ (1, 0)
-  pub noServersFreed : plan.answerOf (plan noServers [] someLent) ≡ Accepted 0
-  pub noServersGrants : (a b : ℕ) → after (λ p. p .grants) (plan noServers [] someLent) (a ∷ b ∷ []) ≡ a ∷ b ∷ []
-  pub noServersCaps : (a : ℕ) → after (λ p. p .caps) (plan noServers [] someLent) (a ∷ []) ≡ a ∷ []
-  pub noServersHeadroom : (a b c : ℕ) → after (λ p. p .headroom) (plan noServers [] someLent) (a ∷ b ∷ c ∷ []) ≡ a ∷ b ∷ c ∷ []
-  pub noServersHeld : (a : ℕ) → after (λ p. p .held) (plan noServers [] someLent) (a ∷ []) ≡ a ∷ []
+  pub noServersFreed : (given : Lists) → plan.answerOf (plan noServers [] (lent given)) ≡ Accepted 0
+  pub noServersLists : (given : Lists) (list : PlanList) → after (output list) (plan noServers [] (lent given)) (given list) ≡ given list
+
+-- The room without servers, and its plan, whatever the lengths of the lists.
+abbrev unserved : Room
+unserved = record { scale = 1000; nodes = record { parent = 0; rating = 100; percent = 80 } ∷ []; servers = [] }
+
+unserved-checked : checked noServers 0 ≡ good unserved 5
+unfolding checked follow word ensure end many total formOf percent node cord range load server table beneath serverLows lows firstNode overloaded
+unserved-checked = refl
+
+unserved-planned : (lengths : Lengths) → plan noServers [] lengths ≡ outcomes.accepted (planOf unserved [])
+unfolding firstNotBelow total
+unserved-planned lengths =
+    plan-good-table noServers [] lengths unserved 5 unserved-checked
+    ∙ planRoom-is unserved [] lengths
+    ∙ unless-pass _ _ (planOf unserved []) refl
+    ∙ unless-pass _ _ (planOf unserved []) refl
+    ∙ lists-passed (planOf unserved []) 0 0 lengths (λ list. omega (arith, count-none list))
+
+-- What is written of no entries changes nothing.
+none-written : (list out : List ℕ) → length out ≡ 0 → sets list 0 out ≡ list
+none-written list [] e = refl
+none-written list (x ∷ out) e = absurd (omega arith)
 
 pub starred : Starred
 unfolding printed sheetText tableText reading number later sheetFrom
@@ -159,11 +181,9 @@ starred =
       byte80 = refl;
       bytes018000 = refl;
       bytes80808080 = refl;
-      noServersFreed = refl;
-      noServersGrants = λ a b. refl;
-      noServersCaps = λ a. refl;
-      noServersHeadroom = λ a b c. refl;
-      noServersHeld = λ a. refl;
+      noServersFreed = λ given. ap plan.answerOf (unserved-planned (lent given));
+      noServersLists = λ given list. ap (λ (o : PlanOutcome). after (output list) o (given list)) (unserved-planned (lent given))
+          ∙ none-written (given list) (output list (planOf unserved [])) (output-length unserved [] list ∙ count-none list);
     }
 
 -- Room H with demands 100 and 100, by hand: node 1 has 120 − 50 = 70 W to lend, and node 2 400 − 150 = 250, which it splits by
@@ -191,22 +211,8 @@ tableTwo =
 abbrev tableThree : List ℕ
 tableThree = 3 ∷ 1 ∷ 0 ∷ 450 ∷ 80 ∷ 1 ∷ 1 ∷ 100 ∷ 400 ∷ 2 ∷ 1 ∷ 3333 ∷ 1 ∷ 6667 ∷ []
 
-pub versions : (plan tableTwo (200 ∷ 100 ∷ []) mostLent
-    ≡ outcomes.accepted (record {
-      freed = 1;
-      grants = 26 ∷ 39 ∷ 85 ∷ 0 ∷ [];
-      caps = 65 ∷ 85 ∷ [];
-      headroom = 0 ∷ 0 ∷ 0 ∷ 0 ∷ [];
-      held = 1 ∷ 0 ∷ 1 ∷ 0 ∷ [];
-    }))
-    × (plan tableThree (300 ∷ []) mostLent
-    ≡ outcomes.accepted (record {
-      freed = 0;
-      grants = 100 ∷ 201 ∷ [];
-      caps = 300 ∷ [];
-      headroom = 20 ∷ 39 ∷ [];
-      held = 0 ∷ 0 ∷ [];
-    }))
+pub versions : (figuresOf (plan tableTwo (200 ∷ 100 ∷ []) mostLent) ≡ planned 1 (26 ∷ 39 ∷ 85 ∷ 0 ∷ []) (65 ∷ 85 ∷ []) (0 ∷ 0 ∷ 0 ∷ 0 ∷ []) (1 ∷ 0 ∷ 1 ∷ 0 ∷ []))
+    × (figuresOf (plan tableThree (300 ∷ []) mostLent) ≡ planned 0 (100 ∷ 201 ∷ []) (300 ∷ []) (20 ∷ 39 ∷ []) (0 ∷ 0 ∷ []))
 unfolding plan
     follow word ensure end many total formOf percent node cord range load server table beneath serverLows lows firstNode overloaded
 versions = (refl, refl)

@@ -10,7 +10,7 @@ ghost use mathlib.Core.Path.{_≡_};
 ghost use Prim.Native.Nat.{_≤_};
 ghost use lib.ListN.{length, take};
 ghost use Rattle.io.specs.Counts.{Counts};
-ghost use Rattle.deals.specs.Plan.{lent, mostLent};
+ghost use Rattle.deals.specs.Plan.{lists, lent, mostLent};
 ghost use Rattle.demands.specs.Text.{mostLines};
 ghost use Rattle.demands.specs.Reading.{held};
 ghost use Rattle.print.specs.Line.{Put};
@@ -92,7 +92,7 @@ fn print_table(
     held: &mut [u32],
     buffer: &mut [u8],
 ) -> usize
-    requires sizes { ⌜ lent (now grants) (now caps) (now headroom) (now held) ≡ mostLent ⌝ }
+    requires sizes { ⌜ lent (lists (now grants) (now caps) (now headroom) (now held)) ≡ mostLent ⌝ }
     ensures put { λ r. ⌜ Put (now (buffer .entry)) 0 (now (buffer .exit)) r
         (tableText (now (table .entry)) (now (demands .entry))) ⌝ }
     ensures counts { λ r. ⌜ Counts r (now (buffer .exit)) ⌝ }

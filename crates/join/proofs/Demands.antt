@@ -7,16 +7,14 @@ use native.Mathlib.Omega.{arith}
 use lib.ListN.{length}
 use lib.Dec.{eqb, ltb}
 use borrow.Author.Tests.{eqb-true, eq-eqb, ne-eqb, ltb-true, ltb-false, lt-ltb, le-ltb}
-use Rattle.outcomes.specs.Outcome.{accepted, refused, unless, tooShort}
-use Rattle.outcomes.proofs.Outcomes.{accepted≢refused, unless-stop, unless-pass, unless-none, unless-back, unless-either}
+use Rattle.outcomes.specs.Outcome.{accepted, refused}
+use Rattle.outcomes.proofs.Outcomes.{accepted≢refused, unless-stop, unless-pass, unless-back, unless-either}
 use Rattle.figures.specs.Bounds.{firstNotBelow}
 use Rattle.rooms.specs.Table.{Room, roomCords}
-use Rattle.deals.specs.Plan.{Plan, planOf, PlanOutcome, PlanReason, firstTooLarge, countDiffers, demandTooLarge, planRoom}
+use Rattle.deals.specs.Plan.{Plan, planOf, PlanOutcome, firstTooLarge, countDiffers, demandTooLarge, planRoom}
 use Rattle.deals.specs.declared.Lengths.{Lengths}
-use Rattle.deals.specs.declared.PlanList.{PlanList}
-use Rattle.deals.specs.declared.PlanList.the-variants.{Grants, Caps, Headroom, Held}
-use Rattle.deals.specs.declared.PlanRefusal.the-variants.{DemandCount, DemandTooLarge, ListTooShort}
-use Rattle.deals.proofs.Plans.{planRoom-is}
+use Rattle.deals.specs.declared.PlanRefusal.the-variants.{DemandCount, DemandTooLarge}
+use Rattle.deals.proofs.Plans.{lists-passed, lists-either, planRoom-is}
 use Rattle.join.specs.Promises.{Ample}
 
 -- ---- The first of two lists in a row that is not below a bound
@@ -87,27 +85,16 @@ module _ (r : Room) (d : List ℕ) (lengths : Lengths) where
       planRoom-is r d lengths
       ∙ unless-pass _ _ (planOf r d) (ap not (eq-eqb (length d) (length (r .servers)) (f .count)))
       ∙ unless-pass _ _ (planOf r d) (le-ltb (firstTooLarge d) (length d) (f .none))
-      ∙ unless-pass _ _ (planOf r d) (le-ltb (lengths .grants) (roomCords r) (a .grants))
-      ∙ unless-pass _ _ (planOf r d) (le-ltb (lengths .caps) (length (r .servers)) (a .caps))
-      ∙ unless-pass _ _ (planOf r d) (le-ltb (lengths .headroom) (roomCords r) (a .headroom))
-      ∙ unless-pass _ _ (planOf r d) (le-ltb (lengths .held) (roomCords r) (a .held))
-      ∙ unless-none (planOf r d)
+      ∙ lists-passed (planOf r d) (roomCords r) (length (r .servers)) lengths a
 
   abbrev Told : ℕ → PlanOutcome → Type 0
   Told i o = o ≡ refused (DemandTooLarge i) → TooLarge i
-
-  short-passed : (i : ℕ) (list : PlanList) (entries needed : ℕ) (rest : List PlanReason) → Told i (unless rest (planOf r d))
-      → Told i (unless (tooShort (ListTooShort list) entries needed ∷ rest) (planOf r d))
-  short-passed i list entries needed rest others =
-      unless-either (tooShort (ListTooShort list) entries needed) rest (planOf r d) (Told i) (λ h z. absurd (let q : _≡_ {A = ℕ} 0 1 = cc in omega arith)) (λ _. others)
 
   pub too-large-back : {i : ℕ} → planRoom r d lengths ≡ refused (DemandTooLarge i) → TooLarge i
   too-large-back {i} e =
       unless-either (countDiffers r d) _ (planOf r d) (Told i) (λ h z. absurd (let q : _≡_ {A = ℕ} 0 1 = cc in omega arith)) (λ same.
       unless-either (demandTooLarge d) _ (planOf r d) (Told i)
       (λ h z. let q : firstTooLarge d ≡ i = cc in record { count = same-count _ _ same; is = sym q; within = ltb-true _ _ h }) (λ _.
-      short-passed i Grants (lengths .grants) (roomCords r) _
-      (short-passed i Caps (lengths .caps) (length (r .servers)) _
-      (short-passed i Headroom (lengths .headroom) (roomCords r) _
-      (short-passed i Held (lengths .held) (roomCords r) [] (λ z. absurd (accepted≢refused (sym (unless-none (planOf r d)) ∙ z))))))))
+      lists-either (planOf r d) (roomCords r) (length (r .servers)) lengths (Told i)
+      (λ list place z. absurd (let q : _≡_ {A = ℕ} 0 1 = cc in omega arith)) (λ z. absurd (accepted≢refused z))))
       (sym (planRoom-is r d lengths) ∙ e)

@@ -6,12 +6,13 @@ use lib.ListN.{length}
 use Rattle.outcomes.specs.Outcome.{accepted, refused}
 use Rattle.figures.specs.Figures.{at}
 use Rattle.rooms.specs.Part.{good}
-use Rattle.rooms.specs.Table.{Room, roomCords}
+use Rattle.rooms.specs.Table.{Room}
 use Rattle.rooms.specs.Limits.{checked}
 use Rattle.rooms.specs.Words.{tableOf}
 use Rattle.deals.specs.SecondDeal.{firstGrants}
-use Rattle.deals.specs.Plan.{Plan, plan}
+use Rattle.deals.specs.Plan.{Plan, countIn, entries, plan}
 use Rattle.deals.specs.declared.Lengths.{Lengths}
+use Rattle.deals.specs.declared.PlanList.{PlanList}
 use Rattle.deals.specs.declared.PlanRefusal.the-variants.{DemandCount, DemandTooLarge}
 use Rattle.join.specs.Joined.{joined, joinedPlan}
 use Rattle.join.specs.Outcome.{joining}
@@ -43,11 +44,8 @@ JoinGivesRoom = (j : AcceptedJoin) → JoinedTable j
 -- ---- The plan of the joined table
 
 -- Lists that are long enough for the plan of a room.
-pub record Ample (r : Room) (lengths : Lengths) : Type 0 where
-  pub grants : roomCords r ≤ lengths .grants
-  pub caps : length (r .servers) ≤ lengths .caps
-  pub headroom : roomCords r ≤ lengths .headroom
-  pub held : roomCords r ≤ lengths .held
+abbrev pub Ample : Room → Lengths → Type 0
+Ample r lengths = (list : PlanList) → countIn r list ≤ entries lengths list
 
 -- Plan of the joined table, with demands for both in order. Where it accepts those of each table, it accepts both, with lists that are long
 -- enough, and each list of the first's plan is followed by that of the second's; held nodes of the second are raised, 0 staying 0, and freed

@@ -270,9 +270,7 @@ module _ (p : AcceptedPart) (demands : List ℕ) (lengths ours theirs : Lengths)
 
   -- The lists of the whole were long enough.
   ample : Ample (p .room) lengths
-  ample =
-      let fits = planRoom-accepted (p .room) demands lengths whole of-room in
-      record { grants = fits .grants .within; caps = fits .caps .within; headroom = fits .headroom .within; held = fits .held .within }
+  ample list = planRoom-accepted (p .room) demands lengths whole of-room .fits list .within
 
   plans-parted : Ample (front-room p) ours → Ample (back-room p) theirs → PlansParted p demands ours theirs whole
   plans-parted long wide =

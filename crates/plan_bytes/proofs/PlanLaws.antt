@@ -11,7 +11,7 @@ use Rattle.calls.specs.Call.{answered}
 use Rattle.calls.proofs.Calls.{answer-told, call-short, call-done}
 use Rattle.calls.proofs.Fronts.{bytes-after}
 use Rattle.outcomes.specs.Outcome.{accepted, refused, written, after}
-use Rattle.deals.specs.Plan.{Plan, PlanOutcome, plan, answerOf, planNumber, planFigure}
+use Rattle.deals.specs.Plan.{Plan, PlanOutcome, output, count, entries, Lists, plan, answerOf, planNumber, planFigure}
 use Rattle.deals.specs.declared.Lengths.{Lengths}
 use Rattle.deals.specs.declared.Planned.{Planned}
 use Rattle.deals.specs.declared.Planned.the-variants as planned
@@ -21,9 +21,8 @@ use Rattle.deals.proofs.Lent.{plan-written}
 use Rattle.rooms.specs.Table.{Room, roomCords}
 use Rattle.layout.specs.declared.room.Counts.{Counts}
 use Rattle.layout.proofs.Loads.{servers-count, cords-count}
-use Rattle.plan_rooms.specs.Outputs.{output, count, entries, Lists}
 use Rattle.plan_rooms.specs.Planning.{PlanLeft}
-use Rattle.plan_rooms.proofs.Outputs.{count-none, output-length, output-fits}
+use Rattle.deals.proofs.Plans.{count-none, output-length}
 use Rattle.plans.proofs.PlanCall.{Admitted}
 use Rattle.plan_bytes.specs.Call.{PlannedCall}
 use Rattle.plan_bytes.specs.Figures.{Front, FiguresLeft}
@@ -71,7 +70,7 @@ module _ (table demands : List ℕ) (lengths : Lengths) where
   output-fitting list = go (plan table demands lengths) refl
     where
       go : (o : PlanOutcome) → plan table demands lengths ≡ o → length (written (output list) o) ≤ entries lengths list
-      go (accepted p) e = let fits = output-fits (plan-written table demands lengths e .planning) list in omega (arith, fits .count, fits .within)
+      go (accepted p) e = let fits = plan-written table demands lengths e .planning .fits list in omega (arith, fits .count, fits .within)
       go (refused q) e = omega arith
 
 -- Just what is written is stored.

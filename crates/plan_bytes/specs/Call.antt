@@ -8,10 +8,9 @@ use lib.ListN.{length}
 use Rattle.outcomes.specs.Outcome.{after}
 use Rattle.words.specs.Bytes.{bytesOf}
 use Rattle.calls.specs.Call.{Call, Left}
-use Rattle.deals.specs.Plan.{Plan, PlanOutcome, plan, answerOf, planNumber, planFigure}
+use Rattle.deals.specs.Plan.{Plan, PlanOutcome, output, Lists, lengthsOf, plan, answerOf, planNumber, planFigure}
 use Rattle.deals.specs.declared.Lengths.{Lengths}
 use Rattle.deals.specs.declared.PlanList.{PlanList}
-use Rattle.plan_rooms.specs.Outputs.{output, Lists, lengthsOf}
 
 -- Each list holds one figure for every four of its bytes.
 abbrev pub lentBytes : Lists → Lengths

@@ -5,9 +5,8 @@ use mathlib.Core.List.{List}
 use Prim.Native.Nat.{ℕ, _≤_}
 use lib.ListN.{length, take}
 use Rattle.outcomes.specs.Outcome.{written}
-use Rattle.deals.specs.Plan.{PlanOutcome, answerOf}
+use Rattle.deals.specs.Plan.{PlanOutcome, output, count, Lists, answerOf}
 use Rattle.deals.specs.declared.PlanList.{PlanList}
-use Rattle.plan_rooms.specs.Outputs.{output, count, Lists}
 use Rattle.plan_bytes.specs.declared.PlannedFigures.{PlannedFigures}
 
 -- So many entries of a list are an output.

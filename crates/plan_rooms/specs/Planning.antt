@@ -10,13 +10,12 @@ use Rattle.rooms.specs.Lists.{nodesOf}
 use Rattle.deals.specs.SecondDeal.{freed, secondDeal, secondWants}
 use Rattle.deals.specs.SecondDeal as second
 use Rattle.deals.specs.Headroom as lending
-use Rattle.deals.specs.Plan.{planOf}
+use Rattle.deals.specs.Plan.{planOf, output, Lists}
 use Rattle.deals.specs.declared.PlanList.{PlanList}
 use Rattle.deals.specs.Ranks.{DealMade}
 use Rattle.layout.specs.Outcome.{countsOf}
 use Rattle.layout.specs.Room.{RoomLists, RoomLoaded}
 use Rattle.layout.specs.declared.room.Counts.{Counts}
-use Rattle.plan_rooms.specs.Outputs.{Lists, output}
 
 -- ---- Both deals
 

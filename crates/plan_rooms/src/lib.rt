@@ -7,7 +7,7 @@ ghost use lib.ListN.{length};
 ghost use Rattle.rooms.specs.Part.{good};
 ghost use Rattle.rooms.specs.Table.{Room};
 ghost use Rattle.rooms.specs.Limits.{checked};
-ghost use Rattle.plan_rooms.specs.Outputs.{lists};
+ghost use Rattle.deals.specs.Plan.{lists};
 ghost use Rattle.plan_rooms.specs.Planning.{RoomToDeal, SomeRoom, DealtTwice, PlanGiven, SomePlan, PlanLeft};
 ghost use Rattle.figures.specs.Places.{Zeros};
 use deals::by_rank::deal;

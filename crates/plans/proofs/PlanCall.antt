@@ -1,13 +1,13 @@
 -- Plan in the code's terms: what its checks come to, in their order, and what it leaves in its lists.
 use mathlib.Core.Path.{_≡_, refl, sym, ap, ap₂, _∙_}
 use mathlib.Core.Bool.{Bool, true, false, not}
-use mathlib.Core.List.{List, [], _∷_, _++_, map}
+use mathlib.Core.List.{List, [], _∷_, _++_}
 use Prim.Native.Nat.{ℕ, _≤_, _<_}
 use native.Mathlib.Omega.{arith}
 use lib.Dec.{eqb, ltb}
 use lib.ListN.{length, take, drop}
 use lib.Seq.{sets, length-sets, take-all}
-use borrow.Author.Tests.{ltb-false, lt-ltb, le-ltb}
+use borrow.Author.Tests.{lt-ltb, le-ltb}
 use Rattle.outcomes.specs.Outcome.{Outcome, accepted, refused, Reason, tooShort, unless}
 use Rattle.outcomes.proofs.Outcomes.{accepted≢refused, accepted-is, unless-stop, unless-pass, unless-back, unless-none, unless-is}
 use Rattle.figures.proofs.Lists.{figures-length}
@@ -16,16 +16,15 @@ use Rattle.rooms.specs.Part.{Step, good, bad}
 use Rattle.rooms.specs.Table.{Room, roomCords}
 use Rattle.rooms.specs.Limits.{checked}
 use Rattle.rooms.proofs.Accepted.{Accepted}
-use Rattle.rooms.proofs.All.{All}
 use Rattle.deals.specs.Wants.{needs}
-use Rattle.deals.specs.Plan.{Plan, planOf, PlanReason, firstTooLarge, countDiffers, demandTooLarge, reasons, plan}
+use Rattle.deals.specs.Plan.{Plan, planOf, output, count, entries, Lists, PlanReason, firstTooLarge, countDiffers, demandTooLarge, listReasons, reasons, plan}
 use Rattle.deals.specs.declared.Lengths.{Lengths}
 use Rattle.deals.specs.declared.PlanList.{PlanList}
 use Rattle.deals.specs.declared.PlanRefusal.{PlanRefusal}
 use Rattle.deals.specs.declared.PlanRefusal.the-variants.{ListTooShort}
 use Rattle.deals.specs.declared.Planned.the-variants as planned
 use Rattle.deals.proofs.RoomHeadroom.{ceilings-count}
-use Rattle.deals.proofs.Plans.{planRoom-is, plan-bad-table, plan-good-table}
+use Rattle.deals.proofs.Plans.{lists-long, planRoom-is, plan-bad-table, plan-good-table}
 use Rattle.layout.specs.Outcome.{LoadOutcome, loadReasons, loading, countsOf, loadedOf}
 use Rattle.layout.specs.Room.{RoomLoaded}
 use Rattle.layout.specs.declared.room.Counts.{Counts}
@@ -33,10 +32,8 @@ use Rattle.layout.specs.declared.room.Loaded.{Loaded}
 use Rattle.layout.specs.declared.room.Loaded.the-variants as loads
 use Rattle.layout.specs.declared.room.LoadRefusal.{LoadRefusal}
 use Rattle.layout.proofs.Loads.{loading-good, loading-bad, RoomFound, outcome-found}
-use Rattle.plan_rooms.specs.Outputs.{allLists, output, count, entries, Lists}
 use Rattle.plan_rooms.specs.Planning.{PlanGiven}
-use Rattle.plan_rooms.proofs.Outputs.{any-of}
-use Rattle.plans.specs.Admission.{refusalOf, listReason, listReasons, admitting, admission}
+use Rattle.plans.specs.Admission.{refusalOf, admitting, admission}
 use Rattle.plans.specs.Done.{planIn, PlanDone}
 use Rattle.plans.specs.declared.Admission.the-variants as admitted
 
@@ -53,7 +50,7 @@ module _ (loaded : Loaded) (lengths : Lengths) where
   loading-told e is = rw (e, is) refl
 
   -- Of a room that is loaded all reasons are left.
-  pub loading-passed : {counts : Counts} → loaded ≡ loads.Good counts → Left counts (listReasons counts lengths)
+  pub loading-passed : {counts : Counts} → loaded ≡ loads.Good counts → Left counts (listReasons (counts .cords) (counts .servers) lengths)
   unfolding admitting
   loading-passed e = record { is = ap (λ (l : Loaded). admitting l lengths) e }
 
@@ -92,7 +89,7 @@ module _ {A B R : Type 0} (a : A) (b : B) where
 
 -- Plan, where a room is loaded: the other reasons decide. Where it is not, its refusal stands.
 module _ (table demands : List ℕ) (lengths : Lengths) where
-  room-planned : {r : Room} → loading table demands ≡ accepted r → plan table demands lengths ≡ unless (listReasons (countsOf r) lengths) (planOf r demands)
+  room-planned : {r : Room} → loading table demands ≡ accepted r → plan table demands lengths ≡ unless (listReasons (roomCords r) (length (r .servers)) lengths) (planOf r demands)
   room-planned {r} e =
       let f = outcome-found table demands e in
       let is : checked table 0 ≡ good r (f .end) = f .is ∙ ap (λ (x : Room). good x (f .end)) (accepted-is (sym (f .accepts) ∙ e)) in
@@ -133,18 +130,9 @@ pub record Admitted (table demands : List ℕ) (lengths : Lengths) (counts : Cou
   pub is : plan table demands lengths ≡ accepted (planOf (room-found .room) demands)
   pub long : (list : PlanList) → count (counts .cords) (counts .servers) list ≤ entries lengths list
 
--- Lists that give no reason to refuse are long enough.
-lists-long : (counts : Counts) (lengths : Lengths) (names : List PlanList) {given : Counts} → unless (map (listReason counts lengths) names) counts ≡ accepted given
-    → All (λ list. count (counts .cords) (counts .servers) list ≤ entries lengths list) names
-unfolding All
-lists-long counts lengths [] e = tt
-lists-long counts lengths (list ∷ rest) e =
-    let passed = unless-back _ _ counts e in
-    (ltb-false (entries lengths list) (count (counts .cords) (counts .servers) list) (passed .0), lists-long counts lengths rest (passed .1))
-
 module _ (table demands : List ℕ) (lengths : Lengths) {loaded : Loaded} {answer : admitted.the-data} (l : loaded ≡ loadedOf (loading table demands)) (d : answer ≡ admission (admitting loaded lengths)) where
   -- What the checks behind the loading come to.
-  by-room : {r : Room} → loading table demands ≡ accepted r → admitting loaded lengths ≡ unless (listReasons (countsOf r) lengths) (countsOf r)
+  by-room : {r : Room} → loading table demands ≡ accepted r → admitting loaded lengths ≡ unless (listReasons (roomCords r) (length (r .servers)) lengths) (countsOf r)
   unfolding admitting
   by-room e = ap (λ (x : Loaded). admitting x lengths) (l ∙ ap loadedOf e)
 
@@ -161,15 +149,15 @@ module _ (table demands : List ℕ) (lengths : Lengths) {loaded : Loaded} {answe
       go (refused q) is (accepted given) u told = absurd (accepted≢refused (sym u ∙ by-refusal is))
       go (accepted r) is (accepted given) u told =
           let all = sym (by-room is) ∙ u in
-          let counted : counts ≡ countsOf r = (let t : counts ≡ given = cc in t) ∙ unless-is (listReasons (countsOf r) lengths) (countsOf r) given all in
+          let counted : counts ≡ countsOf r = (let t : counts ≡ given = cc in t) ∙ unless-is (listReasons (roomCords r) (length (r .servers)) lengths) (countsOf r) given all in
           let f = outcome-found table demands is in
           rw counted
           (record {
             room-found = f;
             is = room-planned table demands lengths is
-                ∙ other-accepted (countsOf r) (planOf r demands) (listReasons (countsOf r) lengths) all
+                ∙ other-accepted (countsOf r) (planOf r demands) (listReasons (roomCords r) (length (r .servers)) lengths) all
                 ∙ ap (λ (x : Room). accepted (planOf x demands)) (accepted-is (sym is ∙ f .accepts));
-            long = any-of _ (lists-long (countsOf r) lengths allLists all);
+            long = lists-long (countsOf r) (roomCords r) (length (r .servers)) lengths all;
           })
 
   -- What is not admitted, Plan refuses.
@@ -181,7 +169,7 @@ module _ (table demands : List ℕ) (lengths : Lengths) {loaded : Loaded} {answe
       go o is (accepted given) u told = absurd (let z : _≡_ {A = ℕ} 0 1 = cc in omega arith)
       go (accepted r) is (refused p) u told =
           let same : p ≡ q = cc in
-          room-planned table demands lengths is ∙ other-refused (countsOf r) (planOf r demands) (listReasons (countsOf r) lengths) (sym (by-room is) ∙ u) ∙ ap refused same
+          room-planned table demands lengths is ∙ other-refused (countsOf r) (planOf r demands) (listReasons (roomCords r) (length (r .servers)) lengths) (sym (by-room is) ∙ u) ∙ ap refused same
       go (refused x) is (refused p) u told =
           let same : refusalOf x ≡ q = (let h : _≡_ {A = Outcome Counts PlanRefusal} (refused (refusalOf x)) (refused p) = sym (by-refusal is) ∙ u in let t : p ≡ q = cc in cc) in
           refusal-planned table demands lengths is ∙ ap refused same

@@ -1,18 +1,15 @@
 -- What the checks of Plan come to, once a room is loaded: its lists may still be too short. The contract of `plan` rests on
 -- deals/specs/Plan.antt: only private functions, and those that lead to it, cite this.
-use mathlib.Core.List.{List, map}
-use Rattle.outcomes.specs.Outcome.{Outcome, accepted, refused, unless, tooShort}
-use Rattle.deals.specs.Plan.{PlanReason}
+use Rattle.outcomes.specs.Outcome.{Outcome, accepted, refused, unless}
+use Rattle.deals.specs.Plan.{listReasons}
 use Rattle.deals.specs.declared.Lengths.{Lengths}
-use Rattle.deals.specs.declared.PlanList.{PlanList}
 use Rattle.deals.specs.declared.PlanRefusal.{PlanRefusal}
-use Rattle.deals.specs.declared.PlanRefusal.the-variants.{Table, DemandCount, DemandTooLarge, ListTooShort}
+use Rattle.deals.specs.declared.PlanRefusal.the-variants.{Table, DemandCount, DemandTooLarge}
 use Rattle.layout.specs.declared.room.Counts.{Counts}
 use Rattle.layout.specs.declared.room.Loaded.{Loaded}
 use Rattle.layout.specs.declared.room.Loaded.the-variants as loads
 use Rattle.layout.specs.declared.room.LoadRefusal.{LoadRefusal}
 use Rattle.layout.specs.declared.room.LoadRefusal.the-variants as refusals
-use Rattle.plan_rooms.specs.Outputs.{allLists, count, entries}
 use Rattle.plans.specs.declared.Admission.{Admission}
 use Rattle.plans.specs.declared.Admission.the-variants.{Good, Refused}
 
@@ -22,17 +19,10 @@ refusalOf (refusals.Table refusal) = Table refusal
 refusalOf (refusals.DemandCount place) = DemandCount place
 refusalOf (refusals.DemandTooLarge place) = DemandTooLarge place
 
--- The reasons to refuse the plan of a room with these counts, in their order (12 and on): a list is too short.
-abbrev pub listReason : Counts → Lengths → PlanList → PlanReason
-listReason counts lengths list = tooShort (ListTooShort list) (entries lengths list) (count (counts .cords) (counts .servers) list)
-
-abbrev pub listReasons : Counts → Lengths → List PlanReason
-listReasons counts lengths = map (listReason counts lengths) allLists
-
 -- What is admitted of what was loaded: the room's counts, or a refusal.
 unfoldable pub admitting : Loaded → Lengths → Outcome Counts PlanRefusal
 unfolding unless
-admitting (loads.Good counts) lengths = unless (listReasons counts lengths) counts
+admitting (loads.Good counts) lengths = unless (listReasons (counts .cords) (counts .servers) lengths) counts
 admitting (loads.Refused refusal) lengths = refused (refusalOf refusal)
 
 -- The answer to it.

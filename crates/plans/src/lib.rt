@@ -1,6 +1,6 @@
 // Plan: a room is loaded, its lists are checked, and then it is planned.
 ghost use mathlib.Core.Path.{_≡_};
-ghost use Rattle.plan_rooms.specs.Outputs.{lists};
+ghost use Rattle.deals.specs.Plan.{lists};
 ghost use Rattle.plans.specs.Admission.{refusalOf, admitting, admission};
 ghost use Rattle.plans.specs.Done.{PlanDone};
 use deals::Lengths;

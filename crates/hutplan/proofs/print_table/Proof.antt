@@ -2,13 +2,13 @@
 use mathlib.Core.List.{List}
 use Prim.Native.Nat.{ℕ}
 use Rattle.hutplan.proofs.Prints.{RoomText, table-refused, table-accepted}
-use Rattle.deals.specs.declared.PlanList.the-variants.{Grants, Caps, Headroom, Held}
+use Rattle.deals.specs.Plan.{Lists, lists}
 use Rattle.print.proofs.Putting.{put-as}
 use borrow.Author.Needs.{needs}
 use Rattle.hutplan.proofs.print_table.Statement.{statement}
 use Rattle.hutplan.proofs.print_table.Tie as tie
 
--- The table and the demands, and the lists as Plan leaves them.
+-- The table and the demands, and the lists as they are lent to Plan and as it leaves them.
 abbrev start : tie.After-plan → tie.Start
 start c = let lent = c .before .before .before .before in let known = lent .before .before .before .before in known .before .before .before .before
 
@@ -18,17 +18,11 @@ table c = start c .args .table .now
 abbrev demands : tie.After-plan → List ℕ
 demands c = start c .args .demands .now
 
-abbrev grants : tie.After-plan → List ℕ
-grants c = c .plan .last .1 .1 .0
+abbrev given : tie.After-plan → Lists
+given c = let args = start c .args in lists (args .grants .now) (args .caps .now) (args .headroom .now) (args .held .now)
 
-abbrev caps : tie.After-plan → List ℕ
-caps c = c .plan .last .1 .1 .1 .0
-
-abbrev headroom : tie.After-plan → List ℕ
-headroom c = c .plan .last .1 .1 .1 .1 .0
-
-abbrev held : tie.After-plan → List ℕ
-held c = c .plan .last .1 .1 .1 .1 .1 .0
+abbrev left : tie.After-plan → Lists
+left c = let last = c .plan .last .1 .1 in lists (last .0) (last .1 .0) (last .1 .1 .0) (last .1 .1 .1 .0)
 
 -- Accepted, the lists have the room's plan.
 abbrev call : tie.After-slice-known9 → tie.After-plan
@@ -38,15 +32,11 @@ abbrev accepted : tie.After-planned → tie.After-plan
 accepted c = call (c .before .before)
 
 room-text : (c : tie.After-planned)
-    → RoomText (table (accepted c)) (demands (accepted c)) (c .planned .given .0 .0)
-    (caps (accepted c)) (grants (accepted c)) (headroom (accepted c)) (held (accepted c))
+    → RoomText (table (accepted c)) (demands (accepted c)) (c .planned .given .0 .0) (left (accepted c))
 room-text c =
     let plan = accepted c in
-    let args = start plan .args in
     let said = plan .plan .ensures in
-    table-accepted (table plan) (demands plan) (args .grants .now) (args .caps .now) (args .headroom .now) (args .held .now) (start plan .pre)
-    (grants plan) (caps plan) (headroom plan) (held plan)
-    (c .planned .given .1) (said .answer-is) (said .lists-are Grants) (said .lists-are Caps) (said .lists-are Headroom) (said .lists-are Held)
+    table-accepted (table plan) (demands plan) (given plan) (start plan .pre) (left plan) (c .planned .given .1) (said .answer-is) (said .lists-are)
 
 -- Where Plan has accepted, before its lists are lent to be printed.
 abbrev planned : tie.After-plan-arg9 → tie.After-planned
@@ -67,10 +57,7 @@ returns-2 c =
     let numbered = put .before .before .before in
     let known = numbered .before .before in
     let plan = call (known .before .before) in
-    let args = start plan .args in
-    let is =
-    table-refused (table plan) (demands plan) (args .grants .now) (args .caps .now) (args .headroom .now) (args .held .now) (start plan .pre)
-    (known .planned2 .given .1) (plan .plan .ensures .answer-is) in
+    let is = table-refused (table plan) (demands plan) (given plan) (start plan .pre) (known .planned2 .given .1) (plan .plan .ensures .answer-is) in
     (rw (numbered .number .ensures, put .before .before .place .ensures, ← is) at (put .refusal .ensures .0), put .refusal .ensures .1)
 
 pub print-table-spec : {M : Type 1} → statement M

@@ -7,12 +7,11 @@ use lib.ListN.{length, take}
 use lib.Seq.{sets, length-take-le}
 use Rattle.outcomes.specs.Outcome.{after}
 use Rattle.words.specs.Bytes.{wordsOf, bytesOf}
-use Rattle.deals.specs.Plan.{PlanOutcome, plan}
+use Rattle.deals.specs.Plan.{PlanOutcome, output, count, entries, Lists, lists, plan}
 use Rattle.deals.specs.declared.Lengths.{Lengths}
 use Rattle.deals.specs.declared.PlanList.{PlanList}
 use Rattle.deals.specs.declared.PlanList.the-variants.{Grants, Caps, Headroom, Held}
-use Rattle.plan_rooms.specs.Outputs.{output, count, entries, Lists, lists}
-use Rattle.plan_rooms.proofs.Outputs.{each}
+use Rattle.deals.proofs.Plans.{each}
 use Rattle.plan_bytes.specs.Call.{lentBytes}
 use Rattle.plan_bytes.specs.Figures.{FiguresLeft}
 use Rattle.plan_bytes.proofs.PlanLaws.{output-fitting, list-stored, plan-short, plan-done}

@@ -8,7 +8,7 @@ use Rattle.deals.specs.declared.Lengths.{Lengths}
 use Rattle.layout.specs.declared.room.Counts.{Counts}
 use Rattle.layout.proofs.Loads.{servers-few, cords-few}
 use Rattle.plan_rooms.specs.Planning.{PlanGiven}
-use Rattle.plan_rooms.proofs.Outputs.{each}
+use Rattle.deals.proofs.Plans.{each}
 use Rattle.plans.proofs.PlanCall.{Admitted, admitted-good, admitted-refused, plan-given}
 use Rattle.plan_bytes.proofs.PlanLaws.{figures-accepted, figures-refused}
 use borrow.Author.Needs.{needs}

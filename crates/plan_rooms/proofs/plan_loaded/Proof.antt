@@ -14,7 +14,7 @@ use Rattle.figures.proofs.Fronts.{equal-length, front-length, Lent, lent, lent-
 use Rattle.plan_headroom.specs.Lending.{LendGiven}
 use Rattle.plan_holders.specs.Holding.{HeldLists}
 use Rattle.plan_rooms.specs.Planning.{RoomToDeal, DealtTwice, PlanGiven}
-use Rattle.plan_rooms.proofs.Outputs.{each}
+use Rattle.deals.proofs.Plans.{each}
 use Rattle.plan_rooms.proofs.Planning.{blank-marks, second-dealt}
 use Rattle.plan_rooms.proofs.Following.{held-lists, lend-given, held-made, headroom-made}
 use Rattle.plan_rooms.proofs.Given.{given-ok, nodes-few, cords-few, parents-long, spare-long, cords-long, lows-long, wants-long, headroom-long, caps-long, to-deal, ceilings-given, stands}

@@ -6,15 +6,14 @@ use native.Mathlib.Omega.{arith}
 use lib.ListN.{length, take, length-replicate}
 use lib.Seq.{length-take-le}
 use Rattle.rooms.specs.Table.{mostServers, mostCords, roomCords}
-use Rattle.deals.specs.Plan.{planOf}
+use Rattle.deals.specs.Plan.{planOf, output, Lists, lists, lengthsOf}
 use Rattle.deals.specs.declared.Lengths.{Lengths}
 use Rattle.deals.specs.declared.PlanList.the-variants.{Grants, Caps, Headroom, Held}
 use Rattle.layout.specs.Room.{RoomLoaded}
 use Rattle.layout.specs.declared.room.Counts.{Counts}
 use Rattle.layout.proofs.Loads.{found-accepted, servers-count, cords-count, servers-few, cords-few}
-use Rattle.plan_rooms.specs.Outputs.{output, Lists, lists, lengthsOf}
 use Rattle.plan_rooms.specs.Planning.{PlanGiven}
-use Rattle.plan_rooms.proofs.Outputs.{each, output-length}
+use Rattle.deals.proofs.Plans.{each, output-length}
 use Rattle.plans.proofs.PlanCall.{Admitted, admitted-good, admitted-refused, plan-given, copied-loaded, stored-again, refused-done, accepted-done}
 use borrow.Author.Needs.{needs}
 use Rattle.plans.proofs.plan.Statement.{statement}

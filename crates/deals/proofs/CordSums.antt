@@ -81,54 +81,81 @@ module _ {count : ℕ} {listed nodes starts wants : List ℕ} (cords : LevelCord
         omega (arith, cords .few, hangs .0, hangs .1, inv .sums-are (x - 1) (omega (arith, hangs .0, hangs .1))),
       )
 
+-- ---- Their weights
+
+-- Before the turn of entry i, in a list of some length.
+pub record WeightTurn (count : ℕ) (listed nodes starts wants : List ℕ) (wholes-length i : ℕ) (wholes : List ℕ) : Type 0 where
+  pub cords : LevelCords count listed nodes starts wants
+  pub reached : i ≤ length listed
+  pub wholes-size : length wholes ≡ wholes-length
+  pub wholes-are : Credited count listed nodes (cordWeight starts wants) i wholes
+
+module _ {listed nodes starts wants : List ℕ} {x : ℕ} where
+  pub weights-start : {count : ℕ} {wholes : List ℕ} → LevelCords count listed nodes starts wants → length wholes ≡ x → count ≤ x → ((n : ℕ) → n < count → at wholes n ≡ 0)
+      → WeightTurn count listed nodes starts wants x 0 wholes
+  weights-start {count} cords size enough zeros = record {
+    cords = cords;
+    reached = omega arith;
+    wholes-size = size;
+    wholes-are = credited-start listed nodes (cordWeight starts wants) count (omega arith) zeros;
+  }
+
+  module _ {count i : ℕ} {wholes : List ℕ} (turn : WeightTurn count listed nodes starts wants x i wholes) where
+    pub weights-end : length listed ≤ i → (n : ℕ) → n < count → at wholes n ≡ overListed listed nodes (cordWeight starts wants) n
+    weights-end end n l =
+        let e : i ≡ length listed = omega (arith, turn .reached) in
+        turn .wholes-are .sums-are n l ∙ ap (listedBefore listed nodes (cordWeight starts wants) n) e
+
+    module _ (more : i < length listed) {c : ℕ} (c-is : c ≡ at listed i) {node : ℕ} (node-is : node ≡ at nodes c) where
+      pub weight-fits : {weight : ℕ} → weight ≤ mostWatts → (node ≤ length wholes) × (at wholes (node - 1) + weight < 2 ^ 64)
+      weight-fits = credited-fits (turn .cords) more c-is (turn .wholes-are) node-is (λ h l. omega (arith, turn .cords .most h l))
+
+      pub weights-next : {weight : ℕ} {wholes′ : List ℕ} → weight ≡ cordWeight starts wants c → wholes′ ≡ credited node weight wholes
+          → WeightTurn count listed nodes starts wants x (i + 1) wholes′
+      weights-next {weight = weight} e credited-is = record {
+        cords = turn .cords;
+        reached = omega arith;
+        wholes-size = ap length credited-is ∙ credited-length node weight wholes ∙ turn .wholes-size;
+        wholes-are = credited-more (turn .cords) more c-is (turn .wholes-are) node-is e credited-is;
+      }
+
 -- ---- Their starts and weights
 
 -- Before the turn of entry i, in lists of some lengths.
 pub record SumTurn (count : ℕ) (listed nodes starts wants : List ℕ) (bases-length wholes-length i : ℕ) (bases wholes : List ℕ) : Type 0 where
-  pub cords : LevelCords count listed nodes starts wants
-  pub reached : i ≤ length listed
+  pub weights : WeightTurn count listed nodes starts wants wholes-length i wholes
   pub bases-size : length bases ≡ bases-length
-  pub wholes-size : length wholes ≡ wholes-length
   pub bases-are : Credited count listed nodes (at starts) i bases
-  pub wholes-are : Credited count listed nodes (cordWeight starts wants) i wholes
 
 module _ {listed nodes starts wants : List ℕ} {x y : ℕ} where
   pub sums-start : {count : ℕ} {bases wholes : List ℕ} → LevelCords count listed nodes starts wants
       → length bases ≡ x → length wholes ≡ y → count ≤ x → count ≤ y → ((n : ℕ) → n < count → at bases n ≡ 0) → ((n : ℕ) → n < count → at wholes n ≡ 0)
       → SumTurn count listed nodes starts wants x y 0 bases wholes
   sums-start {count} cords sb sw eb ew zb zw = record {
-    cords = cords;
-    reached = omega arith;
+    weights = weights-start cords sw ew zw;
     bases-size = sb;
-    wholes-size = sw;
     bases-are = credited-start listed nodes (at starts) count (omega arith) zb;
-    wholes-are = credited-start listed nodes (cordWeight starts wants) count (omega arith) zw;
   }
 
   module _ {count i : ℕ} {bases wholes : List ℕ} (turn : SumTurn count listed nodes starts wants x y i bases wholes) where
     pub sums-end : length listed ≤ i → (n : ℕ) → n < count
         → (at bases n ≡ overListed listed nodes (at starts) n) × (at wholes n ≡ overListed listed nodes (cordWeight starts wants) n)
     sums-end end n l =
-        let e : i ≡ length listed = omega (arith, turn .reached) in (
-          turn .bases-are .sums-are n l ∙ ap (listedBefore listed nodes (at starts) n) e,
-          turn .wholes-are .sums-are n l ∙ ap (listedBefore listed nodes (cordWeight starts wants) n) e,
-        )
+        let e : i ≡ length listed = omega (arith, turn .weights .reached) in
+        (turn .bases-are .sums-are n l ∙ ap (listedBefore listed nodes (at starts) n) e, weights-end (turn .weights) end n l)
 
     module _ (more : i < length listed) {c : ℕ} (c-is : c ≡ at listed i) {node : ℕ} (node-is : node ≡ at nodes c) where
-      pub start-fits : {start : ℕ} → start ≤ mostWatts → (node ≤ length bases) × (at bases (node - 1) + start < 2 ^ 64)
-      start-fits = credited-fits (turn .cords) more c-is (turn .bases-are) node-is (λ h l. omega (arith, turn .cords .ordered h l, turn .cords .most h l))
+      abbrev cords : LevelCords count listed nodes starts wants
+      cords = turn .weights .cords
 
-      pub weight-fits : {weight : ℕ} → weight ≤ mostWatts → (node ≤ length wholes) × (at wholes (node - 1) + weight < 2 ^ 64)
-      weight-fits = credited-fits (turn .cords) more c-is (turn .wholes-are) node-is (λ h l. omega (arith, turn .cords .most h l))
+      pub start-fits : {start : ℕ} → start ≤ mostWatts → (node ≤ length bases) × (at bases (node - 1) + start < 2 ^ 64)
+      start-fits = credited-fits cords more c-is (turn .bases-are) node-is (λ h l. omega (arith, cords .ordered h l, cords .most h l))
 
       pub sums-next : {start weight : ℕ} {bases′ wholes′ : List ℕ} → start ≡ at starts c → weight ≡ cordWeight starts wants c
           → bases′ ≡ credited node start bases → wholes′ ≡ credited node weight wholes
           → SumTurn count listed nodes starts wants x y (i + 1) bases′ wholes′
-      sums-next {start = start} {weight = weight} es ew cb cw = record {
-        cords = turn .cords;
-        reached = omega arith;
+      sums-next {start = start} es ew cb cw = record {
+        weights = weights-next (turn .weights) more c-is node-is ew cw;
         bases-size = ap length cb ∙ credited-length node start bases ∙ turn .bases-size;
-        wholes-size = ap length cw ∙ credited-length node weight wholes ∙ turn .wholes-size;
-        bases-are = credited-more (turn .cords) more c-is (turn .bases-are) node-is es cb;
-        wholes-are = credited-more (turn .cords) more c-is (turn .wholes-are) node-is ew cw;
+        bases-are = credited-more cords more c-is (turn .bases-are) node-is es cb;
       }

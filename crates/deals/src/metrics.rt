@@ -55,25 +55,27 @@ pub fn add_cords(
     }
 }
 
-// The same, whatever the sums come with.
-pub fn sum_cords(
+// The weights alone.
+pub fn sum_weights(
     count: usize,
     listed: &[u16],
     nodes: &[u16],
     starts: &[u32],
     wants: &[u32],
-    bases: &mut [u64],
     wholes: &mut [u64],
 )
     requires cords { ⌜ LevelCords count (now listed) (now nodes) (now starts) (now wants) ⌝ }
-    requires sizes { ⌜ (count ≤ length (now bases)) × (count ≤ length (now wholes)) ⌝ }
-    ensures starts_summed { λ _. ⌜ ((n : ℕ) → n < count → at (now (bases .exit)) n
-        ≡ overListed (now (listed .entry)) (now (nodes .entry)) (at (now (starts .entry))) n) ⌝ }
-    ensures weights_summed { λ _. ⌜ ((n : ℕ) → n < count → at (now (wholes .exit)) n
+    requires size { ⌜ count ≤ length (now wholes) ⌝ }
+    ensures summed { λ _. ⌜ ((n : ℕ) → n < count → at (now (wholes .exit)) n
         ≡ overListed (now (listed .entry)) (now (nodes .entry)) (cordWeight (now (starts .entry)) (now (wants .entry))) n) ⌝ }
 {
-    clear(bases, count);
-    add_cords(count, listed, nodes, starts, wants, bases, wholes);
+    clear(wholes, count);
+    for i in 0..listed.len() {
+        let c = index(listed[i]);
+        let number = index(nodes[c]);
+        let start = starts[c];
+        credit(wholes, number, wide(wants[c] - start));
+    }
 }
 
 // The weight of the node at place n: the lesser of what is left of its limit and of its children's weights. It is taken from what is left.

@@ -83,9 +83,8 @@ module _ {parents nodes wants ceilings all : List ℕ} (lists : LendLists parent
 
   -- ---- The weights
 
-  pub sum-cords-asks : {bases-length wholes-length : ℕ} → length parents ≤ bases-length → length parents ≤ wholes-length
-      → LevelCords (length parents) listed nodes wants ceilings × ((length parents ≤ bases-length) × (length parents ≤ wholes-length))
-  sum-cords-asks eb ew = (all-cords (le-refl (length parents)), (eb, ew))
+  pub sum-weights-asks : {wholes-length : ℕ} → length parents ≤ wholes-length → LevelCords (length parents) listed nodes wants ceilings × (length parents ≤ wholes-length)
+  sum-weights-asks enough = (all-cords (le-refl (length parents)), enough)
 
   -- What is summed on the nodes are the weights of all cords.
   abbrev pub OnNodes : List ℕ → Type 0

@@ -13,7 +13,7 @@ ghost use Rattle.plan_headroom.specs.Passes.{AllPlaces, LendLists, LendW
 use deals::by_rank::FIGURES;
 use deals::dealing::deal_cords;
 use deals::dealing::deal_nodes;
-use deals::metrics::sum_cords;
+use deals::metrics::sum_weights;
 use deals::metrics::weigh;
 use figures::place;
 
@@ -79,8 +79,7 @@ fn deal_out(
 // The headroom of each cord, in the place of its ceiling. It is dealt as one more rank would be, after all others: every cord is of that
 // rank, with its second want for its start and its ceiling for its want. For a node's ceiling less its Requests is the lesser of two
 // figures: what these leave of its limit, and its children's ceilings less their Requests, summed. `left` has what the Requests leave of
-// each limit; `tops` (want plus headroom) are lent for the figures on the way. The sums of the wants, which `sum_cords` makes too, are not
-// used: `before` has room for them.
+// each limit; `tops` (want plus headroom) are lent for the figures on the way.
 pub fn lend(
     parents: &[u16],
     nodes: &[u16],
@@ -102,15 +101,7 @@ pub fn lend(
     let mut dealt = [0u32; FIGURES];
     let n = parents.len();
     list_all(&mut all);
-    sum_cords(
-        n,
-        &all[..nodes.len()],
-        nodes,
-        wants,
-        headroom,
-        &mut before,
-        &mut wholes,
-    );
+    sum_weights(n, &all[..nodes.len()], nodes, wants, headroom, &mut wholes);
     weigh(parents, &all, n, left, &mut wholes, &mut amounts);
     deal_out(
         parents,

@@ -7,7 +7,7 @@ use lib.ListN.{length, replicate}
 use borrow.Author.Needs.{needs}
 use Rattle.figures.proofs.Fronts.{equal-length}
 use Rattle.plan_headroom.specs.Passes.{LendLists, AllPlaces, LendWeights}
-use Rattle.plan_headroom.proofs.Weights.{listed-length, sum-cords-asks, OnNodes, weigh-asks, lend-weights}
+use Rattle.plan_headroom.proofs.Weights.{listed-length, sum-weights-asks, OnNodes, weigh-asks, lend-weights}
 use Rattle.plan_headroom.proofs.Headroom.{lend-lists, left-most, headroom-is}
 use Rattle.plan_headroom.proofs.lend.Statement.{statement}
 use Rattle.plan_headroom.proofs.lend.Tie as tie
@@ -24,12 +24,12 @@ Listed = tie.After-list-all
 abbrev start-l : Listed → Start
 start-l l = l .before .before .before .before .before .before .before .before
 
--- After `sum_cords`, and where it is called.
+-- After `sum_weights`, and where it is called.
 abbrev Sums : Type 0
-Sums = tie.After-sum-cords
+Sums = tie.After-sum-weights
 
 abbrev listed-a : tie.After-wholes → Listed
-listed-a c = c .before .before .before .before .before
+listed-a c = c .before .before .before .before
 
 abbrev listed-s : Sums → Listed
 listed-s s = listed-a (s .before)
@@ -42,7 +42,7 @@ abbrev Weights : Type 0
 Weights = tie.After-weigh
 
 abbrev sums-w : Weights → Sums
-sums-w w = w .before .before .before .before .before .before .before
+sums-w w = w .before .before .before .before .before .before
 
 abbrev start-w : Weights → Start
 start-w w = start (sums-w w)
@@ -62,11 +62,8 @@ dealt-z c = c .before .before .before .before .before .before .before
 abbrev all-listed : Listed → List ℕ
 all-listed l = l .list-all .last .0
 
-abbrev before-back : Sums → List ℕ
-before-back s = s .sum-cords .last .1 .1 .1 .1 .1 .0
-
 abbrev sums-back : Sums → List ℕ
-sums-back s = s .sum-cords .last .1 .1 .1 .1 .1 .1 .0
+sums-back s = s .sum-weights .last .1 .1 .1 .1 .1 .0
 
 abbrev wholes-back : Weights → List ℕ
 wholes-back w = w .weigh .last .1 .1 .1 .1 .0
@@ -95,7 +92,7 @@ abbrev places : (s : Sums) → AllPlaces (all-listed (listed-s s))
 places s = listed-s s .list-all .ensures
 
 on-nodes : (s : Sums) → OnNodes (lists (start s)) (places s) (sums-back s)
-on-nodes s n l = s .sum-cords .ensures .1 n l
+on-nodes s n l = s .sum-weights .ensures n l
 
 weights-at : (w : Weights) → LendWeights (start-w w .args .parents .now) (start-w w .args .nodes .now) (start-w w .args .wants .now) (start-w w .args .headroom .now) (amounts-back w) (wholes-back w)
 weights-at w =
@@ -104,11 +101,8 @@ weights-at w =
 
 -- ---- How long they are
 
-before-sized : (s : Sums) → length (before-back s) ≡ figuresLength
-before-sized s = s .sum-cords .kept .1 .1 .1 .1 .1 .0 ∙ new-list
-
 sums-sized : (s : Sums) → length (sums-back s) ≡ figuresLength
-sums-sized s = s .sum-cords .kept .1 .1 .1 .1 .1 .1 .0 ∙ new-list
+sums-sized s = s .sum-weights .kept .1 .1 .1 .1 .1 .0 ∙ new-list
 
 wholes-sized : (w : Weights) → length (wholes-back w) ≡ figuresLength
 wholes-sized w = w .weigh .kept .1 .1 .1 .1 .0 ∙ sums-sized (sums-w w)
@@ -123,7 +117,7 @@ headroom-kept d = d .deal-out .kept .1 .1 .1 .1 .1 .1 .1 .1 .1 .0
 
 -- Where `weigh` and `deal_out` are lent their lists.
 abbrev sums-a : tie.After-wholes3 → Sums
-sums-a c = c .before .before .before .before .before
+sums-a c = c .before .before .before .before
 
 abbrev weights-a : tie.After-wholes5 → Weights
 weights-a c = c .before .before .before .before .before .before
@@ -134,20 +128,17 @@ weights-b c = weights-a (c .before .before .before)
 array-share-prefix-all : tie.Need-array-share-prefix-all
 array-share-prefix-all c = let l : Listed = c .before in omega (arith, lists (start-l l) .few, l .list-all .ensures .size)
 
-slice-aggregate-sum-cords : tie.Need-slice-aggregate-sum-cords
-slice-aggregate-sum-cords c = let l : Listed = c .before .before in sym (listed-length (lists (start-l l)) (l .list-all .ensures))
+slice-aggregate-sum-weights : tie.Need-slice-aggregate-sum-weights
+slice-aggregate-sum-weights c = let l : Listed = c .before .before in sym (listed-length (lists (start-l l)) (l .list-all .ensures))
 
-slice-aggregate-sum-cords-2 : tie.Need-slice-aggregate-sum-cords-2
-slice-aggregate-sum-cords-2 c = sym new-list
+slice-aggregate-sum-weights-2 : tie.Need-slice-aggregate-sum-weights-2
+slice-aggregate-sum-weights-2 c = sym new-list
 
-slice-aggregate-sum-cords-3 : tie.Need-slice-aggregate-sum-cords-3
-slice-aggregate-sum-cords-3 c = sym new-list
-
-sum-cords-requires : tie.Need-sum-cords-requires
-sum-cords-requires c κs =
+sum-weights-requires : tie.Need-sum-weights-requires
+sum-weights-requires c κs =
     let l : Listed = listed-a c in
     let s : Start = start-l l in
-    sum-cords-asks (lists s) (l .list-all .ensures) (enough s new-list) (enough s new-list)
+    sum-weights-asks (lists s) (l .list-all .ensures) (enough s new-list)
 
 slice-aggregate-weigh-2 : tie.Need-slice-aggregate-weigh-2
 slice-aggregate-weigh-2 c = sym (sums-sized (sums-a c))
@@ -167,7 +158,7 @@ slice-aggregate-deal-out-3 : tie.Need-slice-aggregate-deal-out-3
 slice-aggregate-deal-out-3 c = sym (amounts-sized (weights-a (c .before)))
 
 slice-aggregate-deal-out-4 : tie.Need-slice-aggregate-deal-out-4
-slice-aggregate-deal-out-4 c = sym (before-sized (sums-w (weights-a (c .before .before))))
+slice-aggregate-deal-out-4 c = sym new-list
 
 slice-aggregate-deal-out-5 : tie.Need-slice-aggregate-deal-out-5
 slice-aggregate-deal-out-5 c = sym new-list
@@ -180,7 +171,7 @@ deal-out-requires c κs =
       lists (start s),
       (
         (places s, start s .pre .1),
-        ((enough (start s) (amounts-sized w), wholes-sized w ∙ same, before-sized s ∙ same, new-list ∙ same), weights-at w),
+        ((enough (start s) (amounts-sized w), wholes-sized w ∙ same, new-list ∙ same, new-list ∙ same), weights-at w),
       ),
     )
 
@@ -196,10 +187,9 @@ lend-spec =
     (tie.spec
     (λ c. search needs) (λ c κs. search needs)
     array-share-prefix-all
-    slice-aggregate-sum-cords
-    slice-aggregate-sum-cords-2
-    slice-aggregate-sum-cords-3
-    sum-cords-requires
+    slice-aggregate-sum-weights
+    slice-aggregate-sum-weights-2
+    sum-weights-requires
     (λ c. search needs)
     slice-aggregate-weigh-2
     slice-aggregate-weigh-3

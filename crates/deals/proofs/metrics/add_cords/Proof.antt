@@ -87,7 +87,7 @@ credit-requires-2 : tie.Need-credit-requires-2 Inv-loop μ-loop
 credit-requires-2 c κs =
     let at-node = node (begun (c .before)) in
     let at-cord = cord at-node in
-    weight-fits (turn at-cord .before .loop .inv) (turn at-cord .loop-test .taken) (at-cord .index .ensures .0) (at-node .index2 .ensures .0)
+    weight-fits (turn at-cord .before .loop .inv .weights) (turn at-cord .loop-test .taken) (at-cord .index .ensures .0) (at-node .index2 .ensures .0)
     (omega (arith, c .wide2 .ensures .0, bounds at-cord))
 
 loop-again : tie.Need-loop-again Inv-loop μ-loop
@@ -104,7 +104,7 @@ same-length : tie.Need-same-length Inv-loop μ-loop
 same-length c = c .before .loop .inv .bases-size
 
 same-length-2 : tie.Need-same-length-2 Inv-loop μ-loop
-same-length-2 c = c .before .loop .inv .wholes-size ∙ cleared (c .before) .clear .kept .0
+same-length-2 c = c .before .loop .inv .weights .wholes-size ∙ cleared (c .before) .clear .kept .0
 
 returns : tie.Need-returns Inv-loop μ-loop
 returns c =

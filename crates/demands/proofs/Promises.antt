@@ -11,7 +11,7 @@ use lib.ListN.{length, take, set, length-append, length-take}
 use lib.Seq.{sets, length-sets, take-nil, take-all, take-take, take-length, take-append-le}
 use Rattle.figures.proofs.Stores.{sets-append, sets-take, take-sets}
 use Rattle.demands.specs.Text.{mostLines, newline, before, lines, demandOf, demandsOf}
-use Rattle.demands.specs.Reading.{HeldReading, heldReading, with, emptyLine, extended, hasByte, lineDemand, space, closed, fedByte, fed, fedPieces, finished, countIn}
+use Rattle.demands.specs.Reading.{HeldReading, heldReading, with, emptyLine, extended, hasByte, lineDemand, space, closed, fedByte, fed, fedPieces, finished, heldCount}
 use Rattle.demands.specs.Promises.{joined, ReadsDemands}
 use Rattle.demands.specs.declared.DemandLine.{DemandLine}
 use Rattle.demands.proofs.Bytes.{closed-stores, closed-full}
@@ -178,19 +178,19 @@ module _ (list text : List ℕ) where
   unfolding demandsOf
   text-list = ap (λ (h : HeldReading). h .list) (readWhole-is list text) ∙ sets-space list (map demandOf (lines text))
 
-  text-count : countIn (readWhole list text) ≡ min (length (demandsOf text)) (length list)
+  text-count : heldCount (readWhole list text) ≡ min (length (demandsOf text)) (length list)
   unfolding demandsOf
-  text-count = ap countIn (readWhole-is list text) ∙ counted (map demandOf (lines text))
+  text-count = ap heldCount (readWhole-is list text) ∙ counted (map demandOf (lines text))
     where
       counted : (demands : List ℕ)
           → min (min (length demands) (space list)) (length (sets list 0 (take (space list) demands)))
           ≡ min (length (take mostLines demands)) (length list)
       counted demands = omega (arith, length-sets list 0 (take (space list) demands), length-take mostLines demands)
 
-  pub text-whole : mostLines ≤ length list → take (countIn (readWhole list text)) (readWhole list text .list) ≡ demandsOf text
+  pub text-whole : mostLines ≤ length list → take (heldCount (readWhole list text)) (readWhole list text .list) ≡ demandsOf text
   text-whole long =
       let few = length-demandsOf text in
-      let count : countIn (readWhole list text) ≡ length (demandsOf text) = omega (arith, text-count) in
+      let count : heldCount (readWhole list text) ≡ length (demandsOf text) = omega (arith, text-count) in
       rw (count, text-list)
       (take-sets (length (demandsOf text)) list (demandsOf text) (omega arith) (omega arith) ∙ take-length (demandsOf text))
 
@@ -208,7 +208,7 @@ reads-demands =
     joined-is list pieces = fedPieces-joined (heldReading (with 0 emptyLine) list) pieces
 
     still : (h : HeldReading) (piece : List ℕ) → mostLines ≤ h .reading .count
-        → (finished (fed h piece) .list ≡ h .list) × (countIn (finished (fed h piece)) ≡ countIn h)
+        → (finished (fed h piece) .list ≡ h .list) × (heldCount (finished (fed h piece)) ≡ heldCount h)
     still h piece full =
         let read = fed-enough h piece full in
         let end = finished-enough (fed h piece) (rw (read .count) full) in

@@ -6,7 +6,7 @@ use Prim.Native.Nat.{ℕ, _≤_, min}
 use lib.ListN.{length, take}
 use lib.Seq.{sets}
 use Rattle.demands.specs.Text.{mostLines, demandsOf}
-use Rattle.demands.specs.Reading.{HeldReading, heldReading, with, emptyLine, fed, fedPieces, finished, countIn, isFull}
+use Rattle.demands.specs.Reading.{HeldReading, heldReading, with, emptyLine, fed, fedPieces, finished, heldCount, isFull}
 
 -- The text that some pieces make up.
 unfoldable pub joined : List (List ℕ) → List ℕ
@@ -25,8 +25,8 @@ readInto list pieces = finished (fedPieces (heldReading (with 0 emptyLine) list)
 pub record ReadsDemands : Type 0 where
   pub list : (list : List ℕ) (pieces : List (List ℕ)) → readInto list pieces .list ≡ sets list 0 (demandsOf (joined pieces))
   pub count : (list : List ℕ) (pieces : List (List ℕ))
-      → countIn (readInto list pieces) ≡ min (length (demandsOf (joined pieces))) (length list)
+      → heldCount (readInto list pieces) ≡ min (length (demandsOf (joined pieces))) (length list)
   pub whole : (list : List ℕ) (pieces : List (List ℕ)) → mostLines ≤ length list
-      → take (countIn (readInto list pieces)) (readInto list pieces .list) ≡ demandsOf (joined pieces)
+      → take (heldCount (readInto list pieces)) (readInto list pieces .list) ≡ demandsOf (joined pieces)
   pub enough : (h : HeldReading) (piece : List ℕ) → isFull (h .reading) ≡ true
-      → (finished (fed h piece) .list ≡ h .list) × (countIn (finished (fed h piece)) ≡ countIn h)
+      → (finished (fed h piece) .list ≡ h .list) × (heldCount (finished (fed h piece)) ≡ heldCount h)

@@ -83,8 +83,8 @@ unfolding closed
 finished h = cond (hasByte (h .reading .line)) (closed h) h
 
 -- How many demands stand at the front of the list.
-abbrev pub countIn : HeldReading → ℕ
-countIn h = min (h .reading .count) (length (h .list))
+abbrev pub heldCount : HeldReading → ℕ
+heldCount h = min (h .reading .count) (length (h .list))
 
 -- Whether 513 lines are read.
 abbrev pub isFull : DemandReading → Bool

@@ -1,7 +1,7 @@
 // Demands in decimal, one a line: a text, read in pieces of any size, turned into words.
 ghost use mathlib.Core.Path.{_≡_};
 ghost use Prim.Native.Nat.{};
-ghost use Rattle.demands.specs.Reading.{emptyLine, extended, hasByte, lineDemand, heldReading, with, closed, fedByte, fed, finished, countIn, isFull};
+ghost use Rattle.demands.specs.Reading.{emptyLine, extended, hasByte, lineDemand, heldReading, with, closed, fedByte, fed, finished, heldCount, isFull};
 use figures::counts::least;
 
 // One demand more than a room may have servers: so many decide every demand list, and no more lines are read.
@@ -99,7 +99,7 @@ impl DemandReading {
     // The end of the text: how many demands stand at the front of the list.
     pub fn finish(self, list: &mut [u32]) -> usize
         ensures list { λ r. ⌜ now (list .exit) ≡ finished (heldReading self (now (list .entry))) .list ⌝ }
-        ensures count { λ r. ⌜ r ≡ countIn (finished (heldReading self (now (list .entry)))) ⌝ }
+        ensures count { λ r. ⌜ r ≡ heldCount (finished (heldReading self (now (list .entry)))) ⌝ }
     {
         let line = self.line;
         if line.has_byte() {

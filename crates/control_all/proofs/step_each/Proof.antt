@@ -46,12 +46,6 @@ add-stepped c =
     let inv = turn (c .before .before .before) .loop .inv in
     omega (arith, inv .few, inv .fit .few, inv .within, c .one-if-zero .ensures .1)
 
-add-i : tie.Need-add-i Inv-loop μ-loop
-add-i c = omega arith
-
-loop-less : tie.Need-loop-less Inv-loop μ-loop
-loop-less c = omega arith
-
 loop-again : tie.Need-loop-again Inv-loop μ-loop
 loop-again c =
     let keep = c .before .before .before in
@@ -69,4 +63,4 @@ returns : tie.Need-returns Inv-loop μ-loop
 returns c = let e = before-last _ _ _ _ _ (c .before .loop .inv) (omega arith) in (e .0, (e .1, e .2))
 
 pub step-each-spec : {M : Type 1} → statement M
-step-each-spec = tie.close (tie.spec Inv-loop μ-loop loop-holds mul-step-at step-at-requires mul-keep-at keep-at-requires slice-write-results (λ c κs. search needs) add-stepped add-i loop-less loop-again same-length same-length-2 returns)
+step-each-spec = tie.close (tie.spec Inv-loop μ-loop loop-holds mul-step-at step-at-requires mul-keep-at keep-at-requires slice-write-results (λ c κs. search needs) add-stepped (λ c. omega arith) (λ c. omega arith) loop-again same-length same-length-2 returns)

@@ -32,9 +32,7 @@ returns c =
     cc (sets-take (at .loop .i) (args .to .now) (args .from .now) (omega arith))
 
 pub copy-spec : {M : Type 1} → statement M
-copy-spec =
-    tie.close
-    (tie.spec
+copy-spec = tie.close (tie.spec
     Inv-loop
     μ-loop
     (λ c κs. search needs)

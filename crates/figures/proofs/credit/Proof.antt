@@ -11,9 +11,7 @@ returns-2 : tie.Need-returns-2
 returns-2 c = credited-some _ _ _ (c .before .if1 .left)
 
 pub credit-spec : {M : Type 1} → statement M
-credit-spec =
-    tie.close
-    (tie.spec
+credit-spec = tie.close (tie.spec
     returns
     (λ c. search needs) (λ c. search needs) (λ c. search needs) (λ c. search needs) (λ c. search needs)
     (λ c. search needs) (λ c. search needs)

@@ -25,9 +25,7 @@ returns-2 : tie.Need-returns-2 Inv-loop μ-loop
 returns-2 c = searching-end _ _ _ (c .before .loop .inv) (search needs)
 
 pub first-not-below-spec : {M : Type 1} → statement M
-first-not-below-spec =
-    tie.close
-    (tie.spec
+first-not-below-spec = tie.close (tie.spec
     Inv-loop
     μ-loop
     loop-holds

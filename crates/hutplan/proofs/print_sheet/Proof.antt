@@ -50,9 +50,7 @@ returns-2 c =
     (whole _ _ (rw is at (put .print-table .ensures .0)) (start .pre .1), put .print-table .ensures .1)
 
 pub print-sheet-spec : {M : Type 1} → statement M
-print-sheet-spec =
-    tie.close
-    (tie.spec
+print-sheet-spec = tie.close (tie.spec
     (λ c κs. search needs) (λ c. search needs) (λ c. search needs) (λ c κs. search needs) (λ c κs. search needs)
     (λ c κs. search needs) (λ c. search needs) (λ c. search needs)
     returns

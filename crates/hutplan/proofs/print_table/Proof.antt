@@ -61,9 +61,7 @@ returns-2 c =
     (rw (numbered .number .ensures, put .before .before .place .ensures, ← is) at (put .refusal .ensures .0), put .refusal .ensures .1)
 
 pub print-table-spec : {M : Type 1} → statement M
-print-table-spec =
-    tie.close
-    (tie.spec
+print-table-spec = tie.close (tie.spec
     (λ c κs. search needs) (λ c. search needs)
     plan-requires-2
     (λ c. search needs) (λ c κs. search needs) (λ c κs. search needs) (λ c κs. search needs) (λ c. search needs)

@@ -35,9 +35,7 @@ returns c =
     read-text _ _ (search needs) (end .before .before .before .loop .inv .0) (end .finish .ensures .0) (end .finish .ensures .1)
 
 pub read-demands-spec : {M : Type 1} → statement M
-read-demands-spec =
-    tie.close
-    (tie.spec
+read-demands-spec = tie.close (tie.spec
     Inv-loop
     μ-loop
     (λ c κs. search needs)

@@ -12,9 +12,7 @@ returns-2 : tie.Need-returns-2
 returns-2 c = record { piece = _; is = c .before .before .before .feed .ensures }
 
 pub read-piece-spec : {M : Type 1} → statement M
-read-piece-spec =
-    tie.close
-    (tie.spec
+read-piece-spec = tie.close (tie.spec
     (λ c κs. search needs) (λ c. search needs) (λ c κs. search needs)
     returns
     (λ c. search needs) (λ c κs. search needs) (λ c. search needs) (λ c. search needs) (λ c κs. search needs)

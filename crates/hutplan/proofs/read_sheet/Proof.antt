@@ -7,9 +7,7 @@ returns-2 : tie.Need-returns-2
 returns-2 c = c .before .before .before .read-full .ensures
 
 pub read-sheet-spec : {M : Type 1} → statement M
-read-sheet-spec =
-    tie.close
-    (tie.spec
+read-sheet-spec = tie.close (tie.spec
     (λ c. search needs) (λ c κs. search needs) (λ c. search needs) (λ c κs. search needs) (λ c κs. search needs)
     (λ c. search needs)
     returns-2)

@@ -39,9 +39,7 @@ returns-2 c =
     (begun .pre .1) (write .write .ensures .0) (write .write .ensures .1) (c .figure .ensures)
 
 pub print-text-spec : {M : Type 1} → statement M
-print-text-spec =
-    tie.close
-    (tie.spec
+print-text-spec = tie.close (tie.spec
     (λ c κs. search needs) (λ c. search needs) (λ c. search needs) (λ c κs. search needs) (λ c κs. search needs)
     (λ c κs. search needs) (λ c. search needs) (λ c. search needs)
     returns

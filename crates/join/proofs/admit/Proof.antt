@@ -63,9 +63,7 @@ returns-6 c =
     ∙ sym (ap answerOf (fits f s _ a b same (omega (arith, nodes .if2 .left)) (omega (arith, servers .if3 .left)) (omega (arith, cords .if4 .left)) (omega (arith, c .if5 .left))))
 
 pub admit-spec : {M : Type 1} → statement M
-admit-spec =
-    tie.close
-    (tie.spec
+admit-spec = tie.close (tie.spec
     (λ c. search needs) (λ c. search needs) (λ c. search needs)
     add-words
     sub-words

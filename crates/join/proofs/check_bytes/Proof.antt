@@ -11,9 +11,7 @@ returns : tie.Need-returns
 returns c = let load = c .before .before .before .before .load .ensures in loaded-checked _ _ (load .0) (load .1) (c .before .before .before .before .before .before .before .before .pre) (c .check .ensures)
 
 pub check-bytes-spec : {M : Type 1} → statement M
-check-bytes-spec =
-    tie.close
-    (tie.spec
+check-bytes-spec = tie.close (tie.spec
     (λ c κs. search needs) (λ c. search needs)
     slice-aggregate-check
     (λ c κs. search needs) (λ c. search needs)

@@ -19,9 +19,7 @@ returns-2 c =
     (c .before .before .before .node-count .ensures .0) (c .before .before .server-count .ensures .0) (c .before .word-index .ensures .0) (c .servers-index .ensures .0)
 
 pub examine-spec : {M : Type 1} → statement M
-examine-spec =
-    tie.close
-    (tie.spec
+examine-spec = tie.close (tie.spec
     (λ c κs. search needs) (λ c. search needs) (λ c. search needs)
     returns
     shared-slice-read-t8

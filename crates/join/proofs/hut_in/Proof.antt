@@ -38,9 +38,7 @@ returns c =
     (servers-told (wordsOf bytes) (m .0) (c .word-index2 .ensures .0 ∙ c .before .word-in3 .ensures)) (m .0) (sym (length-wordsOf bytes))
 
 pub hut-in-spec : {M : Type 1} → statement M
-hut-in-spec =
-    tie.close
-    (tie.spec
+hut-in-spec = tie.close (tie.spec
     word-in-requires
     word-in-requires-2
     (λ c κs. search needs) (λ c κs. search needs) (λ c κs. search needs) (λ c κs. search needs)

@@ -32,9 +32,7 @@ returns-2 c =
     (store-from-tell (c .before .before) .store .ensures) (c .before .before .tell .ensures)
 
 pub join-by-spec : {M : Type 1} → statement M
-join-by-spec =
-    tie.close
-    (tie.spec
+join-by-spec = tie.close (tie.spec
     returns
     (λ c κs. search needs) (λ c κs. search needs)
     slice-reshare-prefix-store

@@ -46,9 +46,7 @@ returns-4 c =
     (told, done-accepted _ _ _ one two (tabled _ told (c .before .before .before .before .enum-told3 .given .1)) _ (c .before .before .put-together .ensures))
 
 pub join-words-spec : {M : Type 1} → statement M
-join-words-spec =
-    tie.close
-    (tie.spec
+join-words-spec = tie.close (tie.spec
     (λ c κs. search needs) (λ c. search needs) (λ c. search needs)
     returns
     (λ c. search needs) (λ c κs. search needs) (λ c. search needs) (λ c. search needs)

@@ -30,9 +30,7 @@ returns c =
     (is .0, omega (arith, is .0, length-wordsOf bytes, middle-there (wordsOf bytes) (start .pre)))
 
 pub middle-in-spec : {M : Type 1} → statement M
-middle-in-spec =
-    tie.close
-    (tie.spec
+middle-in-spec = tie.close (tie.spec
     word-in-requires
     (λ c κs. search needs)
     word-in-requires-2

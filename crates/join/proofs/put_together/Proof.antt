@@ -172,9 +172,7 @@ returns c =
     (one .put-words .ensures) (two .put-nodes .ensures) (three .put-words2 .ensures) (c .before .before .put-servers .ensures)
 
 pub put-together-spec : {M : Type 1} → statement M
-put-together-spec =
-    tie.close
-    (tie.spec
+put-together-spec = tie.close (tie.spec
     (λ c κs. search needs)
     index-word-requires
     slice-write-words

@@ -59,9 +59,7 @@ returns-3 : tie.Need-returns-3
 returns-3 c = let a = c .before .before .before in load-told _ _ _ (a .admit .ensures .0) (c .before .loaded2 .given .1)
 
 pub judge-spec : {M : Type 1} → statement M
-judge-spec =
-    tie.close
-    (tie.spec
+judge-spec = tie.close (tie.spec
     (λ c κs. search needs) (λ c. search needs)
     returns
     slice-aggregate-judge-room

@@ -32,9 +32,7 @@ returns-2 c =
     (omega (arith, table .before .before .if1 .left)) (judged .judge .ensures) (c .before .before .tell .ensures)
 
 pub judge-by-spec : {M : Type 1} → statement M
-judge-by-spec =
-    tie.close
-    (tie.spec
+judge-by-spec = tie.close (tie.spec
     returns
     (λ c κs. search needs) (λ c κs. search needs) (λ c κs. search needs) (λ c. search needs)
     slice-aggregate-judge

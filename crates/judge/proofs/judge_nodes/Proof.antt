@@ -199,9 +199,7 @@ returns-3 c = λ r end is demands grants pass.
     is-passes r (accepted _ r end is) (nodes-at (loaded y) r end is) pass (compared-at y r end is pass) (e .if1 .left) (z .lowest-marked .ensures) (c .if2 .left)
 
 pub judge-nodes-spec : {M : Type 1} → statement M
-judge-nodes-spec =
-    tie.close
-    (tie.spec
+judge-nodes-spec = tie.close (tie.spec
     slice-aggregate-load-nodes
     array-borrow-prefix-parents
     slice-aggregate-load-nodes-2

@@ -106,9 +106,7 @@ returns-3 c = λ r end is.
     j .judge-nodes .ensures r end is (args .demands .now) (args .grants .now) (passes e r end is)
 
 pub judge-room-spec : {M : Type 1} → statement M
-judge-room-spec =
-    tie.close
-    (tie.spec
+judge-room-spec = tie.close (tie.spec
     (λ c. search needs) (λ c. search needs) (λ c. search needs)
     note-cords-requires
     (λ c. search needs)

@@ -28,9 +28,7 @@ returns-2 c =
     (refused-numbers (start .args .answer .now) (start .pre) (known .judged2 .given .0 .0) (number .number2 .ensures) (place .place .ensures) (stored .store-answer .ensures))
 
 pub tell-spec : {M : Type 1} → statement M
-tell-spec =
-    tie.close
-    (tie.spec
+tell-spec = tie.close (tie.spec
     (λ c. search needs) (λ c κs. search needs) (λ c κs. search needs) (λ c κs. search needs)
     (λ c κs. search needs) (λ c κs. search needs) (λ c. search needs) (λ c κs. search needs)
     (λ c κs. search needs) (λ c κs. search needs) (λ c. search needs)

@@ -33,9 +33,7 @@ returns-2 : tie.Need-returns-2 Inv-loop μ-loop
 returns-2 c = searching-end (c .before .loop .inv) (c .loop-test .left)
 
 pub lowest-marked-spec : {M : Type 1} → statement M
-lowest-marked-spec =
-    tie.close
-    (tie.spec
+lowest-marked-spec = tie.close (tie.spec
     Inv-loop
     μ-loop
     loop-holds

@@ -17,9 +17,7 @@ returns-2 c =
     (paid .credit .ensures, merged-some min _ _ _ some (lowered .lower .ensures), merged-some max _ _ _ some (c .higher .ensures))
 
 pub note-spec : {M : Type 1} → statement M
-note-spec =
-    tie.close
-    (tie.spec
+note-spec = tie.close (tie.spec
     returns
     (λ c κs. search needs) (λ c. search needs) (λ c. search needs) (λ c. search needs) (λ c κs. search needs)
     (λ c. search needs) (λ c. search needs) (λ c. search needs) (λ c. search needs) (λ c κs. search needs)

@@ -32,9 +32,7 @@ returns c =
     )
 
 pub note-cord-spec : {M : Type 1} → statement M
-note-cord-spec =
-    tie.close
-    (tie.spec
+note-cord-spec = tie.close (tie.spec
     (λ c. search needs) (λ c κs. search needs) (λ c κs. search needs) (λ c κs. search needs)
     (λ c κs. search needs) (λ c. search needs) (λ c. search needs) (λ c. search needs)
     returns)

@@ -263,9 +263,7 @@ returns-2 : tie.Need-returns-2 Inv-loop2 μ-loop2 Inv-loop μ-loop
 returns-2 c = judged-all (c .before .loop .inv) (c .loop-test .left) refl
 
 pub note-cords-spec : {M : Type 1} → statement M
-note-cords-spec =
-    tie.close
-    (tie.spec
+note-cords-spec = tie.close (tie.spec
     Inv-loop2
     μ-loop2
     Inv-loop

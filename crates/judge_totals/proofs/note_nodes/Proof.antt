@@ -122,9 +122,7 @@ returns : tie.Need-returns Inv-loop μ-loop
 returns c = (gathered-end (c .before .loop .inv .gathered) (c .loop-test .left), nodes-end (c .before .loop .inv) (c .loop-test .left))
 
 pub note-nodes-spec : {M : Type 1} → statement M
-note-nodes-spec =
-    tie.close
-    (tie.spec
+note-nodes-spec = tie.close (tie.spec
     Inv-loop
     μ-loop
     loop-holds

@@ -46,9 +46,7 @@ returns c =
     (λ i q. done .done i (omega (arith, done .size-is, c .loop-test .left)) ∙ sym (column-at nodeColumn cords i))
 
 pub list-nodes-spec : {M : Type 1} → statement M
-list-nodes-spec =
-    tie.close
-    (tie.spec
+list-nodes-spec = tie.close (tie.spec
     Inv-loop
     μ-loop
     loop-holds

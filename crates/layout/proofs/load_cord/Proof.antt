@@ -14,9 +14,7 @@ returns c =
     )
 
 pub load-cord-spec : {M : Type 1} → statement M
-load-cord-spec =
-    tie.close
-    (tie.spec
+load-cord-spec = tie.close (tie.spec
     (λ c κs. search needs) (λ c. search needs) (λ c. search needs) (λ c κs. search needs) (λ c. search needs)
     (λ c. search needs) (λ c κs. search needs) (λ c. search needs) (λ c. search needs) (λ c. search needs)
     (λ c. search needs) (λ c. search needs)

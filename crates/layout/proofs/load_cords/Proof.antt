@@ -245,9 +245,7 @@ returns : tie.Need-returns Inv-loop2 μ-loop2 Inv-loop μ-loop
 returns c = loading-end (c .before .loop .inv) (c .loop-test .left) (omega arith)
 
 pub load-cords-spec : {M : Type 1} → statement M
-load-cords-spec =
-    tie.close
-    (tie.spec
+load-cords-spec = tie.close (tie.spec
     Inv-loop2
     μ-loop2
     Inv-loop

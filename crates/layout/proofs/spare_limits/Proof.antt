@@ -54,9 +54,7 @@ returns : tie.Need-returns Inv-loop μ-loop
 returns c = λ n l. omega (arith, c .before .loop .inv .found .done n (omega (arith, c .loop-test .left)), start (c .before) .pre .1 n l)
 
 pub spare-limits-spec : {M : Type 1} → statement M
-spare-limits-spec =
-    tie.close
-    (tie.spec
+spare-limits-spec = tie.close (tie.spec
     Inv-loop
     μ-loop
     loop-holds

@@ -26,9 +26,7 @@ returns c =
     paired _ _ (first .1) _ _ (first .0) (byte .wide2 .ensures .0) (search needs) (c .before .if3 .taken) (second-low c)
 
 pub decode-spec : {M : Type 1} → statement M
-decode-spec =
-    tie.close
-    (tie.spec
+decode-spec = tie.close (tie.spec
     (λ c. search needs) (λ c. search needs) (λ c κs. search needs) (λ c. search needs) (λ c. search needs)
     (λ c κs. search needs)
     mul-second

@@ -66,9 +66,7 @@ returns-6 : tie.Need-returns-6 Inv-loop μ-loop
 returns-6 c = exhausted _ _ _ _ _ _ (search needs) (c .before .loop .inv)
 
 pub decode-bytes-spec : {M : Type 1} → statement M
-decode-bytes-spec =
-    tie.close
-    (tie.spec
+decode-bytes-spec = tie.close (tie.spec
     Inv-loop
     μ-loop
     returns

@@ -38,9 +38,7 @@ returns-3 c =
     )
 
 pub encode-sheet-spec : {M : Type 1} → statement M
-encode-sheet-spec =
-    tie.close
-    (tie.spec
+encode-sheet-spec = tie.close (tie.spec
     (λ c κs. search needs)
     returns
     (λ c κs. search needs)

@@ -26,9 +26,7 @@ returns : tie.Need-returns Inv-loop μ-loop
 returns c = last _ _ _ _ _ _ (c .before .loop .inv) (search needs)
 
 pub put-spec : {M : Type 1} → statement M
-put-spec =
-    tie.close
-    (tie.spec
+put-spec = tie.close (tie.spec
     Inv-loop
     μ-loop
     loop-holds

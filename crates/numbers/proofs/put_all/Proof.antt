@@ -44,9 +44,7 @@ returns-2 : tie.Need-returns-2 Inv-loop μ-loop
 returns-2 c = writing-end _ _ _ _ _ (c .before .before .loop .inv) (search needs)
 
 pub put-all-spec : {M : Type 1} → statement M
-put-all-spec =
-    tie.close
-    (tie.spec
+put-all-spec = tie.close (tie.spec
     Inv-loop
     μ-loop
     loop-holds

@@ -19,9 +19,7 @@ returns-2 : tie.Need-returns-2
 returns-2 c = short _ _ _ (search needs)
 
 pub put-followed-spec : {M : Type 1} → statement M
-put-followed-spec =
-    tie.close
-    (tie.spec
+put-followed-spec = tie.close (tie.spec
     (λ c κs. search needs) (λ c. search needs)
     returns
     (λ c. search needs) (λ c. search needs) (λ c. search needs) (λ c. search needs) (λ c. search needs)

@@ -29,9 +29,7 @@ returns : tie.Need-returns Inv-loop μ-loop
 returns c = sizing-end _ _ _ (c .before .loop .inv) (search needs)
 
 pub total-size-spec : {M : Type 1} → statement M
-total-size-spec =
-    tie.close
-    (tie.spec
+total-size-spec = tie.close (tie.spec
     Inv-loop
     μ-loop
     loop-holds

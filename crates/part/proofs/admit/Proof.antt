@@ -54,9 +54,7 @@ returns-5 : tie.Need-returns-5
 returns-5 c = c .admit-cut .ensures
 
 pub admit-spec : {M : Type 1} → statement M
-admit-spec =
-    tie.close
-    (tie.spec
+admit-spec = tie.close (tie.spec
     (λ c κs. search needs) (λ c. search needs) (λ c. search needs)
     returns
     returns-2

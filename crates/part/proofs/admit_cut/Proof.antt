@@ -88,9 +88,7 @@ returns-4 c =
     (words .side-words .ensures) (omega (arith, fits .if2 .left)) (more .side-words2 .ensures) (omega (arith, c .if3 .left))
 
 pub admit-cut-spec : {M : Type 1} → statement M
-admit-cut-spec =
-    tie.close
-    (tie.spec
+admit-cut-spec = tie.close (tie.spec
     side-before-requires
     side-behind-requires
     first-across-requires

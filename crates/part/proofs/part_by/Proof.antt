@@ -84,9 +84,7 @@ returns-3 c =
     (number .number .ensures) (place .place .ensures) (told .store-answer .ensures)
 
 pub part-by-spec : {M : Type 1} → statement M
-part-by-spec =
-    tie.close
-    (tie.spec
+part-by-spec = tie.close (tie.spec
     returns
     (λ c κs. search needs) (λ c. search needs)
     slice-aggregate-admit

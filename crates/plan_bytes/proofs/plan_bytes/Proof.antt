@@ -120,9 +120,7 @@ returns-2 c =
     (number .number .ensures) (figure .figure .ensures) (told .store-answer .ensures)
 
 pub plan-bytes-spec : {M : Type 1} → statement M
-plan-bytes-spec =
-    tie.close
-    (tie.spec
+plan-bytes-spec = tie.close (tie.spec
     returns
     (λ c. search needs) (λ c. search needs) (λ c. search needs) (λ c. search needs) (λ c κs. search needs)
     array-share-prefix-granted

@@ -120,9 +120,7 @@ returns-2 c =
     figures-refused _ (admitted-refused (wordsOf (s .args .table .now)) (wordsOf (s .args .demands .now)) (s .args .lengths) (b .load-bytes .ensures .0) (a .admit .ensures) (c .before .admission2 .given .1)) _
 
 pub plan-figures-spec : {M : Type 1} → statement M
-plan-figures-spec =
-    tie.close
-    (tie.spec
+plan-figures-spec = tie.close (tie.spec
     (λ c. search needs) (λ c. search needs) (λ c. search needs) (λ c. search needs) (λ c. search needs)
     (λ c κs. search needs) (λ c κs. search needs) (λ c. search needs) (λ c. search needs) (λ c. search needs)
     (λ c. search needs) (λ c. search needs) (λ c. search needs)

@@ -60,9 +60,7 @@ returns c =
     shared (lists s) (places s) (weights s) (n .deal-nodes .ensures) (d .deal-cords .ensures) (lists s .ceilings-size) (c .before .before .take-wants .ensures)
 
 pub deal-out-spec : {M : Type 1} → statement M
-deal-out-spec =
-    tie.close
-    (tie.spec
+deal-out-spec = tie.close (tie.spec
     deal-nodes-requires
     slice-aggregate-deal-cords
     deal-cords-requires

@@ -182,9 +182,7 @@ returns c =
     λ limits levels lows starts given. headroom-is given (weights-at w) (w .weigh .ensures .weights-are) (d .deal-out .ensures) (headroom-kept d)
 
 pub lend-spec : {M : Type 1} → statement M
-lend-spec =
-    tie.close
-    (tie.spec
+lend-spec = tie.close (tie.spec
     (λ c. search needs) (λ c κs. search needs)
     array-share-prefix-all
     slice-aggregate-sum-weights

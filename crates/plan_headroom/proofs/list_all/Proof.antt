@@ -36,9 +36,7 @@ returns c =
     record { size = size; own = λ i h. c .before .loop .inv .done i (omega (arith, c .loop-test .left, c .before .before .before .pre)) }
 
 pub list-all-spec : {M : Type 1} → statement M
-list-all-spec =
-    tie.close
-    (tie.spec
+list-all-spec = tie.close (tie.spec
     Inv-loop
     μ-loop
     loop-holds

@@ -34,9 +34,7 @@ returns : tie.Need-returns Inv-loop μ-loop
 returns c = λ h l. c .before .loop .inv .done h (omega (arith, l, c .loop-test .left))
 
 pub take-wants-spec : {M : Type 1} → statement M
-take-wants-spec =
-    tie.close
-    (tie.spec
+take-wants-spec = tie.close (tie.spec
     Inv-loop
     μ-loop
     loop-holds

@@ -84,9 +84,7 @@ returns : tie.Need-returns Inv-loop μ-loop
 returns c = filling-end (c .before .loop .inv) (c .loop-test .left)
 
 pub fill-rows-spec : {M : Type 1} → statement M
-fill-rows-spec =
-    tie.close
-    (tie.spec
+fill-rows-spec = tie.close (tie.spec
     Inv-loop
     μ-loop
     loop-holds

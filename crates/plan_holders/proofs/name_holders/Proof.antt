@@ -60,17 +60,11 @@ mul-index c = omega (arith, few c)
 index-1-index : tie.Need-index-1-index Inv-loop μ-loop
 index-1-index c = c .loop-test .taken
 
-index-2-index : tie.Need-index-2-index Inv-loop μ-loop
-index-2-index c = omega arith
-
 mul-index-2 : tie.Need-mul-index-2 Inv-loop μ-loop
 mul-index-2 c = omega (arith, few (c .before .before))
 
 index-1-index-2 : tie.Need-index-1-index-2 Inv-loop μ-loop
 index-1-index-2 c = c .before .before .loop-test .taken
-
-index-2-index-2 : tie.Need-index-2-index-2 Inv-loop μ-loop
-index-2-index-2 c = omega arith
 
 mul-held-by : tie.Need-mul-held-by Inv-loop μ-loop
 mul-held-by c = omega (arith, few (c .before .before .before .before))
@@ -122,21 +116,17 @@ returns : tie.Need-returns Inv-loop μ-loop
 returns c = filled-all _ _ (c .before .loop .inv) (entered (c .before .before .before) .pre .1) (c .loop-test .left) (λ i l. refl)
 
 pub name-holders-spec : {M : Type 1} → statement M
-name-holders-spec =
-    tie.close
-    (tie.spec
+name-holders-spec = tie.close (tie.spec
     Inv-loop
     μ-loop
     fill-rows-requires
     loop-holds
     mul-index
     index-1-index
-    index-2-index
-    (λ c κs. search needs)
+    (λ c. omega arith) (λ c κs. search needs)
     mul-index-2
     index-1-index-2
-    index-2-index-2
-    (λ c κs. search needs)
+    (λ c. omega arith) (λ c κs. search needs)
     mul-held-by
     shared-slice-read-held-by
     mul-held-by-2

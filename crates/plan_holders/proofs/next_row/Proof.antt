@@ -27,9 +27,7 @@ returns : tie.Need-returns Inv-loop μ-loop
 returns c = turning-end (c .before .loop .inv) (c .loop-test .left)
 
 pub next-row-spec : {M : Type 1} → statement M
-next-row-spec =
-    tie.close
-    (tie.spec
+next-row-spec = tie.close (tie.spec
     Inv-loop
     μ-loop
     loop-holds

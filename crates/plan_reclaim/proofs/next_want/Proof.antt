@@ -48,9 +48,7 @@ returns : tie.Need-returns
 returns c = c .narrow .ensures ∙ chosen _ _ _ (c .before .before .before .pre) ∙ rw (c .before .before .wide .ensures .0, c .before .wide2 .ensures .0)
 
 pub next-want-spec : {M : Type 1} → statement M
-next-want-spec =
-    tie.close
-    (tie.spec
+next-want-spec = tie.close (tie.spec
     (λ c. search needs) (λ c κs. search needs)
     mul-narrow
     (λ c. search needs) (λ c κs. search needs)

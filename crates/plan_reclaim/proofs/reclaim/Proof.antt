@@ -102,9 +102,7 @@ returns : tie.Need-returns Inv-loop μ-loop
 returns c = reclaiming-end (c .before .loop .inv .1) (entered (c .before .before .before) .pre .1, entered (c .before .before .before) .pre .2) (omega (arith, c .before .loop .inv .0, c .loop-test .left))
 
 pub reclaim-spec : {M : Type 1} → statement M
-reclaim-spec =
-    tie.close
-    (tie.spec
+reclaim-spec = tie.close (tie.spec
     Inv-loop
     μ-loop
     loop-holds

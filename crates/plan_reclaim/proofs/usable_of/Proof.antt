@@ -69,9 +69,7 @@ returns : tie.Need-returns Inv-loop μ-loop
 returns c = usable-all (c .before .loop .inv .1) (omega (arith, c .before .loop .inv .0, c .loop-test .left))
 
 pub usable-of-spec : {M : Type 1} → statement M
-usable-of-spec =
-    tie.close
-    (tie.spec
+usable-of-spec = tie.close (tie.spec
     Inv-loop
     μ-loop
     loop-holds

@@ -457,9 +457,7 @@ returns c =
     }
 
 pub deal-twice-spec : {M : Type 1} → statement M
-deal-twice-spec =
-    tie.close
-    (tie.spec
+deal-twice-spec = tie.close (tie.spec
     array-borrow-prefix-spare
     slice-aggregate-copy
     (λ c κs. search needs)

@@ -356,9 +356,7 @@ returns c = λ table demands r g.
     }
 
 pub plan-loaded-spec : {M : Type 1} → statement M
-plan-loaded-spec =
-    tie.close
-    (tie.spec
+plan-loaded-spec = tie.close (tie.spec
     slice-aggregate-list-nodes
     array-borrow-prefix-nodes
     slice-aggregate-list-nodes-2

@@ -74,9 +74,7 @@ returns-6 : tie.Need-returns-6
 returns-6 c = all-passed (loaded (known-4 c)) (lengths (known-4 c)) (held-checked c)
 
 pub admit-spec : {M : Type 1} → statement M
-admit-spec =
-    tie.close
-    (tie.spec
+admit-spec = tie.close (tie.spec
     (λ c. search needs) (λ c. search needs) (λ c κs. search needs)
     returns
     returns-2

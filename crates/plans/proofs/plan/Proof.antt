@@ -171,9 +171,7 @@ returns-2 c =
     (admitted-refused (s .args .table .now) (s .args .demands .now) _ (loaded-a a .load-room .ensures .0) (a .admit .ensures) (c .before .admission2 .given .1))
 
 pub plan-spec : {M : Type 1} → statement M
-plan-spec =
-    tie.close
-    (tie.spec
+plan-spec = tie.close (tie.spec
     (λ c. search needs) (λ c. search needs) (λ c. search needs) (λ c. search needs) (λ c. search needs)
     (λ c. search needs) (λ c. search needs) (λ c κs. search needs) (λ c κs. search needs) (λ c. search needs)
     array-share-prefix-ceilings

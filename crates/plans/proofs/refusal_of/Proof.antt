@@ -15,9 +15,7 @@ returns-3 : tie.Need-returns-3
 returns-3 c = ap refusalOf (sym (c .before .refusal3 .given .1))
 
 pub refusal-of-spec : {M : Type 1} → statement M
-refusal-of-spec =
-    tie.close
-    (tie.spec
+refusal-of-spec = tie.close (tie.spec
     (λ c. search needs) (λ c. search needs) (λ c. search needs)
     returns
     returns-2

@@ -14,8 +14,6 @@ returns-2 c =
     sym (ap (λ (row : List ℕ). at row nodeColumn) (List·getD-eq-default (c .before .args .cords .now) [] {n = c .before .args .place} (c .if1 .left)))
 
 pub node-spec : {M : Type 1} → statement M
-node-spec =
-    tie.close
-    (tie.spec
+node-spec = tie.close (tie.spec
     (λ c. search needs) (λ c. search needs) (λ c. search needs) (λ c κs. search needs) (λ c. search needs)
     returns-2)

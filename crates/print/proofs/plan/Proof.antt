@@ -35,9 +35,7 @@ returns : tie.Need-returns
 returns c = c .before .before .before .before .plan-by .ensures
 
 pub plan-spec : {M : Type 1} → statement M
-plan-spec =
-    tie.close
-    (tie.spec
+plan-spec = tie.close (tie.spec
     (λ c κs. search needs) (λ c κs. search needs)
     array-borrow-prefix-servers
     slice-aggregate-plan-by

@@ -21,9 +21,7 @@ returns c = (
 )
 
 pub plan-by-spec : {M : Type 1} → statement M
-plan-by-spec =
-    tie.close
-    (tie.spec
+plan-by-spec = tie.close (tie.spec
     lay-out-servers-requires
     (λ c κs. search needs) (λ c. search needs) (λ c. search needs) (λ c. search needs)
     returns)

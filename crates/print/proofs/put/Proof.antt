@@ -27,9 +27,7 @@ returns : tie.Need-returns Inv-loop μ-loop
 returns c = copying-last _ _ _ _ _ _ (c .before .loop .inv .0) (omega arith) (omega arith)
 
 pub put-spec : {M : Type 1} → statement M
-put-spec =
-    tie.close
-    (tie.spec
+put-spec = tie.close (tie.spec
     Inv-loop
     μ-loop
     (λ c. search needs) (λ c κs. search needs)

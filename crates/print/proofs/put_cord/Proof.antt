@@ -17,9 +17,7 @@ returns c =
     then (number .put-figure .ensures) (then (node .put-figure2 .ensures) (then (grant .put-figure3 .ensures) (then (headroom .put-figure4 .ensures) (then (held .put-figure5 .ensures) (last .put .ensures)))))
 
 pub put-cord-spec : {M : Type 1} → statement M
-put-cord-spec =
-    tie.close
-    (tie.spec
+put-cord-spec = tie.close (tie.spec
     (λ c. search needs) (λ c κs. search needs) (λ c. search needs) (λ c κs. search needs) (λ c. search needs)
     (λ c κs. search needs) (λ c. search needs) (λ c κs. search needs) (λ c. search needs) (λ c κs. search needs)
     (λ c. search needs) (λ c κs. search needs) (λ c. search needs)

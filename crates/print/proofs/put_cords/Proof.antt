@@ -47,9 +47,7 @@ returns : tie.Need-returns Inv-loop μ-loop
 returns c = lines-last _ _ _ (omega arith) (c .before .loop .inv .1)
 
 pub put-cords-spec : {M : Type 1} → statement M
-put-cords-spec =
-    tie.close
-    (tie.spec
+put-cords-spec = tie.close (tie.spec
     Inv-loop
     μ-loop
     loop-holds

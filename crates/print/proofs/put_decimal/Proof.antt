@@ -14,8 +14,6 @@ returns c =
     rw (digits .1 .1 ∙ digits-decimal number (said .decimal .result) (digits .1 .0) (search needs)) at (put .put .ensures)
 
 pub put-decimal-spec : {M : Type 1} → statement M
-put-decimal-spec =
-    tie.close
-    (tie.spec
+put-decimal-spec = tie.close (tie.spec
     (λ c κs. search needs) (λ c. search needs) (λ c. search needs) (λ c κs. search needs) (λ c. search needs)
     returns)

@@ -13,8 +13,6 @@ returns c =
     then (watts .put-figure .ensures) (last .put .ensures)
 
 pub put-freed-spec : {M : Type 1} → statement M
-put-freed-spec =
-    tie.close
-    (tie.spec
+put-freed-spec = tie.close (tie.spec
     (λ c. search needs) (λ c κs. search needs) (λ c. search needs) (λ c κs. search needs) (λ c. search needs)
     returns)

@@ -14,9 +14,7 @@ returns c =
     then (number .put-figure .ensures) (then (cap .put-figure2 .ensures) (last .put .ensures))
 
 pub put-server-spec : {M : Type 1} → statement M
-put-server-spec =
-    tie.close
-    (tie.spec
+put-server-spec = tie.close (tie.spec
     (λ c. search needs) (λ c κs. search needs) (λ c. search needs) (λ c κs. search needs) (λ c. search needs)
     (λ c κs. search needs) (λ c. search needs)
     returns)

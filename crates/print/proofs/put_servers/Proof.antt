@@ -44,9 +44,7 @@ returns : tie.Need-returns Inv-loop μ-loop
 returns c = walked (c .before .loop .inv) (omega arith) (c .before .before .least .ensures)
 
 pub put-servers-spec : {M : Type 1} → statement M
-put-servers-spec =
-    tie.close
-    (tie.spec
+put-servers-spec = tie.close (tie.spec
     Inv-loop
     μ-loop
     (λ c κs. search needs)

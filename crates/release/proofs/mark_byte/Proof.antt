@@ -11,9 +11,7 @@ returns-33 : tie.Need-returns-33
 returns-33 c = sym (List·getD-eq-default mark 0 (others-past _ 32 (c .match .rest)))
 
 pub mark-byte-spec : {M : Type 1} → statement M
-mark-byte-spec =
-    tie.close
-    (tie.spec
+mark-byte-spec = tie.close (tie.spec
     (λ c. search needs) (λ c. search needs) (λ c. search needs) (λ c. search needs) (λ c. search needs)
     (λ c. search needs) (λ c. search needs) (λ c. search needs) (λ c. search needs) (λ c. search needs)
     (λ c. search needs) (λ c. search needs) (λ c. search needs) (λ c. search needs) (λ c. search needs)

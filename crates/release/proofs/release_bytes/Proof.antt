@@ -15,9 +15,7 @@ returns-2 c =
     call-done _ _ _ (omega arith) tt (rw (read .release-number .ensures) at (stored .store-long-answer .ensures))
 
 pub release-bytes-spec : {M : Type 1} → statement M
-release-bytes-spec =
-    tie.close
-    (tie.spec
+release-bytes-spec = tie.close (tie.spec
     returns
     (λ c κs. search needs) (λ c κs. search needs) (λ c κs. search needs) (λ c. search needs)
     returns-2)

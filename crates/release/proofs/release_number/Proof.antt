@@ -25,9 +25,7 @@ returns c =
     c .decimal-of .ensures ∙ rw (digit at 16 (omega arith), digit at 17 (omega arith), digit at 18 (omega arith), digit at 19 (omega arith)) refl
 
 pub release-number-spec : {M : Type 1} → statement M
-release-number-spec =
-    tie.close
-    (tie.spec
+release-number-spec = tie.close (tie.spec
     (λ c. search needs) (λ c κs. search needs) (λ c. search needs) (λ c. search needs) (λ c. search needs)
     (λ c. search needs)
     decimal-of-requires

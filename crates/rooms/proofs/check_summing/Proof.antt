@@ -52,9 +52,7 @@ returns-3 c = (
 )
 
 pub check-summing-spec : {M : Type 1} → statement M
-check-summing-spec =
-    tie.close
-    (tie.spec
+check-summing-spec = tie.close (tie.spec
     check-table-requires
     (λ c. search needs) (λ c. search needs)
     returns

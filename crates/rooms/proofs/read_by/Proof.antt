@@ -44,9 +44,7 @@ returns-2 c =
     accepted-done _ _ _ _ (sym (reading-first _ _ _ (start (read given) .pre)) ∙ stands given .is) (stands given .counted) (copied .copy .ensures)
 
 pub read-by-spec : {M : Type 1} → statement M
-read-by-spec =
-    tie.close
-    (tie.spec
+read-by-spec = tie.close (tie.spec
     (λ c κs. search needs) (λ c. search needs) (λ c. search needs) (λ c. search needs)
     returns
     slice-reshare-prefix-copy

@@ -40,9 +40,7 @@ returns-4 c =
     absurd (writing-large _ _ (table .is) (call .encode-sheet .ensures .0) (c .before .index .given .1))
 
 pub write-spec : {M : Type 1} → statement M
-write-spec =
-    tie.close
-    (tie.spec
+write-spec = tie.close (tie.spec
     (λ c κs. search needs) (λ c. search needs)
     returns
     (λ c. search needs) (λ c κs. search needs) (λ c. search needs) (λ c. search needs) (λ c. search needs)

@@ -22,9 +22,7 @@ returns c =
     copied _ (call .0) (counted .written-count .ensures) (call .1) _ (copy .copy .ensures)
 
 pub schedule-by-spec : {M : Type 1} → statement M
-schedule-by-spec =
-    tie.close
-    (tie.spec
+schedule-by-spec = tie.close (tie.spec
     (λ c κs. search needs) (λ c κs. search needs)
     slice-reshare-prefix-copy
     slice-aggregate-copy

@@ -33,9 +33,7 @@ returns-2 c =
     (number .number .ensures) (figure .figure .ensures) (answered .store-answer .ensures)
 
 pub schedule-bytes-by-spec : {M : Type 1} → statement M
-schedule-bytes-by-spec =
-    tie.close
-    (tie.spec
+schedule-bytes-by-spec = tie.close (tie.spec
     returns
     (λ c κs. search needs) (λ c κs. search needs)
     slice-reshare-prefix-store

@@ -53,9 +53,7 @@ returns-4 c =
     stands _ _ (lines-whole known) (c .before .if1 .left) _ _ (call .before .before .before .before .pre) (call .read-lines .ensures .1) (c .if2 .left)
 
 pub schedule-words-spec : {M : Type 1} → statement M
-schedule-words-spec =
-    tie.close
-    (tie.spec
+schedule-words-spec = tie.close (tie.spec
     (λ c κs. search needs) (λ c. search needs) (λ c. search needs) (λ c. search needs)
     returns
     (λ c. search needs)

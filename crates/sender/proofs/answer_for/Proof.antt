@@ -43,9 +43,7 @@ returns-4 c =
     answer-whole (args .count) (args .position) (args .m) (args .space) (omega arith) (inside past) (c .before .before .least .ensures) (omega arith) (c .position-after .ensures)
 
 pub answer-for-spec : {M : Type 1} → statement M
-answer-for-spec =
-    tie.close
-    (tie.spec
+answer-for-spec = tie.close (tie.spec
     (λ c κs. search needs)
     returns
     returns-2

@@ -42,9 +42,7 @@ returns c =
     cc (name-end (args .count) (args .position) (args .list .now))
 
 pub name-servers-spec : {M : Type 1} → statement M
-name-servers-spec =
-    tie.close
-    (tie.spec
+name-servers-spec = tie.close (tie.spec
     Inv-loop
     μ-loop
     loop-holds

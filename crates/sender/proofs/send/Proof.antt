@@ -41,9 +41,7 @@ returns-2 c =
     )
 
 pub send-spec : {M : Type 1} → statement M
-send-spec =
-    tie.close
-    (tie.spec
+send-spec = tie.close (tie.spec
     (λ c κs. search needs) (λ c. search needs) (λ c. search needs)
     returns
     slice-relend-prefix-name-servers

@@ -73,9 +73,7 @@ returns-3 c =
     (args .servers .now) (told known) (fits known) (name .name-servers .ensures) (store .store .ensures)
 
 pub send-by-spec : {M : Type 1} → statement M
-send-by-spec =
-    tie.close
-    (tie.spec
+send-by-spec = tie.close (tie.spec
     returns
     (λ c κs. search needs) (λ c κs. search needs) (λ c. search needs) (λ c. search needs) (λ c. search needs)
     returns-2

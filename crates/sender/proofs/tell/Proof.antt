@@ -21,9 +21,7 @@ returns-2 c =
     refused-numbers (start .args .sent) (start .args .answer .now) (known .sent2 .given .1) (start .pre) (number .number .ensures) (place .place .ensures) (call .store-answer .ensures)
 
 pub tell-spec : {M : Type 1} → statement M
-tell-spec =
-    tie.close
-    (tie.spec
+tell-spec = tie.close (tie.spec
     (λ c. search needs) (λ c κs. search needs) (λ c. search needs) (λ c κs. search needs) (λ c κs. search needs)
     (λ c κs. search needs) (λ c. search needs)
     returns

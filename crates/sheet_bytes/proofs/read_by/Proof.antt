@@ -40,9 +40,7 @@ returns-2 c =
     (begun .pre) _ (omega (arith, tested .if1 .left)) (store .store .ensures) (number .number .ensures) (figure .figure .ensures) (stored .store-answer .ensures)
 
 pub read-by-spec : {M : Type 1} → statement M
-read-by-spec =
-    tie.close
-    (tie.spec
+read-by-spec = tie.close (tie.spec
     returns
     (λ c κs. search needs) (λ c κs. search needs)
     slice-reshare-prefix-store

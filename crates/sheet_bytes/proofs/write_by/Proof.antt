@@ -33,9 +33,7 @@ returns-2 c =
     (omega (arith, tested .if1 .left)) (write .0) (write .1) (number .number .ensures) (figure .figure .ensures) (stored .store-answer .ensures)
 
 pub write-by-spec : {M : Type 1} → statement M
-write-by-spec =
-    tie.close
-    (tie.spec
+write-by-spec = tie.close (tie.spec
     returns
     (λ c κs. search needs) (λ c. search needs)
     slice-aggregate-write

@@ -13,9 +13,7 @@ abbrev μ-loop : tie.MeasureT-loop
 μ-loop bytes i₀ t3 i-end i = i-end - i
 
 pub print-bytes-spec : {M : Type 1} → statement M
-print-bytes-spec =
-    tie.close
-    (tie.spec
+print-bytes-spec = tie.close (tie.spec
     Inv-loop
     μ-loop
     (λ c. search needs) (λ c. search needs) (λ c κs. search needs) (λ c. search needs) (λ c κs. search needs)

@@ -13,9 +13,7 @@ abbrev μ-loop : tie.MeasureT-loop
 μ-loop words i₀ i-end i = i-end - i
 
 pub print-words-spec : {M : Type 1} → statement M
-print-words-spec =
-    tie.close
-    (tie.spec
+print-words-spec = tie.close (tie.spec
     Inv-loop
     μ-loop
     (λ c. search needs) (λ c. search needs) (λ c. search needs) (λ c κs. search needs) (λ c κs. search needs)

@@ -9,6 +9,4 @@ slice-aggregate-read-into : tie.Need-slice-aggregate-read-into
 slice-aggregate-read-into c = sym (length-take-le _ _ (search needs))
 
 pub read-spec : {M : Type 1} → statement M
-read-spec =
-    tie.close
-    (tie.spec (λ c. search needs) slice-aggregate-read-into (λ c κs. search needs) (λ c. search needs))
+read-spec = tie.close (tie.spec (λ c. search needs) slice-aggregate-read-into (λ c κs. search needs) (λ c. search needs))

@@ -9,6 +9,4 @@ slice-aggregate-write-into : tie.Need-slice-aggregate-write-into
 slice-aggregate-write-into c = sym (length-take-le _ _ (search needs))
 
 pub write-spec : {M : Type 1} → statement M
-write-spec =
-    tie.close
-    (tie.spec (λ c. search needs) slice-aggregate-write-into (λ c κs. search needs) (λ c. search needs))
+write-spec = tie.close (tie.spec (λ c. search needs) slice-aggregate-write-into (λ c κs. search needs) (λ c. search needs))

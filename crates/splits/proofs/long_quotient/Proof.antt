@@ -30,6 +30,4 @@ returns c =
     ∙ sym (quotientIn-is 64 (args .amount) (args .upto) (args .whole) (pre .0) (pre .1))
 
 pub long-quotient-spec : {M : Type 1} → statement M
-long-quotient-spec =
-    tie.close
-    (tie.spec (λ c κs. search needs) mul-narrow (λ c κs. search needs) (λ c. search needs) narrow-requires returns)
+long-quotient-spec = tie.close (tie.spec (λ c κs. search needs) mul-narrow (λ c κs. search needs) (λ c. search needs) narrow-requires returns)

@@ -24,9 +24,7 @@ returns-2 c =
     c .long-quotient .ensures ∙ quotientIn-is 64 (start .args .amount) (start .args .upto) (start .args .whole) (start .pre .0) (start .pre .1)
 
 pub quotient-spec : {M : Type 1} → statement M
-quotient-spec =
-    tie.close
-    (tie.spec
+quotient-spec = tie.close (tie.spec
     (λ c κs. search needs) (λ c κs. search needs) (λ c κs. search needs) (λ c κs. search needs)
     (λ c κs. search needs)
     returns

@@ -11,9 +11,7 @@ returns c =
     serve-all (start .args .amount) _ _ (start .args .p) (start .args .before .now) (start .args .dealt .now) (start .pre .room) (all-seen (start .args .alone) _ _ (seen .has-all .ensures) (c .before .if1 .taken)) (c .all-of .ensures)
 
 pub serve-spec : {M : Type 1} → statement M
-serve-spec =
-    tie.close
-    (tie.spec
+serve-spec = tie.close (tie.spec
     (λ c κs. search needs) (λ c κs. search needs) (λ c. search needs) (λ c. search needs) (λ c. search needs)
     (λ c. search needs) (λ c. search needs) (λ c. search needs)
     returns

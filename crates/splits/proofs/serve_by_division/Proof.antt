@@ -18,9 +18,7 @@ returns c =
     serve-some _ _ (start .args .weight) (start .args .p) (start .args .before .now) (start .args .dealt .now) (start .pre .dealt-is) (call .quotient .ensures) refl
 
 pub serve-by-division-spec : {M : Type 1} → statement M
-serve-by-division-spec =
-    tie.close
-    (tie.spec
+serve-by-division-spec = tie.close (tie.spec
     (λ c. search needs) (λ c. search needs) (λ c. search needs) (λ c κs. search needs) (λ c. search needs)
     (λ c. search needs)
     sub-given

@@ -36,9 +36,7 @@ returns c =
     (search needs, (cc))
 
 pub load-spec : {M : Type 1} → statement M
-load-spec =
-    tie.close
-    (tie.spec
+load-spec = tie.close (tie.spec
     Inv-loop
     μ-loop
     (λ c κs. search needs)

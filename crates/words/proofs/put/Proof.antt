@@ -40,9 +40,7 @@ returns c =
     rw none at (at .loop .inv .1)
 
 pub put-spec : {M : Type 1} → statement M
-put-spec =
-    tie.close
-    (tie.spec
+put-spec = tie.close (tie.spec
     Inv-loop
     μ-loop
     loop-holds

@@ -40,9 +40,7 @@ returns c =
     cc (take-min (length (args .bytes .now) / 4) (args .list .now))
 
 pub store-spec : {M : Type 1} → statement M
-store-spec =
-    tie.close
-    (tie.spec
+store-spec = tie.close (tie.spec
     Inv-loop
     μ-loop
     (λ c κs. search needs)

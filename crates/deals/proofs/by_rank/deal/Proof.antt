@@ -194,26 +194,17 @@ mul-index c = omega (arith, fits c)
 index-1-index : tie.Need-index-1-index Inv-loop μ-loop
 index-1-index c = fits c
 
-index-2-index : tie.Need-index-2-index Inv-loop μ-loop
-index-2-index c = omega arith
-
 mul-index-2 : tie.Need-mul-index-2 Inv-loop μ-loop
 mul-index-2 c = omega (arith, fits (c .before .before))
 
 index-1-index-2 : tie.Need-index-1-index-2 Inv-loop μ-loop
 index-1-index-2 c = fits (c .before .before)
 
-index-2-index-2 : tie.Need-index-2-index-2 Inv-loop μ-loop
-index-2-index-2 c = omega arith
-
 mul-index-3 : tie.Need-mul-index-3 Inv-loop μ-loop
 mul-index-3 c = omega (arith, fits (in-row (c .before)))
 
 index-1-index-3 : tie.Need-index-1-index-3 Inv-loop μ-loop
 index-1-index-3 c = fits (in-row (c .before))
-
-index-2-index-3 : tie.Need-index-2-index-3 Inv-loop μ-loop
-index-2-index-3 c = omega arith
 
 mul-add-cords : tie.Need-mul-add-cords Inv-loop μ-loop
 mul-add-cords c = omega (arith, from-read c .index .ensures .1)
@@ -350,25 +341,20 @@ returns : tie.Need-returns Inv-loop μ-loop
 returns c = loop-end (some-deal (start (c .before))) (c .before .loop .inv) (c .loop-test .left)
 
 pub deal-spec : {M : Type 1} → statement M
-deal-spec =
-    tie.close
-    (tie.spec
+deal-spec = tie.close (tie.spec
     Inv-loop
     μ-loop
     loop-holds
     (λ c. search needs)
     mul-index
     index-1-index
-    index-2-index
-    (λ c κs. search needs)
+    (λ c. omega arith) (λ c κs. search needs)
     mul-index-2
     index-1-index-2
-    index-2-index-2
-    (λ c κs. search needs)
+    (λ c. omega arith) (λ c κs. search needs)
     mul-index-3
     index-1-index-3
-    index-2-index-3
-    (λ c κs. search needs)
+    (λ c. omega arith) (λ c κs. search needs)
     mul-add-cords
     sub-add-cords
     part-add-cords-start

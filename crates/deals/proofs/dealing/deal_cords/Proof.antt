@@ -120,9 +120,7 @@ returns : tie.Need-returns Inv-loop μ-loop
 returns c = cords-end (c .before .loop .inv) (c .loop-test .left)
 
 pub deal-cords-spec : {M : Type 1} → statement M
-deal-cords-spec =
-    tie.close
-    (tie.spec
+deal-cords-spec = tie.close (tie.spec
     Inv-loop
     μ-loop
     loop-holds

@@ -124,9 +124,7 @@ returns : tie.Need-returns Inv-loop μ-loop
 returns c = deal-end (c .before .loop .inv) (c .loop-test .left)
 
 pub deal-nodes-spec : {M : Type 1} → statement M
-deal-nodes-spec =
-    tie.close
-    (tie.spec
+deal-nodes-spec = tie.close (tie.spec
     Inv-loop
     μ-loop
     loop-holds

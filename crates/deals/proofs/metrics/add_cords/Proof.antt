@@ -112,9 +112,7 @@ returns c =
     record { on-starts = λ n l. all n l .0; on-weights = λ n l. all n l .1 }
 
 pub add-cords-spec : {M : Type 1} → statement M
-add-cords-spec =
-    tie.close
-    (tie.spec
+add-cords-spec = tie.close (tie.spec
     Inv-loop
     μ-loop
     (λ c κs. search needs)

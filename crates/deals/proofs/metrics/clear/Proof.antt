@@ -26,9 +26,7 @@ returns : tie.Need-returns Inv-loop μ-loop
 returns c n l = c .before .loop .inv .done n (search needs)
 
 pub clear-spec : {M : Type 1} → statement M
-clear-spec =
-    tie.close
-    (tie.spec
+clear-spec = tie.close (tie.spec
     Inv-loop
     μ-loop
     loop-holds

@@ -215,9 +215,7 @@ returns : tie.Need-returns Inv-loop μ-loop
 returns c = request-end (c .before .loop .inv) (c .loop-test .left)
 
 pub request-spec : {M : Type 1} → statement M
-request-spec =
-    tie.close
-    (tie.spec
+request-spec = tie.close (tie.spec
     Inv-loop
     μ-loop
     loop-holds

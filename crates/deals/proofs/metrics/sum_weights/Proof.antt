@@ -96,9 +96,7 @@ returns : tie.Need-returns Inv-loop μ-loop
 returns c = weights-end (c .before .loop .inv) (c .loop-test .left)
 
 pub sum-weights-spec : {M : Type 1} → statement M
-sum-weights-spec =
-    tie.close
-    (tie.spec
+sum-weights-spec = tie.close (tie.spec
     Inv-loop
     μ-loop
     (λ c κs. search needs)

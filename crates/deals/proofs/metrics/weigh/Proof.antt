@@ -90,9 +90,7 @@ returns : tie.Need-returns Inv-loop μ-loop
 returns c = weigh-end (c .before .loop .inv) (c .loop-test .left)
 
 pub weigh-spec : {M : Type 1} → statement M
-weigh-spec =
-    tie.close
-    (tie.spec
+weigh-spec = tie.close (tie.spec
     Inv-loop
     μ-loop
     loop-holds

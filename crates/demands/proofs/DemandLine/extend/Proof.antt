@@ -29,9 +29,7 @@ returns-5 : tie.Need-returns-5
 returns-5 c = rw (c .before .before .self .given .1, lt-leb _ _ (c .if1 .left))
 
 pub extend-spec : {M : Type 1} → statement M
-extend-spec =
-    tie.close
-    (tie.spec
+extend-spec = tie.close (tie.spec
     (λ c. search needs) (λ c. search needs) (λ c. search needs) (λ c. search needs) (λ c. search needs)
     returns
     (λ c. search needs)

@@ -29,9 +29,7 @@ returns : tie.Need-returns Inv-loop μ-loop
 returns c = going-last _ _ _ _ (c .before .loop .inv .0) (omega arith)
 
 pub feed-spec : {M : Type 1} → statement M
-feed-spec =
-    tie.close
-    (tie.spec
+feed-spec = tie.close (tie.spec
     Inv-loop
     μ-loop
     loop-holds

@@ -11,9 +11,7 @@ returns : tie.Need-returns
 returns c = sym (List·getD-eq-default (c .before .before .args .words .now) 0 {n = c .before .before .args .i + 3} (omega (arith, c .if1 .taken)))
 
 pub count-at-spec : {M : Type 1} → statement M
-count-at-spec =
-    tie.close
-    (tie.spec
+count-at-spec = tie.close (tie.spec
     (λ c. search needs)
     returns
     (λ c. search needs) (λ c. search needs) (λ c. search needs) (λ c κs. search needs) (λ c. search needs))

@@ -32,9 +32,7 @@ returns c =
     (every-length (put-words-arg-from-renumber-every-arg (c .before .before .before) .before .before .before .args .width - 1) (put-words-arg-from-renumber-every-arg (c .before .before .before) .before .before .before .args .up) (put-words-arg-from-renumber-every-arg (c .before .before .before) .before .before .before .args .down) 0 _) (c .before .before .renumber-every .ensures) refl
 
 pub put-nodes-spec : {M : Type 1} → statement M
-put-nodes-spec =
-    tie.close
-    (tie.spec
+put-nodes-spec = tie.close (tie.spec
     (λ c κs. search needs) (λ c. search needs) (λ c. search needs) (λ c. search needs)
     part-renumber-every-end
     renumber-every-requires

@@ -29,9 +29,7 @@ returns : tie.Need-returns
 returns c = put-changed (put-words-from-renumber-cords-arg (c .before .before .before) .put-words .ensures) (renumberedCords (put-words-arg-from-renumber-cords-arg (c .before .before .before) .before .before .before .args .up) (put-words-arg-from-renumber-cords-arg (c .before .before .before) .before .before .before .args .down) 0) (cords-length (put-words-arg-from-renumber-cords-arg (c .before .before .before) .before .before .before .args .up) (put-words-arg-from-renumber-cords-arg (c .before .before .before) .before .before .before .args .down) 0 _) (c .before .before .renumber-cords .ensures) refl
 
 pub put-servers-spec : {M : Type 1} → statement M
-put-servers-spec =
-    tie.close
-    (tie.spec
+put-servers-spec = tie.close (tie.spec
     (λ c κs. search needs) (λ c. search needs) (λ c. search needs) (λ c. search needs)
     part-renumber-cords-end
     renumber-cords-requires

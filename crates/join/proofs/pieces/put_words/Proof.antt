@@ -9,9 +9,7 @@ returns : tie.Need-returns
 returns c = put-loaded _ _ _ _ _ (c .before .before .before .before .before .before .before .pre) (c .before .before .load .ensures .1) refl
 
 pub put-words-spec : {M : Type 1} → statement M
-put-words-spec =
-    tie.close
-    (tie.spec
+put-words-spec = tie.close (tie.spec
     (λ c. search needs) (λ c. search needs) (λ c. search needs) (λ c. search needs) (λ c. search needs)
     (λ c. search needs) (λ c. search needs) (λ c. search needs) (λ c. search needs) (λ c. search needs)
     (λ c. search needs) (λ c κs. search needs) (λ c. search needs)

@@ -39,9 +39,7 @@ returns : tie.Need-returns Inv-loop μ-loop
 returns c = turning-end (cords-none _ _ _) (omega (arith, c .loop-test .left)) (c .before .loop .inv)
 
 pub renumber-cords-spec : {M : Type 1} → statement M
-renumber-cords-spec =
-    tie.close
-    (tie.spec
+renumber-cords-spec = tie.close (tie.spec
     Inv-loop
     μ-loop
     loop-holds

@@ -44,9 +44,7 @@ returns : tie.Need-returns Inv-loop μ-loop
 returns c = turning-end (every-none _ _ _) (omega (arith, c .loop-test .left)) (c .before .loop .inv)
 
 pub renumber-every-spec : {M : Type 1} → statement M
-renumber-every-spec =
-    tie.close
-    (tie.spec
+renumber-every-spec = tie.close (tie.spec
     Inv-loop
     μ-loop
     loop-holds

@@ -68,9 +68,7 @@ returns c =
     (z .load-room .ensures .0 ∙ ap loadedOf cut, λ r e. rw (← all r e) (z .load-room .ensures .1 r (cut ∙ e)))
 
 pub load-bytes-spec : {M : Type 1} → statement M
-load-bytes-spec =
-    tie.close
-    (tie.spec
+load-bytes-spec = tie.close (tie.spec
     (λ c. search needs) (λ c κs. search needs) (λ c. search needs) (λ c κs. search needs)
     array-share-prefix-words
     slice-aggregate-load-room

@@ -187,9 +187,7 @@ returns-2 c =
     (told, λ r e. absurd (none-loaded (s .args .table .now) (s .args .demands .now) told r e))
 
 pub load-room-spec : {M : Type 1} → statement M
-load-room-spec =
-    tie.close
-    (tie.spec
+load-room-spec = tie.close (tie.spec
     (λ c κs. search needs) (λ c. search needs)
     array-share-prefix-beneath
     slice-aggregate-load-nodes

@@ -39,9 +39,7 @@ returns-2 : tie.Need-returns-2 Inv-loop μ-loop
 returns-2 c = reading-end _ _ _ _ _ (c .before .loop .inv) (search needs)
 
 pub decode-sheet-spec : {M : Type 1} → statement M
-decode-sheet-spec =
-    tie.close
-    (tie.spec
+decode-sheet-spec = tie.close (tie.spec
     Inv-loop
     μ-loop
     loop-holds

@@ -39,9 +39,7 @@ returns-2 : tie.Need-returns-2 Inv-loop μ-loop
 returns-2 c = cords-end _ _ _ _ _ _ (omega (arith, c .loop-test .left)) ∙ c .before .loop .inv
 
 pub cord-across-spec : {M : Type 1} → statement M
-cord-across-spec =
-    tie.close
-    (tie.spec
+cord-across-spec = tie.close (tie.spec
     Inv-loop
     μ-loop
     loop-holds

@@ -37,9 +37,7 @@ returns-3 c =
     (omega (arith, none .if1 .left)) (cord .cord-across .ensures) (omega (arith, gone .if2 .left)) (c .cord-across2 .ensures)
 
 pub first-across-spec : {M : Type 1} → statement M
-first-across-spec =
-    tie.close
-    (tie.spec
+first-across-spec = tie.close (tie.spec
     (λ c κs. search needs) (λ c κs. search needs) (λ c κs. search needs)
     returns
     (λ c κs. search needs)

@@ -40,9 +40,7 @@ returns-2 : tie.Need-returns-2 Inv-loop μ-loop
 returns-2 c = parents-end _ _ _ _ _ (omega (arith, c .loop-test .left)) ∙ c .before .loop .inv
 
 pub parent-across-spec : {M : Type 1} → statement M
-parent-across-spec =
-    tie.close
-    (tie.spec
+parent-across-spec = tie.close (tie.spec
     Inv-loop
     μ-loop
     loop-holds

@@ -87,9 +87,7 @@ returns c =
     (omega (arith, ends put, size put, pre .1)) (put .put-nodes .ensures) (servers .put-servers .ensures)
 
 pub put-side-spec : {M : Type 1} → statement M
-put-side-spec =
-    tie.close
-    (tie.spec
+put-side-spec = tie.close (tie.spec
     (λ c κs. search needs) (λ c. search needs) (λ c κs. search needs)
     slice-write-words-2
     put-nodes-requires

@@ -36,9 +36,7 @@ returns : tie.Need-returns Inv-loop μ-loop
 returns c = span-done _ _ (omega (arith, c .loop-test .left)) (c .before .loop .inv .0)
 
 pub servers-end-spec : {M : Type 1} → statement M
-servers-end-spec =
-    tie.close
-    (tie.spec
+servers-end-spec = tie.close (tie.spec
     Inv-loop
     μ-loop
     loop-holds

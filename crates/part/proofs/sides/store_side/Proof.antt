@@ -21,9 +21,7 @@ returns c =
     side-stored (args .table .now) (args .side) (start .pre .0) (args .words .now) (args .output .now) (put .put-side .ensures) (start .pre .1 .1) (store .store .ensures)
 
 pub store-side-spec : {M : Type 1} → statement M
-store-side-spec =
-    tie.close
-    (tie.spec
+store-side-spec = tie.close (tie.spec
     (λ c κs. search needs)
     slice-reshare-prefix-store
     slice-aggregate-store

@@ -70,9 +70,7 @@ returns c =
     (rises-most (inv .1) all (start (c .before) .pre .0 .0), rises-end (inv .1) all)
 
 pub credit-rises-spec : {M : Type 1} → statement M
-credit-rises-spec =
-    tie.close
-    (tie.spec
+credit-rises-spec = tie.close (tie.spec
     Inv-loop
     μ-loop
     loop-holds

@@ -71,9 +71,7 @@ returns : tie.Need-returns
 returns c = let k = raised2-from-raised4 (c .before .before) .before in raised-end (start k .pre) (raised k) (c .before .before .before .take-rises .last .1 .1 .0) (c .before .before .before .take-rises .ensures)
 
 pub raise-starts-spec : {M : Type 1} → statement M
-raise-starts-spec =
-    tie.close
-    (tie.spec
+raise-starts-spec = tie.close (tie.spec
     array-borrow-prefix-raised
     slice-aggregate-credit-rises
     credit-rises-requires

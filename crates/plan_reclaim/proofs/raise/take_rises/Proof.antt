@@ -87,9 +87,7 @@ returns : tie.Need-returns Inv-loop μ-loop
 returns c = λ n l. c .before .loop .inv .taken n (omega (arith, c .loop-test .left)) l
 
 pub take-rises-spec : {M : Type 1} → statement M
-take-rises-spec =
-    tie.close
-    (tie.spec
+take-rises-spec = tie.close (tie.spec
     Inv-loop
     μ-loop
     loop-holds

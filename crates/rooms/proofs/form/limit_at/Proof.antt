@@ -42,9 +42,7 @@ returns-2 : tie.Need-returns-2
 returns-2 c = limit-by-eighty (c .before .before .before .before .args .percents) (c .before .before .before .before .args .w .now) (c .before .before .before .before .args .i) (c .before .before .if1 .left) (c .limit-of2 .ensures)
 
 pub limit-at-spec : {M : Type 1} → statement M
-limit-at-spec =
-    tie.close
-    (tie.spec
+limit-at-spec = tie.close (tie.spec
     add-limit-of
     (λ c. search needs)
     shared-slice-read-limit-of

@@ -53,9 +53,7 @@ returns-3 c =
     carried-is (wide-from-Else2 (c .before .before) .wide .ensures .0) (wide2-from-Else2 (c .before .before) .wide2 .ensures .0) (c .before .before .before .before .wide3 .ensures .0) (c .before .wide4 .ensures .0) (c .narrow3 .ensures)
 
 pub carried-by-spec : {M : Type 1} → statement M
-carried-by-spec =
-    tie.close
-    (tie.spec
+carried-by-spec = tie.close (tie.spec
     (λ c κs. search needs) (λ c κs. search needs)
     mul-parts
     (λ c κs. search needs)

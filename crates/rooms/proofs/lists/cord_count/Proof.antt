@@ -11,9 +11,7 @@ returns-2 : tie.Need-returns-2
 returns-2 c = cords-told _ (c .before .before .first-server .ensures .0) (c .before .server-count .ensures .0)
 
 pub cord-count-spec : {M : Type 1} → statement M
-cord-count-spec =
-    tie.close
-    (tie.spec
+cord-count-spec = tie.close (tie.spec
     (λ c κs. search needs) (λ c κs. search needs) (λ c. search needs) (λ c. search needs)
     returns
     (λ c. search needs)

@@ -135,9 +135,7 @@ returns c r end e =
     )
 
 pub lay-out-nodes-spec : {M : Type 1} → statement M
-lay-out-nodes-spec =
-    tie.close
-    (tie.spec
+lay-out-nodes-spec = tie.close (tie.spec
     Inv-loop
     μ-loop
     (λ c κs. search needs) (λ c κs. search needs)

@@ -179,9 +179,7 @@ returns : tie.Need-returns Inv-loop2 μ-loop2 Inv-loop μ-loop
 returns c = laying-end (c .before .loop .inv .2) (omega (arith, c .loop-test .left, c .before .loop .inv .1)) (omega arith)
 
 pub lay-out-servers-spec : {M : Type 1} → statement M
-lay-out-servers-spec =
-    tie.close
-    (tie.spec
+lay-out-servers-spec = tie.close (tie.spec
     Inv-loop2
     μ-loop2
     Inv-loop

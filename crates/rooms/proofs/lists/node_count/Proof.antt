@@ -9,8 +9,6 @@ returns : tie.Need-returns
 returns c = let is = c .word-index .ensures .0 ∙ c .before .word .ensures in (nodes-told _ is, (is, c .word-index .ensures .1))
 
 pub node-count-spec : {M : Type 1} → statement M
-node-count-spec =
-    tie.close
-    (tie.spec
+node-count-spec = tie.close (tie.spec
     (λ c κs. search needs) (λ c κs. search needs)
     returns)

@@ -9,8 +9,6 @@ returns : tie.Need-returns
 returns c = (servers-told _ (c .before .before .servers-index .ensures .0) (c .word-index .ensures .0 ∙ c .before .word .ensures), c .word-index .ensures .1)
 
 pub server-count-spec : {M : Type 1} → statement M
-server-count-spec =
-    tie.close
-    (tie.spec
+server-count-spec = tie.close (tie.spec
     (λ c κs. search needs) (λ c κs. search needs) (λ c κs. search needs)
     returns)

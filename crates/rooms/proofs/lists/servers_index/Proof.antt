@@ -10,8 +10,6 @@ returns c =
     index-told (read .before .before .args .table .now) (read .word .ensures) (c .before .before .has-percents .ensures) (c .before .node-count .ensures .1 .0) (c .before .node-count .ensures .1 .1) (c .node-index .ensures)
 
 pub servers-index-spec : {M : Type 1} → statement M
-servers-index-spec =
-    tie.close
-    (tie.spec
+servers-index-spec = tie.close (tie.spec
     (λ c κs. search needs) (λ c κs. search needs) (λ c κs. search needs) (λ c κs. search needs)
     returns)

@@ -8,8 +8,6 @@ returns : tie.Need-returns
 returns c = scale-told _ (c .before .word .ensures) (c .scale-of .ensures)
 
 pub table-scale-spec : {M : Type 1} → statement M
-table-scale-spec =
-    tie.close
-    (tie.spec
+table-scale-spec = tie.close (tie.spec
     (λ c κs. search needs) (λ c κs. search needs)
     returns)

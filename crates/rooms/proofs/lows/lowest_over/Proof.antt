@@ -91,9 +91,7 @@ returns : tie.Need-returns Inv-loop μ-loop
 returns c = (gathered-end (c .before .loop .inv) (search needs), gathered-sums (c .before .before .before .before .pre .0 .0 .rises) (c .before .loop .inv) (search needs))
 
 pub lowest-over-spec : {M : Type 1} → statement M
-lowest-over-spec =
-    tie.close
-    (tie.spec
+lowest-over-spec = tie.close (tie.spec
     Inv-loop
     μ-loop
     loop-holds

@@ -44,9 +44,7 @@ returns c =
     )
 
 pub overloaded-spec : {M : Type 1} → statement M
-overloaded-spec =
-    tie.close
-    (tie.spec
+overloaded-spec = tie.close (tie.spec
     shared-slice-read-has-percents
     (λ c κs. search needs)
     shared-slice-read-word-index

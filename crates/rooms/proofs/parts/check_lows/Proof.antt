@@ -21,9 +21,7 @@ returns-2 c =
     (call .ensures .0, call .ensures .1 (room .got) _ (room .is) ∙ sym (ap lowsTold (room .is)))
 
 pub check-lows-spec : {M : Type 1} → statement M
-check-lows-spec =
-    tie.close
-    (tie.spec
+check-lows-spec = tie.close (tie.spec
     (λ c κs. search needs) (λ c κs. search needs) (λ c. search needs) (λ c κs. search needs)
     returns
     (λ c. search needs)

@@ -31,9 +31,7 @@ returns-2 c =
     (first-answered (args .sheet .now) (args .words .now) (args .space) (whole-so _ (sheet .0) (judged .judged .given .1)) (sheet .1) (front .least .ensures) (c .answer-for .ensures), sheet .1)
 
 pub read-words-spec : {M : Type 1} → statement M
-read-words-spec =
-    tie.close
-    (tie.spec
+read-words-spec = tie.close (tie.spec
     (λ c κs. search needs) (λ c. search needs) (λ c. search needs) (λ c. search needs)
     returns
     (λ c κs. search needs) (λ c. search needs)

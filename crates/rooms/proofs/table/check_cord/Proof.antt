@@ -16,9 +16,7 @@ returns-2 c = pass-word _ _ _ (c .before .before .before .before .check-word .en
     (last _ _ _ _ (λ _. refl) (c .check-word2 .ensures))
 
 pub check-cord-spec : {M : Type 1} → statement M
-check-cord-spec =
-    tie.close
-    (tie.spec
+check-cord-spec = tie.close (tie.spec
     (λ c κs. search needs) (λ c. search needs) (λ c. search needs)
     returns
     (λ c κs. search needs)

@@ -76,9 +76,7 @@ returns-4 c =
     )
 
 pub check-load-spec : {M : Type 1} → statement M
-check-load-spec =
-    tie.close
-    (tie.spec
+check-load-spec = tie.close (tie.spec
     (λ c. search needs) (λ c κs. search needs) (λ c κs. search needs) (λ c. search needs) (λ c. search needs)
     returns
     check-cords-requires

@@ -39,9 +39,7 @@ returns-4 c =
     (percent-none _ _ _ _ (c .if1 .left)))
 
 pub check-node-spec : {M : Type 1} → statement M
-check-node-spec =
-    tie.close
-    (tie.spec
+check-node-spec = tie.close (tie.spec
     (λ c. search needs) (λ c κs. search needs) (λ c. search needs) (λ c. search needs)
     returns
     (λ c κs. search needs) (λ c. search needs) (λ c. search needs)

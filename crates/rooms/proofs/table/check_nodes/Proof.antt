@@ -30,9 +30,7 @@ returns-2 : tie.Need-returns-2 Inv-loop μ-loop
 returns-2 c = row-end _ _ _ _ _ _ _ (search needs) (c .before .loop .inv .2) ∙ nothing-told _
 
 pub check-nodes-spec : {M : Type 1} → statement M
-check-nodes-spec =
-    tie.close
-    (tie.spec
+check-nodes-spec = tie.close (tie.spec
     Inv-loop
     μ-loop
     loop-holds

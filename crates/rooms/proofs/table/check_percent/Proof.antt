@@ -38,9 +38,7 @@ returns-4 c =
     (denied _ _ _ _ _ _ (is-neither _ (c .before .if1 .left) (c .if2 .left))))
 
 pub check-percent-spec : {M : Type 1} → statement M
-check-percent-spec =
-    tie.close
-    (tie.spec
+check-percent-spec = tie.close (tie.spec
     (λ c κs. search needs) (λ c. search needs) (λ c. search needs)
     returns
     returns-2

@@ -49,9 +49,7 @@ unfolding range
 returns-4 c = greatest-passed (c .before) .decides (ensured _ _ _ _ _ _ (le-leb _ _ (c .if1 .left)) (gives _ _ _ refl))
 
 pub check-range-spec : {M : Type 1} → statement M
-check-range-spec =
-    tie.close
-    (tie.spec
+check-range-spec = tie.close (tie.spec
     (λ c κs. search needs) (λ c. search needs) (λ c. search needs)
     returns
     (λ c κs. search needs) (λ c. search needs) (λ c. search needs)

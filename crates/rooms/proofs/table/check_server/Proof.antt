@@ -47,9 +47,7 @@ returns-3 c =
     )
 
 pub check-server-spec : {M : Type 1} → statement M
-check-server-spec =
-    tie.close
-    (tie.spec
+check-server-spec = tie.close (tie.spec
     (λ c κs. search needs) (λ c. search needs) (λ c. search needs)
     returns
     (λ c κs. search needs) (λ c. search needs) (λ c. search needs)

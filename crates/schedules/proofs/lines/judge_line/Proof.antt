@@ -42,9 +42,7 @@ returns-4 c =
     (sym (ranged .before .in-range .ensures) ∙ not-false _ (ranged .if2 .left))
 
 pub judge-line-spec : {M : Type 1} → statement M
-judge-line-spec =
-    tie.close
-    (tie.spec
+judge-line-spec = tie.close (tie.spec
     (λ c κs. search needs) (λ c. search needs) (λ c. search needs)
     returns
     (λ c κs. search needs)

@@ -71,9 +71,7 @@ returns-2 : tie.Need-returns-2 Inv-loop μ-loop
 returns-2 c = end _ _ _ _ _ (c .before .loop .inv) (search needs)
 
 pub read-lines-spec : {M : Type 1} → statement M
-read-lines-spec =
-    tie.close
-    (tie.spec
+read-lines-spec = tie.close (tie.spec
     Inv-loop
     μ-loop
     loop-holds

@@ -31,9 +31,7 @@ returns-4 c =
     (number-good _ (third .before .before .read-field3 .ensures) (third .third .given .1))
 
 pub read-line-spec : {M : Type 1} → statement M
-read-line-spec =
-    tie.close
-    (tie.spec
+read-line-spec = tie.close (tie.spec
     (λ c κs. search needs) (λ c. search needs) (λ c. search needs)
     returns
     (λ c κs. search needs) (λ c. search needs) (λ c. search needs)

@@ -67,9 +67,7 @@ returns-4 : tie.Need-returns-4 Inv-loop μ-loop
 returns-4 c = exhausted _ _ _ _ _ (search needs) (c .before .loop .inv)
 
 pub read-number-spec : {M : Type 1} → statement M
-read-number-spec =
-    tie.close
-    (tie.spec
+read-number-spec = tie.close (tie.spec
     Inv-loop
     μ-loop
     (λ c κs. search needs)

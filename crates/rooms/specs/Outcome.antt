@@ -11,7 +11,8 @@ use Rattle.rooms.specs.Part.{Step}
 use Rattle.rooms.specs.Table.{Room}
 use Rattle.rooms.specs.Limits.{checked}
 use Rattle.rooms.specs.declared.SheetRefusal.{SheetRefusal}
-use Rattle.rooms.specs.declared.SheetRefusal.the-variants.{BadNumber, WordMissing, WordOutOfRange, GreatestBelowLeast, SharesNotWhole, WordsLeftOver}
+use Rattle.rooms.specs.declared.SheetRefusal.the-variants.{BadNumber, WordMissing, WordOutOfRange}
+use Rattle.rooms.specs.declared.SheetRefusal.the-variants.{GreatestBelowLeast, SharesNotWhole, WordsLeftOver}
 use Rattle.rooms.specs.declared.SheetRefusal.the-variants.{LowsAboveLimit, OutputTooShort}
 use Rattle.rooms.specs.declared.SheetAnswer.{SheetAnswer}
 use Rattle.rooms.specs.declared.SheetAnswer.the-variants.{Accepted, Refused}

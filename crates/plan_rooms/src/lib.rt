@@ -46,14 +46,14 @@ fn deal_twice(
     let mut levels = [[0u16; 4]; 16];
     let mut order = [0u16; 1024];
     let mut actives = [[0u16; 512]; 16];
-    let mut spare = [0u32; 512];
+    let mut first_left = [0u32; 512];
     let mut used = [0u32; 1024];
     let mut usable = [0u32; 512];
-    let mut marks = [0u16; 512];
+    let mut first_cuts = [0u16; 512];
     let n = parents.len();
     let k = nodes.len();
     let v = caps.len();
-    figures::copy(left, &mut spare[..n]);
+    figures::copy(left, &mut first_left[..n]);
     figures::copy(caps, &mut usable[..v]);
     list_levels(parents, cords, &mut levels, &mut order[..k], &mut actives);
     deal(
@@ -64,8 +64,8 @@ fn deal_twice(
         nodes,
         lows,
         wants,
-        &mut spare[..n],
-        &mut marks[..n],
+        &mut first_left[..n],
+        &mut first_cuts[..n],
         grants,
     );
     usable_of(cords, grants, &mut usable[..v], scale);

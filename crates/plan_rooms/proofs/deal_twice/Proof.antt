@@ -175,11 +175,11 @@ servers-few s = omega (arith, needs-size (room s) (lists s), room s .fewServers)
 
 -- ---- What each call leaves in its lists, and how long that is
 
-abbrev spare-back : Spared → List ℕ
-spare-back p = p .copy .last .1 .0
+abbrev first-left-back : Spared → List ℕ
+first-left-back p = p .copy .last .1 .0
 
-spare-lent : (p : Spared) → Lent (nodes-s (start-p p)) (replicate mostNodes 0) (spare-back p)
-spare-lent p = lent-zeros mostNodes (nodes-few (start-p p)) (p .copy .kept .1 .0)
+first-left-lent : (p : Spared) → Lent (nodes-s (start-p p)) (replicate mostNodes 0) (first-left-back p)
+first-left-lent p = lent-zeros mostNodes (nodes-few (start-p p)) (p .copy .kept .1 .0)
 
 abbrev needs-back : Copied → List ℕ
 needs-back k = k .copy2 .last .1 .0
@@ -249,12 +249,12 @@ grants-size-d d = d .deal2 .kept .1 .1 .1 .1 .1 .1 .1 .1 .1 .0 ∙ grants-size (
 
 -- ---- What they are then
 
--- The copies are what was copied: `spare` what the limits have over the lows, `usable` the servers' needs.
-abbrev spare-after : Spared → List ℕ
-spare-after p = rejoined (nodes-s (start-p p)) (replicate mostNodes 0) (spare-back p)
+-- The copies are what was copied: `first_left` what the limits have over the lows, `usable` the servers' needs.
+abbrev first-left-after : Spared → List ℕ
+first-left-after p = rejoined (nodes-s (start-p p)) (replicate mostNodes 0) (first-left-back p)
 
-spare-is : (p : Spared) → take (nodes-s (start-p p)) (spare-after p) ≡ start-p p .args .left .now
-spare-is p = lent-again (spare-lent p) ∙ p .copy .ensures ∙ sets-all _ _ (zeros-front mostNodes _ (nodes-few (start-p p)) ∙ sym (lists (start-p p) .lists .spare-size))
+first-left-is : (p : Spared) → take (nodes-s (start-p p)) (first-left-after p) ≡ start-p p .args .left .now
+first-left-is p = lent-again (first-left-lent p) ∙ p .copy .ensures ∙ sets-all _ _ (zeros-front mostNodes _ (nodes-few (start-p p)) ∙ sym (lists (start-p p) .lists .spare-size))
 
 needs-are : (k : Copied) → take (servers-s (start-k k)) (needs-after k) ≡ start-k k .args .caps .now
 needs-are k = lent-again (needs-lent k) ∙ k .copy2 .ensures ∙ sets-all _ _ (zeros-front mostServers _ (servers-few (start-k k)))
@@ -269,8 +269,8 @@ listed-at l = rw (lent-again (order-lent l)) (l .list-levels .ensures)
 -- The first deal is lent the copy of `left`.
 first-lent : (l : Listed) {r : Room} → Accepted r → {demands : List ℕ} → RoomOf (start-l l) r demands
     → DealGiven (start-l l .args .parents .now) (levels-back l) (take (cords-s (start-l l)) (order-after l)) (actives-back l)
-    (start-l l .args .nodes .now) (start-l l .args .lows .now) (start-l l .args .wants .now) (take (nodes-s (start-l l)) (spare-after (spared-k (copied-l l)))) (limitsOf r) (levelsOf r) (start-l l .args .lows .now)
-first-lent l ok of = first-given ok of (listed-at l) (spare-is (spared-k (copied-l l)))
+    (start-l l .args .nodes .now) (start-l l .args .lows .now) (start-l l .args .wants .now) (take (nodes-s (start-l l)) (first-left-after (spared-k (copied-l l)))) (limitsOf r) (levelsOf r) (start-l l .args .lows .now)
+first-lent l ok of = first-given ok of (listed-at l) (first-left-is (spared-k (copied-l l)))
 
 first-grants : (f : First) {r : Room} → Accepted r → {demands : List ℕ} → RoomOf (start-f f) r demands → grants-f f ≡ firstGrants r demands
 first-grants f {r} ok of = first-made ok of (f .deal .ensures (limitsOf r) (levelsOf r) (start-f f .args .lows .now) (first-lent (listed-f f) ok of))
@@ -322,8 +322,8 @@ raised-a c = c .before .before .before .before .before
 abbrev raised-b : tie.After-used4 → Raised
 raised-b c = raised-a (c .before)
 
-array-borrow-prefix-spare : tie.Need-array-borrow-prefix-spare
-array-borrow-prefix-spare c = omega (arith, nodes-few (start-a c), equal-length {A = ℕ} mostNodes 0)
+array-borrow-prefix-first-left : tie.Need-array-borrow-prefix-first-left
+array-borrow-prefix-first-left c = omega (arith, nodes-few (start-a c), equal-length {A = ℕ} mostNodes 0)
 
 slice-aggregate-copy : tie.Need-slice-aggregate-copy
 slice-aggregate-copy c = sym (zeros-front mostNodes _ (nodes-few (start-a (c .before))))
@@ -351,14 +351,14 @@ array-share-prefix-order c = lent-few (order-lent (c .before .before))
 slice-aggregate-deal : tie.Need-slice-aggregate-deal
 slice-aggregate-deal c = lent-front (order-lent (c .before .before .before))
 
-array-borrow-prefix-spare-2 : tie.Need-array-borrow-prefix-spare-2
-array-borrow-prefix-spare-2 c = lent-few (spare-lent (spared-k (copied-l (listed-a c))))
+array-borrow-prefix-first-left-2 : tie.Need-array-borrow-prefix-first-left-2
+array-borrow-prefix-first-left-2 c = lent-few (first-left-lent (spared-k (copied-l (listed-a c))))
 
 slice-aggregate-deal-2 : tie.Need-slice-aggregate-deal-2
-slice-aggregate-deal-2 c = lent-front (spare-lent (spared-k (copied-l (listed-a (c .before)))))
+slice-aggregate-deal-2 c = lent-front (first-left-lent (spared-k (copied-l (listed-a (c .before)))))
 
-array-borrow-prefix-marks : tie.Need-array-borrow-prefix-marks
-array-borrow-prefix-marks c = omega (arith, nodes-few (start-l (listed-a (c .before))), equal-length {A = ℕ} mostNodes 0)
+array-borrow-prefix-first-cuts : tie.Need-array-borrow-prefix-first-cuts
+array-borrow-prefix-first-cuts c = omega (arith, nodes-few (start-l (listed-a (c .before))), equal-length {A = ℕ} mostNodes 0)
 
 slice-aggregate-deal-3 : tie.Need-slice-aggregate-deal-3
 slice-aggregate-deal-3 c = sym (zeros-front mostNodes _ (nodes-few (start-l (listed-a (c .before .before)))))
@@ -458,7 +458,7 @@ returns c =
 
 pub deal-twice-spec : {M : Type 1} → statement M
 deal-twice-spec = tie.close (tie.spec
-    array-borrow-prefix-spare
+    array-borrow-prefix-first-left
     slice-aggregate-copy
     (λ c κs. search needs)
     array-borrow-prefix-usable
@@ -469,9 +469,9 @@ deal-twice-spec = tie.close (tie.spec
     list-levels-requires
     array-share-prefix-order
     slice-aggregate-deal
-    array-borrow-prefix-spare-2
+    array-borrow-prefix-first-left-2
     slice-aggregate-deal-2
-    array-borrow-prefix-marks
+    array-borrow-prefix-first-cuts
     slice-aggregate-deal-3
     deal-requires
     array-borrow-prefix-usable-2

@@ -1,7 +1,7 @@
 // Join: two good tables as one, the second's nodes and servers behind the first's.
 //
 // The tables come in bytes, as C hands them over. They pass through one list of words, one after the other, and the joined table is put
-// together there last: so the call needs the stack of Read, and not that of three tables.
+// together there last: so the call needs hardly more stack than Read, and not that of three tables.
 ghost use mathlib.Core.Path.{_≡_};
 ghost use Prim.Native.Nat.{ℕ, suc, _/_, _≤_, _<_};
 ghost use lib.ListN.{length};

@@ -1,7 +1,7 @@
 // Part: a good table cut after so many nodes and servers, as two tables.
 //
 // The table comes in bytes, as C hands it over. It passes through one list of words, in which it is checked, and each part is put together
-// there in its turn: so the call needs the stack of Read, and not that of three tables.
+// there in its turn: so the call needs hardly more stack than Read, and not that of three tables.
 ghost use mathlib.Core.Path.{_≡_};
 ghost use Prim.Native.Nat.{suc, _≤_, _<_};
 ghost use lib.ListN.{length};

@@ -110,13 +110,13 @@ firstTooLarge demands = firstNotBelow (suc mostWatts) demands
 abbrev pub PlanReason : Type 0
 PlanReason = Reason PlanRefusal
 
--- There is not a demand for each server.
-abbrev pub countDiffers : Room → List ℕ → PlanReason
-countDiffers r demands = record { holds = not (eqb (length demands) (length (r .servers))); refusal = DemandCount (length (r .servers)) }
+-- There is not a demand for each server (10). The refusal is that of the operation that has the demands.
+abbrev pub countDiffers : {R : Type 0} → (ℕ → R) → Room → List ℕ → Reason R
+countDiffers told r demands = record { holds = not (eqb (length demands) (length (r .servers))); refusal = told (length (r .servers)) }
 
--- A demand is above the most watts.
-abbrev pub demandTooLarge : List ℕ → PlanReason
-demandTooLarge demands = record { holds = ltb (firstTooLarge demands) (length demands); refusal = DemandTooLarge (firstTooLarge demands) }
+-- A demand is above the most watts (11).
+abbrev pub demandTooLarge : {R : Type 0} → (ℕ → R) → List ℕ → Reason R
+demandTooLarge told demands = record { holds = ltb (firstTooLarge demands) (length demands); refusal = told (firstTooLarge demands) }
 
 -- A list is too short for a room of so many cords and servers.
 abbrev pub listTooShort : (cords servers : ℕ) → Lengths → PlanList → PlanReason
@@ -128,7 +128,10 @@ listReasons cords servers lengths = map (listTooShort cords servers lengths) all
 
 -- All reasons to refuse the plan of a good room, in their order (10 and on).
 abbrev pub reasons : Room → List ℕ → Lengths → List PlanReason
-reasons r demands lengths = countDiffers r demands ∷ demandTooLarge demands ∷ listReasons (roomCords r) (length (r .servers)) lengths
+reasons r demands lengths =
+    countDiffers DemandCount r demands
+    ∷ demandTooLarge DemandTooLarge demands
+    ∷ listReasons (roomCords r) (length (r .servers)) lengths
 
 -- ---- Plan
 

@@ -92,8 +92,8 @@ module _ (r : Room) (d : List ℕ) (lengths : Lengths) where
 
   pub too-large-back : {i : ℕ} → planRoom r d lengths ≡ refused (DemandTooLarge i) → TooLarge i
   too-large-back {i} e =
-      unless-either (countDiffers r d) _ (planOf r d) (Told i) (λ h z. absurd (let q : _≡_ {A = ℕ} 0 1 = cc in omega arith)) (λ same.
-      unless-either (demandTooLarge d) _ (planOf r d) (Told i)
+      unless-either (countDiffers DemandCount r d) _ (planOf r d) (Told i) (λ h z. absurd (let q : _≡_ {A = ℕ} 0 1 = cc in omega arith)) (λ same.
+      unless-either (demandTooLarge DemandTooLarge d) _ (planOf r d) (Told i)
       (λ h z. let q : firstTooLarge d ≡ i = cc in record { count = same-count _ _ same; is = sym q; within = ltb-true _ _ h }) (λ _.
       lists-either (planOf r d) (roomCords r) (length (r .servers)) lengths (Told i)
       (λ list place z. absurd (let q : _≡_ {A = ℕ} 0 1 = cc in omega arith)) (λ z. absurd (accepted≢refused z))))

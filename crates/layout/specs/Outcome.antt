@@ -1,15 +1,13 @@
 -- Loading: what the checks of a table and of its servers' demands come to.
-use mathlib.Core.Bool.{not}
 use mathlib.Core.List.{List, [], _∷_}
 use Prim.Native.Nat.{ℕ}
-use lib.Dec.{eqb, ltb}
 use lib.ListN.{length}
 use Rattle.outcomes.specs.Outcome.{Outcome, accepted, refused, Reason, unless}
 use Rattle.outcomes.specs.Part.{whenGood}
 use Rattle.rooms.specs.Table.{Room, roomCords}
 use Rattle.rooms.specs.Limits.{checked}
 use Rattle.rooms.specs.Outcome.{sheetRefusalNumber, sheetRefusalPlace}
-use Rattle.deals.specs.Plan.{firstTooLarge}
+use Rattle.deals.specs.Plan.{countDiffers, demandTooLarge}
 use Rattle.layout.specs.declared.room.Counts.{Counts}
 use Rattle.layout.specs.declared.room.LoadRefusal.{LoadRefusal}
 use Rattle.layout.specs.declared.room.LoadRefusal.the-variants.{Table, DemandCount, DemandTooLarge}
@@ -20,12 +18,9 @@ use Rattle.layout.specs.declared.room.Loaded.the-variants.{Good, Refused
 abbrev pub LoadOutcome : Type 0
 LoadOutcome = Outcome Room LoadRefusal
 
--- The reasons to refuse the demands of a good room, in their order (10, 11): there is not one for each server; one is above the most watts.
+-- The reasons to refuse the demands of a good room, in their order (10, 11).
 abbrev pub loadReasons : Room → List ℕ → List (Reason LoadRefusal)
-loadReasons r demands =
-    record { holds = not (eqb (length demands) (length (r .servers))); refusal = DemandCount (length (r .servers)) }
-    ∷ record { holds = ltb (firstTooLarge demands) (length demands); refusal = DemandTooLarge (firstTooLarge demands) }
-    ∷ []
+loadReasons r demands = countDiffers DemandCount r demands ∷ demandTooLarge DemandTooLarge demands ∷ []
 
 -- The room of a table with its servers' demands: the table's refusals (4 to 9) stand.
 unfoldable pub loading : (table demands : List ℕ) → LoadOutcome

@@ -21,7 +21,7 @@ use Rattle.deals.specs.Plan.{Plan, planOf, output, count, entries, Lists, PlanR
 use Rattle.deals.specs.declared.Lengths.{Lengths}
 use Rattle.deals.specs.declared.PlanList.{PlanList}
 use Rattle.deals.specs.declared.PlanRefusal.{PlanRefusal}
-use Rattle.deals.specs.declared.PlanRefusal.the-variants.{ListTooShort}
+use Rattle.deals.specs.declared.PlanRefusal.the-variants.{DemandCount, DemandTooLarge, ListTooShort}
 use Rattle.deals.specs.declared.Planned.the-variants as planned
 use Rattle.deals.proofs.RoomHeadroom.{ceilings-count}
 use Rattle.deals.proofs.Plans.{lists-long, planRoom-is, plan-bad-table, plan-good-table}
@@ -97,8 +97,8 @@ module _ (table demands : List ℕ) (lengths : Lengths) where
       let second = unless-back _ _ r (first .1) in
       plan-good-table table demands lengths r (f .end) is
       ∙ planRoom-is r demands lengths
-      ∙ unless-pass (countDiffers r demands) _ (planOf r demands) (first .0)
-      ∙ unless-pass (demandTooLarge demands) _ (planOf r demands) (second .0)
+      ∙ unless-pass (countDiffers DemandCount r demands) _ (planOf r demands) (first .0)
+      ∙ unless-pass (demandTooLarge DemandTooLarge demands) _ (planOf r demands) (second .0)
 
   refusal-planned : {q : LoadRefusal} → loading table demands ≡ refused q → plan table demands lengths ≡ refused (refusalOf q)
   refusal-planned {q} e = go (checked table 0) refl
@@ -109,10 +109,10 @@ module _ (table demands : List ℕ) (lengths : Lengths) where
       in-room : (r : Room) (end : ℕ) → checked table 0 ≡ good r end → (count large : Bool) → not (eqb (length demands) (length (r .servers))) ≡ count
           → ltb (firstTooLarge demands) (length demands) ≡ large → unless (reasons r demands lengths) (planOf r demands) ≡ refused (refusalOf q)
       in-room r end is true large c l =
-          unless-stop (countDiffers r demands) _ (planOf r demands) c ∙ ap (λ (p : LoadRefusal). refused (refusalOf p)) (same (loading-good table demands is ∙ unless-stop _ _ r c))
+          unless-stop (countDiffers DemandCount r demands) _ (planOf r demands) c ∙ ap (λ (p : LoadRefusal). refused (refusalOf p)) (same (loading-good table demands is ∙ unless-stop _ _ r c))
       in-room r end is false true c l =
-          unless-pass (countDiffers r demands) _ (planOf r demands) c
-          ∙ unless-stop (demandTooLarge demands) _ (planOf r demands) l
+          unless-pass (countDiffers DemandCount r demands) _ (planOf r demands) c
+          ∙ unless-stop (demandTooLarge DemandTooLarge demands) _ (planOf r demands) l
           ∙ ap (λ (p : LoadRefusal). refused (refusalOf p)) (same (loading-good table demands is ∙ unless-pass _ _ r c ∙ unless-stop _ _ r l))
       in-room r end is false false c l =
           absurd (accepted≢refused (sym (loading-good table demands is ∙ unless-pass _ _ r c ∙ unless-pass _ _ r l ∙ unless-none r) ∙ e))

@@ -61,10 +61,11 @@ map-at f [] n x y h = absurd (not-suc-le-zero h)
 map-at f (a ∷ l) zero x y h = refl
 map-at f (a ∷ l) (suc n) x y h = map-at f l n x y (le-of-suc-le-suc h)
 
-count-raised : (a : ℕ) (l : List Server) → total cordCount (map (raisedServer a) l) ≡ total cordCount l
+-- What is made of each has as much of a figure: so has all of it.
+pub total-kept : {A : Type 0} (figure : A → ℕ) (f : A → A) → ((a : A) → figure (f a) ≡ figure a) → (l : List A) → total figure (map f l) ≡ total figure l
 unfolding total
-count-raised a [] = refl
-count-raised a (s ∷ l) = ap₂ _+_ (length-map (s .cords) (raisedCord a)) (count-raised a l)
+total-kept figure f same [] = refl
+total-kept figure f same (a ∷ l) = ap₂ _+_ (same a) (total-kept figure f same l)
 
 -- ---- The cords, each with its server
 
@@ -100,7 +101,7 @@ module _ (r q : Room) where
   servers-joined = length-append (r .servers) _ ∙ ap (λ (x : ℕ). length (r .servers) + x) (length-map (q .servers) (raisedServer (length (r .nodes))))
 
   pub cords-count : roomCords (joined r q) ≡ roomCords r + roomCords q
-  cords-count = total-append cordCount (r .servers) _ ∙ ap (λ (x : ℕ). roomCords r + x) (count-raised (length (r .nodes)) (q .servers))
+  cords-count = total-append cordCount (r .servers) _ ∙ ap (λ (x : ℕ). roomCords r + x) (total-kept cordCount (raisedServer (length (r .nodes))) (λ s. length-map (s .cords) (raisedCord (length (r .nodes)))) (q .servers))
 
   cords-joined : cordsOf (joined r q) ≡ cordsOf r ++ map (raisedPlaced (length (r .nodes)) (length (r .servers))) (cordsOf q)
   cords-joined =

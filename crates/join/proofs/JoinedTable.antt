@@ -30,7 +30,7 @@ use Rattle.deals.proofs.BothDeals.{parents-below, cord-facts}
 use Rattle.deals.proofs.Inside.{Inside, childNodes-in, childCords-in}
 use Rattle.deals.proofs.RoomInside.{RoomInside}
 use Rattle.join.specs.Joined.{raisedNode, raisedCord, raisedServer, joined}
-use Rattle.join.proofs.JoinedRoom.{Linked, accepted-facts, Side, before, behind, side, nodes-joined, servers-joined, cords-count, first-inside, second-inside}
+use Rattle.join.proofs.JoinedRoom.{Linked, accepted-facts, total-kept, Side, before, behind, side, nodes-joined, servers-joined, cords-count, first-inside, second-inside}
 use Rattle.rooms.specs.Trees.{sumBeneath, ParentsFirst}
 
 -- ---- Figures in range
@@ -72,11 +72,6 @@ nodes-raised percents a (n ∷ l) own h f = (
   subst (λ (x : ℕ). Nodes percents x (map (raisedNode a) l)) (let q : suc own + a ≡ suc (own + a) = omega arith in q) (nodes-raised percents a l (suc own) (omega arith) (f .1)),
 )
 
-shares-raised : (a : ℕ) (l : List Cord) → total shareOf (map (raisedCord a) l) ≡ total shareOf l
-unfolding total
-shares-raised a [] = refl
-shares-raised a (c ∷ l) = ap (λ (x : ℕ). c .share + x) (shares-raised a l)
-
 raised-from : (a v : ℕ) → 1 ≤ v → 1 ≤ raised a v
 raised-from a zero h = absurd (omega arith)
 raised-from a (suc v) h = omega arith
@@ -85,35 +80,34 @@ raised-to : (a v k : ℕ) → v ≤ k → raised a v ≤ a + k
 raised-to a zero k h = omega arith
 raised-to a (suc v) k h = omega arith
 
+-- A server is accepted with other cords: as many, with shares that are whole, and each of them accepted.
+pub with-cords : {scale k h : ℕ} {s : Server} (cords : List Cord) → ServerAccepted scale k s → length cords ≡ length (s .cords) → total shareOf cords ≡ total shareOf (s .cords)
+    → All (CordAccepted scale h) cords → ServerAccepted scale h (record { rank = s .rank; least = s .least; greatest = s .greatest; cords = cords })
+with-cords cords f count shares each = record {
+  rankFrom = f .rankFrom;
+  rankTo = f .rankTo;
+  ordered = f .ordered;
+  greatestTo = f .greatestTo;
+  someCords = omega (arith, f .someCords);
+  fewCords = omega (arith, f .fewCords);
+  shares = shares ∙ f .shares;
+  cords = each;
+}
+
 module _ (scale : ℕ) where
   cord-wider : (k h : ℕ) → k ≤ h → (c : Cord) → CordAccepted scale k c → CordAccepted scale h c
   cord-wider k h l c f = record { nodeFrom = f .nodeFrom; nodeTo = omega (arith, f .nodeTo); shareTo = f .shareTo }
 
   server-wider : (k h : ℕ) → k ≤ h → (s : Server) → ServerAccepted scale k s → ServerAccepted scale h s
-  server-wider k h l s f = record {
-    rankFrom = f .rankFrom;
-    rankTo = f .rankTo;
-    ordered = f .ordered;
-    greatestTo = f .greatestTo;
-    someCords = f .someCords;
-    fewCords = f .fewCords;
-    shares = f .shares;
-    cords = all-weaken _ _ (cord-wider k h l) (s .cords) (f .cords);
-  }
+  server-wider k h l s f = with-cords (s .cords) f refl refl (all-weaken _ _ (cord-wider k h l) (s .cords) (f .cords))
+
+  cord-raised : (a k : ℕ) (c : Cord) → CordAccepted scale k c → CordAccepted scale (a + k) (raisedCord a c)
+  cord-raised a k c g = record { nodeFrom = raised-from a (c .node) (g .nodeFrom); nodeTo = raised-to a (c .node) k (g .nodeTo); shareTo = g .shareTo }
 
   server-raised : (a k : ℕ) (s : Server) → ServerAccepted scale k s → ServerAccepted scale (a + k) (raisedServer a s)
   server-raised a k s f =
-      let count : length (map (raisedCord a) (s .cords)) ≡ length (s .cords) = length-map (s .cords) (raisedCord a) in
-      record {
-        rankFrom = f .rankFrom;
-        rankTo = f .rankTo;
-        ordered = f .ordered;
-        greatestTo = f .greatestTo;
-        someCords = omega (arith, f .someCords);
-        fewCords = omega (arith, f .fewCords);
-        shares = shares-raised a (s .cords) ∙ f .shares;
-        cords = all-map _ _ (raisedCord a) (λ c g. record { nodeFrom = raised-from a (c .node) (g .nodeFrom); nodeTo = raised-to a (c .node) k (g .nodeTo); shareTo = g .shareTo }) (s .cords) (f .cords);
-      }
+      with-cords _ f (length-map (s .cords) (raisedCord a)) (total-kept shareOf (raisedCord a) (λ c. refl) (s .cords))
+      (all-map _ _ (raisedCord a) (cord-raised a k) (s .cords) (f .cords))
 
 -- ---- The lows beneath a node, of a room inside another
 

@@ -23,8 +23,8 @@ use Rattle.rooms.proofs.Tables.{Chain, RoomFits, table-reads}
 use Rattle.rooms.proofs.Words.{servers-fit, servers-all}
 use Rattle.rooms.proofs.Promises.{refusal-nine}
 use Rattle.join.specs.Joined.{joined}
-use Rattle.join.proofs.JoinedRoom.{Linked, accepted-facts, first-inside, second-inside}
-use Rattle.join.proofs.JoinedTable.{Nodes, lowsBeneath-in}
+use Rattle.join.proofs.JoinedRoom.{Linked, accepted-facts, total-kept, first-inside, second-inside}
+use Rattle.join.proofs.JoinedTable.{Nodes, with-cords, lowsBeneath-in}
 use Rattle.part.specs.Parted.{loweredNode, loweredCord, loweredServer, front, back, Behind}
 use Rattle.part.proofs.PartLaws.{BackWhole, joined-again}
 
@@ -95,16 +95,6 @@ fits-facts version r f =
 
 -- ---- Servers before and behind the cut
 
-shares-lowered : (n : ℕ) (l : List Cord) → total shareOf (map (loweredCord n) l) ≡ total shareOf l
-unfolding total
-shares-lowered n [] = refl
-shares-lowered n (c ∷ l) = ap (λ (x : ℕ). c .share + x) (shares-lowered n l)
-
-count-lowered : (n : ℕ) (l : List Server) → total cordCount (map (loweredServer n) l) ≡ total cordCount l
-unfolding total
-count-lowered n [] = refl
-count-lowered n (s ∷ l) = ap₂ _+_ (length-map (s .cords) (loweredCord n)) (count-lowered n l)
-
 map-id : {A : Type 0} (l : List A) → map (λ x. x) l ≡ l
 map-id [] = refl
 map-id (x ∷ l) = ap (λ z. x ∷ z) (map-id l)
@@ -116,16 +106,9 @@ abbrev pub BackCords : ℕ → Server → Type 0
 BackCords n s = All (λ (c : Cord). Behind n (c .node)) (s .cords)
 
 server-front : (scale k n : ℕ) (s : Server) → ServerAccepted scale k s → FrontCords n s → ServerAccepted scale n s
-server-front scale k n s f g = record {
-  rankFrom = f .rankFrom;
-  rankTo = f .rankTo;
-  ordered = f .ordered;
-  greatestTo = f .greatestTo;
-  someCords = f .someCords;
-  fewCords = f .fewCords;
-  shares = f .shares;
-  cords = subst (All (CordAccepted scale n)) (map-id (s .cords)) (all-both _ _ (CordAccepted scale n) (λ c. c) (λ c a b. record { nodeFrom = a .nodeFrom; nodeTo = b; shareTo = a .shareTo }) (s .cords) (f .cords) g);
-}
+server-front scale k n s f g =
+    with-cords (s .cords) f refl refl
+    (subst (All (CordAccepted scale n)) (map-id (s .cords)) (all-both _ _ (CordAccepted scale n) (λ c. c) (λ c a b. record { nodeFrom = a .nodeFrom; nodeTo = b; shareTo = a .shareTo }) (s .cords) (f .cords) g))
 
 lowered-from : (n v : ℕ) → 1 ≤ v → Behind n v → 1 ≤ v - n
 lowered-from n v h (inl e) = absurd (omega arith)
@@ -133,18 +116,9 @@ lowered-from n v h (inr l) = omega arith
 
 server-back : (scale k n : ℕ) (s : Server) → ServerAccepted scale k s → BackCords n s → ServerAccepted scale (k - n) (loweredServer n s)
 server-back scale k n s f g =
-    let count : length (map (loweredCord n) (s .cords)) ≡ length (s .cords) = length-map (s .cords) (loweredCord n) in
-    record {
-      rankFrom = f .rankFrom;
-      rankTo = f .rankTo;
-      ordered = f .ordered;
-      greatestTo = f .greatestTo;
-      someCords = omega (arith, f .someCords);
-      fewCords = omega (arith, f .fewCords);
-      shares = shares-lowered n (s .cords) ∙ f .shares;
-      cords = all-both _ _ (CordAccepted scale (k - n)) (loweredCord n)
-          (λ c a b. record { nodeFrom = lowered-from n (c .node) (a .nodeFrom) b; nodeTo = omega (arith, a .nodeTo); shareTo = a .shareTo }) (s .cords) (f .cords) g;
-    }
+    with-cords _ f (length-map (s .cords) (loweredCord n)) (total-kept shareOf (loweredCord n) (λ c. refl) (s .cords))
+    (all-both _ _ (CordAccepted scale (k - n)) (loweredCord n)
+    (λ c a b. record { nodeFrom = lowered-from n (c .node) (a .nodeFrom) b; nodeTo = omega (arith, a .nodeTo); shareTo = a .shareTo }) (s .cords) (f .cords) g)
 
 -- ---- The parts
 
@@ -164,7 +138,7 @@ module _ (version n s : ℕ) (r : Room) (fits : RoomFits version r) (ok : Accept
 
   cords-both : roomCords one + roomCords two ≡ roomCords r
   cords-both =
-      ap (λ (x : ℕ). roomCords one + x) (count-lowered n (drop s (r .servers)))
+      ap (λ (x : ℕ). roomCords one + x) (total-kept cordCount (loweredServer n) (λ v. length-map (v .cords) (loweredCord n)) (drop s (r .servers)))
       ∙ sym (total-append cordCount (take s (r .servers)) (drop s (r .servers)))
       ∙ ap (total cordCount) (take-append-drop s (r .servers))
 

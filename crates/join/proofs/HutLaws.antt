@@ -14,7 +14,7 @@ use Rattle.outcomes.proofs.Outcomes.{unless-stop, unless-pass, unless-none}
 use Rattle.figures.specs.Figures.{at}
 use Rattle.words.specs.Bytes.{wordsOf}
 use Rattle.figures.specs.Bounds.{AllBelow}
-use Rattle.words.proofs.Bytes.{take-loaded}
+use Rattle.words.proofs.Bytes.{take-loaded, length-wordsOf}
 use Rattle.rooms.specs.Part.{Step, good, bad, Good}
 use Rattle.rooms.specs.Table.{raised, Room, mostNodes, mostServers, mostCords, mostWords, formOf, nodeWords, roomCords}
 use Rattle.rooms.specs.Limits.{checked}
@@ -119,7 +119,7 @@ module _ (w : List ℕ) (g : Good (checked w 0)) where
   counted : width * at w 1 ≡ width * length (g .value .nodes)
   counted = ap (λ (n : ℕ). width * n) (nodes-told w refl (g .value) (g .next) (g .is))
 
-  pub counts-there : 3 ≤ length w
+  counts-there : 3 ≤ length w
   counts-there = omega (arith, long)
 
   pub middle-there : serversIndex w < length w
@@ -150,6 +150,10 @@ module _ (w : List ℕ) (g : Good (checked w 0)) where
   -- A good table has what is kept of it.
   pub good-hut : HutOf w (hutOf w (g .value))
   good-hut = record { room = g .value; end = g .next; good-table = g .is; is = refl }
+
+-- A good table that stands in bytes has its first counts there.
+pub counts-in : (bytes : List ℕ) → Good (checked (wordsOf bytes) 0) → 3 ≤ length bytes / 4
+counts-in bytes g = omega (arith, length-wordsOf bytes, counts-there (wordsOf bytes) g)
 
 -- What a good answer keeps.
 pub hut-of : (w : List ℕ) {k : Examined} {hut : Hut} → k ≡ examined w → k ≡ examineds.Good hut → HutOf w hut

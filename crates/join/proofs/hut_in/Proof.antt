@@ -4,7 +4,7 @@ use native.Mathlib.Omega.{arith}
 use Rattle.words.specs.Bytes.{wordsOf}
 use Rattle.words.proofs.Bytes.{length-wordsOf}
 use Rattle.rooms.proofs.Counts.{nodes-told, servers-told}
-use Rattle.join.proofs.HutLaws.{counts-there, others-there, hut-read}
+use Rattle.join.proofs.HutLaws.{counts-in, others-there, hut-read}
 use borrow.Author.Needs.{needs}
 use Rattle.join.proofs.hut_in.Statement.{statement}
 use Rattle.join.proofs.hut_in.Tie as tie
@@ -12,14 +12,12 @@ use Rattle.join.proofs.hut_in.Tie as tie
 word-in-requires : tie.Need-word-in-requires
 word-in-requires c κs =
     let start = c .before in
-    let bytes = start .args .bytes .now in
-    omega (arith, length-wordsOf bytes, counts-there (wordsOf bytes) (start .pre))
+    omega (arith, counts-in (start .args .bytes .now) (start .pre))
 
 word-in-requires-2 : tie.Need-word-in-requires-2
 word-in-requires-2 c κs =
     let start = c .before .before in
-    let bytes = start .args .bytes .now in
-    omega (arith, length-wordsOf bytes, counts-there (wordsOf bytes) (start .pre))
+    omega (arith, counts-in (start .args .bytes .now) (start .pre))
 
 sub-t11 : tie.Need-sub-t11
 sub-t11 c =

@@ -2,30 +2,30 @@
 use Rattle.std.specs.Prelude.{◌≡◌, Bool, cond, List, [], ◌∷◌, ◌++◌, ℕ, ◌*◌, leb, length}
 use Rattle.std.proofs.lemmas.List.Edits.{sets}
 use Rattle.outcomes.specs.Outcome.{Outcome, after}
-use Rattle.words.specs.Bytes.{littleEndian}
+use Rattle.words.specs.Bytes.{little_endian}
 
 -- ---- Answers
 
 -- The bytes of an answer's numbers, eight bytes each, low byte first.
-unfoldable pub answerBytes : List ℕ → List ℕ
-answerBytes [] = []
-answerBytes (number ∷ rest) = littleEndian 8 number ++ answerBytes rest
+unfoldable pub answer_bytes : List ℕ → List ℕ
+answer_bytes [] = []
+answer_bytes (number ∷ rest) = little_endian 8 number ++ answer_bytes rest
 
 -- Whether a buffer is long enough for an answer of so many numbers.
-unfoldable pub holdsAnswer : ℕ → List ℕ → Bool
-holdsAnswer count buffer = leb (8 * count) (length buffer)
+unfoldable pub holds_answer : ℕ → List ℕ → Bool
+holds_answer count buffer = leb (8 * count) (length buffer)
 
 -- A buffer after an answer of up to so many numbers: they stand at its front; or it is as it was, where it is too short for so many.
 unfoldable pub answered : ℕ → List ℕ → List ℕ → List ℕ
-answered count numbers buffer = cond (holdsAnswer count buffer) (sets buffer 0 (answerBytes numbers)) buffer
+answered count numbers buffer = cond (holds_answer count buffer) (sets buffer 0 (answer_bytes numbers)) buffer
 
 -- ---- Calls
 
 -- What a call whose answer has up to so many numbers returns and leaves: 1, with the answer stored; or 0, where the answer's buffer is
 -- too short. `Buffers` says what its other lists and buffers are left as, by whether the answer was stored.
 pub record Call (count : ℕ) (numbers answer : List ℕ) (Buffers : Bool → Type 0) (r : ℕ) (answer' : List ℕ) : Type 0 where
-  pub returned : r ≡ cond (holdsAnswer count answer) 1 0
-  pub buffers-after : Buffers (holdsAnswer count answer)
+  pub returned : r ≡ cond (holds_answer count answer) 1 0
+  pub buffers-after : Buffers (holds_answer count answer)
   pub answer-after : answer' ≡ answered count numbers answer
 
 -- A list or buffer that a call leaves filled, or unchanged where the answer was not stored.

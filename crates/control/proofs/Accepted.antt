@@ -21,7 +21,7 @@ use Rattle.control.specs.declared.Reading.TheVariants.{Working, Failed}
 use Rattle.control.specs.declared.Controller.{Controller}
 use Rattle.control.specs.declared.Stepped.{Stepped}
 use Rattle.control.specs.declared.Stepped.TheVariants.{Next}
-use Rattle.control.specs.Step.{ac, float0, ordered, errors, lesser, least, dcChange, sum, cut, withCap, successor, stepped, stepNumber}
+use Rattle.control.specs.Step.{ac, float0, ordered, errors, lesser, least, dc_change, sum, cut, with_cap, successor, stepped, step_number}
 use Rattle.control.specs.Promises.{AcceptedStep, Sound, Kept, FirstLeast}
 use Rattle.control.proofs.FloatOrder.{real, from-true, not-lt, le_refl, le_trans, lt-le, le_lt_trans, lt-le-trans, eq_refl, finite-real, bottomless-up, topless-down, finite-bottomless, finite-topless, is_finite}
 use Rattle.control.proofs.FloatRounding.{zeroed, no_size, add-real, mul-real, mul-zero, count-positive}
@@ -43,12 +43,12 @@ accepted s = go (outcome s.controller s.readings)
     step : Stepped
     step = stepped s.controller s.readings
 
-    number : stepNumber step ≡ 0
-    number = ap stepNumber s.is
+    number : step_number step ≡ 0
+    number = ap step_number s.is
 
     go : Outcome s.controller s.readings → Successor s
-    go (bad-controller unsound e) = absurd (omega (arith, number, ap stepNumber e))
-    go (bad-reading sound i found e) = absurd (omega (arith, number, ap stepNumber e))
+    go (bad-controller unsound e) = absurd (omega (arith, number, ap step_number e))
+    go (bad-reading sound i found e) = absurd (omega (arith, number, ap step_number e))
     go (all_sound sound all e) =
         let same : Next s.next ≡ Next (successor s.controller (errors s.readings)) = sym s.is ∙ e in
         record { sound = sound; readings-sound = all; next-is = cc }
@@ -161,11 +161,11 @@ module _ (c : Controller) (sound : Sound c) where
   k-positive : T (positive c.k)
   k-positive = efficiency-positive c.k (and_i (lt float0 c.k) _ (from-true sound.k-above) (from-true sound.k-most))
 
-  change-real : (error : AcWatts) (count : ℕ) → T (real error.0) → 0 < count → count ≤ 2 ^ 53 → T (real (dcChange error c.k count).0)
+  change-real : (error : AcWatts) (count : ℕ) → T (real error.0) → 0 < count → count ≤ 2 ^ 53 → T (real (dc_change error c.k count).0)
   change-real error count r p q =
       mul-real binary64 (mul binary64 error.0 c.k) (of_int binary64 (pos count)) (mul-real binary64 error.0 c.k r k-positive) (count-positive count p q)
 
-  change-zero : (error : AcWatts) (count : ℕ) → T (zeroed error.0) → 0 < count → count ≤ 2 ^ 53 → T (zeroed (dcChange error c.k count).0)
+  change-zero : (error : AcWatts) (count : ℕ) → T (zeroed error.0) → 0 < count → count ≤ 2 ^ 53 → T (zeroed (dc_change error c.k count).0)
   change-zero error count z p q =
       mul-zero binary64 (mul binary64 error.0 c.k) (of_int binary64 (pos count)) (mul-zero binary64 error.0 c.k z k-positive) (count-positive count p q)
 
@@ -173,7 +173,7 @@ module _ (c : Controller) (sound : Sound c) where
   unfolding successor
   successor-in-range [] no-reals h = and_i (le c.low.0 c.cap.0) (le c.cap.0 c.high.0) (from-true sound.low-cap) (from-true sound.cap-high)
   successor-in-range (e ∷ es) (reals r rs) h =
-      let change = dcChange (least e es) c.k (suc (length es)) in
+      let change = dc_change (least e es) c.k (suc (length es)) in
       cut-within (sum c.cap change) c.low c.high
       (add-real binary64 c.cap.0 change.0 (from-true sound.cap-finite) (change-real (least e es) (suc (length es)) (least-real e es r rs) (zero-lt-suc (length es)) h))
       low-high
@@ -235,7 +235,7 @@ zero-error-kept s error rest is-float w z = go (cut-zero-added c.cap change c.lo
     count = suc (length rest)
 
     change : DcWatts
-    change = dcChange (least error rest) c.k count
+    change = dc_change (least error rest) c.k count
 
     cap-finite : T (finite c.cap.0)
     cap-finite = from-true a.sound.cap-finite
@@ -246,12 +246,12 @@ zero-error-kept s error rest is-float w z = go (cut-zero-added c.cap change c.lo
     change-is-zero : T (zeroed change.0)
     change-is-zero = change-zero c a.sound (least error rest) count (equal-zero (least error rest).0 z) (zero-lt-suc (length rest)) few
 
-    next-is : s.next ≡ withCap c (cut (sum c.cap change) c.low c.high)
+    next-is : s.next ≡ with_cap c (cut (sum c.cap change) c.low c.high)
     next-is = a.next-is ∙ ap (successor c) w
 
     go : (cut (sum c.cap change) c.low c.high ≡ c.cap) ⊎ (T (zeroed c.cap.0) × T (eq (cut (sum c.cap change) c.low c.high).0 c.cap.0)) → Kept s
     go (inl e) =
-        let same : s.next ≡ c = next-is ∙ ap (withCap c) e in
+        let same : s.next ≡ c = next-is ∙ ap (with_cap c) e in
         record { value = rw same (is_true _ (eq_refl c.cap.0 (finite-real c.cap.0 cap-finite))); whole = λ h. same }
     go (inr e) = record {
       value = rw next-is (is_true _ e.1);

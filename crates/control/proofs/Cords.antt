@@ -19,8 +19,8 @@ use Rattle.control.specs.declared.StepRefusal.{StepRefusal}
 use Rattle.control.specs.declared.Tally.{Tally}
 use Rattle.control.specs.declared.JudgedCords.{JudgedCords}
 use Rattle.control.specs.declared.JudgedCords.TheVariants.{Good, Bad}
-use Rattle.control.specs.Step.{ac, goodController, goodReading, difference, errors, lesser, least, moved, successor, refusal, judged, stepped}
-use Rattle.control.specs.Judged.{tally_of, noTally, tallied, movedBy, judgedFirst, judgedWith, steppedBy}
+use Rattle.control.specs.Step.{ac, good_controller, good_reading, difference, errors, lesser, least, moved, successor, refusal, judged, stepped}
+use Rattle.control.specs.Judged.{tally_of, no_tally, tallied, moved_by, judged_first, judged_with, stepped_by}
 use Rattle.control.specs.Promises.{SoundReading}
 use Rattle.control.proofs.Tests.{cond-true, cond-false}
 use Rattle.control.proofs.FloatOrder.{real, from-true}
@@ -43,19 +43,19 @@ error-real budget measured sound =
 -- ---- A tally followed by errors
 
 -- The successor by a tally and the errors of the cords after it.
-unfoldable successorFrom : Controller → Tally → List AcWatts → Controller
+unfoldable successor_from : Controller → Tally → List AcWatts → Controller
 unfolding least
-successorFrom c tally rest = movedBy c (tally_of (least tally.least rest) (tally.working + length rest))
+successor_from c tally rest = moved_by c (tally_of (least tally.least rest) (tally.working + length rest))
 
 -- A cord may be tallied, or stand first of those after the tally.
-successorFrom-tallied : (c : Controller) (tally : Tally) (reading : Reading) (rest : List Reading) → tally.working < 4
-    → successorFrom c (tallied tally reading) (errors rest) ≡ successorFrom c tally (errors (reading ∷ rest))
-unfolding successorFrom errors least
-successorFrom-tallied c tally Failed rest h = refl
-successorFrom-tallied c tally (Working budget measured) rest h =
+successor_from-tallied : (c : Controller) (tally : Tally) (reading : Reading) (rest : List Reading) → tally.working < 4
+    → successor_from c (tallied tally reading) (errors rest) ≡ successor_from c tally (errors (reading ∷ rest))
+unfolding successor_from errors least
+successor_from-tallied c tally Failed rest h = refl
+successor_from-tallied c tally (Working budget measured) rest h =
     let more = tallied tally (Working budget measured) in
     let count : more.working + length (errors rest) ≡ tally.working + suc (length (errors rest)) = omega arith in
-    ap (λ (n : ℕ). movedBy c (tally_of (least more.least (errors rest)) n)) count
+    ap (λ (n : ℕ). moved_by c (tally_of (least more.least (errors rest)) n)) count
 
 -- It adds at most one to the count.
 tallied-within : (tally : Tally) (reading : Reading) (rest : List Reading) → tally.working + length (reading ∷ rest) ≤ 4 → (tallied tally reading).working + length rest ≤ 4
@@ -63,14 +63,14 @@ tallied-within tally Failed rest h = omega arith
 tallied-within tally (Working budget measured) rest h = omega arith
 
 -- With no cord after it, the tally says all; with none in it, the cords after it do.
-successorFrom-end : (c : Controller) (tally : Tally) → movedBy c tally ≡ successorFrom c tally []
-unfolding successorFrom least
-successorFrom-end c tally = ap (λ (n : ℕ). movedBy c (tally_of tally.least n)) (sym (add-zero tally.working))
+successor_from-end : (c : Controller) (tally : Tally) → moved_by c tally ≡ successor_from c tally []
+unfolding successor_from least
+successor_from-end c tally = ap (λ (n : ℕ). moved_by c (tally_of tally.least n)) (sym (add-zero tally.working))
 
-successorFrom-none : (c : Controller) (rest : List AcWatts) → Reals rest → successorFrom c noTally rest ≡ successor c rest
-unfolding successorFrom successor least
-successorFrom-none c [] no-reals = refl
-successorFrom-none c (error ∷ rest) (reals r rs) =
+successor_from-none : (c : Controller) (rest : List AcWatts) → Reals rest → successor_from c no_tally rest ≡ successor c rest
+unfolding successor_from successor least
+successor_from-none c [] no-reals = refl
+successor_from-none c (error ∷ rest) (reals r rs) =
     let count : 0 + suc (length rest) ≡ suc (length rest) = omega arith in
     let some : 0 < 0 + suc (length rest) = omega arith in
     sym (cond-false c (moved c (least (lesser (ac (inf false)) error) rest) (0 + suc (length rest))) (ne_eqb (0 + suc (length rest)) 0 (ne_of_gt some)))
@@ -80,12 +80,12 @@ successorFrom-none c (error ∷ rest) (reals r rs) =
 -- ---- Readings judged
 
 pub judged-good : (c : Controller) (i : ℕ) (reading : Reading) (rest : List Reading) (next : Stepped)
-    → goodReading reading ≡ true → judged c (suc i) rest next ≡ judged c i (reading ∷ rest) next
+    → good_reading reading ≡ true → judged c (suc i) rest next ≡ judged c i (reading ∷ rest) next
 unfolding judged
 judged-good c i reading rest next good = cond-true _ _ good
 
 pub judged-bad : (c : Controller) (i : ℕ) (reading : Reading) (rest : List Reading) (next : Stepped)
-    → goodReading reading ≡ false → Refused (refusal 17 i) c ≡ judged c i (reading ∷ rest) next
+    → good_reading reading ≡ false → Refused (refusal 17 i) c ≡ judged c i (reading ∷ rest) next
 unfolding judged
 judged-bad c i reading rest next bad = cond-false _ _ bad
 
@@ -95,12 +95,12 @@ unfolding judged errors
 judged-same c i [] x y f = f no-reals
 judged-same c i (Failed ∷ rest) x y f =
     sym (judged-good c i Failed rest x refl) ∙ judged-same c (suc i) rest x y f ∙ judged-good c i Failed rest y refl
-judged-same c i (Working budget measured ∷ rest) x y f = go (goodReading reading) refl (judged-same c (suc i) rest x y)
+judged-same c i (Working budget measured ∷ rest) x y f = go (good_reading reading) refl (judged-same c (suc i) rest x y)
   where
     reading : Reading
     reading = Working budget measured
 
-    go : (b : Bool) → goodReading reading ≡ b → ((Reals (errors rest) → x ≡ y) → judged c (suc i) rest x ≡ judged c (suc i) rest y)
+    go : (b : Bool) → good_reading reading ≡ b → ((Reals (errors rest) → x ≡ y) → judged c (suc i) rest x ≡ judged c (suc i) rest y)
         → judged c i (reading ∷ rest) x ≡ judged c i (reading ∷ rest) y
     go true good later =
         sym (judged-good c i reading rest x good)
@@ -110,70 +110,70 @@ judged-same c i (Working budget measured ∷ rest) x y f = go (goodReading readi
 
 -- ---- Cords judged one by one
 
-unfoldable judgedAll : JudgedCords → ℕ → List Reading → JudgedCords
-unfolding judgedWith
-judgedAll j i [] = j
-judgedAll j i (reading ∷ rest) = judgedAll (judgedWith j i reading) (suc i) rest
+unfoldable judged_all : JudgedCords → ℕ → List Reading → JudgedCords
+unfolding judged_with
+judged_all j i [] = j
+judged_all j i (reading ∷ rest) = judged_all (judged_with j i reading) (suc i) rest
 
-all-bad : (why : StepRefusal) (i : ℕ) (readings : List Reading) → judgedAll (Bad why) i readings ≡ Bad why
-unfolding judgedAll judgedWith
+all-bad : (why : StepRefusal) (i : ℕ) (readings : List Reading) → judged_all (Bad why) i readings ≡ Bad why
+unfolding judged_all judged_with
 all-bad why i [] = refl
 all-bad why i (reading ∷ rest) = all-bad why (suc i) rest
 
 all-good : (c : Controller) (tally : Tally) (i : ℕ) (readings : List Reading) → tally.working + length readings ≤ 4
-    → steppedBy c (judgedAll (Good tally) i readings) ≡ judged c i readings (Next (successorFrom c tally (errors readings)))
-unfolding judgedAll judgedWith judged errors
-all-good c tally i [] h = ap Next (successorFrom-end c tally)
-all-good c tally i (reading ∷ rest) h = go (goodReading reading) refl (all-good c (tallied tally reading) (suc i) rest (tallied-within tally reading rest h))
+    → stepped_by c (judged_all (Good tally) i readings) ≡ judged c i readings (Next (successor_from c tally (errors readings)))
+unfolding judged_all judged_with judged errors
+all-good c tally i [] h = ap Next (successor_from-end c tally)
+all-good c tally i (reading ∷ rest) h = go (good_reading reading) refl (all-good c (tallied tally reading) (suc i) rest (tallied-within tally reading rest h))
   where
     after : Stepped
-    after = Next (successorFrom c tally (errors (reading ∷ rest)))
+    after = Next (successor_from c tally (errors (reading ∷ rest)))
 
     more : Tally
     more = tallied tally reading
 
-    go : (b : Bool) → goodReading reading ≡ b
-        → steppedBy c (judgedAll (Good more) (suc i) rest) ≡ judged c (suc i) rest (Next (successorFrom c more (errors rest)))
-        → steppedBy c (judgedAll (judgedWith (Good tally) i reading) (suc i) rest) ≡ judged c i (reading ∷ rest) after
+    go : (b : Bool) → good_reading reading ≡ b
+        → stepped_by c (judged_all (Good more) (suc i) rest) ≡ judged c (suc i) rest (Next (successor_from c more (errors rest)))
+        → stepped_by c (judged_all (judged_with (Good tally) i reading) (suc i) rest) ≡ judged c i (reading ∷ rest) after
     go true good later =
-        ap (λ (j : JudgedCords). steppedBy c (judgedAll j (suc i) rest)) (sym (cond-true _ _ good))
+        ap (λ (j : JudgedCords). stepped_by c (judged_all j (suc i) rest)) (sym (cond-true _ _ good))
         ∙ later
-        ∙ ap (λ (next : Controller). judged c (suc i) rest (Next next)) (successorFrom-tallied c tally reading rest (omega (arith, h)))
+        ∙ ap (λ (next : Controller). judged c (suc i) rest (Next next)) (successor_from-tallied c tally reading rest (omega (arith, h)))
         ∙ judged-good c i reading rest after good
     go false bad later =
-        ap (λ (j : JudgedCords). steppedBy c (judgedAll j (suc i) rest)) (sym (cond-false _ _ bad))
-        ∙ ap (steppedBy c) (all-bad (refusal 17 i) (suc i) rest)
+        ap (λ (j : JudgedCords). stepped_by c (judged_all j (suc i) rest)) (sym (cond-false _ _ bad))
+        ∙ ap (stepped_by c) (all-bad (refusal 17 i) (suc i) rest)
         ∙ judged-bad c i reading rest after bad
 
 -- ---- The step
 
 -- A controller that is not good ends the step.
-pub stepped-bad-controller : (c : Controller) (readings : List Reading) → goodController c ≡ false
+pub stepped-bad-controller : (c : Controller) (readings : List Reading) → good_controller c ≡ false
     → Refused (refusal 16 0) c ≡ stepped c readings
 unfolding stepped
 stepped-bad-controller c readings bad = cond-false _ _ bad
 
 -- The controller judged, then each cord, make the step.
-steppedBy-all : (c : Controller) (readings : List Reading) → length readings ≤ 4 → steppedBy c (judgedAll (judgedFirst c) 0 readings) ≡ stepped c readings
-unfolding judgedFirst stepped
-steppedBy-all c readings h = go (goodController c) refl
+stepped_by-all : (c : Controller) (readings : List Reading) → length readings ≤ 4 → stepped_by c (judged_all (judged_first c) 0 readings) ≡ stepped c readings
+unfolding judged_first stepped
+stepped_by-all c readings h = go (good_controller c) refl
   where
-    go : (b : Bool) → goodController c ≡ b → steppedBy c (judgedAll (judgedFirst c) 0 readings) ≡ stepped c readings
+    go : (b : Bool) → good_controller c ≡ b → stepped_by c (judged_all (judged_first c) 0 readings) ≡ stepped c readings
     go true good =
-        ap (λ (j : JudgedCords). steppedBy c (judgedAll j 0 readings)) (sym (cond-true _ _ good))
-        ∙ all-good c noTally 0 readings (omega (arith, h))
-        ∙ judged-same c 0 readings _ _ (λ rs. ap Next (successorFrom-none c (errors readings) rs))
+        ap (λ (j : JudgedCords). stepped_by c (judged_all j 0 readings)) (sym (cond-true _ _ good))
+        ∙ all-good c no_tally 0 readings (omega (arith, h))
+        ∙ judged-same c 0 readings _ _ (λ rs. ap Next (successor_from-none c (errors readings) rs))
         ∙ cond-true _ _ good
     go false bad =
-        ap (λ (j : JudgedCords). steppedBy c (judgedAll j 0 readings)) (sym (cond-false _ _ bad))
-        ∙ ap (steppedBy c) (all-bad (refusal 16 0) 0 readings)
+        ap (λ (j : JudgedCords). stepped_by c (judged_all j 0 readings)) (sym (cond-false _ _ bad))
+        ∙ ap (stepped_by c) (all-bad (refusal 16 0) 0 readings)
         ∙ stepped-bad-controller c readings bad
 
 -- The same of four cords.
-pub steppedBy-four : (c : Controller) (first second third fourth : Reading)
-    → steppedBy c (judgedWith (judgedWith (judgedWith (judgedWith (judgedFirst c) 0 first) 1 second) 2 third) 3 fourth) ≡ stepped c (first ∷ second ∷ third ∷ fourth ∷ [])
-unfolding judgedAll
-steppedBy-four c first second third fourth = steppedBy-all c (first ∷ second ∷ third ∷ fourth ∷ []) (omega arith)
+pub stepped_by-four : (c : Controller) (first second third fourth : Reading)
+    → stepped_by c (judged_with (judged_with (judged_with (judged_with (judged_first c) 0 first) 1 second) 2 third) 3 fourth) ≡ stepped c (first ∷ second ∷ third ∷ fourth ∷ [])
+unfolding judged_all
+stepped_by-four c first second third fourth = stepped_by-all c (first ∷ second ∷ third ∷ fourth ∷ []) (omega arith)
 
 -- Four readings are those at their places.
 pub four-readings : (readings : List Reading) (d : Reading) → length readings ≡ 4

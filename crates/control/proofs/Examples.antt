@@ -10,7 +10,7 @@ use Rattle.control.specs.declared.Reading.TheVariants.{Working, Failed}
 use Rattle.control.specs.declared.Controller.{Controller}
 use Rattle.control.specs.declared.Stepped.TheVariants.{Next, Refused}
 use Rattle.control.specs.Step.{float0, ac, refusal, stepped}
-use Rattle.control.specs.Call.{controllerOf}
+use Rattle.control.specs.Call.{controller_of}
 
 -- 25 × 2 ^ n: 100, 200 and 400 at n = 2, 3 and 4; and other figures that are used below.
 abbrev scaled : ℕ → ℕ → Float
@@ -27,7 +27,7 @@ working budget measured = Working (ac budget) (ac measured)
 
 -- A server with a cap of 75 × 4 = 300 W in 100 to 400, and k 0.5.
 abbrev server : Controller
-server = controllerOf (scaled 75 2) half (scaled 25 2) (scaled 25 4)
+server = controller_of (scaled 75 2) half (scaled 25 2) (scaled 25 4)
 
 -- A cord with a budget of 2.9 W and nothing measured.
 abbrev cord : Reading
@@ -36,25 +36,25 @@ cord = working (of_bits binary64 4613712638259704627) float0
 pub record Worked : Type 0 where
   -- Errors 200 − 190 and 200 − 180: (10 × 0.5) × 2 is added to 300.
   least-error : stepped server (working (scaled 25 3) (scaled 95 1) ∷ Failed ∷ working (scaled 25 3) (scaled 45 2) ∷ Failed ∷ [])
-      ≡ Next (controllerOf (scaled 155 1) half (scaled 25 2) (scaled 25 4))
+      ≡ Next (controller_of (scaled 155 1) half (scaled 25 2) (scaled 25 4))
   -- An error of 400 − 0 is too much, and one of 0 − 800 too: 300 + 200 and 300 − 400 are cut.
   cut-to-high : stepped server (working (scaled 25 4) float0 ∷ Failed ∷ Failed ∷ Failed ∷ [])
-      ≡ Next (controllerOf (scaled 25 4) half (scaled 25 2) (scaled 25 4))
+      ≡ Next (controller_of (scaled 25 4) half (scaled 25 2) (scaled 25 4))
   cut-to-low : stepped server (Failed ∷ Failed ∷ Failed ∷ working float0 (scaled 25 5) ∷ [])
-      ≡ Next (controllerOf (scaled 25 2) half (scaled 25 2) (scaled 25 4))
+      ≡ Next (controller_of (scaled 25 2) half (scaled 25 2) (scaled 25 4))
   -- A cord at 0 W works: errors 0 and 200, over two cords.
   no-watts : stepped server (working float0 float0 ∷ working (scaled 25 3) float0 ∷ Failed ∷ Failed ∷ []) ≡ Next server
   -- (2.9 × 0.05) × 3 is 0.43499999999999994, by the bits of these floats. In another order it would be 0.435 or 0.43500000000000005.
-  rounded : stepped (controllerOf float0 (of_bits binary64 4587366580439587226) float0 half) (cord ∷ cord ∷ cord ∷ Failed ∷ [])
-      ≡ Next (controllerOf (of_bits binary64 4601507883269530582) (of_bits binary64 4587366580439587226) float0 half)
+  rounded : stepped (controller_of float0 (of_bits binary64 4587366580439587226) float0 half) (cord ∷ cord ∷ cord ∷ Failed ∷ [])
+      ≡ Next (controller_of (of_bits binary64 4601507883269530582) (of_bits binary64 4587366580439587226) float0 half)
   -- Of the errors −0 and +0 the first is taken: only −0 leaves a cap of −0.
-  first-negative : stepped (controllerOf negative0 half negative0 half) (working negative0 float0 ∷ working float0 float0 ∷ Failed ∷ Failed ∷ [])
-      ≡ Next (controllerOf negative0 half negative0 half)
-  first-positive : stepped (controllerOf negative0 half negative0 half) (working float0 float0 ∷ working negative0 float0 ∷ Failed ∷ Failed ∷ [])
-      ≡ Next (controllerOf float0 half negative0 half)
+  first-negative : stepped (controller_of negative0 half negative0 half) (working negative0 float0 ∷ working float0 float0 ∷ Failed ∷ Failed ∷ [])
+      ≡ Next (controller_of negative0 half negative0 half)
+  first-positive : stepped (controller_of negative0 half negative0 half) (working float0 float0 ∷ working negative0 float0 ∷ Failed ∷ Failed ∷ [])
+      ≡ Next (controller_of float0 half negative0 half)
   -- A k of 0; and 2 ^ 24 = 16,777,216 W.
-  no-efficiency : stepped (controllerOf (scaled 75 2) float0 (scaled 25 2) (scaled 25 4)) (Failed ∷ Failed ∷ Failed ∷ working (scaled 1 24) float0 ∷ [])
-      ≡ Refused (refusal 16 0) (controllerOf (scaled 75 2) float0 (scaled 25 2) (scaled 25 4))
+  no-efficiency : stepped (controller_of (scaled 75 2) float0 (scaled 25 2) (scaled 25 4)) (Failed ∷ Failed ∷ Failed ∷ working (scaled 1 24) float0 ∷ [])
+      ≡ Refused (refusal 16 0) (controller_of (scaled 75 2) float0 (scaled 25 2) (scaled 25 4))
   watts-above : stepped server (Failed ∷ working float0 float0 ∷ working float0 (scaled 1 24) ∷ working (scaled 1 24) float0 ∷ [])
       ≡ Refused (refusal 17 2) server
 

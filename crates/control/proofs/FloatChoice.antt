@@ -4,8 +4,8 @@ use mathlib.Core.Bool.{Bool, true, false, cond, ◌&&◌}
 use lib.Dec.{T}
 use lib.Ieee.{Float, nan, inf, fin, lt, le}
 use lib.Ieee.Fits.{and_i, and_l, and_r}
-use Rattle.control.specs.Step.{ordered, lesserFigure}
-use Rattle.control.specs.Judged.{greaterFigure}
+use Rattle.control.specs.Step.{ordered, lesser_figure}
+use Rattle.control.specs.Judged.{greater_figure}
 use Rattle.control.proofs.FloatOrder.{real, from-true, le-real, not-lt, le_trans, lt-le}
 
 -- ---- Two figures in a range
@@ -18,7 +18,7 @@ module _ (low high : Float) where
       (and_i (le low x) (le x high) p (le_trans x y high are-real.1 h q), and_i (le low y) (le y high) (le_trans low x y are-real.0 p h) q)
 
   -- The test of the two says whether both lie in the range, also of a NaN: that is the one or the other.
-  pub range-of-two : (x y : Float) → le low (lesserFigure x y) && le (greaterFigure x y) high ≡ ordered low x high && ordered low y high
+  pub range-of-two : (x y : Float) → le low (lesser_figure x y) && le (greater_figure x y) high ≡ ordered low x high && ordered low y high
   range-of-two x y = go (lt y x) refl
     where
       same : (p q : Bool) → (T p → T q) → (T q → T p) → p ≡ q
@@ -52,7 +52,7 @@ module _ (low high : Float) where
 
 -- ---- The lesser of +∞ and a number
 
-pub lesser-infinite : (x : Float) → T (real x) → lesserFigure (inf false) x ≡ x
+pub lesser-infinite : (x : Float) → T (real x) → lesser_figure (inf false) x ≡ x
 unfolding lt
 lesser-infinite nan h = absurd h
 lesser-infinite (inf true) h = refl

@@ -12,7 +12,7 @@ use Rattle.control.specs.declared.Reading.TheVariants.{Failed}
 use Rattle.control.specs.declared.Controller.{Controller}
 use Rattle.control.specs.declared.Stepped.{Stepped}
 use Rattle.control.specs.declared.Stepped.TheVariants.{Next, Refused}
-use Rattle.control.specs.Step.{goodController, goodReading, errors, successor, refusal, judged, stepped}
+use Rattle.control.specs.Step.{good_controller, good_reading, errors, successor, refusal, judged, stepped}
 use Rattle.control.specs.Promises.{Sound, SoundReading, FirstUnsound}
 use Rattle.control.proofs.Tests.{cond-true}
 use Rattle.control.proofs.Cords.{judged-good, judged-bad, stepped-bad-controller}
@@ -31,9 +31,9 @@ judgement : (c : Controller) (i : ℕ) (readings : List Reading) (next : Stepped
     ⊎ ((j : ℕ) × FirstUnsound readings j × (judged c i readings next ≡ Refused (refusal 17 (i + j)) c))
 unfolding judged
 judgement c i [] next = inl (λ j h. absurd (none_below j h), refl)
-judgement c i (reading ∷ rest) next = go (goodReading reading) refl (judgement c (suc i) rest next)
+judgement c i (reading ∷ rest) next = go (good_reading reading) refl (judgement c (suc i) rest next)
   where
-    go : (b : Bool) → goodReading reading ≡ b
+    go : (b : Bool) → good_reading reading ≡ b
         → (AllSound rest × (judged c (suc i) rest next ≡ next)) ⊎ ((j : ℕ) × FirstUnsound rest j × (judged c (suc i) rest next ≡ Refused (refusal 17 (suc i + j)) c))
         → (AllSound (reading ∷ rest) × (judged c i (reading ∷ rest) next ≡ next)) ⊎ ((j : ℕ) × FirstUnsound (reading ∷ rest) j × (judged c i (reading ∷ rest) next ≡ Refused (refusal 17 (i + j)) c))
     go false bad later = inr (
@@ -66,12 +66,12 @@ pub data Outcome (c : Controller) (readings : List Reading) : Type 0 where
 
 pub outcome : (c : Controller) (readings : List Reading) → Outcome c readings
 unfolding stepped
-outcome c readings = go (goodController c) refl (judgement c 0 readings (Next (successor c (errors readings))))
+outcome c readings = go (good_controller c) refl (judgement c 0 readings (Next (successor c (errors readings))))
   where
     next : Stepped
     next = Next (successor c (errors readings))
 
-    go : (b : Bool) → goodController c ≡ b
+    go : (b : Bool) → good_controller c ≡ b
         → (AllSound readings × (judged c 0 readings next ≡ next)) ⊎ ((j : ℕ) × FirstUnsound readings j × (judged c 0 readings next ≡ Refused (refusal 17 (0 + j)) c))
         → Outcome c readings
     go false bad j = bad-controller (not_good c bad) (sym (stepped-bad-controller c readings bad))

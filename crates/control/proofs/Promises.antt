@@ -15,7 +15,7 @@ use Rattle.control.specs.declared.Reading.{Reading}
 use Rattle.control.specs.declared.Reading.TheVariants.{Working, Failed}
 use Rattle.control.specs.declared.Controller.{Controller}
 use Rattle.control.specs.declared.Stepped.TheVariants.{Next, Refused}
-use Rattle.control.specs.Step.{ac, errors, successor, stepped, stepNumber, stepPlace, controllerAfter}
+use Rattle.control.specs.Step.{ac, errors, successor, stepped, step_number, step_place, controller_after}
 use Rattle.control.specs.Call.{reading_of}
 use Rattle.control.specs.Promises.{CapInRange, RangeStays, SuccessorGood, ZeroErrorKeepsCap, LeastError, working, MarkDecides, NoneWorkingKeepsCap, RefusedUnchanged, Sound, FirstUnsound, Refusals}
 use Rattle.control.proofs.FloatOrder.{from-true}
@@ -89,8 +89,8 @@ pub refused-unchanged : RefusedUnchanged
 refused-unchanged c readings why after is = go (outcome c readings)
   where
     go : Outcome c readings → after ≡ c
-    go (bad-controller unsound e) = ap controllerAfter (sym is ∙ e)
-    go (bad-reading sound i found e) = ap controllerAfter (sym is ∙ e)
+    go (bad-controller unsound e) = ap controller_after (sym is ∙ e)
+    go (bad-reading sound i found e) = ap controller_after (sym is ∙ e)
     go (all_sound sound all e) =
         let z : Refused why after ≡ Next (successor c (errors readings)) = sym is ∙ e in
         let w : ◌≡◌ {A = Bool} true false = cc in
@@ -98,27 +98,27 @@ refused-unchanged c readings why after is = go (outcome c readings)
 
 module _ (c : Controller) (readings : List Reading) where
   abbrev number : ℕ
-  number = stepNumber (stepped c readings)
+  number = step_number (stepped c readings)
 
   abbrev place : ℕ
-  place = stepPlace (stepped c readings)
+  place = step_place (stepped c readings)
 
   is-sixteen : Outcome c readings → number ≡ 16 → (Sound c → ⊥) × (place ≡ 0)
-  is-sixteen (bad-controller unsound e) n = (unsound, ap stepPlace e)
-  is-sixteen (bad-reading sound i found e) n = absurd (omega (arith, n, ap stepNumber e))
-  is-sixteen (all_sound sound all e) n = absurd (omega (arith, n, ap stepNumber e))
+  is-sixteen (bad-controller unsound e) n = (unsound, ap step_place e)
+  is-sixteen (bad-reading sound i found e) n = absurd (omega (arith, n, ap step_number e))
+  is-sixteen (all_sound sound all e) n = absurd (omega (arith, n, ap step_number e))
 
   sixteen-is : Outcome c readings → (Sound c → ⊥) → number ≡ 16
-  sixteen-is (bad-controller unsound e) not = ap stepNumber e
+  sixteen-is (bad-controller unsound e) not = ap step_number e
   sixteen-is (bad-reading sound i found e) not = absurd (not sound)
   sixteen-is (all_sound sound all e) not = absurd (not sound)
 
   is-seventeen : (i : ℕ) → Outcome c readings → (number ≡ 17) × (place ≡ i) → Sound c × FirstUnsound readings i
-  is-seventeen i (bad-controller unsound e) n = absurd (omega (arith, n.0, ap stepNumber e))
+  is-seventeen i (bad-controller unsound e) n = absurd (omega (arith, n.0, ap step_number e))
   is-seventeen i (bad-reading sound j found e) n =
-      let same : j ≡ i = sym (ap stepPlace e) ∙ n.1 in
+      let same : j ≡ i = sym (ap step_place e) ∙ n.1 in
       (sound, rw same at found)
-  is-seventeen i (all_sound sound all e) n = absurd (omega (arith, n.0, ap stepNumber e))
+  is-seventeen i (all_sound sound all e) n = absurd (omega (arith, n.0, ap step_number e))
 
   -- Of two first ones neither stands before the other.
   same_first : (i j : ℕ) → FirstUnsound readings i → FirstUnsound readings j → i ≡ j
@@ -129,18 +129,18 @@ module _ (c : Controller) (readings : List Reading) where
 
   seventeen-is : (i : ℕ) → Outcome c readings → Sound c × FirstUnsound readings i → (number ≡ 17) × (place ≡ i)
   seventeen-is i (bad-controller unsound e) (sound, found) = absurd (unsound sound)
-  seventeen-is i (bad-reading _ j first e) (sound, found) = (ap stepNumber e, ap stepPlace e ∙ same_first j i first found)
+  seventeen-is i (bad-reading _ j first e) (sound, found) = (ap step_number e, ap step_place e ∙ same_first j i first found)
   seventeen-is i (all_sound _ all e) (sound, found) = absurd (found.unsound (all i found.within))
 
   is-accepted : Outcome c readings → number ≡ 0 → Sound c × AllSound readings
-  is-accepted (bad-controller unsound e) n = absurd (omega (arith, n, ap stepNumber e))
-  is-accepted (bad-reading sound i found e) n = absurd (omega (arith, n, ap stepNumber e))
+  is-accepted (bad-controller unsound e) n = absurd (omega (arith, n, ap step_number e))
+  is-accepted (bad-reading sound i found e) n = absurd (omega (arith, n, ap step_number e))
   is-accepted (all_sound sound all e) n = (sound, all)
 
   accepted-is : Outcome c readings → Sound c × AllSound readings → number ≡ 0
   accepted-is (bad-controller unsound e) (sound, all) = absurd (unsound sound)
   accepted-is (bad-reading _ i found e) (sound, all) = absurd (found.unsound (all i found.within))
-  accepted-is (all_sound _ _ e) (sound, all) = ap stepNumber e
+  accepted-is (all_sound _ _ e) (sound, all) = ap step_number e
 
 pub refusals : Refusals
 refusals = record {

@@ -9,13 +9,13 @@ use Rattle.control.specs.declared.Reading.TheVariants.{Working, Failed}
 use Rattle.control.specs.declared.Controller.{Controller}
 use Rattle.control.specs.declared.Stepped.{Stepped}
 use Rattle.control.specs.declared.Stepped.TheVariants.{Next, Refused}
-use Rattle.control.specs.Step.{ac, dc, stepped, stepNumber, stepPlace}
+use Rattle.control.specs.Step.{ac, dc, stepped, step_number, step_place}
 
 -- ---- Plain numbers
 
 -- The controller of four figures.
-abbrev pub controllerOf : Float → Float → Float → Float → Controller
-controllerOf cap k low high = record { cap = dc cap; k = k; low = dc low; high = dc high }
+abbrev pub controller_of : Float → Float → Float → Float → Controller
+controller_of cap k low high = record { cap = dc cap; k = k; low = dc low; high = dc high }
 
 -- The reading of a mark and two figures: a mark of 0 is that of a cord that failed or is not fitted, any other that of a working one.
 abbrev pub reading_of : ℕ → Float → Float → Reading
@@ -24,37 +24,37 @@ reading_of mark budget measured = cond (eqb mark 0) Failed (Working (ac budget) 
 -- ---- Lists
 
 -- The controller whose figures stand in a list from a place on: cap, k, low, high.
-abbrev pub controllerAt : List Float → ℕ → Controller
-controllerAt figures at = controllerOf (get_or figures at nan) (get_or figures (at + 1) nan) (get_or figures (at + 2) nan) (get_or figures (at + 3) nan)
+abbrev pub controller_at : List Float → ℕ → Controller
+controller_at figures at = controller_of (get_or figures at nan) (get_or figures (at + 1) nan) (get_or figures (at + 2) nan) (get_or figures (at + 3) nan)
 
 -- The reading of the cord at a place of three lists.
-abbrev pub readingAt : List ℕ → List Float → List Float → ℕ → Reading
-readingAt working budgets measured at = reading_of (get_or working at 0) (get_or budgets at nan) (get_or measured at nan)
+abbrev pub reading_at : List ℕ → List Float → List Float → ℕ → Reading
+reading_at working budgets measured at = reading_of (get_or working at 0) (get_or budgets at nan) (get_or measured at nan)
 
 -- The readings of the four cords from a place on.
-abbrev pub readingsAt : List ℕ → List Float → List Float → ℕ → List Reading
-readingsAt working budgets measured at =
-    readingAt working budgets measured at ∷ readingAt working budgets measured (at + 1)
-    ∷ readingAt working budgets measured (at + 2) ∷ readingAt working budgets measured (at + 3) ∷ []
+abbrev pub readings_at : List ℕ → List Float → List Float → ℕ → List Reading
+readings_at working budgets measured at =
+    reading_at working budgets measured at ∷ reading_at working budgets measured (at + 1)
+    ∷ reading_at working budgets measured (at + 2) ∷ reading_at working budgets measured (at + 3) ∷ []
 
 -- The step of the controller from a place on, by the cords from that place on.
-abbrev pub stepAt : List Float → List ℕ → List Float → List Float → ℕ → Stepped
-stepAt figures working budgets measured at = stepped (controllerAt figures at) (readingsAt working budgets measured at)
+abbrev pub step_at : List Float → List ℕ → List Float → List Float → ℕ → Stepped
+step_at figures working budgets measured at = stepped (controller_at figures at) (readings_at working budgets measured at)
 
 -- The list after the step of the controller from a place on: an accepted one stores the new cap; a refused one stores nothing.
-abbrev pub figuresAfter : Stepped → List Float → ℕ → List Float
-figuresAfter (Next next) figures at = set figures at next.cap.0
-figuresAfter (Refused why unchanged) figures at = figures
+abbrev pub figures_after : Stepped → List Float → ℕ → List Float
+figures_after (Next next) figures at = set figures at next.cap.0
+figures_after (Refused why unchanged) figures at = figures
 
 -- ---- The call
 
 -- A step, called from C, that comes to a step.
 abbrev pub SteppedCall : Stepped → (controller : List Float) (answer : List ℕ) (r : ℕ) (controller' : List Float) (answer' : List ℕ) → Type 0
 SteppedCall step controller answer r controller' answer' =
-    Call 2 (stepNumber step ∷ stepPlace step ∷ []) answer (Left (figuresAfter step controller 0) controller controller') r answer'
+    Call 2 (step_number step ∷ step_place step ∷ []) answer (Left (figures_after step controller 0) controller controller') r answer'
 
 -- A step, called from C. The marks, the budgets and the measured watts are not written.
 abbrev pub StepCall : (controller : List Float) (working : List ℕ) (budgets measured : List Float) (answer : List ℕ) (r : ℕ)
     (controller' : List Float) (answer' : List ℕ) → Type 0
 StepCall controller working budgets measured answer r controller' answer' =
-    SteppedCall (stepAt controller working budgets measured 0) controller answer r controller' answer'
+    SteppedCall (step_at controller working budgets measured 0) controller answer r controller' answer'

@@ -12,7 +12,7 @@ use Rattle.control.specs.declared.Reading.TheVariants.{Working, Failed}
 use Rattle.control.specs.declared.Controller.{Controller}
 use Rattle.control.specs.declared.StepRefusal.{StepRefusal}
 use Rattle.control.specs.declared.Stepped.TheVariants.{Next, Refused}
-use Rattle.control.specs.Step.{float0, float1, mostWatts, ac, ordered, goodController, errors, least, stepped, stepNumber, stepPlace}
+use Rattle.control.specs.Step.{float0, float1, most_watts, ac, ordered, good_controller, errors, least, stepped, step_number, step_place}
 use Rattle.control.specs.Call.{reading_of}
 
 -- ---- Accepted steps
@@ -35,7 +35,7 @@ RangeStays = (s : AcceptedStep) → (s.next.k ≡ s.controller.k) × (s.next.low
 
 -- The successor is good too: no step that follows is refused for its controller.
 abbrev pub SuccessorGood : Type 0
-SuccessorGood = (s : AcceptedStep) → goodController s.next ≡ true
+SuccessorGood = (s : AcceptedStep) → good_controller s.next ≡ true
 
 -- An error of zero leaves the value of a cap that is a 64-bit float, as every figure in the code is; but for a cap of zero, whose sign may
 -- change, it leaves the whole controller.
@@ -96,7 +96,7 @@ pub record Sound (c : Controller) : Type 0 where
   pub low-least : le float0 c.low.0 ≡ true
   pub low-cap : le c.low.0 c.cap.0 ≡ true
   pub cap-high : le c.cap.0 c.high.0 ≡ true
-  pub high-most : le c.high.0 mostWatts ≡ true
+  pub high-most : le c.high.0 most_watts ≡ true
   pub k-finite : finite c.k ≡ true
   pub low-finite : finite c.low.0 ≡ true
   pub cap-finite : finite c.cap.0 ≡ true
@@ -105,7 +105,7 @@ pub record Sound (c : Controller) : Type 0 where
 -- What refusal 17 asks of a figure, and so of a reading.
 pub record SoundFigure (watts : AcWatts) : Type 0 where
   pub least : le float0 watts.0 ≡ true
-  pub most : le watts.0 mostWatts ≡ true
+  pub most : le watts.0 most_watts ≡ true
   pub is_finite : finite watts.0 ≡ true
 
 pub record SoundReading (reading : Reading) : Type 0 where
@@ -120,9 +120,9 @@ pub record FirstUnsound (readings : List Reading) (i : ℕ) : Type 0 where
 -- 16 comes first, at place 0, exactly if the controller is not sound; then 17, exactly at the first cord whose reading is not; a step is
 -- accepted exactly if all are.
 pub record Refusals : Type 0 where
-  pub sixteen : (c : Controller) (readings : List Reading) → (stepNumber (stepped c readings) ≡ 16) ↔ (Sound c → ⊥)
-  pub sixteen-place : (c : Controller) (readings : List Reading) → stepNumber (stepped c readings) ≡ 16 → stepPlace (stepped c readings) ≡ 0
+  pub sixteen : (c : Controller) (readings : List Reading) → (step_number (stepped c readings) ≡ 16) ↔ (Sound c → ⊥)
+  pub sixteen-place : (c : Controller) (readings : List Reading) → step_number (stepped c readings) ≡ 16 → step_place (stepped c readings) ≡ 0
   pub seventeen : (c : Controller) (readings : List Reading) (i : ℕ)
-      → ((stepNumber (stepped c readings) ≡ 17) × (stepPlace (stepped c readings) ≡ i)) ↔ (Sound c × FirstUnsound readings i)
+      → ((step_number (stepped c readings) ≡ 17) × (step_place (stepped c readings) ≡ i)) ↔ (Sound c × FirstUnsound readings i)
   pub accepted : (c : Controller) (readings : List Reading)
-      → (stepNumber (stepped c readings) ≡ 0) ↔ (Sound c × ((i : ℕ) → i < length readings → SoundReading (get_or readings i Failed)))
+      → (step_number (stepped c readings) ≡ 0) ↔ (Sound c × ((i : ℕ) → i < length readings → SoundReading (get_or readings i Failed)))

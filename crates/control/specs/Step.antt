@@ -23,8 +23,8 @@ float0 = fin false 0 (pos 0)
 abbrev pub float1 : Float
 float1 = fin false 1 (pos 0)
 
-abbrev pub mostWatts : Float
-mostWatts = fin false 16777215 (pos 0)
+abbrev pub most_watts : Float
+most_watts = fin false 16777215 (pos 0)
 
 abbrev pub ac : Float → AcWatts
 ac x = record { 0 = x }
@@ -39,21 +39,21 @@ abbrev pub ordered : Float → Float → Float → Bool
 ordered low x high = le low x && le x high
 
 -- k lies above 0 and up to 1.
-abbrev pub isEfficiency : Float → Bool
-isEfficiency k = lt float0 k && le k float1
+abbrev pub is_efficiency : Float → Bool
+is_efficiency k = lt float0 k && le k float1
 
 -- A controller is good if k is an efficiency, and 0 ≤ low ≤ cap ≤ high ≤ 16,777,215. All four are then finite.
-unfoldable pub goodController : Controller → Bool
-goodController c = isEfficiency c.k && (ordered float0 c.low.0 c.cap.0 && ordered c.cap.0 c.high.0 mostWatts)
+unfoldable pub good_controller : Controller → Bool
+good_controller c = is_efficiency c.k && (ordered float0 c.low.0 c.cap.0 && ordered c.cap.0 c.high.0 most_watts)
 
 -- A budget or a measurement lies from 0 to 16,777,215, and so is finite.
 abbrev pub in_range : AcWatts → Bool
-in_range watts = ordered float0 watts.0 mostWatts
+in_range watts = ordered float0 watts.0 most_watts
 
 -- A reading is good if the figures of a working cord are. A failed cord has none.
-unfoldable pub goodReading : Reading → Bool
-goodReading (Working budget measured) = in_range budget && in_range measured
-goodReading Failed = true
+unfoldable pub good_reading : Reading → Bool
+good_reading (Working budget measured) = in_range budget && in_range measured
+good_reading Failed = true
 
 -- ---- The error
 
@@ -68,11 +68,11 @@ errors (Working budget measured ∷ rest) = difference budget measured ∷ error
 errors (Failed ∷ rest) = errors rest
 
 -- The lesser of two, and the first of equals.
-abbrev pub lesserFigure : Float → Float → Float
-lesserFigure first second = cond (lt second first) second first
+abbrev pub lesser_figure : Float → Float → Float
+lesser_figure first second = cond (lt second first) second first
 
 abbrev pub lesser : AcWatts → AcWatts → AcWatts
-lesser first second = ac (lesserFigure first.0 second.0)
+lesser first second = ac (lesser_figure first.0 second.0)
 
 -- The least of an error and those after it, and the first of equals.
 unfoldable pub least : AcWatts → List AcWatts → AcWatts
@@ -82,26 +82,26 @@ least error (next ∷ rest) = least (lesser error next) rest
 -- ---- The new cap
 
 -- The DC change for an AC error of so many working cords: (error × k) × count.
-abbrev pub dcChange : AcWatts → Float → ℕ → DcWatts
-dcChange error k working = dc (mul binary64 (mul binary64 error.0 k) (of_int binary64 (pos working)))
+abbrev pub dc_change : AcWatts → Float → ℕ → DcWatts
+dc_change error k working = dc (mul binary64 (mul binary64 error.0 k) (of_int binary64 (pos working)))
 
 abbrev pub sum : DcWatts → DcWatts → DcWatts
 sum cap change = dc (add binary64 cap.0 change.0)
 
 -- A cap cut to a range.
-abbrev pub cutFigure : Float → Float → Float → Float
-cutFigure x low high = cond (lt x low) low (cond (lt high x) high x)
+abbrev pub cut_figure : Float → Float → Float → Float
+cut_figure x low high = cond (lt x low) low (cond (lt high x) high x)
 
 abbrev pub cut : DcWatts → DcWatts → DcWatts → DcWatts
-cut cap low high = dc (cutFigure cap.0 low.0 high.0)
+cut cap low high = dc (cut_figure cap.0 low.0 high.0)
 
 -- The controller with another cap; k, low and high stay.
-abbrev pub withCap : Controller → DcWatts → Controller
-withCap c cap = record { cap = cap; k = c.k; low = c.low; high = c.high }
+abbrev pub with_cap : Controller → DcWatts → Controller
+with_cap c cap = record { cap = cap; k = c.k; low = c.low; high = c.high }
 
 -- The controller moved by the least error of so many working cords: the change is added to the cap, and the sum cut to the range.
 abbrev pub moved : Controller → AcWatts → ℕ → Controller
-moved c error working = withCap c (cut (sum c.cap (dcChange error c.k working)) c.low c.high)
+moved c error working = with_cap c (cut (sum c.cap (dc_change error c.k working)) c.low c.high)
 
 -- The successor, by the errors of the working cords. With none, the cap stays.
 unfoldable pub successor : Controller → List AcWatts → Controller
@@ -116,26 +116,26 @@ refusal number place = record { number = number; place = place }
 
 -- Readings judged in order, the first being that of cord i: 17 at the first that is not good, or what follows if all are.
 unfoldable pub judged : Controller → ℕ → List Reading → Stepped → Stepped
-unfolding goodReading
+unfolding good_reading
 judged c i [] next = next
-judged c i (reading ∷ rest) next = cond (goodReading reading) (judged c (suc i) rest next) (Refused (refusal 17 i) c)
+judged c i (reading ∷ rest) next = cond (good_reading reading) (judged c (suc i) rest next) (Refused (refusal 17 i) c)
 
 -- A step: 16 at place 0 if the controller is not good; then 17 at the first cord whose reading is not; else the successor.
 unfoldable pub stepped : Controller → List Reading → Stepped
-unfolding goodController judged errors successor
-stepped c readings = cond (goodController c) (judged c 0 readings (Next (successor c (errors readings)))) (Refused (refusal 16 0) c)
+unfolding good_controller judged errors successor
+stepped c readings = cond (good_controller c) (judged c 0 readings (Next (successor c (errors readings)))) (Refused (refusal 16 0) c)
 
 -- ---- Numbers and places
 
 -- A step's number, 0 if accepted; its place, 0 if accepted; and the controller after it.
-abbrev pub stepNumber : Stepped → ℕ
-stepNumber (Next next) = 0
-stepNumber (Refused why unchanged) = why.number
+abbrev pub step_number : Stepped → ℕ
+step_number (Next next) = 0
+step_number (Refused why unchanged) = why.number
 
-abbrev pub stepPlace : Stepped → ℕ
-stepPlace (Next next) = 0
-stepPlace (Refused why unchanged) = why.place
+abbrev pub step_place : Stepped → ℕ
+step_place (Next next) = 0
+step_place (Refused why unchanged) = why.place
 
-abbrev pub controllerAfter : Stepped → Controller
-controllerAfter (Next next) = next
-controllerAfter (Refused why unchanged) = unchanged
+abbrev pub controller_after : Stepped → Controller
+controller_after (Next next) = next
+controller_after (Refused why unchanged) = unchanged

@@ -1,6 +1,6 @@
 // A step called from C: four figures of a controller, and a mark and two figures for each of its four cords.
 ghost use Rattle.std.specs.Prelude.{◌≡◌};
-ghost use Rattle.control.specs.Call.{controllerOf, reading_of, readingsAt, figuresAfter, StepCall};
+ghost use Rattle.control.specs.Call.{controller_of, reading_of, readings_at, figures_after, StepCall};
 
 use crate::{AcWatts, Controller, DcWatts, Reading, Stepped};
 use calls::ANSWER_BYTES;
@@ -8,7 +8,7 @@ use calls::ANSWER_BYTES;
 impl Controller {
     // The controller of four figures.
     pub fn of(cap: f64, k: f64, low: f64, high: f64) -> Controller
-        ensures result { result ≡ controllerOf cap k low high }
+        ensures result { result ≡ controller_of cap k low high }
     {
         Controller {
             cap: DcWatts(cap),
@@ -34,7 +34,7 @@ impl Reading {
 
 // The readings of four cords.
 fn readings(working: &[u8; 4], budgets: &[f64; 4], measured: &[f64; 4]) -> [Reading; 4]
-    ensures result { result ≡ readingsAt working.now budgets.now measured.now 0 }
+    ensures result { result ≡ readings_at working.now budgets.now measured.now 0 }
 {
     let first = Reading::of(working[0], budgets[0], measured[0]);
     let second = Reading::of(working[1], budgets[1], measured[1]);
@@ -45,7 +45,7 @@ fn readings(working: &[u8; 4], budgets: &[f64; 4], measured: &[f64; 4]) -> [Read
 
 // Stores the new cap of an accepted step. After a refused one nothing is stored, so that also a NaN keeps its bits.
 fn keep_cap(stepped: Stepped, controller: &mut [f64; 4])
-    ensures controller { controller.new ≡ figuresAfter stepped controller.old 0 }
+    ensures controller { controller.new ≡ figures_after stepped controller.old 0 }
 {
     match stepped {
         Stepped::Next(next) => {

@@ -2,10 +2,10 @@
 //
 // This is A.6 of document 02, after section IV.B of the report. Figures are 64-bit floats; each operation is rounded once.
 ghost use Rattle.std.specs.Prelude.{◌≡◌, ◌&&◌, ◌+◌, min};
-ghost use Rattle.control.specs.Step.{float0, mostWatts, ordered, isEfficiency, difference, lesserFigure, lesser, dcChange, sum, cutFigure};
-ghost use Rattle.control.specs.Step.{cut, goodReading, goodController, moved, stepped, refusal, stepNumber, stepPlace, controllerAfter};
+ghost use Rattle.control.specs.Step.{float0, most_watts, ordered, is_efficiency, difference, lesser_figure, lesser, dc_change, sum, cut_figure};
+ghost use Rattle.control.specs.Step.{cut, good_reading, good_controller, moved, stepped, refusal, step_number, step_place, controller_after};
 ghost use Rattle.control.specs.declared.JudgedCords.TheVariants.{Bad};
-ghost use Rattle.control.specs.Judged.{greaterFigure, noTally, tallied, movedBy, judgedFirst, judgedWith, steppedBy};
+ghost use Rattle.control.specs.Judged.{greater_figure, no_tally, tallied, moved_by, judged_first, judged_with, stepped_by};
 
 pub mod call;
 
@@ -78,7 +78,7 @@ fn ordered(low: f64, x: f64, high: f64) -> bool
 
 // Whether k lies above 0 and up to 1.
 fn is_efficiency(k: f64) -> bool
-    ensures result { result ≡ isEfficiency k }
+    ensures result { result ≡ is_efficiency k }
 {
     0.0 < k && k <= 1.0
 }
@@ -100,7 +100,7 @@ impl AcWatts {
 
     // The DC change for an AC error of so many working cords: the one place where AC watts become DC watts.
     fn dc_change(self, k: f64, working: u32) -> DcWatts
-        ensures result { result ≡ dcChange self k working }
+        ensures result { result ≡ dc_change self k working }
     {
         let count = working as f64;
         DcWatts((self.0 * k) * count)
@@ -126,14 +126,14 @@ impl DcWatts {
 
 // The lesser of two figures, and the first of equals. They are chosen as floats: a choice between structs goes through integer registers.
 fn lesser(first: f64, second: f64) -> f64
-    ensures result { result ≡ lesserFigure first second }
+    ensures result { result ≡ lesser_figure first second }
 {
     if second < first { second } else { first }
 }
 
 // The greater of two figures, and the second of equals: whichever of them is not the lesser.
 fn greater(first: f64, second: f64) -> f64
-    ensures result { result ≡ greaterFigure first second }
+    ensures result { result ≡ greater_figure first second }
 {
     if second < first { first } else { second }
 }
@@ -141,14 +141,14 @@ fn greater(first: f64, second: f64) -> f64
 // Whether two figures are numbers from 0 to the greatest watts, by two bounds in place of four. Each figure, a NaN too, is either the lesser or the
 // greater, and a NaN is within no bound.
 fn in_range(first: f64, second: f64) -> bool
-    ensures result { result ≡ ordered float0 first mostWatts && ordered float0 second mostWatts }
+    ensures result { result ≡ ordered float0 first most_watts && ordered float0 second most_watts }
 {
     0.0 <= lesser(first, second) && greater(first, second) <= MOST_WATTS
 }
 
 // A figure cut to a range.
 fn cut(x: f64, low: f64, high: f64) -> f64
-    ensures result { result ≡ cutFigure x low high }
+    ensures result { result ≡ cut_figure x low high }
 {
     if x < low {
         low
@@ -162,7 +162,7 @@ fn cut(x: f64, low: f64, high: f64) -> f64
 impl Reading {
     // Whether a cord's figures are good: a failed cord has none.
     fn is_good(self) -> bool
-        ensures result { result ≡ goodReading self }
+        ensures result { result ≡ good_reading self }
     {
         match self {
             Reading::Working(budget, measured) => in_range(budget.0, measured.0),
@@ -181,7 +181,7 @@ fn one_more(count: u32) -> u32
 impl Tally {
     // The tally of no cord: the error is infinite, so that any cord's is the lesser.
     fn none() -> Tally
-        ensures result { result ≡ noTally }
+        ensures result { result ≡ no_tally }
     {
         Tally {
             least: AcWatts(1.0 / 0.0),
@@ -216,7 +216,7 @@ fn refused(number: u64, place: u64) -> JudgedCords
 impl JudgedCords {
     // The judgement with one cord more, which is judged if all before it are good.
     pub fn with(self, place: u64, reading: Reading) -> JudgedCords
-        ensures result { result ≡ judgedWith self place reading }
+        ensures result { result ≡ judged_with self place reading }
     {
         match self {
             JudgedCords::Good(tally) => {
@@ -248,7 +248,7 @@ impl Controller {
 
     // The controller judged, before its cords.
     pub fn judged(self) -> JudgedCords
-        ensures result { result ≡ judgedFirst self }
+        ensures result { result ≡ judged_first self }
     {
         if !self.is_good() {
             return refused(BAD_CONTROLLER, 0);
@@ -259,7 +259,7 @@ impl Controller {
     // The step, once the controller and its cords are judged. It moves whatever controller it is given: the caller hands over the
     // judgement of this one.
     pub fn step_by(self, judged: JudgedCords) -> Stepped
-        ensures result { result ≡ steppedBy self judged }
+        ensures result { result ≡ stepped_by self judged }
     {
         match judged {
             JudgedCords::Good(tally) => Stepped::Next(self.moved_by(tally)),
@@ -269,7 +269,7 @@ impl Controller {
 
     // The successor, by the tally of all cords. With none working, the cap stays.
     fn moved_by(self, tally: Tally) -> Controller
-        ensures result { result ≡ movedBy self tally }
+        ensures result { result ≡ moved_by self tally }
     {
         if tally.working == 0 {
             return self;
@@ -280,7 +280,7 @@ impl Controller {
 
     // Whether k is an efficiency, and 0 ≤ low ≤ cap ≤ high ≤ the greatest watts.
     fn is_good(self) -> bool
-        ensures result { result ≡ goodController self }
+        ensures result { result ≡ good_controller self }
     {
         if !is_efficiency(self.k) {
             return false;
@@ -308,7 +308,7 @@ impl Controller {
 impl Stepped {
     // The refusal's number, or 0.
     pub fn number(self) -> u64
-        ensures result { result ≡ stepNumber self }
+        ensures result { result ≡ step_number self }
     {
         match self {
             Stepped::Next(_) => 0,
@@ -318,7 +318,7 @@ impl Stepped {
 
     // The refusal's place, or 0.
     pub fn place(self) -> u64
-        ensures result { result ≡ stepPlace self }
+        ensures result { result ≡ step_place self }
     {
         match self {
             Stepped::Next(_) => 0,
@@ -328,7 +328,7 @@ impl Stepped {
 
     // The controller after the step.
     pub fn controller(self) -> Controller
-        ensures result { result ≡ controllerAfter self }
+        ensures result { result ≡ controller_after self }
     {
         match self {
             Stepped::Next(successor) => successor,

@@ -10,18 +10,18 @@ use lib.ListN.{length}
 use lib.Ieee.{Float}
 use lib.Ieee.Fits.{and_l, and_r}
 use Rattle.control.proofs.FloatOrder.{from-true}
-use Rattle.control_all.specs.Pass.{controllerCount, fitting}
+use Rattle.control_all.specs.Pass.{controller_count, fitting}
 use Rattle.control_all.specs.Fitting.{Fitting}
 use Rattle.control_all.specs.Promises.{Fits}
 
 module _ (controllers : List Float) (working : List ℕ) (budgets measured : List Float) (results : List ℕ) where
   -- The test of these lists.
   abbrev pub fit : Bool
-  fit = fitting (controllerCount controllers) (length working) (length budgets) (length measured) (length results)
+  fit = fitting (controller_count controllers) (length working) (length budgets) (length measured) (length results)
 
   pub fit-fits : fit ≡ true → Fits controllers working budgets measured results
   fit-fits e =
-      let n = controllerCount controllers in
+      let n = controller_count controllers in
       let all = from-true e in
       let rest1 = and_r (leb n 512) _ all in
       let rest2 = and_r (eqb (length working) (4 * n)) _ rest1 in
@@ -43,7 +43,7 @@ module _ (controllers : List Float) (working : List ℕ) (budgets measured : Lis
   -- What the code's loop asks.
   pub fits-fitting : Fits controllers working budgets measured results → Fitting controllers working budgets measured results
   fits-fitting f =
-      let four : 4 * length results ≡ 4 * controllerCount controllers = ap (λ (k : ℕ). 4 * k) f.results-one in
+      let four : 4 * length results ≡ 4 * controller_count controllers = ap (λ (k : ℕ). 4 * k) f.results-one in
       record {
         few = omega (arith, f.few, f.results-one);
         controllers-are = omega (arith, f.results-one);

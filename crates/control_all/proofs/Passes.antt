@@ -13,10 +13,10 @@ use Rattle.calls.proofs.Calls as calls
 use Rattle.figures.proofs.Stores.{sets-all}
 use Rattle.control_all.specs.declared.PassAnswer.{PassAnswer}
 use Rattle.control_all.specs.declared.PassAnswer.TheVariants.{Accepted, Refused}
-use Rattle.control_all.specs.Pass.{controllerCount, steppedTo, numbersTo, zeros, Pass, PassOutcome, unfit, passed, answer_of, passNumber, passFigure}
+use Rattle.control_all.specs.Pass.{controller_count, stepped_to, numbers_to, zeros, Pass, PassOutcome, unfit, passed, answer_of, pass_number, pass_figure}
 use Rattle.control_all.specs.Call.{PassedCall}
 use Rattle.control_all.specs.Fitting.{Fitting}
-use Rattle.control_all.proofs.Turns.{length-steppedTo, length-numbersTo}
+use Rattle.control_all.proofs.Turns.{length-stepped_to, length-numbers_to}
 use Rattle.control_all.proofs.Lengths.{fit, fit-fits, fits-fitting}
 
 module _ (controllers : List Float) (working : List ℕ) (budgets measured : List Float) (results : List ℕ) where
@@ -26,8 +26,8 @@ module _ (controllers : List Float) (working : List ℕ) (budgets measured : Lis
   -- The lists as they are once every controller is stepped.
   abbrev whole : Pass
   whole = record {
-    controllers = steppedTo controllers working budgets measured (controllerCount controllers);
-    results = numbersTo controllers working budgets measured results (controllerCount controllers);
+    controllers = stepped_to controllers working budgets measured (controller_count controllers);
+    results = numbers_to controllers working budgets measured results (controller_count controllers);
   }
 
   -- Lists that fit are stepped.
@@ -37,7 +37,7 @@ module _ (controllers : List Float) (working : List ℕ) (budgets measured : Lis
 
   -- Lists that do not are refused.
   pub passed-refused : fit controllers working budgets measured results ≡ false
-      → passed controllers working budgets measured results ≡ refused (controllerCount controllers)
+      → passed controllers working budgets measured results ≡ refused (controller_count controllers)
   unfolding passed
   passed-refused unfits = unless-stop (unfit controllers working budgets measured results) [] whole (ap not unfits)
 
@@ -46,19 +46,19 @@ module _ (controllers : List Float) (working : List ℕ) (budgets measured : Lis
   test-fitting e h = fits-fitting controllers working budgets measured results (fit-fits controllers working budgets measured results (sym e ∙ h))
 
   pub pass-done : {b : Bool} {controllers' : List Float} {results' : List ℕ} {count : ℕ} → b ≡ fit controllers working budgets measured results → b ≡ true
-      → controllers' ≡ steppedTo controllers working budgets measured (length results)
-      → results' ≡ numbersTo controllers working budgets measured results (length results)
+      → controllers' ≡ stepped_to controllers working budgets measured (length results)
+      → results' ≡ numbers_to controllers working budgets measured results (length results)
       → count ≡ zeros results'
       → (Accepted count ≡ answer_of outcome) × ((controllers' ≡ after (λ pass. pass.controllers) outcome controllers) × (results' ≡ after (λ pass. pass.results) outcome results))
   pass-done e h c r n =
       let fits = sym e ∙ h in
       let one = (fit-fits controllers working budgets measured results fits).results-one in
-      let controllers-whole = sets-all controllers whole.controllers (sym (length-steppedTo controllers working budgets measured results (controllerCount controllers))) in
-      let results-whole = sets-all results whole.results (sym (length-numbersTo controllers working budgets measured results (controllerCount controllers))) in
+      let controllers-whole = sets-all controllers whole.controllers (sym (length-stepped_to controllers working budgets measured results (controller_count controllers))) in
+      let results-whole = sets-all results whole.results (sym (length-numbers_to controllers working budgets measured results (controller_count controllers))) in
       rw (passed-accepted fits) (ap Accepted (n ∙ ap zeros (rw one at r)), ((rw one at c) ∙ sym controllers-whole, (rw one at r) ∙ sym results-whole))
 
   pub pass-refused : {b : Bool} → b ≡ fit controllers working budgets measured results → b ≡ false
-      → (Refused (controllerCount controllers) ≡ answer_of outcome) × ((controllers ≡ after (λ pass. pass.controllers) outcome controllers) × (results ≡ after (λ pass. pass.results) outcome results))
+      → (Refused (controller_count controllers) ≡ answer_of outcome) × ((controllers ≡ after (λ pass. pass.controllers) outcome controllers) × (results ≡ after (λ pass. pass.results) outcome results))
   pass-refused e h = rw (passed-refused (sym e ∙ h)) (refl, (refl, refl))
 
 -- ---- The call
@@ -71,8 +71,8 @@ call-short outcome controllers results answer h = calls.call-short _ answer _ (o
 -- Where it is long enough, it has the answer of the pass.
 pub call-done : (outcome : PassOutcome) (controllers : List Float) (results answer : List ℕ) {told : PassAnswer} {controllers' : List Float} {results' answer' : List ℕ} {number figure : ℕ}
     → 16 ≤ length answer → told ≡ answer_of outcome → controllers' ≡ after (λ pass. pass.controllers) outcome controllers → results' ≡ after (λ pass. pass.results) outcome results
-    → number ≡ passNumber told → figure ≡ passFigure told → answer' ≡ answered 2 (number ∷ figure ∷ []) answer
+    → number ≡ pass_number told → figure ≡ pass_figure told → answer' ≡ answered 2 (number ∷ figure ∷ []) answer
     → PassedCall outcome controllers results answer 1 controllers' results' answer'
 call-done outcome controllers results answer h t c r n f a =
     calls.call-done _ answer _ (omega arith) (record { controllers-after = c; results-after = r })
-    (calls.answer-told answer (n ∙ ap passNumber t) (f ∙ ap passFigure t) a)
+    (calls.answer-told answer (n ∙ ap pass_number t) (f ∙ ap pass_figure t) a)

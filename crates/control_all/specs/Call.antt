@@ -2,7 +2,7 @@
 use Rattle.std.specs.Prelude.{Bool, List, [], ◌∷◌, ℕ, Float}
 use Rattle.outcomes.specs.Outcome.{after}
 use Rattle.calls.specs.Call.{Call, Left}
-use Rattle.control_all.specs.Pass.{PassOutcome, passed, answer_of, passNumber, passFigure}
+use Rattle.control_all.specs.Pass.{PassOutcome, passed, answer_of, pass_number, pass_figure}
 
 -- The lists that the call of a pass leaves.
 pub record ListsLeft (outcome : PassOutcome) (controllers : List Float) (results : List ℕ) (controllers' : List Float) (results' : List ℕ)
@@ -14,7 +14,7 @@ pub record ListsLeft (outcome : PassOutcome) (controllers : List Float) (results
 abbrev pub PassedCall : PassOutcome → (controllers : List Float) (results answer : List ℕ) (r : ℕ)
     (controllers' : List Float) (results' answer' : List ℕ) → Type 0
 PassedCall outcome controllers results answer r controllers' results' answer' =
-    Call 2 (passNumber (answer_of outcome) ∷ passFigure (answer_of outcome) ∷ []) answer
+    Call 2 (pass_number (answer_of outcome) ∷ pass_figure (answer_of outcome) ∷ []) answer
     (ListsLeft outcome controllers results controllers' results') r answer'
 
 -- A pass, called from C. The marks, the budgets and the measured watts are not written.

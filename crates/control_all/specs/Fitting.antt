@@ -1,10 +1,10 @@
 -- What `step_each` asks of its lists. No public contract rests on this: a pass is defined in Pass.antt.
 use Rattle.std.specs.Prelude.{◌≡◌, List, ℕ, ◌*◌, ◌≤◌, length, Float}
-use Rattle.control_all.specs.Pass.{mostControllers}
+use Rattle.control_all.specs.Pass.{most_controllers}
 
 -- The lists fit: one result for each controller, and for each result a controller and four cords.
 pub record Fitting (controllers : List Float) (working : List ℕ) (budgets measured : List Float) (results : List ℕ) : Type 0 where
-  pub few : length results ≤ mostControllers
+  pub few : length results ≤ most_controllers
   pub controllers-are : 4 * length results ≤ length controllers
   pub working-are : length working ≡ 4 * length results
   pub budgets-are : length budgets ≡ 4 * length results

@@ -5,43 +5,43 @@
 use Rattle.std.specs.Prelude.{Bool, cond, not, ◌&&◌, List, [], ◌∷◌, ℕ, zero, suc, ◌+◌, ◌*◌, ◌/◌, eqb, leb, length, set, Float}
 use Rattle.outcomes.specs.Outcome.{Outcome, accepted, refused, Reason, unless}
 use Rattle.control.specs.declared.Stepped.{Stepped}
-use Rattle.control.specs.Step.{stepNumber}
-use Rattle.control.specs.Call.{stepAt, figuresAfter}
+use Rattle.control.specs.Step.{step_number}
+use Rattle.control.specs.Call.{step_at, figures_after}
 use Rattle.control_all.specs.declared.PassAnswer.{PassAnswer}
 use Rattle.control_all.specs.declared.PassAnswer.TheVariants.{Accepted, Refused}
 
 -- ---- Lists that fit
 
 -- The most controllers of a pass.
-abbrev pub mostControllers : ℕ
-mostControllers = 512
+abbrev pub most_controllers : ℕ
+most_controllers = 512
 
 -- How many controllers a list has.
-abbrev pub controllerCount : List Float → ℕ
-controllerCount controllers = length controllers / 4
+abbrev pub controller_count : List Float → ℕ
+controller_count controllers = length controllers / 4
 
 -- Whether lists of these lengths fit so many controllers: no more than the most, four readings each, one result each.
 abbrev pub fitting : ℕ → ℕ → ℕ → ℕ → ℕ → Bool
 fitting controllers working budgets measured results =
-    leb controllers mostControllers
+    leb controllers most_controllers
     && (eqb working (4 * controllers) && (eqb budgets (4 * controllers) && (eqb measured (4 * controllers) && eqb results controllers)))
 
 -- ---- Every controller's step
 
 module _ (controllers : List Float) (working : List ℕ) (budgets measured : List Float) where
   -- The step of controller i, as it is found.
-  abbrev pub ownStep : ℕ → Stepped
-  ownStep i = stepAt controllers working budgets measured (4 * i)
+  abbrev pub own_step : ℕ → Stepped
+  own_step i = step_at controllers working budgets measured (4 * i)
 
   -- The controllers, once the first so many are stepped.
-  unfoldable pub steppedTo : ℕ → List Float
-  steppedTo zero = controllers
-  steppedTo (suc i) = figuresAfter (ownStep i) (steppedTo i) (4 * i)
+  unfoldable pub stepped_to : ℕ → List Float
+  stepped_to zero = controllers
+  stepped_to (suc i) = figures_after (own_step i) (stepped_to i) (4 * i)
 
   -- The results, once the first so many numbers are in their places: 0, 16 or 17.
-  unfoldable pub numbersTo : List ℕ → ℕ → List ℕ
-  numbersTo results zero = results
-  numbersTo results (suc i) = set (numbersTo results i) i (stepNumber (ownStep i))
+  unfoldable pub numbers_to : List ℕ → ℕ → List ℕ
+  numbers_to results zero = results
+  numbers_to results (suc i) = set (numbers_to results i) i (step_number (own_step i))
 
 -- How many entries are 0.
 unfoldable pub zeros : List ℕ → ℕ
@@ -62,18 +62,18 @@ PassOutcome = Outcome Pass ℕ
 -- The lists do not fit (18), at the number of controllers.
 abbrev pub unfit : List Float → List ℕ → List Float → List Float → List ℕ → Reason ℕ
 unfit controllers working budgets measured results = record {
-  holds = not (fitting (controllerCount controllers) (length working) (length budgets) (length measured) (length results));
-  refusal = controllerCount controllers;
+  holds = not (fitting (controller_count controllers) (length working) (length budgets) (length measured) (length results));
+  refusal = controller_count controllers;
 }
 
 -- A pass: refused, before anything is stepped, where the lists do not fit.
 unfoldable pub passed : List Float → List ℕ → List Float → List Float → List ℕ → PassOutcome
-unfolding steppedTo numbersTo
+unfolding stepped_to numbers_to
 passed controllers working budgets measured results =
     unless (unfit controllers working budgets measured results ∷ [])
     (record {
-      controllers = steppedTo controllers working budgets measured (controllerCount controllers);
-      results = numbersTo controllers working budgets measured results (controllerCount controllers);
+      controllers = stepped_to controllers working budgets measured (controller_count controllers);
+      results = numbers_to controllers working budgets measured results (controller_count controllers);
     })
 
 -- The answer: how many results are 0, or the refusal's place.
@@ -84,10 +84,10 @@ answer_of (refused count) = Refused count
 -- ---- Numbers and figures
 
 -- An answer's number, 0 if accepted, and its figure: how many controllers have 0, or the refusal's place.
-abbrev pub passNumber : PassAnswer → ℕ
-passNumber (Accepted count) = 0
-passNumber (Refused place) = 18
+abbrev pub pass_number : PassAnswer → ℕ
+pass_number (Accepted count) = 0
+pass_number (Refused place) = 18
 
-abbrev pub passFigure : PassAnswer → ℕ
-passFigure (Accepted count) = count
-passFigure (Refused place) = place
+abbrev pub pass_figure : PassAnswer → ℕ
+pass_figure (Accepted count) = count
+pass_figure (Refused place) = place

@@ -3,10 +3,10 @@
 use Rattle.std.specs.Prelude.{◌≡◌, List, ◌↔◌, ℕ, ◌*◌, ◌<◌, ◌≤◌, length, get_or, Float}
 use Rattle.std.specs.Float.{nan}
 use Rattle.control.specs.declared.Stepped.{Stepped}
-use Rattle.control.specs.Step.{stepNumber, controllerAfter}
-use Rattle.control.specs.Call.{controllerAt}
+use Rattle.control.specs.Step.{step_number, controller_after}
+use Rattle.control.specs.Call.{controller_at}
 use Rattle.outcomes.specs.Outcome.{accepted}
-use Rattle.control_all.specs.Pass.{mostControllers, controllerCount, ownStep, passed, answer_of, passNumber, passFigure}
+use Rattle.control_all.specs.Pass.{most_controllers, controller_count, own_step, passed, answer_of, pass_number, pass_figure}
 
 -- A pass that is accepted: the lists before it, and those that it changes after it.
 pub record AcceptedPass : Type 0 where
@@ -21,38 +21,38 @@ pub record AcceptedPass : Type 0 where
 
 -- The single step of controller i.
 abbrev pub single : AcceptedPass → ℕ → Stepped
-single p i = ownStep p.controllers p.working p.budgets p.measured i
+single p i = own_step p.controllers p.working p.budgets p.measured i
 
 -- Controller i ends exactly as its single step would leave it, whether accepted or refused, and the number of that step stands at its
 -- place of the results.
 pub record AsSingle (p : AcceptedPass) (i : ℕ) : Type 0 where
-  pub controller : controllerAt p.controllers' (4 * i) ≡ controllerAfter (single p i)
-  pub number : get_or p.results' i 0 ≡ stepNumber (single p i)
+  pub controller : controller_at p.controllers' (4 * i) ≡ controller_after (single p i)
+  pub number : get_or p.results' i 0 ≡ step_number (single p i)
 
 abbrev pub EachAsSingle : Type 0
-EachAsSingle = (p : AcceptedPass) (i : ℕ) → i < controllerCount p.controllers → AsSingle p i
+EachAsSingle = (p : AcceptedPass) (i : ℕ) → i < controller_count p.controllers → AsSingle p i
 
 -- The lists keep their lengths, and figures over at the end of the controllers are untouched.
 pub record Bounded (p : AcceptedPass) : Type 0 where
   pub controllers-kept : length p.controllers' ≡ length p.controllers
   pub results-kept : length p.results' ≡ length p.results
-  pub over : (at : ℕ) → 4 * controllerCount p.controllers ≤ at → get_or p.controllers' at nan ≡ get_or p.controllers at nan
+  pub over : (at : ℕ) → 4 * controller_count p.controllers ≤ at → get_or p.controllers' at nan ≡ get_or p.controllers at nan
 
 abbrev pub StaysInside : Type 0
 StaysInside = (p : AcceptedPass) → Bounded p
 
 -- What refusal 18 asks of the lists, in document 02's words.
 pub record Fits (controllers : List Float) (working : List ℕ) (budgets measured : List Float) (results : List ℕ) : Type 0 where
-  pub few : controllerCount controllers ≤ mostControllers
-  pub working-four : length working ≡ 4 * controllerCount controllers
-  pub budgets-four : length budgets ≡ 4 * controllerCount controllers
-  pub measured-four : length measured ≡ 4 * controllerCount controllers
-  pub results-one : length results ≡ controllerCount controllers
+  pub few : controller_count controllers ≤ most_controllers
+  pub working-four : length working ≡ 4 * controller_count controllers
+  pub budgets-four : length budgets ≡ 4 * controller_count controllers
+  pub measured-four : length measured ≡ 4 * controller_count controllers
+  pub results-one : length results ≡ controller_count controllers
 
 -- 18 comes exactly if the lists do not fit, at the number of controllers.
 pub record RefusalEighteen : Type 0 where
   pub exactly : (controllers : List Float) (working : List ℕ) (budgets measured : List Float) (results : List ℕ)
-      → (passNumber (answer_of (passed controllers working budgets measured results)) ≡ 18) ↔ (Fits controllers working budgets measured results → ⊥)
+      → (pass_number (answer_of (passed controllers working budgets measured results)) ≡ 18) ↔ (Fits controllers working budgets measured results → ⊥)
   pub place : (controllers : List Float) (working : List ℕ) (budgets measured : List Float) (results : List ℕ)
-      → passNumber (answer_of (passed controllers working budgets measured results)) ≡ 18
-      → passFigure (answer_of (passed controllers working budgets measured results)) ≡ controllerCount controllers
+      → pass_number (answer_of (passed controllers working budgets measured results)) ≡ 18
+      → pass_figure (answer_of (passed controllers working budgets measured results)) ≡ controller_count controllers

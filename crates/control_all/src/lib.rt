@@ -1,9 +1,9 @@
 // Every server's DC cap loop in one pass: A.7 of document 02. Each controller ends as a step of its own would leave it.
 ghost use Rattle.std.specs.Prelude.{◌≡◌, cond, ◌+◌, ◌%◌, ◌≤◌, eqb, length};
 ghost use Rattle.outcomes.specs.Outcome.{after};
-ghost use Rattle.control.specs.Step.{stepNumber};
-ghost use Rattle.control.specs.Call.{controllerAt, readingAt, stepAt, figuresAfter};
-ghost use Rattle.control_all.specs.Pass.{fitting, steppedTo, numbersTo, zeros, passNumber, passFigure, passed, answer_of};
+ghost use Rattle.control.specs.Step.{step_number};
+ghost use Rattle.control.specs.Call.{controller_at, reading_at, step_at, figures_after};
+ghost use Rattle.control_all.specs.Pass.{fitting, stepped_to, numbers_to, zeros, pass_number, pass_figure, passed, answer_of};
 ghost use Rattle.control_all.specs.Fitting.{Fitting};
 
 use control::{Controller, Reading, Stepped};
@@ -23,7 +23,7 @@ pub enum PassAnswer {
 impl PassAnswer {
     // The refusal's number, or 0.
     pub fn number(self) -> u64
-        ensures result { result ≡ passNumber self }
+        ensures result { result ≡ pass_number self }
     {
         match self {
             PassAnswer::Accepted(_) => 0,
@@ -33,7 +33,7 @@ impl PassAnswer {
 
     // How many controllers were stepped, or the refusal's place.
     pub fn figure(self) -> usize
-        ensures result { result ≡ passFigure self }
+        ensures result { result ≡ pass_figure self }
     {
         match self {
             PassAnswer::Accepted(count) => count,
@@ -109,9 +109,9 @@ fn step_each(
     results: &mut [u8],
 ) -> usize
     requires fitting_lists { Fitting controllers.old working.now budgets.now measured.now results.old }
-    ensures controllers { controllers.new ≡ steppedTo controllers.old working.now budgets.now
+    ensures controllers { controllers.new ≡ stepped_to controllers.old working.now budgets.now
         measured.now (length results.old) }
-    ensures results { results.new ≡ numbersTo controllers.old working.now budgets.now
+    ensures results { results.new ≡ numbers_to controllers.old working.now budgets.now
         measured.now
         results.old (length results.old) }
     ensures result { result ≡ zeros results.new }
@@ -138,7 +138,7 @@ fn step_at(
 ) -> Stepped
     requires lists_long { (at + 4 ≤ length controllers.now) × (at + 4 ≤ length working.now) × (at + 4 ≤ length budgets.now)
         × (at + 4 ≤ length measured.now) }
-    ensures result { result ≡ stepAt controllers.now working.now budgets.now measured.now at }
+    ensures result { result ≡ step_at controllers.now working.now budgets.now measured.now at }
 {
     let controller = controller_at(controllers, at);
     let none = controller.judged();
@@ -152,7 +152,7 @@ fn step_at(
 // The controller whose figures stand from a place on.
 fn controller_at(controllers: &[f64], at: usize) -> Controller
     requires controllers_long { at + 4 ≤ length controllers.now }
-    ensures result { result ≡ controllerAt controllers.now at }
+    ensures result { result ≡ controller_at controllers.now at }
 {
     Controller::of(
         controllers[at],
@@ -165,7 +165,7 @@ fn controller_at(controllers: &[f64], at: usize) -> Controller
 // The reading of the cord at a place.
 fn reading_at(working: &[u8], budgets: &[f64], measured: &[f64], at: usize) -> Reading
     requires lists_long { (at + 1 ≤ length working.now) × (at + 1 ≤ length budgets.now) × (at + 1 ≤ length measured.now) }
-    ensures result { result ≡ readingAt working.now budgets.now measured.now at }
+    ensures result { result ≡ reading_at working.now budgets.now measured.now at }
 {
     Reading::of(working[at], budgets[at], measured[at])
 }
@@ -173,8 +173,8 @@ fn reading_at(working: &[u8], budgets: &[f64], measured: &[f64], at: usize) -> R
 // Stores the cap of an accepted step at the controller's place, and gives the step's number. After a refused one nothing is stored.
 fn keep_at(step: Stepped, controllers: &mut [f64], at: usize) -> u8
     requires controllers_long { at + 4 ≤ length controllers.old }
-    ensures controllers { controllers.new ≡ figuresAfter step controllers.old at }
-    ensures result { result ≡ stepNumber step % 256 }
+    ensures controllers { controllers.new ≡ figures_after step controllers.old at }
+    ensures result { result ≡ step_number step % 256 }
 {
     match step {
         Stepped::Next(next) => {

@@ -13,9 +13,9 @@ use lib.ListN.{length, get_or, set, length-set}
 use lib.Seq.{get_or-set_same, get_or-set_other}
 use borrow.Author.Count.{below_more}
 use borrow.Author.Tests.{eqb-true, eqb-false, ltb-true, ltb-false}
-use Rattle.rooms.specs.Table.{mostNodes, highestRank}
+use Rattle.rooms.specs.Table.{most_nodes, highest_rank}
 use Rattle.figures.specs.Figures.{at, cell}
-use Rattle.deals.specs.Levels.{fromColumn, toColumn, activeCountColumn, LevelRows, Ordered, Marked, MarksAdded, NodeMarks, Listed, FullLists, LevelsListed, ActivesListed, ActiveNodes, CordsActive, LevelLists}
+use Rattle.deals.specs.Levels.{from_column, to_column, active_count_column, LevelRows, Ordered, Marked, MarksAdded, NodeMarks, Listed, FullLists, LevelsListed, ActivesListed, ActiveNodes, CordsActive, LevelLists}
 use Rattle.figures.specs.Places.{Absent}
 use Rattle.figures.proofs.Cells.{stored, cell-here, cell-elsewhere, cell-others, stored-full}
 use Rattle.rooms.specs.Trees.{ParentsFirst}
@@ -244,16 +244,16 @@ module _ {parents nodes levels marks : List ℕ} (size : length marks ≡ length
 
 -- Before the turns of the levels below `above`; `rows₀` are the levels' rows before all turns.
 pub record Levelling (marks : List ℕ) (rows₀ : List (List ℕ)) (above : ℕ) (rows actives : List (List ℕ)) : Type 0 where
-  pub within : above ≤ highestRank
+  pub within : above ≤ highest_rank
   pub rows-full : LevelRows rows
   pub full : FullLists actives
-  pub bounds : (j : ℕ) → (cell rows j fromColumn ≡ cell rows₀ j fromColumn) × (cell rows j toColumn ≡ cell rows₀ j toColumn)
-  pub listed : (j : ℕ) → above ≤ j → j < highestRank → cell rows₀ j fromColumn < cell rows₀ j toColumn → Listed marks j (get_or actives j []) (cell rows j activeCountColumn)
-  pub none : (j : ℕ) → above ≤ j → j < highestRank → cell rows₀ j toColumn ≤ cell rows₀ j fromColumn → cell rows j activeCountColumn ≡ 0
+  pub bounds : (j : ℕ) → (cell rows j from_column ≡ cell rows₀ j from_column) × (cell rows j to_column ≡ cell rows₀ j to_column)
+  pub listed : (j : ℕ) → above ≤ j → j < highest_rank → cell rows₀ j from_column < cell rows₀ j to_column → Listed marks j (get_or actives j []) (cell rows j active_count_column)
+  pub none : (j : ℕ) → above ≤ j → j < highest_rank → cell rows₀ j to_column ≤ cell rows₀ j from_column → cell rows j active_count_column ≡ 0
 
-pub levelling-start : {marks : List ℕ} {rows actives : List (List ℕ)} → LevelRows rows → FullLists actives → Levelling marks rows highestRank rows actives
+pub levelling-start : {marks : List ℕ} {rows actives : List (List ℕ)} → LevelRows rows → FullLists actives → Levelling marks rows highest_rank rows actives
 levelling-start rows-full full = record {
-  within = le_refl highestRank;
+  within = le_refl highest_rank;
   rows-full = rows-full;
   full = full;
   bounds = λ j. (refl, refl);
@@ -275,7 +275,7 @@ module _ {marks : List ℕ} {rows₀ : List (List ℕ)} {above : ℕ} {rows acti
     abbrev level : ℕ
     level = above - 1
 
-    pub level-few : level < highestRank
+    pub level-few : level < highest_rank
     level-few = omega (arith, inv.within)
 
     pub level-there : level < length rows
@@ -285,7 +285,7 @@ module _ {marks : List ℕ} {rows₀ : List (List ℕ)} {above : ℕ} {rows acti
     level-width = inv.rows-full.1 level level-few
 
     -- What holds of the levels passed and of this one.
-    passed : (holds : ℕ → Type 0) → ((j : ℕ) → above ≤ j → j < highestRank → holds j) → holds level → (j : ℕ) → level ≤ j → j < highestRank → holds j
+    passed : (holds : ℕ → Type 0) → ((j : ℕ) → above ≤ j → j < highest_rank → holds j) → holds level → (j : ℕ) → level ≤ j → j < highest_rank → holds j
     passed holds before here j l h = go (eqb j level) refl
       where
         go : (t : Bool) → eqb j level ≡ t → holds j
@@ -296,53 +296,53 @@ module _ {marks : List ℕ} {rows₀ : List (List ℕ)} {above : ℕ} {rows acti
 
     -- A level's count is stored: the counts of other levels stand, and so do all bounds.
     module _ (v : ℕ) where
-      counted : cell (stored rows level activeCountColumn v) level activeCountColumn ≡ v
-      counted = cell-here rows level activeCountColumn v level-there (omega (arith, level-width))
+      counted : cell (stored rows level active_count_column v) level active_count_column ≡ v
+      counted = cell-here rows level active_count_column v level-there (omega (arith, level-width))
 
-      uncounted : (j : ℕ) → above ≤ j → cell (stored rows level activeCountColumn v) j activeCountColumn ≡ cell rows j activeCountColumn
-      uncounted j l = cell-elsewhere rows level activeCountColumn v level-there j activeCountColumn (λ q. omega arith)
+      uncounted : (j : ℕ) → above ≤ j → cell (stored rows level active_count_column v) j active_count_column ≡ cell rows j active_count_column
+      uncounted j l = cell-elsewhere rows level active_count_column v level-there j active_count_column (λ q. omega arith)
 
-      same-bounds : (j : ℕ) → (cell (stored rows level activeCountColumn v) j fromColumn ≡ cell rows₀ j fromColumn) × (cell (stored rows level activeCountColumn v) j toColumn ≡ cell rows₀ j toColumn)
+      same-bounds : (j : ℕ) → (cell (stored rows level active_count_column v) j from_column ≡ cell rows₀ j from_column) × (cell (stored rows level active_count_column v) j to_column ≡ cell rows₀ j to_column)
       same-bounds j = (
-        cell-others rows level activeCountColumn v level-there j fromColumn (λ q. absurd (omega arith)) ∙ (inv.bounds j).0,
-        cell-others rows level activeCountColumn v level-there j toColumn (λ q. absurd (omega arith)) ∙ (inv.bounds j).1,
+        cell-others rows level active_count_column v level-there j from_column (λ q. absurd (omega arith)) ∙ (inv.bounds j).0,
+        cell-others rows level active_count_column v level-there j to_column (λ q. absurd (omega arith)) ∙ (inv.bounds j).1,
       )
 
     -- A level that no cord has.
-    pub levelling-skip : cell rows level toColumn ≤ cell rows level fromColumn → Levelling marks rows₀ level (stored rows level activeCountColumn 0) actives
+    pub levelling-skip : cell rows level to_column ≤ cell rows level from_column → Levelling marks rows₀ level (stored rows level active_count_column 0) actives
     levelling-skip none = record {
       within = omega (arith, inv.within);
-      rows-full = stored-full rows level activeCountColumn 0 level-there inv.rows-full;
+      rows-full = stored-full rows level active_count_column 0 level-there inv.rows-full;
       full = inv.full;
       bounds = same-bounds 0;
-      listed = passed (λ j. cell rows₀ j fromColumn < cell rows₀ j toColumn → Listed marks j (get_or actives j []) (cell (stored rows level activeCountColumn 0) j activeCountColumn))
+      listed = passed (λ j. cell rows₀ j from_column < cell rows₀ j to_column → Listed marks j (get_or actives j []) (cell (stored rows level active_count_column 0) j active_count_column))
           (λ j l h has. subst (Listed marks j (get_or actives j [])) (sym (uncounted 0 j l)) (inv.listed j l h has))
           (λ has. absurd (omega (arith, inv.bounds level)));
-      none = passed (λ j. cell rows₀ j toColumn ≤ cell rows₀ j fromColumn → cell (stored rows level activeCountColumn 0) j activeCountColumn ≡ 0)
+      none = passed (λ j. cell rows₀ j to_column ≤ cell rows₀ j from_column → cell (stored rows level active_count_column 0) j active_count_column ≡ 0)
           (λ j l h has. uncounted 0 j l ∙ inv.none j l h has) (λ has. counted 0);
     }
 
-    pub levelling-turn : cell rows level fromColumn < cell rows level toColumn → (list : List ℕ) {v count : ℕ} → v ≡ count → length list ≡ length (get_or actives level [])
-        → Listed marks level list count → Levelling marks rows₀ level (stored rows level activeCountColumn v) (set actives level list)
+    pub levelling-turn : cell rows level from_column < cell rows level to_column → (list : List ℕ) {v count : ℕ} → v ≡ count → length list ≡ length (get_or actives level [])
+        → Listed marks level list count → Levelling marks rows₀ level (stored rows level active_count_column v) (set actives level list)
     levelling-turn some-cord list {v} {count} e size listed = record {
       within = omega (arith, inv.within);
-      rows-full = stored-full rows level activeCountColumn v level-there inv.rows-full;
+      rows-full = stored-full rows level active_count_column v level-there inv.rows-full;
       full = (
         length-set actives level list ∙ inv.full.0,
         λ j h. set-length (eqb j level) j refl h,
       );
       bounds = same-bounds v;
-      listed = passed (λ j. cell rows₀ j fromColumn < cell rows₀ j toColumn → Listed marks j (get_or (set actives level list) j []) (cell (stored rows level activeCountColumn v) j activeCountColumn))
+      listed = passed (λ j. cell rows₀ j from_column < cell rows₀ j to_column → Listed marks j (get_or (set actives level list) j []) (cell (stored rows level active_count_column v) j active_count_column))
           (λ j l h has. rw (get_or-set_other actives level j list [] (λ q. omega arith)) (subst (Listed marks j (get_or actives j [])) (sym (uncounted v j l)) (inv.listed j l h has)))
           (λ has. rw row (subst (Listed marks level list) (sym (counted v ∙ e)) listed));
-      none = passed (λ j. cell rows₀ j toColumn ≤ cell rows₀ j fromColumn → cell (stored rows level activeCountColumn v) j activeCountColumn ≡ 0)
+      none = passed (λ j. cell rows₀ j to_column ≤ cell rows₀ j from_column → cell (stored rows level active_count_column v) j active_count_column ≡ 0)
           (λ j l h has. uncounted v j l ∙ inv.none j l h has) (λ has. absurd (omega (arith, inv.bounds level)));
     }
       where
         row : get_or (set actives level list) level [] ≡ list
         row = get_or-set_same actives level list [] (omega (arith, inv.full.0, inv.within))
 
-        set-length : (t : Bool) (j : ℕ) → eqb j level ≡ t → j < highestRank → length (get_or (set actives level list) j []) ≡ mostNodes
+        set-length : (t : Bool) (j : ℕ) → eqb j level ≡ t → j < highest_rank → length (get_or (set actives level list) j []) ≡ most_nodes
         set-length true j q h = rw (eqb-true j level q, row) (size ∙ inv.full.1 level level-few)
         set-length false j q h = rw (get_or-set_other actives level j list [] (eqb-false j level q)) (inv.full.1 j h)
 

@@ -11,17 +11,17 @@ use borrow.Author.Tests.{eqb-true, eq-eqb}
 use Rattle.figures.specs.Sums.{on, sum}
 use Rattle.figures.proofs.Sums.{on-yes, on-cong, sum-cong, sum-swap, sum_one}
 use Rattle.figures.proofs.Lists.{sum-most, sum-one-le}
-use Rattle.rooms.proofs.Trees.{childSum-cong, rise}
+use Rattle.rooms.proofs.Trees.{child_sum-cong, rise}
 use Rattle.splits.specs.Split.{part}
 use Rattle.splits.proofs.Splits.{part-le, part_none, part-whole, telescope, telescope-all}
-use Rattle.deals.specs.Metrics.{Deal, overChildren}
-use Rattle.deals.proofs.Requests.{Dealable, later, dealBeneath, dealBeneath-unique}
-use Rattle.rooms.specs.Trees.{childSum}
+use Rattle.deals.specs.Metrics.{Deal, over_children}
+use Rattle.deals.proofs.Requests.{Dealable, later, deal_beneath, deal_beneath-unique}
+use Rattle.rooms.specs.Trees.{child_sum}
 
 -- What hangs on the nodes is no more than what the cords have.
-pub childCords-most : (nodes cords : ℕ) (node : ℕ → ℕ) → ((c : ℕ) → c < cords → 0 < node c) → ((c : ℕ) → c < cords → node c ≤ nodes)
-    → (f : ℕ → ℕ) (most : ℕ) → ((c : ℕ) → c < cords → f c ≤ most) → sum nodes (λ n. childSum cords node n f) ≤ cords * most
-childCords-most nodes cords node hangs here f most h =
+pub child_cords-most : (nodes cords : ℕ) (node : ℕ → ℕ) → ((c : ℕ) → c < cords → 0 < node c) → ((c : ℕ) → c < cords → node c ≤ nodes)
+    → (f : ℕ → ℕ) (most : ℕ) → ((c : ℕ) → c < cords → f c ≤ most) → sum nodes (λ n. child_sum cords node n f) ≤ cords * most
+child_cords-most nodes cords node hangs here f most h =
     le_trans (le_of_eq (sum-swap nodes cords (λ n c. on (eqb (node c) (suc n)) (f c))))
     (sum-most cords most _ (λ c l. le_trans (once c l (node c) refl) (h c l)))
   where
@@ -39,19 +39,19 @@ module _ (d : Deal) where
   pub record ByWeights (w v x y : ℕ → ℕ) : Type 0 where
     pub root : (m : ℕ) → m < nodes → parent m ≡ 0 → x m ≡ w m
     pub inner : (m n : ℕ) → m < nodes → parent m ≡ suc n
-        → x m ≡ part (x n) (overChildren d n w v) (sum m (λ h. on (eqb (parent h) (suc n)) (w h))) (w m)
+        → x m ≡ part (x n) (over_children d n w v) (sum m (λ h. on (eqb (parent h) (suc n)) (w h))) (w m)
     pub leaf : (c n : ℕ) → c < cords → node c ≡ suc n
-        → y c ≡ part (x n) (overChildren d n w v) (childSum nodes parent n w + sum c (λ h. on (eqb (node h) (suc n)) (v h))) (v c)
+        → y c ≡ part (x n) (over_children d n w v) (child_sum nodes parent n w + sum c (λ h. on (eqb (node h) (suc n)) (v h))) (v c)
 
-  pub overChildren-cong : (w u v : ℕ → ℕ) (n : ℕ) → ((m : ℕ) → m < nodes → parent m ≡ suc n → w m ≡ u m) → overChildren d n w v ≡ overChildren d n u v
-  overChildren-cong w u v n same = ap (λ (z : ℕ). z + childSum cords node n v) (childSum-cong nodes parent n w u same)
+  pub over_children-cong : (w u v : ℕ → ℕ) (n : ℕ) → ((m : ℕ) → m < nodes → parent m ≡ suc n → w m ≡ u m) → over_children d n w v ≡ over_children d n u v
+  over_children-cong w u v n same = ap (λ (z : ℕ). z + child_sum cords node n v) (child_sum-cong nodes parent n w u same)
 
 -- Equal weights give equal amounts, from each parent to its children.
 module _ (d : Deal) (ok : Dealable d) (w u v x z y t : ℕ → ℕ) (same : (n : ℕ) → n < d.nodes → w n ≡ u n) (by : ByWeights d w v x y) (yb : ByWeights d u v z t) where
   open d use {nodes, parent, cords, node}
 
-  wholes-same : (n : ℕ) → overChildren d n w v ≡ overChildren d n u v
-  wholes-same n = overChildren-cong d w u v n (λ m lm q. same m lm)
+  wholes-same : (n : ℕ) → over_children d n w v ≡ over_children d n u v
+  wholes-same n = over_children-cong d w u v n (λ m lm q. same m lm)
 
   before_same : (n m : ℕ) → m ≤ nodes → sum m (λ h. on (eqb (parent h) (suc n)) (w h)) ≡ sum m (λ h. on (eqb (parent h) (suc n)) (u h))
   before_same n m h = sum-cong m _ _ (λ i l. ap (λ (a : ℕ). on (eqb (parent i) (suc n)) a) (same i (omega arith)))
@@ -64,7 +64,7 @@ module _ (d : Deal) (ok : Dealable d) (w u v x z y t : ℕ → ℕ) (same : (n :
       go n l ih (suc q) e =
           by.inner n q l e
           ∙ ap₂ (λ (a b : ℕ). part a b (sum n (λ h. on (eqb (parent h) (suc q)) (w h))) (w n)) (ih q (later d ok n q l e)) (wholes-same q)
-          ∙ ap₂ (λ (a b : ℕ). part (z q) (overChildren d q u v) a b) (before_same q n (omega arith)) (same n l)
+          ∙ ap₂ (λ (a b : ℕ). part (z q) (over_children d q u v) a b) (before_same q n (omega arith)) (same n l)
           ∙ sym (yb.inner n q l e)
 
   pub reached-same : (c : ℕ) → c < cords → y c ≡ t c
@@ -75,12 +75,12 @@ module _ (d : Deal) (ok : Dealable d) (w u v x z y t : ℕ → ℕ) (same : (n :
       go (suc n) e =
           let q : n < nodes = subst (λ (a : ℕ). a ≤ nodes) e (ok.here c l) in
           by.leaf c n l e
-          ∙ ap₂ (λ (a b : ℕ). part a b (childSum nodes parent n w + sum c (λ h. on (eqb (node h) (suc n)) (v h))) (v c)) (amounts-same n q) (wholes-same n)
-          ∙ ap (λ (a : ℕ). part (z n) (overChildren d n u v) (a + sum c (λ h. on (eqb (node h) (suc n)) (v h))) (v c)) (before_same n nodes (le_refl nodes))
+          ∙ ap₂ (λ (a b : ℕ). part a b (child_sum nodes parent n w + sum c (λ h. on (eqb (node h) (suc n)) (v h))) (v c)) (amounts-same n q) (wholes-same n)
+          ∙ ap (λ (a : ℕ). part (z n) (over_children d n u v) (a + sum c (λ h. on (eqb (node h) (suc n)) (v h))) (v c)) (before_same n nodes (le_refl nodes))
           ∙ sym (yb.leaf c n l e)
 
 module _ (d : Deal) (ok : Dealable d) (w v x y : ℕ → ℕ) (by : ByWeights d w v x y)
-    (enough : (n : ℕ) → n < d.nodes → w n ≤ overChildren d n w v) where
+    (enough : (n : ℕ) → n < d.nodes → w n ≤ over_children d n w v) where
   open d use {nodes, parent, cords, node}
 
   -- No node gets more than its weight.
@@ -91,7 +91,7 @@ module _ (d : Deal) (ok : Dealable d) (w v x y : ℕ → ℕ) (by : ByWeights d 
       go n l ih zero e = le_of_eq (by.root n l e)
       go n l ih (suc q) e =
           let u : q < n = later d ok n q l e in
-          le_trans (le_of_eq (by.inner n q l e)) (part-le (x q) (overChildren d q w v) _ (w n) (le_trans (ih q u) (enough q (omega arith))))
+          le_trans (le_of_eq (by.inner n q l e)) (part-le (x q) (over_children d q w v) _ (w n) (le_trans (ih q u) (enough q (omega arith))))
 
   -- Nor does a cord.
   pub reached-most : (c : ℕ) → c < cords → y c ≤ v c
@@ -101,26 +101,26 @@ module _ (d : Deal) (ok : Dealable d) (w v x y : ℕ → ℕ) (by : ByWeights d 
       go zero e = absurd (omega (arith, ok.hangs c l))
       go (suc n) e =
           let q : n < nodes = subst (λ (z : ℕ). z ≤ nodes) e (ok.here c l) in
-          le_trans (le_of_eq (by.leaf c n l e)) (part-le (x n) (overChildren d n w v) _ (v c) (le_trans (amount-most n q) (enough n q)))
+          le_trans (le_of_eq (by.leaf c n l e)) (part-le (x n) (over_children d n w v) _ (v c) (le_trans (amount-most n q) (enough n q)))
 
-  to-nodes : (n : ℕ) → childSum nodes parent n x ≡ x n * childSum nodes parent n w / overChildren d n w v
+  to-nodes : (n : ℕ) → child_sum nodes parent n x ≡ x n * child_sum nodes parent n w / over_children d n w v
   to-nodes n =
-      childSum-cong nodes parent n _ _ (λ m lm q. by.inner m n lm q)
-      ∙ telescope-all (x n) (overChildren d n w v) (λ m. eqb (parent m) (suc n)) w nodes
+      child_sum-cong nodes parent n _ _ (λ m lm q. by.inner m n lm q)
+      ∙ telescope-all (x n) (over_children d n w v) (λ m. eqb (parent m) (suc n)) w nodes
 
-  to-cords : (n : ℕ) → x n * childSum nodes parent n w / overChildren d n w v + childSum cords node n y ≡ x n * overChildren d n w v / overChildren d n w v
+  to-cords : (n : ℕ) → x n * child_sum nodes parent n w / over_children d n w v + child_sum cords node n y ≡ x n * over_children d n w v / over_children d n w v
   to-cords n =
-      ap (λ (z : ℕ). x n * childSum nodes parent n w / overChildren d n w v + z)
+      ap (λ (z : ℕ). x n * child_sum nodes parent n w / over_children d n w v + z)
       (sum-cong cords _ _ (λ c l. on-cong (eqb (node c) (suc n)) _ _ (λ t. by.leaf c n l (eqb-true (node c) (suc n) t))))
-      ∙ telescope (x n) (overChildren d n w v) (childSum nodes parent n w) (λ c. eqb (node c) (suc n)) v cords
+      ∙ telescope (x n) (over_children d n w v) (child_sum nodes parent n w) (λ c. eqb (node c) (suc n)) v cords
 
   -- What a node gets it gives.
-  pub all-given : (n : ℕ) → n < nodes → childSum cords node n y + childSum nodes parent n x ≡ x n
-  all-given n l = omega (arith, part-whole (x n) (overChildren d n w v) (le_trans (amount-most n l) (enough n l)), to-nodes n, to-cords n)
+  pub all-given : (n : ℕ) → n < nodes → child_sum cords node n y + child_sum nodes parent n x ≡ x n
+  all-given n l = omega (arith, part-whole (x n) (over_children d n w v) (le_trans (amount-most n l) (enough n l)), to-nodes n, to-cords n)
 
   -- So all of it reaches the cords beneath.
-  pub all-beneath : (n : ℕ) → n < nodes → x n ≡ dealBeneath d n y
-  all-beneath = dealBeneath-unique d ok y x (λ n l. sym (all-given n l))
+  pub all-beneath : (n : ℕ) → n < nodes → x n ≡ deal_beneath d n y
+  all-beneath = deal_beneath-unique d ok y x (λ n l. sym (all-given n l))
 
 -- ---- A node that has as much as its children weigh together
 
@@ -139,16 +139,16 @@ part-all e c d h = go (eq-zero-or-pos e)
 module _ (d : Deal) (w v x y : ℕ → ℕ) (by : ByWeights d w v x y) where
   open d use {nodes, parent, cords, node}
 
-  pub whole-node : (m n : ℕ) → m < nodes → parent m ≡ suc n → x n ≡ overChildren d n w v → x m ≡ w m
+  pub whole-node : (m n : ℕ) → m < nodes → parent m ≡ suc n → x n ≡ over_children d n w v → x m ≡ w m
   whole-node m n l e q =
       by.inner m n l e
-      ∙ ap (λ (z : ℕ). part z (overChildren d n w v) (sum m (λ h. on (eqb (parent h) (suc n)) (w h))) (w m)) q
-      ∙ part-all (overChildren d n w v) _ (w m)
+      ∙ ap (λ (z : ℕ). part z (over_children d n w v) (sum m (λ h. on (eqb (parent h) (suc n)) (w h))) (w m)) q
+      ∙ part-all (over_children d n w v) _ (w m)
       (omega (arith, sum-one-le nodes m (λ h. on (eqb (parent h) (suc n)) (w h)) l, on-yes (eqb (parent m) (suc n)) (w m) (eq-eqb (parent m) (suc n) e)))
 
-  pub whole-cord : (c n : ℕ) → c < cords → node c ≡ suc n → x n ≡ overChildren d n w v → y c ≡ v c
+  pub whole-cord : (c n : ℕ) → c < cords → node c ≡ suc n → x n ≡ over_children d n w v → y c ≡ v c
   whole-cord c n l e q =
       by.leaf c n l e
-      ∙ ap (λ (z : ℕ). part z (overChildren d n w v) (childSum nodes parent n w + sum c (λ h. on (eqb (node h) (suc n)) (v h))) (v c)) q
-      ∙ part-all (overChildren d n w v) _ (v c)
+      ∙ ap (λ (z : ℕ). part z (over_children d n w v) (child_sum nodes parent n w + sum c (λ h. on (eqb (node h) (suc n)) (v h))) (v c)) q
+      ∙ part-all (over_children d n w v) _ (v c)
       (omega (arith, sum-one-le cords c (λ h. on (eqb (node h) (suc n)) (v h)) l, on-yes (eqb (node c) (suc n)) (v c) (eq-eqb (node c) (suc n) e)))

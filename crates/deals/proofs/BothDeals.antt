@@ -11,27 +11,27 @@ use lib.Dec.{eqb, ltb}
 use lib.ListN.{length}
 use borrow.Author.Tests.{eqb-true, eq-eqb, ltb-true, lt-ltb}
 use Rattle.figures.specs.Sums.{on, sum}
-use Rattle.rooms.specs.Table.{Room, roomCords}
-use Rattle.rooms.specs.Trees.{beneath, sumBeneath, ParentsFirst}
-use Rattle.rooms.specs.Limits.{carried, limit, nodeAt, parent_of, hangsBeneath, lowsBeneath}
+use Rattle.rooms.specs.Table.{Room, room_cords}
+use Rattle.rooms.specs.Trees.{beneath, sum_beneath, ParentsFirst}
+use Rattle.rooms.specs.Limits.{carried, limit, node_at, parent_of, hangs_beneath, lows_beneath}
 use Rattle.rooms.proofs.All.{all-at}
 use Rattle.rooms.proofs.Accepted.{CordAccepted, ServerAccepted, Accepted}
 use Rattle.figures.proofs.Sums.{sum-cong}
 use Rattle.figures.specs.Figures.{figures, at}
-use Rattle.rooms.specs.Cords.{RoomCord, cordAt, serverAt, serverOf}
-use Rattle.deals.specs.Wants.{need, needs, firstWants}
-use Rattle.rooms.specs.Lists.{carriedBy, lowsOf, parentsOf, nodesOf}
-use Rattle.deals.specs.Metrics.{Deal, dealFrom, dealOf}
-use Rattle.deals.specs.SecondDeal.{leastOver, loaded, load_of, usable, stranded, wantsAfter, firstDeal, firstGrants, firstUsable, firstUsed, secondDeal, secondWants, secondGrants, caps}
+use Rattle.rooms.specs.Cords.{RoomCord, cord_at, server_at, server_of}
+use Rattle.deals.specs.Wants.{need, needs, first_wants}
+use Rattle.rooms.specs.Lists.{carried_by, lows_of, parents_of, nodes_of}
+use Rattle.deals.specs.Metrics.{Deal, deal_from, deal_of}
+use Rattle.deals.specs.SecondDeal.{least_over, loaded, load_of, usable, stranded, wants_after, first_deal, first_grants, first_usable, first_used, second_deal, second_wants, second_grants, caps}
 use Rattle.deals.specs.Dealing.{granted}
 use Rattle.deals.proofs.Requests.{Dealable, WholeWay}
 use Rattle.figures.proofs.Lists.{figures-at, figures-length}
 use Rattle.deals.proofs.Computed.{Startable, lows-startable, granted-way, granted-start}
 use Rattle.deals.proofs.Starts.{Later, later-startable}
 use Rattle.rooms.proofs.Carried.{carried-le}
-use Rattle.rooms.proofs.Cords.{cordsOf-all, lows-sum}
-use Rattle.deals.proofs.RoomDeals.{levelsOf-at, roomDeal, dealOf-is}
-use Rattle.deals.proofs.Loads.{carried-mono, load-within, load-reached, both, leastOver-ge, leastOver-start, leastOver-le}
+use Rattle.rooms.proofs.Cords.{cords_of-all, lows-sum}
+use Rattle.deals.proofs.RoomDeals.{levels_of-at, room_deal, deal_of-is}
+use Rattle.deals.proofs.Loads.{carried-mono, load-within, load-reached, both, least_over-ge, least_over-start, least_over-le}
 
 -- What the rules leave of one of the room's cords.
 abbrev pub CordFacts : Room → RoomCord → Type 0
@@ -41,42 +41,42 @@ CordFacts r c = (c.server < length r.servers) × (1 ≤ c.node) × (c.node ≤ l
 
 -- The leasts of the servers: what the lows are carried of.
 abbrev leasts : Room → List ℕ
-leasts r = figures (length r.servers) (λ v. (serverAt r v).least)
+leasts r = figures (length r.servers) (λ v. (server_at r v).least)
 
-pub needs-at : (r : Room) (demands : List ℕ) (v : ℕ) → v < length r.servers → at (needs r demands) v ≡ need (serverAt r v) (at demands v)
+pub needs-at : (r : Room) (demands : List ℕ) (v : ℕ) → v < length r.servers → at (needs r demands) v ≡ need (server_at r v) (at demands v)
 unfolding needs
 needs-at r demands v l = figures-at (length r.servers) v _ l
 
-pub carriedBy-at : (r : Room) (loads : List ℕ) (c : ℕ) → c < roomCords r
-    → at (carriedBy r loads) c ≡ carried r.scale (cordAt r c).share (at loads (cordAt r c).server)
-unfolding carriedBy
-carriedBy-at r loads c l = figures-at (roomCords r) c _ l
+pub carried_by-at : (r : Room) (loads : List ℕ) (c : ℕ) → c < room_cords r
+    → at (carried_by r loads) c ≡ carried r.scale (cord_at r c).share (at loads (cord_at r c).server)
+unfolding carried_by
+carried_by-at r loads c l = figures-at (room_cords r) c _ l
 
-pub carriedBy-length : (r : Room) (loads : List ℕ) → length (carriedBy r loads) ≡ roomCords r
-unfolding carriedBy
-carriedBy-length r loads = figures-length (roomCords r) _
+pub carried_by-length : (r : Room) (loads : List ℕ) → length (carried_by r loads) ≡ room_cords r
+unfolding carried_by
+carried_by-length r loads = figures-length (room_cords r) _
 
-pub lowsOf-length : (r : Room) → length (lowsOf r) ≡ roomCords r
-unfolding lowsOf
-lowsOf-length r = carriedBy-length r (leasts r)
+pub lows_of-length : (r : Room) → length (lows_of r) ≡ room_cords r
+unfolding lows_of
+lows_of-length r = carried_by-length r (leasts r)
 
 pub usable_at : (r : Room) (need grants : List ℕ) (v : ℕ) → v < length r.servers
-    → at (usable r need grants) v ≡ leastOver (roomCords r) (loaded r v) (load_of r grants) (at need v)
+    → at (usable r need grants) v ≡ least_over (room_cords r) (loaded r v) (load_of r grants) (at need v)
 unfolding usable
 usable_at r need grants v l = figures-at (length r.servers) v _ l
 
-pub stranded-at : (r : Room) (grants used : List ℕ) (c : ℕ) → c < roomCords r → at (stranded r grants used) c ≡ at grants c - at used c
+pub stranded-at : (r : Room) (grants used : List ℕ) (c : ℕ) → c < room_cords r → at (stranded r grants used) c ≡ at grants c - at used c
 unfolding stranded
-stranded-at r grants used c l = figures-at (roomCords r) c _ l
+stranded-at r grants used c l = figures-at (room_cords r) c _ l
 
-pub stranded-count : (r : Room) (grants used : List ℕ) → length (stranded r grants used) ≡ roomCords r
+pub stranded-count : (r : Room) (grants used : List ℕ) → length (stranded r grants used) ≡ room_cords r
 unfolding stranded
-stranded-count r grants used = figures-length (roomCords r) _
+stranded-count r grants used = figures-length (room_cords r) _
 
-pub wantsAfter-at : (r : Room) (wants grants used : List ℕ) (c : ℕ) → c < roomCords r
-    → at (wantsAfter r wants grants used) c ≡ cond (ltb 0 (at (stranded r grants used) c)) (at used c) (at wants c)
-unfolding wantsAfter
-wantsAfter-at r wants grants used c l = figures-at (roomCords r) c _ l
+pub wants_after-at : (r : Room) (wants grants used : List ℕ) (c : ℕ) → c < room_cords r
+    → at (wants_after r wants grants used) c ≡ cond (ltb 0 (at (stranded r grants used) c)) (at used c) (at wants c)
+unfolding wants_after
+wants_after-at r wants grants used c l = figures-at (room_cords r) c _ l
 
 cond-ge : (t : Bool) {low a b : ℕ} → low ≤ a → low ≤ b → low ≤ cond t a b
 cond-ge true h k = h
@@ -92,250 +92,250 @@ yes_both a b p q = ap₂ (λ (x y : Bool). x && y) p q
 module _ (r : Room) (ok : Accepted r) where
   -- The parent's number of each node is not above the node's place.
   pub parents-below : ParentsFirst (length r.nodes) (parent_of r)
-  parents-below m l = (ok.nodes m l).parentTo
+  parents-below m l = (ok.nodes m l).parent_to
 
-  pub server-facts : (v : ℕ) → v < length r.servers → ServerAccepted r.scale (length r.nodes) (serverAt r v)
+  pub server-facts : (v : ℕ) → v < length r.servers → ServerAccepted r.scale (length r.nodes) (server_at r v)
   server-facts v l = all-at (ServerAccepted r.scale (length r.nodes)) r.servers ok.servers v _ l
 
-  pub cord-facts : (c : ℕ) → c < roomCords r → CordFacts r (cordAt r c)
-  cord-facts = cordsOf-all (CordFacts r) r (λ v k lv lk.
-      let s = all-at (CordAccepted r.scale (length r.nodes)) (serverAt r v).cords (server-facts v lv).cords k (record { node = 0; share = 0 }) lk in
-      (lv, s.nodeFrom, s.nodeTo, s.shareTo))
+  pub cord-facts : (c : ℕ) → c < room_cords r → CordFacts r (cord_at r c)
+  cord-facts = cords_of-all (CordFacts r) r (λ v k lv lk.
+      let s = all-at (CordAccepted r.scale (length r.nodes)) (server_at r v).cords (server-facts v lv).cords k (record { node = 0; share = 0 }) lk in
+      (lv, s.node_from, s.node_to, s.share_to))
 
-  pub lowsOf-at : (c : ℕ) → c < roomCords r → at (lowsOf r) c ≡ carried r.scale (cordAt r c).share (serverOf r c).least
-  unfolding lowsOf
-  lowsOf-at c l =
-      carriedBy-at r (leasts r) c l
-      ∙ ap (λ (z : ℕ). carried r.scale (cordAt r c).share z) (figures-at (length r.servers) (cordAt r c).server _ (cord-facts c l).0)
+  pub lows_of-at : (c : ℕ) → c < room_cords r → at (lows_of r) c ≡ carried r.scale (cord_at r c).share (server_of r c).least
+  unfolding lows_of
+  lows_of-at c l =
+      carried_by-at r (leasts r) c l
+      ∙ ap (λ (z : ℕ). carried r.scale (cord_at r c).share z) (figures-at (length r.servers) (cord_at r c).server _ (cord-facts c l).0)
 
   -- ---- Carried figures
 
-  pub carriedBy-mono : (f g : List ℕ) → ((v : ℕ) → v < length r.servers → at f v ≤ at g v) → (c : ℕ) → c < roomCords r
-      → at (carriedBy r f) c ≤ at (carriedBy r g) c
-  carriedBy-mono f g h c l =
-      le_trans (le_of_eq (carriedBy-at r f c l))
-      (le_trans (carried-mono r.scale (cordAt r c).share (h (cordAt r c).server (cord-facts c l).0)) (le_of_eq (sym (carriedBy-at r g c l))))
+  pub carried_by-mono : (f g : List ℕ) → ((v : ℕ) → v < length r.servers → at f v ≤ at g v) → (c : ℕ) → c < room_cords r
+      → at (carried_by r f) c ≤ at (carried_by r g) c
+  carried_by-mono f g h c l =
+      le_trans (le_of_eq (carried_by-at r f c l))
+      (le_trans (carried-mono r.scale (cord_at r c).share (h (cord_at r c).server (cord-facts c l).0)) (le_of_eq (sym (carried_by-at r g c l))))
 
   -- What is carried of no less than each server's least is no less than the lows.
-  pub carriedBy-lows : (f : List ℕ) → ((v : ℕ) → v < length r.servers → (serverAt r v).least ≤ at f v) → (c : ℕ) → c < roomCords r
-      → at (lowsOf r) c ≤ at (carriedBy r f) c
-  unfolding lowsOf
-  carriedBy-lows f h = carriedBy-mono (leasts r) f (λ v l. le_trans (le_of_eq (figures-at (length r.servers) v _ l)) (h v l))
+  pub carried_by-lows : (f : List ℕ) → ((v : ℕ) → v < length r.servers → (server_at r v).least ≤ at f v) → (c : ℕ) → c < room_cords r
+      → at (lows_of r) c ≤ at (carried_by r f) c
+  unfolding lows_of
+  carried_by-lows f h = carried_by-mono (leasts r) f (λ v l. le_trans (le_of_eq (figures-at (length r.servers) v _ l)) (h v l))
 
   -- ---- Needs and usable watts
 
-  pub need-ge : (demands : List ℕ) (v : ℕ) → v < length r.servers → (serverAt r v).least ≤ at (needs r demands) v
+  pub need-ge : (demands : List ℕ) (v : ℕ) → v < length r.servers → (server_at r v).least ≤ at (needs r demands) v
   need-ge demands v l =
-      let a : (serverAt r v).least ≤ (serverAt r v).greatest = (server-facts v l).ordered in
+      let a : (server_at r v).least ≤ (server_at r v).greatest = (server-facts v l).ordered in
       le_trans (omega arith) (le_of_eq (sym (needs-at r demands v l)))
 
-  pub need-le : (demands : List ℕ) (v : ℕ) → v < length r.servers → at (needs r demands) v ≤ (serverAt r v).greatest
+  pub need-le : (demands : List ℕ) (v : ℕ) → v < length r.servers → at (needs r demands) v ≤ (server_at r v).greatest
   need-le demands v l = le_trans (le_of_eq (needs-at r demands v l)) (omega arith)
 
   pub usable-need : (need grants : List ℕ) (v : ℕ) → v < length r.servers → at (usable r need grants) v ≤ at need v
-  usable-need need grants v l = le_trans (le_of_eq (usable_at r need grants v l)) (leastOver-start (roomCords r) (loaded r v) (load_of r grants) (at need v))
+  usable-need need grants v l = le_trans (le_of_eq (usable_at r need grants v l)) (least_over-start (room_cords r) (loaded r v) (load_of r grants) (at need v))
 
   -- Servers whose cords are granted what they carry of some loads, none above its need, can use those loads.
   usable-ge : (need grants loads : List ℕ) → ((v : ℕ) → v < length r.servers → at loads v ≤ at need v)
-      → ((c : ℕ) → c < roomCords r → at (carriedBy r loads) c ≤ at grants c)
+      → ((c : ℕ) → c < room_cords r → at (carried_by r loads) c ≤ at grants c)
       → (v : ℕ) → v < length r.servers → at loads v ≤ at (usable r need grants) v
   usable-ge need grants loads n h v l =
       le_trans
-      (leastOver-ge (roomCords r) (at loads v) (loaded r v) (load_of r grants) (at need v) (n v l) (λ c lc t.
-      let q : (eqb (cordAt r c).server v ≡ true) × (ltb 0 (cordAt r c).share ≡ true) = both _ _ t in
-      le_trans (le_of_eq (ap (at loads) (sym (eqb-true (cordAt r c).server v q.0))))
-      (load-reached r.scale (cordAt r c).share (at loads (cordAt r c).server) (at grants c) ok.scaled.0 (ltb-true 0 (cordAt r c).share q.1)
-      (le_trans (le_of_eq (sym (carriedBy-at r loads c lc))) (h c lc)))))
+      (least_over-ge (room_cords r) (at loads v) (loaded r v) (load_of r grants) (at need v) (n v l) (λ c lc t.
+      let q : (eqb (cord_at r c).server v ≡ true) × (ltb 0 (cord_at r c).share ≡ true) = both _ _ t in
+      le_trans (le_of_eq (ap (at loads) (sym (eqb-true (cord_at r c).server v q.0))))
+      (load-reached r.scale (cord_at r c).share (at loads (cord_at r c).server) (at grants c) ok.scaled.0 (ltb-true 0 (cord_at r c).share q.1)
+      (le_trans (le_of_eq (sym (carried_by-at r loads c lc))) (h c lc)))))
       (le_of_eq (sym (usable_at r need grants v l)))
 
   -- So they can use their leasts, where no grant is below the low.
-  pub usable-least : (need grants : List ℕ) → ((v : ℕ) → v < length r.servers → (serverAt r v).least ≤ at need v)
-      → ((c : ℕ) → c < roomCords r → at (lowsOf r) c ≤ at grants c)
-      → (v : ℕ) → v < length r.servers → (serverAt r v).least ≤ at (usable r need grants) v
-  unfolding lowsOf
+  pub usable-least : (need grants : List ℕ) → ((v : ℕ) → v < length r.servers → (server_at r v).least ≤ at need v)
+      → ((c : ℕ) → c < room_cords r → at (lows_of r) c ≤ at grants c)
+      → (v : ℕ) → v < length r.servers → (server_at r v).least ≤ at (usable r need grants) v
+  unfolding lows_of
   usable-least need grants n h v l =
-      let least : (v : ℕ) → v < length r.servers → at (leasts r) v ≡ (serverAt r v).least = λ v l. figures-at (length r.servers) v _ l in
+      let least : (v : ℕ) → v < length r.servers → at (leasts r) v ≡ (server_at r v).least = λ v l. figures-at (length r.servers) v _ l in
       le_trans (le_of_eq (sym (least v l))) (usable-ge need grants (leasts r) (λ v l. le_trans (le_of_eq (least v l)) (n v l)) h v l)
 
   -- A cord uses no more than its grant.
-  pub used-granted : (need grants : List ℕ) (c : ℕ) → c < roomCords r → at (carriedBy r (usable r need grants)) c ≤ at grants c
-  used-granted need grants c l = le_trans (le_of_eq (carriedBy-at r (usable r need grants) c l)) (go (eq-zero-or-pos (cordAt r c).share))
+  pub used-granted : (need grants : List ℕ) (c : ℕ) → c < room_cords r → at (carried_by r (usable r need grants)) c ≤ at grants c
+  used-granted need grants c l = le_trans (le_of_eq (carried_by-at r (usable r need grants) c l)) (go (eq-zero-or-pos (cord_at r c).share))
     where
-      go : ((cordAt r c).share ≡ 0) ⊎ (0 < (cordAt r c).share)
-          → carried r.scale (cordAt r c).share (at (usable r need grants) (cordAt r c).server) ≤ at grants c
+      go : ((cord_at r c).share ≡ 0) ⊎ (0 < (cord_at r c).share)
+          → carried r.scale (cord_at r c).share (at (usable r need grants) (cord_at r c).server) ≤ at grants c
       go (inl e) =
-          carried-le r.scale (cordAt r c).share (at (usable r need grants) (cordAt r c).server) (at grants c) ok.scaled.0
-          (le_trans (le_of_eq (ap (λ (z : ℕ). z * at (usable r need grants) (cordAt r c).server) e ∙ zero-mul _)) (omega arith))
+          carried-le r.scale (cord_at r c).share (at (usable r need grants) (cord_at r c).server) (at grants c) ok.scaled.0
+          (le_trans (le_of_eq (ap (λ (z : ℕ). z * at (usable r need grants) (cord_at r c).server) e ∙ zero-mul _)) (omega arith))
       go (inr p) =
-          load-within r.scale (cordAt r c).share (at (usable r need grants) (cordAt r c).server) (at grants c) ok.scaled.0 p
-          (le_trans (le_of_eq (usable_at r need grants (cordAt r c).server (cord-facts c l).0))
-          (leastOver-le (roomCords r) (loaded r (cordAt r c).server) (load_of r grants) (at need (cordAt r c).server) c l
-          (yes_both (eqb (cordAt r c).server (cordAt r c).server) (ltb 0 (cordAt r c).share)
-          (eq-eqb (cordAt r c).server (cordAt r c).server refl) (lt-ltb 0 (cordAt r c).share p))))
+          load-within r.scale (cord_at r c).share (at (usable r need grants) (cord_at r c).server) (at grants c) ok.scaled.0 p
+          (le_trans (le_of_eq (usable_at r need grants (cord_at r c).server (cord-facts c l).0))
+          (least_over-le (room_cords r) (loaded r (cord_at r c).server) (load_of r grants) (at need (cord_at r c).server) c l
+          (yes_both (eqb (cord_at r c).server (cord_at r c).server) (ltb 0 (cord_at r c).share)
+          (eq-eqb (cord_at r c).server (cord_at r c).server refl) (lt-ltb 0 (cord_at r c).share p))))
 
   -- ---- A deal by wants at or above the lows
 
   -- The lows beneath a node, over the room's cords and over its lists.
-  lows-are : (n : ℕ) → sum (roomCords r) (λ c. on (hangsBeneath r n (cordAt r c).node) (at (lowsOf r) c)) ≡ lowsBeneath r n
+  lows-are : (n : ℕ) → sum (room_cords r) (λ c. on (hangs_beneath r n (cord_at r c).node) (at (lows_of r) c)) ≡ lows_beneath r n
   lows-are n =
-      sum-cong (roomCords r) _ _ (λ c l. ap (λ (z : ℕ). on (hangsBeneath r n (cordAt r c).node) z) (lowsOf-at c l)) ∙ sym (lows-sum r (hangsBeneath r n))
+      sum-cong (room_cords r) _ _ (λ c l. ap (λ (z : ℕ). on (hangs_beneath r n (cord_at r c).node) z) (lows_of-at c l)) ∙ sym (lows-sum r (hangs_beneath r n))
 
-  pub lows-under : (n : ℕ) → sum (length (nodesOf r)) (λ c. on (beneath (at (parentsOf r)) (length (parentsOf r)) n (at (nodesOf r) c)) (at (lowsOf r) c)) ≡ lowsBeneath r n
-  unfolding dealOf dealFrom
+  pub lows-under : (n : ℕ) → sum (length (nodes_of r)) (λ c. on (beneath (at (parents_of r)) (length (parents_of r)) n (at (nodes_of r) c)) (at (lows_of r) c)) ≡ lows_beneath r n
+  unfolding deal_of deal_from
   lows-under n =
-      ap (λ (d : Deal). sum d.cords (λ c. on (beneath d.parent d.nodes n (d.node c)) (d.low c))) (dealOf-is r [] []) ∙ lows-are n
+      ap (λ (d : Deal). sum d.cords (λ c. on (beneath d.parent d.nodes n (d.node c)) (d.low c))) (deal_of-is r [] []) ∙ lows-are n
 
   lows-fit : (n : ℕ) → n < length r.nodes
-      → sumBeneath (length r.nodes) (parent_of r) (roomCords r) (λ c. (cordAt r c).node) n (at (lowsOf r)) ≤ limit (nodeAt r n)
-  unfolding sumBeneath
+      → sum_beneath (length r.nodes) (parent_of r) (room_cords r) (λ c. (cord_at r c).node) n (at (lows_of r)) ≤ limit (node_at r n)
+  unfolding sum_beneath
   lows-fit n l = le_trans (le_of_eq (lows-are n)) (ok.lows n l)
 
-  pub room-dealable : (starts wants : List ℕ) → ((c : ℕ) → c < roomCords r → at (lowsOf r) c ≤ at wants c) → Dealable (roomDeal r starts wants)
+  pub room-dealable : (starts wants : List ℕ) → ((c : ℕ) → c < room_cords r → at (lows_of r) c ≤ at wants c) → Dealable (room_deal r starts wants)
   room-dealable starts wants h = record {
     rises = parents-below;
     here = λ c l. (cord-facts c l).2;
     hangs = λ c l. (cord-facts c l).1;
-    ranks = λ c l. omega (arith, levelsOf-at r c l, (server-facts (cordAt r c).server (cord-facts c l).0).rankTo);
+    ranks = λ c l. omega (arith, levels_of-at r c l, (server-facts (cord_at r c).server (cord-facts c l).0).rank_to);
     wants = h;
     lows = lows-fit;
   }
 
-  pub dealable : (starts wants : List ℕ) → ((c : ℕ) → c < roomCords r → at (lowsOf r) c ≤ at wants c) → Dealable (dealOf r starts wants)
-  dealable starts wants h = subst Dealable (sym (dealOf-is r starts wants)) (room-dealable starts wants h)
+  pub dealable : (starts wants : List ℕ) → ((c : ℕ) → c < room_cords r → at (lows_of r) c ≤ at wants c) → Dealable (deal_of r starts wants)
+  dealable starts wants h = subst Dealable (sym (deal_of-is r starts wants)) (room-dealable starts wants h)
 
   -- The grants of a deal by such wants, from starts that its Requests have room for, are a way of dealing the room.
-  module _ (starts wants : List ℕ) (h : (c : ℕ) → c < roomCords r → at (lowsOf r) c ≤ at wants c) (st : Startable (roomDeal r starts wants)) where
-    pub grants-way : WholeWay (roomDeal r starts wants) (at (granted (dealOf r starts wants)))
+  module _ (starts wants : List ℕ) (h : (c : ℕ) → c < room_cords r → at (lows_of r) c ≤ at wants c) (st : Startable (room_deal r starts wants)) where
+    pub grants-way : WholeWay (room_deal r starts wants) (at (granted (deal_of r starts wants)))
     grants-way =
-        subst (λ (d : Deal). WholeWay (roomDeal r starts wants) (at (granted d))) (sym (dealOf-is r starts wants))
-        (granted-way (roomDeal r starts wants) (room-dealable starts wants h) st)
+        subst (λ (d : Deal). WholeWay (room_deal r starts wants) (at (granted d))) (sym (deal_of-is r starts wants))
+        (granted-way (room_deal r starts wants) (room-dealable starts wants h) st)
 
-    grants-start : (c : ℕ) → c < roomCords r → at starts c ≤ at (granted (dealOf r starts wants)) c
+    grants-start : (c : ℕ) → c < room_cords r → at starts c ≤ at (granted (deal_of r starts wants)) c
     grants-start =
-        subst (λ (d : Deal). (c : ℕ) → c < roomCords r → at starts c ≤ at (granted d) c) (sym (dealOf-is r starts wants))
-        (granted-start (roomDeal r starts wants) (room-dealable starts wants h) st)
+        subst (λ (d : Deal). (c : ℕ) → c < room_cords r → at starts c ≤ at (granted d) c) (sym (deal_of-is r starts wants))
+        (granted-start (room_deal r starts wants) (room-dealable starts wants h) st)
 
   -- ---- The two deals
 
   module _ (demands : List ℕ) where
-    pub firstWants-lows : (c : ℕ) → c < roomCords r → at (lowsOf r) c ≤ at (firstWants r demands) c
-    unfolding firstWants
-    firstWants-lows = carriedBy-lows (needs r demands) (need-ge demands)
+    pub first_wants-lows : (c : ℕ) → c < room_cords r → at (lows_of r) c ≤ at (first_wants r demands) c
+    unfolding first_wants
+    first_wants-lows = carried_by-lows (needs r demands) (need-ge demands)
 
-    pub first-dealable : Dealable (firstDeal r demands)
-    unfolding firstDeal
-    first-dealable = dealable (lowsOf r) (firstWants r demands) firstWants-lows
+    pub first-dealable : Dealable (first_deal r demands)
+    unfolding first_deal
+    first-dealable = dealable (lows_of r) (first_wants r demands) first_wants-lows
 
     -- In the first deal each cord starts from its low.
-    pub first-starts : Startable (roomDeal r (lowsOf r) (firstWants r demands))
-    first-starts = lows-startable (roomDeal r (lowsOf r) (firstWants r demands)) (room-dealable (lowsOf r) (firstWants r demands) firstWants-lows) refl
+    pub first-starts : Startable (room_deal r (lows_of r) (first_wants r demands))
+    first-starts = lows-startable (room_deal r (lows_of r) (first_wants r demands)) (room-dealable (lows_of r) (first_wants r demands) first_wants-lows) refl
 
-    pub first-startable : Startable (firstDeal r demands)
-    unfolding firstDeal
-    first-startable = subst Startable (sym (dealOf-is r (lowsOf r) (firstWants r demands))) first-starts
+    pub first-startable : Startable (first_deal r demands)
+    unfolding first_deal
+    first-startable = subst Startable (sym (deal_of-is r (lows_of r) (first_wants r demands))) first-starts
 
-    first_way : WholeWay (roomDeal r (lowsOf r) (firstWants r demands)) (at (firstGrants r demands))
-    unfolding firstGrants firstDeal
-    first_way = grants-way (lowsOf r) (firstWants r demands) firstWants-lows first-starts
+    first_way : WholeWay (room_deal r (lows_of r) (first_wants r demands)) (at (first_grants r demands))
+    unfolding first_grants first_deal
+    first_way = grants-way (lows_of r) (first_wants r demands) first_wants-lows first-starts
 
-    first-least : (c : ℕ) → c < roomCords r → at (lowsOf r) c ≤ at (firstGrants r demands) c
+    first-least : (c : ℕ) → c < room_cords r → at (lows_of r) c ≤ at (first_grants r demands) c
     first-least = first_way.least
 
-    pub first-most : (c : ℕ) → c < roomCords r → at (firstGrants r demands) c ≤ at (firstWants r demands) c
+    pub first-most : (c : ℕ) → c < room_cords r → at (first_grants r demands) c ≤ at (first_wants r demands) c
     first-most = first_way.most
 
-    pub firstUsed-lows : (c : ℕ) → c < roomCords r → at (lowsOf r) c ≤ at (firstUsed r demands) c
-    unfolding firstUsed firstUsable
-    firstUsed-lows = carriedBy-lows (firstUsable r demands) (usable-least (needs r demands) (firstGrants r demands) (need-ge demands) first-least)
+    pub first_used-lows : (c : ℕ) → c < room_cords r → at (lows_of r) c ≤ at (first_used r demands) c
+    unfolding first_used first_usable
+    first_used-lows = carried_by-lows (first_usable r demands) (usable-least (needs r demands) (first_grants r demands) (need-ge demands) first-least)
 
-    pub firstUsed-wants : (c : ℕ) → c < roomCords r → at (firstUsed r demands) c ≤ at (firstWants r demands) c
-    unfolding firstUsed firstUsable firstWants
-    firstUsed-wants = carriedBy-mono (firstUsable r demands) (needs r demands) (usable-need (needs r demands) (firstGrants r demands))
+    pub first_used-wants : (c : ℕ) → c < room_cords r → at (first_used r demands) c ≤ at (first_wants r demands) c
+    unfolding first_used first_usable first_wants
+    first_used-wants = carried_by-mono (first_usable r demands) (needs r demands) (usable-need (needs r demands) (first_grants r demands))
 
-    pub firstUsed-granted : (c : ℕ) → c < roomCords r → at (firstUsed r demands) c ≤ at (firstGrants r demands) c
-    unfolding firstUsed firstUsable
-    firstUsed-granted = used-granted (needs r demands) (firstGrants r demands)
+    pub first_used-granted : (c : ℕ) → c < room_cords r → at (first_used r demands) c ≤ at (first_grants r demands) c
+    unfolding first_used first_usable
+    first_used-granted = used-granted (needs r demands) (first_grants r demands)
 
-    pub secondWants-lows : (c : ℕ) → c < roomCords r → at (lowsOf r) c ≤ at (secondWants r demands) c
-    unfolding secondWants
-    secondWants-lows c l =
-        le_trans (cond-ge (ltb 0 (at (stranded r (firstGrants r demands) (firstUsed r demands)) c)) (firstUsed-lows c l) (firstWants-lows c l))
-        (le_of_eq (sym (wantsAfter-at r (firstWants r demands) (firstGrants r demands) (firstUsed r demands) c l)))
+    pub second_wants-lows : (c : ℕ) → c < room_cords r → at (lows_of r) c ≤ at (second_wants r demands) c
+    unfolding second_wants
+    second_wants-lows c l =
+        le_trans (cond-ge (ltb 0 (at (stranded r (first_grants r demands) (first_used r demands)) c)) (first_used-lows c l) (first_wants-lows c l))
+        (le_of_eq (sym (wants_after-at r (first_wants r demands) (first_grants r demands) (first_used r demands) c l)))
 
-    pub secondWants-wants : (c : ℕ) → c < roomCords r → at (secondWants r demands) c ≤ at (firstWants r demands) c
-    unfolding secondWants
-    secondWants-wants c l =
-        le_trans (le_of_eq (wantsAfter-at r (firstWants r demands) (firstGrants r demands) (firstUsed r demands) c l))
-        (cond-le (ltb 0 (at (stranded r (firstGrants r demands) (firstUsed r demands)) c)) (firstUsed-wants c l) (le_refl (at (firstWants r demands) c)))
+    pub second_wants-wants : (c : ℕ) → c < room_cords r → at (second_wants r demands) c ≤ at (first_wants r demands) c
+    unfolding second_wants
+    second_wants-wants c l =
+        le_trans (le_of_eq (wants_after-at r (first_wants r demands) (first_grants r demands) (first_used r demands) c l))
+        (cond-le (ltb 0 (at (stranded r (first_grants r demands) (first_used r demands)) c)) (first_used-wants c l) (le_refl (at (first_wants r demands) c)))
 
-    pub firstUsed-secondWants : (c : ℕ) → c < roomCords r → at (firstUsed r demands) c ≤ at (secondWants r demands) c
-    unfolding secondWants
-    firstUsed-secondWants c l =
-        le_trans (cond-ge (ltb 0 (at (stranded r (firstGrants r demands) (firstUsed r demands)) c)) (le_refl (at (firstUsed r demands) c)) (firstUsed-wants c l))
-        (le_of_eq (sym (wantsAfter-at r (firstWants r demands) (firstGrants r demands) (firstUsed r demands) c l)))
+    pub first_used-second_wants : (c : ℕ) → c < room_cords r → at (first_used r demands) c ≤ at (second_wants r demands) c
+    unfolding second_wants
+    first_used-second_wants c l =
+        le_trans (cond-ge (ltb 0 (at (stranded r (first_grants r demands) (first_used r demands)) c)) (le_refl (at (first_used r demands) c)) (first_used-wants c l))
+        (le_of_eq (sym (wants_after-at r (first_wants r demands) (first_grants r demands) (first_used r demands) c l)))
 
-    pub second-dealable : Dealable (secondDeal r demands)
-    unfolding secondDeal
-    second-dealable = dealable (firstUsed r demands) (secondWants r demands) secondWants-lows
+    pub second-dealable : Dealable (second_deal r demands)
+    unfolding second_deal
+    second-dealable = dealable (first_used r demands) (second_wants r demands) second_wants-lows
 
     -- In the second each starts from its used watts, which were granted in the first.
-    pub second-later : Later (roomDeal r (lowsOf r) (firstWants r demands)) (at (secondWants r demands)) (at (firstUsed r demands))
-    unfolding firstGrants firstDeal
+    pub second-later : Later (room_deal r (lows_of r) (first_wants r demands)) (at (second_wants r demands)) (at (first_used r demands))
+    unfolding first_grants first_deal
     second-later = record {
-      ok = room-dealable (lowsOf r) (firstWants r demands) firstWants-lows;
+      ok = room-dealable (lows_of r) (first_wants r demands) first_wants-lows;
       st = first-starts;
-      ko = room-dealable (firstUsed r demands) (secondWants r demands) secondWants-lows;
-      lows = firstUsed-lows;
-      wants = firstUsed-secondWants;
+      ko = room-dealable (first_used r demands) (second_wants r demands) second_wants-lows;
+      lows = first_used-lows;
+      wants = first_used-second_wants;
       grants =
-          subst (λ (d : Deal). (c : ℕ) → c < roomCords r → at (firstUsed r demands) c ≤ at (granted d) c) (dealOf-is r (lowsOf r) (firstWants r demands)) firstUsed-granted;
-      less = secondWants-wants;
+          subst (λ (d : Deal). (c : ℕ) → c < room_cords r → at (first_used r demands) c ≤ at (granted d) c) (deal_of-is r (lows_of r) (first_wants r demands)) first_used-granted;
+      less = second_wants-wants;
     }
 
-    pub second-starts : Startable (roomDeal r (firstUsed r demands) (secondWants r demands))
-    second-starts = later-startable (roomDeal r (lowsOf r) (firstWants r demands)) (at (secondWants r demands)) (at (firstUsed r demands)) second-later
+    pub second-starts : Startable (room_deal r (first_used r demands) (second_wants r demands))
+    second-starts = later-startable (room_deal r (lows_of r) (first_wants r demands)) (at (second_wants r demands)) (at (first_used r demands)) second-later
 
-    pub second-startable : Startable (secondDeal r demands)
-    unfolding secondDeal
-    second-startable = subst Startable (sym (dealOf-is r (firstUsed r demands) (secondWants r demands))) second-starts
+    pub second-startable : Startable (second_deal r demands)
+    unfolding second_deal
+    second-startable = subst Startable (sym (deal_of-is r (first_used r demands) (second_wants r demands))) second-starts
 
     -- The second deal, by functions of place.
-    abbrev pub secondRoomDeal : Deal
-    secondRoomDeal = roomDeal r (firstUsed r demands) (secondWants r demands)
+    abbrev pub second_room_deal : Deal
+    second_room_deal = room_deal r (first_used r demands) (second_wants r demands)
 
-    pub secondRoomDeal-dealable : Dealable secondRoomDeal
-    secondRoomDeal-dealable = room-dealable (firstUsed r demands) (secondWants r demands) secondWants-lows
+    pub second_room_deal-dealable : Dealable second_room_deal
+    second_room_deal-dealable = room-dealable (first_used r demands) (second_wants r demands) second_wants-lows
 
     -- What holds of it holds of the second deal.
-    pub of-secondRoomDeal : (P : Deal → Type 0) → P secondRoomDeal → P (secondDeal r demands)
-    unfolding secondDeal
-    of-secondRoomDeal P = subst P (sym (dealOf-is r (firstUsed r demands) (secondWants r demands)))
+    pub of-second_room_deal : (P : Deal → Type 0) → P second_room_deal → P (second_deal r demands)
+    unfolding second_deal
+    of-second_room_deal P = subst P (sym (deal_of-is r (first_used r demands) (second_wants r demands)))
 
-    second_way : WholeWay (roomDeal r (firstUsed r demands) (secondWants r demands)) (at (secondGrants r demands))
-    unfolding secondGrants secondDeal
-    second_way = grants-way (firstUsed r demands) (secondWants r demands) secondWants-lows second-starts
+    second_way : WholeWay (room_deal r (first_used r demands) (second_wants r demands)) (at (second_grants r demands))
+    unfolding second_grants second_deal
+    second_way = grants-way (first_used r demands) (second_wants r demands) second_wants-lows second-starts
 
-    pub secondGrants-used : (c : ℕ) → c < roomCords r → at (firstUsed r demands) c ≤ at (secondGrants r demands) c
-    unfolding secondGrants secondDeal
-    secondGrants-used = grants-start (firstUsed r demands) (secondWants r demands) secondWants-lows second-starts
+    pub second_grants-used : (c : ℕ) → c < room_cords r → at (first_used r demands) c ≤ at (second_grants r demands) c
+    unfolding second_grants second_deal
+    second_grants-used = grants-start (first_used r demands) (second_wants r demands) second_wants-lows second-starts
 
-    second-least : (c : ℕ) → c < roomCords r → at (lowsOf r) c ≤ at (secondGrants r demands) c
+    second-least : (c : ℕ) → c < room_cords r → at (lows_of r) c ≤ at (second_grants r demands) c
     second-least = second_way.least
 
-    pub caps-least : (v : ℕ) → v < length r.servers → (serverAt r v).least ≤ at (caps r demands) v
+    pub caps-least : (v : ℕ) → v < length r.servers → (server_at r v).least ≤ at (caps r demands) v
     unfolding caps
-    caps-least = usable-least (needs r demands) (secondGrants r demands) (need-ge demands) second-least
+    caps-least = usable-least (needs r demands) (second_grants r demands) (need-ge demands) second-least
 
-    pub caps-usable : (v : ℕ) → v < length r.servers → at (firstUsable r demands) v ≤ at (caps r demands) v
-    unfolding caps firstUsable firstUsed
+    pub caps-usable : (v : ℕ) → v < length r.servers → at (first_usable r demands) v ≤ at (caps r demands) v
+    unfolding caps first_usable first_used
     caps-usable =
-        usable-ge (needs r demands) (secondGrants r demands) (firstUsable r demands)
-        (usable-need (needs r demands) (firstGrants r demands)) secondGrants-used
+        usable-ge (needs r demands) (second_grants r demands) (first_usable r demands)
+        (usable-need (needs r demands) (first_grants r demands)) second_grants-used
 
     pub caps-need : (v : ℕ) → v < length r.servers → at (caps r demands) v ≤ at (needs r demands) v
     unfolding caps
-    caps-need = usable-need (needs r demands) (secondGrants r demands)
+    caps-need = usable-need (needs r demands) (second_grants r demands)
 
-    pub capsUsed-granted : (c : ℕ) → c < roomCords r → at (carriedBy r (caps r demands)) c ≤ at (secondGrants r demands) c
+    pub caps_used-granted : (c : ℕ) → c < room_cords r → at (carried_by r (caps r demands)) c ≤ at (second_grants r demands) c
     unfolding caps
-    capsUsed-granted = used-granted (needs r demands) (secondGrants r demands)
+    caps_used-granted = used-granted (needs r demands) (second_grants r demands)

@@ -9,21 +9,21 @@ use lib.Dec.{ltb}
 use borrow.Author.Tests.{ltb-true, ltb-false, lt-ltb, le-ltb}
 use Rattle.figures.specs.Sums.{on}
 use Rattle.deals.specs.Metrics.{Deal, Metrics, metrics}
-use Rattle.deals.specs.Held.{cut_at, someFrom, cutFrom}
-use Rattle.deals.specs.Passes.{cutMark}
+use Rattle.deals.specs.Held.{cut_at, some_from, cut_from}
+use Rattle.deals.specs.Passes.{cut_mark}
 
 -- ---- One level after another
 
 module _ (d : Deal) (f : Metrics) (n : ℕ) where
   -- No level is above the highest.
-  cutFrom-none : cutFrom d f d.levels n ≡ false
-  unfolding cutFrom someFrom
-  cutFrom-none = ap (λ (k : ℕ). someFrom k d.levels (cut_at d f n)) (let e : d.levels - d.levels ≡ 0 = omega arith in e)
+  cut_from-none : cut_from d f d.levels n ≡ false
+  unfolding cut_from some_from
+  cut_from-none = ap (λ (k : ℕ). some_from k d.levels (cut_at d f n)) (let e : d.levels - d.levels ≡ 0 = omega arith in e)
 
   -- A node is cut from a level on if it is cut there or from the next on.
-  cutFrom-next : (j : ℕ) → j < d.levels → cutFrom d f j n ≡ cut_at d f n j || cutFrom d f (suc j) n
-  unfolding cutFrom someFrom
-  cutFrom-next j h = ap (λ (k : ℕ). someFrom k j (cut_at d f n)) (let e : d.levels - j ≡ suc (d.levels - suc j) = omega arith in e)
+  cut_from-next : (j : ℕ) → j < d.levels → cut_from d f j n ≡ cut_at d f n j || cut_from d f (suc j) n
+  unfolding cut_from some_from
+  cut_from-next j h = ap (λ (k : ℕ). some_from k j (cut_at d f n)) (let e : d.levels - j ≡ suc (d.levels - suc j) = omega arith in e)
 
 -- ---- The mark
 
@@ -55,7 +55,7 @@ mark-above mark j false above h = omega (arith, above (omega arith))
 -- is none. (A rank is its level + 1.)
 pub record Marked (d : Deal) (above n mark : ℕ) : Type 0 where
   pub higher : 0 < mark → above < mark
-  pub cut-is : (j : ℕ) → above ≤ j → j ≤ d.levels → cutFrom d (metrics d) j n ≡ ltb j mark
+  pub cut-is : (j : ℕ) → above ≤ j → j ≤ d.levels → cut_from d (metrics d) j n ≡ ltb j mark
 
 module _ (d : Deal) (n : ℕ) where
   -- Before the highest level.
@@ -64,25 +64,25 @@ module _ (d : Deal) (n : ℕ) where
     higher = λ h. absurd (omega arith);
     cut-is = λ j a b.
         let e : j ≡ d.levels = omega arith in
-        ap (λ (k : ℕ). cutFrom d (metrics d) k n) e ∙ cutFrom-none d (metrics d) n ∙ sym (le-ltb j 0 (omega arith));
+        ap (λ (k : ℕ). cut_from d (metrics d) k n) e ∙ cut_from-none d (metrics d) n ∙ sym (le-ltb j 0 (omega arith));
   }
 
   module _ (j : ℕ) (fits : j < d.levels) {mark : ℕ} (before : Marked d (suc j) n mark) where
     -- A level where the node is cut exactly if what is left is less than the whole.
-    pub marked_turn : (left whole : ℕ) → cut_at d (metrics d) n j ≡ ltb left whole → {mark' : ℕ} → mark' ≡ cutMark mark j left whole → Marked d j n mark'
+    pub marked_turn : (left whole : ℕ) → cut_at d (metrics d) n j ≡ ltb left whole → {mark' : ℕ} → mark' ≡ cut_mark mark j left whole → Marked d j n mark'
     marked_turn left whole here e = rw e
         (record {
           higher = mark-above mark j (ltb left whole) before.higher;
           cut-is = λ i a b.
               ⊎_elim
-              (λ q. subst (λ (k : ℕ). cutFrom d (metrics d) k n ≡ ltb k (cutMark mark j left whole)) q own)
+              (λ q. subst (λ (k : ℕ). cut_from d (metrics d) k n ≡ ltb k (cut_mark mark j left whole)) q own)
               (λ l. before.cut-is i l b ∙ mark-higher mark j (ltb left whole) i l)
               (eq-or-lt_of_le a);
         })
       where
-        own : cutFrom d (metrics d) j n ≡ ltb j (cutMark mark j left whole)
+        own : cut_from d (metrics d) j n ≡ ltb j (cut_mark mark j left whole)
         own =
-            cutFrom-next d (metrics d) n j fits
+            cut_from-next d (metrics d) n j fits
             ∙ ap₂ ◌||◌ here (before.cut-is (suc j) (le_refl (suc j)) fits)
             ∙ mark-here mark j (ltb left whole) before.higher
 

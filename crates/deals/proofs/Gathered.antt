@@ -11,39 +11,39 @@ use Rattle.figures.specs.Sums.{on}
 use Rattle.figures.specs.Figures.{at, cell}
 use Rattle.figures.proofs.Sums.{sum-cong}
 use Rattle.splits.specs.Split.{part}
-use Rattle.deals.specs.Passes.{weightOf, cutMark, FullRows, Weighed, Requested, NodesDealt}
+use Rattle.deals.specs.Passes.{weight_of, cut_mark, FullRows, Weighed, Requested, NodesDealt}
 use Rattle.deals.proofs.Cuts.{ltb-cong}
-use Rattle.rooms.specs.Trees.{childSum}
-use Rattle.rooms.specs.Credits.{treeSum}
+use Rattle.rooms.specs.Trees.{child_sum}
+use Rattle.rooms.specs.Credits.{tree_sum}
 
 -- The weight of the node at place m in the split at its parent: its Request at this rank less the starts beneath it.
-abbrev pub requestWeight : List (List ℕ) → ℕ → (ℕ → ℕ) → ℕ → ℕ
-requestWeight rows level starts m = cell rows m level - starts m
+abbrev pub request_weight : List (List ℕ) → ℕ → (ℕ → ℕ) → ℕ → ℕ
+request_weight rows level starts m = cell rows m level - starts m
 
 -- From what is left of each limit, and the cords' starts and weights on each node.
 pub record Gathered (parents : List ℕ) (level : ℕ) (left cuts starts weights : List ℕ) (rows : List (List ℕ)) (left' cuts' wholes : List ℕ) (rows' : List (List ℕ)) : Type 0 where
-  pub children : (n : ℕ) → n < length parents → at wholes n ≡ at weights n + childSum (length parents) (at parents) n (requestWeight rows' level (treeSum (at parents) (length parents) (at starts)))
-  pub request : (n : ℕ) → n < length parents → cell rows' n level ≡ treeSum (at parents) (length parents) (at starts) n + weightOf left wholes n
+  pub children : (n : ℕ) → n < length parents → at wholes n ≡ at weights n + child_sum (length parents) (at parents) n (request_weight rows' level (tree_sum (at parents) (length parents) (at starts)))
+  pub request : (n : ℕ) → n < length parents → cell rows' n level ≡ tree_sum (at parents) (length parents) (at starts) n + weight_of left wholes n
   pub others : (n j : ℕ) → (j ≡ level → ⊥) → cell rows' n j ≡ cell rows n j
   pub left_is : (n : ℕ) → n < length parents → at left' n ≡ at left n - at wholes n
-  pub cuts_are : (n : ℕ) → n < length parents → at cuts' n ≡ cutMark (at cuts n) level (at left n) (at wholes n)
+  pub cuts_are : (n : ℕ) → n < length parents → at cuts' n ≡ cut_mark (at cuts n) level (at left n) (at wholes n)
   pub full : FullRows rows'
 
 -- Sums over children of figures that are equal.
-pub children-cong : (parents : List ℕ) (f g : ℕ → ℕ) (n m : ℕ) → ((h : ℕ) → h < m → f h ≡ g h) → childSum m (at parents) n f ≡ childSum m (at parents) n g
+pub children-cong : (parents : List ℕ) (f g : ℕ → ℕ) (n m : ℕ) → ((h : ℕ) → h < m → f h ≡ g h) → child_sum m (at parents) n f ≡ child_sum m (at parents) n g
 children-cong parents f g n m e = sum-cong m _ _ (λ h l. ap (on (eqb (at parents h) (suc n))) (e h l))
 
 -- A node is cut where its weight is less than its children's.
-cut-same : (mark level left whole : ℕ) → cutMark mark level (min left whole) whole ≡ cutMark mark level left whole
+cut-same : (mark level left whole : ℕ) → cut_mark mark level (min left whole) whole ≡ cut_mark mark level left whole
 cut-same mark level left whole = ap (λ (t : Bool). max mark (on t (suc level))) (ltb-cong (min left whole) whole left whole (λ l. omega arith) (λ l. omega arith))
 
 module _ {parents active : List ℕ} {count level : ℕ} {left own left' wholes weights cuts starts : List ℕ} {rows : List (List ℕ)} {cuts' starts' : List ℕ} {rows' : List (List ℕ)}
     (w : Weighed parents active count left own left' wholes weights) (r : Requested parents level left wholes cuts starts rows cuts' starts' rows') where
-  weight-left : (n : ℕ) → n < length parents → requestWeight rows' level (treeSum (at parents) (length parents) (at starts)) n ≡ weightOf left wholes n
+  weight-left : (n : ℕ) → n < length parents → request_weight rows' level (tree_sum (at parents) (length parents) (at starts)) n ≡ weight_of left wholes n
   weight-left n l = omega (arith, r.request n l)
 
   -- The weight by the rows is the one listed.
-  pub weight-listed : (n : ℕ) → n < length parents → requestWeight rows' level (treeSum (at parents) (length parents) (at starts)) n ≡ weightOf weights wholes n
+  pub weight-listed : (n : ℕ) → n < length parents → request_weight rows' level (tree_sum (at parents) (length parents) (at starts)) n ≡ weight_of weights wholes n
   weight-listed n l = weight-left n l ∙ sym (w.weights-are n l)
 
   pub gathered : Gathered parents level left cuts starts own rows left' cuts' wholes rows'

@@ -11,37 +11,37 @@ use Rattle.figures.specs.Figures.{at}
 use Rattle.figures.specs.Sums.{on, sum}
 use Rattle.figures.proofs.Sums.{on-yes, on-add, sum-cong, sum-add, sum-le, sum-none, sum-up, up}
 use Rattle.figures.proofs.Lists.{figures-at}
-use Rattle.rooms.specs.Table.{mostWatts, mostCords}
-use Rattle.rooms.specs.Trees.{beneath, childSum, sumBeneath}
-use Rattle.rooms.proofs.Trees.{childSum-add, childSum-cong, childSum-le, down}
-use Rattle.deals.specs.Metrics.{Deal, dealFrom, metrics, atLevel, overChildren}
-use Rattle.deals.specs.Dealing.{cordAmount, granted}
-use Rattle.deals.specs.Headroom.{ceilingWithin, nodeCeiling, requestsAt, headroomWeight, headroomOver}
-use Rattle.deals.specs.Properties.{mostSum, headroomWeights, headroomAt, HeadroomBounded}
+use Rattle.rooms.specs.Table.{most_watts, most_cords}
+use Rattle.rooms.specs.Trees.{beneath, child_sum, sum_beneath}
+use Rattle.rooms.proofs.Trees.{child_sum-add, child_sum-cong, child_sum-le, down}
+use Rattle.deals.specs.Metrics.{Deal, deal_from, metrics, at_level, over_children}
+use Rattle.deals.specs.Dealing.{cord_amount, granted}
+use Rattle.deals.specs.Headroom.{ceiling_within, node_ceiling, requests_at, headroom_weight, headroom_over}
+use Rattle.deals.specs.Properties.{most_sum, headroom_weights, headroom_at, HeadroomBounded}
 use Rattle.deals.proofs.Children.{children-sum}
-use Rattle.deals.proofs.Requests.{Dealable, later, dealBeneath, dealBeneath-step, dealBeneath-all, request-total}
-use Rattle.deals.proofs.Amounts.{overChildren-cong, ByWeights, reached-same, amount-most, reached-most, all-beneath}
+use Rattle.deals.proofs.Requests.{Dealable, later, deal_beneath, deal_beneath-step, deal_beneath-all, request-total}
+use Rattle.deals.proofs.Amounts.{over_children-cong, ByWeights, reached-same, amount-most, reached-most, all-beneath}
 use Rattle.deals.proofs.Computed.{pcapmin, request, measured, by_weights, Startable, granted-way, granted-asked}
-use Rattle.deals.proofs.Totals.{requestTotal-is}
+use Rattle.deals.proofs.Totals.{request_total-is}
 use Rattle.deals.proofs.Bounds.{beneath-most}
 
 -- ---- Worked by hand
 
 -- A root with 100 W over a node with 50 W, whose cord wants 10 of 90, and a cord that wants 20 of 60.
-abbrev dealC : Deal
-dealC = dealFrom (0 ∷ 1 ∷ []) (100 ∷ 50 ∷ []) (2 ∷ 1 ∷ []) (0 ∷ 0 ∷ []) (0 ∷ 0 ∷ []) (0 ∷ 0 ∷ []) (10 ∷ 20 ∷ [])
+abbrev deal_c : Deal
+deal_c = deal_from (0 ∷ 1 ∷ []) (100 ∷ 50 ∷ []) (2 ∷ 1 ∷ []) (0 ∷ 0 ∷ []) (0 ∷ 0 ∷ []) (0 ∷ 0 ∷ []) (10 ∷ 20 ∷ [])
 
-abbrev ceilingC : ℕ → ℕ
-ceilingC = at (90 ∷ 60 ∷ [])
+abbrev ceiling_c : ℕ → ℕ
+ceiling_c = at (90 ∷ 60 ∷ [])
 
 -- The ceilings are cut to the limits, so that the root's 100 − 30 are split by 50 − 10 and 60 − 20. By 90 − 10 the node would be lent 46,
 -- and pass its limit.
-by_hand : (nodeCeiling dealC ceilingC 1 ≡ 50)
-    × (nodeCeiling dealC ceilingC 0 ≡ 100)
-    × (headroomWeights dealC ceilingC 0 ≡ 80)
-    × (headroomAt dealC ceilingC 0 ≡ 70)
-    × (headroomOver dealC ceilingC ≡ 35 ∷ 35 ∷ [])
-unfolding nodeCeiling headroomWeights headroomAt headroomOver dealFrom
+by_hand : (node_ceiling deal_c ceiling_c 1 ≡ 50)
+    × (node_ceiling deal_c ceiling_c 0 ≡ 100)
+    × (headroom_weights deal_c ceiling_c 0 ≡ 80)
+    × (headroom_at deal_c ceiling_c 0 ≡ 70)
+    × (headroom_over deal_c ceiling_c ≡ 35 ∷ 35 ∷ [])
+unfolding node_ceiling headroom_weights headroom_at headroom_over deal_from
 by_hand = (refl, refl, refl, refl, refl)
 
 -- ---- Sums and cuts
@@ -62,127 +62,127 @@ module _ (d : Deal) (ok : Dealable d) where
   -- ---- The Requests of all ranks
 
   abbrev asks : ℕ → ℕ
-  asks n = requestsAt (metrics d) n
+  asks n = requests_at (metrics d) n
 
   asks-up : (n : ℕ) → n < nodes → asks n ≡ up levels 0 (request d n)
-  asks-up n l = requestTotal-is d n l levels 0 (zero-add levels)
+  asks-up n l = request_total-is d n l levels 0 (zero-add levels)
 
   -- By the law of totals they are the lesser of the limit and of the children's.
-  asks-are : (n : ℕ) → n < nodes → asks n ≡ min (limit n) (overChildren d n asks want)
+  asks-are : (n : ℕ) → n < nodes → asks n ≡ min (limit n) (over_children d n asks want)
   asks-are n l =
       asks-up n l
       ∙ request-total d ok (pcapmin d) (request d) (measured d ok) n l levels 0 (zero-add levels)
       ∙ ap₂ min
       (let z : limit n - sum 0 (pcapmin d n) ≡ limit n = omega (arith, sum-none (pcapmin d n)) in z)
       (ap₂ ◌+◌
-      (childSum-cong nodes parent n _ _ (λ m lm q. sym (asks-up m lm)))
+      (child_sum-cong nodes parent n _ _ (λ m lm q. sym (asks-up m lm)))
       (sum-cong cords _ _ (λ c lc. ap (λ (z : ℕ). on (eqb (node c) (suc n)) z) (on-yes (leb 0 (level c)) (want c) (leb-zero (level c))))))
 
   -- ---- The ceilings
 
   module _ (ceiling : ℕ → ℕ) where
     -- Steps beyond the nodes change nothing.
-    ceiling-steps : (k l n : ℕ) → n < nodes → nodes ≤ n + k → nodes ≤ n + l → ceilingWithin d ceiling k n ≡ ceilingWithin d ceiling l n
-    unfolding ceilingWithin
+    ceiling-steps : (k l n : ℕ) → n < nodes → nodes ≤ n + k → nodes ≤ n + l → ceiling_within d ceiling k n ≡ ceiling_within d ceiling l n
+    unfolding ceiling_within
     ceiling-steps zero l n h a b = absurd (omega arith)
     ceiling-steps (suc k) zero n h a b = absurd (omega arith)
     ceiling-steps (suc k) (suc l) n h a b =
         ap (λ (z : ℕ). min (limit n) (z + sum cords (λ c. on (eqb (node c) (suc n)) (ceiling c))))
-        (childSum-cong nodes parent n (ceilingWithin d ceiling k) (ceilingWithin d ceiling l) (λ m lm q.
+        (child_sum-cong nodes parent n (ceiling_within d ceiling k) (ceiling_within d ceiling l) (λ m lm q.
         let u : n < m = later d ok m n lm q in
         ceiling-steps k l m lm (omega arith) (omega arith)))
 
-    pub ceiling-is : (n : ℕ) → n < nodes → nodeCeiling d ceiling n ≡ min (limit n) (overChildren d n (nodeCeiling d ceiling) ceiling)
-    unfolding nodeCeiling ceilingWithin
+    pub ceiling-is : (n : ℕ) → n < nodes → node_ceiling d ceiling n ≡ min (limit n) (over_children d n (node_ceiling d ceiling) ceiling)
+    unfolding node_ceiling ceiling_within
     ceiling-is n l = ceiling-steps nodes (suc nodes) n l (omega arith) (omega arith)
 
     module _ (most : (c : ℕ) → c < cords → want c ≤ ceiling c) where
       -- Both grow with the children's, so that no node asks for more than its ceiling.
-      asked-ceilings : (n : ℕ) → ((m : ℕ) → m < nodes → n < m → asks m ≤ nodeCeiling d ceiling m)
-          → overChildren d n asks want ≤ overChildren d n (nodeCeiling d ceiling) ceiling
+      asked-ceilings : (n : ℕ) → ((m : ℕ) → m < nodes → n < m → asks m ≤ node_ceiling d ceiling m)
+          → over_children d n asks want ≤ over_children d n (node_ceiling d ceiling) ceiling
       asked-ceilings n ih =
-          add-le-add (childSum-le nodes parent n _ _ (λ m lm q. ih m lm (later d ok m n lm q))) (childSum-le d.cords d.node n _ _ (λ c lc q. most c lc))
+          add-le-add (child_sum-le nodes parent n _ _ (λ m lm q. ih m lm (later d ok m n lm q))) (child_sum-le d.cords d.node n _ _ (λ c lc q. most c lc))
 
-      asks-within : (n : ℕ) → n < nodes → asks n ≤ nodeCeiling d ceiling n
-      asks-within = down nodes (λ n. asks n ≤ nodeCeiling d ceiling n) (λ n l ih.
+      asks-within : (n : ℕ) → n < nodes → asks n ≤ node_ceiling d ceiling n
+      asks-within = down nodes (λ n. asks n ≤ node_ceiling d ceiling n) (λ n l ih.
           omega (arith, asked-ceilings n ih, ceiling-is n l, asks-are n l))
 
       -- ---- The weights
 
       abbrev over : ℕ → ℕ
-      over n = nodeCeiling d ceiling n - asks n
+      over n = node_ceiling d ceiling n - asks n
 
-      abbrev cordOver : ℕ → ℕ
-      cordOver c = ceiling c - want c
+      abbrev cord_over : ℕ → ℕ
+      cord_over c = ceiling c - want c
 
       weights-are : (n : ℕ)
-          → overChildren d n over cordOver + (overChildren d n asks want) ≡ overChildren d n (nodeCeiling d ceiling) ceiling
+          → over_children d n over cord_over + (over_children d n asks want) ≡ over_children d n (node_ceiling d ceiling) ceiling
       weights-are n =
-          let k : childSum nodes parent n (nodeCeiling d ceiling) ≡ childSum nodes parent n over + childSum nodes parent n asks
-          = childSum-cong nodes parent n _ _ (λ m lm q. let z : asks m ≤ nodeCeiling d ceiling m = asks-within m lm in omega arith)
-          ∙ childSum-add nodes parent n over asks in
-          let o = sum-parted cords (λ c. eqb (node c) (suc n)) cordOver want ceiling (λ c lc. let z : want c ≤ ceiling c = most c lc in omega arith) in
+          let k : child_sum nodes parent n (node_ceiling d ceiling) ≡ child_sum nodes parent n over + child_sum nodes parent n asks
+          = child_sum-cong nodes parent n _ _ (λ m lm q. let z : asks m ≤ node_ceiling d ceiling m = asks-within m lm in omega arith)
+          ∙ child_sum-add nodes parent n over asks in
+          let o = sum-parted cords (λ c. eqb (node c) (suc n)) cord_over want ceiling (λ c lc. let z : want c ≤ ceiling c = most c lc in omega arith) in
           omega (arith, k, o)
 
       -- A node's weight is its children's, cut to what its limit has over its Requests.
-      weight_is : (n : ℕ) → n < nodes → over n ≡ min (limit n - asks n) (overChildren d n over cordOver)
+      weight_is : (n : ℕ) → n < nodes → over n ≡ min (limit n - asks n) (over_children d n over cord_over)
       weight_is n l = cut-over (limit n) _ _ _ _ _ (weights-are n) (ceiling-is n l) (asks-are n l)
 
       -- So no node weighs more than its children.
-      weights-enough : (n : ℕ) → n < nodes → over n ≤ overChildren d n over cordOver
+      weights-enough : (n : ℕ) → n < nodes → over n ≤ over_children d n over cord_over
       weights-enough n l = omega (arith, weight_is n l)
 
       -- The headroom is dealt by these weights.
-      lent_at : (c : ℕ) → c < cords → at (headroomOver d ceiling) c ≡ cordAmount d (headroomWeight d (metrics d) ceiling) c
-      unfolding headroomOver
+      lent_at : (c : ℕ) → c < cords → at (headroom_over d ceiling) c ≡ cord_amount d (headroom_weight d (metrics d) ceiling) c
+      unfolding headroom_over
       lent_at c l = figures-at cords c _ l
 
-      pub lent : ByWeights d over cordOver (headroomAt d ceiling) (at (headroomOver d ceiling))
-      unfolding headroomAt
+      pub lent : ByWeights d over cord_over (headroom_at d ceiling) (at (headroom_over d ceiling))
+      unfolding headroom_at
       lent =
-          let by = by_weights d ok (headroomWeight d (metrics d) ceiling) in
+          let by = by_weights d ok (headroom_weight d (metrics d) ceiling) in
           record { root = by.root; inner = by.inner; leaf = λ c n l e. lent_at c l ∙ by.leaf c n l e }
 
       -- Weights that are so cut are these, and what is dealt by them is the headroom.
-      module _ (w x y : ℕ → ℕ) (cut : (n : ℕ) → n < nodes → w n ≡ min (limit n - asks n) (overChildren d n w cordOver)) (by : ByWeights d w cordOver x y) where
+      module _ (w x y : ℕ → ℕ) (cut : (n : ℕ) → n < nodes → w n ≡ min (limit n - asks n) (over_children d n w cord_over)) (by : ByWeights d w cord_over x y) where
         weights-same : (n : ℕ) → n < nodes → w n ≡ over n
         weights-same = down nodes (λ n. w n ≡ over n) (λ n l ih.
-            cut n l ∙ ap (min (limit n - asks n)) (overChildren-cong d w over cordOver n (λ m lm q. ih m lm (later d ok m n lm q))) ∙ sym (weight_is n l))
+            cut n l ∙ ap (min (limit n - asks n)) (over_children-cong d w over cord_over n (λ m lm q. ih m lm (later d ok m n lm q))) ∙ sym (weight_is n l))
 
-        pub lent-only : (c : ℕ) → c < cords → y c ≡ at (headroomOver d ceiling) c
-        lent-only = reached-same d ok w over cordOver x (headroomAt d ceiling) y (at (headroomOver d ceiling)) weights-same by lent
+        pub lent-only : (c : ℕ) → c < cords → y c ≡ at (headroom_over d ceiling) c
+        lent-only = reached-same d ok w over cord_over x (headroom_at d ceiling) y (at (headroom_over d ceiling)) weights-same by lent
 
       -- What a node has to lend, its cords have together; it is no more than what its ceiling has over its Requests.
-      pub lent-beneath : (n : ℕ) → n < nodes → dealBeneath d n (at (headroomOver d ceiling)) ≡ headroomAt d ceiling n
+      pub lent-beneath : (n : ℕ) → n < nodes → deal_beneath d n (at (headroom_over d ceiling)) ≡ headroom_at d ceiling n
       lent-beneath n l = sym (all-beneath d ok _ _ _ _ lent weights-enough n l)
 
-      lent-most : (n : ℕ) → n < nodes → headroomAt d ceiling n ≤ nodeCeiling d ceiling n - requestsAt (metrics d) n
+      lent-most : (n : ℕ) → n < nodes → headroom_at d ceiling n ≤ node_ceiling d ceiling n - requests_at (metrics d) n
       lent-most = amount-most d ok _ _ _ _ lent weights-enough
 
       -- A root has all of that.
-      pub root-lends : (n : ℕ) → n < nodes → parent n ≡ 0 → dealBeneath d n (at (headroomOver d ceiling)) ≡ nodeCeiling d ceiling n - requestsAt (metrics d) n
+      pub root-lends : (n : ℕ) → n < nodes → parent n ≡ 0 → deal_beneath d n (at (headroom_over d ceiling)) ≡ node_ceiling d ceiling n - requests_at (metrics d) n
       root-lends n l e = lent-beneath n l ∙ lent.root n l e
 
       -- ---- With the grants
 
       module _ (st : Startable d) where
-        granted-asks : (n : ℕ) → n < nodes → dealBeneath d n (at (granted d)) ≤ asks n
+        granted-asks : (n : ℕ) → n < nodes → deal_beneath d n (at (granted d)) ≤ asks n
         granted-asks n l =
             omega (
               arith,
-              dealBeneath-all d ok n (at (granted d)),
-              sum-le levels (λ j. dealBeneath d n (atLevel d j (at (granted d)))) (request d n) (λ j h. granted-asked d ok st n j l h),
+              deal_beneath-all d ok n (at (granted d)),
+              sum-le levels (λ j. deal_beneath d n (at_level d j (at (granted d)))) (request d n) (λ j h. granted-asked d ok st n j l h),
               sum-up levels 0 levels (request d n) (zero-add levels),
               sum-none (request d n),
               asks-up n l,
             )
 
-        pub within-limit : (n : ℕ) → n < nodes → dealBeneath d n (λ c. at (granted d) c + at (headroomOver d ceiling) c) ≤ limit n
-        unfolding sumBeneath
+        pub within-limit : (n : ℕ) → n < nodes → deal_beneath d n (λ c. at (granted d) c + at (headroom_over d ceiling) c) ≤ limit n
+        unfolding sum_beneath
         within-limit n l =
             omega (
               arith,
-              sum-parted cords (λ c. beneath parent nodes n (node c)) (at (granted d)) (at (headroomOver d ceiling)) (λ c. at (granted d) c + at (headroomOver d ceiling) c) (λ c lc. refl),
+              sum-parted cords (λ c. beneath parent nodes n (node c)) (at (granted d)) (at (headroom_over d ceiling)) (λ c. at (granted d) c + at (headroom_over d ceiling) c) (λ c lc. refl),
               granted-asks n l,
               lent-beneath n l,
               lent-most n l,
@@ -190,32 +190,32 @@ module _ (d : Deal) (ok : Dealable d) where
               ceiling-is n l,
             )
 
-        pub within-ceiling : (c : ℕ) → c < cords → at (granted d) c + at (headroomOver d ceiling) c ≤ ceiling c
+        pub within-ceiling : (c : ℕ) → c < cords → at (granted d) c + at (headroom_over d ceiling) c ≤ ceiling c
         within-ceiling c l =
             omega (arith, (granted-way d ok st).most c l, reached-most d ok _ _ _ _ lent weights-enough c l, most c l)
 
       -- ---- The figures fit their words
 
-      ceilings-beneath : (n : ℕ) → n < nodes → overChildren d n (nodeCeiling d ceiling) ceiling ≤ dealBeneath d n ceiling
-      ceilings-beneath = down nodes (λ n. overChildren d n (nodeCeiling d ceiling) ceiling ≤ dealBeneath d n ceiling) (λ n l ih.
-          let k : childSum nodes parent n (nodeCeiling d ceiling) ≤ childSum nodes parent n (λ m. dealBeneath d m ceiling)
-          = childSum-le nodes parent n _ _ (λ m lm q. le_trans (omega (arith, ceiling-is m lm)) (ih m lm (later d ok m n lm q))) in
-          omega (arith, dealBeneath-step d ok n ceiling))
+      ceilings-beneath : (n : ℕ) → n < nodes → over_children d n (node_ceiling d ceiling) ceiling ≤ deal_beneath d n ceiling
+      ceilings-beneath = down nodes (λ n. over_children d n (node_ceiling d ceiling) ceiling ≤ deal_beneath d n ceiling) (λ n l ih.
+          let k : child_sum nodes parent n (node_ceiling d ceiling) ≤ child_sum nodes parent n (λ m. deal_beneath d m ceiling)
+          = child_sum-le nodes parent n _ _ (λ m lm q. le_trans (omega (arith, ceiling-is m lm)) (ih m lm (later d ok m n lm q))) in
+          omega (arith, deal_beneath-step d ok n ceiling))
 
-      module _ (few : cords ≤ mostCords) (limits : (n : ℕ) → n < nodes → limit n ≤ mostWatts) (ceilings : (c : ℕ) → c < cords → ceiling c ≤ mostWatts) where
-        children-most : (n : ℕ) → n < nodes → overChildren d n (nodeCeiling d ceiling) ceiling ≤ mostSum
+      module _ (few : cords ≤ most_cords) (limits : (n : ℕ) → n < nodes → limit n ≤ most_watts) (ceilings : (c : ℕ) → c < cords → ceiling c ≤ most_watts) where
+        children-most : (n : ℕ) → n < nodes → over_children d n (node_ceiling d ceiling) ceiling ≤ most_sum
         children-most n l = le_trans (ceilings-beneath n l) (beneath-most d few n ceiling ceilings)
 
-        weights-sum : (n : ℕ) → headroomWeights d ceiling n ≡ overChildren d n over cordOver
-        unfolding headroomWeights
-        weights-sum n = children-sum d n (headroomWeight d (metrics d) ceiling)
+        weights-sum : (n : ℕ) → headroom_weights d ceiling n ≡ over_children d n over cord_over
+        unfolding headroom_weights
+        weights-sum n = children-sum d n (headroom_weight d (metrics d) ceiling)
 
-        weights-most : (n : ℕ) → n < nodes → headroomWeights d ceiling n ≤ mostSum
+        weights-most : (n : ℕ) → n < nodes → headroom_weights d ceiling n ≤ most_sum
         weights-most n l = omega (arith, weights-sum n, weights-are n, children-most n l)
 
-        product-most : (n : ℕ) → n < nodes → headroomAt d ceiling n * headroomWeights d ceiling n < 2 ^ 58
+        product-most : (n : ℕ) → n < nodes → headroom_at d ceiling n * headroom_weights d ceiling n < 2 ^ 58
         product-most n l =
-            let a : headroomAt d ceiling n ≤ mostWatts = omega (arith, lent-most n l, ceiling-is n l, limits n l) in
+            let a : headroom_at d ceiling n ≤ most_watts = omega (arith, lent-most n l, ceiling-is n l, limits n l) in
             omega (arith, mul-le-mul a (weights-most n l))
 
         pub headroom-bounded : HeadroomBounded d ceiling

@@ -9,22 +9,22 @@ use lib.Dec.{eqb, leb}
 use borrow.Author.Tests.{eqb-true, eqb-false, eq-eqb, ne_eqb, leb-true}
 use Rattle.figures.specs.Sums.{on, sum}
 use Rattle.figures.proofs.Sums.{on-no, on-cong, sum-cong, sum-zero, sum-none, sum-up, up, up_suc}
-use Rattle.rooms.proofs.Trees.{childSum-cong, down, rise}
+use Rattle.rooms.proofs.Trees.{child_sum-cong, down, rise}
 use Rattle.figures.specs.Figures.{at}
 use Rattle.rooms.specs.Table.{raised}
-use Rattle.deals.specs.Metrics.{Deal, metrics, atLevel, overChildren}
+use Rattle.deals.specs.Metrics.{Deal, metrics, at_level, over_children}
 use Rattle.splits.specs.Split.{part}
-use Rattle.deals.specs.Dealing.{weight, nodeOver, cordOver, cordAmount, reached, granted}
+use Rattle.deals.specs.Dealing.{weight, node_over, cord_over, cord_amount, reached, granted}
 use Rattle.deals.proofs.Requests.{Dealable, Measured, later, request-total}
 use Rattle.deals.proofs.Amounts.{ByWeights}
-use Rattle.deals.proofs.Computed.{pcapmin, request, startsOf, measured, by_weights, dealt, granted-at}
-use Rattle.rooms.specs.Trees.{childSum}
+use Rattle.deals.proofs.Computed.{pcapmin, request, starts_of, measured, by_weights, dealt, granted-at}
+use Rattle.rooms.specs.Trees.{child_sum}
 
 -- The nodes and cords of s stand together in t, a and b places on, and nothing else hangs on those nodes. Their figures are
 -- the same, but for the wants and starts of the cords below level z.
 pub record Inside (s t : Deal) (a b z : ℕ) : Type 0 where
-  pub nodesFit : a + s.nodes ≤ t.nodes
-  pub cordsFit : b + s.cords ≤ t.cords
+  pub nodes_fit : a + s.nodes ≤ t.nodes
+  pub cords_fit : b + s.cords ≤ t.cords
   pub parent : (n : ℕ) → n < s.nodes → t.parent (n + a) ≡ raised a (s.parent n)
   pub node : (c : ℕ) → c < s.cords → t.node (c + b) ≡ raised a (s.node c)
   pub limit : (n : ℕ) → n < s.nodes → t.limit (n + a) ≡ s.limit n
@@ -72,16 +72,16 @@ same_test : (a x v n : ℕ) → x ≡ raised a v → eqb x (suc (n + a)) ≡ eqb
 same_test a x v n e = eqb-iff x (suc (n + a)) v (suc n) (λ q. raised-suc a v n (sym e ∙ q)) (λ q. e ∙ ap (raised a) q)
 
 module _ (s t : Deal) (a b z : ℕ) (ins : Inside s t a b z) where
-  pub childNodes-in : (n : ℕ) → n < s.nodes → (g : ℕ → ℕ) → childSum t.nodes t.parent (n + a) g ≡ childSum s.nodes s.parent n (λ m. g (m + a))
-  childNodes-in n l g =
-      window a s.nodes t.nodes (λ m. on (eqb (t.parent m) (suc (n + a))) (g m)) ins.nodesFit
+  pub child_nodes-in : (n : ℕ) → n < s.nodes → (g : ℕ → ℕ) → child_sum t.nodes t.parent (n + a) g ≡ child_sum s.nodes s.parent n (λ m. g (m + a))
+  child_nodes-in n l g =
+      window a s.nodes t.nodes (λ m. on (eqb (t.parent m) (suc (n + a))) (g m)) ins.nodes_fit
       (λ i h q. on-no (eqb (t.parent i) (suc (n + a))) (g i) (ne_eqb (t.parent i) (suc (n + a)) (λ e. omega (arith, ins.alone i n h l e))))
       (λ i h q. on-no (eqb (t.parent i) (suc (n + a))) (g i) (ne_eqb (t.parent i) (suc (n + a)) (λ e. omega (arith, ins.alone i n h l e))))
       ∙ sum-cong s.nodes _ _ (λ m h. ap (λ (u : Bool). on u (g (m + a))) (same_test a (t.parent (m + a)) (s.parent m) n (ins.parent m h)))
 
-  pub childCords-in : (n : ℕ) → n < s.nodes → (f : ℕ → ℕ) → childSum t.cords t.node (n + a) f ≡ childSum s.cords s.node n (λ c. f (c + b))
-  childCords-in n l f =
-      window b s.cords t.cords (λ c. on (eqb (t.node c) (suc (n + a))) (f c)) ins.cordsFit
+  pub child_cords-in : (n : ℕ) → n < s.nodes → (f : ℕ → ℕ) → child_sum t.cords t.node (n + a) f ≡ child_sum s.cords s.node n (λ c. f (c + b))
+  child_cords-in n l f =
+      window b s.cords t.cords (λ c. on (eqb (t.node c) (suc (n + a))) (f c)) ins.cords_fit
       (λ i h q. on-no (eqb (t.node i) (suc (n + a))) (f i) (ne_eqb (t.node i) (suc (n + a)) (λ e. omega (arith, ins.bare i n h l e))))
       (λ i h q. on-no (eqb (t.node i) (suc (n + a))) (f i) (ne_eqb (t.node i) (suc (n + a)) (λ e. omega (arith, ins.bare i n h l e))))
       ∙ sum-cong s.cords _ _ (λ c h. ap (λ (u : Bool). on u (f (c + b))) (same_test a (t.node (c + b)) (s.node c) n (ins.node c h)))
@@ -92,30 +92,30 @@ module _ (s t : Deal) (a b z : ℕ) (ins : Inside s t a b z) where
   levels-in q f g e c h =
       ap (λ (x : ℕ). on (q x) (f (c + b))) (ins.level c h) ∙ on-cong (q (s.level c)) (f (c + b)) (g c) (e c h)
 
-  pub childCords-levels : (n : ℕ) → n < s.nodes → (q : ℕ → Bool) (f g : ℕ → ℕ) → ((c : ℕ) → c < s.cords → q (s.level c) ≡ true → f (c + b) ≡ g c)
-      → childSum t.cords t.node (n + a) (λ c. on (q (t.level c)) (f c)) ≡ childSum s.cords s.node n (λ c. on (q (s.level c)) (g c))
-  childCords-levels n l q f g e =
-      childCords-in n l (λ c. on (q (t.level c)) (f c))
+  pub child_cords-levels : (n : ℕ) → n < s.nodes → (q : ℕ → Bool) (f g : ℕ → ℕ) → ((c : ℕ) → c < s.cords → q (s.level c) ≡ true → f (c + b) ≡ g c)
+      → child_sum t.cords t.node (n + a) (λ c. on (q (t.level c)) (f c)) ≡ child_sum s.cords s.node n (λ c. on (q (s.level c)) (g c))
+  child_cords-levels n l q f g e =
+      child_cords-in n l (λ c. on (q (t.level c)) (f c))
       ∙ sum-cong s.cords _ _ (λ c h. ap (λ (x : ℕ). on (eqb (s.node c) (suc n)) x) (levels-in q f g e c h))
 
-  pub atLevel-in : (j : ℕ) (f g : ℕ → ℕ) → ((c : ℕ) → c < s.cords → s.level c ≡ j → f (c + b) ≡ g c)
-      → (c : ℕ) → c < s.cords → atLevel t j f (c + b) ≡ atLevel s j g c
-  atLevel-in j f g e = levels-in (λ x. eqb x j) f g (λ c h q. e c h (eqb-true (s.level c) j q))
+  pub at_level-in : (j : ℕ) (f g : ℕ → ℕ) → ((c : ℕ) → c < s.cords → s.level c ≡ j → f (c + b) ≡ g c)
+      → (c : ℕ) → c < s.cords → at_level t j f (c + b) ≡ at_level s j g c
+  at_level-in j f g e = levels-in (λ x. eqb x j) f g (λ c h q. e c h (eqb-true (s.level c) j q))
 
   -- What the cords on a node have at a level is the same where their figures are, at that level.
-  pub childCords-at : (n j : ℕ) → n < s.nodes → (f g : ℕ → ℕ) → ((c : ℕ) → c < s.cords → s.level c ≡ j → f (c + b) ≡ g c)
-      → childSum t.cords t.node (n + a) (atLevel t j f) ≡ childSum s.cords s.node n (atLevel s j g)
-  childCords-at n j l f g e = childCords-levels n l (λ x. eqb x j) f g (λ c h q. e c h (eqb-true (s.level c) j q))
+  pub child_cords-at : (n j : ℕ) → n < s.nodes → (f g : ℕ → ℕ) → ((c : ℕ) → c < s.cords → s.level c ≡ j → f (c + b) ≡ g c)
+      → child_sum t.cords t.node (n + a) (at_level t j f) ≡ child_sum s.cords s.node n (at_level s j g)
+  child_cords-at n j l f g e = child_cords-levels n l (λ x. eqb x j) f g (λ c h q. e c h (eqb-true (s.level c) j q))
 
   -- ---- Amounts by weights that are the same here and there
 
   module _ (ok : Dealable s) (w v x y : ℕ → ℕ) (u o g h : ℕ → ℕ) (by : ByWeights s w v x y) (yb : ByWeights t u o g h)
       (nodes-same : (m : ℕ) → m < s.nodes → u (m + a) ≡ w m) (cords-same : (c : ℕ) → c < s.cords → o (c + b) ≡ v c) where
-    whole_in : (n : ℕ) → n < s.nodes → overChildren t (n + a) u o ≡ overChildren s n w v
+    whole_in : (n : ℕ) → n < s.nodes → over_children t (n + a) u o ≡ over_children s n w v
     whole_in n l =
         ap₂ ◌+◌
-        (childNodes-in n l u ∙ childSum-cong s.nodes s.parent n _ _ (λ m lm e. nodes-same m lm))
-        (childCords-in n l o ∙ sum-cong s.cords _ _ (λ c lc. ap (λ (e : ℕ). on (eqb (s.node c) (suc n)) e) (cords-same c lc)))
+        (child_nodes-in n l u ∙ child_sum-cong s.nodes s.parent n _ _ (λ m lm e. nodes-same m lm))
+        (child_cords-in n l o ∙ sum-cong s.cords _ _ (λ c lc. ap (λ (e : ℕ). on (eqb (s.node c) (suc n)) e) (cords-same c lc)))
 
     -- The running sums.
     nodes-run : (m n : ℕ) → m < s.nodes → n < s.nodes
@@ -123,7 +123,7 @@ module _ (s t : Deal) (a b z : ℕ) (ins : Inside s t a b z) where
     nodes-run m n l ln =
         window a m (m + a) (λ i. on (eqb (t.parent i) (suc (n + a))) (u i)) (omega arith)
         (λ i k q. on-no (eqb (t.parent i) (suc (n + a))) (u i)
-        (ne_eqb (t.parent i) (suc (n + a)) (λ e. omega (arith, ins.alone i n (omega (arith, ins.nodesFit)) ln e))))
+        (ne_eqb (t.parent i) (suc (n + a)) (λ e. omega (arith, ins.alone i n (omega (arith, ins.nodes_fit)) ln e))))
         (λ i k q. absurd (omega arith))
         ∙ sum-cong m _ _ (λ i k.
         ap₂ (λ (e : Bool) (d : ℕ). on e d) (same_test a (t.parent (i + a)) (s.parent i) n (ins.parent i (omega arith))) (nodes-same i (omega arith)))
@@ -133,7 +133,7 @@ module _ (s t : Deal) (a b z : ℕ) (ins : Inside s t a b z) where
     cords-run c n l ln =
         window b c (c + b) (λ i. on (eqb (t.node i) (suc (n + a))) (o i)) (omega arith)
         (λ i k q. on-no (eqb (t.node i) (suc (n + a))) (o i)
-        (ne_eqb (t.node i) (suc (n + a)) (λ e. omega (arith, ins.bare i n (omega (arith, ins.cordsFit)) ln e))))
+        (ne_eqb (t.node i) (suc (n + a)) (λ e. omega (arith, ins.bare i n (omega (arith, ins.cords_fit)) ln e))))
         (λ i k q. absurd (omega arith))
         ∙ sum-cong c _ _ (λ i k.
         ap₂ (λ (e : Bool) (d : ℕ). on e d) (same_test a (t.node (i + b)) (s.node i) n (ins.node i (omega arith))) (cords-same i (omega arith)))
@@ -143,13 +143,13 @@ module _ (s t : Deal) (a b z : ℕ) (ins : Inside s t a b z) where
       where
         go : (m : ℕ) → m < s.nodes → ((n : ℕ) → n < m → g (n + a) ≡ x n) → (p : ℕ) → s.parent m ≡ p → g (m + a) ≡ x m
         go m l ih zero e =
-            yb.root (m + a) (omega (arith, ins.nodesFit)) (ins.parent m l ∙ ap (raised a) e) ∙ nodes-same m l ∙ sym (by.root m l e)
+            yb.root (m + a) (omega (arith, ins.nodes_fit)) (ins.parent m l ∙ ap (raised a) e) ∙ nodes-same m l ∙ sym (by.root m l e)
         go m l ih (suc n) e =
             let k : n < m = later s ok m n l e in
             let ln : n < s.nodes = omega arith in
-            yb.inner (m + a) (n + a) (omega (arith, ins.nodesFit)) (ins.parent m l ∙ ap (raised a) e)
+            yb.inner (m + a) (n + a) (omega (arith, ins.nodes_fit)) (ins.parent m l ∙ ap (raised a) e)
             ∙ ap₂ (λ (c d : ℕ). part c d (sum (m + a) (λ i. on (eqb (t.parent i) (suc (n + a))) (u i))) (u (m + a))) (ih n k) (whole_in n ln)
-            ∙ ap₂ (λ (c d : ℕ). part (x n) (overChildren s n w v) c d) (nodes-run m n l ln) (nodes-same m l)
+            ∙ ap₂ (λ (c d : ℕ). part (x n) (over_children s n w v) c d) (nodes-run m n l ln) (nodes-same m l)
             ∙ sym (by.inner m n l e)
 
     pub reached-in : (c : ℕ) → c < s.cords → h (c + b) ≡ y c
@@ -159,11 +159,11 @@ module _ (s t : Deal) (a b z : ℕ) (ins : Inside s t a b z) where
         go zero e = absurd (omega (arith, ok.hangs c l))
         go (suc n) e =
             let ln : n < s.nodes = subst (λ (i : ℕ). i ≤ s.nodes) e (ok.here c l) in
-            yb.leaf (c + b) (n + a) (omega (arith, ins.cordsFit)) (ins.node c l ∙ ap (raised a) e)
-            ∙ ap₂ (λ (f d : ℕ). part f d (childSum t.nodes t.parent (n + a) u + sum (c + b) (λ i. on (eqb (t.node i) (suc (n + a))) (o i))) (o (c + b)))
+            yb.leaf (c + b) (n + a) (omega (arith, ins.cords_fit)) (ins.node c l ∙ ap (raised a) e)
+            ∙ ap₂ (λ (f d : ℕ). part f d (child_sum t.nodes t.parent (n + a) u + sum (c + b) (λ i. on (eqb (t.node i) (suc (n + a))) (o i))) (o (c + b)))
             (amounts-in n ln) (whole_in n ln)
-            ∙ ap₂ (λ (f d : ℕ). part (x n) (overChildren s n w v) f d)
-            (ap₂ ◌+◌ (childNodes-in n ln u ∙ childSum-cong s.nodes s.parent n _ _ (λ m lm q. nodes-same m lm)) (cords-run c n l ln))
+            ∙ ap₂ (λ (f d : ℕ). part (x n) (over_children s n w v) f d)
+            (ap₂ ◌+◌ (child_nodes-in n ln u ∙ child_sum-cong s.nodes s.parent n _ _ (λ m lm q. nodes-same m lm)) (cords-run c n l ln))
             (cords-same c l)
             ∙ sym (by.leaf c n l e)
 
@@ -171,14 +171,14 @@ module _ (s t : Deal) (a b z : ℕ) (ins : Inside s t a b z) where
 
   module _ (ok : Dealable s) (ko : Dealable t) (p r q u : ℕ → ℕ → ℕ) (me : Measured s p r) (em : Measured t q u) where
     inside : (n : ℕ) → n < s.nodes → n + a < t.nodes
-    inside n l = omega (arith, ins.nodesFit)
+    inside n l = omega (arith, ins.nodes_fit)
 
     pcapmin-in : (j : ℕ) → j < s.levels → (n : ℕ) → n < s.nodes → q (n + a) j ≡ p n j
     pcapmin-in j h = down s.nodes (λ n. q (n + a) j ≡ p n j) (λ n l ih.
         em.lowest (n + a) j (inside n l) (subst (λ (x : ℕ). j < x) (sym ins.levels) h)
         ∙ ap₂ ◌+◌
-        (childNodes-in n l (λ m. q m j) ∙ childSum-cong s.nodes s.parent n _ _ (λ m lm e. ih m lm (later s ok m n lm e)))
-        (childCords-at n j l t.low s.low (λ c lc e. ins.low c lc))
+        (child_nodes-in n l (λ m. q m j) ∙ child_sum-cong s.nodes s.parent n _ _ (λ m lm e. ih m lm (later s ok m n lm e)))
+        (child_cords-at n j l t.low s.low (λ c lc e. ins.low c lc))
         ∙ sym (me.lowest n j l h))
 
     -- By the law of totals, from level z on the Requests sum to the same, and so are the same.
@@ -188,8 +188,8 @@ module _ (s t : Deal) (a b z : ℕ) (ins : Inside s t a b z) where
         ∙ ap₂ min
         (ap₂ ◌-◌ (ins.limit n l) (sum-cong j (q (n + a)) (p n) (λ i g. pcapmin-in i (omega arith) n l)))
         (ap₂ ◌+◌
-        (childNodes-in n l (λ m. up k j (u m)) ∙ childSum-cong s.nodes s.parent n _ _ (λ m lm o. ih m lm (later s ok m n lm o)))
-        (childCords-levels n l (leb j) t.want s.want (λ c lc o. ins.want c lc (le_trans h (leb-true j (s.level c) o)))))
+        (child_nodes-in n l (λ m. up k j (u m)) ∙ child_sum-cong s.nodes s.parent n _ _ (λ m lm o. ih m lm (later s ok m n lm o)))
+        (child_cords-levels n l (leb j) t.want s.want (λ c lc o. ins.want c lc (le_trans h (leb-true j (s.level c) o)))))
         ∙ sym (request-total s ok p r me n l k j e))
 
     pub request-in : (n : ℕ) → n < s.nodes → (j : ℕ) → j < s.levels → z ≤ j → u (n + a) j ≡ r n j
@@ -198,32 +198,32 @@ module _ (s t : Deal) (a b z : ℕ) (ins : Inside s t a b z) where
         omega (arith, total-in (suc k) j (omega arith) g n l, total-in k (suc j) (omega arith) (omega arith) n l, up_suc k j (u (n + a)), up_suc k j (r n))
 
 module _ (s t : Deal) (a b z : ℕ) (ins : Inside s t a b z) (ok : Dealable s) (ko : Dealable t) where
-  starts-in : (j : ℕ) → j < s.levels → z ≤ j → (n : ℕ) → n < s.nodes → startsOf t (n + a) j ≡ startsOf s n j
-  starts-in j h k = down s.nodes (λ n. startsOf t (n + a) j ≡ startsOf s n j) (λ n l ih.
-      (dealt t ko).starts (n + a) j (omega (arith, ins.nodesFit)) (subst (λ (x : ℕ). j < x) (sym ins.levels) h)
+  starts-in : (j : ℕ) → j < s.levels → z ≤ j → (n : ℕ) → n < s.nodes → starts_of t (n + a) j ≡ starts_of s n j
+  starts-in j h k = down s.nodes (λ n. starts_of t (n + a) j ≡ starts_of s n j) (λ n l ih.
+      (dealt t ko).starts (n + a) j (omega (arith, ins.nodes_fit)) (subst (λ (x : ℕ). j < x) (sym ins.levels) h)
       ∙ ap₂ ◌+◌
-      (childNodes-in s t a b z ins n l (λ m. startsOf t m j) ∙ childSum-cong s.nodes s.parent n _ _ (λ m lm e. ih m lm (later s ok m n lm e)))
-      (childCords-at s t a b z ins n j l t.start s.start (λ c lc e. ins.start c lc (le_trans k (le_of_eq (sym e)))))
+      (child_nodes-in s t a b z ins n l (λ m. starts_of t m j) ∙ child_sum-cong s.nodes s.parent n _ _ (λ m lm e. ih m lm (later s ok m n lm e)))
+      (child_cords-at s t a b z ins n j l t.start s.start (λ c lc e. ins.start c lc (le_trans k (le_of_eq (sym e)))))
       ∙ sym ((dealt s ok).starts n j l h))
 
   -- What a node, and a cord, is to have over the starts.
-  nodeOver-in : (j : ℕ) → j < s.levels → z ≤ j → (n : ℕ) → n < s.nodes → nodeOver (metrics t) (n + a) j ≡ nodeOver (metrics s) n j
-  unfolding request startsOf
-  nodeOver-in j h k n l =
+  node_over-in : (j : ℕ) → j < s.levels → z ≤ j → (n : ℕ) → n < s.nodes → node_over (metrics t) (n + a) j ≡ node_over (metrics s) n j
+  unfolding request starts_of
+  node_over-in j h k n l =
       ap₂ ◌-◌ (request-in s t a b z ins ok ko (pcapmin s) (request s) (pcapmin t) (request t) (measured s ok) (measured t ko) n l j h k) (starts-in j h k n l)
 
-  cordOver-in : (c : ℕ) → c < s.cords → z ≤ s.level c → cordOver t (c + b) ≡ cordOver s c
-  cordOver-in c l k = ap₂ ◌-◌ (ins.want c l k) (ins.start c l k)
+  cord_over-in : (c : ℕ) → c < s.cords → z ≤ s.level c → cord_over t (c + b) ≡ cord_over s c
+  cord_over-in c l k = ap₂ ◌-◌ (ins.want c l k) (ins.start c l k)
 
   pub granted-in : (c : ℕ) → c < s.cords → z ≤ s.level c → at (granted t) (c + b) ≡ at (granted s) c
   unfolding reached
   granted-in c l k =
       let j : ℕ = s.level c in
-      granted-at t ko (c + b) (omega (arith, ins.cordsFit))
+      granted-at t ko (c + b) (omega (arith, ins.cords_fit))
       ∙ ap₂ ◌+◌ (ins.start c l k)
-      (ap (λ (i : ℕ). cordAmount t (weight t (metrics t) i) (c + b)) (ins.level c l)
+      (ap (λ (i : ℕ). cord_amount t (weight t (metrics t) i) (c + b)) (ins.level c l)
       ∙ reached-in s t a b z ins ok _ _ _ _ _ _ _ _ (by_weights s ok (weight s (metrics s) j)) (by_weights t ko (weight t (metrics t) j))
-      (λ m lm. nodeOver-in j (ok.ranks c l) k m lm)
-      (λ h lh. atLevel-in s t a b z ins j (cordOver t) (cordOver s) (λ i li e. cordOver-in i li (le_trans k (le_of_eq (sym e)))) h lh)
+      (λ m lm. node_over-in j (ok.ranks c l) k m lm)
+      (λ h lh. at_level-in s t a b z ins j (cord_over t) (cord_over s) (λ i li e. cord_over-in i li (le_trans k (le_of_eq (sym e)))) h lh)
       c l)
       ∙ sym (granted-at s ok c l)

@@ -13,26 +13,26 @@ use borrow.Author.Tests.{eqb-true, eq-eqb, ltb-true, ltb-false, lt-ltb, le-ltb, 
 use Rattle.figures.specs.Figures.{at}
 use Rattle.figures.specs.Sums.{on}
 use Rattle.figures.proofs.Sums.{sum-cong, sum-zero}
-use Rattle.rooms.specs.Table.{Room, highestRank, roomCords}
-use Rattle.rooms.specs.Limits.{limit, nodeAt, parent_of}
-use Rattle.rooms.specs.Cords.{cordAt, rank_of}
-use Rattle.rooms.specs.Lists.{lowsOf}
+use Rattle.rooms.specs.Table.{Room, highest_rank, room_cords}
+use Rattle.rooms.specs.Limits.{limit, node_at, parent_of}
+use Rattle.rooms.specs.Cords.{cord_at, rank_of}
+use Rattle.rooms.specs.Lists.{lows_of}
 use Rattle.rooms.proofs.Accepted.{Accepted, accepted}
 use Rattle.rooms.proofs.Search.{NoneIn, FirstAt}
-use Rattle.deals.specs.Wants.{firstWants}
-use Rattle.deals.specs.SecondDeal.{firstDeal, firstGrants}
-use Rattle.deals.specs.Ways.{Root, Way, cordBeneath, wattsBeneath, fromRank}
-use Rattle.deals.specs.Judge.{belowLow, aboveWant, overLimit, short_at, shortRank, shortRoot, highest, atFirst, verdict}
+use Rattle.deals.specs.Wants.{first_wants}
+use Rattle.deals.specs.SecondDeal.{first_deal, first_grants}
+use Rattle.deals.specs.Ways.{Root, Way, cord_beneath, watts_beneath, from_rank}
+use Rattle.deals.specs.Judge.{below_low, above_want, over_limit, short_at, short_rank, short_root, highest, at_first, verdict}
 use Rattle.deals.specs.Promises.{Kept, Greatest, Unbeaten, LowestShort, Says, JudgedExactly, FirstGrantsPass}
 use Rattle.deals.specs.declared.Verdict.{Verdict}
 use Rattle.deals.specs.declared.Verdict.TheVariants.{Passes, BelowLow, AboveWant, OverLimit, Short}
-use Rattle.deals.proofs.BothDeals.{server-facts, cord-facts, firstWants-lows, first-starts}
+use Rattle.deals.proofs.BothDeals.{server-facts, cord-facts, first_wants-lows, first-starts}
 use Rattle.deals.proofs.Promises.{kept, greatest}
-use Rattle.rooms.specs.Trees.{sumBeneath}
+use Rattle.rooms.specs.Trees.{sum_beneath}
 
 -- ---- The first place of which a test holds
 
--- What `atFirst` comes to: there is no such place, or the first.
+-- What `at_first` comes to: there is no such place, or the first.
 pub data AtFirst (count n : ℕ) (test : ℕ → Bool) (named : ℕ → Verdict) (otherwise : Verdict) : Verdict → Type 0 where
   none : NoneIn test n (n + count) → AtFirst count n test named otherwise otherwise
   some : (place : ℕ) → FirstAt test count n place → AtFirst count n test named otherwise (named place)
@@ -44,11 +44,11 @@ earlier test n end e h m a b = at_place (eq-or-lt_of_le a)
     at_place (inl q) = ap test (sym q) ∙ e
     at_place (inr l) = h m l b
 
-pub atFirst-is : (count n : ℕ) (test : ℕ → Bool) (named : ℕ → Verdict) (otherwise : Verdict)
-    → AtFirst count n test named otherwise (atFirst count n test named otherwise)
-unfolding atFirst
-atFirst-is zero n test named otherwise = none (λ m a b. absurd (omega arith))
-atFirst-is (suc count) n test named otherwise = go (test n) refl (atFirst count (suc n) test named otherwise) (atFirst-is count (suc n) test named otherwise)
+pub at_first-is : (count n : ℕ) (test : ℕ → Bool) (named : ℕ → Verdict) (otherwise : Verdict)
+    → AtFirst count n test named otherwise (at_first count n test named otherwise)
+unfolding at_first
+at_first-is zero n test named otherwise = none (λ m a b. absurd (omega arith))
+at_first-is (suc count) n test named otherwise = go (test n) refl (at_first count (suc n) test named otherwise) (at_first-is count (suc n) test named otherwise)
   where
     go : (t : Bool) → test n ≡ t → (v : Verdict) → AtFirst count (suc n) test named otherwise v
         → AtFirst (suc count) n test named otherwise (cond t (named n) v)
@@ -62,15 +62,15 @@ clash : {A : Type 0} (t : Bool) → t ≡ true → t ≡ false → A
 clash t p q = absurd (suc-ne-zero 0 (cc))
 
 module _ (count n : ℕ) (test : ℕ → Bool) (named : ℕ → Verdict) (otherwise : Verdict) where
-  pub atFirst-none : NoneIn test n (n + count) → atFirst count n test named otherwise ≡ otherwise
-  atFirst-none h = go (atFirst count n test named otherwise) (atFirst-is count n test named otherwise)
+  pub at_first-none : NoneIn test n (n + count) → at_first count n test named otherwise ≡ otherwise
+  at_first-none h = go (at_first count n test named otherwise) (at_first-is count n test named otherwise)
     where
       go : (v : Verdict) → AtFirst count n test named otherwise v → v ≡ otherwise
       go v (none _) = refl
       go v (some place f) = clash (test place) f.holds (h place f.from f.within)
 
-  pub atFirst-some : (place : ℕ) → FirstAt test count n place → atFirst count n test named otherwise ≡ named place
-  atFirst-some place g = go (atFirst count n test named otherwise) (atFirst-is count n test named otherwise)
+  pub at_first-some : (place : ℕ) → FirstAt test count n place → at_first count n test named otherwise ≡ named place
+  at_first-some place g = go (at_first count n test named otherwise) (at_first-is count n test named otherwise)
     where
       same : (p q : ℕ) → FirstAt test count n p → FirstAt test count n q → p ≡ q
       same p q f g = go (ltb p q) refl (ltb q p) refl
@@ -85,10 +85,10 @@ module _ (count n : ℕ) (test : ℕ → Bool) (named : ℕ → Verdict) (otherw
       go v (some p f) = ap named (same p place f g)
 
 -- What holds of the verdict on the first such place, and of the other where there is none, holds of what it comes to.
-pub atFirst-means : (P : Verdict → Type 0) (count n : ℕ) (test : ℕ → Bool) (named : ℕ → Verdict) (otherwise : Verdict)
+pub at_first-means : (P : Verdict → Type 0) (count n : ℕ) (test : ℕ → Bool) (named : ℕ → Verdict) (otherwise : Verdict)
     → (NoneIn test n (n + count) → P otherwise) → ((place : ℕ) → FirstAt test count n place → P (named place))
-    → P (atFirst count n test named otherwise)
-atFirst-means P count n test named otherwise a b = go (atFirst count n test named otherwise) (atFirst-is count n test named otherwise)
+    → P (at_first count n test named otherwise)
+at_first-means P count n test named otherwise a b = go (at_first count n test named otherwise) (at_first-is count n test named otherwise)
   where
     go : (v : Verdict) → AtFirst count n test named otherwise v → P v
     go v (none h) = a h
@@ -169,18 +169,18 @@ and-either false t h = refl
 
 module _ (r : Room) (ok : Accepted r) (demands grants : List ℕ) where
   abbrev wants : List ℕ
-  wants = firstWants r demands
+  wants = first_wants r demands
 
   abbrev ours : List ℕ
-  ours = firstGrants r demands
+  ours = first_grants r demands
 
   ours_kept : Kept r wants ours
-  unfolding firstGrants firstDeal
-  ours_kept = kept r ok (lowsOf r) wants (firstWants-lows r ok demands) (first-starts r ok demands)
+  unfolding first_grants first_deal
+  ours_kept = kept r ok (lows_of r) wants (first_wants-lows r ok demands) (first-starts r ok demands)
 
   ours-greatest : Greatest r wants ours
-  unfolding firstGrants firstDeal
-  ours-greatest = greatest r ok (lowsOf r) wants (firstWants-lows r ok demands) (first-starts r ok demands)
+  unfolding first_grants first_deal
+  ours-greatest = greatest r ok (lows_of r) wants (first_wants-lows r ok demands) (first-starts r ok demands)
 
   -- Ours is a way of dealing each tree.
   ours-way : (root : ℕ) → Way r root wants ours
@@ -191,7 +191,7 @@ module _ (r : Room) (ok : Accepted r) (demands grants : List ℕ) where
   }
 
   abbrev total : ℕ → ℕ → List ℕ → ℕ
-  total n rank watts = wattsBeneath r n (fromRank r rank watts)
+  total n rank watts = watts_beneath r n (from_rank r rank watts)
 
   -- A tree that is not short is unbeaten, and the other way round.
   unbeaten : (n : ℕ) → Root r n → (rank : ℕ) → total n rank ours ≤ total n rank grants → Unbeaten r wants grants n rank
@@ -201,78 +201,78 @@ module _ (r : Room) (ok : Accepted r) (demands grants : List ℕ) where
   unbeaten-not-short n rank h = le-ltb _ _ (h ours (ours-way n))
 
   -- No rank is above the highest, nor below 1.
-  none_above : (n rank : ℕ) → highestRank < rank → (watts : List ℕ) → total n rank watts ≡ 0
-  unfolding sumBeneath
-  none_above n rank g watts = sum-cong (roomCords r) _ (λ c. 0) (λ c l.
-      let to = (server-facts r ok (cordAt r c).server (cord-facts r ok c l).0).rankTo in
-      ap (λ (t : Bool). on (cordBeneath r n c) (on t (at watts c))) (lt-leb rank (rank_of r c) (omega arith)) ∙ on-zero (cordBeneath r n c))
-      ∙ sum-zero (roomCords r)
+  none_above : (n rank : ℕ) → highest_rank < rank → (watts : List ℕ) → total n rank watts ≡ 0
+  unfolding sum_beneath
+  none_above n rank g watts = sum-cong (room_cords r) _ (λ c. 0) (λ c l.
+      let to = (server-facts r ok (cord_at r c).server (cord-facts r ok c l).0).rank_to in
+      ap (λ (t : Bool). on (cord_beneath r n c) (on t (at watts c))) (lt-leb rank (rank_of r c) (omega arith)) ∙ on-zero (cord_beneath r n c))
+      ∙ sum-zero (room_cords r)
     where
       on-zero : (t : Bool) → on t 0 ≡ 0
       on-zero true = refl
       on-zero false = refl
 
   all-from-one : (n : ℕ) (watts : List ℕ) → total n 0 watts ≡ total n 1 watts
-  unfolding sumBeneath
-  all-from-one n watts = sum-cong (roomCords r) _ _ (λ c l.
-      let from = (server-facts r ok (cordAt r c).server (cord-facts r ok c l).0).rankFrom in
-      ap (λ (t : Bool). on (cordBeneath r n c) (on t (at watts c))) (le-leb 0 (rank_of r c) zero-le ∙ sym (le-leb 1 (rank_of r c) from)))
+  unfolding sum_beneath
+  all-from-one n watts = sum-cong (room_cords r) _ _ (λ c l.
+      let from = (server-facts r ok (cord_at r c).server (cord-facts r ok c l).0).rank_from in
+      ap (λ (t : Bool). on (cord_beneath r n c) (on t (at watts c))) (le-leb 0 (rank_of r c) zero-le ∙ sym (le-leb 1 (rank_of r c) from)))
 
   -- Unbeaten at the ranks from 1 to the highest that are above a bound, a tree is unbeaten at all that are.
-  from-ranks : (n : ℕ) → Root r n → (bound : ℕ) → ((k : ℕ) → bound < suc k → k < highestRank → short_at r demands grants n (suc k) ≡ false)
+  from-ranks : (n : ℕ) → Root r n → (bound : ℕ) → ((k : ℕ) → bound < suc k → k < highest_rank → short_at r demands grants n (suc k) ≡ false)
       → (rank : ℕ) → bound < suc rank → bound ≤ rank → (bound < rank) ⊎ (bound ≡ 0) → Unbeaten r wants grants n rank
   from-ranks n top bound h zero a b w = unbeaten n top 0 (
       le_trans (le_of_eq (all-from-one n ours)) (le_trans (ltb-false _ _ (h 0 (omega arith) (omega arith))) (le_of_eq (sym (all-from-one n grants)))))
-  from-ranks n top bound h (suc k) a b w = go (dec_le (suc k) highestRank)
+  from-ranks n top bound h (suc k) a b w = go (dec_le (suc k) highest_rank)
     where
       above : (bound < suc k) ⊎ (bound ≡ 0) → bound < suc k
       above (inl l) = l
       above (inr e) = omega arith
 
-      go : Dec (suc k ≤ highestRank) → Unbeaten r wants grants n (suc k)
+      go : Dec (suc k ≤ highest_rank) → Unbeaten r wants grants n (suc k)
       go (yes l) = unbeaten n top (suc k) (ltb-false _ _ (h k (above w) l))
       go (no g) = unbeaten n top (suc k) (omega (arith, none_above n (suc k) (omega arith) ours))
 
   -- A root with no short rank is unbeaten at every rank.
-  root-unbeaten : (n : ℕ) → Root r n → shortRoot r demands grants n ≡ false → (rank : ℕ) → Unbeaten r wants grants n rank
-  unfolding shortRank
+  root-unbeaten : (n : ℕ) → Root r n → short_root r demands grants n ≡ false → (rank : ℕ) → Unbeaten r wants grants n rank
+  unfolding short_rank
   root-unbeaten n top e rank =
-      let zero_rank = ltb-false 0 (shortRank r demands grants n) (and-only _ _ e (eq-eqb (parent_of r n) 0 top.top)) in
-      from-ranks n top 0 (λ k a l. highest-above (short_at r demands grants n) highestRank (suc k) (omega (arith, zero_rank)) l) rank (omega arith) (omega arith) (inr refl)
+      let zero_rank = ltb-false 0 (short_rank r demands grants n) (and-only _ _ e (eq-eqb (parent_of r n) 0 top.top)) in
+      from-ranks n top 0 (λ k a l. highest-above (short_at r demands grants n) highest_rank (suc k) (omega (arith, zero_rank)) l) rank (omega arith) (omega arith) (inr refl)
 
-  unbeaten-root : (n : ℕ) → n < length r.nodes → (Root r n → (rank : ℕ) → Unbeaten r wants grants n rank) → shortRoot r demands grants n ≡ false
-  unfolding shortRank
+  unbeaten-root : (n : ℕ) → n < length r.nodes → (Root r n → (rank : ℕ) → Unbeaten r wants grants n rank) → short_root r demands grants n ≡ false
+  unfolding short_rank
   unbeaten-root n l h =
       and-either (eqb (parent_of r n) 0) _ (λ t.
       let top : Root r n = record { node = l; top = eqb-true (parent_of r n) 0 t } in
-      le-ltb 0 (shortRank r demands grants n) (le_of_eq (highest-none (short_at r demands grants n) highestRank (λ j k. unbeaten-not-short n (suc j) (h top (suc j))))))
+      le-ltb 0 (short_rank r demands grants n) (le_of_eq (highest-none (short_at r demands grants n) highest_rank (λ j k. unbeaten-not-short n (suc j) (h top (suc j))))))
 
   -- ---- From the verdict to what it says
 
-  abbrev noLow : Type 0
-  noLow = NoneIn (belowLow r grants) 0 (0 + roomCords r)
+  abbrev no_low : Type 0
+  no_low = NoneIn (below_low r grants) 0 (0 + room_cords r)
 
-  abbrev noWant : Type 0
-  noWant = NoneIn (aboveWant r demands grants) 0 (0 + roomCords r)
+  abbrev no_want : Type 0
+  no_want = NoneIn (above_want r demands grants) 0 (0 + room_cords r)
 
-  abbrev noOver : Type 0
-  noOver = NoneIn (overLimit r grants) 0 (0 + length r.nodes)
+  abbrev no_over : Type 0
+  no_over = NoneIn (over_limit r grants) 0 (0 + length r.nodes)
 
-  lows-kept : noLow → (c : ℕ) → c < roomCords r → at (lowsOf r) c ≤ at grants c
+  lows-kept : no_low → (c : ℕ) → c < room_cords r → at (lows_of r) c ≤ at grants c
   lows-kept h c l = ltb-false _ _ (h c zero-le (omega arith))
 
-  wants-kept : noWant → (c : ℕ) → c < roomCords r → at grants c ≤ at wants c
+  wants-kept : no_want → (c : ℕ) → c < room_cords r → at grants c ≤ at wants c
   wants-kept h c l = ltb-false _ _ (h c zero-le (omega arith))
 
-  limits-kept : noOver → (n : ℕ) → n < length r.nodes → wattsBeneath r n (at grants) ≤ limit (nodeAt r n)
+  limits-kept : no_over → (n : ℕ) → n < length r.nodes → watts_beneath r n (at grants) ≤ limit (node_at r n)
   limits-kept h n l = ltb-false _ _ (h n zero-le (omega arith))
 
-  says-short : Kept r wants grants → (n : ℕ) → FirstAt (shortRoot r demands grants) (length r.nodes) 0 n
-      → LowestShort r wants grants (suc n) (shortRank r demands grants n)
-  unfolding shortRank
+  says-short : Kept r wants grants → (n : ℕ) → FirstAt (short_root r demands grants) (length r.nodes) 0 n
+      → LowestShort r wants grants (suc n) (short_rank r demands grants n)
+  unfolding short_rank
   says-short k n f =
       let test = short_at r demands grants n in
-      let rank : ℕ = shortRank r demands grants n in
+      let rank : ℕ = short_rank r demands grants n in
       let top : Root r n = record { node = omega (arith, f.within); top = eqb-true (parent_of r n) 0 (and_left (eqb (parent_of r n) 0) (ltb 0 rank) f.holds) } in
       let some : 0 < rank = ltb-true 0 rank (and_right (eqb (parent_of r n) 0) (ltb 0 rank) f.holds) in
       record {
@@ -280,21 +280,21 @@ module _ (r : Room) (ok : Accepted r) (demands grants : List ℕ) where
         place = n;
         numbered = refl;
         root = top;
-        isRank = (some, highest-most test highestRank);
-        beaten = record { watts = ours; way = ours-way n; more = ltb-true _ _ (highest-holds test highestRank some) };
-        higher = λ other l. from-ranks n top (shortRank r demands grants n) (λ j a b. highest-above test highestRank (suc j) a b) other (omega arith) (omega arith) (inl l);
+        is_rank = (some, highest-most test highest_rank);
+        beaten = record { watts = ours; way = ours-way n; more = ltb-true _ _ (highest-holds test highest_rank some) };
+        higher = λ other l. from-ranks n top (short_rank r demands grants n) (λ j a b. highest-above test highest_rank (suc j) a b) other (omega arith) (omega arith) (inl l);
         lower = λ m l root. root-unbeaten m root (f.before m zero-le l);
       }
 
   says : Says r wants grants (verdict r demands grants)
   unfolding verdict
   says =
-      atFirst-means (Says r wants grants) (roomCords r) 0 (belowLow r grants) BelowLow _
-      (λ low. atFirst-means (Says r wants grants) (roomCords r) 0 (aboveWant r demands grants) AboveWant _
-      (λ want. atFirst-means (Says r wants grants) (length r.nodes) 0 (overLimit r grants) (λ n. OverLimit (suc n)) _
+      at_first-means (Says r wants grants) (room_cords r) 0 (below_low r grants) BelowLow _
+      (λ low. at_first-means (Says r wants grants) (room_cords r) 0 (above_want r demands grants) AboveWant _
+      (λ want. at_first-means (Says r wants grants) (length r.nodes) 0 (over_limit r grants) (λ n. OverLimit (suc n)) _
       (λ over.
       let keeps : Kept r wants grants = record { least = lows-kept low; most = wants-kept want; within = limits-kept over } in
-      atFirst-means (Says r wants grants) (length r.nodes) 0 (shortRoot r demands grants) (λ n. Short (suc n) (shortRank r demands grants n)) Passes
+      at_first-means (Says r wants grants) (length r.nodes) 0 (short_root r demands grants) (λ n. Short (suc n) (short_rank r demands grants n)) Passes
       (λ short. (keeps, λ root top rank. root-unbeaten root top (short root zero-le (omega (arith, top.node))) rank))
       (λ n f. says-short keeps n f))
       (λ n f. record {
@@ -312,60 +312,60 @@ module _ (r : Room) (ok : Accepted r) (demands grants : List ℕ) where
   -- ---- From what it says to the verdict
 
   -- The verdict from the second kind of failure on, from the third and from the fourth.
-  abbrev ofShort : Verdict
-  ofShort = atFirst (length r.nodes) 0 (shortRoot r demands grants) (λ n. Short (suc n) (shortRank r demands grants n)) Passes
+  abbrev of_short : Verdict
+  of_short = at_first (length r.nodes) 0 (short_root r demands grants) (λ n. Short (suc n) (short_rank r demands grants n)) Passes
 
-  abbrev ofLimits : Verdict
-  ofLimits = atFirst (length r.nodes) 0 (overLimit r grants) (λ n. OverLimit (suc n)) ofShort
+  abbrev of_limits : Verdict
+  of_limits = at_first (length r.nodes) 0 (over_limit r grants) (λ n. OverLimit (suc n)) of_short
 
-  abbrev ofWants : Verdict
-  ofWants = atFirst (roomCords r) 0 (aboveWant r demands grants) AboveWant ofLimits
+  abbrev of_wants : Verdict
+  of_wants = at_first (room_cords r) 0 (above_want r demands grants) AboveWant of_limits
 
-  past-lows : ((c : ℕ) → c < roomCords r → at (lowsOf r) c ≤ at grants c) → verdict r demands grants ≡ ofWants
+  past-lows : ((c : ℕ) → c < room_cords r → at (lows_of r) c ≤ at grants c) → verdict r demands grants ≡ of_wants
   unfolding verdict
-  past-lows h = atFirst-none (roomCords r) 0 (belowLow r grants) BelowLow ofWants (λ c a b. le-ltb _ _ (h c (omega arith)))
+  past-lows h = at_first-none (room_cords r) 0 (below_low r grants) BelowLow of_wants (λ c a b. le-ltb _ _ (h c (omega arith)))
 
-  past-wants : ((c : ℕ) → c < roomCords r → at grants c ≤ at wants c) → ofWants ≡ ofLimits
-  past-wants h = atFirst-none (roomCords r) 0 (aboveWant r demands grants) AboveWant ofLimits (λ c a b. le-ltb _ _ (h c (omega arith)))
+  past-wants : ((c : ℕ) → c < room_cords r → at grants c ≤ at wants c) → of_wants ≡ of_limits
+  past-wants h = at_first-none (room_cords r) 0 (above_want r demands grants) AboveWant of_limits (λ c a b. le-ltb _ _ (h c (omega arith)))
 
-  past-kept : Kept r wants grants → verdict r demands grants ≡ ofShort
+  past-kept : Kept r wants grants → verdict r demands grants ≡ of_short
   past-kept k =
       past-lows k.least ∙ past-wants k.most
-      ∙ atFirst-none (length r.nodes) 0 (overLimit r grants) (λ n. OverLimit (suc n)) ofShort (λ n a b. le-ltb _ _ (k.within n (omega arith)))
+      ∙ at_first-none (length r.nodes) 0 (over_limit r grants) (λ n. OverLimit (suc n)) of_short (λ n a b. le-ltb _ _ (k.within n (omega arith)))
 
-  short-rank : {number rank : ℕ} (s : LowestShort r wants grants number rank) → shortRank r demands grants s.place ≡ rank
-  unfolding shortRank
+  short-rank : {number rank : ℕ} (s : LowestShort r wants grants number rank) → short_rank r demands grants s.place ≡ rank
+  unfolding short_rank
   short-rank {rank = rank} s =
       let more : total s.place rank grants < total s.place rank ours
       = omega (arith, s.beaten.more, ours-greatest s.place s.root rank s.beaten.watts s.beaten.way) in
-      highest-some (short_at r demands grants s.place) highestRank rank s.isRank.0 s.isRank.1 (lt-ltb _ _ more) (λ i l. unbeaten-not-short s.place i (s.higher i l))
+      highest-some (short_at r demands grants s.place) highest_rank rank s.is_rank.0 s.is_rank.1 (lt-ltb _ _ more) (λ i l. unbeaten-not-short s.place i (s.higher i l))
 
   means : (v : Verdict) → Says r wants grants v → verdict r demands grants ≡ v
   unfolding verdict
   means Passes k =
       past-kept k.0
-      ∙ atFirst-none (length r.nodes) 0 (shortRoot r demands grants) _ Passes (λ n a b. unbeaten-root n (omega arith) (λ top rank. k.1 n top rank))
+      ∙ at_first-none (length r.nodes) 0 (short_root r demands grants) _ Passes (λ n a b. unbeaten-root n (omega arith) (λ top rank. k.1 n top rank))
   means (BelowLow c) k =
-      atFirst-some (roomCords r) 0 (belowLow r grants) BelowLow ofWants c
+      at_first-some (room_cords r) 0 (below_low r grants) BelowLow of_wants c
       (record { from = zero-le; within = omega (arith, k.cord); holds = lt-ltb _ _ k.below; before = λ h a b. le-ltb _ _ (k.lower h b) })
   means (AboveWant c) k =
       past-lows k.lows
-      ∙ atFirst-some (roomCords r) 0 (aboveWant r demands grants) AboveWant ofLimits c
+      ∙ at_first-some (room_cords r) 0 (above_want r demands grants) AboveWant of_limits c
       (record { from = zero-le; within = omega (arith, k.cord); holds = lt-ltb _ _ k.above; before = λ h a b. le-ltb _ _ (k.lower h b) })
   means (OverLimit node) k =
       past-lows k.lows ∙ past-wants k.wanted
-      ∙ atFirst-some (length r.nodes) 0 (overLimit r grants) (λ n. OverLimit (suc n)) ofShort k.place
+      ∙ at_first-some (length r.nodes) 0 (over_limit r grants) (λ n. OverLimit (suc n)) of_short k.place
       (record { from = zero-le; within = omega (arith, k.node); holds = lt-ltb _ _ k.over; before = λ h a b. le-ltb _ _ (k.lower h b) })
       ∙ ap OverLimit (sym k.numbered)
   means (Short number rank) k =
       let n : ℕ = k.place in
       let is = short-rank k in
       past-kept k.kept
-      ∙ atFirst-some (length r.nodes) 0 (shortRoot r demands grants) (λ n. Short (suc n) (shortRank r demands grants n)) Passes n
+      ∙ at_first-some (length r.nodes) 0 (short_root r demands grants) (λ n. Short (suc n) (short_rank r demands grants n)) Passes n
       (record {
         from = zero-le;
         within = omega (arith, k.root.node);
-        holds = and_both _ _ (eq-eqb (parent_of r n) 0 k.root.top) (lt-ltb 0 (shortRank r demands grants n) (omega (arith, is, k.isRank.0)));
+        holds = and_both _ _ (eq-eqb (parent_of r n) 0 k.root.top) (lt-ltb 0 (short_rank r demands grants n) (omega (arith, is, k.is_rank.0)));
         before = λ m a b. unbeaten-root m (omega (arith, k.root.node)) (λ top other. k.lower m b top other);
       })
       ∙ ap₂ Short (sym k.numbered) is
@@ -375,11 +375,11 @@ module _ (r : Room) (ok : Accepted r) (demands grants : List ℕ) where
 pub judged-exactly : JudgedExactly
 judged-exactly table r end e demands grants v =
     let ok = accepted table r end e in (
-      λ is. subst (Says r (firstWants r demands) grants) is (says r ok demands grants),
+      λ is. subst (Says r (first_wants r demands) grants) is (says r ok demands grants),
       means r ok demands grants v,
     )
 
 pub first-grants-pass : FirstGrantsPass
 first-grants-pass table r end e demands =
     let ok = accepted table r end e in
-    means r ok demands (firstGrants r demands) Passes (ours_kept r ok demands (firstGrants r demands), ours-greatest r ok demands (firstGrants r demands))
+    means r ok demands (first_grants r demands) Passes (ours_kept r ok demands (first_grants r demands), ours-greatest r ok demands (first_grants r demands))

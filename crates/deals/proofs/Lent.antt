@@ -8,7 +8,7 @@ use Rattle.rooms.specs.Table.{Room}
 use Rattle.rooms.specs.Limits.{checked}
 use Rattle.deals.specs.Plan.{Plan, plan}
 use Rattle.deals.specs.declared.Lengths.{Lengths}
-use Rattle.deals.proofs.Plans.{plan-good, plan-good-table, Planning, planRoom-accepted}
+use Rattle.deals.proofs.Plans.{plan-good, plan-good-table, Planning, plan_room-accepted}
 
 -- An accepted plan has a room, and its lists fit.
 pub record Written (table demands : List ℕ) (lengths : Lengths) (answer : Plan) : Type 0 where
@@ -24,5 +24,5 @@ plan-written table demands lengths {answer} e =
       room = g.value;
       end = g.next;
       is_room = g.is;
-      planning = planRoom-accepted g.value demands lengths answer (sym (plan-good-table table demands lengths g.value g.next g.is) ∙ e);
+      planning = plan_room-accepted g.value demands lengths answer (sym (plan-good-table table demands lengths g.value g.next g.is) ∙ e);
     }

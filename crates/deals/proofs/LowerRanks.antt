@@ -6,9 +6,9 @@ use native.Mathlib.Nat.{add-zero}
 use native.Mathlib.Omega.{arith}
 use Rattle.rooms.specs.Table.{raised, Room}
 use Rattle.rooms.proofs.Accepted.{Accepted}
-use Rattle.deals.specs.SecondDeal.{firstGrants, firstUsable, secondGrants, caps}
+use Rattle.deals.specs.SecondDeal.{first_grants, first_usable, second_grants, caps}
 use Rattle.deals.specs.Promises.{SameServers, SameCords}
-use Rattle.deals.proofs.RoomInside.{RoomInside, ServersIn, firstGrants-in, firstUsable-in, secondGrants-in, caps-in}
+use Rattle.deals.proofs.RoomInside.{RoomInside, ServersIn, first_grants-in, first_usable-in, second_grants-in, caps-in}
 
 raised-none : (v : ℕ) → v ≡ raised 0 v
 raised-none zero = refl
@@ -17,9 +17,9 @@ raised-none (suc q) = ap suc (sym (add-zero q))
 self : (r : Room) → RoomInside r r 0 0 0
 self r = record {
   scale = refl;
-  nodesFit = omega arith;
-  cordsFit = omega arith;
-  serversFit = omega arith;
+  nodes_fit = omega arith;
+  cords_fit = omega arith;
+  servers_fit = omega arith;
   parent = λ m l. rw add-zero (raised-none _);
   limits = λ m l. rw add-zero;
   rank = λ u l. rw add-zero;
@@ -37,14 +37,14 @@ module _ (r : Room) (ok : Accepted r) (rank : ℕ) (d e : List ℕ) (same : Same
   agree : ServersIn r r 0 0 0 (self r) ok ok rank d e
   agree u l k = rw add-zero (same u l k)
 
-  pub firstGrants-same : SameCords r rank (firstGrants r d) (firstGrants r e)
-  firstGrants-same c l k = rw add-zero at (firstGrants-in r r 0 0 0 (self r) ok ok rank d e agree c l k)
+  pub first_grants-same : SameCords r rank (first_grants r d) (first_grants r e)
+  first_grants-same c l k = rw add-zero at (first_grants-in r r 0 0 0 (self r) ok ok rank d e agree c l k)
 
-  pub firstUsable-same : SameServers r rank (firstUsable r d) (firstUsable r e)
-  firstUsable-same v l k = rw add-zero at (firstUsable-in r r 0 0 0 (self r) ok ok rank d e agree v l k)
+  pub first_usable-same : SameServers r rank (first_usable r d) (first_usable r e)
+  first_usable-same v l k = rw add-zero at (first_usable-in r r 0 0 0 (self r) ok ok rank d e agree v l k)
 
-  pub secondGrants-same : SameCords r rank (secondGrants r d) (secondGrants r e)
-  secondGrants-same c l k = rw add-zero at (secondGrants-in r r 0 0 0 (self r) ok ok rank d e agree c l k)
+  pub second_grants-same : SameCords r rank (second_grants r d) (second_grants r e)
+  second_grants-same c l k = rw add-zero at (second_grants-in r r 0 0 0 (self r) ok ok rank d e agree c l k)
 
   pub caps-same : SameServers r rank (caps r d) (caps r e)
   caps-same v l k = rw add-zero at (caps-in r r 0 0 0 (self r) ok ok rank d e agree v l k)

@@ -9,12 +9,12 @@ use lib.Dec.{eqb, lit<}
 use lib.ListN.{length, set}
 use lib.Seq.{set-get_or}
 use Rattle.figures.specs.Sums.{on, sum}
-use Rattle.rooms.specs.Table.{mostCords, mostWatts}
-use Rattle.rooms.specs.Credits.{treeSum}
+use Rattle.rooms.specs.Table.{most_cords, most_watts}
+use Rattle.rooms.specs.Credits.{tree_sum}
 use Rattle.figures.specs.Credits.{credited}
 use Rattle.figures.proofs.Sums.{sum-suc, sum-up}
 use Rattle.figures.proofs.Credits.{credited-at, credited-length}
-use Rattle.rooms.proofs.Credits.{treeSum-step, treeSum-most}
+use Rattle.rooms.proofs.Credits.{tree_sum-step, tree_sum-most}
 use Rattle.rooms.proofs.Gather.{Holds, holds-start, holds-turn, holds-most, holds-whole}
 use Rattle.figures.specs.Figures.{at}
 use Rattle.rooms.specs.Trees.{ParentsFirst}
@@ -27,7 +27,7 @@ on-zero false a e = refl
 
 -- Figures of the nodes that together are no more than the most cords' watts, so that no sum of them overflows.
 abbrev pub Fits : List ℕ → List ℕ → Type 0
-Fits parents start = (length parents ≤ length start) × (sum (length parents) (at start) ≤ mostCords * mostWatts)
+Fits parents start = (length parents ≤ length start) × (sum (length parents) (at start) ≤ most_cords * most_watts)
 
 -- Crediting nothing changes nothing.
 pub credited-nothing : (node : ℕ) (l : List ℕ) → credited node 0 l ≡ l
@@ -39,12 +39,12 @@ credited-nothing (suc m) l = ap (set l m) (add-zero (at l m)) ∙ set-get_or l m
 pub record Summing (parents start : List ℕ) (n : ℕ) (sums : List ℕ) : Type 0 where
   pub done : ℕ
   pub all : n + done ≡ length parents
-  pub held : Holds (length parents) (at parents) (at start) (treeSum (at parents) (length parents) (at start)) done n (at sums)
+  pub held : Holds (length parents) (at parents) (at start) (tree_sum (at parents) (length parents) (at start)) done n (at sums)
   pub size : length sums ≡ length start
 
 pub summing_start : (parents start : List ℕ) → Summing parents start (length parents) start
 summing_start parents start =
-    record { done = 0; all = omega arith; held = holds-start (length parents) (at parents) (at start) (treeSum (at parents) (length parents) (at start)); size = refl }
+    record { done = 0; all = omega arith; held = holds-start (length parents) (at parents) (at start) (tree_sum (at parents) (length parents) (at start)); size = refl }
 
 module _ {parents start : List ℕ} (rises : ParentsFirst (length parents) (at parents)) where
   -- No sum ever passes the sum of all.
@@ -52,9 +52,9 @@ module _ {parents start : List ℕ} (rises : ParentsFirst (length parents) (at p
   summing-most {n} {sums} inv m l =
       omega (
         arith,
-        holds-most (length parents) (at parents) (at start) (treeSum (at parents) (length parents) (at start)) inv.done n (at sums) inv.all inv.held m l,
-        treeSum-step (length parents) (at parents) rises (at start) m l,
-        treeSum-most (length parents) (at parents) (at start) m,
+        holds-most (length parents) (at parents) (at start) (tree_sum (at parents) (length parents) (at start)) inv.done n (at sums) inv.all inv.held m l,
+        tree_sum-step (length parents) (at parents) rises (at start) m l,
+        tree_sum-most (length parents) (at parents) (at start) m,
       )
 
   -- So a node's credit to its parent does not overflow.
@@ -68,10 +68,10 @@ module _ {parents start : List ℕ} (rises : ParentsFirst (length parents) (at p
       )
 
   -- A node's sum is whole when its turn comes.
-  pub whole-at : {m : ℕ} {sums : List ℕ} → Summing parents start (suc m) sums → at sums m ≡ treeSum (at parents) (length parents) (at start) m
+  pub whole-at : {m : ℕ} {sums : List ℕ} → Summing parents start (suc m) sums → at sums m ≡ tree_sum (at parents) (length parents) (at start) m
   whole-at {m} {sums} inv =
-      holds-whole (length parents) (at parents) (at start) (treeSum (at parents) (length parents) (at start)) rises inv.done m (at sums) inv.all inv.held
-      ∙ sym (treeSum-step (length parents) (at parents) rises (at start) m (omega (arith, inv.all)))
+      holds-whole (length parents) (at parents) (at start) (tree_sum (at parents) (length parents) (at start)) rises inv.done m (at sums) inv.all inv.held
+      ∙ sym (tree_sum-step (length parents) (at parents) rises (at start) m (omega (arith, inv.all)))
 
   -- A node's turn.
   pub summing-at : {m : ℕ} {sums : List ℕ} {parent : ℕ} {sums' : List ℕ} → length parents ≤ length start → Summing parents start (suc m) sums
@@ -79,7 +79,7 @@ module _ {parents start : List ℕ} (rises : ParentsFirst (length parents) (at p
   summing-at {m} {sums} {sums' = sums'} h inv ep es =
       let r = rises m (omega (arith, inv.all)) in
       let own : ℕ → ℕ = at start in
-      let passed : ℕ → ℕ = treeSum (at parents) (length parents) (at start) in
+      let passed : ℕ → ℕ = tree_sum (at parents) (length parents) (at start) in
       let is : sums' ≡ credited (at parents m) (at sums m) sums = es ∙ ap (λ (x : ℕ). credited x (at sums m) sums) ep in
       rw is
       (record {
@@ -92,7 +92,7 @@ module _ {parents start : List ℕ} (rises : ParentsFirst (length parents) (at p
       })
 
   -- The turn of a node that has nothing to pass on.
-  pub summing-idle : {m : ℕ} {sums : List ℕ} → length parents ≤ length start → treeSum (at parents) (length parents) (at start) m ≡ 0 → Summing parents start (suc m) sums → Summing parents start m sums
+  pub summing-idle : {m : ℕ} {sums : List ℕ} → length parents ≤ length start → tree_sum (at parents) (length parents) (at start) m ≡ 0 → Summing parents start (suc m) sums → Summing parents start m sums
   summing-idle {m} {sums} h none inv =
       summing-at h inv refl (sym (ap (λ (x : ℕ). credited (at parents m) x sums) (whole-at inv ∙ none) ∙ credited-nothing (at parents m) sums))
 
@@ -101,5 +101,5 @@ pub sum-within : (k m : ℕ) (g : ℕ → ℕ) → k < m → sum k g + g k ≤ s
 sum-within k m g h = omega (arith, sum-suc k g, sum-up (m - suc k) (suc k) m g (omega arith))
 
 -- An amount times the weights of all children fits its word.
-pub product-fits : (x e : ℕ) → x ≤ mostWatts → e ≤ mostCords * mostWatts → x * e < 2 ^ 64
+pub product-fits : (x e : ℕ) → x ≤ most_watts → e ≤ most_cords * most_watts → x * e < 2 ^ 64
 product-fits x e most few = lt_of_le_of_lt (mul-le-mul most few) (lit< tt)

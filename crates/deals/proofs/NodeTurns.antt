@@ -11,11 +11,11 @@ use lib.Seq.{get_or-set_same, get_or-set_other}
 use borrow.Author.Count.{below_more}
 use borrow.Author.Tests.{eq-eqb, ne_eqb}
 use Rattle.figures.specs.Sums.{on}
-use Rattle.rooms.specs.Table.{mostWatts, mostCords}
+use Rattle.rooms.specs.Table.{most_watts, most_cords}
 use Rattle.figures.proofs.Sums.{on-yes, on-no, sum-suc, sum-cong, sum-zero}
 use Rattle.figures.specs.Figures.{at}
 use Rattle.splits.specs.Split.{part}
-use Rattle.deals.specs.Passes.{WeightsListed, weightOf, NodesDealt}
+use Rattle.deals.specs.Passes.{WeightsListed, weight_of, NodesDealt}
 use Rattle.figures.specs.Places.{Absent, Present}
 use Rattle.deals.specs.Levels.{ActiveNodes}
 use Rattle.figures.proofs.Lists.{passed-up}
@@ -24,27 +24,27 @@ use Rattle.deals.proofs.NodeSums.{on-zero, sum-within, product-fits}
 use Rattle.splits.proofs.Splits.{part-le}
 use Rattle.splits.specs.Serving.{MayServe, HasServed}
 use Rattle.splits.proofs.Serving.{Served, served-same, served-more, served-amount, served-part, served-next, may-serve}
-use Rattle.rooms.specs.Trees.{ParentsFirst, childSum}
+use Rattle.rooms.specs.Trees.{ParentsFirst, child_sum}
 
 -- What the pass takes of the nodes.
 pub record NodesReady (parents active : List ℕ) (count : ℕ) (weights wholes : List ℕ) : Type 0 where
   pub rises : ParentsFirst (length parents) (at parents)
   pub listed : WeightsListed parents active count wholes weights
   pub bounds : (n : ℕ) → n < length parents
-      → (weightOf weights wholes n ≤ mostWatts)
-      × (at wholes n ≤ mostCords * mostWatts)
-      × (childSum (length parents) (at parents) n (weightOf weights wholes) ≤ at wholes n)
+      → (weight_of weights wholes n ≤ most_watts)
+      × (at wholes n ≤ most_cords * most_watts)
+      × (child_sum (length parents) (at parents) n (weight_of weights wholes) ≤ at wholes n)
 
 -- The weights of the children of the node at place n that stand before place m.
-abbrev pub weightsBefore : List ℕ → List ℕ → List ℕ → ℕ → ℕ → ℕ
-weightsBefore parents weights wholes m n = childSum m (at parents) n (weightOf weights wholes)
+abbrev pub weights_before : List ℕ → List ℕ → List ℕ → ℕ → ℕ → ℕ
+weights_before parents weights wholes m n = child_sum m (at parents) n (weight_of weights wholes)
 
 -- The amount of the node at place h.
 pub record NodeDealt (parents weights wholes amounts : List ℕ) (h : ℕ) : Type 0 where
-  pub root : at parents h ≡ 0 → at amounts h ≡ weightOf weights wholes h
+  pub root : at parents h ≡ 0 → at amounts h ≡ weight_of weights wholes h
   pub inner : (n : ℕ) → at parents h ≡ suc n
-      → at amounts h ≡ part (at amounts n) (at wholes n) (weightsBefore parents weights wholes h n) (weightOf weights wholes h)
-  pub most : at amounts h ≤ weightOf weights wholes h
+      → at amounts h ≡ part (at amounts n) (at wholes n) (weights_before parents weights wholes h n) (weight_of weights wholes h)
+  pub most : at amounts h ≤ weight_of weights wholes h
 
 -- An active node that stands before place m.
 abbrev Begun : List ℕ → ℕ → ℕ → ℕ → Type 0
@@ -58,7 +58,7 @@ pub record NodeTurn (parents active : List ℕ) (count : ℕ) (weights wholes : 
   pub enough : length parents ≤ size
   pub nodes : (h : ℕ) → h < m → Present active count h → NodeDealt parents weights wholes amounts h
   pub kept : (h : ℕ) → m ≤ h → at amounts h ≡ at weights h
-  pub served : Served size (Begun active count m) (at wholes) amounts (weightsBefore parents weights wholes m) before dealt
+  pub served : Served size (Begun active count m) (at wholes) amounts (weights_before parents weights wholes m) before dealt
 
 module _ {parents active : List ℕ} {count : ℕ} {weights wholes : List ℕ} {size : ℕ} where
   pub nodes-start : {before dealt : List ℕ} → NodesReady parents active count weights wholes → length parents ≤ size
@@ -81,33 +81,33 @@ module _ {parents active : List ℕ} {count : ℕ} {weights wholes : List ℕ} {
   }
 
   nodes-end : {m : ℕ} {amounts before dealt : List ℕ} → NodeTurn parents active count weights wholes size m amounts before dealt → length parents ≤ m
-      → NodesDealt parents active count (weightOf weights wholes) wholes amounts before dealt
+      → NodesDealt parents active count (weight_of weights wholes) wholes amounts before dealt
   nodes-end {m} turn end =
       let e : m ≡ length parents = omega (arith, turn.reached) in
       record {
         root = λ h l some. (turn.nodes h (le_trans l end) some).root;
         inner = λ h n l some. (turn.nodes h (le_trans l end) some).inner n;
         most = λ h l some. (turn.nodes h (le_trans l end) some).most;
-        served = λ n l some. turn.served.before-is n (le_trans l end, some) ∙ ap (λ (k : ℕ). childSum k (at parents) n (weightOf weights wholes)) e;
+        served = λ n l some. turn.served.before-is n (le_trans l end, some) ∙ ap (λ (k : ℕ). child_sum k (at parents) n (weight_of weights wholes)) e;
         dealt-is = λ n l some. turn.served.dealt-is n (le_trans l end, some);
       }
 
   module _ {m : ℕ} {amounts before dealt : List ℕ} (turn : NodeTurn parents active count weights wholes size m amounts before dealt) (more : m < length parents) where
     -- The node's children stand after it.
-    children-none : (k : ℕ) → k ≤ m + 1 → weightsBefore parents weights wholes k m ≡ 0
+    children-none : (k : ℕ) → k ≤ m + 1 → weights_before parents weights wholes k m ≡ 0
     children-none k h =
-        sum-cong k (λ i. on (eqb (at parents i) (suc m)) (weightOf weights wholes i)) (λ i. 0) (λ i l. on-no (eqb (at parents i) (suc m)) (weightOf weights wholes i) (ne_eqb (at parents i) (suc m) (λ e. omega (arith, turn.ready.rises i (omega arith)))))
+        sum-cong k (λ i. on (eqb (at parents i) (suc m)) (weight_of weights wholes i)) (λ i. 0) (λ i l. on-no (eqb (at parents i) (suc m)) (weight_of weights wholes i) (ne_eqb (at parents i) (suc m) (λ e. omega (arith, turn.ready.rises i (omega arith)))))
         ∙ sum-zero k
 
     -- The node's own figures are begun.
-    begun : Served size (Begun active count (m + 1)) (at wholes) amounts (weightsBefore parents weights wholes m) (set before m 0) (set dealt m 0)
+    begun : Served size (Begun active count (m + 1)) (at wholes) amounts (weights_before parents weights wholes m) (set before m 0) (set dealt m 0)
     begun = served-more turn.served (Begun active count (m + 1)) m (omega (arith, turn.enough)) (children-none m (omega arith)) (λ n other h. (omega (arith, h.0), h.1))
 
     weights-next : (n : ℕ)
-        → weightsBefore parents weights wholes (m + 1) n ≡ weightsBefore parents weights wholes m n + on (eqb (at parents m) (suc n)) (weightOf weights wholes m)
+        → weights_before parents weights wholes (m + 1) n ≡ weights_before parents weights wholes m n + on (eqb (at parents m) (suc n)) (weight_of weights wholes m)
     weights-next n =
-        ap (λ (k : ℕ). childSum k (at parents) n (weightOf weights wholes)) (add-one m)
-        ∙ sum-suc m (λ h. on (eqb (at parents h) (suc n)) (weightOf weights wholes h))
+        ap (λ (k : ℕ). child_sum k (at parents) n (weight_of weights wholes)) (add-one m)
+        ∙ sum-suc m (λ h. on (eqb (at parents h) (suc n)) (weight_of weights wholes h))
 
     -- The node's amount stands in its place.
     module _ {amounts' : List ℕ} (amounts-kept : (h : ℕ) → (h ≡ m → ⊥) → at amounts' h ≡ at amounts h) (same_size : length amounts' ≡ length amounts) where
@@ -119,12 +119,12 @@ module _ {parents active : List ℕ} {count : ℕ} {weights wholes : List ℕ} {
             root = λ z. stays h l ∙ node.root z;
             inner = λ n z. stays h l
                 ∙ node.inner n z
-                ∙ ap (λ (x : ℕ). part x (at wholes n) (weightsBefore parents weights wholes h n) (weightOf weights wholes h)) (sym (stays n (omega (arith, turn.ready.rises h (omega arith)))));
+                ∙ ap (λ (x : ℕ). part x (at wholes n) (weights_before parents weights wholes h n) (weight_of weights wholes h)) (sym (stays n (omega (arith, turn.ready.rises h (omega arith)))));
             most = omega (arith, stays h l, node.most);
           }
 
       node-next : {before' dealt' : List ℕ} → NodeDealt parents weights wholes amounts' m
-          → Served size (Begun active count (m + 1)) (at wholes) amounts' (weightsBefore parents weights wholes (m + 1)) before' dealt'
+          → Served size (Begun active count (m + 1)) (at wholes) amounts' (weights_before parents weights wholes (m + 1)) before' dealt'
           → NodeTurn parents active count weights wholes size (m + 1) amounts' before' dealt'
       node-next node served =
           record {
@@ -138,7 +138,7 @@ module _ {parents active : List ℕ} {count : ℕ} {weights wholes : List ℕ} {
           }
 
     module _ (some : Present active count m) (w parent : ℕ) (w-is : w ≡ at amounts m) (parent_is : parent ≡ at parents m) where
-      weight_is : w ≡ weightOf weights wholes m
+      weight_is : w ≡ weight_of weights wholes m
       weight_is = omega (arith, turn.kept m (le_refl m), turn.ready.listed.within m more some)
 
       pub root-next : {amounts' before' dealt' : List ℕ} → parent ≡ 0 → amounts' ≡ amounts → before' ≡ set before m 0 → dealt' ≡ set dealt m 0
@@ -151,8 +151,8 @@ module _ {parents active : List ℕ} {count : ℕ} {weights wholes : List ℕ} {
             inner = λ n z. absurd (omega arith);
             most = omega (arith, weight_is);
           })
-          (served-same begun (weightsBefore parents weights wholes (m + 1))
-          (λ n. omega (arith, weights-next n, on-no (eqb (at parents m) (suc n)) (weightOf weights wholes m) (ne_eqb (at parents m) (suc n) (λ q. omega arith))))
+          (served-same begun (weights_before parents weights wholes (m + 1))
+          (λ n. omega (arith, weights-next n, on-no (eqb (at parents m) (suc n)) (weight_of weights wholes m) (ne_eqb (at parents m) (suc n) (λ q. omega arith))))
           b d))
 
       module _ (has-parent : parent ≡ 0 → ⊥) where
@@ -172,19 +172,19 @@ module _ {parents active : List ℕ} {count : ℕ} {weights wholes : List ℕ} {
         parent-begun : Begun active count (m + 1) (parent - 1)
         parent-begun = (omega (arith, earlier), λ none. some (turn.ready.listed.nodes.closed m (parent - 1) more hangs none))
 
-        parent-most : at amounts (parent - 1) ≤ weightOf weights wholes (parent - 1)
+        parent-most : at amounts (parent - 1) ≤ weight_of weights wholes (parent - 1)
         parent-most = (turn.nodes (parent - 1) earlier parent-begun.1).most
 
         -- The parent's amount is within what its children's weights sum to.
         parent-inside : at amounts (parent - 1) ≤ at wholes (parent - 1)
         parent-inside = omega (arith, parent-most)
 
-        room : weightsBefore parents weights wholes m (parent - 1) + w ≤ at wholes (parent - 1)
+        room : weights_before parents weights wholes m (parent - 1) + w ≤ at wholes (parent - 1)
         room =
             omega (
               arith,
-              sum-within m (length parents) (λ h. on (eqb (at parents h) (suc (parent - 1))) (weightOf weights wholes h)) more,
-              on-yes (eqb (at parents m) (suc (parent - 1))) (weightOf weights wholes m) (eq-eqb (at parents m) (suc (parent - 1)) hangs),
+              sum-within m (length parents) (λ h. on (eqb (at parents h) (suc (parent - 1))) (weight_of weights wholes h)) more,
+              on-yes (eqb (at parents m) (suc (parent - 1))) (weight_of weights wholes m) (eq-eqb (at parents m) (suc (parent - 1)) hangs),
               weight_is,
               (turn.ready.bounds (parent - 1) parent-within).2,
             )
@@ -205,20 +205,20 @@ module _ {parents active : List ℕ} {count : ℕ} {weights wholes : List ℕ} {
             let p : ℕ = parent - 1 in
             let stored : at amounts' m ≡ watts = ap (λ (l : List ℕ). at l m) e ∙ get_or-set_same amounts m watts 0 (omega (arith, turn.amounts-size, turn.ready.listed.weights-size)) in
             let stays : (h : ℕ) → (h ≡ m → ⊥) → at amounts' h ≡ at amounts h = λ h other. ap (λ (k : List ℕ). at k h) e ∙ get_or-set_other amounts m h watts 0 other in
-            let x : at amounts' m ≡ part (at amounts p) (at wholes p) (weightsBefore parents weights wholes m p) w
+            let x : at amounts' m ≡ part (at amounts p) (at wholes p) (weights_before parents weights wholes m p) w
             = stored ∙ has.watts-are ∙ served-part begun p w parent-served parent-begun in
-            let y : at amounts' m ≡ part (at amounts' p) (at wholes p) (weightsBefore parents weights wholes m p) (weightOf weights wholes m)
+            let y : at amounts' m ≡ part (at amounts' p) (at wholes p) (weights_before parents weights wholes m p) (weight_of weights wholes m)
             = x
-            ∙ ap₂ (λ (z u : ℕ). part z (at wholes p) (weightsBefore parents weights wholes m p) u) (sym (stays p (λ q. omega (arith, earlier)))) weight_is in
+            ∙ ap₂ (λ (z u : ℕ). part z (at wholes p) (weights_before parents weights wholes m p) u) (sym (stays p (λ q. omega (arith, earlier)))) weight_is in
             node-next stays (ap length e ∙ length-set amounts m watts)
             (record {
               root = λ z. absurd (omega (arith, hangs));
-              inner = λ n z. subst (λ (k : ℕ). at amounts' m ≡ part (at amounts' k) (at wholes k) (weightsBefore parents weights wholes m k) (weightOf weights wholes m)) (omega (arith, hangs)) y;
-              most = omega (arith, x, part-le (at amounts p) (at wholes p) (weightsBefore parents weights wholes m p) w parent-inside, weight_is);
+              inner = λ n z. subst (λ (k : ℕ). at amounts' m ≡ part (at amounts' k) (at wholes k) (weights_before parents weights wholes m k) (weight_of weights wholes m)) (omega (arith, hangs)) y;
+              most = omega (arith, x, part-le (at amounts p) (at wholes p) (weights_before parents weights wholes m p) w parent-inside, weight_is);
             })
             (served-amount
-            (served-next begun p w parent-served parent-begun (weightsBefore parents weights wholes (m + 1))
-            (λ n. weights-next n ∙ ap₂ (λ (k u : ℕ). weightsBefore parents weights wholes m n + on (eqb k (suc n)) u) hangs (sym weight_is))
+            (served-next begun p w parent-served parent-begun (weights_before parents weights wholes (m + 1))
+            (λ n. weights-next n ∙ ap₂ (λ (k u : ℕ). weights_before parents weights wholes m n + on (eqb k (suc n)) u) hangs (sym weight_is))
             has) m watts e (children-none (m + 1) (omega arith)))
 
     -- The turn of a node that is not active changes nothing: it has no weight.
@@ -242,10 +242,10 @@ module _ {parents active : List ℕ} {count : ℕ} {weights wholes : List ℕ} {
         earlier : (n : ℕ) → Begun active count (m + 1) n → Begun active count m n
         earlier n h = (below_more (λ k. Present active count k → k < m) m (λ k l some. l) (λ some. absurd (some none)) n h.0 h.1, h.1)
 
-        same : (n : ℕ) → weightsBefore parents weights wholes (m + 1) n ≡ weightsBefore parents weights wholes m n
+        same : (n : ℕ) → weights_before parents weights wholes (m + 1) n ≡ weights_before parents weights wholes m n
         same n =
-            let w : weightOf weights wholes m ≡ 0 = omega (arith, turn.ready.listed.idle m more none) in
-            omega (arith, weights-next n, on-zero (eqb (at parents m) (suc n)) (weightOf weights wholes m) w)
+            let w : weight_of weights wholes m ≡ 0 = omega (arith, turn.ready.listed.idle m more none) in
+            omega (arith, weights-next n, on-zero (eqb (at parents m) (suc n)) (weight_of weights wholes m) w)
 
 -- ---- By the active nodes alone
 
@@ -270,7 +270,7 @@ module _ {parents active : List ℕ} {count : ℕ} {weights wholes : List ℕ} {
         (λ h a b turn. turn-idle turn (omega arith) (between t.parted parted h a b))
         t.turn
 
-    pub deal-end : count ≤ i → NodesDealt parents active count (weightOf weights wholes) wholes amounts before dealt
+    pub deal-end : count ≤ i → NodesDealt parents active count (weight_of weights wholes) wholes amounts before dealt
     deal-end end =
         let e : count ≡ i = omega (arith, t.parted.reached) in
         let all : Parted active count i (length parents) = subst (λ (k : ℕ). Parted active count k (length parents)) e (parted-all nodes) in

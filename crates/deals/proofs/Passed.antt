@@ -11,16 +11,16 @@ use borrow.Author.Tests.{eq-eqb}
 use Rattle.figures.specs.Figures.{total, cell, sum_of}
 use Rattle.figures.specs.Sums.{on}
 use Rattle.figures.proofs.Sums.{on-yes}
-use Rattle.rooms.proofs.Trees.{childSum-add, childSum-cong}
+use Rattle.rooms.proofs.Trees.{child_sum-add, child_sum-cong}
 use Rattle.splits.specs.Split.{split}
-use Rattle.deals.specs.Metrics.{Deal, sumsFrom, metrics}
-use Rattle.deals.specs.Dealing.{Child, node, cord, children, weight, weightsOf, beside, part_of, amount, reached}
-use Rattle.deals.specs.Promises.{passed, childExcess, given, PassedFirst, DealtByExcess}
-use Rattle.deals.proofs.Children.{children-sum, children-cong, partOf-node, partOf-cord}
-use Rattle.deals.proofs.Requests.{Dealable, later, childCords-add}
+use Rattle.deals.specs.Metrics.{Deal, sums_from, metrics}
+use Rattle.deals.specs.Dealing.{Child, node, cord, children, weight, weights_of, beside, part_of, amount, reached}
+use Rattle.deals.specs.Promises.{passed, child_excess, given, PassedFirst, DealtByExcess}
+use Rattle.deals.proofs.Children.{children-sum, children-cong, part_of-node, part_of-cord}
+use Rattle.deals.proofs.Requests.{Dealable, later, child_cords-add}
 use Rattle.deals.proofs.Equations.{weights, pcapmin-starts}
-use Rattle.deals.proofs.Computed.{pcapmin, request, startsOf, amountOf, measured, by_weights, dealt, granted-at, Startable}
-use Rattle.rooms.specs.Trees.{childSum}
+use Rattle.deals.proofs.Computed.{pcapmin, request, starts_of, amount_of, measured, by_weights, dealt, granted-at, Startable}
+use Rattle.rooms.specs.Trees.{child_sum}
 
 -- An excess less what is passed first is what is over the start, of a node and of a cord at a level.
 over-start : (r p s : ℕ) → p ≤ s → r - p - (s - p) ≡ r - s
@@ -31,51 +31,51 @@ over-start-on true r p s h = over-start r p s h
 over-start-on false r p s h = refl
 
 module _ (d : Deal) (ok : Dealable d) (st : Startable d) where
-  lows-starts : (n j : ℕ) → n < d.nodes → j < d.levels → pcapmin d n j ≤ startsOf d n j
-  lows-starts = pcapmin-starts d ok (pcapmin d) (request d) (measured d ok) (startsOf d) (amountOf d) (reached d (metrics d)) st (dealt d ok)
+  lows-starts : (n j : ℕ) → n < d.nodes → j < d.levels → pcapmin d n j ≤ starts_of d n j
+  lows-starts = pcapmin-starts d ok (pcapmin d) (request d) (measured d ok) (starts_of d) (amount_of d) (reached d (metrics d)) st (dealt d ok)
 
   -- What a node passes on first is what was passed to it first.
-  passed-sum : (n j : ℕ) → n < d.nodes → j < d.levels → sum_of (map (passed d j) (children d n)) ≡ startsOf d n j - pcapmin d n j
-  unfolding pcapmin startsOf
+  passed-sum : (n j : ℕ) → n < d.nodes → j < d.levels → sum_of (map (passed d j) (children d n)) ≡ starts_of d n j - pcapmin d n j
+  unfolding pcapmin starts_of
   passed-sum n j l h =
-      let k : childSum d.nodes d.parent n (λ m. startsOf d m j)
-      ≡ childSum d.nodes d.parent n (λ m. startsOf d m j - pcapmin d m j) + childSum d.nodes d.parent n (λ m. pcapmin d m j)
-      = childSum-cong d.nodes d.parent n _ _ (λ m lm q. let z : pcapmin d m j ≤ startsOf d m j = lows-starts m j lm h in omega arith)
-      ∙ childSum-add d.nodes d.parent n (λ m. startsOf d m j - pcapmin d m j) (λ m. pcapmin d m j) in
-      let o = childCords-add d ok n j (λ c. d.start c - d.low c) d.low d.start (λ c lc. let z : d.low c ≤ d.start c = st.least c lc in omega arith) in
+      let k : child_sum d.nodes d.parent n (λ m. starts_of d m j)
+      ≡ child_sum d.nodes d.parent n (λ m. starts_of d m j - pcapmin d m j) + child_sum d.nodes d.parent n (λ m. pcapmin d m j)
+      = child_sum-cong d.nodes d.parent n _ _ (λ m lm q. let z : pcapmin d m j ≤ starts_of d m j = lows-starts m j lm h in omega arith)
+      ∙ child_sum-add d.nodes d.parent n (λ m. starts_of d m j - pcapmin d m j) (λ m. pcapmin d m j) in
+      let o = child_cords-add d ok n j (λ c. d.start c - d.low c) d.low d.start (λ c lc. let z : d.low c ≤ d.start c = st.least c lc in omega arith) in
       omega (arith, children-sum d n (passed d j), k, o, (dealt d ok).starts n j l h, (measured d ok).lowest n j l h)
 
   -- The weights are the excesses less what is passed first.
-  weights-less : (n j : ℕ) → j < d.levels → weightsOf d (metrics d) n j ≡ map (λ other. childExcess d j other - passed d j other) (children d n)
-  unfolding weightsOf pcapmin startsOf
+  weights-less : (n j : ℕ) → j < d.levels → weights_of d (metrics d) n j ≡ map (λ other. child_excess d j other - passed d j other) (children d n)
+  unfolding weights_of pcapmin starts_of
   weights-less n j h =
       sym (children-cong d n _ _
       (λ m l. over-start _ _ _ (lows-starts m j l h)) (λ c l. over-start-on (eqb (d.level c) j) (d.want c) (d.low c) (d.start c) (st.least c l)))
 
-  inHand : ℕ → ℕ → ℕ
-  inHand m j = startsOf d m j - pcapmin d m j + amountOf d m j
+  in_hand : ℕ → ℕ → ℕ
+  in_hand m j = starts_of d m j - pcapmin d m j + amount_of d m j
 
   -- So a child is given what is passed to it first, and its part of the node's amount.
-  given_is : (n j : ℕ) → n < d.nodes → j < d.levels → (child : Child) → given d n j (inHand n j) child ≡ passed d j child + part_of d (weight d (metrics d) j) n (amountOf d n j) child
-  unfolding given part_of inHand weightsOf
+  given_is : (n j : ℕ) → n < d.nodes → j < d.levels → (child : Child) → given d n j (in_hand n j) child ≡ passed d j child + part_of d (weight d (metrics d) j) n (amount_of d n j) child
+  unfolding given part_of in_hand weights_of
   given_is n j l h child =
-      let rest : inHand n j - sum_of (map (passed d j) (children d n)) ≡ amountOf d n j = omega (arith, passed-sum n j l h) in
+      let rest : in_hand n j - sum_of (map (passed d j) (children d n)) ≡ amount_of d n j = omega (arith, passed-sum n j l h) in
       ap₂ (λ (x : ℕ) (w : List ℕ). passed d j child + beside child (children d n) (split x w)) rest (sym (weights-less n j h))
 
   pub passed_first : PassedFirst d
-  unfolding inHand pcapmin startsOf request weights amountOf amount reached
+  unfolding in_hand pcapmin starts_of request weights amount_of amount reached
   passed_first = record {
-    inHand = inHand;
+    in_hand = in_hand;
     root = λ m j l h e. omega (arith, (dealt d ok).root m j l e, lows-starts m j l h, st.within m j l h);
-    toNode = λ m n j l h e.
+    to_node = λ m n j l h e.
         let k : n < m = later d ok m n l e in
-        ap (λ (x : ℕ). startsOf d m j - pcapmin d m j + x) ((dealt d ok).inner m n j l e ∙ sym (partOf-node d n (weight d (metrics d) j) (amountOf d n j) m l e))
+        ap (λ (x : ℕ). starts_of d m j - pcapmin d m j + x) ((dealt d ok).inner m n j l e ∙ sym (part_of-node d n (weight d (metrics d) j) (amount_of d n j) m l e))
         ∙ sym (given_is n j (omega arith) h (node m));
-    toCord = λ c n l e.
+    to_cord = λ c n l e.
         let q : n < d.nodes = subst (λ (i : ℕ). i ≤ d.nodes) e (ok.here c l) in
-        let y : reached d (metrics d) c ≡ part_of d (weight d (metrics d) (d.level c)) n (amountOf d n (d.level c)) (cord c)
+        let y : reached d (metrics d) c ≡ part_of d (weight d (metrics d) (d.level c)) n (amount_of d n (d.level c)) (cord c)
         = (by_weights d ok (weight d (metrics d) (d.level c))).leaf c n l e
-        ∙ sym (partOf-cord d n (weight d (metrics d) (d.level c)) (amountOf d n (d.level c)) c l e) in
+        ∙ sym (part_of-cord d n (weight d (metrics d) (d.level c)) (amount_of d n (d.level c)) c l e) in
         omega (
           arith,
           granted-at d ok c l,
@@ -97,7 +97,7 @@ module _ (d : Deal) (same : d.start ≡ d.low) where
   -- Nothing is passed first.
   passed_none : (j : ℕ) (child : Child) → passed d j child ≡ 0
   unfolding metrics
-  passed_none j (node m) = ap (λ (f : ℕ → ℕ). cell (sumsFrom d f d.nodes 0) m j - cell (metrics d).pcapmins m j) same ∙ sub_self _
+  passed_none j (node m) = ap (λ (f : ℕ → ℕ). cell (sums_from d f d.nodes 0) m j - cell (metrics d).pcapmins m j) same ∙ sub_self _
   passed_none j (cord c) = ap (λ (f : ℕ → ℕ). on (eqb (d.level c) j) (f c - d.low c)) same ∙ nothing (eqb (d.level c) j)
     where
       nothing : (t : Bool) → on t (d.low c - d.low c) ≡ 0
@@ -105,22 +105,22 @@ module _ (d : Deal) (same : d.start ≡ d.low) where
       nothing false = refl
 
   -- So a child is given its part of all that its node has, by the excesses.
-  given-all : (n j watts : ℕ) (child : Child) → given d n j watts child ≡ part_of d (childExcess d j) n watts child
+  given-all : (n j watts : ℕ) (child : Child) → given d n j watts child ≡ part_of d (child_excess d j) n watts child
   unfolding given
   given-all n j watts child =
       let all : (f : Child → ℕ) → f ≡ (λ _. 0)
-      → f child + part_of d (λ other. childExcess d j other - f other) n (watts - sum_of (map f (children d n))) child ≡ part_of d (childExcess d j) n watts child
+      → f child + part_of d (λ other. child_excess d j other - f other) n (watts - sum_of (map f (children d n))) child ≡ part_of d (child_excess d j) n watts child
       = λ f none.
-      ap (λ (f : Child → ℕ). f child + part_of d (λ other. childExcess d j other - f other) n (watts - sum_of (map f (children d n))) child) none
+      ap (λ (f : Child → ℕ). f child + part_of d (λ other. child_excess d j other - f other) n (watts - sum_of (map f (children d n))) child) none
       ∙ zero-add _
-      ∙ ap (λ (x : ℕ). part_of d (λ other. childExcess d j other - 0) n x child) (ap (λ (s : ℕ). watts - s) (sum-none (children d n)) ∙ sub-zero watts)
-      ∙ ap (λ (w : Child → ℕ). part_of d w n watts child) (fun_ext (λ other. sub-zero (childExcess d j other))) in
+      ∙ ap (λ (x : ℕ). part_of d (λ other. child_excess d j other - 0) n x child) (ap (λ (s : ℕ). watts - s) (sum-none (children d n)) ∙ sub-zero watts)
+      ∙ ap (λ (w : Child → ℕ). part_of d w n watts child) (fun_ext (λ other. sub-zero (child_excess d j other))) in
       all (passed d j) (fun_ext (passed_none j))
 
   pub dealt-by-excess : PassedFirst d → DealtByExcess d
   dealt-by-excess first = record {
-    amounts = first.inHand;
+    amounts = first.in_hand;
     root = first.root;
-    toNode = λ m n j l h e. first.toNode m n j l h e ∙ given-all n j (first.inHand n j) (node m);
-    toCord = λ c n l e. first.toCord c n l e ∙ ap (λ (x : ℕ). d.low c + x) (given-all n (d.level c) (first.inHand n (d.level c)) (cord c));
+    to_node = λ m n j l h e. first.to_node m n j l h e ∙ given-all n j (first.in_hand n j) (node m);
+    to_cord = λ c n l e. first.to_cord c n l e ∙ ap (λ (x : ℕ). d.low c + x) (given-all n (d.level c) (first.in_hand n (d.level c)) (cord c));
   }

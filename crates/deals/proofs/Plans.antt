@@ -13,7 +13,7 @@ use Rattle.outcomes.specs.Outcome.{Outcome, accepted, refused, unless}
 use Rattle.outcomes.proofs.Parts.{accepted-went}
 use Rattle.outcomes.proofs.Outcomes.{unless-pass, unless-back, unless-either, unless-none, unless-is}
 use Rattle.rooms.specs.Part.{Step, good, bad, Good}
-use Rattle.rooms.specs.Table.{Room, roomCords}
+use Rattle.rooms.specs.Table.{Room, room_cords}
 use Rattle.rooms.specs.Limits.{checked}
 use Rattle.rooms.specs.Promises.{Overloaded}
 use Rattle.rooms.specs.declared.SheetRefusal.{SheetRefusal}
@@ -21,13 +21,13 @@ use Rattle.rooms.specs.declared.SheetRefusal.TheVariants.{LowsAboveLimit}
 use Rattle.rooms.proofs.All.{All}
 use Rattle.rooms.proofs.Overloaded.{checked-nine, nine-lows}
 use Rattle.figures.specs.Figures.{figures}
-use Rattle.rooms.specs.Lists.{nodesOf}
-use Rattle.deals.specs.Metrics.{dealFrom, dealOf}
+use Rattle.rooms.specs.Lists.{nodes_of}
+use Rattle.deals.specs.Metrics.{deal_from, deal_of}
 use Rattle.deals.specs.Dealing.{granted}
-use Rattle.deals.specs.SecondDeal.{usable, secondDeal, secondGrants, caps}
-use Rattle.deals.specs.Headroom.{headroomOver, headroom}
-use Rattle.deals.specs.Held.{heldOver, held}
-use Rattle.deals.specs.Plan.{Plan, plan_of, PlanOutcome, allLists, output, count, countIn, entries, listTooShort, listReasons, reasons, planRoom, planStep, plan, answer_of, planListNumber, planNumber}
+use Rattle.deals.specs.SecondDeal.{usable, second_deal, second_grants, caps}
+use Rattle.deals.specs.Headroom.{headroom_over, headroom}
+use Rattle.deals.specs.Held.{held_over, held}
+use Rattle.deals.specs.Plan.{Plan, plan_of, PlanOutcome, all_lists, output, count, count_in, entries, list_too_short, list_reasons, reasons, plan_room, plan_step, plan, answer_of, plan_list_number, plan_number}
 use Rattle.deals.specs.Promises.{IsNine}
 use Rattle.deals.specs.declared.Lengths.{Lengths}
 use Rattle.deals.specs.declared.PlanList.{PlanList}
@@ -35,7 +35,7 @@ use Rattle.deals.specs.declared.PlanList.TheVariants.{Grants, Caps, Headroom, He
 use Rattle.deals.specs.declared.PlanRefusal.{PlanRefusal}
 use Rattle.deals.specs.declared.PlanRefusal.TheVariants.{Table, ListTooShort}
 use Rattle.figures.proofs.Lists.{figures-length}
-use Rattle.deals.proofs.RoomDeals.{nodesOf-length}
+use Rattle.deals.proofs.RoomDeals.{nodes_of-length}
 
 -- ---- The lists by their names
 
@@ -46,7 +46,7 @@ each P grants caps headroom held Headroom = headroom
 each P grants caps headroom held Held = held
 
 -- What holds of all of them in their order.
-any_of : (P : PlanList → Type 0) → All P allLists → (list : PlanList) → P list
+any_of : (P : PlanList → Type 0) → All P all_lists → (list : PlanList) → P list
 unfolding All
 any_of P all = each P all.0 all.1.0 all.1.1.0 all.1.1.1.0
 
@@ -55,33 +55,33 @@ pub count_none : (list : PlanList) → count 0 0 list ≡ 0
 count_none = each _ refl refl refl refl
 
 -- A list that is too short is told by another number than 9.
-list-not-nine : (list : PlanList) → planListNumber list ≡ 9 → ⊥
+list-not-nine : (list : PlanList) → plan_list_number list ≡ 9 → ⊥
 list-not-nine = each _ (λ e. omega arith) (λ e. omega arith) (λ e. omega arith) (λ e. omega arith)
 
 -- ---- The lengths of the answer's lists
 
 -- A deal of a room has as many cords as the list of their nodes.
-cords-length : (r : Room) (g : ℕ → ℕ) → length (figures (length (nodesOf r)) g) ≡ roomCords r
-cords-length r g = figures-length (length (nodesOf r)) g ∙ nodesOf-length r
+cords-length : (r : Room) (g : ℕ → ℕ) → length (figures (length (nodes_of r)) g) ≡ room_cords r
+cords-length r g = figures-length (length (nodes_of r)) g ∙ nodes_of-length r
 
-pub secondGrants-length : (r : Room) (demands : List ℕ) → length (secondGrants r demands) ≡ roomCords r
-unfolding secondGrants secondDeal dealOf dealFrom granted
-secondGrants-length r demands = cords-length r _
+pub second_grants-length : (r : Room) (demands : List ℕ) → length (second_grants r demands) ≡ room_cords r
+unfolding second_grants second_deal deal_of deal_from granted
+second_grants-length r demands = cords-length r _
 
-pub headroom-length : (r : Room) (demands : List ℕ) → length (headroom r demands) ≡ roomCords r
-unfolding headroom secondDeal dealOf dealFrom headroomOver
+pub headroom-length : (r : Room) (demands : List ℕ) → length (headroom r demands) ≡ room_cords r
+unfolding headroom second_deal deal_of deal_from headroom_over
 headroom-length r demands = cords-length r _
 
-pub held-length : (r : Room) (demands : List ℕ) → length (held r demands) ≡ roomCords r
-unfolding held secondDeal dealOf dealFrom heldOver
+pub held-length : (r : Room) (demands : List ℕ) → length (held r demands) ≡ room_cords r
+unfolding held second_deal deal_of deal_from held_over
 held-length r demands = cords-length r _
 
 pub caps-length : (r : Room) (demands : List ℕ) → length (caps r demands) ≡ length r.servers
 unfolding caps usable
 caps-length r demands = figures-length (length r.servers) _
 
-pub output-length : (r : Room) (demands : List ℕ) (list : PlanList) → length (output list (plan_of r demands)) ≡ countIn r list
-output-length r demands = each _ (secondGrants-length r demands) (caps-length r demands) (headroom-length r demands) (held-length r demands)
+pub output-length : (r : Room) (demands : List ℕ) (list : PlanList) → length (output list (plan_of r demands)) ≡ count_in r list
+output-length r demands = each _ (second_grants-length r demands) (caps-length r demands) (headroom-length r demands) (held-length r demands)
 
 -- ---- The reasons that lists give
 
@@ -91,7 +91,7 @@ module _ {A : Type 0} (result : A) (cords servers : ℕ) (lengths : Lengths) whe
   Long list = count cords servers list ≤ entries lengths list
 
   abbrev told : List PlanList → Outcome A PlanRefusal
-  told names = unless (map (listTooShort cords servers lengths) names) result
+  told names = unless (map (list_too_short cords servers lengths) names) result
 
   some-long : (names : List PlanList) {given : A} → told names ≡ accepted given → All Long names
   unfolding All
@@ -109,40 +109,40 @@ module _ {A : Type 0} (result : A) (cords servers : ℕ) (lengths : Lengths) whe
       → (names : List PlanList) → P (told names)
   some-either P short whole [] = subst P (sym (unless-none result)) whole
   some-either P short whole (list ∷ rest) =
-      unless-either (listTooShort cords servers lengths list) _ result P (λ _. short list (count cords servers list)) (λ _. some-either P short whole rest)
+      unless-either (list_too_short cords servers lengths list) _ result P (λ _. short list (count cords servers list)) (λ _. some-either P short whole rest)
 
   -- Lists that give no reason to refuse are long enough, and those that are long enough give none.
-  pub lists-long : {given : A} → unless (listReasons cords servers lengths) result ≡ accepted given → (list : PlanList) → Long list
-  lists-long e = any_of Long (some-long allLists e)
+  pub lists-long : {given : A} → unless (list_reasons cords servers lengths) result ≡ accepted given → (list : PlanList) → Long list
+  lists-long e = any_of Long (some-long all_lists e)
 
-  pub lists-passed : ((list : PlanList) → Long list) → unless (listReasons cords servers lengths) result ≡ accepted result
-  lists-passed long = some-passed long allLists
+  pub lists-passed : ((list : PlanList) → Long list) → unless (list_reasons cords servers lengths) result ≡ accepted result
+  lists-passed long = some-passed long all_lists
 
   -- What holds wherever a list is too short, and where the result is accepted, holds.
   pub lists-either : (P : Outcome A PlanRefusal → Type 0) → ((list : PlanList) (place : ℕ) → P (refused (ListTooShort list place)))
-      → P (accepted result) → P (unless (listReasons cords servers lengths) result)
-  lists-either P short whole = some-either P short whole allLists
+      → P (accepted result) → P (unless (list_reasons cords servers lengths) result)
+  lists-either P short whole = some-either P short whole all_lists
 
 -- ---- The table
 
-pub planRoom-is : (r : Room) (demands : List ℕ) (lengths : Lengths) → planRoom r demands lengths ≡ unless (reasons r demands lengths) (plan_of r demands)
-unfolding planRoom
-planRoom-is r demands lengths = refl
+pub plan_room-is : (r : Room) (demands : List ℕ) (lengths : Lengths) → plan_room r demands lengths ≡ unless (reasons r demands lengths) (plan_of r demands)
+unfolding plan_room
+plan_room-is r demands lengths = refl
 
 pub plan-bad-table : (table demands : List ℕ) (lengths : Lengths) (refusal : SheetRefusal) → checked table 0 ≡ bad refusal
     → plan table demands lengths ≡ refused (Table refusal)
 unfolding plan
-plan-bad-table table demands lengths refusal e = ap (λ (s : Step Room). planStep s demands lengths) e
+plan-bad-table table demands lengths refusal e = ap (λ (s : Step Room). plan_step s demands lengths) e
 
 pub plan-good-table : (table demands : List ℕ) (lengths : Lengths) (r : Room) (end : ℕ) → checked table 0 ≡ good r end
-    → plan table demands lengths ≡ planRoom r demands lengths
+    → plan table demands lengths ≡ plan_room r demands lengths
 unfolding plan
-plan-good-table table demands lengths r end e = ap (λ (s : Step Room). planStep s demands lengths) e
+plan-good-table table demands lengths r end e = ap (λ (s : Step Room). plan_step s demands lengths) e
 
 -- An accepted plan has a good table.
 pub plan-good : (table demands : List ℕ) (lengths : Lengths) (answer : Plan) → plan table demands lengths ≡ accepted answer → Good (checked table 0)
 unfolding plan
-plan-good table demands lengths answer e = (accepted-went Table (λ room. planRoom room demands lengths) (checked table 0) e).good-step
+plan-good table demands lengths answer e = (accepted-went Table (λ room. plan_room room demands lengths) (checked table 0) e).good-step
 
 -- ---- What an accepted plan says
 
@@ -154,20 +154,20 @@ pub record Fits (written : List ℕ) (needed entries : ℕ) : Type 0 where
 -- An accepted plan is that of its room, which has as many servers as there are demands, and fits its lists.
 pub record Planning (r : Room) (demands : List ℕ) (lengths : Lengths) (answer : Plan) : Type 0 where
   pub is : answer ≡ plan_of r demands
-  pub demandCount : length demands ≡ length r.servers
-  pub fits : (list : PlanList) → Fits (output list answer) (countIn r list) (entries lengths list)
+  pub demand_count : length demands ≡ length r.servers
+  pub fits : (list : PlanList) → Fits (output list answer) (count_in r list) (entries lengths list)
 
-pub planRoom-accepted : (r : Room) (demands : List ℕ) (lengths : Lengths) (answer : Plan) → planRoom r demands lengths ≡ accepted answer
+pub plan_room-accepted : (r : Room) (demands : List ℕ) (lengths : Lengths) (answer : Plan) → plan_room r demands lengths ≡ accepted answer
     → Planning r demands lengths answer
-planRoom-accepted r demands lengths answer e =
-    let all = sym (planRoom-is r demands lengths) ∙ e in
+plan_room-accepted r demands lengths answer e =
+    let all = sym (plan_room-is r demands lengths) ∙ e in
     let is = unless-is _ (plan_of r demands) answer all in
     let same = unless-back _ _ (plan_of r demands) all in
     let small = unless-back _ _ (plan_of r demands) same.1 in
-    let long = lists-long (plan_of r demands) (roomCords r) (length r.servers) lengths small.1 in
+    let long = lists-long (plan_of r demands) (room_cords r) (length r.servers) lengths small.1 in
     record {
       is = is;
-      demandCount = not-differs (length demands) (length r.servers) same.0;
+      demand_count = not-differs (length demands) (length r.servers) same.0;
       fits = λ list. record { count = ap (λ (p : Plan). length (output list p)) is ∙ output-length r demands list; within = long list };
     }
   where
@@ -182,18 +182,18 @@ planRoom-accepted r demands lengths answer e =
 
 -- The number of an outcome is not 9.
 record NotNine (o : PlanOutcome) : Type 0 where
-  other : planNumber (answer_of o) ≡ 9 → ⊥
+  other : plan_number (answer_of o) ≡ 9 → ⊥
 
 -- The plan of a good room is accepted, or refused by 10 and on.
-room-other : (r : Room) (demands : List ℕ) (lengths : Lengths) → NotNine (planRoom r demands lengths)
+room-other : (r : Room) (demands : List ℕ) (lengths : Lengths) → NotNine (plan_room r demands lengths)
 room-other r demands lengths =
-    subst NotNine (sym (planRoom-is r demands lengths))
+    subst NotNine (sym (plan_room-is r demands lengths))
     (unless-either _ _ (plan_of r demands) NotNine (λ _. record { other = λ e. omega arith }) (λ _.
     unless-either _ _ (plan_of r demands) NotNine (λ _. record { other = λ e. omega arith }) (λ _.
-    lists-either (plan_of r demands) (roomCords r) (length r.servers) lengths NotNine
+    lists-either (plan_of r demands) (room_cords r) (length r.servers) lengths NotNine
     (λ list place. record { other = list-not-nine list }) (record { other = λ e. omega arith }))))
 
-step-nine : (s : Step Room) (demands : List ℕ) (lengths : Lengths) (n : ℕ) → IsNine (answer_of (planStep s demands lengths)) n ↔ (s ≡ bad (LowsAboveLimit n))
+step-nine : (s : Step Room) (demands : List ℕ) (lengths : Lengths) (n : ℕ) → IsNine (answer_of (plan_step s demands lengths)) n ↔ (s ≡ bad (LowsAboveLimit n))
 step-nine (good r end) demands lengths n =
     (λ a. absurd ((room-other r demands lengths).other a.0), λ e. absurd (let z : ◌≡◌ {A = ℕ} 0 1 = cc in omega arith))
 step-nine (bad refusal) demands lengths n = (

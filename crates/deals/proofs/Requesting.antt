@@ -9,44 +9,44 @@ use lib.Dec.{eqb, ltb}
 use lib.ListN.{length, set, length-set}
 use lib.Seq.{get_or-set_same, get_or-set_other}
 use borrow.Author.Tests.{le-ltb}
-use Rattle.rooms.specs.Table.{mostNodes, mostWatts}
+use Rattle.rooms.specs.Table.{most_nodes, most_watts}
 use Rattle.figures.specs.Credits.{credited}
 use Rattle.figures.specs.Figures.{at, cell}
 use Rattle.figures.specs.Sums.{on}
 use Rattle.figures.proofs.Sums.{on-no}
 use Rattle.figures.proofs.Credits.{credited-at, credited-past, credited-length}
 use Rattle.figures.proofs.Lists.{passed-down}
-use Rattle.rooms.proofs.Trees.{down, childSum-none}
-use Rattle.rooms.proofs.Credits.{treeSum-step}
+use Rattle.rooms.proofs.Trees.{down, child_sum-none}
+use Rattle.rooms.proofs.Credits.{tree_sum-step}
 use Rattle.figures.specs.Places.{Absent}
 use Rattle.deals.specs.Levels.{ActiveNodes}
 use Rattle.figures.proofs.Cells.{stored, cell-here, cell-elsewhere, cell-others, stored-full}
 use Rattle.deals.proofs.Active.{Parted, parted-none, parted-all, parted-after, between}
-use Rattle.deals.specs.Passes.{weightOf, cutMark, FullRows, MayWeigh, Weighed, MayRequest, Requested}
+use Rattle.deals.specs.Passes.{weight_of, cut_mark, FullRows, MayWeigh, Weighed, MayRequest, Requested}
 use Rattle.deals.proofs.NodeSums.{Summing, summing_start, whole-at, summing-fits, summing-at, summing-idle}
 use Rattle.deals.proofs.Weighing.{Weighing, WeighTurn, weighing-start, weigh-end, passed, parted-here, weighed-here, from-here}
 use Rattle.rooms.specs.Trees.{ParentsFirst}
-use Rattle.rooms.specs.Credits.{treeSum}
+use Rattle.rooms.specs.Credits.{tree_sum}
 
 -- Where children weigh nothing, a mark stays.
-uncut : (mark level weight : ℕ) → cutMark mark level weight 0 ≡ mark
+uncut : (mark level weight : ℕ) → cut_mark mark level weight 0 ≡ mark
 uncut mark level weight = omega (arith, on-no (ltb weight 0) (suc level) (le-ltb weight 0 (omega arith)))
 
 -- Nothing stands beneath a node that is not active, if nothing stands on those that are not.
 pub beneath-none : {parents active : List ℕ} {count : ℕ} → ActiveNodes parents active count → ParentsFirst (length parents) (at parents) → (starts : List ℕ) → ((m : ℕ) → m < length parents → Absent active count m → at starts m ≡ 0)
-    → (m : ℕ) → m < length parents → Absent active count m → treeSum (at parents) (length parents) (at starts) m ≡ 0
-beneath-none {parents} {active} {count} nodes rises starts idle = down (length parents) (λ m. Absent active count m → treeSum (at parents) (length parents) (at starts) m ≡ 0) (λ m l below none.
+    → (m : ℕ) → m < length parents → Absent active count m → tree_sum (at parents) (length parents) (at starts) m ≡ 0
+beneath-none {parents} {active} {count} nodes rises starts idle = down (length parents) (λ m. Absent active count m → tree_sum (at parents) (length parents) (at starts) m ≡ 0) (λ m l below none.
     omega (
       arith,
-      treeSum-step (length parents) (at parents) rises (at starts) m l,
+      tree_sum-step (length parents) (at parents) rises (at starts) m l,
       idle m l none,
-      childSum-none (length parents) (at parents) m (treeSum (at parents) (length parents) (at starts)) (λ k h e. below k h (omega (arith, rises k h)) (nodes.closed k m h e none)),
+      child_sum-none (length parents) (at parents) m (tree_sum (at parents) (length parents) (at starts)) (λ k h e. below k h (omega (arith, rises k h)) (nodes.closed k m h e none)),
     ))
 
 -- What the turn of the node at place m leaves.
 pub record Settled (parents : List ℕ) (level : ℕ) (left wholes cuts₀ starts cuts : List ℕ) (rows : List (List ℕ)) (m : ℕ) : Type 0 where
-  pub request : cell rows m level ≡ treeSum (at parents) (length parents) (at starts) m + weightOf left wholes m
-  pub cut-is : at cuts m ≡ cutMark (at cuts₀ m) level (weightOf left wholes m) (at wholes m)
+  pub request : cell rows m level ≡ tree_sum (at parents) (length parents) (at starts) m + weight_of left wholes m
+  pub cut-is : at cuts m ≡ cut_mark (at cuts₀ m) level (weight_of left wholes m) (at wholes m)
 
 -- Before the turn of the node at place n - 1. The nodes from n on have passed their starts on and are cleared; `sums` are what would stand
 -- on the nodes if none were.
@@ -72,16 +72,16 @@ module _ {parents active : List ℕ} {count level : ℕ} {left₀ cuts₀ starts
   turn-idle {k} {wholes} {cuts} away whole inv =
       let given = inv.given in
       let l : k < length parents = omega (arith, inv.summed.all) in
-      let base : treeSum (at parents) (length parents) (at starts) k ≡ 0 = beneath-none nodes rises starts (λ m h none. (given.idle m h none).0) k l away in
-      let weight : weightOf left₀ wholes k ≡ 0 = omega arith in
+      let base : tree_sum (at parents) (length parents) (at starts) k ≡ 0 = beneath-none nodes rises starts (λ m h none. (given.idle m h none).0) k l away in
+      let weight : weight_of left₀ wholes k ≡ 0 = omega arith in
       record {
         given = given;
         settled = from-here (length parents) k _
             (record {
               request = omega (arith, inv.blank k l away, base);
               cut-is = inv.cuts-kept k (omega arith)
-                  ∙ sym (uncut (at cuts₀ k) level (weightOf left₀ wholes k))
-                  ∙ ap (cutMark (at cuts₀ k) level (weightOf left₀ wholes k)) (sym whole);
+                  ∙ sym (uncut (at cuts₀ k) level (weight_of left₀ wholes k))
+                  ∙ ap (cut_mark (at cuts₀ k) level (weight_of left₀ wholes k)) (sym whole);
             })
             inv.settled;
         cuts-kept = λ m h. inv.cuts-kept m (omega arith);
@@ -179,17 +179,17 @@ module _ {parents active : List ℕ} {count level : ℕ} {left₀ own cuts₀ st
       pub in-cuts : n < length cuts
       in-cuts = omega (arith, there, here.cuts-size, given.cuts-size)
 
-      pub in_rows : n < mostNodes
+      pub in_rows : n < most_nodes
       in_rows = omega (arith, there, given.few)
 
       -- The node's starts are whole, and its Request fits.
       base_sum : at bases n ≡ at here.sums n
       base_sum = here.bases-kept n (omega arith)
 
-      base-is : at bases n ≡ treeSum (at parents) (length parents) (at starts) n
+      base-is : at bases n ≡ tree_sum (at parents) (length parents) (at starts) n
       base-is = base_sum ∙ whole-at weighs.rises here.summed
 
-      pub request-fits : {v : ℕ} → v ≡ min (at left n) (at wholes n) → at bases n + v ≤ mostWatts
+      pub request-fits : {v : ℕ} → v ≡ min (at left n) (at wholes n) → at bases n + v ≤ most_watts
       request-fits ev = omega (arith, base-is, given.enough n there, both.0.left-kept n (omega arith))
 
       pub base-fits : {parent base : ℕ} → parent ≡ at parents n → base ≡ at bases n → (parent ≤ length bases) × (at bases (parent - 1) + base < 2 ^ 64)
@@ -208,10 +208,10 @@ module _ {parents active : List ℕ} {count level : ℕ} {left₀ own cuts₀ st
         whole_same : (m : ℕ) → n ≤ m → at wholes' m ≡ at wholes m
         whole_same m h = ap (λ (l : List ℕ). at l m) es ∙ credited-past parent u wholes m (omega (arith, weighs.rises n there))
 
-        own-weight : weightOf left₀ wholes' n ≡ v
+        own-weight : weight_of left₀ wholes' n ≡ v
         own-weight = ap₂ min (sym (both.0.left-kept n (omega arith))) (whole_same n (le_refl n)) ∙ sym ev
 
-        pub request-turn : {mark asked base : ℕ} {bases' : List ℕ} → mark ≡ cutMark (at cuts n) level v (at wholes n) → asked ≡ at bases n + v → base ≡ at bases n
+        pub request-turn : {mark asked base : ℕ} {bases' : List ℕ} → mark ≡ cut_mark (at cuts n) level v (at wholes n) → asked ≡ at bases n + v → base ≡ at bases n
             → bases' ≡ credited parent base bases
             → RequestTurn parents active count level left₀ own weights-length cuts₀ starts rows₀ (i - 1) left' wholes' (set weights n w) (set cuts n mark) (set bases' n 0) (stored rows n level asked)
         request-turn {mark} {asked} {base} {bases'} em ea eb cb =
@@ -227,15 +227,15 @@ module _ {parents active : List ℕ} {count level : ℕ} {left₀ own cuts₀ st
                       request = row_here asked ∙ ea ∙ ap₂ (λ (x y : ℕ). x + y) base-is (sym own-weight);
                       cut-is = get_or-set_same cuts n mark 0 in-cuts
                           ∙ em
-                          ∙ ap₂ (λ (x y : ℕ). cutMark x level y (at wholes n)) (here.cuts-kept n (omega arith)) (sym own-weight)
-                          ∙ ap (cutMark (at cuts₀ n) level (weightOf left₀ wholes' n)) (sym (whole_same n (le_refl n)));
+                          ∙ ap₂ (λ (x y : ℕ). cut_mark x level y (at wholes n)) (here.cuts-kept n (omega arith)) (sym own-weight)
+                          ∙ ap (cut_mark (at cuts₀ n) level (weight_of left₀ wholes' n)) (sym (whole_same n (le_refl n)));
                     })
                     (λ m g l.
                     let s = here.settled m g l in
                     let same = sym (whole_same m (omega arith)) in
                     record {
-                      request = cell-elsewhere rows n level asked in_list m level (λ e. omega arith) ∙ s.request ∙ ap (λ (x : ℕ). treeSum (at parents) (length parents) (at starts) m + min (at left₀ m) x) same;
-                      cut-is = get_or-set_other cuts n m mark 0 (λ e. omega arith) ∙ s.cut-is ∙ ap (λ (x : ℕ). cutMark (at cuts₀ m) level (min (at left₀ m) x) x) same;
+                      request = cell-elsewhere rows n level asked in_list m level (λ e. omega arith) ∙ s.request ∙ ap (λ (x : ℕ). tree_sum (at parents) (length parents) (at starts) m + min (at left₀ m) x) same;
+                      cut-is = get_or-set_other cuts n m mark 0 (λ e. omega arith) ∙ s.cut-is ∙ ap (λ (x : ℕ). cut_mark (at cuts₀ m) level (min (at left₀ m) x) x) same;
                     });
                 cuts-kept = λ m l. get_or-set_other cuts n m mark 0 (λ e. omega arith) ∙ here.cuts-kept m (omega arith);
                 cuts-size = length-set cuts n mark ∙ here.cuts-size;

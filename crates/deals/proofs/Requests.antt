@@ -10,10 +10,10 @@ use lib.Dec.{eqb, leb, leb-zero}
 use borrow.Author.Tests.{eqb-true, eq-eqb, leb-true}
 use Rattle.figures.specs.Sums.{on, sum}
 use Rattle.figures.proofs.Sums.{on-add, on-le, on-yes, sum-suc, sum-cong, sum-le, sum-add, sum-none, sum-up, up, up-add, up-sum, up_one}
-use Rattle.rooms.specs.Trees.{beneath, childSum, sumBeneath, ParentsFirst}
-use Rattle.rooms.proofs.Trees.{childSum-le, down, sumBeneath-cong, sumBeneath-step, sumBeneath-unique}
-use Rattle.deals.specs.Metrics.{Deal, atLevel, overChildren}
-use Rattle.deals.specs.Properties.{fromLevel}
+use Rattle.rooms.specs.Trees.{beneath, child_sum, sum_beneath, ParentsFirst}
+use Rattle.rooms.proofs.Trees.{child_sum-le, down, sum_beneath-cong, sum_beneath-step, sum_beneath-unique}
+use Rattle.deals.specs.Metrics.{Deal, at_level, over_children}
+use Rattle.deals.specs.Properties.{from_level}
 use Rattle.deals.proofs.Rows.{IsRow, row-total, row_fits, row_low, row-high, row-full, row-lows}
 
 up-on : (k j : ℕ) (t : Bool) (g : ℕ → ℕ) → up k j (λ i. on t (g i)) ≡ on t (up k j g)
@@ -50,8 +50,8 @@ beneath-child nodes parent rises m n e (suc k) (suc x) h g b =
     go false q b ih = ih b
 
 -- The sum over the cords beneath the node at place n.
-abbrev pub dealBeneath : Deal → ℕ → (ℕ → ℕ) → ℕ
-dealBeneath d n figure = sumBeneath d.nodes d.parent d.cords d.node n figure
+abbrev pub deal_beneath : Deal → ℕ → (ℕ → ℕ) → ℕ
+deal_beneath d n figure = sum_beneath d.nodes d.parent d.cords d.node n figure
 
 -- What a deal asks of what it goes by: parents before their children, cords on nodes, levels in the row, lows within wants,
 -- and no node whose limit the lows beneath it exceed.
@@ -61,30 +61,30 @@ pub record Dealable (d : Deal) : Type 0 where
   pub hangs : (c : ℕ) → c < d.cords → 0 < d.node c
   pub ranks : (c : ℕ) → c < d.cords → d.level c < d.levels
   pub wants : (c : ℕ) → c < d.cords → d.low c ≤ d.want c
-  pub lows : (n : ℕ) → n < d.nodes → dealBeneath d n d.low ≤ d.limit n
+  pub lows : (n : ℕ) → n < d.nodes → deal_beneath d n d.low ≤ d.limit n
 
 -- A way of dealing the whole room: each figure from low to want, and no node over its limit.
 pub record WholeWay (d : Deal) (f : ℕ → ℕ) : Type 0 where
   pub least : (c : ℕ) → c < d.cords → d.low c ≤ f c
   pub most : (c : ℕ) → c < d.cords → f c ≤ d.want c
-  pub within : (n : ℕ) → n < d.nodes → dealBeneath d n f ≤ d.limit n
+  pub within : (n : ℕ) → n < d.nodes → deal_beneath d n f ≤ d.limit n
 
 -- A way of dealing what is beneath the node at place n: of its cords and its nodes alone.
 pub record TreeWay (d : Deal) (n : ℕ) (f : ℕ → ℕ) : Type 0 where
   pub least : (c : ℕ) → c < d.cords → beneath d.parent d.nodes n (d.node c) ≡ true → d.low c ≤ f c
   pub most : (c : ℕ) → c < d.cords → beneath d.parent d.nodes n (d.node c) ≡ true → f c ≤ d.want c
-  pub within : (m : ℕ) → m < d.nodes → beneath d.parent d.nodes n (suc m) ≡ true → dealBeneath d m f ≤ d.limit m
+  pub within : (m : ℕ) → m < d.nodes → beneath d.parent d.nodes n (suc m) ≡ true → deal_beneath d m f ≤ d.limit m
 
 module _ (d : Deal) where
   open d use {nodes, parent, limit, cords, node, level, low, want, levels}
 
   -- What the children of the node at place n ask at level j.
   unfoldable pub asked : (ℕ → ℕ → ℕ) → ℕ → ℕ → ℕ
-  asked r n j = overChildren d n (λ m. r m j) (atLevel d j want)
+  asked r n j = over_children d n (λ m. r m j) (at_level d j want)
 
   -- p and r are the deal's Pcapmin and Request.
   pub record Measured (p r : ℕ → ℕ → ℕ) : Type 0 where
-    pub lowest : (n j : ℕ) → n < nodes → j < levels → p n j ≡ overChildren d n (λ m. p m j) (atLevel d j low)
+    pub lowest : (n j : ℕ) → n < nodes → j < levels → p n j ≡ over_children d n (λ m. p m j) (at_level d j low)
     pub request : (n : ℕ) → n < nodes → IsRow levels (limit n) (p n) (asked r n) (r n)
 
 module _ (d : Deal) (ok : Dealable d) where
@@ -96,51 +96,51 @@ module _ (d : Deal) (ok : Dealable d) where
   pub later : (m n : ℕ) → m < nodes → parent m ≡ suc n → n < m
   later m n l e = subst (λ (z : ℕ). z ≤ m) e (ok.rises m l)
 
-  pub dealBeneath-step : (n : ℕ) (w : ℕ → ℕ) → dealBeneath d n w ≡ childSum cords node n w + childSum nodes parent n (λ m. dealBeneath d m w)
-  dealBeneath-step = sumBeneath-step nodes parent ok.rises cords node ok.here
+  pub deal_beneath-step : (n : ℕ) (w : ℕ → ℕ) → deal_beneath d n w ≡ child_sum cords node n w + child_sum nodes parent n (λ m. deal_beneath d m w)
+  deal_beneath-step = sum_beneath-step nodes parent ok.rises cords node ok.here
 
-  pub dealBeneath-unique : (w g : ℕ → ℕ) → ((n : ℕ) → n < nodes → g n ≡ childSum cords node n w + childSum nodes parent n g) → (n : ℕ) → n < nodes → g n ≡ dealBeneath d n w
-  dealBeneath-unique = sumBeneath-unique nodes parent ok.rises cords node ok.here
+  pub deal_beneath-unique : (w g : ℕ → ℕ) → ((n : ℕ) → n < nodes → g n ≡ child_sum cords node n w + child_sum nodes parent n g) → (n : ℕ) → n < nodes → g n ≡ deal_beneath d n w
+  deal_beneath-unique = sum_beneath-unique nodes parent ok.rises cords node ok.here
 
-  pub dealBeneath-le : (n : ℕ) (f g : ℕ → ℕ) → ((c : ℕ) → c < cords → beneath parent nodes n (node c) ≡ true → f c ≤ g c) → dealBeneath d n f ≤ dealBeneath d n g
-  unfolding sumBeneath
-  dealBeneath-le n f g h = sum-le cords _ _ (λ c l. on-le (beneath parent nodes n (node c)) (f c) (g c) (h c l))
+  pub deal_beneath-le : (n : ℕ) (f g : ℕ → ℕ) → ((c : ℕ) → c < cords → beneath parent nodes n (node c) ≡ true → f c ≤ g c) → deal_beneath d n f ≤ deal_beneath d n g
+  unfolding sum_beneath
+  deal_beneath-le n f g h = sum-le cords _ _ (λ c l. on-le (beneath parent nodes n (node c)) (f c) (g c) (h c l))
 
   -- What the cords that pass a test have, from a level on.
   cords-from : (k j : ℕ) (test : ℕ → Bool) (f : ℕ → ℕ) → j + k ≡ levels
-      → up k j (λ i. sum cords (λ c. on (test c) (atLevel d i f c))) ≡ sum cords (λ c. on (test c) (fromLevel d j f c))
+      → up k j (λ i. sum cords (λ c. on (test c) (at_level d i f c))) ≡ sum cords (λ c. on (test c) (from_level d j f c))
   cords-from k j test f e =
-      up-sum k j cords (λ c i. on (test c) (atLevel d i f c))
+      up-sum k j cords (λ c i. on (test c) (at_level d i f c))
       ∙ sum-cong cords _ _ (λ c l.
-      up-on k j (test c) (λ i. atLevel d i f c)
+      up-on k j (test c) (λ i. at_level d i f c)
       ∙ ap (λ (z : ℕ). on (test c) z) (up_one k j (level c) (f c) (le_trans (ok.ranks c l) (le_of_eq (sym e)))))
 
-  pub dealBeneath-from : (k j n : ℕ) (f : ℕ → ℕ) → j + k ≡ levels → up k j (λ i. dealBeneath d n (atLevel d i f)) ≡ dealBeneath d n (fromLevel d j f)
-  unfolding sumBeneath
-  dealBeneath-from k j n f e = cords-from k j (λ c. beneath parent nodes n (node c)) f e
+  pub deal_beneath-from : (k j n : ℕ) (f : ℕ → ℕ) → j + k ≡ levels → up k j (λ i. deal_beneath d n (at_level d i f)) ≡ deal_beneath d n (from_level d j f)
+  unfolding sum_beneath
+  deal_beneath-from k j n f e = cords-from k j (λ c. beneath parent nodes n (node c)) f e
 
-  pub dealBeneath-all : (n : ℕ) (f : ℕ → ℕ) → sum levels (λ i. dealBeneath d n (atLevel d i f)) ≡ dealBeneath d n f
+  pub deal_beneath-all : (n : ℕ) (f : ℕ → ℕ) → sum levels (λ i. deal_beneath d n (at_level d i f)) ≡ deal_beneath d n f
   unfolding sum
-  dealBeneath-all n f =
-      sym (sum-up levels 0 levels (λ i. dealBeneath d n (atLevel d i f)) (zero-add levels)) ∙ zero-add (up levels 0 (λ i. dealBeneath d n (atLevel d i f)))
-      ∙ dealBeneath-from levels 0 n f (zero-add levels)
-      ∙ sumBeneath-cong nodes parent cords node n _ _ (λ c l. on-yes (leb 0 (level c)) (f c) (leb-zero (level c)))
+  deal_beneath-all n f =
+      sym (sum-up levels 0 levels (λ i. deal_beneath d n (at_level d i f)) (zero-add levels)) ∙ zero-add (up levels 0 (λ i. deal_beneath d n (at_level d i f)))
+      ∙ deal_beneath-from levels 0 n f (zero-add levels)
+      ∙ sum_beneath-cong nodes parent cords node n _ _ (λ c l. on-yes (leb 0 (level c)) (f c) (leb-zero (level c)))
 
-  pub childCords-add : (n j : ℕ) (f g h : ℕ → ℕ) → ((c : ℕ) → c < cords → h c ≡ f c + g c)
-      → childSum cords node n (atLevel d j h) ≡ childSum cords node n (atLevel d j f) + childSum cords node n (atLevel d j g)
-  childCords-add n j f g h e =
+  pub child_cords-add : (n j : ℕ) (f g h : ℕ → ℕ) → ((c : ℕ) → c < cords → h c ≡ f c + g c)
+      → child_sum cords node n (at_level d j h) ≡ child_sum cords node n (at_level d j f) + child_sum cords node n (at_level d j g)
+  child_cords-add n j f g h e =
       sum-cong cords _ _ (λ c l.
       ap (λ (z : ℕ). on (eqb (node c) (suc n)) z) (ap (λ (z : ℕ). on (eqb (level c) j) z) (e c l) ∙ on-add (eqb (level c) j) (f c) (g c))
-      ∙ on-add (eqb (node c) (suc n)) (atLevel d j f c) (atLevel d j g c))
-      ∙ sum-add cords (λ c. on (eqb (node c) (suc n)) (atLevel d j f c)) (λ c. on (eqb (node c) (suc n)) (atLevel d j g c))
+      ∙ on-add (eqb (node c) (suc n)) (at_level d j f c) (at_level d j g c))
+      ∙ sum-add cords (λ c. on (eqb (node c) (suc n)) (at_level d j f c)) (λ c. on (eqb (node c) (suc n)) (at_level d j g c))
 
   -- The children's figures from a level on.
-  childNodes-from : (k j n : ℕ) (g : ℕ → ℕ → ℕ) → up k j (λ i. childSum nodes parent n (λ m. g m i)) ≡ childSum nodes parent n (λ m. up k j (g m))
-  childNodes-from k j n g =
+  child_nodes-from : (k j n : ℕ) (g : ℕ → ℕ → ℕ) → up k j (λ i. child_sum nodes parent n (λ m. g m i)) ≡ child_sum nodes parent n (λ m. up k j (g m))
+  child_nodes-from k j n g =
       up-sum k j nodes (λ m i. on (eqb (parent m) (suc n)) (g m i)) ∙ sum-cong nodes _ _ (λ m l. up-on k j (eqb (parent m) (suc n)) (g m))
 
-  childCords-from : (k j n : ℕ) (f : ℕ → ℕ) → j + k ≡ levels → up k j (λ i. childSum cords node n (atLevel d i f)) ≡ childSum cords node n (fromLevel d j f)
-  childCords-from k j n f e = cords-from k j (λ c. eqb (node c) (suc n)) f e
+  child_cords-from : (k j n : ℕ) (f : ℕ → ℕ) → j + k ≡ levels → up k j (λ i. child_sum cords node n (at_level d i f)) ≡ child_sum cords node n (from_level d j f)
+  child_cords-from k j n f e = cords-from k j (λ c. eqb (node c) (suc n)) f e
 
   -- ---- A way of dealing what is beneath a node is one of what is beneath each of its children
 
@@ -156,12 +156,12 @@ module _ (d : Deal) (ok : Dealable d) where
 
   module _ (p r : ℕ → ℕ → ℕ) (me : Measured d p r) where
     -- Pcapmin is the sum of the lows beneath.
-    pub pcapmin-is : (j n : ℕ) → j < levels → n < nodes → p n j ≡ dealBeneath d n (atLevel d j low)
-    pcapmin-is j n h l = dealBeneath-unique (atLevel d j low) (λ n. p n j) (λ n l. me.lowest n j l h ∙ add_comm _ _) n l
+    pub pcapmin-is : (j n : ℕ) → j < levels → n < nodes → p n j ≡ deal_beneath d n (at_level d j low)
+    pcapmin-is j n h l = deal_beneath-unique (at_level d j low) (λ n. p n j) (λ n l. me.lowest n j l h ∙ add_comm _ _) n l
 
     -- Over all levels it is the lows beneath.
-    pub pcapmin-all : (n : ℕ) → n < nodes → sum levels (p n) ≡ dealBeneath d n low
-    pcapmin-all n l = sum-cong levels _ _ (λ j h. pcapmin-is j n h l) ∙ dealBeneath-all n low
+    pub pcapmin-all : (n : ℕ) → n < nodes → sum levels (p n) ≡ deal_beneath d n low
+    pcapmin-all n l = sum-cong levels _ _ (λ j h. pcapmin-is j n h l) ∙ deal_beneath-all n low
 
     pcapmin-fits : (n : ℕ) → n < nodes → sum levels (p n) ≤ limit n
     pcapmin-fits n l = le_trans (le_of_eq (pcapmin-all n l)) (ok.lows n l)
@@ -172,7 +172,7 @@ module _ (d : Deal) (ok : Dealable d) where
     unfolding asked
     pcapmin-asked-by n l ih j h =
         le_trans (le_of_eq (me.lowest n j l h))
-        (add-le-add (childSum-le nodes parent n (λ m. p m j) (λ m. r m j) (λ m lm q. ih m lm (later m n lm q) j h)) (childSum-le cords node n _ _ (λ c lc q. on-le (eqb (level c) j) (low c) (want c) (λ t. ok.wants c lc))))
+        (add-le-add (child_sum-le nodes parent n (λ m. p m j) (λ m. r m j) (λ m lm q. ih m lm (later m n lm q) j h)) (child_sum-le cords node n _ _ (λ c lc q. on-le (eqb (level c) j) (low c) (want c) (λ t. ok.wants c lc))))
 
     pub pcapmin-request : (n : ℕ) → n < nodes → (j : ℕ) → j < levels → p n j ≤ r n j
     pcapmin-request = down nodes (λ n. (j : ℕ) → j < levels → p n j ≤ r n j) (λ n l ih j h.
@@ -204,62 +204,62 @@ module _ (d : Deal) (ok : Dealable d) where
         row-lows levels (limit n) (p n) (asked d r n) (r n) (me.request n l) (pcapmin-asked n l) (pcapmin-fits n l) (levels - suc j) j (omega arith)
 
     -- The children ask no more than the wants beneath.
-    asked-beneath : (j n : ℕ) → j < levels → ((m : ℕ) → m < nodes → n < m → r m j ≤ dealBeneath d m (atLevel d j want)) → asked d r n j ≤ dealBeneath d n (atLevel d j want)
+    asked-beneath : (j n : ℕ) → j < levels → ((m : ℕ) → m < nodes → n < m → r m j ≤ deal_beneath d m (at_level d j want)) → asked d r n j ≤ deal_beneath d n (at_level d j want)
     unfolding asked
     asked-beneath j n h ih =
-        let k : childSum nodes parent n (λ m. r m j) ≤ childSum nodes parent n (λ m. dealBeneath d m (atLevel d j want))
-        = childSum-le nodes parent n _ _ (λ m lm q. ih m lm (later m n lm q)) in
-        omega (arith, dealBeneath-step n (atLevel d j want))
+        let k : child_sum nodes parent n (λ m. r m j) ≤ child_sum nodes parent n (λ m. deal_beneath d m (at_level d j want))
+        = child_sum-le nodes parent n _ _ (λ m lm q. ih m lm (later m n lm q)) in
+        omega (arith, deal_beneath-step n (at_level d j want))
 
-    request-beneath : (j : ℕ) → j < levels → (n : ℕ) → n < nodes → r n j ≤ dealBeneath d n (atLevel d j want)
-    request-beneath j h = down nodes (λ n. r n j ≤ dealBeneath d n (atLevel d j want)) (λ n l ih. le_trans (request-asked n l j h) (asked-beneath j n h ih))
+    request-beneath : (j : ℕ) → j < levels → (n : ℕ) → n < nodes → r n j ≤ deal_beneath d n (at_level d j want)
+    request-beneath j h = down nodes (λ n. r n j ≤ deal_beneath d n (at_level d j want)) (λ n l ih. le_trans (request-asked n l j h) (asked-beneath j n h ih))
 
-    pub asked-wants : (n j : ℕ) → n < nodes → j < levels → asked d r n j ≤ dealBeneath d n (atLevel d j want)
+    pub asked-wants : (n j : ℕ) → n < nodes → j < levels → asked d r n j ≤ deal_beneath d n (at_level d j want)
     asked-wants n j l h = asked-beneath j n h (λ m lm q. request-beneath j h m lm)
 
     -- ---- The law of totals
 
     pub request-total : (n : ℕ) → n < nodes → (k j : ℕ) → j + k ≡ levels
-        → up k j (r n) ≡ min (limit n - sum j (p n)) (overChildren d n (λ m. up k j (r m)) (fromLevel d j want))
+        → up k j (r n) ≡ min (limit n - sum j (p n)) (over_children d n (λ m. up k j (r m)) (from_level d j want))
     unfolding asked
     request-total n l k j e =
         row-total levels (limit n) (p n) (asked d r n) (r n) (me.request n l) (pcapmin-asked n l) k j e
         ∙ ap (min (limit n - sum j (p n)))
-        (up-add k j (λ i. childSum nodes parent n (λ m. r m i)) (λ i. childSum cords node n (atLevel d i want)) ∙ ap₂ ◌+◌ (childNodes-from k j n r) (childCords-from k j n want e))
+        (up-add k j (λ i. child_sum nodes parent n (λ m. r m i)) (λ i. child_sum cords node n (at_level d i want)) ∙ ap₂ ◌+◌ (child_nodes-from k j n r) (child_cords-from k j n want e))
 
     -- What a way of dealing gives a level and above leaves the lower levels their lows.
-    way-left : (f : ℕ → ℕ) (n : ℕ) → n < nodes → TreeWay d n f → (k j : ℕ) → j + k ≡ levels → sum j (p n) + dealBeneath d n (fromLevel d j f) ≤ limit n
+    way-left : (f : ℕ → ℕ) (n : ℕ) → n < nodes → TreeWay d n f → (k j : ℕ) → j + k ≡ levels → sum j (p n) + deal_beneath d n (from_level d j f) ≤ limit n
     way-left f n l w k j e =
-        let g : ℕ → ℕ = λ i. dealBeneath d n (atLevel d i f) in
+        let g : ℕ → ℕ = λ i. deal_beneath d n (at_level d i f) in
         let a : sum j (p n) ≤ sum j g
         = sum-le j (p n) g (λ i h.
-        le_trans (le_of_eq (pcapmin-is i n (omega arith) l)) (dealBeneath-le n _ _ (λ c lc b. on-le (eqb (level c) i) (low c) (f c) (λ t. w.least c lc b)))) in
-        omega (arith, sum-up k j levels g e, dealBeneath-from k j n f e, dealBeneath-all n f, w.within n l (beneath-self parent nodes n l))
+        le_trans (le_of_eq (pcapmin-is i n (omega arith) l)) (deal_beneath-le n _ _ (λ c lc b. on-le (eqb (level c) i) (low c) (f c) (λ t. w.least c lc b)))) in
+        omega (arith, sum-up k j levels g e, deal_beneath-from k j n f e, deal_beneath-all n f, w.within n l (beneath-self parent nodes n l))
 
     -- No way of dealing gives the cords beneath a node, of a level and above, more than its Requests from there on.
-    pub way-total : (f : ℕ → ℕ) (k j : ℕ) → j + k ≡ levels → (n : ℕ) → n < nodes → TreeWay d n f → dealBeneath d n (fromLevel d j f) ≤ up k j (r n)
-    way-total f k j e = down nodes (λ n. TreeWay d n f → dealBeneath d n (fromLevel d j f) ≤ up k j (r n)) (λ n l ih w.
-        let a : childSum nodes parent n (λ m. dealBeneath d m (fromLevel d j f)) ≤ childSum nodes parent n (λ m. up k j (r m))
-        = childSum-le nodes parent n _ _ (λ m lm q. ih m lm (later m n lm q) (tree-child m n q f w)) in
-        let o : childSum cords node n (fromLevel d j f) ≤ childSum cords node n (fromLevel d j want)
-        = childSum-le cords node n _ _ (λ c lc q. on-le (leb j (level c)) (f c) (want c) (λ t. w.most c lc (ap (beneath parent nodes n) q ∙ beneath-self parent nodes n l))) in
-        omega (arith, request-total n l k j e, way-left f n l w k j e, dealBeneath-step n (fromLevel d j f)))
+    pub way-total : (f : ℕ → ℕ) (k j : ℕ) → j + k ≡ levels → (n : ℕ) → n < nodes → TreeWay d n f → deal_beneath d n (from_level d j f) ≤ up k j (r n)
+    way-total f k j e = down nodes (λ n. TreeWay d n f → deal_beneath d n (from_level d j f) ≤ up k j (r n)) (λ n l ih w.
+        let a : child_sum nodes parent n (λ m. deal_beneath d m (from_level d j f)) ≤ child_sum nodes parent n (λ m. up k j (r m))
+        = child_sum-le nodes parent n _ _ (λ m lm q. ih m lm (later m n lm q) (tree-child m n q f w)) in
+        let o : child_sum cords node n (from_level d j f) ≤ child_sum cords node n (from_level d j want)
+        = child_sum-le cords node n _ _ (λ c lc q. on-le (leb j (level c)) (f c) (want c) (λ t. w.most c lc (ap (beneath parent nodes n) q ∙ beneath-self parent nodes n l))) in
+        omega (arith, request-total n l k j e, way-left f n l w k j e, deal_beneath-step n (from_level d j f)))
 
 -- The deal by other wants and starts.
-abbrev pub byWants : Deal → (ℕ → ℕ) → (ℕ → ℕ) → Deal
-byWants d w s =
+abbrev pub by_wants : Deal → (ℕ → ℕ) → (ℕ → ℕ) → Deal
+by_wants d w s =
     record { nodes = d.nodes; parent = d.parent; limit = d.limit; cords = d.cords; node = d.node; level = d.level; low = d.low; want = w; start = s; levels = d.levels }
 
 -- Wants that are nowhere greater, of a level and above, give Requests from there on whose sum is nowhere greater.
-module _ (d : Deal) (w s : ℕ → ℕ) (ok : Dealable d) (ko : Dealable (byWants d w s))
-    (p r q u : ℕ → ℕ → ℕ) (me : Measured d p r) (em : Measured (byWants d w s) q u) where
+module _ (d : Deal) (w s : ℕ → ℕ) (ok : Dealable d) (ko : Dealable (by_wants d w s))
+    (p r q u : ℕ → ℕ → ℕ) (me : Measured d p r) (em : Measured (by_wants d w s) q u) where
   pub request-total-mono : (k j : ℕ) → j + k ≡ d.levels → ((c : ℕ) → c < d.cords → j ≤ d.level c → w c ≤ d.want c)
       → (n : ℕ) → n < d.nodes → up k j (u n) ≤ up k j (r n)
   request-total-mono k j e h = down d.nodes (λ n. up k j (u n) ≤ up k j (r n)) (λ n l ih.
-      let a : childSum d.nodes d.parent n (λ m. up k j (u m)) ≤ childSum d.nodes d.parent n (λ m. up k j (r m))
-      = childSum-le d.nodes d.parent n _ _ (λ m lm o. ih m lm (later d ok m n lm o)) in
-      let o : childSum d.cords d.node n (fromLevel d j w) ≤ childSum d.cords d.node n (fromLevel d j d.want)
-      = childSum-le d.cords d.node n _ _ (λ c lc i. on-le (leb j (d.level c)) (w c) (d.want c) (λ t. h c lc (leb-true j (d.level c) t))) in
+      let a : child_sum d.nodes d.parent n (λ m. up k j (u m)) ≤ child_sum d.nodes d.parent n (λ m. up k j (r m))
+      = child_sum-le d.nodes d.parent n _ _ (λ m lm o. ih m lm (later d ok m n lm o)) in
+      let o : child_sum d.cords d.node n (from_level d j w) ≤ child_sum d.cords d.node n (from_level d j d.want)
+      = child_sum-le d.cords d.node n _ _ (λ c lc i. on-le (leb j (d.level c)) (w c) (d.want c) (λ t. h c lc (leb-true j (d.level c) t))) in
       let same : sum j (q n) ≡ sum j (p n)
-      = sum-cong j (q n) (p n) (λ i g. pcapmin-is (byWants d w s) ko q u em i n (omega arith) l ∙ sym (pcapmin-is d ok p r me i n (omega arith) l)) in
-      omega (arith, request-total d ok p r me n l k j e, request-total (byWants d w s) ko q u em n l k j e))
+      = sum-cong j (q n) (p n) (λ i g. pcapmin-is (by_wants d w s) ko q u em i n (omega arith) l ∙ sym (pcapmin-is d ok p r me i n (omega arith) l)) in
+      omega (arith, request-total d ok p r me n l k j e, request-total (by_wants d w s) ko q u em n l k j e))

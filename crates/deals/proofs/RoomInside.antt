@@ -10,81 +10,81 @@ use lib.Dec.{eqb, ltb}
 use lib.ListN.{length}
 use borrow.Author.Tests.{eqb-true, ne_eqb}
 use Rattle.figures.specs.Figures.{at}
-use Rattle.rooms.specs.Table.{raised, Room, roomCords}
-use Rattle.rooms.specs.Limits.{limit, carried, nodeAt, parent_of}
+use Rattle.rooms.specs.Table.{raised, Room, room_cords}
+use Rattle.rooms.specs.Limits.{limit, carried, node_at, parent_of}
 use Rattle.rooms.proofs.Accepted.{Accepted}
-use Rattle.rooms.specs.Cords.{cordAt, serverAt, rank_of}
-use Rattle.rooms.specs.Lists.{carriedBy, levelsOf, lowsOf}
-use Rattle.deals.specs.Wants.{needs, firstWants}
-use Rattle.deals.specs.Metrics.{Deal, dealOf}
+use Rattle.rooms.specs.Cords.{cord_at, server_at, rank_of}
+use Rattle.rooms.specs.Lists.{carried_by, levels_of, lows_of}
+use Rattle.deals.specs.Wants.{needs, first_wants}
+use Rattle.deals.specs.Metrics.{Deal, deal_of}
 use Rattle.deals.specs.Dealing.{granted}
-use Rattle.deals.specs.SecondDeal.{loaded, load_of, usable, stranded, firstDeal, firstGrants, firstUsable, firstUsed, secondDeal, secondWants, secondGrants, caps}
+use Rattle.deals.specs.SecondDeal.{loaded, load_of, usable, stranded, first_deal, first_grants, first_usable, first_used, second_deal, second_wants, second_grants, caps}
 use Rattle.deals.proofs.Inside.{Inside, eqb-iff, granted-in}
-use Rattle.deals.proofs.Loads.{both, leastOver-cong, least-window}
-use Rattle.deals.proofs.RoomDeals.{levelsOf-at, roomDeal, dealOf-is}
-use Rattle.deals.proofs.BothDeals.{needs-at, carriedBy-at, usable_at, stranded-at, wantsAfter-at, server-facts, cord-facts, lowsOf-at, room-dealable, firstWants-lows, secondWants-lows}
+use Rattle.deals.proofs.Loads.{both, least_over-cong, least-window}
+use Rattle.deals.proofs.RoomDeals.{levels_of-at, room_deal, deal_of-is}
+use Rattle.deals.proofs.BothDeals.{needs-at, carried_by-at, usable_at, stranded-at, wants_after-at, server-facts, cord-facts, lows_of-at, room-dealable, first_wants-lows, second_wants-lows}
 
 -- The room r stands in q: its nodes a places on, its cords b, its servers v.
 pub record RoomInside (r q : Room) (a b v : ℕ) : Type 0 where
   pub scale : q.scale ≡ r.scale
-  pub nodesFit : a + length r.nodes ≤ length q.nodes
-  pub cordsFit : b + roomCords r ≤ roomCords q
-  pub serversFit : v + length r.servers ≤ length q.servers
+  pub nodes_fit : a + length r.nodes ≤ length q.nodes
+  pub cords_fit : b + room_cords r ≤ room_cords q
+  pub servers_fit : v + length r.servers ≤ length q.servers
   pub parent : (m : ℕ) → m < length r.nodes → parent_of q (m + a) ≡ raised a (parent_of r m)
-  pub limits : (m : ℕ) → m < length r.nodes → limit (nodeAt q (m + a)) ≡ limit (nodeAt r m)
-  pub rank : (u : ℕ) → u < length r.servers → (serverAt q (u + v)).rank ≡ (serverAt r u).rank
-  pub least : (u : ℕ) → u < length r.servers → (serverAt q (u + v)).least ≡ (serverAt r u).least
-  pub greatest : (u : ℕ) → u < length r.servers → (serverAt q (u + v)).greatest ≡ (serverAt r u).greatest
-  pub server : (c : ℕ) → c < roomCords r → (cordAt q (c + b)).server ≡ (cordAt r c).server + v
-  pub node : (c : ℕ) → c < roomCords r → (cordAt q (c + b)).node ≡ raised a (cordAt r c).node
-  pub share : (c : ℕ) → c < roomCords r → (cordAt q (c + b)).share ≡ (cordAt r c).share
+  pub limits : (m : ℕ) → m < length r.nodes → limit (node_at q (m + a)) ≡ limit (node_at r m)
+  pub rank : (u : ℕ) → u < length r.servers → (server_at q (u + v)).rank ≡ (server_at r u).rank
+  pub least : (u : ℕ) → u < length r.servers → (server_at q (u + v)).least ≡ (server_at r u).least
+  pub greatest : (u : ℕ) → u < length r.servers → (server_at q (u + v)).greatest ≡ (server_at r u).greatest
+  pub server : (c : ℕ) → c < room_cords r → (cord_at q (c + b)).server ≡ (cord_at r c).server + v
+  pub node : (c : ℕ) → c < room_cords r → (cord_at q (c + b)).node ≡ raised a (cord_at r c).node
+  pub share : (c : ℕ) → c < room_cords r → (cord_at q (c + b)).share ≡ (cord_at r c).share
   pub alone : (m n : ℕ) → m < length q.nodes → n < length r.nodes → parent_of q m ≡ suc (n + a) → (a ≤ m) × (m < a + length r.nodes)
-  pub bare : (c n : ℕ) → c < roomCords q → n < length r.nodes → (cordAt q c).node ≡ suc (n + a) → (b ≤ c) × (c < b + roomCords r)
-  pub apart : (c u : ℕ) → c < roomCords q → u < length r.servers → (cordAt q c).server ≡ u + v → (b ≤ c) × (c < b + roomCords r)
+  pub bare : (c n : ℕ) → c < room_cords q → n < length r.nodes → (cord_at q c).node ≡ suc (n + a) → (b ≤ c) × (c < b + room_cords r)
+  pub apart : (c u : ℕ) → c < room_cords q → u < length r.servers → (cord_at q c).server ≡ u + v → (b ≤ c) × (c < b + room_cords r)
 
 and-false : (s t : Bool) → s ≡ false → s && t ≡ false
 and-false s t e = ap (λ (x : Bool). x && t) e
 
 module _ (r q : Room) (a b v : ℕ) (ins : RoomInside r q a b v) (ok : Accepted r) (ko : Accepted q) where
-  cord-in : (c : ℕ) → c < roomCords r → c + b < roomCords q
-  cord-in c l = omega (arith, ins.cordsFit)
+  cord-in : (c : ℕ) → c < room_cords r → c + b < room_cords q
+  cord-in c l = omega (arith, ins.cords_fit)
 
   -- A figure of a cord's server.
-  of-server : (f g : ℕ → ℕ) (c : ℕ) → c < roomCords r → f ((cordAt r c).server + v) ≡ g (cordAt r c).server → f (cordAt q (c + b)).server ≡ g (cordAt r c).server
+  of-server : (f g : ℕ → ℕ) (c : ℕ) → c < room_cords r → f ((cord_at r c).server + v) ≡ g (cord_at r c).server → f (cord_at q (c + b)).server ≡ g (cord_at r c).server
   of-server f g c l e = ap f (ins.server c l) ∙ e
 
-  level_in : (c : ℕ) → c < roomCords r → at (levelsOf q) (c + b) ≡ at (levelsOf r) c
+  level_in : (c : ℕ) → c < room_cords r → at (levels_of q) (c + b) ≡ at (levels_of r) c
   level_in c l =
-      levelsOf-at q (c + b) (cord-in c l)
-      ∙ ap (λ (x : ℕ). x - 1) (of-server (λ u. (serverAt q u).rank) (λ u. (serverAt r u).rank) c l (ins.rank (cordAt r c).server (cord-facts r ok c l).0))
-      ∙ sym (levelsOf-at r c l)
+      levels_of-at q (c + b) (cord-in c l)
+      ∙ ap (λ (x : ℕ). x - 1) (of-server (λ u. (server_at q u).rank) (λ u. (server_at r u).rank) c l (ins.rank (cord_at r c).server (cord-facts r ok c l).0))
+      ∙ sym (levels_of-at r c l)
 
-  carried-in : (c : ℕ) → c < roomCords r → (x y : ℕ) → x ≡ y → carried q.scale (cordAt q (c + b)).share x ≡ carried r.scale (cordAt r c).share y
-  carried-in c l x y e = ap₂ (λ (k s : ℕ). carried k s x) ins.scale (ins.share c l) ∙ ap (carried r.scale (cordAt r c).share) e
+  carried-in : (c : ℕ) → c < room_cords r → (x y : ℕ) → x ≡ y → carried q.scale (cord_at q (c + b)).share x ≡ carried r.scale (cord_at r c).share y
+  carried-in c l x y e = ap₂ (λ (k s : ℕ). carried k s x) ins.scale (ins.share c l) ∙ ap (carried r.scale (cord_at r c).share) e
 
-  lows-in : (c : ℕ) → c < roomCords r → at (lowsOf q) (c + b) ≡ at (lowsOf r) c
+  lows-in : (c : ℕ) → c < room_cords r → at (lows_of q) (c + b) ≡ at (lows_of r) c
   lows-in c l =
-      lowsOf-at q ko (c + b) (cord-in c l)
-      ∙ carried-in c l _ _ (of-server (λ u. (serverAt q u).least) (λ u. (serverAt r u).least) c l (ins.least (cordAt r c).server (cord-facts r ok c l).0))
-      ∙ sym (lowsOf-at r ok c l)
+      lows_of-at q ko (c + b) (cord-in c l)
+      ∙ carried-in c l _ _ (of-server (λ u. (server_at q u).least) (λ u. (server_at r u).least) c l (ins.least (cord_at r c).server (cord-facts r ok c l).0))
+      ∙ sym (lows_of-at r ok c l)
 
   module _ (rank : ℕ) where
     -- A figure a cord, and a figure a server: those of q, at the places of r, are those of r, from a rank on.
     abbrev pub CordsIn : List ℕ → List ℕ → Type 0
-    CordsIn f g = (c : ℕ) → c < roomCords r → rank ≤ rank_of r c → at f (c + b) ≡ at g c
+    CordsIn f g = (c : ℕ) → c < room_cords r → rank ≤ rank_of r c → at f (c + b) ≡ at g c
 
     abbrev pub ServersIn : List ℕ → List ℕ → Type 0
-    ServersIn f g = (u : ℕ) → u < length r.servers → rank ≤ (serverAt r u).rank → at f (u + v) ≡ at g u
+    ServersIn f g = (u : ℕ) → u < length r.servers → rank ≤ (server_at r u).rank → at f (u + v) ≡ at g u
 
     -- A cord whose level is not below that of a rank is not below the rank.
-    level-rank : (c : ℕ) → c < roomCords r → rank - 1 ≤ at (levelsOf r) c → rank ≤ rank_of r c
-    level-rank c l k = omega (arith, levelsOf-at r c l, (server-facts r ok (cordAt r c).server (cord-facts r ok c l).0).rankFrom)
+    level-rank : (c : ℕ) → c < room_cords r → rank - 1 ≤ at (levels_of r) c → rank ≤ rank_of r c
+    level-rank c l k = omega (arith, levels_of-at r c l, (server-facts r ok (cord_at r c).server (cord-facts r ok c l).0).rank_from)
 
     -- Deals from starts and by wants that agree are inside each other.
-    pub deal-inside : (s f t g : List ℕ) → CordsIn s t → CordsIn f g → Inside (roomDeal r t g) (roomDeal q s f) a b (rank - 1)
+    pub deal-inside : (s f t g : List ℕ) → CordsIn s t → CordsIn f g → Inside (room_deal r t g) (room_deal q s f) a b (rank - 1)
     deal-inside s f t g h k = record {
-      nodesFit = ins.nodesFit;
-      cordsFit = ins.cordsFit;
+      nodes_fit = ins.nodes_fit;
+      cords_fit = ins.cords_fit;
       parent = ins.parent;
       node = ins.node;
       limit = ins.limits;
@@ -98,84 +98,84 @@ module _ (r q : Room) (a b v : ℕ) (ins : RoomInside r q a b v) (ok : Accepted 
     }
 
     grants-in : (s f t g : List ℕ) → CordsIn s t → CordsIn f g
-        → ((c : ℕ) → c < roomCords q → at (lowsOf q) c ≤ at f c) → ((c : ℕ) → c < roomCords r → at (lowsOf r) c ≤ at g c)
-        → CordsIn (granted (dealOf q s f)) (granted (dealOf r t g))
+        → ((c : ℕ) → c < room_cords q → at (lows_of q) c ≤ at f c) → ((c : ℕ) → c < room_cords r → at (lows_of r) c ≤ at g c)
+        → CordsIn (granted (deal_of q s f)) (granted (deal_of r t g))
     grants-in s f t g h k lf lg c l e =
-        ap (λ (d : Deal). at (granted d) (c + b)) (dealOf-is q s f)
-        ∙ granted-in (roomDeal r t g) (roomDeal q s f) a b (rank - 1) (deal-inside s f t g h k) (room-dealable r ok t g lg) (room-dealable q ko s f lf) c l
-        (omega (arith, levelsOf-at r c l))
-        ∙ ap (λ (d : Deal). at (granted d) c) (sym (dealOf-is r t g))
+        ap (λ (d : Deal). at (granted d) (c + b)) (deal_of-is q s f)
+        ∙ granted-in (room_deal r t g) (room_deal q s f) a b (rank - 1) (deal-inside s f t g h k) (room-dealable r ok t g lg) (room-dealable q ko s f lf) c l
+        (omega (arith, levels_of-at r c l))
+        ∙ ap (λ (d : Deal). at (granted d) c) (sym (deal_of-is r t g))
 
-    pub carriedBy-in : (f g : List ℕ) → ServersIn f g → CordsIn (carriedBy q f) (carriedBy r g)
-    carriedBy-in f g h c l k =
-        carriedBy-at q f (c + b) (cord-in c l)
-        ∙ carried-in c l _ _ (of-server (at f) (at g) c l (h (cordAt r c).server (cord-facts r ok c l).0 k))
-        ∙ sym (carriedBy-at r g c l)
+    pub carried_by-in : (f g : List ℕ) → ServersIn f g → CordsIn (carried_by q f) (carried_by r g)
+    carried_by-in f g h c l k =
+        carried_by-at q f (c + b) (cord-in c l)
+        ∙ carried-in c l _ _ (of-server (at f) (at g) c l (h (cord_at r c).server (cord-facts r ok c l).0 k))
+        ∙ sym (carried_by-at r g c l)
 
     -- Only a server's own cords bear on what it can use.
-    no-load : (u c : ℕ) → ((cordAt q c).server ≡ u + v → ⊥) → loaded q (u + v) c ≡ false
-    no-load u c n = and-false (eqb (cordAt q c).server (u + v)) (ltb 0 (cordAt q c).share) (ne_eqb (cordAt q c).server (u + v) n)
+    no-load : (u c : ℕ) → ((cord_at q c).server ≡ u + v → ⊥) → loaded q (u + v) c ≡ false
+    no-load u c n = and-false (eqb (cord_at q c).server (u + v)) (ltb 0 (cord_at q c).share) (ne_eqb (cord_at q c).server (u + v) n)
 
-    loaded-in : (u c : ℕ) → c < roomCords r → loaded q (u + v) (c + b) ≡ loaded r u c
+    loaded-in : (u c : ℕ) → c < room_cords r → loaded q (u + v) (c + b) ≡ loaded r u c
     loaded-in u c l =
         ap₂ (λ (t : Bool) (s : ℕ). t && ltb 0 s)
-        (eqb-iff (cordAt q (c + b)).server (u + v) (cordAt r c).server u (λ e. omega (arith, ins.server c l)) (λ e. omega (arith, ins.server c l)))
+        (eqb-iff (cord_at q (c + b)).server (u + v) (cord_at r c).server u (λ e. omega (arith, ins.server c l)) (λ e. omega (arith, ins.server c l)))
         (ins.share c l)
 
     usable-in : (m n f g : List ℕ) → ServersIn m n → CordsIn f g → ServersIn (usable q m f) (usable r n g)
     usable-in m n f g h k u l e =
-        usable_at q m f (u + v) (omega (arith, ins.serversFit))
-        ∙ least-window b (roomCords r) (roomCords q) (loaded q (u + v)) (load_of q f) (at m (u + v)) ins.cordsFit
+        usable_at q m f (u + v) (omega (arith, ins.servers_fit))
+        ∙ least-window b (room_cords r) (room_cords q) (loaded q (u + v)) (load_of q f) (at m (u + v)) ins.cords_fit
         (λ i li o. no-load u i (λ x. omega (arith, ins.apart i u li l x)))
         (λ i li o. no-load u i (λ x. omega (arith, ins.apart i u li l x)))
-        ∙ leastOver-cong (roomCords r) _ (loaded r u) _ (load_of r g) (at m (u + v)) (at n u) (h u l e) (λ c lc. loaded-in u c lc) (λ c lc t.
-        let own = eqb-true (cordAt r c).server u (both _ _ (sym (loaded-in u c lc) ∙ t)).0 in
-        ap₂ (λ (x s : ℕ). q.scale * x / s) (k c lc (subst (λ (x : ℕ). rank ≤ (serverAt r x).rank) (sym own) e)) (ins.share c lc)
-        ∙ ap (λ (x : ℕ). x * at g c / (cordAt r c).share) ins.scale)
+        ∙ least_over-cong (room_cords r) _ (loaded r u) _ (load_of r g) (at m (u + v)) (at n u) (h u l e) (λ c lc. loaded-in u c lc) (λ c lc t.
+        let own = eqb-true (cord_at r c).server u (both _ _ (sym (loaded-in u c lc) ∙ t)).0 in
+        ap₂ (λ (x s : ℕ). q.scale * x / s) (k c lc (subst (λ (x : ℕ). rank ≤ (server_at r x).rank) (sym own) e)) (ins.share c lc)
+        ∙ ap (λ (x : ℕ). x * at g c / (cord_at r c).share) ins.scale)
         ∙ sym (usable_at r n g u l)
 
     module _ (d e : List ℕ) (same : ServersIn d e) where
       pub needs-in : ServersIn (needs q d) (needs r e)
       needs-in u l k =
-          needs-at q d (u + v) (omega (arith, ins.serversFit))
-          ∙ ap₂ (λ (x y : ℕ). min (max x y) (serverAt q (u + v)).greatest) (same u l k) (ins.least u l)
-          ∙ ap (min (max (at e u) (serverAt r u).least)) (ins.greatest u l)
+          needs-at q d (u + v) (omega (arith, ins.servers_fit))
+          ∙ ap₂ (λ (x y : ℕ). min (max x y) (server_at q (u + v)).greatest) (same u l k) (ins.least u l)
+          ∙ ap (min (max (at e u) (server_at r u).least)) (ins.greatest u l)
           ∙ sym (needs-at r e u l)
 
-      firstWants-in : CordsIn (firstWants q d) (firstWants r e)
-      unfolding firstWants
-      firstWants-in = carriedBy-in (needs q d) (needs r e) needs-in
+      first_wants-in : CordsIn (first_wants q d) (first_wants r e)
+      unfolding first_wants
+      first_wants-in = carried_by-in (needs q d) (needs r e) needs-in
 
-      pub firstGrants-in : CordsIn (firstGrants q d) (firstGrants r e)
-      unfolding firstGrants firstDeal
-      firstGrants-in = grants-in (lowsOf q) (firstWants q d) (lowsOf r) (firstWants r e) (λ c l k. lows-in c l) firstWants-in (firstWants-lows q ko d) (firstWants-lows r ok e)
+      pub first_grants-in : CordsIn (first_grants q d) (first_grants r e)
+      unfolding first_grants first_deal
+      first_grants-in = grants-in (lows_of q) (first_wants q d) (lows_of r) (first_wants r e) (λ c l k. lows-in c l) first_wants-in (first_wants-lows q ko d) (first_wants-lows r ok e)
 
-      pub firstUsable-in : ServersIn (firstUsable q d) (firstUsable r e)
-      unfolding firstUsable
-      firstUsable-in = usable-in (needs q d) (needs r e) (firstGrants q d) (firstGrants r e) needs-in firstGrants-in
+      pub first_usable-in : ServersIn (first_usable q d) (first_usable r e)
+      unfolding first_usable
+      first_usable-in = usable-in (needs q d) (needs r e) (first_grants q d) (first_grants r e) needs-in first_grants-in
 
-      pub firstUsed-in : CordsIn (firstUsed q d) (firstUsed r e)
-      unfolding firstUsed
-      firstUsed-in = carriedBy-in (firstUsable q d) (firstUsable r e) firstUsable-in
+      pub first_used-in : CordsIn (first_used q d) (first_used r e)
+      unfolding first_used
+      first_used-in = carried_by-in (first_usable q d) (first_usable r e) first_usable-in
 
-      pub stranded-in : CordsIn (stranded q (firstGrants q d) (firstUsed q d)) (stranded r (firstGrants r e) (firstUsed r e))
+      pub stranded-in : CordsIn (stranded q (first_grants q d) (first_used q d)) (stranded r (first_grants r e) (first_used r e))
       stranded-in c l k =
-          stranded-at q (firstGrants q d) (firstUsed q d) (c + b) (cord-in c l) ∙ ap₂ ◌-◌ (firstGrants-in c l k) (firstUsed-in c l k)
-          ∙ sym (stranded-at r (firstGrants r e) (firstUsed r e) c l)
+          stranded-at q (first_grants q d) (first_used q d) (c + b) (cord-in c l) ∙ ap₂ ◌-◌ (first_grants-in c l k) (first_used-in c l k)
+          ∙ sym (stranded-at r (first_grants r e) (first_used r e) c l)
 
-      pub secondWants-in : CordsIn (secondWants q d) (secondWants r e)
-      unfolding secondWants
-      secondWants-in c l k =
-          wantsAfter-at q (firstWants q d) (firstGrants q d) (firstUsed q d) (c + b) (cord-in c l)
-          ∙ ap₂ (λ (x y : ℕ). cond (ltb 0 x) y (at (firstWants q d) (c + b))) (stranded-in c l k) (firstUsed-in c l k)
-          ∙ ap (cond (ltb 0 (at (stranded r (firstGrants r e) (firstUsed r e)) c)) (at (firstUsed r e) c)) (firstWants-in c l k)
-          ∙ sym (wantsAfter-at r (firstWants r e) (firstGrants r e) (firstUsed r e) c l)
+      pub second_wants-in : CordsIn (second_wants q d) (second_wants r e)
+      unfolding second_wants
+      second_wants-in c l k =
+          wants_after-at q (first_wants q d) (first_grants q d) (first_used q d) (c + b) (cord-in c l)
+          ∙ ap₂ (λ (x y : ℕ). cond (ltb 0 x) y (at (first_wants q d) (c + b))) (stranded-in c l k) (first_used-in c l k)
+          ∙ ap (cond (ltb 0 (at (stranded r (first_grants r e) (first_used r e)) c)) (at (first_used r e) c)) (first_wants-in c l k)
+          ∙ sym (wants_after-at r (first_wants r e) (first_grants r e) (first_used r e) c l)
 
-      pub secondGrants-in : CordsIn (secondGrants q d) (secondGrants r e)
-      unfolding secondGrants secondDeal
-      secondGrants-in =
-          grants-in (firstUsed q d) (secondWants q d) (firstUsed r e) (secondWants r e) firstUsed-in secondWants-in (secondWants-lows q ko d) (secondWants-lows r ok e)
+      pub second_grants-in : CordsIn (second_grants q d) (second_grants r e)
+      unfolding second_grants second_deal
+      second_grants-in =
+          grants-in (first_used q d) (second_wants q d) (first_used r e) (second_wants r e) first_used-in second_wants-in (second_wants-lows q ko d) (second_wants-lows r ok e)
 
       pub caps-in : ServersIn (caps q d) (caps r e)
       unfolding caps
-      caps-in = usable-in (needs q d) (needs r e) (secondGrants q d) (secondGrants r e) needs-in secondGrants-in
+      caps-in = usable-in (needs q d) (needs r e) (second_grants q d) (second_grants r e) needs-in second_grants-in

@@ -16,17 +16,17 @@ use Rattle.figures.proofs.Sums.{on-no, sum-suc, up-cong}
 use Rattle.figures.proofs.Credits.{credited-at, credited-length, figure-in-sum, sum-credited}
 use Rattle.rooms.proofs.Gather.{Holds, holds-start, holds-turn, holds-end, holds-whole}
 use Rattle.figures.specs.Figures.{at}
-use Rattle.deals.specs.Passes.{weightOf, MayWeigh, Weighed}
+use Rattle.deals.specs.Passes.{weight_of, MayWeigh, Weighed}
 use Rattle.figures.specs.Places.{Absent, Present}
 use Rattle.figures.proofs.Lists.{passed-down}
 use Rattle.deals.proofs.Active.{Parted, parted-none, parted-all, parted-at, parted-after, between}
 use Rattle.deals.proofs.NodeSums.{credited-nothing}
-use Rattle.rooms.proofs.Trees.{childSum-none}
+use Rattle.rooms.proofs.Trees.{child_sum-none}
 
 -- What the turn of the node at place m leaves.
 pub record Settled (active : List ℕ) (count : ℕ) (left₀ left wholes weights : List ℕ) (m : ℕ) : Type 0 where
   pub left_is : at left m ≡ at left₀ m - at wholes m
-  pub weight_is : weightOf weights wholes m ≡ weightOf left₀ wholes m
+  pub weight_is : weight_of weights wholes m ≡ weight_of left₀ wholes m
   pub within : Present active count m → at weights m ≤ at wholes m
   pub none : Absent active count m → at wholes m ≡ 0
 
@@ -35,7 +35,7 @@ pub record Weighing (parents active : List ℕ) (count : ℕ) (left₀ own : Lis
   pub given : MayWeigh parents active count left₀ own weights-length
   pub done : ℕ
   pub all : n + done ≡ length parents
-  pub held : Holds (length parents) (at parents) (at own) (weightOf left₀ wholes) done n (at wholes)
+  pub held : Holds (length parents) (at parents) (at own) (weight_of left₀ wholes) done n (at wholes)
   pub most : sum n (at wholes) ≤ sum (length parents) (at own)
   pub settled : (m : ℕ) → n ≤ m → m < length parents → Settled active count left₀ left wholes weights m
   pub left-kept : (m : ℕ) → m < n → at left m ≡ at left₀ m
@@ -50,7 +50,7 @@ weighing-start {parents} {left = left} {own = own} weights given =
       given = given;
       done = 0;
       all = omega arith;
-      held = holds-start (length parents) (at parents) (at own) (weightOf left own);
+      held = holds-start (length parents) (at parents) (at own) (weight_of left own);
       most = le_refl (sum (length parents) (at own));
       settled = λ m h l. absurd (omega arith);
       left-kept = λ m l. refl;
@@ -99,13 +99,13 @@ module _ {parents active : List ℕ} {count : ℕ} {left₀ own : List ℕ} {wei
       = λ m. credited-at (at parents k) v wholes m (omega arith) in
       let wholes-same : (m : ℕ) → k ≤ m → at (credited (at parents k) v wholes) m ≡ at wholes m
       = λ m l. omega (arith, wholes-after m, on-no (eqb (at parents k) (suc m)) v (ne_eqb (at parents k) (suc m) (λ e. omega arith))) in
-      let own-weight : weightOf left₀ (credited (at parents k) v wholes) k ≡ v
+      let own-weight : weight_of left₀ (credited (at parents k) v wholes) k ≡ v
       = ap₂ min (sym same) (wholes-same k (le_refl k)) ∙ sym ev in
       record {
         given = given;
         done = suc inv.done;
         all = omega (arith, inv.all);
-        held = holds-turn (length parents) (at parents) (at own) (weightOf left₀ (credited (at parents k) v wholes)) inv.done k (at wholes) (at (credited (at parents k) v wholes))
+        held = holds-turn (length parents) (at parents) (at own) (weight_of left₀ (credited (at parents k) v wholes)) inv.done k (at wholes) (at (credited (at parents k) v wholes))
             (λ i l. inv.held i l
             ∙ ap (λ (x : ℕ). at own i + x)
             (up-cong inv.done (suc k) _ _ (λ m g h. ap (λ (x : ℕ). on (eqb (at parents m) (suc i)) (min (at left₀ m) x)) (sym (wholes-same m (omega arith))))))
@@ -169,9 +169,9 @@ module _ {parents active : List ℕ} {count : ℕ} {left₀ own : List ℕ} wher
         let asks : at wholes m ≡ 0
         = omega (
           arith,
-          holds-whole (length parents) (at parents) (at own) (weightOf left₀ wholes) given.rises r.done m (at wholes) r.all r.held,
+          holds-whole (length parents) (at parents) (at own) (weight_of left₀ wholes) given.rises r.done m (at wholes) r.all r.held,
           given.idle m l none,
-          childSum-none (length parents) (at parents) m (weightOf left₀ wholes) (λ k h e.
+          child_sum-none (length parents) (at parents) m (weight_of left₀ wholes) (λ k h e.
               let z : at wholes k ≡ 0 = (r.settled k (omega (arith, given.rises k h)) h).none (given.nodes.closed k m h e none) in omega arith),
         ) in
         turn-idle m left wholes weights none asks r
@@ -181,7 +181,7 @@ module _ {parents active : List ℕ} {count : ℕ} {left₀ own : List ℕ} wher
         let e : i ≡ 0 = omega arith in
         let r : Same 0 = passed-down Same 0 t.n (omega arith) (λ h a b. passed h (between parted-none (rw e at t.parted) h a b)) t.weighing in
         record {
-          children = λ n l. holds-end (length parents) (at parents) (at own) (weightOf left₀ wholes) r.done (at wholes) r.all r.held n l;
+          children = λ n l. holds-end (length parents) (at parents) (at own) (weight_of left₀ wholes) r.done (at wholes) r.all r.held n l;
           left_is = λ n l. (r.settled n (omega arith) l).left_is;
           weights-are = λ n l. (r.settled n (omega arith) l).weight_is;
           listed = record {

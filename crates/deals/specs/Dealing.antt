@@ -8,9 +8,9 @@
 -- root: its excess less that, its weight). A cord's low, its used − low and its part are its start and its part.
 -- (`SecondPassesFirst` in Promises.antt says this of the figures.)
 use Rattle.std.specs.Prelude.{Bool, false, cond, List, [], ◌∷◌, ◌++◌, map, ℕ, zero, suc, ◌+◌, ◌-◌, eqb}
-use Rattle.figures.specs.Figures.{total, figuresFrom, figures, cell, sum_of}
+use Rattle.figures.specs.Figures.{total, figures_from, figures, cell, sum_of}
 use Rattle.splits.specs.Split.{split}
-use Rattle.deals.specs.Metrics.{Deal, Metrics, metrics, atLevel}
+use Rattle.deals.specs.Metrics.{Deal, Metrics, metrics, at_level}
 
 -- ---- The children of a node
 
@@ -27,41 +27,41 @@ same (node m) (cord h) = false
 same (cord c) (node h) = false
 
 -- Of the k places from j on, those of which a test holds, in order.
-unfoldable pub placesFrom : ℕ → ℕ → (ℕ → Bool) → List ℕ
-placesFrom zero j test = []
-placesFrom (suc k) j test =
-    let rest = placesFrom k (suc j) test in
+unfoldable pub places_from : ℕ → ℕ → (ℕ → Bool) → List ℕ
+places_from zero j test = []
+places_from (suc k) j test =
+    let rest = places_from k (suc j) test in
     cond (test j) (j ∷ rest) rest
 
 -- The children of the node at place n, as a list: first its child nodes, from the lowest number on, then the cords that hang on
 -- the node itself, as they come in the table.
 unfoldable pub children : Deal → ℕ → List Child
-unfolding placesFrom
+unfolding places_from
 children d n =
-    map node (placesFrom d.nodes 0 (λ m. eqb (d.parent m) (suc n)))
-    ++ map cord (placesFrom d.cords 0 (λ c. eqb (d.node c) (suc n)))
+    map node (places_from d.nodes 0 (λ m. eqb (d.parent m) (suc n)))
+    ++ map cord (places_from d.cords 0 (λ c. eqb (d.node c) (suc n)))
 
 -- What a node is to have at a level over the starts beneath it: Request − starts. A cord, at its own level: want − start.
 -- (Where each start is the low, these are the excesses.)
-abbrev pub nodeOver : Metrics → ℕ → ℕ → ℕ
-nodeOver f m j = cell f.requests m j - cell f.starts m j
+abbrev pub node_over : Metrics → ℕ → ℕ → ℕ
+node_over f m j = cell f.requests m j - cell f.starts m j
 
-abbrev pub cordOver : Deal → ℕ → ℕ
-cordOver d c = d.want c - d.start c
+abbrev pub cord_over : Deal → ℕ → ℕ
+cord_over d c = d.want c - d.start c
 
 -- A child's weight at level j is what it is to have there over the starts; a cord has none but at its own level.
 abbrev pub weight : Deal → Metrics → ℕ → Child → ℕ
-weight d f j (node m) = nodeOver f m j
-weight d f j (cord c) = atLevel d j (cordOver d) c
+weight d f j (node m) = node_over f m j
+weight d f j (cord c) = at_level d j (cord_over d) c
 
 -- The weights of the children of the node at place n, and their sum.
-unfoldable pub weightsOf : Deal → Metrics → ℕ → ℕ → List ℕ
+unfoldable pub weights_of : Deal → Metrics → ℕ → ℕ → List ℕ
 unfolding children
-weightsOf d f n j = map (weight d f j) (children d n)
+weights_of d f n j = map (weight d f j) (children d n)
 
-unfoldable pub weightSum : Deal → Metrics → ℕ → ℕ → ℕ
-unfolding weightsOf total
-weightSum d f n j = sum_of (weightsOf d f n j)
+unfoldable pub weight_sum : Deal → Metrics → ℕ → ℕ → ℕ
+unfolding weights_of total
+weight_sum d f n j = sum_of (weights_of d f n j)
 
 -- ---- What reaches a child
 
@@ -78,34 +78,34 @@ unfolding beside children split
 part_of d weight n amount child = beside child (children d n) (split amount (map weight (children d n)))
 
 -- By the number of a node: `none` for number 0, else the figure at its place.
-abbrev pub byNumber : ℕ → ℕ → (ℕ → ℕ) → ℕ
-byNumber zero none figure = none
-byNumber (suc n) none figure = figure n
+abbrev pub by_number : ℕ → ℕ → (ℕ → ℕ) → ℕ
+by_number zero none figure = none
+by_number (suc n) none figure = figure n
 
 -- The amount of the node at place m, by given weights: a root's is all of its weight, any other's what its parent gives it.
 -- (`steps` bounds the way to the root; a parent's number is below its child's, so that m + 1 is enough.)
-unfoldable pub nodeAmount : Deal → (Child → ℕ) → ℕ → ℕ → ℕ
+unfoldable pub node_amount : Deal → (Child → ℕ) → ℕ → ℕ → ℕ
 unfolding part_of
-nodeAmount d weight zero m = 0
-nodeAmount d weight (suc steps) m = byNumber (d.parent m) (weight (node m)) (λ n. part_of d weight n (nodeAmount d weight steps n) (node m))
+node_amount d weight zero m = 0
+node_amount d weight (suc steps) m = by_number (d.parent m) (weight (node m)) (λ n. part_of d weight n (node_amount d weight steps n) (node m))
 
 -- The amount that reaches the cord at place c, by given weights: what its node gives it.
-unfoldable pub cordAmount : Deal → (Child → ℕ) → ℕ → ℕ
-unfolding part_of nodeAmount
-cordAmount d weight c = byNumber (d.node c) 0 (λ n. part_of d weight n (nodeAmount d weight (suc n) n) (cord c))
+unfoldable pub cord_amount : Deal → (Child → ℕ) → ℕ → ℕ
+unfolding part_of node_amount
+cord_amount d weight c = by_number (d.node c) 0 (λ n. part_of d weight n (node_amount d weight (suc n) n) (cord c))
 
 -- The amount at level j of the node at place m, and what reaches the cord at place c at its own level.
 unfoldable pub amount : Deal → Metrics → ℕ → ℕ → ℕ → ℕ
-unfolding nodeAmount
-amount d f steps m j = nodeAmount d (weight d f j) steps m
+unfolding node_amount
+amount d f steps m j = node_amount d (weight d f j) steps m
 
 unfoldable pub reached : Deal → Metrics → ℕ → ℕ
-unfolding cordAmount
-reached d f c = cordAmount d (weight d f (d.level c)) c
+unfolding cord_amount
+reached d f c = cord_amount d (weight d f (d.level c)) c
 
 -- The grants of a deal: each cord's start plus the amount that reached it.
 unfoldable pub granted : Deal → List ℕ
-unfolding figuresFrom metrics reached
+unfolding figures_from metrics reached
 granted d =
     let f = metrics d in
     figures d.cords (λ c. d.start c + reached d f c)

@@ -1,13 +1,13 @@
 -- The whole plan: the table's refusals, those of the demands and of the lists, and the answer.
 use Rattle.std.specs.Prelude.{not, List, [], ◌∷◌, map, ℕ, suc, eqb, ltb, length}
-use Rattle.outcomes.specs.Outcome.{Outcome, accepted, refused, Reason, unless, tooShort}
-use Rattle.figures.specs.Bounds.{firstNotBelow}
-use Rattle.outcomes.specs.Part.{whenGood}
+use Rattle.outcomes.specs.Outcome.{Outcome, accepted, refused, Reason, unless, too_short}
+use Rattle.figures.specs.Bounds.{first_not_below}
+use Rattle.outcomes.specs.Part.{when_good}
 use Rattle.rooms.specs.Part.{Step}
-use Rattle.rooms.specs.Table.{Room, mostWatts, mostServers, mostCords, roomCords}
+use Rattle.rooms.specs.Table.{Room, most_watts, most_servers, most_cords, room_cords}
 use Rattle.rooms.specs.Limits.{checked}
-use Rattle.rooms.specs.Outcome.{sheetRefusalNumber, sheetRefusalPlace}
-use Rattle.deals.specs.SecondDeal.{freed, secondGrants, caps}
+use Rattle.rooms.specs.Outcome.{sheet_refusal_number, sheet_refusal_place}
+use Rattle.deals.specs.SecondDeal.{freed, second_grants, caps}
 use Rattle.deals.specs.Headroom.{headroom}
 use Rattle.deals.specs.Held.{held}
 use Rattle.deals.specs.declared.PlanList.{PlanList}
@@ -33,7 +33,7 @@ pub record Plan : Type 0 where
 abbrev pub plan_of : Room → List ℕ → Plan
 plan_of r demands = record {
   freed = freed r demands;
-  grants = secondGrants r demands;
+  grants = second_grants r demands;
   caps = caps r demands;
   headroom = headroom r demands;
   held = held r demands;
@@ -47,8 +47,8 @@ PlanOutcome = Outcome Plan PlanRefusal
 
 -- The lists that a plan is written to, by their names, in the order in which they are checked. What is said of each is said once, of any
 -- name: they are told apart here, and where they are slices.
-abbrev pub allLists : List PlanList
-allLists = Grants ∷ Caps ∷ Headroom ∷ Held ∷ []
+abbrev pub all_lists : List PlanList
+all_lists = Grants ∷ Caps ∷ Headroom ∷ Held ∷ []
 
 -- What a plan has for a list.
 abbrev pub output : PlanList → Plan → List ℕ
@@ -64,12 +64,12 @@ count cords servers Caps = servers
 count cords servers Headroom = cords
 count cords servers Held = cords
 
-abbrev pub countIn : Room → PlanList → ℕ
-countIn r = count (roomCords r) (length r.servers)
+abbrev pub count_in : Room → PlanList → ℕ
+count_in r = count (room_cords r) (length r.servers)
 
 -- The lengths of lists, each by its name, and the length of each.
-abbrev pub lengthsOf : (PlanList → ℕ) → Lengths
-lengthsOf entries = record { grants = entries Grants; caps = entries Caps; headroom = entries Headroom; held = entries Held }
+abbrev pub lengths_of : (PlanList → ℕ) → Lengths
+lengths_of entries = record { grants = entries Grants; caps = entries Caps; headroom = entries Headroom; held = entries Held }
 
 abbrev pub entries : Lengths → PlanList → ℕ
 entries lengths Grants = lengths.grants
@@ -90,60 +90,60 @@ lists grants caps headroom held Held = held
 
 -- The lengths of the lists that are lent.
 abbrev pub lent : Lists → Lengths
-lent given = lengthsOf (λ list. length (given list))
+lent given = lengths_of (λ list. length (given list))
 
 -- The lengths of lists that take the plan of every room.
-abbrev pub mostLent : Lengths
-mostLent = lengthsOf (count mostCords mostServers)
+abbrev pub most_lent : Lengths
+most_lent = lengths_of (count most_cords most_servers)
 
 -- ---- Refusals
 
 -- The index of the first demand above the most watts; the count of demands if there is none.
-abbrev pub firstTooLarge : List ℕ → ℕ
-firstTooLarge demands = firstNotBelow (suc mostWatts) demands
+abbrev pub first_too_large : List ℕ → ℕ
+first_too_large demands = first_not_below (suc most_watts) demands
 
 -- A reason to refuse a plan.
 abbrev pub PlanReason : Type 0
 PlanReason = Reason PlanRefusal
 
 -- There is not a demand for each server (10). The refusal is that of the operation that has the demands.
-abbrev pub countDiffers : {R : Type 0} → (ℕ → R) → Room → List ℕ → Reason R
-countDiffers told r demands = record { holds = not (eqb (length demands) (length r.servers)); refusal = told (length r.servers) }
+abbrev pub count_differs : {R : Type 0} → (ℕ → R) → Room → List ℕ → Reason R
+count_differs told r demands = record { holds = not (eqb (length demands) (length r.servers)); refusal = told (length r.servers) }
 
 -- A demand is above the most watts (11).
-abbrev pub demandTooLarge : {R : Type 0} → (ℕ → R) → List ℕ → Reason R
-demandTooLarge told demands = record { holds = ltb (firstTooLarge demands) (length demands); refusal = told (firstTooLarge demands) }
+abbrev pub demand_too_large : {R : Type 0} → (ℕ → R) → List ℕ → Reason R
+demand_too_large told demands = record { holds = ltb (first_too_large demands) (length demands); refusal = told (first_too_large demands) }
 
 -- A list is too short for a room of so many cords and servers.
-abbrev pub listTooShort : (cords servers : ℕ) → Lengths → PlanList → PlanReason
-listTooShort cords servers lengths list = tooShort (ListTooShort list) (entries lengths list) (count cords servers list)
+abbrev pub list_too_short : (cords servers : ℕ) → Lengths → PlanList → PlanReason
+list_too_short cords servers lengths list = too_short (ListTooShort list) (entries lengths list) (count cords servers list)
 
 -- The reasons of this kind, in their order (12 and on).
-abbrev pub listReasons : (cords servers : ℕ) → Lengths → List PlanReason
-listReasons cords servers lengths = map (listTooShort cords servers lengths) allLists
+abbrev pub list_reasons : (cords servers : ℕ) → Lengths → List PlanReason
+list_reasons cords servers lengths = map (list_too_short cords servers lengths) all_lists
 
 -- All reasons to refuse the plan of a good room, in their order (10 and on).
 abbrev pub reasons : Room → List ℕ → Lengths → List PlanReason
 reasons r demands lengths =
-    countDiffers DemandCount r demands
-    ∷ demandTooLarge DemandTooLarge demands
-    ∷ listReasons (roomCords r) (length r.servers) lengths
+    count_differs DemandCount r demands
+    ∷ demand_too_large DemandTooLarge demands
+    ∷ list_reasons (room_cords r) (length r.servers) lengths
 
 -- ---- Plan
 
 -- The plan of a good room, in lists of given lengths.
-unfoldable pub planRoom : Room → List ℕ → Lengths → PlanOutcome
-unfolding unless firstNotBelow freed secondGrants caps headroom held
-planRoom r demands lengths = unless (reasons r demands lengths) (plan_of r demands)
+unfoldable pub plan_room : Room → List ℕ → Lengths → PlanOutcome
+unfolding unless first_not_below freed second_grants caps headroom held
+plan_room r demands lengths = unless (reasons r demands lengths) (plan_of r demands)
 
 -- The plan of what the table's check gives: its refusals (4 to 9) stand.
-abbrev pub planStep : Step Room → List ℕ → Lengths → PlanOutcome
-planStep step demands lengths = whenGood Table step (λ room. planRoom room demands lengths)
+abbrev pub plan_step : Step Room → List ℕ → Lengths → PlanOutcome
+plan_step step demands lengths = when_good Table step (λ room. plan_room room demands lengths)
 
 -- Plan: a table, a demand list, and the lengths of the lists that are lent.
 unfoldable pub plan : List ℕ → List ℕ → Lengths → PlanOutcome
-unfolding planRoom checked
-plan table demands lengths = planStep (checked table 0) demands lengths
+unfolding plan_room checked
+plan table demands lengths = plan_step (checked table 0) demands lengths
 
 -- ---- What the caller sees
 
@@ -155,31 +155,31 @@ answer_of (refused refusal) = Refused refusal
 -- ---- Numbers and places
 
 -- The number of the refusal where a list is too short.
-abbrev pub planListNumber : PlanList → ℕ
-planListNumber Grants = 12
-planListNumber Caps = 13
-planListNumber Headroom = 14
-planListNumber Held = 15
+abbrev pub plan_list_number : PlanList → ℕ
+plan_list_number Grants = 12
+plan_list_number Caps = 13
+plan_list_number Headroom = 14
+plan_list_number Held = 15
 
 -- A refusal's number.
-abbrev pub planRefusalNumber : PlanRefusal → ℕ
-planRefusalNumber (Table refusal) = sheetRefusalNumber refusal
-planRefusalNumber (DemandCount place) = 10
-planRefusalNumber (DemandTooLarge place) = 11
-planRefusalNumber (ListTooShort list place) = planListNumber list
+abbrev pub plan_refusal_number : PlanRefusal → ℕ
+plan_refusal_number (Table refusal) = sheet_refusal_number refusal
+plan_refusal_number (DemandCount place) = 10
+plan_refusal_number (DemandTooLarge place) = 11
+plan_refusal_number (ListTooShort list place) = plan_list_number list
 
 -- A refusal's place.
-abbrev pub planRefusalPlace : PlanRefusal → ℕ
-planRefusalPlace (Table refusal) = sheetRefusalPlace refusal
-planRefusalPlace (DemandCount place) = place
-planRefusalPlace (DemandTooLarge place) = place
-planRefusalPlace (ListTooShort list place) = place
+abbrev pub plan_refusal_place : PlanRefusal → ℕ
+plan_refusal_place (Table refusal) = sheet_refusal_place refusal
+plan_refusal_place (DemandCount place) = place
+plan_refusal_place (DemandTooLarge place) = place
+plan_refusal_place (ListTooShort list place) = place
 
 -- An answer's number, 0 if accepted, and its figure: the freed watts, or the refusal's place.
-abbrev pub planNumber : Planned → ℕ
-planNumber (Accepted freed) = 0
-planNumber (Refused refusal) = planRefusalNumber refusal
+abbrev pub plan_number : Planned → ℕ
+plan_number (Accepted freed) = 0
+plan_number (Refused refusal) = plan_refusal_number refusal
 
-abbrev pub planFigure : Planned → ℕ
-planFigure (Accepted freed) = freed
-planFigure (Refused refusal) = planRefusalPlace refusal
+abbrev pub plan_figure : Planned → ℕ
+plan_figure (Accepted freed) = freed
+plan_figure (Refused refusal) = plan_refusal_place refusal

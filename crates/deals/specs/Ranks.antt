@@ -1,55 +1,55 @@
 -- One deal, rank by rank: what the contract of `by_rank` cites. Figures stand in lists, by the places of nodes or cords.
 use Rattle.std.specs.Prelude.{◌≡◌, List, ℕ, ◌+◌, ◌≤◌, ◌<◌, ltb, length}
-use Rattle.rooms.specs.Table.{mostNodes, mostCords, mostWatts, highestRank}
-use Rattle.rooms.specs.Trees.{ParentsFirst, sumBeneath}
+use Rattle.rooms.specs.Table.{most_nodes, most_cords, most_watts, highest_rank}
+use Rattle.rooms.specs.Trees.{ParentsFirst, sum_beneath}
 use Rattle.figures.specs.Figures.{at, cell}
-use Rattle.deals.specs.Metrics.{Deal, dealFrom, metrics}
+use Rattle.deals.specs.Metrics.{Deal, deal_from, metrics}
 use Rattle.deals.specs.Dealing.{granted}
-use Rattle.deals.specs.Headroom.{requestsAt}
-use Rattle.deals.specs.Held.{cutFrom}
+use Rattle.deals.specs.Headroom.{requests_at}
+use Rattle.deals.specs.Held.{cut_from}
 use Rattle.deals.specs.Properties.{StartsFit}
 use Rattle.deals.specs.Levels.{LevelLists}
 
 -- The nodes of a room: for each its parent's number and its limit.
 pub record NodeLists (parents limits : List ℕ) : Type 0 where
-  pub few : length parents ≤ mostNodes
+  pub few : length parents ≤ most_nodes
   pub limits-size : length limits ≡ length parents
   pub rises : ParentsFirst (length parents) (at parents)
-  pub most : (m : ℕ) → m < length parents → at limits m ≤ mostWatts
+  pub most : (m : ℕ) → m < length parents → at limits m ≤ most_watts
 
 -- The cords of a room of so many nodes: for each its node's number, its level (rank − 1), its low, its start and its want.
-pub record CordLists (nodeCount : ℕ) (nodes levels lows starts wants : List ℕ) : Type 0 where
-  pub few : length nodes ≤ mostCords
+pub record CordLists (node_count : ℕ) (nodes levels lows starts wants : List ℕ) : Type 0 where
+  pub few : length nodes ≤ most_cords
   pub levels-size : length levels ≡ length nodes
   pub lows-size : length lows ≡ length nodes
   pub starts-size : length starts ≡ length nodes
   pub wants-size : length wants ≡ length nodes
   pub hangs : (c : ℕ) → c < length nodes → 1 ≤ at nodes c
-  pub within : (c : ℕ) → c < length nodes → at nodes c ≤ nodeCount
-  pub ranked : (c : ℕ) → c < length nodes → at levels c < highestRank
+  pub within : (c : ℕ) → c < length nodes → at nodes c ≤ node_count
+  pub ranked : (c : ℕ) → c < length nodes → at levels c < highest_rank
   pub least : (c : ℕ) → c < length nodes → at lows c ≤ at starts c
   pub ordered : (c : ℕ) → c < length nodes → at starts c ≤ at wants c
-  pub most : (c : ℕ) → c < length nodes → at wants c ≤ mostWatts
+  pub most : (c : ℕ) → c < length nodes → at wants c ≤ most_watts
 
--- The watts of all cords beneath the node at place n, at any depth: of the lows, rooms' `lowsBeneath`, over lists.
-abbrev pub listBeneath : List ℕ → List ℕ → List ℕ → ℕ → ℕ
-listBeneath parents nodes watts n = sumBeneath (length parents) (at parents) (length nodes) (at nodes) n (at watts)
+-- The watts of all cords beneath the node at place n, at any depth: of the lows, rooms' `lows_beneath`, over lists.
+abbrev pub list_beneath : List ℕ → List ℕ → List ℕ → ℕ → ℕ
+list_beneath parents nodes watts n = sum_beneath (length parents) (at parents) (length nodes) (at nodes) n (at watts)
 
 -- Lists of which a deal can be made: no node has a limit that the lows beneath it exceed, nor at any rank a Request that the starts
 -- beneath it exceed, and the Requests of any rank and above leave the lower ranks their starts.
 pub record DealLists (parents limits nodes levels lows starts wants : List ℕ) : Type 0 where
   pub of-nodes : NodeLists parents limits
   pub of-cords : CordLists (length parents) nodes levels lows starts wants
-  pub lows-within : (n : ℕ) → n < length parents → listBeneath parents nodes lows n ≤ at limits n
-  pub starts-within : (n j : ℕ) → n < length parents → j < highestRank
-      → cell (metrics (dealFrom parents limits nodes levels lows starts wants)).starts n j
-      ≤ cell (metrics (dealFrom parents limits nodes levels lows starts wants)).requests n j
-  pub starts_fit : StartsFit (dealFrom parents limits nodes levels lows starts wants)
+  pub lows-within : (n : ℕ) → n < length parents → list_beneath parents nodes lows n ≤ at limits n
+  pub starts-within : (n j : ℕ) → n < length parents → j < highest_rank
+      → cell (metrics (deal_from parents limits nodes levels lows starts wants)).starts n j
+      ≤ cell (metrics (deal_from parents limits nodes levels lows starts wants)).requests n j
+  pub starts_fit : StartsFit (deal_from parents limits nodes levels lows starts wants)
 
 -- What each node's limit has over the watts of the cords beneath it.
 pub record Spare (parents limits nodes watts spare : List ℕ) : Type 0 where
   pub size : length spare ≡ length parents
-  pub over : (n : ℕ) → n < length parents → at spare n + listBeneath parents nodes watts n ≡ at limits n
+  pub over : (n : ℕ) → n < length parents → at spare n + list_beneath parents nodes watts n ≡ at limits n
 
 -- The lists are those of a deal by these limits, levels and lows; `rows`, `order` and `actives` are what `levels` makes of the levels,
 -- and `spare` is what the limits have over the starts.
@@ -71,5 +71,5 @@ pub record SomeDeal (parents : List ℕ) (rows : List (List ℕ)) (order : List 
 -- none (a rank is its level + 1).
 pub record DealMade (d : Deal) (left cuts grants : List ℕ) : Type 0 where
   pub grants-are : grants ≡ granted d
-  pub left_is : (n : ℕ) → n < d.nodes → at left n + requestsAt (metrics d) n ≡ d.limit n
-  pub cuts_are : (n j : ℕ) → n < d.nodes → j < highestRank → cutFrom d (metrics d) j n ≡ ltb j (at cuts n)
+  pub left_is : (n : ℕ) → n < d.nodes → at left n + requests_at (metrics d) n ≡ d.limit n
+  pub cuts_are : (n j : ℕ) → n < d.nodes → j < highest_rank → cut_from d (metrics d) j n ≡ ltb j (at cuts n)

@@ -1,7 +1,7 @@
 // One deal: rank by rank from the highest, the Requests are gathered into their rows and dealt.
 // Private to Plan: no operation stands here.
 ghost use Rattle.std.specs.Prelude.{◌≡◌, List, ℕ, length};
-ghost use Rattle.deals.specs.Metrics.{dealFrom};
+ghost use Rattle.deals.specs.Metrics.{deal_from};
 ghost use Rattle.deals.specs.Ranks.{SomeDeal, DealGiven, DealMade};
 ghost use Rattle.figures.specs.Places.{Zeros};
 
@@ -37,7 +37,7 @@ pub fn deal(
         × Zeros (length parents.now) cuts.old × (length grants.old ≡ length nodes.now) }
     ensures dealt { (limits ranks lows : List ℕ) → DealGiven parents.now levels.now order.now
         actives.now nodes.now starts.now wants.now left.old limits ranks lows
-        → DealMade (dealFrom parents.now limits nodes.now ranks lows starts.now wants.now)
+        → DealMade (deal_from parents.now limits nodes.now ranks lows starts.now wants.now)
         left.new cuts.new grants.new }
 {
     let mut requests = [[0u32; 16]; 512];

@@ -1,9 +1,9 @@
 // One rank's dealing: from the first node to the last, then to the cords in table order. One split serves both: that of `splits`.
 ghost use Rattle.std.specs.Prelude.{◌≡◌, ℕ, suc, ◌+◌, ◌*◌, ◌/◌, ◌≤◌, ◌<◌, length};
-ghost use Rattle.rooms.specs.Table.{mostWatts, mostCords};
+ghost use Rattle.rooms.specs.Table.{most_watts, most_cords};
 ghost use Rattle.figures.specs.Figures.{at};
-ghost use Rattle.deals.specs.Passes.{LevelCords, WeightsListed, weightOf, overListed, cordWeight, NodesDealt, CordsDealt};
-ghost use Rattle.rooms.specs.Trees.{ParentsFirst, childSum};
+ghost use Rattle.deals.specs.Passes.{LevelCords, WeightsListed, weight_of, over_listed, cord_weight, NodesDealt, CordsDealt};
+ghost use Rattle.rooms.specs.Trees.{ParentsFirst, child_sum};
 
 use figures::{index, wide};
 use splits::{serve, serve_by_division};
@@ -22,10 +22,10 @@ pub fn deal_nodes(
     requires nodes { (length parents.now ≤ length before.old) × (length dealt.old ≡ length before.old)
         × ParentsFirst (length parents.now) (at parents.now) }
     requires weights { WeightsListed parents.now active.now count wholes.now amounts.old }
-    requires in_range { (n : ℕ) → n < length parents.now → (weightOf amounts.old wholes.now n ≤ mostWatts)
-        × (at wholes.now n ≤ mostCords * mostWatts)
-        × (childSum (length parents.now) (at parents.now) n (weightOf amounts.old wholes.now) ≤ at wholes.now n) }
-    ensures nodes_dealt { NodesDealt parents.now active.now count (weightOf amounts.old wholes.now)
+    requires in_range { (n : ℕ) → n < length parents.now → (weight_of amounts.old wholes.now n ≤ most_watts)
+        × (at wholes.now n ≤ most_cords * most_watts)
+        × (child_sum (length parents.now) (at parents.now) n (weight_of amounts.old wholes.now) ≤ at wholes.now n) }
+    ensures nodes_dealt { NodesDealt parents.now active.now count (weight_of amounts.old wholes.now)
         wholes.now amounts.new before.new dealt.new }
 {
     for i in 0..count {
@@ -58,10 +58,10 @@ pub fn deal_cords(
     requires cords { LevelCords (length amounts.now) listed.now nodes.now starts.now wants.now }
     requires sizes { (length wholes.now ≡ length amounts.now) × (length before.old ≡ length amounts.now)
         × (length dealt.old ≡ length amounts.now) × (length grants.old ≡ length nodes.now) }
-    requires in_range { (i n : ℕ) → i < length listed.now → at nodes.now (at listed.now i) ≡ suc n → (at amounts.now n ≤ mostWatts)
-        × (at amounts.now n ≤ at wholes.now n) × (at wholes.now n ≤ mostCords * mostWatts)
+    requires in_range { (i n : ℕ) → i < length listed.now → at nodes.now (at listed.now i) ≡ suc n → (at amounts.now n ≤ most_watts)
+        × (at amounts.now n ≤ at wholes.now n) × (at wholes.now n ≤ most_cords * most_watts)
         × (at dealt.old n ≡ at amounts.now n * at before.old n / at wholes.now n)
-        × (at before.old n + overListed listed.now nodes.now (cordWeight starts.now wants.now) n ≤ at wholes.now n) }
+        × (at before.old n + over_listed listed.now nodes.now (cord_weight starts.now wants.now) n ≤ at wholes.now n) }
     ensures cords_dealt { CordsDealt listed.now nodes.now starts.now wants.now
         wholes.now amounts.now before.old grants.old grants.new }
 {

@@ -1,8 +1,8 @@
 // Metrics and dealing, and what Plan answers. The definitions of both deals and of the whole plan, and its promises, stand in specs/,
 // their proofs in proofs/; the operation itself is `plans::plan`. The modules are private to Plan: no operation stands there.
 ghost use Rattle.std.specs.Prelude.{◌≡◌};
-ghost use Rattle.deals.specs.Plan.{planListNumber, planRefusalNumber, planRefusalPlace, planNumber, planFigure};
-ghost use Rattle.deals.specs.Judge.{verdictNumber, verdictNames, verdictRank};
+ghost use Rattle.deals.specs.Plan.{plan_list_number, plan_refusal_number, plan_refusal_place, plan_number, plan_figure};
+ghost use Rattle.deals.specs.Judge.{verdict_number, verdict_names, verdict_rank};
 
 // The lists by level, a rank's metrics, its dealing, and the deal, rank by rank.
 pub mod by_rank;
@@ -48,7 +48,7 @@ pub enum Planned {
 impl PlanList {
     // The number of the refusal where the list is too short.
     pub fn number(self) -> u64
-        ensures result { result ≡ planListNumber self }
+        ensures result { result ≡ plan_list_number self }
     {
         match self {
             PlanList::Grants => 12,
@@ -62,7 +62,7 @@ impl PlanList {
 impl PlanRefusal {
     // The refusal's number.
     pub fn number(self) -> u64
-        ensures result { result ≡ planRefusalNumber self }
+        ensures result { result ≡ plan_refusal_number self }
     {
         match self {
             PlanRefusal::Table(refusal) => refusal.number(),
@@ -74,7 +74,7 @@ impl PlanRefusal {
 
     // The refusal's place.
     pub fn place(self) -> usize
-        ensures result { result ≡ planRefusalPlace self }
+        ensures result { result ≡ plan_refusal_place self }
     {
         match self {
             PlanRefusal::Table(refusal) => refusal.place(),
@@ -88,7 +88,7 @@ impl PlanRefusal {
 impl Planned {
     // The refusal's number, or 0.
     pub fn number(self) -> u64
-        ensures result { result ≡ planNumber self }
+        ensures result { result ≡ plan_number self }
     {
         match self {
             Planned::Accepted(_) => 0,
@@ -98,7 +98,7 @@ impl Planned {
 
     // The freed watts, or the refusal's place.
     pub fn figure(self) -> u64
-        ensures result { result ≡ planFigure self }
+        ensures result { result ≡ plan_figure self }
     {
         match self {
             Planned::Accepted(freed) => freed,
@@ -121,7 +121,7 @@ pub enum Verdict {
 impl Verdict {
     // The verdict's number, 0 if the list passes.
     pub fn number(self) -> u64
-        ensures result { result ≡ verdictNumber self }
+        ensures result { result ≡ verdict_number self }
     {
         match self {
             Verdict::Passes => 0,
@@ -134,7 +134,7 @@ impl Verdict {
 
     // The cord, the node or the root that it names, or 0.
     pub fn names(self) -> usize
-        ensures result { result ≡ verdictNames self }
+        ensures result { result ≡ verdict_names self }
     {
         match self {
             Verdict::Passes => 0,
@@ -147,7 +147,7 @@ impl Verdict {
 
     // The rank that it names, or 0.
     pub fn rank(self) -> usize
-        ensures result { result ≡ verdictRank self }
+        ensures result { result ≡ verdict_rank self }
     {
         match self {
             Verdict::Passes => 0,

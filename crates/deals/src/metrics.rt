@@ -2,9 +2,9 @@
 // more entries than there are nodes: those past the nodes are not used.
 ghost use Rattle.std.specs.Prelude.{◌≡◌, ℕ, ◌-◌, ◌*◌, ◌≤◌, ◌<◌, min, length, set};
 ghost use Rattle.figures.specs.Sums.{sum};
-ghost use Rattle.rooms.specs.Table.{mostWatts, mostCords, highestRank};
+ghost use Rattle.rooms.specs.Table.{most_watts, most_cords, highest_rank};
 ghost use Rattle.figures.specs.Figures.{at};
-ghost use Rattle.deals.specs.Passes.{LevelCords, overListed, cordWeight, CordsSummed, cutMark};
+ghost use Rattle.deals.specs.Passes.{LevelCords, over_listed, cord_weight, CordsSummed, cut_mark};
 ghost use Rattle.deals.specs.Passes.{MayWeigh, Weighed, MayRequest, Requested};
 ghost use Rattle.figures.specs.Places.{Absent};
 ghost use Rattle.deals.specs.Levels.{ActiveNodes};
@@ -61,7 +61,7 @@ pub fn sum_weights(
     requires cords { LevelCords count listed.now nodes.now starts.now wants.now }
     requires size { count ≤ length wholes.old }
     ensures summed { (n : ℕ) → n < count → at wholes.new n
-        ≡ overListed listed.now nodes.now (cordWeight starts.now wants.now) n }
+        ≡ over_listed listed.now nodes.now (cord_weight starts.now wants.now) n }
 {
     clear(wholes, count);
     for i in 0..listed.len() {
@@ -96,7 +96,7 @@ pub fn weigh(
     requires nodes { ActiveNodes parents.now active.now count × ParentsFirst (length parents.now) (at parents.now) }
     requires sizes { (length left.old ≡ length parents.now) × (length parents.now ≤ length wholes.old)
         × (length parents.now ≤ length weights.old) }
-    requires sums_fit { sum (length parents.now) (at wholes.old) ≤ mostCords * mostWatts }
+    requires sums_fit { sum (length parents.now) (at wholes.old) ≤ most_cords * most_watts }
     requires idle { (n : ℕ) → n < length parents.now → Absent active.now count n → at wholes.old n ≡ 0 }
     ensures weighed { Weighed parents.now active.now count left.old wholes.old left.new
         wholes.new weights.new }
@@ -113,8 +113,8 @@ pub fn weigh(
 
 // The mark of a node's cuts after a level, by what is left of its limit there and its children's weights.
 fn marked(mark: u16, level: usize, left: u64, whole: u64) -> u16
-    requires level { level < highestRank }
-    ensures result { result ≡ cutMark mark level left whole }
+    requires level { level < highest_rank }
+    ensures result { result ≡ cut_mark mark level left whole }
 {
     if left < whole {
         if index(mark) <= level {

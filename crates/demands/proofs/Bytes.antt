@@ -9,7 +9,7 @@ use borrow.Author.Tests.{lt-ltb, le-ltb, eq-eqb, ne_eqb}
 use lib.ListN.{length, drop, get_or, set, drop_of_length-le}
 use lib.Seq.{drop-cons}
 use Rattle.demands.specs.Text.{newline}
-use Rattle.demands.specs.Reading.{HeldReading, heldReading, with, emptyLine, extended, lineDemand, hasByte, space, closed, fedByte, fed, finished}
+use Rattle.demands.specs.Reading.{HeldReading, held_reading, with, empty_line, extended, line_demand, has_byte, space, closed, fed_byte, fed, finished}
 use Rattle.demands.specs.declared.DemandReading.{DemandReading}
 
 -- ---- the outcomes of a step
@@ -17,30 +17,30 @@ use Rattle.demands.specs.declared.DemandReading.{DemandReading}
 module _ (reading : DemandReading) (list : List ℕ) where
   -- A line that ends where there is space, and where there is none.
   pub closed-stores : reading.count < space list
-      → closed (heldReading reading list) ≡ heldReading (with (reading.count + 1) emptyLine) (set list reading.count (lineDemand reading.line))
+      → closed (held_reading reading list) ≡ held_reading (with (reading.count + 1) empty_line) (set list reading.count (line_demand reading.line))
   unfolding closed
   closed-stores h = rw (lt-ltb _ _ h)
 
-  pub closed-full : space list ≤ reading.count → closed (heldReading reading list) ≡ heldReading (with reading.count emptyLine) list
+  pub closed-full : space list ≤ reading.count → closed (held_reading reading list) ≡ held_reading (with reading.count empty_line) list
   unfolding closed
   closed-full h = rw (le-ltb _ _ h)
 
   -- A newline, and any other byte.
-  pub fedByte-newline : (byte : ℕ) → byte ≡ newline → fedByte (heldReading reading list) byte ≡ closed (heldReading reading list)
-  unfolding fedByte
-  fedByte-newline byte h = rw (eq-eqb _ _ h)
+  pub fed_byte-newline : (byte : ℕ) → byte ≡ newline → fed_byte (held_reading reading list) byte ≡ closed (held_reading reading list)
+  unfolding fed_byte
+  fed_byte-newline byte h = rw (eq-eqb _ _ h)
 
-  pub fedByte-other : (byte : ℕ) → (byte ≡ newline → ⊥)
-      → fedByte (heldReading reading list) byte ≡ heldReading (with reading.count (extended reading.line byte)) list
-  unfolding fedByte
-  fedByte-other byte h = rw (ne_eqb _ _ h)
+  pub fed_byte-other : (byte : ℕ) → (byte ≡ newline → ⊥)
+      → fed_byte (held_reading reading list) byte ≡ held_reading (with reading.count (extended reading.line byte)) list
+  unfolding fed_byte
+  fed_byte-other byte h = rw (ne_eqb _ _ h)
 
   -- The end of the text, inside a line and at the start of one.
-  pub finished-inside : hasByte reading.line ≡ true → finished (heldReading reading list) ≡ closed (heldReading reading list)
+  pub finished-inside : has_byte reading.line ≡ true → finished (held_reading reading list) ≡ closed (held_reading reading list)
   unfolding finished
   finished-inside h = rw h
 
-  pub finished-between : hasByte reading.line ≡ false → finished (heldReading reading list) ≡ heldReading reading list
+  pub finished-between : has_byte reading.line ≡ false → finished (held_reading reading list) ≡ held_reading reading list
   unfolding finished
   finished-between h = rw h
 
@@ -55,7 +55,7 @@ pub going-first : (h₀ : HeldReading) (piece : List ℕ) → Going h₀ piece h
 going-first h₀ piece = record { bound = omega arith; same = refl }
 
 pub going_next : (h₀ : HeldReading) (piece : List ℕ) (h h' : HeldReading) (i : ℕ) → Going h₀ piece h i → i < length piece
-    → h' ≡ fedByte h (get_or piece i 0)
+    → h' ≡ fed_byte h (get_or piece i 0)
     → Going h₀ piece h' (i + 1)
 unfolding fed
 going_next h₀ piece h h' i g inside e =

@@ -10,8 +10,8 @@ use native.Mathlib.Omega.{arith}
 use borrow.Author.Tests.{lt-ltb, le-leb, lt-leb, leb-true}
 use lib.Dec.{leb, ltb}
 use lib.ListN.{length}
-use Rattle.demands.specs.Text.{mostDigits, noDemand, before, isDigit, areDigits, numberAfter, demandOf}
-use Rattle.demands.specs.Reading.{emptyLine, extended, hasByte, lineDemand}
+use Rattle.demands.specs.Text.{most_digits, no_demand, before, is_digit, are_digits, number_after, demand_of}
+use Rattle.demands.specs.Reading.{empty_line, extended, has_byte, line_demand}
 use Rattle.demands.specs.declared.DemandLine.{DemandLine}
 use Rattle.demands.specs.declared.DemandLine.TheVariants.{Digits, Other}
 use Rattle.figures.proofs.Tests.{and-false}
@@ -23,11 +23,11 @@ unfoldable pub extended_by : DemandLine → List ℕ → DemandLine
 extended_by line [] = line
 extended_by line (byte ∷ bytes) = extended_by (extended line byte) bytes
 
-pub extendedBy-append : (line : DemandLine) (bytes : List ℕ) (byte : ℕ)
+pub extended_by-append : (line : DemandLine) (bytes : List ℕ) (byte : ℕ)
     → extended_by line (bytes ++ (byte ∷ [])) ≡ extended (extended_by line bytes) byte
 unfolding extended_by
-extendedBy-append line [] byte = refl
-extendedBy-append line (b ∷ bytes) byte = extendedBy-append (extended line b) bytes byte
+extended_by-append line [] byte = refl
+extended_by-append line (b ∷ bytes) byte = extended_by-append (extended line b) bytes byte
 
 stays-other : (bytes : List ℕ) → extended_by Other bytes ≡ Other
 unfolding extended_by
@@ -38,94 +38,94 @@ stays-other (b ∷ bytes) = stays-other bytes
 grown : (count number digit : ℕ) → number < 10 ^ count → digit ≤ 9 → number * 10 + digit < 10 ^ (count + 1)
 grown count number digit h k = rw (add-one, pow-succ') (omega arith)
 
-small : (count number : ℕ) → count < mostDigits → number < 10 ^ count → number < 10000000
+small : (count number : ℕ) → count < most_digits → number < 10 ^ count → number < 10000000
 small count number h k =
     let most : count ≤ 7 = omega arith in
     lt_of_lt_of_le k (pow-le-pow_right {n = 10} (zero-lt-suc 9) most)
 
 -- The demand of a line that starts with so many digits, which give a number.
-abbrev demandAfter : ℕ → ℕ → List ℕ → ℕ
-demandAfter count number line =
-    cond (leb 1 (count + length line) && (leb (count + length line) mostDigits && areDigits line)) (numberAfter number line) noDemand
+abbrev demand_after : ℕ → ℕ → List ℕ → ℕ
+demand_after count number line =
+    cond (leb 1 (count + length line) && (leb (count + length line) most_digits && are_digits line)) (number_after number line) no_demand
 
-lineDemand-after : (count number : ℕ) (line : List ℕ) → count ≤ mostDigits → number < 10 ^ count
-    → lineDemand (extended_by (Digits count number) line) ≡ demandAfter count number line
-unfolding extended_by areDigits numberAfter
-lineDemand-after count number [] h k =
-    let few : leb count mostDigits ≡ true = le-leb count 8 h in
+line_demand-after : (count number : ℕ) (line : List ℕ) → count ≤ most_digits → number < 10 ^ count
+    → line_demand (extended_by (Digits count number) line) ≡ demand_after count number line
+unfolding extended_by are_digits number_after
+line_demand-after count number [] h k =
+    let few : leb count most_digits ≡ true = le-leb count 8 h in
     rw (add-zero, few) (sym-and (leb 1 count))
   where
-    sym-and : (test : Bool) → cond test number noDemand ≡ cond (test && true) number noDemand
+    sym-and : (test : Bool) → cond test number no_demand ≡ cond (test && true) number no_demand
     sym-and true = refl
     sym-and false = refl
-lineDemand-after count number (b ∷ line) h k =
-    go (isDigit b) refl (eq-or-lt_of_le h) (lineDemand-after (count + 1) (number * 10 + (b - 48)) line)
+line_demand-after count number (b ∷ line) h k =
+    go (is_digit b) refl (eq-or-lt_of_le h) (line_demand-after (count + 1) (number * 10 + (b - 48)) line)
   where
-    digit : isDigit b ≡ true → b - 48 ≤ 9
+    digit : is_digit b ≡ true → b - 48 ≤ 9
     digit e = last (leb 48 b) e
       where
         last : (test : Bool) → test && leb b 57 ≡ true → b - 48 ≤ 9
         last true q = omega (arith, leb-true b 57 q)
         last false q = let z : false ≡ true = q in let w : ◌≡◌ {A = ℕ} 0 1 = cc in absurd (omega arith)
 
-    go : (test : Bool) → isDigit b ≡ test → (count ≡ mostDigits) ⊎ (count < mostDigits)
-        → (count + 1 ≤ mostDigits → number * 10 + (b - 48) < 10 ^ (count + 1)
-        → lineDemand (extended_by (Digits (count + 1) (number * 10 + (b - 48))) line) ≡ demandAfter (count + 1) (number * 10 + (b - 48)) line)
-        → lineDemand
-        (extended_by (cond (test && (ltb count mostDigits && ltb number 10000000)) (Digits (count + 1) (number * 10 + (b - 48))) Other) line)
-        ≡ cond (leb 1 (count + suc (length line)) && (leb (count + suc (length line)) mostDigits && (test && areDigits line)))
-        (numberAfter (number * 10 + (b - 48)) line) noDemand
+    go : (test : Bool) → is_digit b ≡ test → (count ≡ most_digits) ⊎ (count < most_digits)
+        → (count + 1 ≤ most_digits → number * 10 + (b - 48) < 10 ^ (count + 1)
+        → line_demand (extended_by (Digits (count + 1) (number * 10 + (b - 48))) line) ≡ demand_after (count + 1) (number * 10 + (b - 48)) line)
+        → line_demand
+        (extended_by (cond (test && (ltb count most_digits && ltb number 10000000)) (Digits (count + 1) (number * 10 + (b - 48))) Other) line)
+        ≡ cond (leb 1 (count + suc (length line)) && (leb (count + suc (length line)) most_digits && (test && are_digits line)))
+        (number_after (number * 10 + (b - 48)) line) no_demand
     go false q w rec = rw (stays-other line, and-false, and-false)
     go true q (inl e) rec =
-        let long : mostDigits < count + suc (length line) = omega arith in
-        let many : leb (count + suc (length line)) mostDigits ≡ false = lt-leb _ _ long in
-        let none : ltb count mostDigits ≡ false = rw e in
+        let long : most_digits < count + suc (length line) = omega arith in
+        let many : leb (count + suc (length line)) most_digits ≡ false = lt-leb _ _ long in
+        let none : ltb count most_digits ≡ false = rw e in
         rw (none, stays-other line, many, and-false)
     go true q (inr few) rec =
         let n : count + suc (length line) ≡ count + 1 + length line = omega arith in
         rw (lt-ltb _ _ few, lt-ltb _ _ (small count number few k), n) (rec (omega arith) (grown count number (b - 48) k (digit q)))
 
 -- A line that is read from its start comes to its demand.
-pub lineDemand-whole : (line : List ℕ) → lineDemand (extended_by emptyLine line) ≡ demandOf line
-unfolding demandOf
-lineDemand-whole line =
+pub line_demand-whole : (line : List ℕ) → line_demand (extended_by empty_line line) ≡ demand_of line
+unfolding demand_of
+line_demand-whole line =
     let n : 0 + length line ≡ length line = omega arith in
-    rw n at (lineDemand-after 0 0 line (omega arith) (omega arith))
+    rw n at (line_demand-after 0 0 line (omega arith) (omega arith))
 
 -- ---- whether a line has a byte
 
-extended-hasByte : (line : DemandLine) (byte : ℕ) → hasByte (extended line byte) ≡ true
-extended-hasByte (Digits count number) byte = go (isDigit byte && (ltb count mostDigits && ltb number 10000000))
+extended-has_byte : (line : DemandLine) (byte : ℕ) → has_byte (extended line byte) ≡ true
+extended-has_byte (Digits count number) byte = go (is_digit byte && (ltb count most_digits && ltb number 10000000))
   where
-    go : (test : Bool) → hasByte (cond test (Digits (count + 1) (number * 10 + (byte - 48))) Other) ≡ true
+    go : (test : Bool) → has_byte (cond test (Digits (count + 1) (number * 10 + (byte - 48))) Other) ≡ true
     go true = le-leb 1 (count + 1) (omega arith)
     go false = refl
-extended-hasByte Other byte = refl
+extended-has_byte Other byte = refl
 
-pub hasByte-some : (line : DemandLine) (byte : ℕ) (bytes : List ℕ) → hasByte (extended_by line (byte ∷ bytes)) ≡ true
+pub has_byte-some : (line : DemandLine) (byte : ℕ) (bytes : List ℕ) → has_byte (extended_by line (byte ∷ bytes)) ≡ true
 unfolding extended_by
-hasByte-some line byte [] = extended-hasByte line byte
-hasByte-some line byte (b ∷ bytes) = hasByte-some (extended line byte) b bytes
+has_byte-some line byte [] = extended-has_byte line byte
+has_byte-some line byte (b ∷ bytes) = has_byte-some (extended line byte) b bytes
 
 -- ---- the lines of a text, some bytes being read
 
 -- The lines with some bytes put in front of the first.
-unfoldable pub beforeAll : List ℕ → List (List ℕ) → List (List ℕ)
-beforeAll [] rest = rest
-beforeAll (byte ∷ bytes) rest = before byte (beforeAll bytes rest)
+unfoldable pub before_all : List ℕ → List (List ℕ) → List (List ℕ)
+before_all [] rest = rest
+before_all (byte ∷ bytes) rest = before byte (before_all bytes rest)
 
-pub beforeAll-ended : (line : List ℕ) (rest : List (List ℕ)) → beforeAll line ([] ∷ rest) ≡ line ∷ rest
-unfolding beforeAll before
-beforeAll-ended [] rest = refl
-beforeAll-ended (byte ∷ line) rest = rw (beforeAll-ended line rest)
+pub before_all-ended : (line : List ℕ) (rest : List (List ℕ)) → before_all line ([] ∷ rest) ≡ line ∷ rest
+unfolding before_all before
+before_all-ended [] rest = refl
+before_all-ended (byte ∷ line) rest = rw (before_all-ended line rest)
 
-pub beforeAll-append : (line : List ℕ) (byte : ℕ) (rest : List (List ℕ))
-    → beforeAll (line ++ (byte ∷ [])) rest ≡ beforeAll line (before byte rest)
-unfolding beforeAll
-beforeAll-append [] byte rest = refl
-beforeAll-append (b ∷ line) byte rest = ap (before b) (beforeAll-append line byte rest)
+pub before_all-append : (line : List ℕ) (byte : ℕ) (rest : List (List ℕ))
+    → before_all (line ++ (byte ∷ [])) rest ≡ before_all line (before byte rest)
+unfolding before_all
+before_all-append [] byte rest = refl
+before_all-append (b ∷ line) byte rest = ap (before b) (before_all-append line byte rest)
 
-pub beforeAll-last : (byte : ℕ) (line : List ℕ) → beforeAll (byte ∷ line) [] ≡ (byte ∷ line) ∷ []
-unfolding beforeAll before
-beforeAll-last byte [] = refl
-beforeAll-last byte (b ∷ line) = ap (before byte) (beforeAll-last b line)
+pub before_all-last : (byte : ℕ) (line : List ℕ) → before_all (byte ∷ line) [] ≡ (byte ∷ line) ∷ []
+unfolding before_all before
+before_all-last byte [] = refl
+before_all-last byte (b ∷ line) = ap (before byte) (before_all-last b line)

@@ -10,42 +10,42 @@ use lib.Dec.{eqb, ltb}
 use lib.ListN.{length, take, set, length-append, length-take}
 use lib.Seq.{sets, length-sets, take-nil, take_all, take-take, take-length, take-append-le}
 use Rattle.figures.proofs.Stores.{sets-append, sets-take, take-sets}
-use Rattle.demands.specs.Text.{mostLines, newline, before, lines, demandOf, demandsOf}
-use Rattle.demands.specs.Reading.{HeldReading, heldReading, with, emptyLine, extended, hasByte, lineDemand, space, closed, fedByte, fed, fedPieces, finished, heldCount}
+use Rattle.demands.specs.Text.{most_lines, newline, before, lines, demand_of, demands_of}
+use Rattle.demands.specs.Reading.{HeldReading, held_reading, with, empty_line, extended, has_byte, line_demand, space, closed, fed_byte, fed, fed_pieces, finished, held_count}
 use Rattle.demands.specs.Promises.{joined, ReadsDemands}
 use Rattle.demands.specs.declared.DemandLine.{DemandLine}
 use Rattle.demands.proofs.Bytes.{closed-stores, closed-full}
-use Rattle.demands.proofs.Lines.{extended_by, extendedBy-append, lineDemand-whole, hasByte-some, beforeAll, beforeAll-ended, beforeAll-append, beforeAll-last}
+use Rattle.demands.proofs.Lines.{extended_by, extended_by-append, line_demand-whole, has_byte-some, before_all, before_all-ended, before_all-append, before_all-last}
 
 -- ---- pieces
 
 pub fed-append : (h : HeldReading) (s t : List ℕ) → fed h (s ++ t) ≡ fed (fed h s) t
 unfolding fed
 fed-append h [] t = refl
-fed-append h (byte ∷ s) t = fed-append (fedByte h byte) s t
+fed-append h (byte ∷ s) t = fed-append (fed_byte h byte) s t
 
 -- Pieces that are read one after the other are the text that they make up.
-pub fedPieces-joined : (h : HeldReading) (pieces : List (List ℕ)) → fedPieces h pieces ≡ fed h (joined pieces)
-unfolding fedPieces joined fed
-fedPieces-joined h [] = refl
-fedPieces-joined h (piece ∷ rest) = fedPieces-joined (fed h piece) rest ∙ sym (fed-append h piece (joined rest))
+pub fed_pieces-joined : (h : HeldReading) (pieces : List (List ℕ)) → fed_pieces h pieces ≡ fed h (joined pieces)
+unfolding fed_pieces joined fed
+fed_pieces-joined h [] = refl
+fed_pieces-joined h (piece ∷ rest) = fed_pieces-joined (fed h piece) rest ∙ sym (fed-append h piece (joined rest))
 
 -- ---- what has been read
 
 -- The reading and its list, once lines of some demands have ended and a line is open; `most` go into the list.
 abbrev standing : List ℕ → ℕ → List ℕ → DemandLine → HeldReading
-standing list most demands line = heldReading (with (min (length demands) most) line) (sets list 0 (take most demands))
+standing list most demands line = held_reading (with (min (length demands) most) line) (sets list 0 (take most demands))
 
 abbrev reached : List ℕ → List ℕ → DemandLine → HeldReading
 reached list demands line = standing list (space list) demands line
 
 -- A line that ends is one demand more.
 closed-adds : (list demands : List ℕ) (line : DemandLine)
-    → closed (reached list demands line) ≡ reached list (demands ++ (lineDemand line ∷ [])) emptyLine
+    → closed (reached list demands line) ≡ reached list (demands ++ (line_demand line ∷ [])) empty_line
 closed-adds list demands line = go (ltb (length demands) (space list)) refl
   where
     d : ℕ
-    d = lineDemand line
+    d = line_demand line
 
     filled : List ℕ
     filled = sets list 0 (take (space list) demands)
@@ -54,7 +54,7 @@ closed-adds list demands line = go (ltb (length demands) (space list)) refl
     same = rw (length-sets list 0 (take (space list) demands))
 
     go : (test : Bool) → ltb (length demands) (space list) ≡ test
-        → closed (reached list demands line) ≡ reached list (demands ++ (d ∷ [])) emptyLine
+        → closed (reached list demands line) ≡ reached list (demands ++ (d ∷ [])) empty_line
     go true e =
         let h : length demands < space list = ltb-true _ _ e in
         let count : min (length demands) (space list) ≡ length demands = omega arith in
@@ -75,48 +75,48 @@ closed-adds list demands line = go (ltb (length demands) (space list)) refl
 
 -- The rest of a text, read to its end, where a line is open that has some bytes.
 finished-fed : (list text demands line : List ℕ)
-    → finished (fed (reached list demands (extended_by emptyLine line)) text)
-    ≡ reached list (demands ++ map demandOf (beforeAll line (lines text))) emptyLine
-unfolding fed finished lines extended_by beforeAll
+    → finished (fed (reached list demands (extended_by empty_line line)) text)
+    ≡ reached list (demands ++ map demand_of (before_all line (lines text))) empty_line
+unfolding fed finished lines extended_by before_all
 finished-fed list [] demands [] = rw append-nil
 finished-fed list [] demands (byte ∷ line) =
-    rw (hasByte-some emptyLine byte line, beforeAll-last byte line, ← lineDemand-whole (byte ∷ line))
-    (closed-adds list demands (extended_by emptyLine (byte ∷ line)))
+    rw (has_byte-some empty_line byte line, before_all-last byte line, ← line_demand-whole (byte ∷ line))
+    (closed-adds list demands (extended_by empty_line (byte ∷ line)))
 finished-fed list (byte ∷ text) demands line =
     go (eqb byte newline)
-    (finished-fed list text (demands ++ (demandOf line ∷ [])) []) (finished-fed list text demands (line ++ (byte ∷ [])))
+    (finished-fed list text (demands ++ (demand_of line ∷ [])) []) (finished-fed list text demands (line ++ (byte ∷ [])))
   where
     now : DemandLine
-    now = extended_by emptyLine line
+    now = extended_by empty_line line
 
     after : Bool → HeldReading
     after test = cond test (closed (reached list demands now)) (reached list demands (extended now byte))
 
     go : (test : Bool)
-        → finished (fed (reached list (demands ++ (demandOf line ∷ [])) emptyLine) text)
-        ≡ reached list ((demands ++ (demandOf line ∷ [])) ++ map demandOf (lines text)) emptyLine
-        → finished (fed (reached list demands (extended_by emptyLine (line ++ (byte ∷ [])))) text)
-        ≡ reached list (demands ++ map demandOf (beforeAll (line ++ (byte ∷ [])) (lines text))) emptyLine
+        → finished (fed (reached list (demands ++ (demand_of line ∷ [])) empty_line) text)
+        ≡ reached list ((demands ++ (demand_of line ∷ [])) ++ map demand_of (lines text)) empty_line
+        → finished (fed (reached list demands (extended_by empty_line (line ++ (byte ∷ [])))) text)
+        ≡ reached list (demands ++ map demand_of (before_all (line ++ (byte ∷ [])) (lines text))) empty_line
         → finished (fed (after test) text)
-        ≡ reached list (demands ++ map demandOf (beforeAll line (cond test ([] ∷ lines text) (before byte (lines text))))) emptyLine
+        ≡ reached list (demands ++ map demand_of (before_all line (cond test ([] ∷ lines text) (before byte (lines text))))) empty_line
     go true ended further =
         rw (
           closed-adds list demands now,
-          lineDemand-whole line,
-          beforeAll-ended line (lines text),
-          ← append_assoc demands (demandOf line ∷ []) (map demandOf (lines text)),
+          line_demand-whole line,
+          before_all-ended line (lines text),
+          ← append_assoc demands (demand_of line ∷ []) (map demand_of (lines text)),
         ) ended
-    go false ended further = rw (← beforeAll-append line byte (lines text), ← extendedBy-append emptyLine line byte) further
+    go false ended further = rw (← before_all-append line byte (lines text), ← extended_by-append empty_line line byte) further
 
 -- A text, read from its start to its end.
-abbrev readWhole : List ℕ → List ℕ → HeldReading
-readWhole list text = finished (fed (heldReading (with 0 emptyLine) list) text)
+abbrev read_whole : List ℕ → List ℕ → HeldReading
+read_whole list text = finished (fed (held_reading (with 0 empty_line) list) text)
 
-readWhole-is : (list text : List ℕ) → readWhole list text ≡ reached list (map demandOf (lines text)) emptyLine
-unfolding extended_by beforeAll
-readWhole-is list text =
+read_whole-is : (list text : List ℕ) → read_whole list text ≡ reached list (map demand_of (lines text)) empty_line
+unfolding extended_by before_all
+read_whole-is list text =
     let none : min 0 (space list) ≡ 0 = omega arith in
-    let start : reached list [] emptyLine ≡ heldReading (with 0 emptyLine) list = rw (none, take-nil (space list)) in
+    let start : reached list [] empty_line ≡ held_reading (with 0 empty_line) list = rw (none, take-nil (space list)) in
     rw (← start) (finished-fed list text [] [])
 
 -- ---- enough
@@ -130,31 +130,31 @@ alike : (h g k : HeldReading) → Alike h g → Alike g k → Alike h k
 alike h g k p q = record { list = p.list ∙ q.list; count = p.count ∙ q.count }
 
 -- Once 513 lines are read, neither a line's end nor a byte nor the text's end changes count or list.
-closed-enough : (h : HeldReading) → mostLines ≤ h.reading.count → Alike (closed h) h
+closed-enough : (h : HeldReading) → most_lines ≤ h.reading.count → Alike (closed h) h
 closed-enough h full =
     let is = closed-full h.reading h.list (omega arith) in
     record { list = ap (λ (g : HeldReading). g.list) is; count = ap (λ (g : HeldReading). g.reading.count) is }
 
-fedByte-enough : (h : HeldReading) (byte : ℕ) → mostLines ≤ h.reading.count → Alike (fedByte h byte) h
-unfolding fedByte
-fedByte-enough h byte full = go (eqb byte newline)
+fed_byte-enough : (h : HeldReading) (byte : ℕ) → most_lines ≤ h.reading.count → Alike (fed_byte h byte) h
+unfolding fed_byte
+fed_byte-enough h byte full = go (eqb byte newline)
   where
     go : (test : Bool)
-        → Alike (cond test (closed h) (heldReading (with h.reading.count (extended h.reading.line byte)) h.list)) h
+        → Alike (cond test (closed h) (held_reading (with h.reading.count (extended h.reading.line byte)) h.list)) h
     go true = closed-enough h full
     go false = record { list = refl; count = refl }
 
-fed-enough : (h : HeldReading) (piece : List ℕ) → mostLines ≤ h.reading.count → Alike (fed h piece) h
+fed-enough : (h : HeldReading) (piece : List ℕ) → most_lines ≤ h.reading.count → Alike (fed h piece) h
 unfolding fed
 fed-enough h [] full = record { list = refl; count = refl }
 fed-enough h (byte ∷ piece) full =
-    let one = fedByte-enough h byte full in
-    let still : mostLines ≤ (fedByte h byte).reading.count = rw one.count full in
-    alike _ _ _ (fed-enough (fedByte h byte) piece still) one
+    let one = fed_byte-enough h byte full in
+    let still : most_lines ≤ (fed_byte h byte).reading.count = rw one.count full in
+    alike _ _ _ (fed-enough (fed_byte h byte) piece still) one
 
-finished-enough : (h : HeldReading) → mostLines ≤ h.reading.count → Alike (finished h) h
+finished-enough : (h : HeldReading) → most_lines ≤ h.reading.count → Alike (finished h) h
 unfolding finished
-finished-enough h full = go (hasByte h.reading.line)
+finished-enough h full = go (has_byte h.reading.line)
   where
     go : (test : Bool) → Alike (cond test (closed h) h) h
     go true = closed-enough h full
@@ -162,37 +162,37 @@ finished-enough h full = go (hasByte h.reading.line)
 
 -- ---- the promises
 
-pub length-demandsOf : (text : List ℕ) → length (demandsOf text) ≤ mostLines
-unfolding demandsOf
-length-demandsOf text = omega (arith, length-take mostLines (map demandOf (lines text)))
+pub length-demands_of : (text : List ℕ) → length (demands_of text) ≤ most_lines
+unfolding demands_of
+length-demands_of text = omega (arith, length-take most_lines (map demand_of (lines text)))
 
 -- No more than 513 demands go into a list, and no more than it has words.
-sets-space : (list demands : List ℕ) → sets list 0 (take (space list) demands) ≡ sets list 0 (take mostLines demands)
+sets-space : (list demands : List ℕ) → sets list 0 (take (space list) demands) ≡ sets list 0 (take most_lines demands)
 sets-space list demands =
-    ap (sets list 0) (sym (take-take (space list) mostLines demands (omega arith)))
-    ∙ sets-take (space list) list (take mostLines demands) (omega (arith, length-take mostLines demands))
+    ap (sets list 0) (sym (take-take (space list) most_lines demands (omega arith)))
+    ∙ sets-take (space list) list (take most_lines demands) (omega (arith, length-take most_lines demands))
 
 -- What the list then is, and the count.
 module _ (list text : List ℕ) where
-  text-list : (readWhole list text).list ≡ sets list 0 (demandsOf text)
-  unfolding demandsOf
-  text-list = ap (λ (h : HeldReading). h.list) (readWhole-is list text) ∙ sets-space list (map demandOf (lines text))
+  text-list : (read_whole list text).list ≡ sets list 0 (demands_of text)
+  unfolding demands_of
+  text-list = ap (λ (h : HeldReading). h.list) (read_whole-is list text) ∙ sets-space list (map demand_of (lines text))
 
-  text-count : heldCount (readWhole list text) ≡ min (length (demandsOf text)) (length list)
-  unfolding demandsOf
-  text-count = ap heldCount (readWhole-is list text) ∙ counted (map demandOf (lines text))
+  text-count : held_count (read_whole list text) ≡ min (length (demands_of text)) (length list)
+  unfolding demands_of
+  text-count = ap held_count (read_whole-is list text) ∙ counted (map demand_of (lines text))
     where
       counted : (demands : List ℕ)
           → min (min (length demands) (space list)) (length (sets list 0 (take (space list) demands)))
-          ≡ min (length (take mostLines demands)) (length list)
-      counted demands = omega (arith, length-sets list 0 (take (space list) demands), length-take mostLines demands)
+          ≡ min (length (take most_lines demands)) (length list)
+      counted demands = omega (arith, length-sets list 0 (take (space list) demands), length-take most_lines demands)
 
-  pub text-whole : mostLines ≤ length list → take (heldCount (readWhole list text)) (readWhole list text).list ≡ demandsOf text
+  pub text-whole : most_lines ≤ length list → take (held_count (read_whole list text)) (read_whole list text).list ≡ demands_of text
   text-whole long =
-      let few = length-demandsOf text in
-      let count : heldCount (readWhole list text) ≡ length (demandsOf text) = omega (arith, text-count) in
+      let few = length-demands_of text in
+      let count : held_count (read_whole list text) ≡ length (demands_of text) = omega (arith, text-count) in
       rw (count, text-list)
-      (take-sets (length (demandsOf text)) list (demandsOf text) (omega arith) (omega arith) ∙ take-length (demandsOf text))
+      (take-sets (length (demands_of text)) list (demands_of text) (omega arith) (omega arith) ∙ take-length (demands_of text))
 
 pub reads-demands : ReadsDemands
 reads-demands =
@@ -200,15 +200,15 @@ reads-demands =
       list = λ list pieces. rw (joined_is list pieces) (text-list list (joined pieces));
       count = λ list pieces. rw (joined_is list pieces) (text-count list (joined pieces));
       whole = λ list pieces. rw (joined_is list pieces) (text-whole list (joined pieces));
-      enough = λ h piece full. still h piece (leb-true mostLines h.reading.count full);
+      enough = λ h piece full. still h piece (leb-true most_lines h.reading.count full);
     }
   where
     joined_is : (list : List ℕ) (pieces : List (List ℕ))
-        → fedPieces (heldReading (with 0 emptyLine) list) pieces ≡ fed (heldReading (with 0 emptyLine) list) (joined pieces)
-    joined_is list pieces = fedPieces-joined (heldReading (with 0 emptyLine) list) pieces
+        → fed_pieces (held_reading (with 0 empty_line) list) pieces ≡ fed (held_reading (with 0 empty_line) list) (joined pieces)
+    joined_is list pieces = fed_pieces-joined (held_reading (with 0 empty_line) list) pieces
 
-    still : (h : HeldReading) (piece : List ℕ) → mostLines ≤ h.reading.count
-        → ((finished (fed h piece)).list ≡ h.list) × (heldCount (finished (fed h piece)) ≡ heldCount h)
+    still : (h : HeldReading) (piece : List ℕ) → most_lines ≤ h.reading.count
+        → ((finished (fed h piece)).list ≡ h.list) × (held_count (finished (fed h piece)) ≡ held_count h)
     still h piece full =
         let read = fed-enough h piece full in
         let end = finished-enough (fed h piece) (rw read.count full) in

@@ -1,8 +1,8 @@
 // Demands in decimal, one a line: a text, read in pieces of any size, turned into words.
 ghost use Rattle.std.specs.Prelude.{◌≡◌};
 ghost use Prim.Native.Nat.{};
-ghost use Rattle.demands.specs.Reading.{emptyLine, extended, hasByte, lineDemand, heldReading, with};
-ghost use Rattle.demands.specs.Reading.{closed, fedByte, fed, finished, heldCount, isFull};
+ghost use Rattle.demands.specs.Reading.{empty_line, extended, has_byte, line_demand, held_reading, with};
+ghost use Rattle.demands.specs.Reading.{closed, fed_byte, fed, finished, held_count, is_full};
 
 use figures::counts::least;
 
@@ -58,7 +58,7 @@ impl DemandLine {
 
     // Whether the line has a byte.
     fn has_byte(self) -> bool
-        ensures result { result ≡ hasByte self }
+        ensures result { result ≡ has_byte self }
     {
         match self {
             DemandLine::Digits(count, _) => 1 <= count,
@@ -68,7 +68,7 @@ impl DemandLine {
 
     // The line's demand.
     fn demand(self) -> u32
-        ensures result { result ≡ lineDemand self }
+        ensures result { result ≡ line_demand self }
     {
         match self {
             DemandLine::Digits(count, number) => { if 1 <= count { number } else { NO_DEMAND } }
@@ -80,7 +80,7 @@ impl DemandLine {
 impl DemandReading {
     // A reading before the first byte.
     pub fn start() -> DemandReading
-        ensures result { result ≡ with 0 emptyLine }
+        ensures result { result ≡ with 0 empty_line }
     {
         DemandReading {
             count: 0,
@@ -90,7 +90,7 @@ impl DemandReading {
 
     // The reading after a piece of the text, whose lines that end go into the list.
     pub fn feed(self, piece: &[u8], list: &mut [u32]) -> DemandReading
-        ensures fed { heldReading result list.new ≡ fed (heldReading self list.old) piece.now }
+        ensures fed { held_reading result list.new ≡ fed (held_reading self list.old) piece.now }
     {
         let mut reading = self;
         for i in 0..piece.len() {
@@ -102,8 +102,8 @@ impl DemandReading {
 
     // The end of the text: how many demands stand at the front of the list.
     pub fn finish(self, list: &mut [u32]) -> usize
-        ensures list { list.new ≡ (finished (heldReading self list.old)).list }
-        ensures count { result ≡ heldCount (finished (heldReading self list.old)) }
+        ensures list { list.new ≡ (finished (held_reading self list.old)).list }
+        ensures count { result ≡ held_count (finished (held_reading self list.old)) }
     {
         let line = self.line;
         if line.has_byte() {
@@ -115,14 +115,14 @@ impl DemandReading {
 
     // Whether 513 lines are read, so that no further byte makes a difference.
     pub fn is_full(self) -> bool
-        ensures result { result ≡ isFull self }
+        ensures result { result ≡ is_full self }
     {
         DECIDING_DEMANDS <= self.count
     }
 
     // The reading after a byte.
     fn feed_byte(self, byte: u8, list: &mut [u32]) -> DemandReading
-        ensures fed { heldReading result list.new ≡ fedByte (heldReading self list.old) byte }
+        ensures fed { held_reading result list.new ≡ fed_byte (held_reading self list.old) byte }
     {
         if byte == b'\n' {
             return self.close(list);
@@ -136,7 +136,7 @@ impl DemandReading {
 
     // The reading after the open line's end.
     fn close(self, list: &mut [u32]) -> DemandReading
-        ensures closed { heldReading result list.new ≡ closed (heldReading self list.old) }
+        ensures closed { held_reading result list.new ≡ closed (held_reading self list.old) }
     {
         let count = self.count;
         let line = self.line;

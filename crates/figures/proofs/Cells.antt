@@ -69,5 +69,5 @@ pub zeros-cells : (k m n j : ℕ) → cell (replicate k (replicate m 0)) n j ≡
 unfolding zeros
 zeros-cells k m n j = rows_at (zeros m) (zeros-at m) k n j
 
-pub zeroRows : (k n : ℕ) → ZeroRows k n (replicate k (replicate n 0))
-zeroRows k n = record { full = zeros-rows k n; none = zeros-cells k n }
+pub zero_rows : (k n : ℕ) → ZeroRows k n (replicate k (replicate n 0))
+zero_rows k n = record { full = zeros-rows k n; none = zeros-cells k n }

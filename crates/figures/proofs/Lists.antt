@@ -7,28 +7,28 @@ use native.Mathlib.Nat.{le_refl, le_trans, le_of_eq, le-suc, zero-add, add-zero,
 use native.Mathlib.Omega.{arith}
 use lib.ListN.{length, get_or, take, drop, drop_of_length-le}
 use lib.Seq.{drop-cons, length-take-le, get_or-take}
-use Rattle.figures.specs.Figures.{total, figuresFrom, figures, at, sum_of}
+use Rattle.figures.specs.Figures.{total, figures_from, figures, at, sum_of}
 use Rattle.figures.specs.Sums.{sum}
 use Rattle.figures.proofs.Sums.{sum-cong, sum-up, sum-none, up}
 
 -- ---- Figures at places
 
-figuresFrom-at : (k j i : ℕ) (g : ℕ → ℕ) → i < k → at (figuresFrom k j g) i ≡ g (j + i)
-unfolding figuresFrom
-figuresFrom-at zero j i g h = absurd (not-suc-le-zero h)
-figuresFrom-at (suc k) j zero g h = ap g (sym (add-zero j))
-figuresFrom-at (suc k) j (suc i) g h = figuresFrom-at k (suc j) i g (le_of_suc-le-suc h) ∙ ap g (omega arith)
+figures_from-at : (k j i : ℕ) (g : ℕ → ℕ) → i < k → at (figures_from k j g) i ≡ g (j + i)
+unfolding figures_from
+figures_from-at zero j i g h = absurd (not-suc-le-zero h)
+figures_from-at (suc k) j zero g h = ap g (sym (add-zero j))
+figures_from-at (suc k) j (suc i) g h = figures_from-at k (suc j) i g (le_of_suc-le-suc h) ∙ ap g (omega arith)
 
 pub figures-at : (k i : ℕ) (g : ℕ → ℕ) → i < k → at (figures k g) i ≡ g i
-figures-at k i g h = figuresFrom-at k 0 i g h ∙ ap g (zero-add i)
+figures-at k i g h = figures_from-at k 0 i g h ∙ ap g (zero-add i)
 
-figuresFrom-length : (k j : ℕ) (g : ℕ → ℕ) → length (figuresFrom k j g) ≡ k
-unfolding figuresFrom
-figuresFrom-length zero j g = refl
-figuresFrom-length (suc k) j g = ap suc (figuresFrom-length k (suc j) g)
+figures_from-length : (k j : ℕ) (g : ℕ → ℕ) → length (figures_from k j g) ≡ k
+unfolding figures_from
+figures_from-length zero j g = refl
+figures_from-length (suc k) j g = ap suc (figures_from-length k (suc j) g)
 
 pub figures-length : (k : ℕ) (g : ℕ → ℕ) → length (figures k g) ≡ k
-figures-length k g = figuresFrom-length k 0 g
+figures-length k g = figures_from-length k 0 g
 
 -- ---- From place to place
 
@@ -91,11 +91,11 @@ sum-one-le (suc k) i g h = go (eq-or-lt_of_le (le_of_suc-le-suc h)) (λ l. sum-o
     go (inl e) ih = omega (arith, ap g e)
     go (inr l) ih = omega (arith, ih l)
 
-pub sumOf-take : (l : List ℕ) (j : ℕ) → j ≤ length l → sum_of (take j l) ≡ sum j (at l)
-sumOf-take l j h =
+pub sum_of-take : (l : List ℕ) (j : ℕ) → j ≤ length l → sum_of (take j l) ≡ sum j (at l)
+sum_of-take l j h =
     total-sum (λ a. a) 0 (take j l)
     ∙ ap (λ (k : ℕ). sum k (at (take j l))) (length-take-le j l h)
     ∙ sum-cong j (at (take j l)) (at l) (λ i q. get_or-take j l i 0 q)
 
-pub sumOf-most : (l : List ℕ) (most : ℕ) → ((i : ℕ) → i < length l → at l i ≤ most) → sum_of l ≤ length l * most
-sumOf-most l most h = le_trans (le_of_eq (total-sum (λ a. a) 0 l)) (sum-most (length l) most (at l) h)
+pub sum_of-most : (l : List ℕ) (most : ℕ) → ((i : ℕ) → i < length l → at l i ≤ most) → sum_of l ≤ length l * most
+sum_of-most l most h = le_trans (le_of_eq (total-sum (λ a. a) 0 l)) (sum-most (length l) most (at l) h)

@@ -6,6 +6,6 @@ abbrev pub AllBelow : ℕ → List ℕ → Type 0
 AllBelow bound l = (i : ℕ) → get_or l i 0 < bound
 
 -- The index of the first entry that is not below a bound; the length, if each is.
-unfoldable pub firstNotBelow : ℕ → List ℕ → ℕ
-firstNotBelow bound [] = 0
-firstNotBelow bound (entry ∷ rest) = cond (ltb entry bound) (suc (firstNotBelow bound rest)) 0
+unfoldable pub first_not_below : ℕ → List ℕ → ℕ
+first_not_below bound [] = 0
+first_not_below bound (entry ∷ rest) = cond (ltb entry bound) (suc (first_not_below bound rest)) 0

@@ -3,13 +3,13 @@
 use Rattle.std.specs.Prelude.{List, [], ◌∷◌, ℕ, zero, suc, ◌+◌, get_or}
 
 -- The k figures of g from place j on, as a list.
-unfoldable pub figuresFrom : ℕ → ℕ → (ℕ → ℕ) → List ℕ
-figuresFrom zero j g = []
-figuresFrom (suc k) j g = g j ∷ figuresFrom k (suc j) g
+unfoldable pub figures_from : ℕ → ℕ → (ℕ → ℕ) → List ℕ
+figures_from zero j g = []
+figures_from (suc k) j g = g j ∷ figures_from k (suc j) g
 
 -- The figures of g at the places below k, as a list.
 abbrev pub figures : ℕ → (ℕ → ℕ) → List ℕ
-figures k g = figuresFrom k 0 g
+figures k g = figures_from k 0 g
 
 -- The figure at a place of a list: 0 past its end.
 abbrev pub at : List ℕ → ℕ → ℕ

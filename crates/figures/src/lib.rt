@@ -2,7 +2,7 @@
 // mean.
 ghost use Rattle.std.specs.Prelude.{◌≡◌, ◌+◌, ◌-◌, ◌^◌, ◌≤◌, ◌<◌, min, length, get_or};
 ghost use Rattle.std.proofs.lemmas.List.Edits.{sets};
-ghost use Rattle.figures.specs.Bounds.{firstNotBelow};
+ghost use Rattle.figures.specs.Bounds.{first_not_below};
 ghost use Rattle.figures.specs.Credits.{credited};
 
 pub mod counts;
@@ -88,7 +88,7 @@ pub fn copy(from: &[u32], to: &mut [u32])
 
 // The index of the first word that is not below a bound; the count of words, if each is.
 pub fn first_not_below(bound: u32, list: &[u32]) -> usize
-    ensures result { result ≡ firstNotBelow bound list.now }
+    ensures result { result ≡ first_not_below bound list.now }
 {
     let mut index = 0;
     while index < list.len() {

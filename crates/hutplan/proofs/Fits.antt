@@ -10,14 +10,14 @@ use lib.ListN.{length, take, get_or, get_or-eq_default}
 use Rattle.figures.specs.Bounds.{AllBelow}
 use Rattle.figures.specs.Figures.{at}
 use Rattle.rooms.specs.Part.{Step, good, bad}
-use Rattle.rooms.specs.Table.{Room, mostWatts, roomCords, mostWords}
+use Rattle.rooms.specs.Table.{Room, most_watts, room_cords, most_words}
 use Rattle.rooms.specs.Limits.{checked}
 use Rattle.rooms.specs.Outcome.{SheetOutcome, reading}
 use Rattle.rooms.specs.Outcome as read
 use Rattle.rooms.proofs.Accepted.{accepted}
-use Rattle.deals.specs.SecondDeal.{secondDeal, secondWants}
+use Rattle.deals.specs.SecondDeal.{second_deal, second_wants}
 use Rattle.outcomes.specs.Outcome as outcomes
-use Rattle.deals.specs.Plan.{Plan, PlanOutcome, mostLent, planRoom, planRefusalNumber, planRefusalPlace}
+use Rattle.deals.specs.Plan.{Plan, PlanOutcome, most_lent, plan_room, plan_refusal_number, plan_refusal_place}
 use Rattle.deals.specs.Promises.{AcceptedPlan}
 use Rattle.deals.specs.declared.PlanList.TheVariants.{Grants, Caps, Headroom, Held}
 use Rattle.figures.proofs.Lists.{figures-length}
@@ -25,11 +25,11 @@ use Rattle.deals.proofs.Plans.{plan-good-table}
 use Rattle.deals.proofs.Promises.{answer-of-both-deals, second-kept, caps-in-range, headroom-within-ceilings, held-named, held_none, figures-fit, headroom-fits}
 use Rattle.print.specs.Line.{Put}
 use Rattle.print.proofs.Putting.{put_whole}
-use Rattle.print.proofs.Size.{length-refusedLine, length-printOf}
-use Rattle.hutplan.specs.Printed.{mostText, tableText, roomText, stepText, sheetText, readText}
+use Rattle.print.proofs.Size.{length-refused_line, length-print_of}
+use Rattle.hutplan.specs.Printed.{most_text, table_text, room_text, step_text, sheet_text, read_text}
 
 -- A list whose entries are numbers of 24 bits has words for entries.
-words-below : (l : List ℕ) → ((i : ℕ) → i < length l → get_or l i 0 ≤ mostWatts) → AllBelow (2 ^ 32) l
+words-below : (l : List ℕ) → ((i : ℕ) → i < length l → get_or l i 0 ≤ most_watts) → AllBelow (2 ^ 32) l
 words-below l h i = go (ltb i (length l)) refl
   where
     go : (test : Bool) → ltb i (length l) ≡ test → get_or l i 0 < 2 ^ 32
@@ -46,80 +46,80 @@ module _ (p : AcceptedPlan) where
       omega (arith, (caps-in-range p v there).1, bounded.needs v there))
 
   grant-words : AllBelow (2 ^ 32) p.answer.grants
-  unfolding secondDeal
+  unfolding second_deal
   grant-words =
       let bounded = figures-fit p.table p.room p.end p.is_room p.demands in
       words-below p.answer.grants (λ c h.
-      let there : c < roomCords p.room = omega (arith, (answer-of-both-deals p).counts Grants) in
-      let most = bounded.second.wants c (rw (figures-length (roomCords p.room) _) there) in
+      let there : c < room_cords p.room = omega (arith, (answer-of-both-deals p).counts Grants) in
+      let most = bounded.second.wants c (rw (figures-length (room_cords p.room) _) there) in
       omega (arith, (second-kept p).most c there, most))
 
   headroom-words : AllBelow (2 ^ 32) p.answer.headroom
-  unfolding secondDeal
+  unfolding second_deal
   headroom-words =
       let bounded = headroom-fits p.table p.room p.end p.is_room p.demands in
       words-below p.answer.headroom (λ c h.
-      let there : c < roomCords p.room = omega (arith, (answer-of-both-deals p).counts Headroom) in
-      let most = bounded.ceilings c (rw (figures-length (roomCords p.room) _) there) in
+      let there : c < room_cords p.room = omega (arith, (answer-of-both-deals p).counts Headroom) in
+      let most = bounded.ceilings c (rw (figures-length (room_cords p.room) _) there) in
       omega (arith, headroom-within-ceilings p c there, most))
 
   -- (A node's number, or 0.)
   held-words : AllBelow (2 ^ 32) p.answer.held
   held-words =
       words-below p.answer.held (λ c h.
-      let there : c < roomCords p.room = omega (arith, (answer-of-both-deals p).counts Held) in
-      go c there (ltb (at p.answer.grants c) (at (secondWants p.room p.demands) c)) refl)
+      let there : c < room_cords p.room = omega (arith, (answer-of-both-deals p).counts Held) in
+      go c there (ltb (at p.answer.grants c) (at (second_wants p.room p.demands) c)) refl)
     where
-      go : (c : ℕ) → c < roomCords p.room → (short : Bool) → ltb (at p.answer.grants c) (at (secondWants p.room p.demands) c) ≡ short
-          → at p.answer.held c ≤ mostWatts
+      go : (c : ℕ) → c < room_cords p.room → (short : Bool) → ltb (at p.answer.grants c) (at (second_wants p.room p.demands) c) ≡ short
+          → at p.answer.held c ≤ most_watts
       go c there true e =
-          omega (arith, (held-named p c there (ltb-true _ _ e)).node.1, (accepted p.table p.room p.end p.is_room).fewNodes)
+          omega (arith, (held-named p c there (ltb-true _ _ e)).node.1, (accepted p.table p.room p.end p.is_room).few_nodes)
       go c there false e =
-          let full : at p.answer.grants c ≡ at (secondWants p.room p.demands) c
-          = omega (arith, (second-kept p).most c there, ltb-false (at p.answer.grants c) (at (secondWants p.room p.demands) c) e) in
+          let full : at p.answer.grants c ≡ at (second_wants p.room p.demands) c
+          = omega (arith, (second-kept p).most c there, ltb-false (at p.answer.grants c) (at (second_wants p.room p.demands) c) e) in
           omega (arith, held_none p c there full)
 
-  plan-fits : length (roomText p.room (outcomes.accepted p.answer)) ≤ mostText
+  plan-fits : length (room_text p.room (outcomes.accepted p.answer)) ≤ most_text
   plan-fits =
       let freed = (figures-fit p.table p.room p.end p.is_room p.demands).freed in
-      length-printOf p.room p.answer.freed p.answer.caps p.answer.grants p.answer.headroom p.answer.held
+      length-print_of p.room p.answer.freed p.answer.caps p.answer.grants p.answer.headroom p.answer.held
       (accepted p.table p.room p.end p.is_room) (omega (arith, ap (λ (x : Plan). x.freed) (answer-of-both-deals p).is, freed))
       cap-words grant-words headroom-words held-words
 
-pub tableText-fits : (table demands : List ℕ) → length (tableText table demands) ≤ mostText
-unfolding tableText
-tableText-fits table demands = go (checked table 0) refl
+pub table_text-fits : (table demands : List ℕ) → length (table_text table demands) ≤ most_text
+unfolding table_text
+table_text-fits table demands = go (checked table 0) refl
   where
-    room : (r : Room) (end : ℕ) → checked table 0 ≡ good r end → (o : PlanOutcome) → planRoom r demands mostLent ≡ o
-        → length (roomText r o) ≤ mostText
+    room : (r : Room) (end : ℕ) → checked table 0 ≡ good r end → (o : PlanOutcome) → plan_room r demands most_lent ≡ o
+        → length (room_text r o) ≤ most_text
     room r end q (outcomes.refused refusal) e =
-        omega (arith, length-refusedLine (planRefusalNumber refusal) (planRefusalPlace refusal))
+        omega (arith, length-refused_line (plan_refusal_number refusal) (plan_refusal_place refusal))
     room r end q (outcomes.accepted answer) e =
         plan-fits
         (record {
           table = table;
           demands = demands;
-          lengths = mostLent;
+          lengths = most_lent;
           room = r;
           end = end;
           answer = answer;
           is_room = q;
-          isAnswer = plan-good-table table demands mostLent r end q ∙ e;
+          is_answer = plan-good-table table demands most_lent r end q ∙ e;
         })
 
-    go : (s : Step Room) → checked table 0 ≡ s → length (stepText s demands) ≤ mostText
-    go (good r end) q = room r end q (planRoom r demands mostLent) refl
-    go (bad refusal) q = omega (arith, length-refusedLine (read.sheetRefusalNumber refusal) (read.sheetRefusalPlace refusal))
+    go : (s : Step Room) → checked table 0 ≡ s → length (step_text s demands) ≤ most_text
+    go (good r end) q = room r end q (plan_room r demands most_lent) refl
+    go (bad refusal) q = omega (arith, length-refused_line (read.sheet_refusal_number refusal) (read.sheet_refusal_place refusal))
 
-pub sheetText-fits : (sheet demands : List ℕ) → length (sheetText sheet demands) ≤ mostText
-unfolding sheetText
-sheetText-fits sheet demands = go (reading sheet mostWords)
+pub sheet_text-fits : (sheet demands : List ℕ) → length (sheet_text sheet demands) ≤ most_text
+unfolding sheet_text
+sheet_text-fits sheet demands = go (reading sheet most_words)
   where
-    go : (o : SheetOutcome) → length (readText o demands) ≤ mostText
-    go (outcomes.accepted table) = tableText-fits table demands
-    go (outcomes.refused refusal) = omega (arith, length-refusedLine (read.sheetRefusalNumber refusal) (read.sheetRefusalPlace refusal))
+    go : (o : SheetOutcome) → length (read_text o demands) ≤ most_text
+    go (outcomes.accepted table) = table_text-fits table demands
+    go (outcomes.refused refusal) = omega (arith, length-refused_line (read.sheet_refusal_number refusal) (read.sheet_refusal_place refusal))
 
 -- So it stands whole in a buffer that is long enough.
-pub whole : (sheet demands : List ℕ) {a b : List ℕ} {n : ℕ} → Put a 0 b n (sheetText sheet demands) → mostText ≤ length a
-    → take n b ≡ sheetText sheet demands
-whole sheet demands p h = put_whole p (omega (arith, sheetText-fits sheet demands))
+pub whole : (sheet demands : List ℕ) {a b : List ℕ} {n : ℕ} → Put a 0 b n (sheet_text sheet demands) → most_text ≤ length a
+    → take n b ≡ sheet_text sheet demands
+whole sheet demands p h = put_whole p (omega (arith, sheet_text-fits sheet demands))

@@ -6,8 +6,8 @@ use native.Mathlib.Omega.{arith}
 use lib.ListN.{length}
 use lib.Seq.{length-take-le}
 use Rattle.io.specs.Counts.{IsPrefixLen}
-use Rattle.demands.specs.Text.{mostLines}
-use Rattle.demands.specs.Reading.{HeldReading, heldReading, with, emptyLine, fed, finished, heldCount}
+use Rattle.demands.specs.Text.{most_lines}
+use Rattle.demands.specs.Reading.{HeldReading, held_reading, with, empty_line, fed, finished, held_count}
 use Rattle.demands.proofs.Promises.{fed-append, text-whole}
 use Rattle.hutplan.specs.Input.{FedPiece, ReadText}
 
@@ -24,14 +24,14 @@ fed-more {a} p q =
     }
 
 -- At the end the front of the list has the text's demands.
-pub read-text : (before after : List ℕ) {h : HeldReading} {count : ℕ} → mostLines ≤ length before
-    → FedPiece (heldReading (with 0 emptyLine) before) h
-    → after ≡ (finished h).list → count ≡ heldCount (finished h) → ReadText after count × IsPrefixLen count after
+pub read-text : (before after : List ℕ) {h : HeldReading} {count : ℕ} → most_lines ≤ length before
+    → FedPiece (held_reading (with 0 empty_line) before) h
+    → after ≡ (finished h).list → count ≡ held_count (finished h) → ReadText after count × IsPrefixLen count after
 read-text before after {h} {count} long p l e =
     let text = p.piece in
     let read = ap finished p.is in
     let list = l ∙ ap (λ (g : HeldReading). g.list) read in
-    let counted = e ∙ ap heldCount read in
+    let counted = e ∙ ap held_count read in
     let within : count ≤ length after = rw l (omega arith) in (
       record { text = text; is = rw (list, counted) (text-whole before text long) },
       (within, sym (length-take-le count after within)),

@@ -8,16 +8,16 @@ use lib.Seq.{sets, length-sets, take-length}
 use Rattle.numbers.specs.Sheet as numbers
 use Rattle.figures.proofs.Stores.{take-sets}
 use Rattle.rooms.specs.Part.{Step, good, bad, Good}
-use Rattle.rooms.specs.Table.{Room, mostWords}
+use Rattle.rooms.specs.Table.{Room, most_words}
 use Rattle.rooms.specs.Limits.{checked}
-use Rattle.rooms.specs.Outcome.{SheetOutcome, reading, sheetRefusalNumber, sheetRefusalPlace}
+use Rattle.rooms.specs.Outcome.{SheetOutcome, reading, sheet_refusal_number, sheet_refusal_place}
 use Rattle.rooms.specs.Outcome as read
 use Rattle.rooms.specs.declared.SheetRefusal.{SheetRefusal}
 use Rattle.rooms.specs.declared.SheetAnswer.TheVariants as answer
 use Rattle.rooms.proofs.Lent.{reading-fits}
 use Rattle.outcomes.specs.Outcome.{after}
 use Rattle.outcomes.specs.Outcome as outcomes
-use Rattle.deals.specs.Plan.{Plan, PlanOutcome, output, Lists, lent, mostLent, plan, planRoom, planStep, answer_of, planRefusalNumber, planRefusalPlace}
+use Rattle.deals.specs.Plan.{Plan, PlanOutcome, output, Lists, lent, most_lent, plan, plan_room, plan_step, answer_of, plan_refusal_number, plan_refusal_place}
 use Rattle.deals.specs.declared.Lengths.{Lengths}
 use Rattle.deals.specs.declared.PlanList.{PlanList}
 use Rattle.deals.specs.declared.PlanList.TheVariants.{Grants, Caps, Headroom, Held}
@@ -27,10 +27,10 @@ use Rattle.deals.specs.declared.Planned.TheVariants.{Accepted, Refused}
 use Rattle.deals.specs.declared.PlanRefusal.TheVariants.{Table}
 use Rattle.deals.proofs.Plans.{plan-good-table, Fits}
 use Rattle.deals.proofs.Lent.{plan-written}
-use Rattle.print.specs.Line.{refusedLine}
-use Rattle.print.specs.Print.{printOf}
-use Rattle.print.proofs.Room.{printOf-front}
-use Rattle.hutplan.specs.Printed.{tableText, roomText, stepText, sheetText, readText}
+use Rattle.print.specs.Line.{refused_line}
+use Rattle.print.specs.Print.{print_of}
+use Rattle.print.proofs.Room.{print_of-front}
+use Rattle.hutplan.specs.Printed.{table_text, room_text, step_text, sheet_text, read_text}
 
 -- What fits a list is no longer than it.
 fitting : {written : List ℕ} {needed entries : ℕ} → Fits written needed entries → length written ≤ entries
@@ -39,34 +39,34 @@ fitting fits = omega (arith, fits.count, fits.within)
 -- A good table, and the print of its room with these lists, which is the table's text.
 pub record RoomText (table demands : List ℕ) (f : ℕ) (left : Lists) : Type 0 where
   pub good-table : Good (checked table 0)
-  pub text : printOf f good-table.value.servers (left Caps) (left Grants) (left Headroom) (left Held) ≡ tableText table demands
+  pub text : print_of f good-table.value.servers (left Caps) (left Grants) (left Headroom) (left Held) ≡ table_text table demands
 
 -- Lists that take the plan of every room, and what Plan comes to with them.
-module _ (table demands : List ℕ) (given : Lists) (most : lent given ≡ mostLent) where
+module _ (table demands : List ℕ) (given : Lists) (most : lent given ≡ most_lent) where
   abbrev outcome : PlanOutcome
   outcome = plan table demands (lent given)
 
   -- A refused plan.
   pub table-refused : {a : Planned} {q : PlanRefusal} → a ≡ Refused q → a ≡ answer_of outcome
-      → tableText table demands ≡ refusedLine (planRefusalNumber q) (planRefusalPlace q)
-  unfolding tableText plan
+      → table_text table demands ≡ refused_line (plan_refusal_number q) (plan_refusal_place q)
+  unfolding table_text plan
   table-refused {q = q} told e =
       go (checked table 0) (subst (λ (lengths : Lengths). Refused q ≡ answer_of (plan table demands lengths)) most (sym told ∙ e))
     where
       room : (r : Room) (o : PlanOutcome) → Refused q ≡ answer_of o
-          → roomText r o ≡ refusedLine (planRefusalNumber q) (planRefusalPlace q)
+          → room_text r o ≡ refused_line (plan_refusal_number q) (plan_refusal_place q)
       room r (outcomes.accepted answer) e = let z : ◌≡◌ {A = ℕ} 0 1 = cc in absurd (omega arith)
       room r (outcomes.refused p) e = let same : q ≡ p = cc in rw same
 
-      go : (s : Step Room) → Refused q ≡ answer_of (planStep s demands mostLent)
-          → stepText s demands ≡ refusedLine (planRefusalNumber q) (planRefusalPlace q)
-      go (good r end) e = room r (planRoom r demands mostLent) e
+      go : (s : Step Room) → Refused q ≡ answer_of (plan_step s demands most_lent)
+          → step_text s demands ≡ refused_line (plan_refusal_number q) (plan_refusal_place q)
+      go (good r end) e = room r (plan_room r demands most_lent) e
       go (bad refusal) e = let same : q ≡ Table refusal = cc in rw same
 
   -- An accepted plan, whose figures stand at the front of the lists.
   pub table-accepted : (left : Lists) {a : Planned} {f : ℕ} → a ≡ Accepted f → a ≡ answer_of outcome
       → ((list : PlanList) → left list ≡ after (output list) outcome (given list)) → RoomText table demands f left
-  unfolding tableText
+  unfolding table_text
   table-accepted left {f = f} told e stored = go outcome refl (sym told ∙ e) stored
     where
       in-room : (answer : Plan) → outcome ≡ outcomes.accepted answer
@@ -74,16 +74,16 @@ module _ (table demands : List ℕ) (given : Lists) (most : lent given ≡ mostL
       in-room answer is =
           let w = plan-written table demands (lent given) is in
           let fits = w.planning.fits in
-          let room : planRoom w.room demands mostLent ≡ outcomes.accepted answer =
+          let room : plan_room w.room demands most_lent ≡ outcomes.accepted answer =
           rw (← most) (sym (plan-good-table table demands (lent given) w.room w.end w.is_room) ∙ is) in
           record {
             good-table = record { value = w.room; next = w.end; is = w.is_room };
             text =
-                printOf-front w.room answer.freed answer.caps answer.grants answer.headroom answer.held
+                print_of-front w.room answer.freed answer.caps answer.grants answer.headroom answer.held
                 (given Caps) (given Grants) (given Headroom) (given Held)
                 (fits Caps).count (fits Grants).count (fits Headroom).count (fits Held).count
                 (fitting (fits Caps)) (fitting (fits Grants)) (fitting (fits Headroom)) (fitting (fits Held))
-                ∙ sym (ap (λ (s : Step Room). stepText s demands) w.is_room ∙ ap (roomText w.room) room);
+                ∙ sym (ap (λ (s : Step Room). step_text s demands) w.is_room ∙ ap (room_text w.room) room);
           }
 
       go : (o : PlanOutcome) → outcome ≡ o → Accepted f ≡ answer_of o → ((list : PlanList) → left list ≡ after (output list) o (given list))
@@ -96,30 +96,30 @@ module _ (table demands : List ℕ) (given : Lists) (most : lent given ≡ mostL
 -- ---- Read
 
 -- A refused sheet.
-pub sheet-refused : (sheet demands : List ℕ) (n : ℕ) {q : SheetRefusal} → n ≡ mostWords
+pub sheet-refused : (sheet demands : List ℕ) (n : ℕ) {q : SheetRefusal} → n ≡ most_words
     → answer.Refused q ≡ read.answer_of (reading sheet n)
-    → sheetText sheet demands ≡ refusedLine (sheetRefusalNumber q) (sheetRefusalPlace q)
-unfolding sheetText
-sheet-refused sheet demands n {q} h e = go (reading sheet mostWords) (rw h at e)
+    → sheet_text sheet demands ≡ refused_line (sheet_refusal_number q) (sheet_refusal_place q)
+unfolding sheet_text
+sheet-refused sheet demands n {q} h e = go (reading sheet most_words) (rw h at e)
   where
     go : (o : SheetOutcome) → answer.Refused q ≡ read.answer_of o
-        → readText o demands ≡ refusedLine (sheetRefusalNumber q) (sheetRefusalPlace q)
+        → read_text o demands ≡ refused_line (sheet_refusal_number q) (sheet_refusal_place q)
     go (outcomes.accepted words) e = let z : ◌≡◌ {A = ℕ} 0 1 = cc in absurd (omega arith)
     go (outcomes.refused p) e = let same : q ≡ p = cc in rw same
 
 -- An accepted sheet: its words stand at the front of the list.
-pub sheet-accepted : (sheet demands list list' : List ℕ) {count : ℕ} → length list ≡ mostWords
+pub sheet-accepted : (sheet demands list list' : List ℕ) {count : ℕ} → length list ≡ most_words
     → answer.Accepted count ≡ read.answer_of (reading sheet (length list))
     → list' ≡ after (λ l. l) (reading sheet (length list)) list
-    → (count ≤ length list') × (tableText (take count list') demands ≡ sheetText sheet demands)
-unfolding sheetText
-sheet-accepted sheet demands list list' {count} h e l = go (reading sheet mostWords) refl (rw h at e) (rw h at l)
+    → (count ≤ length list') × (table_text (take count list') demands ≡ sheet_text sheet demands)
+unfolding sheet_text
+sheet-accepted sheet demands list list' {count} h e l = go (reading sheet most_words) refl (rw h at e) (rw h at l)
   where
-    go : (o : SheetOutcome) → reading sheet mostWords ≡ o → answer.Accepted count ≡ read.answer_of o → list' ≡ after (λ l. l) o list
-        → (count ≤ length list') × (tableText (take count list') demands ≡ readText o demands)
+    go : (o : SheetOutcome) → reading sheet most_words ≡ o → answer.Accepted count ≡ read.answer_of o → list' ≡ after (λ l. l) o list
+        → (count ≤ length list') × (table_text (take count list') demands ≡ read_text o demands)
     go (outcomes.refused q) is e l = let z : ◌≡◌ {A = ℕ} 0 1 = cc in absurd (omega arith)
     go (outcomes.accepted words) is e l =
         let n : count ≡ length words = cc in
-        let fits : length words ≤ length list = rw h (reading-fits sheet mostWords is) in
+        let fits : length words ≤ length list = rw h (reading-fits sheet most_words is) in
         let size : length list' ≡ length list = ap length l ∙ length-sets list 0 words in
         (omega arith, rw (l, n, take-sets (length words) list words fits (omega arith), take-length words))

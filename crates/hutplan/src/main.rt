@@ -1,13 +1,13 @@
 // `hutplan`: reads a room from the file `room.bin` and its servers' demands from standard input, plans, and prints.
 ghost use Rattle.std.specs.Prelude.{◌≡◌, ◌≤◌, length, take};
 ghost use Rattle.io.specs.Counts.{IsPrefixLen};
-ghost use Rattle.deals.specs.Plan.{lists, lent, mostLent};
-ghost use Rattle.demands.specs.Text.{mostLines};
-ghost use Rattle.demands.specs.Reading.{heldReading};
+ghost use Rattle.deals.specs.Plan.{lists, lent, most_lent};
+ghost use Rattle.demands.specs.Text.{most_lines};
+ghost use Rattle.demands.specs.Reading.{held_reading};
 ghost use Rattle.print.specs.Line.{Put};
-ghost use Rattle.rooms.specs.Table.{mostWords};
-ghost use Rattle.hutplan.specs.Input.{mostBytes, FedPiece, ReadText};
-ghost use Rattle.hutplan.specs.Printed.{mostText, tableText, sheetText, inputText, Lent};
+ghost use Rattle.rooms.specs.Table.{most_words};
+ghost use Rattle.hutplan.specs.Input.{most_bytes, FedPiece, ReadText};
+ghost use Rattle.hutplan.specs.Printed.{most_text, table_text, sheet_text, input_text, Lent};
 
 use deals::Planned;
 use demands::{DECIDING_DEMANDS, DemandReading};
@@ -26,7 +26,7 @@ struct Turn {
 
 // The file's bytes, at most 32,768, at the front of the buffer; how many. A missing file is empty.
 fn read_sheet(sheet: &mut [u8]) -> usize
-    requires size { length sheet.old ≡ mostBytes }
+    requires size { length sheet.old ≡ most_bytes }
     ensures counts { IsPrefixLen result sheet.new }
 {
     let file = os::open_read(b"room.bin");
@@ -40,7 +40,7 @@ fn read_sheet(sheet: &mut [u8]) -> usize
 
 // One piece of standard input. No more is asked for once the last line that counts is read.
 fn read_piece(reading: DemandReading, list: &mut [u32]) -> Turn
-    ensures fed { FedPiece (heldReading reading list.old) (heldReading result.reading list.new) }
+    ensures fed { FedPiece (held_reading reading list.old) (held_reading result.reading list.new) }
 {
     let mut piece = io::buffer();
     let got = libc::read(STDIN_FILENO, &mut piece);
@@ -60,7 +60,7 @@ fn read_piece(reading: DemandReading, list: &mut [u32]) -> Turn
 
 // The demands of standard input, at the front of the list; how many.
 fn read_demands(list: &mut [u32]) -> usize
-    requires size { length list.old ≡ mostLines }
+    requires size { length list.old ≡ most_lines }
     ensures text { ReadText list.new result }
     ensures counts { IsPrefixLen result list.new }
 {
@@ -90,9 +90,9 @@ fn print_table(
     held: &mut [u32],
     buffer: &mut [u8],
 ) -> usize
-    requires sizes { lent (lists grants.old caps.old headroom.old held.old) ≡ mostLent }
+    requires sizes { lent (lists grants.old caps.old headroom.old held.old) ≡ most_lent }
     ensures put { Put buffer.old 0 buffer.new result
-        (tableText table.now demands.now) }
+        (table_text table.now demands.now) }
     ensures counts { IsPrefixLen result buffer.new }
 {
     let planned = plans::plan(table, demands, grants, caps, headroom, held);
@@ -104,8 +104,8 @@ fn print_table(
 
 // The print of a sheet with demands, whole, by way of a list for the words of any table.
 fn print_sheet(sheet: &[u8], demands: &[u32], table: &mut [u32], buffer: &mut [u8]) -> usize
-    requires sizes { (length table.old ≡ mostWords) × (mostText ≤ length buffer.old) }
-    ensures printed { take result buffer.new ≡ sheetText sheet.now demands.now }
+    requires sizes { (length table.old ≡ most_words) × (most_text ≤ length buffer.old) }
+    ensures printed { take result buffer.new ≡ sheet_text sheet.now demands.now }
     ensures counts { IsPrefixLen result buffer.new }
 {
     let answer = rooms::read(sheet, table);
@@ -141,7 +141,7 @@ fn print_input(
 ) -> usize
     requires lists { Lent sheet.now demands.now table.old buffer.old }
     requires counted { IsPrefixLen bytes sheet.now × IsPrefixLen count demands.now }
-    ensures printed { take result buffer.new ≡ inputText sheet.now bytes demands.now count }
+    ensures printed { take result buffer.new ≡ input_text sheet.now bytes demands.now count }
     ensures counts { IsPrefixLen result buffer.new }
 {
     print_sheet(&sheet[..bytes], &demands[..count], table, buffer)

@@ -1,11 +1,11 @@
 -- What specs/Promises.antt states.
 use mathlib.Core.Path.{ap, ◌∙◌}
 use native.Mathlib.Omega.{arith}
-use Rattle.schedules.specs.Schedule.{mostScheduleWords}
+use Rattle.schedules.specs.Schedule.{most_schedule_words}
 use Rattle.schedules.proofs.Promises.{first-bytes-decide}
-use Rattle.hutschedule.specs.Printed.{mostInput, printOf, printed}
+use Rattle.hutschedule.specs.Printed.{most_input, print_of, printed}
 use Rattle.hutschedule.specs.Promises.{PrintsInput}
 
 pub prints-input : PrintsInput
 unfolding printed
-prints-input input text count same = ap printed same ∙ ap printOf (first-bytes-decide mostInput input mostScheduleWords (omega arith))
+prints-input input text count same = ap printed same ∙ ap print_of (first-bytes-decide most_input input most_schedule_words (omega arith))

@@ -1,18 +1,18 @@
 -- What `hutschedule` writes, by the text of its standard input.
 use Rattle.std.specs.Prelude.{◌≡◌, Bool, true, false, List, ℕ, ◌≤◌, length, take}
 use Rattle.numbers.specs.Sheet.{bytes_of}
-use Rattle.print.specs.Line.{refusedLine}
+use Rattle.print.specs.Line.{refused_line}
 use Rattle.outcomes.specs.Outcome.{accepted, refused}
-use Rattle.schedules.specs.Schedule.{ScheduleOutcome, mostScheduleWords, scheduleRefusalNumber, scheduleRefusalPlace, scheduling}
+use Rattle.schedules.specs.Schedule.{ScheduleOutcome, most_schedule_words, schedule_refusal_number, schedule_refusal_place, scheduling}
 use Rattle.hutschedule.specs.declared.Output.{Output}
 
 -- The most bytes of standard input that are read: 514 lines of 15 bytes. The first 513 lines decide (`FirstBytesDecide`).
-abbrev pub mostInput : ℕ
-mostInput = 7710
+abbrev pub most_input : ℕ
+most_input = 7710
 
 -- Enough for the sheet of any table without servers, four bytes a word, and for any refusal.
-abbrev pub mostOutput : ℕ
-mostOutput = 4108
+abbrev pub most_output : ℕ
+most_output = 4108
 
 -- What is written: some bytes, to standard error if refused, else to standard output; to the other nothing.
 pub record Print : Type 0 where
@@ -20,13 +20,13 @@ pub record Print : Type 0 where
   pub bytes : List ℕ
 
 -- Accepted: the sheet of the table. Refused: `refused R at P`.
-abbrev pub printOf : ScheduleOutcome → Print
-printOf (accepted table) = record { refused = false; bytes = bytes_of table }
-printOf (refused refusal) = record { refused = true; bytes = refusedLine (scheduleRefusalNumber refusal) (scheduleRefusalPlace refusal) }
+abbrev pub print_of : ScheduleOutcome → Print
+print_of (accepted table) = record { refused = false; bytes = bytes_of table }
+print_of (refused refusal) = record { refused = true; bytes = refused_line (schedule_refusal_number refusal) (schedule_refusal_place refusal) }
 
 -- What is written of a text.
 unfoldable pub printed : List ℕ → Print
-printed text = printOf (scheduling text mostScheduleWords)
+printed text = print_of (scheduling text most_schedule_words)
 
 -- What an output says is written, with the buffer that it speaks of.
 abbrev pub at : Output → List ℕ → Print
@@ -35,4 +35,4 @@ at output buffer = record { refused = output.refused; bytes = take output.length
 -- What `hutschedule` works in: space for 7,710 bytes of standard input, for the words of any table without servers and for all that
 -- is written.
 abbrev pub Lent : List ℕ → List ℕ → List ℕ → Type 0
-Lent text table buffer = (length text ≡ mostInput) × (length table ≡ mostScheduleWords) × (mostOutput ≤ length buffer)
+Lent text table buffer = (length text ≡ most_input) × (length table ≡ most_schedule_words) × (most_output ≤ length buffer)

@@ -1,8 +1,8 @@
 // `hutschedule`: reads a breaker schedule from standard input, and writes the sheet of its room to standard output.
 ghost use Rattle.std.specs.Prelude.{◌≡◌, ◌≤◌, length, take};
 ghost use Rattle.io.specs.Counts.{IsPrefixLen};
-ghost use Rattle.schedules.specs.Schedule.{mostScheduleWords};
-ghost use Rattle.hutschedule.specs.Printed.{mostOutput, printed, at, Lent};
+ghost use Rattle.schedules.specs.Schedule.{most_schedule_words};
+ghost use Rattle.hutschedule.specs.Printed.{most_output, printed, at, Lent};
 
 use libc::{STDERR_FILENO, STDIN_FILENO, STDOUT_FILENO};
 use schedules::Scheduled;
@@ -16,7 +16,7 @@ struct Output {
 
 // What is written of a text, by way of a list for the words of any table without servers.
 fn print_text(text: &[u8], table: &mut [u32], buffer: &mut [u8]) -> Output
-    requires sizes { (length table.old ≡ mostScheduleWords) × (mostOutput ≤ length buffer.old) }
+    requires sizes { (length table.old ≡ most_schedule_words) × (most_output ≤ length buffer.old) }
     ensures printed { at result buffer.new ≡ printed text.now }
     ensures counts { IsPrefixLen result.length buffer.new }
 {

@@ -9,18 +9,18 @@ use lib.ListN.{length, take, drop, length-append}
 use lib.Seq.{sets, length-take-le, length-sets}
 use borrow.Author.Tests.{eq-eqb, ne_eqb, lt-ltb, le-ltb}
 use Rattle.outcomes.specs.Outcome.{accepted, refused, unless}
-use Rattle.outcomes.specs.Part.{whenGood}
+use Rattle.outcomes.specs.Part.{when_good}
 use Rattle.outcomes.proofs.Outcomes.{unless-stop, unless-pass, unless-none}
 use Rattle.figures.specs.Figures.{at}
 use Rattle.words.specs.Bytes.{words_of}
 use Rattle.figures.specs.Bounds.{AllBelow}
-use Rattle.words.proofs.Bytes.{take-loaded, length-wordsOf}
+use Rattle.words.proofs.Bytes.{take-loaded, length-words_of}
 use Rattle.rooms.specs.Part.{Step, good, bad, Good}
-use Rattle.rooms.specs.Table.{raised, Room, mostNodes, mostServers, mostCords, mostWords, form_of, nodeWords, roomCords}
+use Rattle.rooms.specs.Table.{raised, Room, most_nodes, most_servers, most_cords, most_words, form_of, node_words, room_cords}
 use Rattle.rooms.specs.Limits.{checked}
-use Rattle.rooms.specs.Words.{table_of, rowWords, wordsOfNode, wordsOfServer}
+use Rattle.rooms.specs.Words.{table_of, row_words, words_of_node, words_of_server}
 use Rattle.rooms.specs.Rows.{NodesFit, ServersFit}
-use Rattle.rooms.specs.Walk.{serversIndex}
+use Rattle.rooms.specs.Walk.{servers_index}
 use Rattle.rooms.specs.Told.{told}
 use Rattle.rooms.specs.declared.SheetRefusal.{SheetRefusal}
 use Rattle.rooms.specs.declared.Checked.{Checked}
@@ -29,9 +29,9 @@ use Rattle.rooms.proofs.Accepted as rooms
 use Rattle.rooms.proofs.Counts.{nodes-told, cords-told}
 use Rattle.rooms.proofs.Reach.{prefix-decides, length-is, length-small, words_small}
 use Rattle.join.specs.Joined.{joined}
-use Rattle.join.specs.Outcome.{JoinOutcome, JoinReason, reasons, joinRooms, joining}
-use Rattle.join.specs.Pieces.{renumbered, renumberedEvery, renumberedCords}
-use Rattle.join.specs.Huts.{hutOf, examinedStep, examined, HutOf, Small}
+use Rattle.join.specs.Outcome.{JoinOutcome, JoinReason, reasons, join_rooms, joining}
+use Rattle.join.specs.Pieces.{renumbered, renumbered_every, renumbered_cords}
+use Rattle.join.specs.Huts.{hut_of, examined_step, examined, HutOf, Small}
 use Rattle.join.specs.declared.Hut.{Hut}
 use Rattle.join.specs.declared.Examined.{Examined}
 use Rattle.join.specs.declared.Examined.TheVariants as examineds
@@ -47,21 +47,21 @@ pub record GoodTable (w : List ℕ) (cords : ℕ) : Type 0 where
   pub room : Room
   pub end : ℕ
   pub is : checked w 0 ≡ good room end
-  pub count : cords ≡ roomCords room
+  pub count : cords ≡ room_cords room
 
-pub good-told : (w : List ℕ) {k : Checked} {cords next : ℕ} → k ≡ told roomCords (checked w 0) → k ≡ checks.Good cords next → GoodTable w cords
+pub good-told : (w : List ℕ) {k : Checked} {cords next : ℕ} → k ≡ told room_cords (checked w 0) → k ≡ checks.Good cords next → GoodTable w cords
 unfolding told
 good-told w {k} {cords} {next} d e = go (checked w 0) refl d
   where
-    go : (s : Step Room) → checked w 0 ≡ s → k ≡ told roomCords s → GoodTable w cords
-    go (good r end) q d = let c : cords ≡ roomCords r = cc in record { room = r; end = end; is = q; count = c }
+    go : (s : Step Room) → checked w 0 ≡ s → k ≡ told room_cords s → GoodTable w cords
+    go (good r end) q d = let c : cords ≡ room_cords r = cc in record { room = r; end = end; is = q; count = c }
     go (bad refusal) q d = absurd (suc-ne-zero 0 (cc))
 
-pub refused-told : (w : List ℕ) {k : Checked} {q : SheetRefusal} → k ≡ told roomCords (checked w 0) → k ≡ checks.Refused q → examineds.Refused q ≡ examined w
-unfolding told examinedStep
+pub refused-told : (w : List ℕ) {k : Checked} {q : SheetRefusal} → k ≡ told room_cords (checked w 0) → k ≡ checks.Refused q → examineds.Refused q ≡ examined w
+unfolding told examined_step
 refused-told w {k} {q} d e = go (checked w 0) d
   where
-    go : (s : Step Room) → k ≡ told roomCords s → examineds.Refused q ≡ examinedStep w s
+    go : (s : Step Room) → k ≡ told room_cords s → examineds.Refused q ≡ examined_step w s
     go (good r end) d = absurd (suc-ne-zero 0 (cc))
     go (bad p) d = let a : q ≡ p = cc in ap examineds.Refused a
 
@@ -69,9 +69,9 @@ module _ (w : List ℕ) {cords : ℕ} (g : GoodTable w cords) where
   pub good-long : 3 ≤ length w
   good-long = omega (arith, length-is w g.room g.end g.is)
 
-  pub good-examined : {nodes servers cords' middle : ℕ} → NodesFit w nodes → ServersFit w servers → cords' ≡ cords → middle ≡ serversIndex w
+  pub good-examined : {nodes servers cords' middle : ℕ} → NodesFit w nodes → ServersFit w servers → cords' ≡ cords → middle ≡ servers_index w
       → examineds.Good (record { version = at w 0; nodes = nodes; servers = servers; cords = cords'; middle = middle; words = length w }) ≡ examined w
-  unfolding examinedStep
+  unfolding examined_step
   good-examined n s c m =
       (λ i. examineds.Good (record {
         version = at w 0;
@@ -81,13 +81,13 @@ module _ (w : List ℕ) {cords : ℕ} (g : GoodTable w cords) where
         middle = m i;
         words = length w;
       }))
-      ∙ sym (ap (examinedStep w) g.is)
+      ∙ sym (ap (examined_step w) g.is)
 
 pub bad-examined : (w : List ℕ) {k : Examined} {q : SheetRefusal} → k ≡ examined w → k ≡ examineds.Refused q → checked w 0 ≡ bad q
-unfolding examinedStep
+unfolding examined_step
 bad-examined w {k} {q} d e = go (checked w 0) refl d
   where
-    go : (t : Step Room) → checked w 0 ≡ t → k ≡ examinedStep w t → checked w 0 ≡ bad q
+    go : (t : Step Room) → checked w 0 ≡ t → k ≡ examined_step w t → checked w 0 ≡ bad q
     go (good r end) z d = absurd (suc-ne-zero 0 (cc))
     go (bad p) z d = let a : p ≡ q = cc in z ∙ ap bad a
 
@@ -96,24 +96,24 @@ module _ (bytes list : List ℕ) {count : ℕ} {list' : List ℕ} (n : count ≡
   pub loaded-length : count ≡ length (take count list')
   loaded-length = sym (length-take-le count list' (omega (arith, ap length is ∙ length-sets list 0 (words_of bytes))))
 
-  pub loaded-checked : {k : Checked} → suc mostWords ≤ length list → k ≡ told roomCords (checked (take count list') 0) → k ≡ told roomCords (checked (words_of bytes) 0)
+  pub loaded-checked : {k : Checked} → suc most_words ≤ length list → k ≡ told room_cords (checked (take count list') 0) → k ≡ told room_cords (checked (words_of bytes) 0)
   loaded-checked h e =
-      e ∙ ap (λ (w : List ℕ). told roomCords (checked w 0)) (take-loaded (length list) count bytes list list' refl n is)
-      ∙ ap (told roomCords) (prefix-decides (words_of bytes) (length list) h)
+      e ∙ ap (λ (w : List ℕ). told room_cords (checked w 0)) (take-loaded (length list) count bytes list list' refl n is)
+      ∙ ap (told room_cords) (prefix-decides (words_of bytes) (length list) h)
 
 -- ---- What is kept of a table, read from its words
 
-pub checked-good : (w : List ℕ) {k : Checked} {cords next : ℕ} → k ≡ told roomCords (checked w 0) → k ≡ checks.Good cords next → Good (checked w 0)
+pub checked-good : (w : List ℕ) {k : Checked} {cords next : ℕ} → k ≡ told room_cords (checked w 0) → k ≡ checks.Good cords next → Good (checked w 0)
 checked-good w d e = let g = good-told w d e in record { value = g.room; next = g.end; is = g.is }
 
-pub checked-bad : (w : List ℕ) {k : Checked} {q : SheetRefusal} → k ≡ told roomCords (checked w 0) → k ≡ checks.Refused q → checked w 0 ≡ bad q
+pub checked-bad : (w : List ℕ) {k : Checked} {q : SheetRefusal} → k ≡ told room_cords (checked w 0) → k ≡ checks.Refused q → checked w 0 ≡ bad q
 checked-bad w d e = bad-examined w refl (sym (refused-told w d e))
 
 module _ (w : List ℕ) (g : Good (checked w 0)) where
   abbrev width : ℕ
-  width = nodeWords (form_of (at w 0)).percents
+  width = node_words (form_of (at w 0)).percents
 
-  long : length w ≡ 3 + width * length g.value.nodes + 4 * length g.value.servers + 2 * roomCords g.value
+  long : length w ≡ 3 + width * length g.value.nodes + 4 * length g.value.servers + 2 * room_cords g.value
   long = length-is w g.value g.next g.is
 
   counted : width * at w 1 ≡ width * length g.value.nodes
@@ -122,16 +122,16 @@ module _ (w : List ℕ) (g : Good (checked w 0)) where
   counts-there : 3 ≤ length w
   counts-there = omega (arith, long)
 
-  pub middle-there : serversIndex w < length w
+  pub middle-there : servers_index w < length w
   middle-there = omega (arith, long, counted)
 
-  pub others-there : {servers : ℕ} → ServersFit w servers → serversIndex w + 1 + 4 * servers ≤ length w
+  pub others-there : {servers : ℕ} → ServersFit w servers → servers_index w + 1 + 4 * servers ≤ length w
   others-there fit = omega (arith, long, counted, fit g.value g.next g.is)
 
-  pub hut-read : {version nodes servers middle words : ℕ} → version ≡ at w 0 → NodesFit w nodes → ServersFit w servers → middle ≡ serversIndex w → words ≡ length w
+  pub hut-read : {version nodes servers middle words : ℕ} → version ≡ at w 0 → NodesFit w nodes → ServersFit w servers → middle ≡ servers_index w → words ≡ length w
       → HutOf w (record { version = version; nodes = nodes; servers = servers; cords = (words - (middle + 1 + 4 * servers)) / 2; middle = middle; words = words })
   hut-read {version} {nodes} {servers} {middle} {words} v n s m l =
-      let cords : (words - (middle + 1 + 4 * servers)) / 2 ≡ roomCords g.value
+      let cords : (words - (middle + 1 + 4 * servers)) / 2 ≡ room_cords g.value
       = ap (λ (x : ℕ). (x - (middle + 1 + 4 * servers)) / 2) l ∙ cords-told w (ap (λ (x : ℕ). x + 1) m) s g.value g.next g.is in
       record {
         room = g.value;
@@ -148,20 +148,20 @@ module _ (w : List ℕ) (g : Good (checked w 0)) where
       }
 
   -- A good table has what is kept of it.
-  pub good-hut : HutOf w (hutOf w g.value)
+  pub good-hut : HutOf w (hut_of w g.value)
   good-hut = record { room = g.value; end = g.next; good-table = g.is; is = refl }
 
 -- A good table that stands in bytes has its first counts there.
 pub counts-in : (bytes : List ℕ) → Good (checked (words_of bytes) 0) → 3 ≤ length bytes / 4
-counts-in bytes g = omega (arith, length-wordsOf bytes, counts-there (words_of bytes) g)
+counts-in bytes g = omega (arith, length-words_of bytes, counts-there (words_of bytes) g)
 
 -- What a good answer keeps.
 pub hut-of : (w : List ℕ) {k : Examined} {hut : Hut} → k ≡ examined w → k ≡ examineds.Good hut → HutOf w hut
-unfolding examinedStep
+unfolding examined_step
 hut-of w {k} {hut} d e = go (checked w 0) refl d
   where
-    go : (s : Step Room) → checked w 0 ≡ s → k ≡ examinedStep w s → HutOf w hut
-    go (good r end) q d = let a : hut ≡ hutOf w r = cc in record { room = r; end = end; good-table = q; is = a }
+    go : (s : Step Room) → checked w 0 ≡ s → k ≡ examined_step w s → HutOf w hut
+    go (good r end) q d = let a : hut ≡ hut_of w r = cc in record { room = r; end = end; good-table = q; is = a }
     go (bad refusal) q d = absurd (suc-ne-zero 0 (cc))
 
 pub hut-small : {w : List ℕ} {hut : Hut} → HutOf w hut → Small hut
@@ -171,9 +171,9 @@ hut-small {w} {hut} h =
     let long = length-is w r h.end h.good-table in
     let few = length-small w r h.end h.good-table in
     record {
-      nodes = omega (arith, ap (λ (x : Hut). x.nodes) h.is, ok.fewNodes);
-      servers = omega (arith, ap (λ (x : Hut). x.servers) h.is, ok.fewServers);
-      cords = omega (arith, ap (λ (x : Hut). x.cords) h.is, ok.fewCords);
+      nodes = omega (arith, ap (λ (x : Hut). x.nodes) h.is, ok.few_nodes);
+      servers = omega (arith, ap (λ (x : Hut). x.servers) h.is, ok.few_servers);
+      cords = omega (arith, ap (λ (x : Hut). x.cords) h.is, ok.few_cords);
       words = (omega (arith, ap (λ (x : Hut). x.words) h.is, long), omega (arith, ap (λ (x : Hut). x.words) h.is, few));
     }
 
@@ -194,46 +194,46 @@ module _ (f s : List ℕ) (r q : Room) (i j : ℕ) (a : checked f 0 ≡ good r i
   abbrev by : ℕ
   by = length r.nodes
 
-  abbrev nodesOne : List ℕ
-  nodesOne = rowWords (wordsOfNode percents) r.nodes
+  abbrev nodes_one : List ℕ
+  nodes_one = row_words (words_of_node percents) r.nodes
 
-  abbrev nodesTwo : List ℕ
-  nodesTwo = rowWords (wordsOfNode percents) q.nodes
+  abbrev nodes_two : List ℕ
+  nodes_two = row_words (words_of_node percents) q.nodes
 
-  abbrev serversOne : List ℕ
-  serversOne = rowWords wordsOfServer r.servers
+  abbrev servers_one : List ℕ
+  servers_one = row_words words_of_server r.servers
 
-  abbrev serversTwo : List ℕ
-  serversTwo = rowWords wordsOfServer q.servers
+  abbrev servers_two : List ℕ
+  servers_two = row_words words_of_server q.servers
 
   pub joined_words : table_of (at f 0) (joined r q)
-      ≡ at f 0 ∷ (length r.nodes + length q.nodes) ∷ (nodesOne ++ (renumberedEvery (nodeWords percents - 1) by 0 0 nodesTwo
-      ++ ((length r.servers + length q.servers) ∷ (serversOne ++ renumberedCords by 0 0 serversTwo))))
+      ≡ at f 0 ∷ (length r.nodes + length q.nodes) ∷ (nodes_one ++ (renumbered_every (node_words percents - 1) by 0 0 nodes_two
+      ++ ((length r.servers + length q.servers) ∷ (servers_one ++ renumbered_cords by 0 0 servers_two))))
   joined_words =
       ap₂ (λ (n : ℕ) (z : List ℕ). at f 0 ∷ n ∷ z) (nodes-joined r q)
       (ap₂ (λ (x y : List ℕ). x ++ y) nodes-row (ap₂ (λ (n : ℕ) (z : List ℕ). n ∷ z) (servers-joined r q) servers-row)
-      ∙ append_assoc nodesOne (renumberedEvery (nodeWords percents - 1) by 0 0 nodesTwo) _)
+      ∙ append_assoc nodes_one (renumbered_every (node_words percents - 1) by 0 0 nodes_two) _)
     where
-      nodes-row : rowWords (wordsOfNode percents) (joined r q).nodes ≡ nodesOne ++ renumberedEvery (nodeWords percents - 1) by 0 0 nodesTwo
-      nodes-row = row-append (wordsOfNode percents) r.nodes _ ∙ ap (λ (z : List ℕ). nodesOne ++ z) (nodes-moved by 0 (raised by) (raised_is by) percents q.nodes)
+      nodes-row : row_words (words_of_node percents) (joined r q).nodes ≡ nodes_one ++ renumbered_every (node_words percents - 1) by 0 0 nodes_two
+      nodes-row = row-append (words_of_node percents) r.nodes _ ∙ ap (λ (z : List ℕ). nodes_one ++ z) (nodes-moved by 0 (raised by) (raised_is by) percents q.nodes)
 
-      servers-row : rowWords wordsOfServer (joined r q).servers ≡ serversOne ++ renumberedCords by 0 0 serversTwo
-      servers-row = row-append wordsOfServer r.servers _ ∙ ap (λ (z : List ℕ). serversOne ++ z) (servers-moved by 0 (raised by) (raised_is by) q.servers)
+      servers-row : row_words words_of_server (joined r q).servers ≡ servers_one ++ renumbered_cords by 0 0 servers_two
+      servers-row = row-append words_of_server r.servers _ ∙ ap (λ (z : List ℕ). servers_one ++ z) (servers-moved by 0 (raised by) (raised_is by) q.servers)
 
   pub joined_length : length (table_of (at f 0) (joined r q)) ≡ length f + length s - 3
   joined_length =
-      let two : length s ≡ 3 + length nodesTwo + length serversTwo
-      = length-are s q j b ∙ ap (λ (v : ℕ). 3 + length (rowWords (wordsOfNode (form_of v).percents) q.nodes) + length serversTwo) (sym same) in
+      let two : length s ≡ 3 + length nodes_two + length servers_two
+      = length-are s q j b ∙ ap (λ (v : ℕ). 3 + length (row_words (words_of_node (form_of v).percents) q.nodes) + length servers_two) (sym same) in
       ap length joined_words
       ∙ omega (
         arith,
         length-are f r i a,
         two,
-        length-append nodesOne (renumberedEvery (nodeWords percents - 1) by 0 0 nodesTwo ++ ((length r.servers + length q.servers) ∷ (serversOne ++ renumberedCords by 0 0 serversTwo))),
-        length-append (renumberedEvery (nodeWords percents - 1) by 0 0 nodesTwo) ((length r.servers + length q.servers) ∷ (serversOne ++ renumberedCords by 0 0 serversTwo)),
-        length-append serversOne (renumberedCords by 0 0 serversTwo),
-        every-length (nodeWords percents - 1) by 0 0 nodesTwo,
-        cords-length by 0 0 serversTwo,
+        length-append nodes_one (renumbered_every (node_words percents - 1) by 0 0 nodes_two ++ ((length r.servers + length q.servers) ∷ (servers_one ++ renumbered_cords by 0 0 servers_two))),
+        length-append (renumbered_every (node_words percents - 1) by 0 0 nodes_two) ((length r.servers + length q.servers) ∷ (servers_one ++ renumbered_cords by 0 0 servers_two)),
+        length-append servers_one (renumbered_cords by 0 0 servers_two),
+        every-length (node_words percents - 1) by 0 0 nodes_two,
+        cords-length by 0 0 servers_two,
       )
 
 -- ---- The answers
@@ -244,15 +244,15 @@ module _ (f s : List ℕ) (space : ℕ) where
 
   pub first-bad : {q : SheetRefusal} → checked f 0 ≡ bad q → outcome ≡ refused (First q)
   unfolding joining
-  first-bad e = ap (λ (t : Step Room). whenGood First t (λ r. whenGood Second (checked s 0) (λ q. joinRooms (at f 0) (at s 0) r q space))) e
+  first-bad e = ap (λ (t : Step Room). when_good First t (λ r. when_good Second (checked s 0) (λ q. join_rooms (at f 0) (at s 0) r q space))) e
 
   module _ {one : Hut} (a : HutOf f one) where
-    after_first : outcome ≡ whenGood Second (checked s 0) (λ q. joinRooms (at f 0) (at s 0) a.room q space)
+    after_first : outcome ≡ when_good Second (checked s 0) (λ q. join_rooms (at f 0) (at s 0) a.room q space)
     unfolding joining
-    after_first = ap (λ (t : Step Room). whenGood First t (λ r. whenGood Second (checked s 0) (λ q. joinRooms (at f 0) (at s 0) r q space))) a.good-table
+    after_first = ap (λ (t : Step Room). when_good First t (λ r. when_good Second (checked s 0) (λ q. join_rooms (at f 0) (at s 0) r q space))) a.good-table
 
     pub second-bad : {q : SheetRefusal} → checked s 0 ≡ bad q → outcome ≡ refused (Second q)
-    second-bad e = after_first ∙ ap (λ (t : Step Room). whenGood Second t (λ q. joinRooms (at f 0) (at s 0) a.room q space)) e
+    second-bad e = after_first ∙ ap (λ (t : Step Room). when_good Second t (λ q. join_rooms (at f 0) (at s 0) a.room q space)) e
 
     module _ {two : Hut} (b : HutOf s two) where
       abbrev table : List ℕ
@@ -262,8 +262,8 @@ module _ (f s : List ℕ) (space : ℕ) where
       why = reasons (at f 0) (at s 0) a.room b.room space
 
       pub both-good : outcome ≡ unless why table
-      unfolding joinRooms
-      both-good = after_first ∙ ap (λ (t : Step Room). whenGood Second t (λ q. joinRooms (at f 0) (at s 0) a.room q space)) b.good-table
+      unfolding join_rooms
+      both-good = after_first ∙ ap (λ (t : Step Room). when_good Second t (λ q. join_rooms (at f 0) (at s 0) a.room q space)) b.good-table
 
       version-one : one.version ≡ at f 0
       version-one = ap (λ (h : Hut). h.version) a.is
@@ -284,7 +284,7 @@ module _ (f s : List ℕ) (space : ℕ) where
         servers-are : one.servers + two.servers ≡ length a.room.servers + length b.room.servers
         servers-are = ap₂ ◌+◌ (ap (λ (h : Hut). h.servers) a.is) (ap (λ (h : Hut). h.servers) b.is)
 
-        cords-are : one.cords + two.cords ≡ roomCords a.room + roomCords b.room
+        cords-are : one.cords + two.cords ≡ room_cords a.room + room_cords b.room
         cords-are = ap₂ ◌+◌ (ap (λ (h : Hut). h.cords) a.is) (ap (λ (h : Hut). h.cords) b.is)
 
         pub table-long : length table ≡ one.words + two.words - 3
@@ -294,29 +294,29 @@ module _ (f s : List ℕ) (space : ℕ) where
         pass-version : outcome ≡ unless (drop 1 why) table
         pass-version = both-good ∙ unless-pass _ _ table (ap not (eq-eqb (at f 0) (at s 0) versions-same))
 
-        pub too-many-nodes : mostNodes < one.nodes + two.nodes → outcome ≡ refused TooManyNodes
-        too-many-nodes h = pass-version ∙ unless-stop _ _ table (lt-ltb mostNodes _ (subst (λ (n : ℕ). mostNodes < n) nodes-are h))
+        pub too-many-nodes : most_nodes < one.nodes + two.nodes → outcome ≡ refused TooManyNodes
+        too-many-nodes h = pass-version ∙ unless-stop _ _ table (lt-ltb most_nodes _ (subst (λ (n : ℕ). most_nodes < n) nodes-are h))
 
-        module _ (few : one.nodes + two.nodes ≤ mostNodes) where
+        module _ (few : one.nodes + two.nodes ≤ most_nodes) where
           pass-nodes : outcome ≡ unless (drop 2 why) table
-          pass-nodes = pass-version ∙ unless-pass _ _ table (le-ltb mostNodes _ (subst (λ (n : ℕ). n ≤ mostNodes) nodes-are few))
+          pass-nodes = pass-version ∙ unless-pass _ _ table (le-ltb most_nodes _ (subst (λ (n : ℕ). n ≤ most_nodes) nodes-are few))
 
-          pub too-many-servers : mostServers < one.servers + two.servers → outcome ≡ refused TooManyServers
-          too-many-servers h = pass-nodes ∙ unless-stop _ _ table (lt-ltb mostServers _ (subst (λ (n : ℕ). mostServers < n) servers-are h))
+          pub too-many-servers : most_servers < one.servers + two.servers → outcome ≡ refused TooManyServers
+          too-many-servers h = pass-nodes ∙ unless-stop _ _ table (lt-ltb most_servers _ (subst (λ (n : ℕ). most_servers < n) servers-are h))
 
-          module _ (fewServers : one.servers + two.servers ≤ mostServers) where
+          module _ (few_servers : one.servers + two.servers ≤ most_servers) where
             pass-servers : outcome ≡ unless (drop 3 why) table
-            pass-servers = pass-nodes ∙ unless-pass _ _ table (le-ltb mostServers _ (subst (λ (n : ℕ). n ≤ mostServers) servers-are fewServers))
+            pass-servers = pass-nodes ∙ unless-pass _ _ table (le-ltb most_servers _ (subst (λ (n : ℕ). n ≤ most_servers) servers-are few_servers))
 
-            pub too-many-cords : mostCords < one.cords + two.cords → outcome ≡ refused TooManyCords
-            too-many-cords h = pass-servers ∙ unless-stop _ _ table (lt-ltb mostCords _ (subst (λ (n : ℕ). mostCords < n) cords-are h))
+            pub too-many-cords : most_cords < one.cords + two.cords → outcome ≡ refused TooManyCords
+            too-many-cords h = pass-servers ∙ unless-stop _ _ table (lt-ltb most_cords _ (subst (λ (n : ℕ). most_cords < n) cords-are h))
 
-            module _ (fewCords : one.cords + two.cords ≤ mostCords) where
+            module _ (few_cords : one.cords + two.cords ≤ most_cords) where
               pass-cords : outcome ≡ unless (drop 4 why) table
-              pass-cords = pass-servers ∙ unless-pass _ _ table (le-ltb mostCords _ (subst (λ (n : ℕ). n ≤ mostCords) cords-are fewCords))
+              pass-cords = pass-servers ∙ unless-pass _ _ table (le-ltb most_cords _ (subst (λ (n : ℕ). n ≤ most_cords) cords-are few_cords))
 
-              pub too_short : space < one.words + two.words - 3 → outcome ≡ refused (TableTooShort (one.words + two.words - 3))
-              too_short h = pass-cords ∙ unless-stop _ _ table (lt-ltb space (length table) (omega (arith, table-long))) ∙ ap (λ (n : ℕ). refused (TableTooShort n)) table-long
+              pub list_short : space < one.words + two.words - 3 → outcome ≡ refused (TableTooShort (one.words + two.words - 3))
+              list_short h = pass-cords ∙ unless-stop _ _ table (lt-ltb space (length table) (omega (arith, table-long))) ∙ ap (λ (n : ℕ). refused (TableTooShort n)) table-long
 
               pub fits : one.words + two.words - 3 ≤ space → outcome ≡ accepted table
               fits h = pass-cords ∙ unless-pass _ _ table (le-ltb space (length table) (omega (arith, table-long))) ∙ unless-none table

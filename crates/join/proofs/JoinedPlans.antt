@@ -8,22 +8,22 @@ use lib.ListN.{length, length-append, length-map, get_or-append}
 use lib.Seq.{ext_get_or}
 use Rattle.figures.specs.Figures.{at, sum_of}
 use Rattle.figures.proofs.Lists.{total-append, figures-length}
-use Rattle.rooms.specs.Lists.{nodesOf}
-use Rattle.deals.specs.Metrics.{dealFrom, dealOf}
+use Rattle.rooms.specs.Lists.{nodes_of}
+use Rattle.deals.specs.Metrics.{deal_from, deal_of}
 use Rattle.deals.specs.Dealing.{granted}
-use Rattle.deals.proofs.RoomDeals.{nodesOf-length}
-use Rattle.rooms.specs.Table.{raised, Room, roomCords}
+use Rattle.deals.proofs.RoomDeals.{nodes_of-length}
+use Rattle.rooms.specs.Table.{raised, Room, room_cords}
 use Rattle.rooms.proofs.Accepted.{Accepted}
-use Rattle.deals.specs.SecondDeal.{firstDeal, firstGrants, firstUsed, stranded, freed, secondGrants, caps}
+use Rattle.deals.specs.SecondDeal.{first_deal, first_grants, first_used, stranded, freed, second_grants, caps}
 use Rattle.deals.specs.Headroom.{headroom}
 use Rattle.deals.specs.Held.{held}
 use Rattle.deals.specs.Plan.{plan_of}
 use Rattle.deals.proofs.BothDeals.{stranded-count}
-use Rattle.deals.proofs.RoomInside.{RoomInside, ServersIn, firstGrants-in, stranded-in, secondGrants-in, caps-in}
+use Rattle.deals.proofs.RoomInside.{RoomInside, ServersIn, first_grants-in, stranded-in, second_grants-in, caps-in}
 use Rattle.deals.proofs.RoomInsideLists.{room-headroom-in, room-held-in}
-use Rattle.join.specs.Joined.{joined, joinedPlan}
+use Rattle.join.specs.Joined.{joined, joined_plan}
 use Rattle.join.proofs.JoinedRoom.{accepted-facts, Side, before, behind, side, behind-at, map_at, raised-none, servers-joined, cords-count, first-inside, second-inside}
-use Rattle.deals.proofs.Plans.{secondGrants-length, caps-length, headroom-length, held-length}
+use Rattle.deals.proofs.Plans.{second_grants-length, caps-length, headroom-length, held-length}
 
 -- A list that has the entries of one, and behind them those of another.
 appended : (l f g : List ℕ) (k : ℕ) → length f ≡ k → length l ≡ k + length g → ((i : ℕ) → i < k → at l (i + 0) ≡ at f i)
@@ -42,72 +42,72 @@ module _ (r q : Room) (ok : Accepted r) (ko : Accepted q) (both : Accepted (join
   one : RoomInside r whole 0 0 0
   one = first-inside r q (accepted-facts r ok)
 
-  two : RoomInside q whole (length r.nodes) (roomCords r) (length r.servers)
+  two : RoomInside q whole (length r.nodes) (room_cords r) (length r.servers)
   two = second-inside r q (accepted-facts r ok) same
 
   demands-one : ServersIn r whole 0 0 0 one ok both 0 (d ++ e) d
   demands-one u l k = rw add-zero (get_or-append d e 0 u (omega arith))
 
-  demands-two : ServersIn q whole (length r.nodes) (roomCords r) (length r.servers) two ko both 0 (d ++ e) e
+  demands-two : ServersIn q whole (length r.nodes) (room_cords r) (length r.servers) two ko both 0 (d ++ e) e
   demands-two u l k = behind-at d e u (length r.servers) 0 count
 
   -- A list with a figure a cord, of the whole and of its halves.
-  cords-appended : (list : Room → List ℕ → List ℕ) → ((r : Room) (d : List ℕ) → length (list r d) ≡ roomCords r) → (g : List ℕ) → length g ≡ roomCords q
-      → ((c : ℕ) → c < roomCords r → at (list whole (d ++ e)) (c + 0) ≡ at (list r d) c)
-      → ((c : ℕ) → c < roomCords q → at (list whole (d ++ e)) (c + roomCords r) ≡ at g c) → list whole (d ++ e) ≡ list r d ++ g
+  cords-appended : (list : Room → List ℕ → List ℕ) → ((r : Room) (d : List ℕ) → length (list r d) ≡ room_cords r) → (g : List ℕ) → length g ≡ room_cords q
+      → ((c : ℕ) → c < room_cords r → at (list whole (d ++ e)) (c + 0) ≡ at (list r d) c)
+      → ((c : ℕ) → c < room_cords q → at (list whole (d ++ e)) (c + room_cords r) ≡ at g c) → list whole (d ++ e) ≡ list r d ++ g
   cords-appended list count g z lo hi =
-      appended (list whole (d ++ e)) (list r d) g (roomCords r) (count r d) (omega (arith, count whole (d ++ e), cords-count r q)) lo (λ c h. hi c (omega arith))
+      appended (list whole (d ++ e)) (list r d) g (room_cords r) (count r d) (omega (arith, count whole (d ++ e), cords-count r q)) lo (λ c h. hi c (omega arith))
 
   abbrev left : Room → List ℕ → List ℕ
-  left r d = stranded r (firstGrants r d) (firstUsed r d)
+  left r d = stranded r (first_grants r d) (first_used r d)
 
   stranded-joined : left whole (d ++ e) ≡ left r d ++ left q e
   stranded-joined =
-      cords-appended left (λ r d. stranded-count r (firstGrants r d) (firstUsed r d)) (left q e) (stranded-count q (firstGrants q e) (firstUsed q e))
+      cords-appended left (λ r d. stranded-count r (first_grants r d) (first_used r d)) (left q e) (stranded-count q (first_grants q e) (first_used q e))
       (λ c l. stranded-in r whole 0 0 0 one ok both 0 (d ++ e) d demands-one c l zero-le)
-      (λ c l. stranded-in q whole (length r.nodes) (roomCords r) (length r.servers) two ko both 0 (d ++ e) e demands-two c l zero-le)
+      (λ c l. stranded-in q whole (length r.nodes) (room_cords r) (length r.servers) two ko both 0 (d ++ e) e demands-two c l zero-le)
 
   freed-joined : freed whole (d ++ e) ≡ freed r d + freed q e
   unfolding freed
   freed-joined = ap sum_of stranded-joined ∙ total-append (λ x. x) (left r d) (left q e)
 
   -- The first deal's grants, by the lengths that they have.
-  firstGrants-length : (r : Room) (d : List ℕ) → length (firstGrants r d) ≡ roomCords r
-  unfolding firstGrants firstDeal dealOf dealFrom granted
-  firstGrants-length r d = figures-length (length (nodesOf r)) _ ∙ nodesOf-length r
+  first_grants-length : (r : Room) (d : List ℕ) → length (first_grants r d) ≡ room_cords r
+  unfolding first_grants first_deal deal_of deal_from granted
+  first_grants-length r d = figures-length (length (nodes_of r)) _ ∙ nodes_of-length r
 
-  pub firstGrants-joined : firstGrants whole (d ++ e) ≡ firstGrants r d ++ firstGrants q e
-  firstGrants-joined =
-      cords-appended firstGrants firstGrants-length (firstGrants q e) (firstGrants-length q e)
-      (λ c l. firstGrants-in r whole 0 0 0 one ok both 0 (d ++ e) d demands-one c l zero-le)
-      (λ c l. firstGrants-in q whole (length r.nodes) (roomCords r) (length r.servers) two ko both 0 (d ++ e) e demands-two c l zero-le)
+  pub first_grants-joined : first_grants whole (d ++ e) ≡ first_grants r d ++ first_grants q e
+  first_grants-joined =
+      cords-appended first_grants first_grants-length (first_grants q e) (first_grants-length q e)
+      (λ c l. first_grants-in r whole 0 0 0 one ok both 0 (d ++ e) d demands-one c l zero-le)
+      (λ c l. first_grants-in q whole (length r.nodes) (room_cords r) (length r.servers) two ko both 0 (d ++ e) e demands-two c l zero-le)
 
-  grants-joined : secondGrants whole (d ++ e) ≡ secondGrants r d ++ secondGrants q e
+  grants-joined : second_grants whole (d ++ e) ≡ second_grants r d ++ second_grants q e
   grants-joined =
-      cords-appended secondGrants secondGrants-length (secondGrants q e) (secondGrants-length q e)
-      (λ c l. secondGrants-in r whole 0 0 0 one ok both 0 (d ++ e) d demands-one c l zero-le)
-      (λ c l. secondGrants-in q whole (length r.nodes) (roomCords r) (length r.servers) two ko both 0 (d ++ e) e demands-two c l zero-le)
+      cords-appended second_grants second_grants-length (second_grants q e) (second_grants-length q e)
+      (λ c l. second_grants-in r whole 0 0 0 one ok both 0 (d ++ e) d demands-one c l zero-le)
+      (λ c l. second_grants-in q whole (length r.nodes) (room_cords r) (length r.servers) two ko both 0 (d ++ e) e demands-two c l zero-le)
 
   caps-joined : caps whole (d ++ e) ≡ caps r d ++ caps q e
   caps-joined =
       appended (caps whole (d ++ e)) (caps r d) (caps q e) (length r.servers) (caps-length r d) (omega (arith, caps-length whole (d ++ e), caps-length q e, servers-joined r q))
       (λ u l. caps-in r whole 0 0 0 one ok both 0 (d ++ e) d demands-one u l zero-le)
-      (λ u l. caps-in q whole (length r.nodes) (roomCords r) (length r.servers) two ko both 0 (d ++ e) e demands-two u (omega (arith, caps-length q e)) zero-le)
+      (λ u l. caps-in q whole (length r.nodes) (room_cords r) (length r.servers) two ko both 0 (d ++ e) e demands-two u (omega (arith, caps-length q e)) zero-le)
 
   headroom-joined : headroom whole (d ++ e) ≡ headroom r d ++ headroom q e
   headroom-joined =
       cords-appended headroom headroom-length (headroom q e) (headroom-length q e)
       (λ c l. room-headroom-in r whole 0 0 0 one ok both (d ++ e) d demands-one c l)
-      (λ c l. room-headroom-in q whole (length r.nodes) (roomCords r) (length r.servers) two ko both (d ++ e) e demands-two c l)
+      (λ c l. room-headroom-in q whole (length r.nodes) (room_cords r) (length r.servers) two ko both (d ++ e) e demands-two c l)
 
   held-joined : held whole (d ++ e) ≡ held r d ++ map (raised (length r.nodes)) (held q e)
   held-joined =
       cords-appended held held-length (map (raised (length r.nodes)) (held q e)) (length-map (held q e) (raised (length r.nodes)) ∙ held-length q e)
       (λ c l. room-held-in r whole 0 0 0 one ok both (d ++ e) d demands-one c l ∙ sym (raised-none (at (held r d) c)))
-      (λ c l. room-held-in q whole (length r.nodes) (roomCords r) (length r.servers) two ko both (d ++ e) e demands-two c l
+      (λ c l. room-held-in q whole (length r.nodes) (room_cords r) (length r.servers) two ko both (d ++ e) e demands-two c l
       ∙ sym (map_at (raised (length r.nodes)) (held q e) c 0 0 (omega (arith, held-length q e))))
 
-  pub plan-joined : plan_of whole (d ++ e) ≡ joinedPlan (length r.nodes) (plan_of r d) (plan_of q e)
+  pub plan-joined : plan_of whole (d ++ e) ≡ joined_plan (length r.nodes) (plan_of r d) (plan_of q e)
   plan-joined = λ i. record {
     freed = freed-joined i;
     grants = grants-joined i;

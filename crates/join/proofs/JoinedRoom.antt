@@ -9,22 +9,22 @@ use lib.ListN.{length, get_or, length-append, length-map, get_or-append, get_or-
 use lib.Seq.{get_or-append-add}
 use Rattle.figures.specs.Figures.{total}
 use Rattle.figures.proofs.Lists.{total-append}
-use Rattle.rooms.specs.Table.{raised, Node, Cord, Server, Room, cordCount, roomCords}
-use Rattle.rooms.specs.Limits.{limit, nodeAt, parent_of}
-use Rattle.rooms.specs.Cords.{RoomCord, serverCords, cordsFrom, cordsOf, cordAt, serverAt}
-use Rattle.rooms.proofs.Cords.{noRoomCord, noServer, cordsOf-length}
+use Rattle.rooms.specs.Table.{raised, Node, Cord, Server, Room, cord_count, room_cords}
+use Rattle.rooms.specs.Limits.{limit, node_at, parent_of}
+use Rattle.rooms.specs.Cords.{RoomCord, server_cords, cords_from, cords_of, cord_at, server_at}
+use Rattle.rooms.proofs.Cords.{no_room_cord, no_server, cords_of-length}
 use Rattle.rooms.proofs.Accepted.{Accepted}
 use Rattle.deals.proofs.BothDeals.{parents-below, cord-facts}
 use Rattle.deals.proofs.RoomInside.{RoomInside}
-use Rattle.join.specs.Joined.{raisedNode, raisedCord, raisedServer, joined}
+use Rattle.join.specs.Joined.{raised_node, raised_cord, raised_server, joined}
 use Rattle.rooms.specs.Trees.{ParentsFirst}
 
 -- ---- What a room's links keep, whatever its figures
 
 pub record Linked (r : Room) : Type 0 where
   pub rises : ParentsFirst (length r.nodes) (parent_of r)
-  pub here : (c : ℕ) → c < roomCords r → (cordAt r c).node ≤ length r.nodes
-  pub served : (c : ℕ) → c < roomCords r → (cordAt r c).server < length r.servers
+  pub here : (c : ℕ) → c < room_cords r → (cord_at r c).node ≤ length r.nodes
+  pub served : (c : ℕ) → c < room_cords r → (cord_at r c).server < length r.servers
 
 pub accepted-facts : (r : Room) → Accepted r → Linked r
 accepted-facts r ok = record { rises = parents-below r ok; here = λ c l. (cord-facts r ok c l).2; served = λ c l. (cord-facts r ok c l).0 }
@@ -69,65 +69,65 @@ total_kept figure f same (a ∷ l) = ap₂ ◌+◌ (same a) (total_kept figure f
 
 -- ---- The cords, each with its server
 
-abbrev raisedPlaced : ℕ → ℕ → RoomCord → RoomCord
-raisedPlaced a v c = record { server = c.server + v; node = raised a c.node; share = c.share }
+abbrev raised_placed : ℕ → ℕ → RoomCord → RoomCord
+raised_placed a v c = record { server = c.server + v; node = raised a c.node; share = c.share }
 
-cordsFrom-append : (u : ℕ) (l m : List Server) → cordsFrom u (l ++ m) ≡ cordsFrom u l ++ cordsFrom (u + length l) m
-unfolding cordsFrom
-cordsFrom-append u [] m = ap (λ (x : ℕ). cordsFrom x m) (sym (add-zero u))
-cordsFrom-append u (s ∷ l) m =
-    ap (λ (z : List RoomCord). serverCords u s.cords ++ z)
-    (cordsFrom-append (suc u) l m ∙ ap (λ (x : ℕ). cordsFrom (suc u) l ++ cordsFrom x m) (let q : suc u + length l ≡ u + suc (length l) = omega arith in q))
-    ∙ sym (append_assoc (serverCords u s.cords) (cordsFrom (suc u) l) (cordsFrom (u + suc (length l)) m))
+cords_from-append : (u : ℕ) (l m : List Server) → cords_from u (l ++ m) ≡ cords_from u l ++ cords_from (u + length l) m
+unfolding cords_from
+cords_from-append u [] m = ap (λ (x : ℕ). cords_from x m) (sym (add-zero u))
+cords_from-append u (s ∷ l) m =
+    ap (λ (z : List RoomCord). server_cords u s.cords ++ z)
+    (cords_from-append (suc u) l m ∙ ap (λ (x : ℕ). cords_from (suc u) l ++ cords_from x m) (let q : suc u + length l ≡ u + suc (length l) = omega arith in q))
+    ∙ sym (append_assoc (server_cords u s.cords) (cords_from (suc u) l) (cords_from (u + suc (length l)) m))
 
-placed-raised : (a v u : ℕ) (l : List Cord) → serverCords (u + v) (map (raisedCord a) l) ≡ map (raisedPlaced a v) (serverCords u l)
-unfolding serverCords
+placed-raised : (a v u : ℕ) (l : List Cord) → server_cords (u + v) (map (raised_cord a) l) ≡ map (raised_placed a v) (server_cords u l)
+unfolding server_cords
 placed-raised a v u [] = refl
 placed-raised a v u (c ∷ l) = ap (λ (z : List RoomCord). record { server = u + v; node = raised a c.node; share = c.share } ∷ z) (placed-raised a v u l)
 
-cords-raised : (a v u : ℕ) (l : List Server) → cordsFrom (u + v) (map (raisedServer a) l) ≡ map (raisedPlaced a v) (cordsFrom u l)
-unfolding cordsFrom
+cords-raised : (a v u : ℕ) (l : List Server) → cords_from (u + v) (map (raised_server a) l) ≡ map (raised_placed a v) (cords_from u l)
+unfolding cords_from
 cords-raised a v u [] = refl
 cords-raised a v u (s ∷ l) =
     ap₂ ◌++◌ (placed-raised a v u s.cords)
-    (ap (λ (x : ℕ). cordsFrom x (map (raisedServer a) l)) (let q : suc (u + v) ≡ suc u + v = omega arith in q) ∙ cords-raised a v (suc u) l)
-    ∙ sym (map-append (raisedPlaced a v) (serverCords u s.cords) (cordsFrom (suc u) l))
+    (ap (λ (x : ℕ). cords_from x (map (raised_server a) l)) (let q : suc (u + v) ≡ suc u + v = omega arith in q) ∙ cords-raised a v (suc u) l)
+    ∙ sym (map-append (raised_placed a v) (server_cords u s.cords) (cords_from (suc u) l))
 
 module _ (r q : Room) where
   pub nodes-joined : length (joined r q).nodes ≡ length r.nodes + length q.nodes
-  nodes-joined = length-append r.nodes _ ∙ ap (λ (x : ℕ). length r.nodes + x) (length-map q.nodes (raisedNode (length r.nodes)))
+  nodes-joined = length-append r.nodes _ ∙ ap (λ (x : ℕ). length r.nodes + x) (length-map q.nodes (raised_node (length r.nodes)))
 
   pub servers-joined : length (joined r q).servers ≡ length r.servers + length q.servers
-  servers-joined = length-append r.servers _ ∙ ap (λ (x : ℕ). length r.servers + x) (length-map q.servers (raisedServer (length r.nodes)))
+  servers-joined = length-append r.servers _ ∙ ap (λ (x : ℕ). length r.servers + x) (length-map q.servers (raised_server (length r.nodes)))
 
-  pub cords-count : roomCords (joined r q) ≡ roomCords r + roomCords q
-  cords-count = total-append cordCount r.servers _ ∙ ap (λ (x : ℕ). roomCords r + x) (total_kept cordCount (raisedServer (length r.nodes)) (λ s. length-map s.cords (raisedCord (length r.nodes))) q.servers)
+  pub cords-count : room_cords (joined r q) ≡ room_cords r + room_cords q
+  cords-count = total-append cord_count r.servers _ ∙ ap (λ (x : ℕ). room_cords r + x) (total_kept cord_count (raised_server (length r.nodes)) (λ s. length-map s.cords (raised_cord (length r.nodes))) q.servers)
 
-  cords-joined : cordsOf (joined r q) ≡ cordsOf r ++ map (raisedPlaced (length r.nodes) (length r.servers)) (cordsOf q)
+  cords-joined : cords_of (joined r q) ≡ cords_of r ++ map (raised_placed (length r.nodes) (length r.servers)) (cords_of q)
   cords-joined =
-      cordsFrom-append 0 r.servers _
-      ∙ ap (λ (z : List RoomCord). cordsOf r ++ z) (cords-raised (length r.nodes) (length r.servers) 0 q.servers)
+      cords_from-append 0 r.servers _
+      ∙ ap (λ (z : List RoomCord). cords_of r ++ z) (cords-raised (length r.nodes) (length r.servers) 0 q.servers)
 
-  node-first : (m : ℕ) → m < length r.nodes → nodeAt (joined r q) m ≡ nodeAt r m
+  node-first : (m : ℕ) → m < length r.nodes → node_at (joined r q) m ≡ node_at r m
   node-first m l = get_or-append r.nodes _ _ m l
 
-  node-second : (m : ℕ) → nodeAt (joined r q) (m + length r.nodes) ≡ raisedNode (length r.nodes) (nodeAt q m)
-  node-second m = behind-at r.nodes _ m _ _ refl ∙ get_or-map (raisedNode (length r.nodes)) q.nodes m (record { parent = 0; rating = 0; percent = 0 })
+  node-second : (m : ℕ) → node_at (joined r q) (m + length r.nodes) ≡ raised_node (length r.nodes) (node_at q m)
+  node-second m = behind-at r.nodes _ m _ _ refl ∙ get_or-map (raised_node (length r.nodes)) q.nodes m (record { parent = 0; rating = 0; percent = 0 })
 
-  server-first : (u : ℕ) → u < length r.servers → serverAt (joined r q) u ≡ serverAt r u
+  server-first : (u : ℕ) → u < length r.servers → server_at (joined r q) u ≡ server_at r u
   server-first u l = get_or-append r.servers _ _ u l
 
-  server-second : (u : ℕ) → serverAt (joined r q) (u + length r.servers) ≡ raisedServer (length r.nodes) (serverAt q u)
-  server-second u = behind-at r.servers _ u _ _ refl ∙ get_or-map (raisedServer (length r.nodes)) q.servers u noServer
+  server-second : (u : ℕ) → server_at (joined r q) (u + length r.servers) ≡ raised_server (length r.nodes) (server_at q u)
+  server-second u = behind-at r.servers _ u _ _ refl ∙ get_or-map (raised_server (length r.nodes)) q.servers u no_server
 
-  cord-first : (c : ℕ) → c < roomCords r → cordAt (joined r q) c ≡ cordAt r c
-  cord-first c l = ap (λ (z : List RoomCord). get_or z c noRoomCord) cords-joined ∙ get_or-append (cordsOf r) _ noRoomCord c (omega (arith, cordsOf-length r))
+  cord-first : (c : ℕ) → c < room_cords r → cord_at (joined r q) c ≡ cord_at r c
+  cord-first c l = ap (λ (z : List RoomCord). get_or z c no_room_cord) cords-joined ∙ get_or-append (cords_of r) _ no_room_cord c (omega (arith, cords_of-length r))
 
-  cord-second : (c : ℕ) → c < roomCords q → cordAt (joined r q) (c + roomCords r) ≡ raisedPlaced (length r.nodes) (length r.servers) (cordAt q c)
+  cord-second : (c : ℕ) → c < room_cords q → cord_at (joined r q) (c + room_cords r) ≡ raised_placed (length r.nodes) (length r.servers) (cord_at q c)
   cord-second c l =
-      ap (λ (z : List RoomCord). get_or z (c + roomCords r) noRoomCord) cords-joined
-      ∙ behind-at (cordsOf r) _ c (roomCords r) noRoomCord (cordsOf-length r)
-      ∙ map_at _ (cordsOf q) c noRoomCord noRoomCord (omega (arith, cordsOf-length q))
+      ap (λ (z : List RoomCord). get_or z (c + room_cords r) no_room_cord) cords-joined
+      ∙ behind-at (cords_of r) _ c (room_cords r) no_room_cord (cords_of-length r)
+      ∙ map_at _ (cords_of q) c no_room_cord no_room_cord (omega (arith, cords_of-length q))
 
   module _ (facts : Linked r) where
     -- ---- The first room is inside
@@ -135,9 +135,9 @@ module _ (r q : Room) where
     pub first-inside : RoomInside r (joined r q) 0 0 0
     first-inside = record {
       scale = refl;
-      nodesFit = omega (arith, nodes-joined);
-      cordsFit = omega (arith, cords-count);
-      serversFit = omega (arith, servers-joined);
+      nodes_fit = omega (arith, nodes-joined);
+      cords_fit = omega (arith, cords-count);
+      servers_fit = omega (arith, servers-joined);
       parent = λ m l. rw add-zero (ap (λ (n : Node). n.parent) (node-first m l) ∙ raised-none _);
       limits = λ m l. rw add-zero (ap limit (node-first m l));
       rank = λ u l. rw add-zero (ap (λ (s : Server). s.rank) (server-first u l));
@@ -147,8 +147,8 @@ module _ (r q : Room) where
       node = λ c l. rw add-zero (ap (λ (x : RoomCord). x.node) (cord-first c l) ∙ raised-none _);
       share = λ c l. rw add-zero (ap (λ (x : RoomCord). x.share) (cord-first c l));
       alone = λ m n l h e. alone m n h e (side (length r.nodes) m);
-      bare = λ c n l h e. bare c n l h e (side (roomCords r) c);
-      apart = λ c u l h e. apart c u l h e (side (roomCords r) c);
+      bare = λ c n l h e. bare c n l h e (side (room_cords r) c);
+      apart = λ c u l h e. apart c u l h e (side (room_cords r) c);
     }
       where
         alone : (m n : ℕ) → n < length r.nodes → parent_of (joined r q) m ≡ suc (n + 0) → Side (length r.nodes) m → (0 ≤ m) × (m < 0 + length r.nodes)
@@ -158,33 +158,33 @@ module _ (r q : Room) where
             = sym (ap (λ (x : Node). x.parent) (node-second i)) ∙ ap (parent_of (joined r q)) (sym o) ∙ e in
             absurd (omega (arith, raised-far (length r.nodes) (parent_of q i) (n + 0) z))
 
-        second : (c i : ℕ) → c < roomCords (joined r q) → c ≡ i + roomCords r → i < roomCords q
+        second : (c i : ℕ) → c < room_cords (joined r q) → c ≡ i + room_cords r → i < room_cords q
         second c i l o = omega (arith, cords-count)
 
-        bare : (c n : ℕ) → c < roomCords (joined r q) → n < length r.nodes → (cordAt (joined r q) c).node ≡ suc (n + 0) → Side (roomCords r) c
-            → (0 ≤ c) × (c < 0 + roomCords r)
+        bare : (c n : ℕ) → c < room_cords (joined r q) → n < length r.nodes → (cord_at (joined r q) c).node ≡ suc (n + 0) → Side (room_cords r) c
+            → (0 ≤ c) × (c < 0 + room_cords r)
         bare c n l h e (before o) = omega arith
         bare c n l h e (behind i o) =
-            let z : raised (length r.nodes) (cordAt q i).node ≡ suc (n + 0)
-            = sym (ap (λ (x : RoomCord). x.node) (cord-second i (second c i l o))) ∙ ap (λ (x : ℕ). (cordAt (joined r q) x).node) (sym o) ∙ e in
-            absurd (omega (arith, raised-far (length r.nodes) (cordAt q i).node (n + 0) z))
+            let z : raised (length r.nodes) (cord_at q i).node ≡ suc (n + 0)
+            = sym (ap (λ (x : RoomCord). x.node) (cord-second i (second c i l o))) ∙ ap (λ (x : ℕ). (cord_at (joined r q) x).node) (sym o) ∙ e in
+            absurd (omega (arith, raised-far (length r.nodes) (cord_at q i).node (n + 0) z))
 
-        apart : (c u : ℕ) → c < roomCords (joined r q) → u < length r.servers → (cordAt (joined r q) c).server ≡ u + 0 → Side (roomCords r) c
-            → (0 ≤ c) × (c < 0 + roomCords r)
+        apart : (c u : ℕ) → c < room_cords (joined r q) → u < length r.servers → (cord_at (joined r q) c).server ≡ u + 0 → Side (room_cords r) c
+            → (0 ≤ c) × (c < 0 + room_cords r)
         apart c u l h e (before o) = omega arith
         apart c u l h e (behind i o) =
-            let z : (cordAt q i).server + length r.servers ≡ u + 0
-            = sym (ap (λ (x : RoomCord). x.server) (cord-second i (second c i l o))) ∙ ap (λ (x : ℕ). (cordAt (joined r q) x).server) (sym o) ∙ e in
+            let z : (cord_at q i).server + length r.servers ≡ u + 0
+            = sym (ap (λ (x : RoomCord). x.server) (cord-second i (second c i l o))) ∙ ap (λ (x : ℕ). (cord_at (joined r q) x).server) (sym o) ∙ e in
             absurd (omega arith)
 
     -- ---- So is the second, behind it
 
-    pub second-inside : (same : q.scale ≡ r.scale) → RoomInside q (joined r q) (length r.nodes) (roomCords r) (length r.servers)
+    pub second-inside : (same : q.scale ≡ r.scale) → RoomInside q (joined r q) (length r.nodes) (room_cords r) (length r.servers)
     second-inside same = record {
       scale = sym same;
-      nodesFit = omega (arith, nodes-joined);
-      cordsFit = omega (arith, cords-count);
-      serversFit = omega (arith, servers-joined);
+      nodes_fit = omega (arith, nodes-joined);
+      cords_fit = omega (arith, cords-count);
+      servers_fit = omega (arith, servers-joined);
       parent = λ m l. ap (λ (n : Node). n.parent) (node-second m);
       limits = λ m l. ap limit (node-second m);
       rank = λ u l. ap (λ (s : Server). s.rank) (server-second u);
@@ -194,8 +194,8 @@ module _ (r q : Room) where
       node = λ c l. ap (λ (x : RoomCord). x.node) (cord-second c l);
       share = λ c l. ap (λ (x : RoomCord). x.share) (cord-second c l);
       alone = λ m n l h e. alone m n l e (side (length r.nodes) m);
-      bare = λ c n l h e. bare c n l e (side (roomCords r) c);
-      apart = λ c u l h e. apart c u l e (side (roomCords r) c);
+      bare = λ c n l h e. bare c n l e (side (room_cords r) c);
+      apart = λ c u l h e. apart c u l e (side (room_cords r) c);
     }
       where
         alone : (m n : ℕ) → m < length (joined r q).nodes → parent_of (joined r q) m ≡ suc (n + length r.nodes) → Side (length r.nodes) m
@@ -203,12 +203,12 @@ module _ (r q : Room) where
         alone m n l e (before o) = absurd (omega (arith, facts.rises m o, ap (λ (x : Node). x.parent) (node-first m o)))
         alone m n l e (behind i o) = omega (arith, nodes-joined)
 
-        bare : (c n : ℕ) → c < roomCords (joined r q) → (cordAt (joined r q) c).node ≡ suc (n + length r.nodes) → Side (roomCords r) c
-            → (roomCords r ≤ c) × (c < roomCords r + roomCords q)
+        bare : (c n : ℕ) → c < room_cords (joined r q) → (cord_at (joined r q) c).node ≡ suc (n + length r.nodes) → Side (room_cords r) c
+            → (room_cords r ≤ c) × (c < room_cords r + room_cords q)
         bare c n l e (before o) = absurd (omega (arith, facts.here c o, ap (λ (x : RoomCord). x.node) (cord-first c o)))
         bare c n l e (behind i o) = omega (arith, cords-count)
 
-        apart : (c u : ℕ) → c < roomCords (joined r q) → (cordAt (joined r q) c).server ≡ u + length r.servers → Side (roomCords r) c
-            → (roomCords r ≤ c) × (c < roomCords r + roomCords q)
+        apart : (c u : ℕ) → c < room_cords (joined r q) → (cord_at (joined r q) c).server ≡ u + length r.servers → Side (room_cords r) c
+            → (room_cords r ≤ c) × (c < room_cords r + room_cords q)
         apart c u l e (before o) = absurd (omega (arith, facts.served c o, ap (λ (x : RoomCord). x.server) (cord-first c o)))
         apart c u l e (behind i o) = omega (arith, cords-count)

@@ -12,26 +12,26 @@ use Rattle.figures.specs.Figures.{total}
 use Rattle.figures.specs.Sums.{on}
 use Rattle.figures.proofs.Sums.{sum-cong}
 use Rattle.rooms.specs.Part.{good}
-use Rattle.rooms.specs.Table.{raised, Node, Cord, Server, Room, form_of, mostNodes, mostServers, mostCords, roomCords, share_of}
-use Rattle.rooms.specs.Limits.{limit, carried, nodeAt, parent_of, hangsBeneath, lowsBeneath, checked}
-use Rattle.rooms.specs.Cords.{cordAt, serverAt}
+use Rattle.rooms.specs.Table.{raised, Node, Cord, Server, Room, form_of, most_nodes, most_servers, most_cords, room_cords, share_of}
+use Rattle.rooms.specs.Limits.{limit, carried, node_at, parent_of, hangs_beneath, lows_beneath, checked}
+use Rattle.rooms.specs.Cords.{cord_at, server_at}
 use Rattle.rooms.specs.Promises.{IsNode, Within}
 use Rattle.rooms.proofs.All.{All}
 use Rattle.rooms.proofs.Accepted.{CordAccepted, ServerAccepted, Accepted}
 use Rattle.rooms.proofs.Cords.{lows-sum}
-use Rattle.rooms.proofs.Trees.{sumBeneath-step, sumBeneath-unique}
+use Rattle.rooms.proofs.Trees.{sum_beneath-step, sum_beneath-unique}
 use Rattle.rooms.specs.Words.{table_of, NodeInRange}
 use Rattle.rooms.proofs.Tables.{Chain, RoomFits, table-reads}
 use Rattle.rooms.proofs.Words.{servers-fit}
 use Rattle.rooms.proofs.Promises.{refusal-nine}
 use Rattle.deals.specs.Metrics.{Deal}
-use Rattle.deals.proofs.Requests.{dealBeneath}
+use Rattle.deals.proofs.Requests.{deal_beneath}
 use Rattle.deals.proofs.BothDeals.{parents-below, cord-facts}
-use Rattle.deals.proofs.Inside.{Inside, childNodes-in, childCords-in}
+use Rattle.deals.proofs.Inside.{Inside, child_nodes-in, child_cords-in}
 use Rattle.deals.proofs.RoomInside.{RoomInside}
-use Rattle.join.specs.Joined.{raisedNode, raisedCord, raisedServer, joined}
+use Rattle.join.specs.Joined.{raised_node, raised_cord, raised_server, joined}
 use Rattle.join.proofs.JoinedRoom.{Linked, accepted-facts, total_kept, Side, before, behind, side, nodes-joined, servers-joined, cords-count, first-inside, second-inside}
-use Rattle.rooms.specs.Trees.{sumBeneath, ParentsFirst}
+use Rattle.rooms.specs.Trees.{sum_beneath, ParentsFirst}
 
 -- ---- Figures in range
 
@@ -64,12 +64,12 @@ raised_below : (a v own : ℕ) → 1 ≤ own → v ≤ own - 1 → raised a v �
 raised_below a zero own h l = omega arith
 raised_below a (suc v) own h l = omega arith
 
-nodes-raised : (percents : Bool) (a : ℕ) (l : List Node) (own : ℕ) → 1 ≤ own → Nodes percents own l → Nodes percents (own + a) (map (raisedNode a) l)
+nodes-raised : (percents : Bool) (a : ℕ) (l : List Node) (own : ℕ) → 1 ≤ own → Nodes percents own l → Nodes percents (own + a) (map (raised_node a) l)
 unfolding Chain
 nodes-raised percents a [] own h f = tt
 nodes-raised percents a (n ∷ l) own h f = (
   record { parent = raised_below a n.parent own h f.0.parent; rating = f.0.rating; percent = f.0.percent },
-  subst (λ (x : ℕ). Nodes percents x (map (raisedNode a) l)) (let q : suc own + a ≡ suc (own + a) = omega arith in q) (nodes-raised percents a l (suc own) (omega arith) f.1),
+  subst (λ (x : ℕ). Nodes percents x (map (raised_node a) l)) (let q : suc own + a ≡ suc (own + a) = omega arith in q) (nodes-raised percents a l (suc own) (omega arith) f.1),
 )
 
 raised-from : (a v : ℕ) → 1 ≤ v → 1 ≤ raised a v
@@ -84,30 +84,30 @@ raised-to a (suc v) k h = omega arith
 pub with-cords : {scale k h : ℕ} {s : Server} (cords : List Cord) → ServerAccepted scale k s → length cords ≡ length s.cords → total share_of cords ≡ total share_of s.cords
     → All (CordAccepted scale h) cords → ServerAccepted scale h (record { rank = s.rank; least = s.least; greatest = s.greatest; cords = cords })
 with-cords cords f count shares each = record {
-  rankFrom = f.rankFrom;
-  rankTo = f.rankTo;
+  rank_from = f.rank_from;
+  rank_to = f.rank_to;
   ordered = f.ordered;
-  greatestTo = f.greatestTo;
-  someCords = omega (arith, f.someCords);
-  fewCords = omega (arith, f.fewCords);
+  greatest_to = f.greatest_to;
+  some_cords = omega (arith, f.some_cords);
+  few_cords = omega (arith, f.few_cords);
   shares = shares ∙ f.shares;
   cords = each;
 }
 
 module _ (scale : ℕ) where
   cord-wider : (k h : ℕ) → k ≤ h → (c : Cord) → CordAccepted scale k c → CordAccepted scale h c
-  cord-wider k h l c f = record { nodeFrom = f.nodeFrom; nodeTo = omega (arith, f.nodeTo); shareTo = f.shareTo }
+  cord-wider k h l c f = record { node_from = f.node_from; node_to = omega (arith, f.node_to); share_to = f.share_to }
 
   server-wider : (k h : ℕ) → k ≤ h → (s : Server) → ServerAccepted scale k s → ServerAccepted scale h s
   server-wider k h l s f = with-cords s.cords f refl refl (all-weaken _ _ (cord-wider k h l) s.cords f.cords)
 
-  cord-raised : (a k : ℕ) (c : Cord) → CordAccepted scale k c → CordAccepted scale (a + k) (raisedCord a c)
-  cord-raised a k c g = record { nodeFrom = raised-from a c.node g.nodeFrom; nodeTo = raised-to a c.node k g.nodeTo; shareTo = g.shareTo }
+  cord-raised : (a k : ℕ) (c : Cord) → CordAccepted scale k c → CordAccepted scale (a + k) (raised_cord a c)
+  cord-raised a k c g = record { node_from = raised-from a c.node g.node_from; node_to = raised-to a c.node k g.node_to; share_to = g.share_to }
 
-  server-raised : (a k : ℕ) (s : Server) → ServerAccepted scale k s → ServerAccepted scale (a + k) (raisedServer a s)
+  server-raised : (a k : ℕ) (s : Server) → ServerAccepted scale k s → ServerAccepted scale (a + k) (raised_server a s)
   server-raised a k s f =
-      with-cords _ f (length-map s.cords (raisedCord a)) (total_kept share_of (raisedCord a) (λ c. refl) s.cords)
-      (all_map _ _ (raisedCord a) (cord-raised a k) s.cords f.cords)
+      with-cords _ f (length-map s.cords (raised_cord a)) (total_kept share_of (raised_cord a) (λ c. refl) s.cords)
+      (all_map _ _ (raised_cord a) (cord-raised a k) s.cords f.cords)
 
 -- ---- The lows beneath a node, of a room inside another
 
@@ -116,30 +116,30 @@ abbrev plain : Room → Deal
 plain r = record {
   nodes = length r.nodes;
   parent = parent_of r;
-  limit = λ m. limit (nodeAt r m);
-  cords = roomCords r;
-  node = λ c. (cordAt r c).node;
+  limit = λ m. limit (node_at r m);
+  cords = room_cords r;
+  node = λ c. (cord_at r c).node;
   level = λ c. 0;
-  low = λ c. carried r.scale (cordAt r c).share (serverAt r (cordAt r c).server).least;
-  want = λ c. carried r.scale (cordAt r c).share (serverAt r (cordAt r c).server).least;
-  start = λ c. carried r.scale (cordAt r c).share (serverAt r (cordAt r c).server).least;
+  low = λ c. carried r.scale (cord_at r c).share (server_at r (cord_at r c).server).least;
+  want = λ c. carried r.scale (cord_at r c).share (server_at r (cord_at r c).server).least;
+  start = λ c. carried r.scale (cord_at r c).share (server_at r (cord_at r c).server).least;
   levels = 1;
 }
 
-plain-lows : (r : Room) (n : ℕ) → dealBeneath (plain r) n (plain r).low ≡ lowsBeneath r n
-unfolding sumBeneath
-plain-lows r n = sym (lows-sum r (hangsBeneath r n))
+plain-lows : (r : Room) (n : ℕ) → deal_beneath (plain r) n (plain r).low ≡ lows_beneath r n
+unfolding sum_beneath
+plain-lows r n = sym (lows-sum r (hangs_beneath r n))
 
 module _ (r q : Room) (a b v : ℕ) (ins : RoomInside r q a b v) (facts : Linked r) (other : Linked q) where
-  low-in : (c : ℕ) → c < roomCords r → (plain q).low (c + b) ≡ (plain r).low c
+  low-in : (c : ℕ) → c < room_cords r → (plain q).low (c + b) ≡ (plain r).low c
   low-in c l =
-      ap₂ (λ (k s : ℕ). carried k s (serverAt q (cordAt q (c + b)).server).least) ins.scale (ins.share c l)
-      ∙ ap (carried r.scale (cordAt r c).share) (ap (λ (u : ℕ). (serverAt q u).least) (ins.server c l) ∙ ins.least (cordAt r c).server (facts.served c l))
+      ap₂ (λ (k s : ℕ). carried k s (server_at q (cord_at q (c + b)).server).least) ins.scale (ins.share c l)
+      ∙ ap (carried r.scale (cord_at r c).share) (ap (λ (u : ℕ). (server_at q u).least) (ins.server c l) ∙ ins.least (cord_at r c).server (facts.served c l))
 
   plain-inside : Inside (plain r) (plain q) a b 0
   plain-inside = record {
-    nodesFit = ins.nodesFit;
-    cordsFit = ins.cordsFit;
+    nodes_fit = ins.nodes_fit;
+    cords_fit = ins.cords_fit;
     parent = ins.parent;
     node = ins.node;
     limit = ins.limits;
@@ -152,27 +152,27 @@ module _ (r q : Room) (a b v : ℕ) (ins : RoomInside r q a b v) (facts : Linked
     bare = ins.bare;
   }
 
-  pub lowsBeneath-in : (n : ℕ) → n < length r.nodes → lowsBeneath q (n + a) ≡ lowsBeneath r n
-  lowsBeneath-in n l =
+  pub lows_beneath-in : (n : ℕ) → n < length r.nodes → lows_beneath q (n + a) ≡ lows_beneath r n
+  lows_beneath-in n l =
       sym (plain-lows q (n + a))
-      ∙ sumBeneath-unique (length r.nodes) (parent_of r) facts.rises (roomCords r) (λ c. (cordAt r c).node) facts.here (plain r).low (λ n. sums (n + a)) (λ n l.
-      sumBeneath-step (length q.nodes) (parent_of q) other.rises (roomCords q) (λ c. (cordAt q c).node) other.here (n + a) (plain q).low
+      ∙ sum_beneath-unique (length r.nodes) (parent_of r) facts.rises (room_cords r) (λ c. (cord_at r c).node) facts.here (plain r).low (λ n. sums (n + a)) (λ n l.
+      sum_beneath-step (length q.nodes) (parent_of q) other.rises (room_cords q) (λ c. (cord_at q c).node) other.here (n + a) (plain q).low
       ∙ ap₂ ◌+◌
-      (childCords-in (plain r) (plain q) a b 0 plain-inside n l (plain q).low ∙ sum-cong (roomCords r) _ _ (λ c lc. ap (λ (e : ℕ). on (eqb (cordAt r c).node (suc n)) e) (low-in c lc)))
-      (childNodes-in (plain r) (plain q) a b 0 plain-inside n l sums)) n l
+      (child_cords-in (plain r) (plain q) a b 0 plain-inside n l (plain q).low ∙ sum-cong (room_cords r) _ _ (λ c lc. ap (λ (e : ℕ). on (eqb (cord_at r c).node (suc n)) e) (low-in c lc)))
+      (child_nodes-in (plain r) (plain q) a b 0 plain-inside n l sums)) n l
       ∙ plain-lows r n
     where
       sums : ℕ → ℕ
-      sums n = dealBeneath (plain q) n (plain q).low
+      sums n = deal_beneath (plain q) n (plain q).low
 
 -- ---- The joined room
 
 -- Two rooms may be joined: they have one scale, and none of their counts together is too large.
 pub record MayJoin (r q : Room) : Type 0 where
   pub scale : q.scale ≡ r.scale
-  pub nodes : length r.nodes + length q.nodes ≤ mostNodes
-  pub servers : length r.servers + length q.servers ≤ mostServers
-  pub cords : roomCords r + roomCords q ≤ mostCords
+  pub nodes : length r.nodes + length q.nodes ≤ most_nodes
+  pub servers : length r.servers + length q.servers ≤ most_servers
+  pub cords : room_cords r + room_cords q ≤ most_cords
 
 module _ (version : ℕ) (r q : Room) (fr : RoomFits version r) (fq : RoomFits version q) (ok : Accepted r) (ko : Accepted q) (may : MayJoin r q) where
   abbrev whole : Room
@@ -183,7 +183,7 @@ module _ (version : ℕ) (r q : Room) (fr : RoomFits version r) (fq : RoomFits v
       subst (λ (k : ℕ). All (ServerAccepted r.scale k) whole.servers) (sym (nodes-joined r q))
       (all_append _ r.servers _
       (all-weaken _ _ (server-wider r.scale (length r.nodes) (length r.nodes + length q.nodes) (omega arith)) r.servers ok.servers)
-      (all_map _ _ (raisedServer (length r.nodes)) (server-raised r.scale (length r.nodes) (length q.nodes)) q.servers
+      (all_map _ _ (raised_server (length r.nodes)) (server-raised r.scale (length r.nodes) (length q.nodes)) q.servers
       (subst (λ (k : ℕ). All (ServerAccepted k (length q.nodes)) q.servers) may.scale ko.servers)))
 
   pub joined-fits : RoomFits version whole
@@ -191,10 +191,10 @@ module _ (version : ℕ) (r q : Room) (fr : RoomFits version r) (fq : RoomFits v
     first = fr.first;
     newest = fr.newest;
     scaled = fr.scaled;
-    someNodes = omega (arith, nodes-joined r q, fr.someNodes);
-    fewNodes = omega (arith, nodes-joined r q, may.nodes);
+    some_nodes = omega (arith, nodes-joined r q, fr.some_nodes);
+    few_nodes = omega (arith, nodes-joined r q, may.nodes);
     nodes = nodes-append (form_of version).percents r.nodes _ 1 fr.nodes (nodes-raised (form_of version).percents (length r.nodes) q.nodes 1 (omega arith) fq.nodes);
-    fewServers = omega (arith, servers-joined r q, may.servers);
+    few_servers = omega (arith, servers-joined r q, may.servers);
     servers = servers-fit r.scale (length whole.nodes) whole.servers 0 (omega (arith, cords-count r q, may.cords)) joined-servers;
   }
 
@@ -218,30 +218,30 @@ module _ (version : ℕ) (r q : Room) (fr : RoomFits version r) (fq : RoomFits v
           raised-near a zero i h = omega arith
           raised-near a (suc v) i h = omega arith
 
-  nodes-here : (c : ℕ) → c < roomCords whole → (cordAt whole c).node ≤ length whole.nodes
-  nodes-here c l = go (side (roomCords r) c)
+  nodes-here : (c : ℕ) → c < room_cords whole → (cord_at whole c).node ≤ length whole.nodes
+  nodes-here c l = go (side (room_cords r) c)
     where
-      go : Side (roomCords r) c → (cordAt whole c).node ≤ length whole.nodes
+      go : Side (room_cords r) c → (cord_at whole c).node ≤ length whole.nodes
       go (before o) =
-          subst (λ (x : ℕ). (cordAt whole x).node ≤ length whole.nodes) (add-zero c)
+          subst (λ (x : ℕ). (cord_at whole x).node ≤ length whole.nodes) (add-zero c)
           (subst (λ (x : ℕ). x ≤ length whole.nodes) (sym ((first-inside r q (accepted-facts r ok)).node c o))
-          (let h : raised 0 (cordAt r c).node ≤ 0 + length r.nodes = raised-to 0 (cordAt r c).node (length r.nodes) (cord-facts r ok c o).2 in omega (arith, nodes-joined r q)))
+          (let h : raised 0 (cord_at r c).node ≤ 0 + length r.nodes = raised-to 0 (cord_at r c).node (length r.nodes) (cord-facts r ok c o).2 in omega (arith, nodes-joined r q)))
       go (behind i o) =
-          let li : i < roomCords q = omega (arith, cords-count r q) in
-          subst (λ (x : ℕ). (cordAt whole x).node ≤ length whole.nodes) (sym o)
+          let li : i < room_cords q = omega (arith, cords-count r q) in
+          subst (λ (x : ℕ). (cord_at whole x).node ≤ length whole.nodes) (sym o)
           (subst (λ (x : ℕ). x ≤ length whole.nodes) (sym ((second-inside r q (accepted-facts r ok) may.scale).node i li))
-          (let h = raised-to (length r.nodes) (cordAt q i).node (length q.nodes) (cord-facts q ko i li).2 in omega (arith, nodes-joined r q)))
+          (let h = raised-to (length r.nodes) (cord_at q i).node (length q.nodes) (cord-facts q ko i li).2 in omega (arith, nodes-joined r q)))
 
-  joined-served : (c : ℕ) → c < roomCords whole → (cordAt whole c).server < length whole.servers
-  joined-served c l = go (side (roomCords r) c)
+  joined-served : (c : ℕ) → c < room_cords whole → (cord_at whole c).server < length whole.servers
+  joined-served c l = go (side (room_cords r) c)
     where
-      go : Side (roomCords r) c → (cordAt whole c).server < length whole.servers
+      go : Side (room_cords r) c → (cord_at whole c).server < length whole.servers
       go (before o) =
-          subst (λ (x : ℕ). (cordAt whole x).server < length whole.servers) (add-zero c)
+          subst (λ (x : ℕ). (cord_at whole x).server < length whole.servers) (add-zero c)
           (omega (arith, (first-inside r q (accepted-facts r ok)).server c o, (cord-facts r ok c o).0, servers-joined r q))
       go (behind i o) =
-          let li : i < roomCords q = omega (arith, cords-count r q) in
-          subst (λ (x : ℕ). (cordAt whole x).server < length whole.servers) (sym o)
+          let li : i < room_cords q = omega (arith, cords-count r q) in
+          subst (λ (x : ℕ). (cord_at whole x).server < length whole.servers) (sym o)
           (omega (arith, (second-inside r q (accepted-facts r ok) may.scale).server i li, (cord-facts q ko i li).0, servers-joined r q))
 
   joined-facts : Linked whole
@@ -250,16 +250,16 @@ module _ (version : ℕ) (r q : Room) (fr : RoomFits version r) (fq : RoomFits v
   within : (n : ℕ) → IsNode whole n → Within whole n
   within n h = go (n - 1) (let z : n - 1 < length whole.nodes = omega arith in z) (side (length r.nodes) (n - 1))
     where
-      go : (m : ℕ) → m < length whole.nodes → Side (length r.nodes) m → lowsBeneath whole m ≤ limit (nodeAt whole m)
+      go : (m : ℕ) → m < length whole.nodes → Side (length r.nodes) m → lows_beneath whole m ≤ limit (node_at whole m)
       go m l (before o) =
-          subst (λ (x : ℕ). lowsBeneath whole x ≤ limit (nodeAt whole x)) (add-zero m)
-          (let e = lowsBeneath-in r whole 0 0 0 (first-inside r q (accepted-facts r ok)) (accepted-facts r ok) joined-facts m o in
+          subst (λ (x : ℕ). lows_beneath whole x ≤ limit (node_at whole x)) (add-zero m)
+          (let e = lows_beneath-in r whole 0 0 0 (first-inside r q (accepted-facts r ok)) (accepted-facts r ok) joined-facts m o in
           let k = (first-inside r q (accepted-facts r ok)).limits m o in
           omega (arith, ok.lows m o))
       go m l (behind i o) =
           let li : i < length q.nodes = omega (arith, nodes-joined r q) in
-          subst (λ (x : ℕ). lowsBeneath whole x ≤ limit (nodeAt whole x)) (sym o)
-          (let e = lowsBeneath-in q whole (length r.nodes) (roomCords r) (length r.servers) (second-inside r q (accepted-facts r ok) may.scale) (accepted-facts q ko) joined-facts i li in
+          subst (λ (x : ℕ). lows_beneath whole x ≤ limit (node_at whole x)) (sym o)
+          (let e = lows_beneath-in q whole (length r.nodes) (room_cords r) (length r.servers) (second-inside r q (accepted-facts r ok) may.scale) (accepted-facts q ko) joined-facts i li in
           let k = (second-inside r q (accepted-facts r ok) may.scale).limits i li in
           omega (arith, ko.lows i li))
 

@@ -7,12 +7,12 @@ use native.Mathlib.Omega.{arith}
 use lib.ListN.{length, get_or, take, drop, set, length-append, length-drop, length-set}
 use lib.Seq.{sets, length-take-le, take-nil, drop-nil, take-suc-set, drop-set-lt, drop-cons, take-add, drop-drop, take-take, get_or-drop, take_at, drop_at, take_all}
 use Rattle.words.specs.Bytes.{word, words_of}
-use Rattle.words.proofs.Bytes.{length-wordsOf}
+use Rattle.words.proofs.Bytes.{length-words_of}
 use Rattle.figures.specs.Bounds.{AllBelow}
 use Rattle.figures.proofs.Stores.{sets-all}
 use Rattle.figures.proofs.Bounds.{drop-below}
-use Rattle.rooms.specs.Table.{nodeWords}
-use Rattle.join.specs.Pieces.{renumbered, renumberedEvery, renumberedCords, piece, MayPut, PiecePut}
+use Rattle.rooms.specs.Table.{node_words}
+use Rattle.join.specs.Pieces.{renumbered, renumbered_every, renumbered_cords, piece, MayPut, PiecePut}
 
 -- ---- A list of which the front is done and the rest is to be done
 
@@ -87,46 +87,46 @@ turning-at {change} {wanted} {list} {now} {i} t = head_at now i ∙ ap (λ (l : 
 -- ---- Every word of a width
 
 module _ (gap up down : ℕ) where
-  every-skip : (skip : ℕ) (l : List ℕ) → renumberedEvery gap up down skip l ≡ take skip l ++ renumberedEvery gap up down 0 (drop skip l)
-  unfolding renumberedEvery
+  every-skip : (skip : ℕ) (l : List ℕ) → renumbered_every gap up down skip l ≡ take skip l ++ renumbered_every gap up down 0 (drop skip l)
+  unfolding renumbered_every
   every-skip zero l = refl
   every-skip (suc skip) [] = refl
   every-skip (suc skip) (w ∷ l) = ap (λ (z : List ℕ). w ∷ z) (every-skip skip l)
 
-  pub every-length : (skip : ℕ) (l : List ℕ) → length (renumberedEvery gap up down skip l) ≡ length l
-  unfolding renumberedEvery
+  pub every-length : (skip : ℕ) (l : List ℕ) → length (renumbered_every gap up down skip l) ≡ length l
+  unfolding renumbered_every
   every-length zero [] = refl
   every-length zero (w ∷ l) = ap suc (every-length gap l)
   every-length (suc skip) [] = refl
   every-length (suc skip) (w ∷ l) = ap suc (every-length skip l)
 
-  pub every-none : renumberedEvery gap up down 0 [] ≡ []
-  unfolding renumberedEvery
+  pub every-none : renumbered_every gap up down 0 [] ≡ []
+  unfolding renumbered_every
   every-none = refl
 
-  pub every-turn : {wanted list now : List ℕ} {i : ℕ} → i < length now → Turning (renumberedEvery gap up down 0) wanted list now i
-      → Turning (renumberedEvery gap up down 0) wanted list (set now i (renumbered up down (get_or now i 0))) (suc i + gap)
-  unfolding renumberedEvery
+  pub every-turn : {wanted list now : List ℕ} {i : ℕ} → i < length now → Turning (renumbered_every gap up down 0) wanted list now i
+      → Turning (renumbered_every gap up down 0) wanted list (set now i (renumbered up down (get_or now i 0))) (suc i + gap)
+  unfolding renumbered_every
   every-turn {now = now} {i = i} h t =
       turning-set (renumbered up down (get_or now i 0)) gap h (λ rest. ap (λ (z : List ℕ). renumbered up down (get_or now i 0) ∷ z) (every-skip gap rest)) t
 
 -- The same, by a width.
 pub every-again : (width up down : ℕ) {wanted list now : List ℕ} {i x : ℕ} → 1 ≤ width → i < length now → x ≡ renumbered up down (get_or now i 0)
-    → Turning (renumberedEvery (width - 1) up down 0) wanted list now i → Turning (renumberedEvery (width - 1) up down 0) wanted list (set now i x) (i + width)
+    → Turning (renumbered_every (width - 1) up down 0) wanted list now i → Turning (renumbered_every (width - 1) up down 0) wanted list (set now i x) (i + width)
 every-again width up down {wanted} {list} {now} {i} {x} some h is t =
-    subst (λ (k : ℕ). Turning (renumberedEvery (width - 1) up down 0) wanted list (set now i x) k) (let q : suc i + (width - 1) ≡ i + width = omega arith in q)
-    (subst (λ (v : ℕ). Turning (renumberedEvery (width - 1) up down 0) wanted list (set now i v) (suc i + (width - 1))) (sym is) (every-turn (width - 1) up down h t))
+    subst (λ (k : ℕ). Turning (renumbered_every (width - 1) up down 0) wanted list (set now i x) k) (let q : suc i + (width - 1) ≡ i + width = omega arith in q)
+    (subst (λ (v : ℕ). Turning (renumbered_every (width - 1) up down 0) wanted list (set now i v) (suc i + (width - 1))) (sym is) (every-turn (width - 1) up down h t))
 
 -- ---- The cords of servers
 
 module _ (up down : ℕ) where
-  pub cords-none : (left : ℕ) → renumberedCords up down left [] ≡ []
-  unfolding renumberedCords
+  pub cords-none : (left : ℕ) → renumbered_cords up down left [] ≡ []
+  unfolding renumbered_cords
   cords-none zero = refl
   cords-none (suc left) = refl
 
-  pub cords-length : (left : ℕ) (l : List ℕ) → length (renumberedCords up down left l) ≡ length l
-  unfolding renumberedCords
+  pub cords-length : (left : ℕ) (l : List ℕ) → length (renumbered_cords up down left l) ≡ length l
+  unfolding renumbered_cords
   cords-length (suc left) (n ∷ s ∷ l) = ap (λ (k : ℕ). suc (suc k)) (cords-length left l)
   cords-length (suc left) (n ∷ []) = refl
   cords-length (suc left) [] = refl
@@ -136,40 +136,40 @@ module _ (up down : ℕ) where
   cords-length zero (a ∷ []) = refl
   cords-length zero [] = refl
 
-  server-pass : (l : List ℕ) → renumberedCords up down 0 l ≡ take 4 l ++ renumberedCords up down (get_or l 3 0) (drop 4 l)
-  unfolding renumberedCords
+  server-pass : (l : List ℕ) → renumbered_cords up down 0 l ≡ take 4 l ++ renumbered_cords up down (get_or l 3 0) (drop 4 l)
+  unfolding renumbered_cords
   server-pass (a ∷ b ∷ c ∷ k ∷ l) = refl
   server-pass (a ∷ b ∷ c ∷ []) = refl
   server-pass (a ∷ b ∷ []) = refl
   server-pass (a ∷ []) = refl
   server-pass [] = refl
 
-  cord-set : (left n : ℕ) (l : List ℕ) → renumberedCords up down (suc left) (n ∷ l) ≡ renumbered up down n ∷ (take 1 l ++ renumberedCords up down left (drop 1 l))
-  unfolding renumberedCords
+  cord-set : (left n : ℕ) (l : List ℕ) → renumbered_cords up down (suc left) (n ∷ l) ≡ renumbered up down n ∷ (take 1 l ++ renumbered_cords up down left (drop 1 l))
+  unfolding renumbered_cords
   cord-set left n (s ∷ l) = refl
   cord-set left n [] = ap (λ (z : List ℕ). renumbered up down n ∷ z) (sym (cords-none left))
 
-  pub server-turn : {wanted list now : List ℕ} {i left : ℕ} → left ≡ 0 → Turning (renumberedCords up down left) wanted list now i
-      → Turning (renumberedCords up down (get_or now (i + 3) 0)) wanted list now (i + 4)
+  pub server-turn : {wanted list now : List ℕ} {i left : ℕ} → left ≡ 0 → Turning (renumbered_cords up down left) wanted list now i
+      → Turning (renumbered_cords up down (get_or now (i + 3) 0)) wanted list now (i + 4)
   server-turn {now = now} {i = i} e t =
-      turning-pass 4 (λ rest d. ap (λ (k : ℕ). renumberedCords up down k rest) e ∙ server-pass rest
-      ∙ ap (λ (k : ℕ). take 4 rest ++ renumberedCords up down k (drop 4 rest)) (ap (λ (l : List ℕ). get_or l 3 0) (sym d) ∙ get_or-drop i now 3 0)) t
+      turning-pass 4 (λ rest d. ap (λ (k : ℕ). renumbered_cords up down k rest) e ∙ server-pass rest
+      ∙ ap (λ (k : ℕ). take 4 rest ++ renumbered_cords up down k (drop 4 rest)) (ap (λ (l : List ℕ). get_or l 3 0) (sym d) ∙ get_or-drop i now 3 0)) t
 
-  pub cord-turn : {wanted list now : List ℕ} {i left : ℕ} (k : ℕ) → left ≡ suc k → i < length now → Turning (renumberedCords up down left) wanted list now i
-      → Turning (renumberedCords up down k) wanted list (set now i (renumbered up down (get_or now i 0))) (suc i + 1)
+  pub cord-turn : {wanted list now : List ℕ} {i left : ℕ} (k : ℕ) → left ≡ suc k → i < length now → Turning (renumbered_cords up down left) wanted list now i
+      → Turning (renumbered_cords up down k) wanted list (set now i (renumbered up down (get_or now i 0))) (suc i + 1)
   cord-turn {now = now} {i = i} k e h t =
-      turning-set (renumbered up down (get_or now i 0)) 1 h (λ rest. ap (λ (n : ℕ). renumberedCords up down n (get_or now i 0 ∷ rest)) e ∙ cord-set k (get_or now i 0) rest) t
+      turning-set (renumbered up down (get_or now i 0)) 1 h (λ rest. ap (λ (n : ℕ). renumbered_cords up down n (get_or now i 0 ∷ rest)) e ∙ cord-set k (get_or now i 0) rest) t
 
   -- The same, by what the code has.
-  pub server-again : {wanted list now : List ℕ} {i left count : ℕ} → left ≡ 0 → count ≡ get_or now (i + 3) 0 → Turning (renumberedCords up down left) wanted list now i
-      → Turning (renumberedCords up down count) wanted list now (i + 4)
-  server-again {wanted} {list} {now} {i} e c t = subst (λ (k : ℕ). Turning (renumberedCords up down k) wanted list now (i + 4)) (sym c) (server-turn e t)
+  pub server-again : {wanted list now : List ℕ} {i left count : ℕ} → left ≡ 0 → count ≡ get_or now (i + 3) 0 → Turning (renumbered_cords up down left) wanted list now i
+      → Turning (renumbered_cords up down count) wanted list now (i + 4)
+  server-again {wanted} {list} {now} {i} e c t = subst (λ (k : ℕ). Turning (renumbered_cords up down k) wanted list now (i + 4)) (sym c) (server-turn e t)
 
   pub cord-again : {wanted list now : List ℕ} {i left x : ℕ} → (left ≡ 0 → ⊥) → i < length now → x ≡ renumbered up down (get_or now i 0)
-      → Turning (renumberedCords up down left) wanted list now i → Turning (renumberedCords up down (left - 1)) wanted list (set now i x) (i + 2)
+      → Turning (renumbered_cords up down left) wanted list now i → Turning (renumbered_cords up down (left - 1)) wanted list (set now i x) (i + 2)
   cord-again {wanted} {list} {now} {i} {left} {x} n h is t =
-      subst (λ (k : ℕ). Turning (renumberedCords up down (left - 1)) wanted list (set now i x) k) (let q : suc i + 1 ≡ i + 2 = omega arith in q)
-      (subst (λ (v : ℕ). Turning (renumberedCords up down (left - 1)) wanted list (set now i v) (suc i + 1)) (sym is)
+      subst (λ (k : ℕ). Turning (renumbered_cords up down (left - 1)) wanted list (set now i x) k) (let q : suc i + 1 ≡ i + 2 = omega arith in q)
+      (subst (λ (v : ℕ). Turning (renumbered_cords up down (left - 1)) wanted list (set now i v) (suc i + 1)) (sym is)
       (cord-turn (left - 1) (let q : left ≡ suc (left - 1) = omega arith in q) h t))
 
 -- ---- One number, and one width
@@ -182,32 +182,32 @@ pub renumbered-is : (up down v : ℕ) → (v ≡ 0 → ⊥) → v + up - down �
 renumbered-is up down zero n = absurd (n refl)
 renumbered-is up down (suc m) n = refl
 
-pub width_is : (percents : Bool) (other : Bool) → percents ≡ other → (cond percents 3 2 ≡ nodeWords other) × (2 ≤ cond percents 3 2) × (cond percents 3 2 ≤ 3)
-width_is true other e = (ap nodeWords e, omega arith, omega arith)
-width_is false other e = (ap nodeWords e, omega arith, omega arith)
+pub width_is : (percents : Bool) (other : Bool) → percents ≡ other → (cond percents 3 2 ≡ node_words other) × (2 ≤ cond percents 3 2) × (cond percents 3 2 ≤ 3)
+width_is true other e = (ap node_words e, omega arith, omega arith)
+width_is false other e = (ap node_words e, omega arith, omega arith)
 
 -- ---- Words of a part of the bytes
 
 four-more : (f : ℕ) → 4 * suc f ≡ suc (suc (suc (suc (4 * f))))
 four-more f = omega arith
 
-wordsOf-drop : (f : ℕ) (bytes : List ℕ) → words_of (drop (4 * f) bytes) ≡ drop f (words_of bytes)
+words_of-drop : (f : ℕ) (bytes : List ℕ) → words_of (drop (4 * f) bytes) ≡ drop f (words_of bytes)
 unfolding words_of
-wordsOf-drop zero bytes = refl
-wordsOf-drop (suc f) [] = ap words_of (drop-nil (4 * suc f))
-wordsOf-drop (suc f) (a ∷ []) = ap (λ (k : ℕ). words_of (drop k (a ∷ []))) (four-more f) ∙ ap words_of (drop-nil (suc (suc (suc (4 * f)))))
-wordsOf-drop (suc f) (a ∷ b ∷ []) = ap (λ (k : ℕ). words_of (drop k (a ∷ b ∷ []))) (four-more f) ∙ ap words_of (drop-nil (suc (suc (4 * f))))
-wordsOf-drop (suc f) (a ∷ b ∷ c ∷ []) = ap (λ (k : ℕ). words_of (drop k (a ∷ b ∷ c ∷ []))) (four-more f) ∙ ap words_of (drop-nil (suc (4 * f)))
-wordsOf-drop (suc f) (a ∷ b ∷ c ∷ d ∷ bytes) = ap (λ (k : ℕ). words_of (drop k (a ∷ b ∷ c ∷ d ∷ bytes))) (four-more f) ∙ wordsOf-drop f bytes
+words_of-drop zero bytes = refl
+words_of-drop (suc f) [] = ap words_of (drop-nil (4 * suc f))
+words_of-drop (suc f) (a ∷ []) = ap (λ (k : ℕ). words_of (drop k (a ∷ []))) (four-more f) ∙ ap words_of (drop-nil (suc (suc (suc (4 * f)))))
+words_of-drop (suc f) (a ∷ b ∷ []) = ap (λ (k : ℕ). words_of (drop k (a ∷ b ∷ []))) (four-more f) ∙ ap words_of (drop-nil (suc (suc (4 * f))))
+words_of-drop (suc f) (a ∷ b ∷ c ∷ []) = ap (λ (k : ℕ). words_of (drop k (a ∷ b ∷ c ∷ []))) (four-more f) ∙ ap words_of (drop-nil (suc (4 * f)))
+words_of-drop (suc f) (a ∷ b ∷ c ∷ d ∷ bytes) = ap (λ (k : ℕ). words_of (drop k (a ∷ b ∷ c ∷ d ∷ bytes))) (four-more f) ∙ words_of-drop f bytes
 
-wordsOf-take : (k : ℕ) (bytes : List ℕ) → words_of (take (4 * k) bytes) ≡ take k (words_of bytes)
+words_of-take : (k : ℕ) (bytes : List ℕ) → words_of (take (4 * k) bytes) ≡ take k (words_of bytes)
 unfolding words_of
-wordsOf-take zero bytes = refl
-wordsOf-take (suc k) [] = ap words_of (take-nil (4 * suc k))
-wordsOf-take (suc k) (a ∷ []) = ap (λ (n : ℕ). words_of (take n (a ∷ []))) (four-more k) ∙ ap (λ (l : List ℕ). words_of (a ∷ l)) (take-nil (suc (suc (suc (4 * k)))))
-wordsOf-take (suc k) (a ∷ b ∷ []) = ap (λ (n : ℕ). words_of (take n (a ∷ b ∷ []))) (four-more k) ∙ ap (λ (l : List ℕ). words_of (a ∷ b ∷ l)) (take-nil (suc (suc (4 * k))))
-wordsOf-take (suc k) (a ∷ b ∷ c ∷ []) = ap (λ (n : ℕ). words_of (take n (a ∷ b ∷ c ∷ []))) (four-more k) ∙ ap (λ (l : List ℕ). words_of (a ∷ b ∷ c ∷ l)) (take-nil (suc (4 * k)))
-wordsOf-take (suc k) (a ∷ b ∷ c ∷ d ∷ bytes) = ap (λ (n : ℕ). words_of (take n (a ∷ b ∷ c ∷ d ∷ bytes))) (four-more k) ∙ ap (λ (l : List ℕ). word a b c d ∷ l) (wordsOf-take k bytes)
+words_of-take zero bytes = refl
+words_of-take (suc k) [] = ap words_of (take-nil (4 * suc k))
+words_of-take (suc k) (a ∷ []) = ap (λ (n : ℕ). words_of (take n (a ∷ []))) (four-more k) ∙ ap (λ (l : List ℕ). words_of (a ∷ l)) (take-nil (suc (suc (suc (4 * k)))))
+words_of-take (suc k) (a ∷ b ∷ []) = ap (λ (n : ℕ). words_of (take n (a ∷ b ∷ []))) (four-more k) ∙ ap (λ (l : List ℕ). words_of (a ∷ b ∷ l)) (take-nil (suc (suc (4 * k))))
+words_of-take (suc k) (a ∷ b ∷ c ∷ []) = ap (λ (n : ℕ). words_of (take n (a ∷ b ∷ c ∷ []))) (four-more k) ∙ ap (λ (l : List ℕ). words_of (a ∷ b ∷ c ∷ l)) (take-nil (suc (4 * k)))
+words_of-take (suc k) (a ∷ b ∷ c ∷ d ∷ bytes) = ap (λ (n : ℕ). words_of (take n (a ∷ b ∷ c ∷ d ∷ bytes))) (four-more k) ∙ ap (λ (l : List ℕ). word a b c d ∷ l) (words_of-take k bytes)
 
 -- ---- One piece behind another
 
@@ -268,7 +268,7 @@ put_both {list} {list₁} {list₂} {words} {more} {at} p q = record {
 pub piece-words : (bytes : List ℕ) (from to : ℕ) → words_of (take (4 * to - 4 * from) (drop (4 * from) bytes)) ≡ piece from to (words_of bytes)
 piece-words bytes from to =
     ap (λ (k : ℕ). words_of (take k (drop (4 * from) bytes))) (let q : 4 * to - 4 * from ≡ 4 * (to - from) = omega arith in q)
-    ∙ wordsOf-take (to - from) (drop (4 * from) bytes) ∙ ap (take (to - from)) (wordsOf-drop from bytes)
+    ∙ words_of-take (to - from) (drop (4 * from) bytes) ∙ ap (take (to - from)) (words_of-drop from bytes)
 
 pub piece-length : (words : List ℕ) (from to : ℕ) → to ≤ length words → length (piece from to words) ≡ to - from
 piece-length words from to h = length-take-le (to - from) (drop from words) (omega (arith, length-drop from words))
@@ -277,7 +277,7 @@ piece-length words from to h = length-take-le (to - from) (drop from words) (ome
 pub word-loaded : (bytes : List ℕ) (i : ℕ) {list : List ℕ} → i < length bytes / 4
     → list ≡ sets (0 ∷ []) 0 (words_of (take (4 * (i + 1) - 4 * i) (drop (4 * i) bytes))) → get_or list 0 0 ≡ get_or (words_of bytes) i 0
 word-loaded bytes i h e =
-    let size : 1 ≡ length (piece i (i + 1) (words_of bytes)) = omega (arith, piece-length (words_of bytes) i (i + 1) (omega (arith, length-wordsOf bytes))) in
+    let size : 1 ≡ length (piece i (i + 1) (words_of bytes)) = omega (arith, piece-length (words_of bytes) i (i + 1) (omega (arith, length-words_of bytes))) in
     ap (λ (l : List ℕ). get_or l 0 0) (e ∙ ap (sets (0 ∷ []) 0) (piece-words bytes i (i + 1)) ∙ sets-all (0 ∷ []) (piece i (i + 1) (words_of bytes)) size)
     ∙ ap (λ (k : ℕ). get_or (take k (drop i (words_of bytes))) 0 0) (let q : i + 1 - i ≡ 1 = omega arith in q)
     ∙ first (drop i (words_of bytes)) ∙ sym (head_at (words_of bytes) i)
@@ -293,7 +293,7 @@ pub put-loaded : (bytes list : List ℕ) (from to at : ℕ) {part list' : List �
     → PiecePut list at (piece from to (words_of bytes)) list' (at + (to - from))
 put-loaded bytes list from to at may loaded is =
     let words = piece from to (words_of bytes) in
-    let size : length words ≡ to - from = piece-length (words_of bytes) from to (omega (arith, length-wordsOf bytes, may.there)) in
+    let size : length words ≡ to - from = piece-length (words_of bytes) from to (omega (arith, length-words_of bytes, may.there)) in
     let space = may.space in
     let all = loaded ∙ ap (sets (take (at + (to - from) - at) (drop at list)) 0) (piece-words bytes from to)
     ∙ sets-all (take (at + (to - from) - at) (drop at list)) words

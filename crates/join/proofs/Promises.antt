@@ -17,17 +17,17 @@ use Rattle.rooms.proofs.Accepted as rooms
 use Rattle.rooms.proofs.Whole.{checked-is}
 use Rattle.rooms.proofs.Tables.{RoomFits, table_fits}
 use Rattle.rooms.proofs.Reach.{next-is-length}
-use Rattle.deals.specs.Plan.{Plan, firstTooLarge, planRoom, plan}
+use Rattle.deals.specs.Plan.{Plan, first_too_large, plan_room, plan}
 use Rattle.deals.specs.declared.Lengths.{Lengths}
 use Rattle.deals.specs.declared.PlanRefusal.TheVariants.{DemandCount, DemandTooLarge}
-use Rattle.deals.proofs.Plans.{plan-good-table, planRoom-accepted}
-use Rattle.join.specs.Joined.{joined, joinedPlan}
+use Rattle.deals.proofs.Plans.{plan-good-table, plan_room-accepted}
+use Rattle.join.specs.Joined.{joined, joined_plan}
 use Rattle.join.specs.Outcome.{reasons}
 use Rattle.join.specs.Promises.{AcceptedJoin, JoinGivesRoom, Ample, JoinPlansBoth, FirstGrantsJoin}
-use Rattle.join.specs.Huts.{hutOf, HutOf}
+use Rattle.join.specs.Huts.{hut_of, HutOf}
 use Rattle.join.proofs.JoinedRoom.{servers-joined}
 use Rattle.join.proofs.JoinedTable.{MayJoin, joined-checked}
-use Rattle.join.proofs.JoinedPlans.{firstGrants-joined, plan-joined}
+use Rattle.join.proofs.JoinedPlans.{first_grants-joined, plan-joined}
 use Rattle.join.proofs.HutLaws.{both-good}
 use Rattle.join.proofs.Demands.{first-in-first, first-in-second, same_count, accepted-demands, too-large-back, too-large-told, count-told, ample-told}
 
@@ -50,27 +50,27 @@ module _ (j : AcceptedJoin) where
   -- No reason to refuse held.
   told : unless (reasons (at f 0) (at s 0) r q j.entries) (table_of (at f 0) whole) ≡ accepted j.table
   told =
-      let a : HutOf f (hutOf f r) = record { room = r; end = j.oneEnd; good-table = j.isOne; is = refl } in
-      let b : HutOf s (hutOf s q) = record { room = q; end = j.twoEnd; good-table = j.isTwo; is = refl } in
-      sym (both-good f s j.entries a b) ∙ j.isTable
+      let a : HutOf f (hut_of f r) = record { room = r; end = j.one_end; good-table = j.is_one; is = refl } in
+      let b : HutOf s (hut_of s q) = record { room = q; end = j.two_end; good-table = j.is_two; is = refl } in
+      sym (both-good f s j.entries a b) ∙ j.is_table
 
   words : j.table ≡ table_of (at f 0) whole
   words = unless-is _ (table_of (at f 0) whole) j.table told
 
   ok : Accepted r
-  ok = rooms.accepted f r j.oneEnd j.isOne
+  ok = rooms.accepted f r j.one_end j.is_one
 
   ko : Accepted q
-  ko = rooms.accepted s q j.twoEnd j.isTwo
+  ko = rooms.accepted s q j.two_end j.is_two
 
   fits_one : RoomFits (at f 0) r
-  fits_one = table_fits f r j.oneEnd (checked-is f r j.oneEnd j.isOne).0
+  fits_one = table_fits f r j.one_end (checked-is f r j.one_end j.is_one).0
 
   versions : at f 0 ≡ at s 0
   versions = same_count _ _ (unless-back _ _ (table_of (at f 0) whole) told).0
 
   fits-two : RoomFits (at f 0) q
-  fits-two = subst (λ (v : ℕ). RoomFits v q) (sym versions) (table_fits s q j.twoEnd (checked-is s q j.twoEnd j.isTwo).0)
+  fits-two = subst (λ (v : ℕ). RoomFits v q) (sym versions) (table_fits s q j.two_end (checked-is s q j.two_end j.is_two).0)
 
   may : MayJoin r q
   may =
@@ -93,31 +93,31 @@ module _ (j : AcceptedJoin) where
   both : Accepted whole
   both = rooms.accepted j.table whole _ checks
 
-  plan-whole : (d : List ℕ) (lengths : Lengths) → plan j.table d lengths ≡ planRoom whole d lengths
+  plan-whole : (d : List ℕ) (lengths : Lengths) → plan j.table d lengths ≡ plan_room whole d lengths
   plan-whole d lengths = plan-good-table j.table d lengths whole _ checks
 
-  plan-one : (d : List ℕ) (lengths : Lengths) → plan f d lengths ≡ planRoom r d lengths
-  plan-one d lengths = plan-good-table f d lengths r _ j.isOne
+  plan-one : (d : List ℕ) (lengths : Lengths) → plan f d lengths ≡ plan_room r d lengths
+  plan-one d lengths = plan-good-table f d lengths r _ j.is_one
 
-  plan-two : (d : List ℕ) (lengths : Lengths) → plan s d lengths ≡ planRoom q d lengths
-  plan-two d lengths = plan-good-table s d lengths q _ j.isTwo
+  plan-two : (d : List ℕ) (lengths : Lengths) → plan s d lengths ≡ plan_room q d lengths
+  plan-two d lengths = plan-good-table s d lengths q _ j.is_two
 
   counts : (d e : List ℕ) → length d ≡ length r.servers → length e ≡ length q.servers → length (d ++ e) ≡ length whole.servers
   counts d e c k = length-append d e ∙ ap₂ ◌+◌ c k ∙ sym (servers-joined r q)
 
   planned : (d e : List ℕ) (ours theirs lengths : Lengths) (p t : Plan) → plan f d ours ≡ accepted p → plan s e theirs ≡ accepted t → Ample whole lengths
-      → plan j.table (d ++ e) lengths ≡ accepted (joinedPlan (length r.nodes) p t)
+      → plan j.table (d ++ e) lengths ≡ accepted (joined_plan (length r.nodes) p t)
   planned d e ours theirs lengths p t a b long =
       let one = sym (plan-one d ours) ∙ a in
       let two = sym (plan-two e theirs) ∙ b in
       let fit = accepted-demands r d ours one in
       let fit-two = accepted-demands q e theirs two in
-      let none : length (d ++ e) ≤ firstTooLarge (d ++ e)
+      let none : length (d ++ e) ≤ first_too_large (d ++ e)
       = omega (arith, first-in-second _ d e fit.none, length-append d e, fit-two.none) in
       plan-whole (d ++ e) lengths
       ∙ ample-told whole (d ++ e) lengths (record { count = counts d e fit.count fit-two.count; none = none }) long
       ∙ ap accepted (plan-joined r q ok ko both may.scale d e fit.count
-      ∙ sym (ap₂ (joinedPlan (length r.nodes)) (planRoom-accepted r d ours p one).is (planRoom-accepted q e theirs t two).is))
+      ∙ sym (ap₂ (joined_plan (length r.nodes)) (plan_room-accepted r d ours p one).is (plan_room-accepted q e theirs t two).is))
 
   counted : (d : List ℕ) (lengths : Lengths) → (length d ≡ length r.servers + length q.servers → ⊥)
       → plan j.table d lengths ≡ refused (DemandCount (length r.servers + length q.servers))
@@ -151,7 +151,7 @@ pub join-gives-room : JoinGivesRoom
 join-gives-room j = record { words = words j; checks = checks j }
 
 pub join-plans-both : JoinPlansBoth
-join-plans-both j = record { planned = planned j; counted = counted j; firstTooLarge = first-large j; secondTooLarge = second-large j }
+join-plans-both j = record { planned = planned j; counted = counted j; first_too_large = first-large j; second_too_large = second-large j }
 
 pub first-grants-join : FirstGrantsJoin
-first-grants-join j d e count = firstGrants-joined j.one j.two (ok j) (ko j) (both j) (may j).scale d e count
+first-grants-join j d e count = first_grants-joined j.one j.two (ok j) (ko j) (both j) (may j).scale d e count

@@ -9,40 +9,40 @@ use lib.ListN.{length, take, drop, length-append, length-map}
 use lib.Seq.{take_at, drop_at, drop-drop, take_all}
 use Rattle.figures.specs.Figures.{at}
 use Rattle.rooms.specs.Part.{good}
-use Rattle.rooms.specs.Table.{Node, Cord, Server, Room, form_of, nodeWords, cordCount}
+use Rattle.rooms.specs.Table.{Node, Cord, Server, Room, form_of, node_words, cord_count}
 use Rattle.rooms.specs.Limits.{checked}
-use Rattle.rooms.specs.Words.{rowWords, wordsOfNode, wordsOfCord, wordsOfServer, table_of}
-use Rattle.rooms.specs.Walk.{serversIndex}
+use Rattle.rooms.specs.Words.{row_words, words_of_node, words_of_cord, words_of_server, table_of}
+use Rattle.rooms.specs.Walk.{servers_index}
 use Rattle.rooms.proofs.Whole.{checked-is}
 use Rattle.rooms.proofs.Tables.{table-written}
-use Rattle.join.specs.Pieces.{renumbered, renumberedEvery, renumberedCords, piece}
+use Rattle.join.specs.Pieces.{renumbered, renumbered_every, renumbered_cords, piece}
 
 -- ---- Rows of words
 
-pub row-append : {A : Type 0} (words : A → List ℕ) (l m : List A) → rowWords words (l ++ m) ≡ rowWords words l ++ rowWords words m
-unfolding rowWords
+pub row-append : {A : Type 0} (words : A → List ℕ) (l m : List A) → row_words words (l ++ m) ≡ row_words words l ++ row_words words m
+unfolding row_words
 row-append words [] m = refl
-row-append words (a ∷ l) m = ap (λ (z : List ℕ). words a ++ z) (row-append words l m) ∙ sym (append_assoc (words a) (rowWords words l) (rowWords words m))
+row-append words (a ∷ l) m = ap (λ (z : List ℕ). words a ++ z) (row-append words l m) ∙ sym (append_assoc (words a) (row_words words l) (row_words words m))
 
-node-length : (percents : Bool) (n : Node) → length (wordsOfNode percents n) ≡ nodeWords percents
+node-length : (percents : Bool) (n : Node) → length (words_of_node percents n) ≡ node_words percents
 node-length true n = refl
 node-length false n = refl
 
-pub nodes-length : (percents : Bool) (l : List Node) → length (rowWords (wordsOfNode percents) l) ≡ nodeWords percents * length l
-unfolding rowWords
+pub nodes-length : (percents : Bool) (l : List Node) → length (row_words (words_of_node percents) l) ≡ node_words percents * length l
+unfolding row_words
 nodes-length percents [] = omega arith
 nodes-length percents (n ∷ l) =
-    length-append (wordsOfNode percents n) (rowWords (wordsOfNode percents) l)
-    ∙ omega (arith, node-length percents n, nodes-length percents l, mul-suc (nodeWords percents) (length l))
+    length-append (words_of_node percents n) (row_words (words_of_node percents) l)
+    ∙ omega (arith, node-length percents n, nodes-length percents l, mul-suc (node_words percents) (length l))
 
 -- ---- The pieces of a good table
 
 module _ (w : List ℕ) (r : Room) (j : ℕ) (e : checked w 0 ≡ good r j) where
-  abbrev nodeRow : List ℕ
-  nodeRow = rowWords (wordsOfNode (form_of (at w 0)).percents) r.nodes
+  abbrev node_row : List ℕ
+  node_row = row_words (words_of_node (form_of (at w 0)).percents) r.nodes
 
-  abbrev serverRow : List ℕ
-  serverRow = rowWords wordsOfServer r.servers
+  abbrev server_row : List ℕ
+  server_row = row_words words_of_server r.servers
 
   pub words_are : w ≡ table_of (at w 0) r
   words_are = table-written w r j (checked-is w r j e).0
@@ -50,64 +50,64 @@ module _ (w : List ℕ) (r : Room) (j : ℕ) (e : checked w 0 ≡ good r j) wher
   count_at : at w 1 ≡ length r.nodes
   count_at = ap (λ (l : List ℕ). at l 1) words_are
 
-  pub middle-is : serversIndex w ≡ 2 + length nodeRow
-  middle-is = omega (arith, nodes-length (form_of (at w 0)).percents r.nodes, ap (λ (n : ℕ). nodeWords (form_of (at w 0)).percents * n) count_at)
+  pub middle-is : servers_index w ≡ 2 + length node_row
+  middle-is = omega (arith, nodes-length (form_of (at w 0)).percents r.nodes, ap (λ (n : ℕ). node_words (form_of (at w 0)).percents * n) count_at)
 
-  pub length-are : length w ≡ 3 + length nodeRow + length serverRow
-  length-are = ap length words_are ∙ omega (arith, length-append nodeRow (length r.servers ∷ serverRow))
+  pub length-are : length w ≡ 3 + length node_row + length server_row
+  length-are = ap length words_are ∙ omega (arith, length-append node_row (length r.servers ∷ server_row))
 
-  behind-head : drop 2 w ≡ nodeRow ++ (length r.servers ∷ serverRow)
+  behind-head : drop 2 w ≡ node_row ++ (length r.servers ∷ server_row)
   behind-head = ap (drop 2) words_are
 
-  pub nodes-piece : piece 2 (serversIndex w) w ≡ nodeRow
+  pub nodes-piece : piece 2 (servers_index w) w ≡ node_row
   nodes-piece =
-      ap₂ take (let q : serversIndex w - 2 ≡ length nodeRow = omega (arith, middle-is) in q) behind-head
-      ∙ take_at nodeRow (length r.servers ∷ serverRow) (length nodeRow) refl
+      ap₂ take (let q : servers_index w - 2 ≡ length node_row = omega (arith, middle-is) in q) behind-head
+      ∙ take_at node_row (length r.servers ∷ server_row) (length node_row) refl
 
-  pub behind-middle : drop (serversIndex w + 1) w ≡ serverRow
+  pub behind-middle : drop (servers_index w + 1) w ≡ server_row
   behind-middle =
-      ap (λ (k : ℕ). drop k w) (let q : serversIndex w + 1 ≡ 2 + (length nodeRow + 1) = omega (arith, middle-is) in q)
-      ∙ sym (drop-drop (length nodeRow + 1) 2 w)
-      ∙ ap (drop (length nodeRow + 1)) behind-head
-      ∙ sym (drop-drop 1 (length nodeRow) (nodeRow ++ (length r.servers ∷ serverRow)))
-      ∙ ap (drop 1) (drop_at nodeRow (length r.servers ∷ serverRow) (length nodeRow) refl)
+      ap (λ (k : ℕ). drop k w) (let q : servers_index w + 1 ≡ 2 + (length node_row + 1) = omega (arith, middle-is) in q)
+      ∙ sym (drop-drop (length node_row + 1) 2 w)
+      ∙ ap (drop (length node_row + 1)) behind-head
+      ∙ sym (drop-drop 1 (length node_row) (node_row ++ (length r.servers ∷ server_row)))
+      ∙ ap (drop 1) (drop_at node_row (length r.servers ∷ server_row) (length node_row) refl)
 
-  pub servers-piece : piece (serversIndex w + 1) (length w) w ≡ serverRow
+  pub servers-piece : piece (servers_index w + 1) (length w) w ≡ server_row
   servers-piece =
-      ap₂ take (let q : length w - (serversIndex w + 1) ≡ length serverRow = omega (arith, middle-is, length-are) in q) behind-middle
-      ∙ take_all (length serverRow) serverRow (let q : length serverRow ≤ length serverRow = omega arith in q)
+      ap₂ take (let q : length w - (servers_index w + 1) ≡ length server_row = omega (arith, middle-is, length-are) in q) behind-middle
+      ∙ take_all (length server_row) server_row (let q : length server_row ≤ length server_row = omega arith in q)
 
 -- ---- Numbers of nodes moved
 
 module _ (up down : ℕ) (move : ℕ → ℕ) (moves : (v : ℕ) → move v ≡ renumbered up down v) where
-  abbrev pub movedNode : Node → Node
-  movedNode n = record { parent = move n.parent; rating = n.rating; percent = n.percent }
+  abbrev pub moved_node : Node → Node
+  moved_node n = record { parent = move n.parent; rating = n.rating; percent = n.percent }
 
-  abbrev pub movedCord : Cord → Cord
-  movedCord c = record { node = move c.node; share = c.share }
+  abbrev pub moved_cord : Cord → Cord
+  moved_cord c = record { node = move c.node; share = c.share }
 
-  abbrev pub movedServer : Server → Server
-  movedServer s = record { rank = s.rank; least = s.least; greatest = s.greatest; cords = map movedCord s.cords }
+  abbrev pub moved_server : Server → Server
+  moved_server s = record { rank = s.rank; least = s.least; greatest = s.greatest; cords = map moved_cord s.cords }
 
   pub nodes-moved : (percents : Bool) (l : List Node)
-      → rowWords (wordsOfNode percents) (map movedNode l) ≡ renumberedEvery (nodeWords percents - 1) up down 0 (rowWords (wordsOfNode percents) l)
-  unfolding rowWords renumberedEvery
+      → row_words (words_of_node percents) (map moved_node l) ≡ renumbered_every (node_words percents - 1) up down 0 (row_words (words_of_node percents) l)
+  unfolding row_words renumbered_every
   nodes-moved true [] = refl
   nodes-moved false [] = refl
   nodes-moved true (n ∷ l) = ap₂ (λ (p : ℕ) (z : List ℕ). p ∷ n.rating ∷ n.percent ∷ z) (moves n.parent) (nodes-moved true l)
   nodes-moved false (n ∷ l) = ap₂ (λ (p : ℕ) (z : List ℕ). p ∷ n.rating ∷ z) (moves n.parent) (nodes-moved false l)
 
   cords-moved : (l : List Cord) (rest : List ℕ)
-      → renumberedCords up down (length l) (rowWords wordsOfCord l ++ rest) ≡ rowWords wordsOfCord (map movedCord l) ++ renumberedCords up down 0 rest
-  unfolding rowWords renumberedCords
+      → renumbered_cords up down (length l) (row_words words_of_cord l ++ rest) ≡ row_words words_of_cord (map moved_cord l) ++ renumbered_cords up down 0 rest
+  unfolding row_words renumbered_cords
   cords-moved [] rest = refl
   cords-moved (c ∷ l) rest = ap₂ (λ (p : ℕ) (z : List ℕ). p ∷ c.share ∷ z) (sym (moves c.node)) (cords-moved l rest)
 
-  pub servers-moved : (l : List Server) → rowWords wordsOfServer (map movedServer l) ≡ renumberedCords up down 0 (rowWords wordsOfServer l)
-  unfolding rowWords renumberedCords
+  pub servers-moved : (l : List Server) → row_words words_of_server (map moved_server l) ≡ renumbered_cords up down 0 (row_words words_of_server l)
+  unfolding row_words renumbered_cords
   servers-moved [] = refl
   servers-moved (s ∷ l) =
-      ap (λ (k : ℕ). s.rank ∷ s.least ∷ s.greatest ∷ k ∷ (rowWords wordsOfCord (map movedCord s.cords) ++ rowWords wordsOfServer (map movedServer l)))
-      (length-map s.cords movedCord)
-      ∙ ap (λ (z : List ℕ). s.rank ∷ s.least ∷ s.greatest ∷ cordCount s ∷ z)
-      (ap (λ (z : List ℕ). rowWords wordsOfCord (map movedCord s.cords) ++ z) (servers-moved l) ∙ sym (cords-moved s.cords (rowWords wordsOfServer l)))
+      ap (λ (k : ℕ). s.rank ∷ s.least ∷ s.greatest ∷ k ∷ (row_words words_of_cord (map moved_cord s.cords) ++ row_words words_of_server (map moved_server l)))
+      (length-map s.cords moved_cord)
+      ∙ ap (λ (z : List ℕ). s.rank ∷ s.least ∷ s.greatest ∷ cord_count s ∷ z)
+      (ap (λ (z : List ℕ). row_words words_of_cord (map moved_cord s.cords) ++ z) (servers-moved l) ∙ sym (cords-moved s.cords (row_words words_of_server l)))

@@ -12,20 +12,20 @@ use Rattle.outcomes.specs.Outcome.{accepted, refused, unless, after}
 use Rattle.outcomes.proofs.Outcomes.{unless-back, unless-is, unless-none, unless-either}
 use Rattle.figures.specs.Figures.{at}
 use Rattle.words.specs.Bytes.{words_of, bytes_of}
-use Rattle.words.proofs.Bytes.{length-wordsOf}
+use Rattle.words.proofs.Bytes.{length-words_of}
 use Rattle.calls.specs.Call.{answered, OutcomeCall}
 use Rattle.calls.proofs.Calls.{call-done}
 use Rattle.rooms.specs.Part.{Step, good, bad}
-use Rattle.rooms.specs.Table.{Room, mostNodes, mostServers, mostCords, mostWords, form_of, nodeWords, roomCords}
+use Rattle.rooms.specs.Table.{Room, most_nodes, most_servers, most_cords, most_words, form_of, node_words, room_cords}
 use Rattle.rooms.specs.Limits.{checked}
-use Rattle.rooms.specs.Words.{table_of, rowWords, wordsOfNode}
+use Rattle.rooms.specs.Words.{table_of, row_words, words_of_node}
 use Rattle.rooms.proofs.Accepted as rooms
 use Rattle.rooms.proofs.Reach.{length-is}
 use Rattle.join.specs.Joined.{joined}
-use Rattle.join.specs.Outcome.{JoinOutcome, reasons, joining, answer_of, joinNumber, joinFigure}
-use Rattle.join.specs.Call.{joinNumbers}
-use Rattle.join.specs.Pieces.{renumberedEvery, renumberedCords, piece, MayPut, PiecePut}
-use Rattle.join.specs.Huts.{hutOf, HutOf, MayPutTogether, JoinedInFront, written, InFront, writtenCount}
+use Rattle.join.specs.Outcome.{JoinOutcome, reasons, joining, answer_of, join_number, join_figure}
+use Rattle.join.specs.Call.{join_numbers}
+use Rattle.join.specs.Pieces.{renumbered_every, renumbered_cords, piece, MayPut, PiecePut}
+use Rattle.join.specs.Huts.{hut_of, HutOf, MayPutTogether, JoinedInFront, written, InFront, written_count}
 use Rattle.join.specs.declared.Hut.{Hut}
 use Rattle.join.specs.declared.JoinRefusal.{JoinRefusal}
 use Rattle.join.specs.declared.JoinAnswer.{JoinAnswer}
@@ -71,20 +71,20 @@ module _ (f s : List ℕ) (space : ℕ) {one two : Hut} (a : HutOf f one) (b : H
   same_version : at f 0 ≡ at s 0
   same_version = same_count _ _ (unless-back _ _ joint worked-off).0
 
-  small : (p : Bool) (n m k l c d x y : ℕ) → x ≡ 3 + nodeWords p * n + 4 * k + 2 * c → y ≡ 3 + nodeWords p * m + 4 * l + 2 * d
-      → n + m ≤ mostNodes → k + l ≤ mostServers → c + d ≤ mostCords → x + y - 3 ≤ mostWords
+  small : (p : Bool) (n m k l c d x y : ℕ) → x ≡ 3 + node_words p * n + 4 * k + 2 * c → y ≡ 3 + node_words p * m + 4 * l + 2 * d
+      → n + m ≤ most_nodes → k + l ≤ most_servers → c + d ≤ most_cords → x + y - 3 ≤ most_words
   small true n m k l c d x y e g h i j = omega arith
   small false n m k l c d x y e g h i j = omega arith
 
   -- Two tables that are accepted may be put together.
-  pub may-together : (entries : ℕ) → suc mostWords ≤ entries → MayPutTogether f one s two entries
+  pub may-together : (entries : ℕ) → suc most_words ≤ entries → MayPutTogether f one s two entries
   may-together entries h =
       let version = unless-back _ _ joint worked-off in
       let nodes = unless-back _ _ joint version.1 in
       let servers = unless-back _ _ joint nodes.1 in
       let cords = unless-back _ _ joint servers.1 in
       let long = small (form_of (at f 0)).percents _ _ _ _ _ _ (length f) (length s) (length-is f a.room a.end a.good-table)
-      (length-is s b.room b.end b.good-table ∙ ap (λ (v : ℕ). 3 + nodeWords (form_of v).percents * length b.room.nodes + 4 * length b.room.servers + 2 * roomCords b.room) (sym same_version))
+      (length-is s b.room b.end b.good-table ∙ ap (λ (v : ℕ). 3 + node_words (form_of v).percents * length b.room.nodes + 4 * length b.room.servers + 2 * room_cords b.room) (sym same_version))
       (ltb-false _ _ nodes.0) (ltb-false _ _ servers.0) (ltb-false _ _ cords.0) in
       record {
         first = a;
@@ -111,8 +111,8 @@ written-fits f s space = go (checked f 0) refl
 
     both : (r q : Room) (i j : ℕ) → checked f 0 ≡ good r i → checked s 0 ≡ good q j → Fits (joining f s space)
     both r q i j a b =
-        let one : HutOf f (hutOf f r) = record { room = r; end = i; good-table = a; is = refl } in
-        let two : HutOf s (hutOf s q) = record { room = q; end = j; good-table = b; is = refl } in
+        let one : HutOf f (hut_of f r) = record { room = r; end = i; good-table = a; is = refl } in
+        let two : HutOf s (hut_of s q) = record { room = q; end = j; good-table = b; is = refl } in
         let table = table_of (at f 0) (joined r q) in
         subst Fits (sym (both-good f s space one two))
         (unless-either _ _ table Fits (λ h. omega arith) (λ _.
@@ -129,11 +129,11 @@ written-fits f s space = go (checked f 0) refl
     go (good r i) a = second r i a (checked s 0) refl
     go (bad p) a = subst Fits (sym (first-bad f s space a)) (omega arith)
 
-module _ (outcome : JoinOutcome) {told : JoinAnswer} {count : ℕ} (is : told ≡ answer_of outcome) (n : count ≡ writtenCount told) where
+module _ (outcome : JoinOutcome) {told : JoinAnswer} {count : ℕ} (is : told ≡ answer_of outcome) (n : count ≡ written_count told) where
   count-is : count ≡ length (written outcome)
-  count-is = n ∙ ap writtenCount is ∙ go outcome
+  count-is = n ∙ ap written_count is ∙ go outcome
     where
-      go : (o : JoinOutcome) → writtenCount (answer_of o) ≡ length (written o)
+      go : (o : JoinOutcome) → written_count (answer_of o) ≡ length (written o)
       go (accepted table) = refl
       go (refused q) = refl
 
@@ -146,8 +146,8 @@ module _ (outcome : JoinOutcome) {told : JoinAnswer} {count : ℕ} (is : told �
 
     -- Stored in bytes, with the answer.
     pub stored : (table answer : List ℕ) {table' answer' : List ℕ} → length (written outcome) ≤ length table / 4 → 16 ≤ length answer
-        → table' ≡ sets table 0 (bytes_of (take (length table / 4) (take count words))) → answer' ≡ answered 2 (joinNumber told ∷ joinFigure told ∷ []) answer
-        → OutcomeCall 2 joinNumbers bytes_of outcome table answer 1 table' answer'
+        → table' ≡ sets table 0 (bytes_of (take (length table / 4) (take count words))) → answer' ≡ answered 2 (join_number told ∷ join_figure told ∷ []) answer
+        → OutcomeCall 2 join_numbers bytes_of outcome table answer 1 table' answer'
     unfolding bytes_of
     stored table answer fits long s a =
         let all : take (length table / 4) (take count words) ≡ written outcome = ap (take (length table / 4)) taken ∙ take_all (length table / 4) (written outcome) fits in
@@ -166,8 +166,8 @@ pub record HutFits (bytes : List ℕ) (hut : Hut) : Type 0 where
   pub inner : hut.middle + 1 ≤ hut.words
   pub there : 4 * hut.words ≤ length bytes
   pub long : hut.words ≡ length (words_of bytes)
-  pub nodes : hut.nodes ≤ mostNodes
-  pub servers : hut.servers ≤ mostServers
+  pub nodes : hut.nodes ≤ most_nodes
+  pub servers : hut.servers ≤ most_servers
 
 pub hut-fits : (bytes : List ℕ) {hut : Hut} → HutOf (words_of bytes) hut → HutFits bytes hut
 hut-fits bytes h =
@@ -179,10 +179,10 @@ hut-fits bytes h =
     record {
       two = omega (arith, middle);
       inner = omega (arith, middle, words, all);
-      there = omega (arith, words, length-wordsOf bytes);
+      there = omega (arith, words, length-words_of bytes);
       long = words;
-      nodes = omega (arith, ap (λ (x : Hut). x.nodes) h.is, ok.fewNodes);
-      servers = omega (arith, ap (λ (x : Hut). x.servers) h.is, ok.fewServers);
+      nodes = omega (arith, ap (λ (x : Hut). x.nodes) h.is, ok.few_nodes);
+      servers = omega (arith, ap (λ (x : Hut). x.servers) h.is, ok.few_servers);
     }
 
 -- The first two words do not change the length.
@@ -194,7 +194,7 @@ module _ {list list' : List ℕ} {at end : ℕ} (words : List ℕ) (from to : �
   pub ends_words : PiecePut list at (piece from to words) list' end → end ≡ at + (to - from)
   ends_words p = p.ends ∙ ap (λ (k : ℕ). at + k) (piece-length words from to h)
 
-  pub ends-nodes : (gap up down : ℕ) → PiecePut list at (renumberedEvery gap up down 0 (piece from to words)) list' end → end ≡ at + (to - from)
+  pub ends-nodes : (gap up down : ℕ) → PiecePut list at (renumbered_every gap up down 0 (piece from to words)) list' end → end ≡ at + (to - from)
   ends-nodes gap up down p = p.ends ∙ ap (λ (k : ℕ). at + k) (every-length gap up down 0 (piece from to words) ∙ piece-length words from to h)
 
 -- ---- All pieces
@@ -251,7 +251,7 @@ module _ (first second : List ℕ) {one two : Hut} {entries : ℕ} (may : MayPut
   behind-is p = omega (arith, ends_words f 2 one.middle (omega (arith, fits_one.inner, fits_one.long)) p, fits_one.two)
 
   module _ {list list₁ : List ℕ} {at end : ℕ} where
-    pub between_is : (gap by : ℕ) → at ≡ one.middle → PiecePut list at (renumberedEvery gap by 0 0 (piece 2 two.middle s)) list₁ end → end ≡ one.middle + (two.middle - 2)
+    pub between_is : (gap by : ℕ) → at ≡ one.middle → PiecePut list at (renumbered_every gap by 0 0 (piece 2 two.middle s)) list₁ end → end ≡ one.middle + (two.middle - 2)
     between_is gap by e p = omega (arith, ends-nodes s 2 two.middle (omega (arith, fits-two.inner, fits-two.long)) gap by 0 p)
 
     pub next-is : PiecePut list at (piece (one.middle + 1) one.words f) list₁ end → end ≡ at + (one.words - (one.middle + 1))
@@ -260,9 +260,9 @@ module _ (first second : List ℕ) {one two : Hut} {entries : ℕ} (may : MayPut
   -- The words that the pieces come to.
   abbrev shape : (version nodes : ℕ) (a : List ℕ) (width by : ℕ) (b : List ℕ) (servers : ℕ) (c d : List ℕ) → List ℕ
   shape version nodes a width by b servers c d =
-      version ∷ nodes ∷ (a ++ (renumberedEvery (width - 1) by 0 0 b ++ (servers ∷ (c ++ renumberedCords by 0 0 d))))
+      version ∷ nodes ∷ (a ++ (renumbered_every (width - 1) by 0 0 b ++ (servers ∷ (c ++ renumbered_cords by 0 0 d))))
 
-  module _ {width by nodes servers : ℕ} (width_is : width ≡ nodeWords (form_of one.version).percents) (by-is : by ≡ one.nodes)
+  module _ {width by nodes servers : ℕ} (width_is : width ≡ node_words (form_of one.version).percents) (by-is : by ≡ one.nodes)
       (nodes-are : nodes ≡ one.nodes + two.nodes) (servers-are : servers ≡ one.servers + two.servers) where
     abbrev pieces : List ℕ
     pieces = shape one.version nodes (piece 2 one.middle f) width by (piece 2 two.middle s) servers
@@ -283,9 +283,9 @@ module _ (first second : List ℕ) {one two : Hut} {entries : ℕ} (may : MayPut
         let two-servers : two.servers ≡ length q.servers = ap (λ (h : Hut). h.servers) t.is ∙ ap (λ (x : Room). length x.servers) tr in
         (λ k. shape (version k) ((nodes-are ∙ ap₂ ◌+◌ one-nodes two-nodes) k)
         ((ap (λ (m : ℕ). piece 2 m f) (ap (λ (h : Hut). h.middle) o.is) ∙ nodes-piece f r i a) k)
-        ((width_is ∙ ap (λ (v : ℕ). nodeWords (form_of v).percents) version) k)
+        ((width_is ∙ ap (λ (v : ℕ). node_words (form_of v).percents) version) k)
         ((by-is ∙ one-nodes) k)
-        ((ap (λ (m : ℕ). piece 2 m s) (ap (λ (h : Hut). h.middle) t.is) ∙ nodes-piece s q j b ∙ ap (λ (v : ℕ). rowWords (wordsOfNode (form_of v).percents) q.nodes) (sym same)) k)
+        ((ap (λ (m : ℕ). piece 2 m s) (ap (λ (h : Hut). h.middle) t.is) ∙ nodes-piece s q j b ∙ ap (λ (v : ℕ). row_words (words_of_node (form_of v).percents) q.nodes) (sym same)) k)
         ((servers-are ∙ ap₂ ◌+◌ one-servers two-servers) k)
         ((ap₂ (λ (m n : ℕ). piece (m + 1) n f) (ap (λ (h : Hut). h.middle) o.is) (ap (λ (h : Hut). h.words) o.is) ∙ servers-piece f r i a) k)
         ((ap₂ (λ (m n : ℕ). piece (m + 1) n s) (ap (λ (h : Hut). h.middle) t.is) (ap (λ (h : Hut). h.words) t.is) ∙ servers-piece s q j b) k))
@@ -293,9 +293,9 @@ module _ (first second : List ℕ) {one two : Hut} {entries : ℕ} (may : MayPut
 
     pub together : (list : List ℕ) {list₃ : List ℕ} (list₄ : List ℕ) {list₆ list₇ : List ℕ} {behind : ℕ} (middle : ℕ) {next end : ℕ} → 2 ≤ length list → middle < length list₄
         → PiecePut (set (set list 0 one.version) 1 nodes) 2 (piece 2 one.middle f) list₃ behind
-        → PiecePut list₃ behind (renumberedEvery (width - 1) by 0 0 (piece 2 two.middle s)) list₄ middle
+        → PiecePut list₃ behind (renumbered_every (width - 1) by 0 0 (piece 2 two.middle s)) list₄ middle
         → PiecePut (set list₄ middle servers) (middle + 1) (piece (one.middle + 1) one.words f) list₆ next
-        → PiecePut list₆ next (renumberedCords by 0 0 (piece (two.middle + 1) two.words s)) list₇ end
+        → PiecePut list₆ next (renumbered_cords by 0 0 (piece (two.middle + 1) two.words s)) list₇ end
         → JoinedInFront f s list₇
     together list {list₃} list₄ {list₆} {list₇} {behind} middle {next} {end} long more a b c d =
         let v = put_word list 0 one.version (omega arith) in

@@ -4,10 +4,10 @@ use Rattle.std.specs.Prelude.{◌≡◌, List, [], ℕ, ◌+◌, ◌-◌, ◌^�
 use Rattle.outcomes.specs.Outcome.{accepted, refused}
 use Rattle.figures.specs.Figures.{at}
 use Rattle.rooms.specs.Part.{Step, good, bad}
-use Rattle.rooms.specs.Table.{Room, roomCords}
+use Rattle.rooms.specs.Table.{Room, room_cords}
 use Rattle.rooms.specs.Limits.{checked}
 use Rattle.rooms.specs.Words.{table_of}
-use Rattle.rooms.specs.Walk.{serversIndex}
+use Rattle.rooms.specs.Walk.{servers_index}
 use Rattle.join.specs.Joined.{joined}
 use Rattle.join.specs.Outcome.{JoinOutcome}
 use Rattle.join.specs.declared.Hut.{Hut}
@@ -17,30 +17,30 @@ use Rattle.join.specs.declared.JoinAnswer.{JoinAnswer}
 use Rattle.join.specs.declared.JoinAnswer.TheVariants as answers
 
 -- What is kept of a table whose room is r.
-abbrev pub hutOf : List ℕ → Room → Hut
-hutOf w r = record {
+abbrev pub hut_of : List ℕ → Room → Hut
+hut_of w r = record {
   version = at w 0;
   nodes = length r.nodes;
   servers = length r.servers;
-  cords = roomCords r;
-  middle = serversIndex w;
+  cords = room_cords r;
+  middle = servers_index w;
   words = length w;
 }
 
 -- What the check of a table gives.
-unfoldable pub examinedStep : List ℕ → Step Room → Examined
-examinedStep w (good r end) = Good (hutOf w r)
-examinedStep w (bad refusal) = Refused refusal
+unfoldable pub examined_step : List ℕ → Step Room → Examined
+examined_step w (good r end) = Good (hut_of w r)
+examined_step w (bad refusal) = Refused refusal
 
 abbrev pub examined : List ℕ → Examined
-examined w = examinedStep w (checked w 0)
+examined w = examined_step w (checked w 0)
 
 -- The table is good, and this is kept of it.
 pub record HutOf (w : List ℕ) (hut : Hut) : Type 0 where
   pub room : Room
   pub end : ℕ
   pub good-table : checked w 0 ≡ good room end
-  pub is : hut ≡ hutOf w room
+  pub is : hut ≡ hut_of w room
 
 -- Its figures are below a bound, so that two of them can be added.
 pub record Small (hut : Hut) : Type 0 where
@@ -71,6 +71,6 @@ pub record InFront (outcome : JoinOutcome) (list : List ℕ) : Type 0 where
   pub is : take (length (written outcome)) list ≡ written outcome
 
 -- How many words an answer says are written.
-abbrev pub writtenCount : JoinAnswer → ℕ
-writtenCount (answers.Accepted count) = count
-writtenCount (answers.Refused refusal) = 0
+abbrev pub written_count : JoinAnswer → ℕ
+written_count (answers.Accepted count) = count
+written_count (answers.Refused refusal) = 0

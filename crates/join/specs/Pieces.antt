@@ -10,23 +10,23 @@ renumbered up down zero = 0
 renumbered up down (suc m) = suc m + up - down
 
 -- Words of which one is renumbered, and then, after each that is, a gap of so many is not; `skip` of them are left of a gap.
-unfoldable pub renumberedEvery : (gap up down skip : ℕ) → List ℕ → List ℕ
-renumberedEvery gap up down zero (word ∷ rest) = renumbered up down word ∷ renumberedEvery gap up down gap rest
-renumberedEvery gap up down (suc skip) (word ∷ rest) = word ∷ renumberedEvery gap up down skip rest
-renumberedEvery gap up down zero [] = []
-renumberedEvery gap up down (suc skip) [] = []
+unfoldable pub renumbered_every : (gap up down skip : ℕ) → List ℕ → List ℕ
+renumbered_every gap up down zero (word ∷ rest) = renumbered up down word ∷ renumbered_every gap up down gap rest
+renumbered_every gap up down (suc skip) (word ∷ rest) = word ∷ renumbered_every gap up down skip rest
+renumbered_every gap up down zero [] = []
+renumbered_every gap up down (suc skip) [] = []
 
 -- Words of servers that start with so many cords, node and share each: the nodes are renumbered. All other words stay as they are, and so
 -- do the last ones if words of a server are missing.
-unfoldable pub renumberedCords : (up down cords : ℕ) → List ℕ → List ℕ
-renumberedCords up down (suc cords) (node ∷ share ∷ rest) = renumbered up down node ∷ share ∷ renumberedCords up down cords rest
-renumberedCords up down (suc cords) (node ∷ []) = renumbered up down node ∷ []
-renumberedCords up down (suc cords) [] = []
-renumberedCords up down zero (rank ∷ least ∷ greatest ∷ cords ∷ rest) = rank ∷ least ∷ greatest ∷ cords ∷ renumberedCords up down cords rest
-renumberedCords up down zero (rank ∷ least ∷ greatest ∷ []) = rank ∷ least ∷ greatest ∷ []
-renumberedCords up down zero (rank ∷ least ∷ []) = rank ∷ least ∷ []
-renumberedCords up down zero (rank ∷ []) = rank ∷ []
-renumberedCords up down zero [] = []
+unfoldable pub renumbered_cords : (up down cords : ℕ) → List ℕ → List ℕ
+renumbered_cords up down (suc cords) (node ∷ share ∷ rest) = renumbered up down node ∷ share ∷ renumbered_cords up down cords rest
+renumbered_cords up down (suc cords) (node ∷ []) = renumbered up down node ∷ []
+renumbered_cords up down (suc cords) [] = []
+renumbered_cords up down zero (rank ∷ least ∷ greatest ∷ cords ∷ rest) = rank ∷ least ∷ greatest ∷ cords ∷ renumbered_cords up down cords rest
+renumbered_cords up down zero (rank ∷ least ∷ greatest ∷ []) = rank ∷ least ∷ greatest ∷ []
+renumbered_cords up down zero (rank ∷ least ∷ []) = rank ∷ least ∷ []
+renumbered_cords up down zero (rank ∷ []) = rank ∷ []
+renumbered_cords up down zero [] = []
 
 -- ---- Pieces
 

@@ -6,12 +6,12 @@ use Rattle.rooms.specs.Part.{good}
 use Rattle.rooms.specs.Table.{Room}
 use Rattle.rooms.specs.Limits.{checked}
 use Rattle.rooms.specs.Words.{table_of}
-use Rattle.deals.specs.SecondDeal.{firstGrants}
-use Rattle.deals.specs.Plan.{Plan, countIn, entries, plan}
+use Rattle.deals.specs.SecondDeal.{first_grants}
+use Rattle.deals.specs.Plan.{Plan, count_in, entries, plan}
 use Rattle.deals.specs.declared.Lengths.{Lengths}
 use Rattle.deals.specs.declared.PlanList.{PlanList}
 use Rattle.deals.specs.declared.PlanRefusal.TheVariants.{DemandCount, DemandTooLarge}
-use Rattle.join.specs.Joined.{joined, joinedPlan}
+use Rattle.join.specs.Joined.{joined, joined_plan}
 use Rattle.join.specs.Outcome.{joining}
 
 -- ---- The joined table
@@ -22,13 +22,13 @@ pub record AcceptedJoin : Type 0 where
   pub second : List ℕ
   pub entries : ℕ
   pub table : List ℕ
-  pub isTable : joining first second entries ≡ accepted table
+  pub is_table : joining first second entries ≡ accepted table
   pub one : Room
-  pub oneEnd : ℕ
-  pub isOne : checked first 0 ≡ good one oneEnd
+  pub one_end : ℕ
+  pub is_one : checked first 0 ≡ good one one_end
   pub two : Room
-  pub twoEnd : ℕ
-  pub isTwo : checked second 0 ≡ good two twoEnd
+  pub two_end : ℕ
+  pub is_two : checked second 0 ≡ good two two_end
 
 -- The table is that of the room of both, and passes every check as such.
 pub record JoinedTable (j : AcceptedJoin) : Type 0 where
@@ -42,7 +42,7 @@ JoinGivesRoom = (j : AcceptedJoin) → JoinedTable j
 
 -- Lists that are long enough for the plan of a room.
 abbrev pub Ample : Room → Lengths → Type 0
-Ample r lengths = (list : PlanList) → countIn r list ≤ entries lengths list
+Ample r lengths = (list : PlanList) → count_in r list ≤ entries lengths list
 
 -- Plan of the joined table, with demands for both in order. Where it accepts those of each table, it accepts both, with lists that are long
 -- enough, and each list of the first's plan is followed by that of the second's; held nodes of the second are raised, 0 staying 0, and freed
@@ -51,14 +51,14 @@ Ample r lengths = (list : PlanList) → countIn r list ≤ entries lengths list
 pub record PlansJoined (j : AcceptedJoin) : Type 0 where
   pub planned : (d e : List ℕ) (ours theirs lengths : Lengths) (p q : Plan)
       → plan j.first d ours ≡ accepted p → plan j.second e theirs ≡ accepted q → Ample (joined j.one j.two) lengths
-      → plan j.table (d ++ e) lengths ≡ accepted (joinedPlan (length j.one.nodes) p q)
+      → plan j.table (d ++ e) lengths ≡ accepted (joined_plan (length j.one.nodes) p q)
   pub counted : (demands : List ℕ) (lengths : Lengths)
       → (length demands ≡ length j.one.servers + length j.two.servers → ⊥)
       → plan j.table demands lengths ≡ refused (DemandCount (length j.one.servers + length j.two.servers))
-  pub firstTooLarge : (d e : List ℕ) (ours lengths : Lengths) (i : ℕ)
+  pub first_too_large : (d e : List ℕ) (ours lengths : Lengths) (i : ℕ)
       → plan j.first d ours ≡ refused (DemandTooLarge i) → length e ≡ length j.two.servers
       → plan j.table (d ++ e) lengths ≡ refused (DemandTooLarge i)
-  pub secondTooLarge : (d e : List ℕ) (ours theirs lengths : Lengths) (p : Plan) (i : ℕ)
+  pub second_too_large : (d e : List ℕ) (ours theirs lengths : Lengths) (p : Plan) (i : ℕ)
       → plan j.first d ours ≡ accepted p → plan j.second e theirs ≡ refused (DemandTooLarge i)
       → plan j.table (d ++ e) lengths ≡ refused (DemandTooLarge (length j.one.servers + i))
 
@@ -68,4 +68,4 @@ JoinPlansBoth = (j : AcceptedJoin) → PlansJoined j
 -- The first deal too: its grants are the first's followed by the second's.
 abbrev pub FirstGrantsJoin : Type 0
 FirstGrantsJoin = (j : AcceptedJoin) (d e : List ℕ) → length d ≡ length j.one.servers
-    → firstGrants (joined j.one j.two) (d ++ e) ≡ firstGrants j.one d ++ firstGrants j.two e
+    → first_grants (joined j.one j.two) (d ++ e) ≡ first_grants j.one d ++ first_grants j.two e

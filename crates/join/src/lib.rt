@@ -7,13 +7,13 @@ ghost use Rattle.words.specs.Bytes.{words_of};
 ghost use Rattle.calls.specs.Call.{answered};
 ghost use Rattle.figures.specs.Figures.{at};
 ghost use Rattle.rooms.specs.Part.{Good};
-ghost use Rattle.rooms.specs.Table.{mostWords, roomCords};
+ghost use Rattle.rooms.specs.Table.{most_words, room_cords};
 ghost use Rattle.rooms.specs.Limits.{checked};
 ghost use Rattle.rooms.specs.Told.{told};
-ghost use Rattle.rooms.specs.Walk.{serversIndex};
-ghost use Rattle.join.specs.Outcome.{joinRefusalNumber, joinRefusalPlace, joinNumber, joinFigure, joining, answer_of};
+ghost use Rattle.rooms.specs.Walk.{servers_index};
+ghost use Rattle.join.specs.Outcome.{join_refusal_number, join_refusal_place, join_number, join_figure, joining, answer_of};
 ghost use Rattle.join.specs.Call.{JoinCall};
-ghost use Rattle.join.specs.Huts.{examined, HutOf, Small, MayPutTogether, JoinedInFront, InFront, writtenCount};
+ghost use Rattle.join.specs.Huts.{examined, HutOf, Small, MayPutTogether, JoinedInFront, InFront, written_count};
 
 use crate::pieces::{node_width, put_nodes, put_servers, put_words};
 use calls::ANSWER_BYTES;
@@ -64,7 +64,7 @@ pub enum Examined {
 impl JoinRefusal {
     // The refusal's number.
     pub fn number(self) -> u64
-        ensures is { result ≡ joinRefusalNumber self }
+        ensures is { result ≡ join_refusal_number self }
     {
         match self {
             JoinRefusal::First(refusal) => refusal.number(),
@@ -79,7 +79,7 @@ impl JoinRefusal {
 
     // The refusal's place.
     pub fn place(self) -> usize
-        ensures is { result ≡ joinRefusalPlace self }
+        ensures is { result ≡ join_refusal_place self }
     {
         match self {
             JoinRefusal::First(refusal) => refusal.place(),
@@ -96,7 +96,7 @@ impl JoinRefusal {
 impl JoinAnswer {
     // The refusal's number, or 0.
     pub fn number(self) -> u64
-        ensures is { result ≡ joinNumber self }
+        ensures is { result ≡ join_number self }
     {
         match self {
             JoinAnswer::Accepted(_) => 0,
@@ -106,7 +106,7 @@ impl JoinAnswer {
 
     // The count of words, or the refusal's place.
     pub fn figure(self) -> usize
-        ensures is { result ≡ joinFigure self }
+        ensures is { result ≡ join_figure self }
     {
         match self {
             JoinAnswer::Accepted(count) => count,
@@ -132,7 +132,7 @@ fn join_by(
     table: &mut [u8],
     answer: &mut [u8],
 ) -> u32
-    requires deciding { suc mostWords ≤ length words.old }
+    requires deciding { suc most_words ≤ length words.old }
     ensures call { JoinCall first.now second.now table.old answer.old
         result table.new answer.new }
 {
@@ -148,7 +148,7 @@ fn join_by(
 
 // The answer on two tables whose joined one is to go to a list of `space` words. An accepted one stands at the front of `words`.
 fn join_words(first: &[u8], second: &[u8], words: &mut [u32], space: usize) -> JoinAnswer
-    requires deciding { suc mostWords ≤ length words.old }
+    requires deciding { suc most_words ≤ length words.old }
     ensures answers { result ≡ answer_of (joining (words_of first.now) (words_of second.now) space) }
     ensures writes { InFront (joining (words_of first.now) (words_of second.now) space) words.new }
 {
@@ -172,8 +172,8 @@ fn join_words(first: &[u8], second: &[u8], words: &mut [u32], space: usize) -> J
 
 // The check of a table in bytes, by way of a list that takes its words.
 fn check_bytes(bytes: &[u8], words: &mut [u32]) -> Checked
-    requires deciding { suc mostWords ≤ length words.old }
-    ensures is { result ≡ told roomCords (checked (words_of bytes.now) 0) }
+    requires deciding { suc most_words ≤ length words.old }
+    ensures is { result ≡ told room_cords (checked (words_of bytes.now) 0) }
 {
     let count = words::load(bytes, words);
     rooms::check(&words[..count])
@@ -203,7 +203,7 @@ fn hut_in(bytes: &[u8]) -> Hut
 // The index of the count of servers, in a good table that stands in bytes.
 fn middle_in(bytes: &[u8]) -> usize
     requires good { Good (checked (words_of bytes.now) 0) }
-    ensures is { (result ≡ serversIndex (words_of bytes.now)) × (result < length bytes.now / 4) }
+    ensures is { (result ≡ servers_index (words_of bytes.now)) × (result < length bytes.now / 4) }
 {
     let percents = has_percents(word_in(bytes, 0));
     node_index(percents, word_index(word_in(bytes, 1)))
@@ -286,7 +286,7 @@ fn put_together(first: &[u8], one: Hut, second: &[u8], two: Hut, words: &mut [u3
 
 // How many words an answer says are written: none where refused.
 fn written_count(told: JoinAnswer) -> usize
-    ensures is { result ≡ writtenCount told }
+    ensures is { result ≡ written_count told }
 {
     match told {
         JoinAnswer::Accepted(count) => count,
@@ -296,7 +296,7 @@ fn written_count(told: JoinAnswer) -> usize
 
 // The answer's number and figure, into its buffer.
 fn tell(told: JoinAnswer, answer: &mut [u8])
-    ensures told { answer.new ≡ answered 2 (joinNumber told ∷ joinFigure told ∷ []) answer.old }
+    ensures told { answer.new ≡ answered 2 (join_number told ∷ join_figure told ∷ []) answer.old }
 {
     let number = told.number();
     let figure = told.figure() as u64;

@@ -3,15 +3,15 @@
 ghost use Rattle.std.specs.Prelude.{◌≡◌, ◌+◌, ◌-◌, ◌*◌, ◌^◌, ◌≤◌, ◌<◌, length, get_or};
 ghost use Rattle.words.specs.Bytes.{words_of};
 ghost use Rattle.figures.specs.Bounds.{AllBelow};
-ghost use Rattle.rooms.specs.Table.{nodeWords, form_of};
-ghost use Rattle.join.specs.Pieces.{renumbered, renumberedEvery, renumberedCords, piece, PiecePut, MayPut};
+ghost use Rattle.rooms.specs.Table.{node_words, form_of};
+ghost use Rattle.join.specs.Pieces.{renumbered, renumbered_every, renumbered_cords, piece, PiecePut, MayPut};
 
 use figures::word_index;
 use rooms::form::has_percents;
 
 // How many words a node has in a version.
 pub fn node_width(version: u32) -> usize
-    ensures is { (result ≡ nodeWords (form_of version).percents) × (2 ≤ result) × (result ≤ 3) }
+    ensures is { (result ≡ node_words (form_of version).percents) × (2 ≤ result) × (result ≤ 3) }
 {
     if has_percents(version) { 3 } else { 2 }
 }
@@ -31,7 +31,7 @@ fn renumbered(number: u32, up: u32, down: u32) -> u32
 // Every word that is a multiple of `width` from the first is renumbered: the parents of nodes.
 fn renumber_every(words: &mut [u32], width: usize, up: u32, down: u32)
     requires fits { (1 ≤ width) × (width ≤ 3) × (up < 2 ^ 31) × AllBelow (2 ^ 31) words.old }
-    ensures is { words.new ≡ renumberedEvery (width - 1) up down 0 words.old }
+    ensures is { words.new ≡ renumbered_every (width - 1) up down 0 words.old }
 {
     let mut i = 0;
     while i < words.len() {
@@ -43,7 +43,7 @@ fn renumber_every(words: &mut [u32], width: usize, up: u32, down: u32)
 // The nodes of cords are renumbered, in the words of servers with their cords.
 fn renumber_cords(words: &mut [u32], up: u32, down: u32)
     requires fits { (up < 2 ^ 31) × AllBelow (2 ^ 31) words.old }
-    ensures is { words.new ≡ renumberedCords up down 0 words.old }
+    ensures is { words.new ≡ renumbered_cords up down 0 words.old }
 {
     let mut i = 0;
     let mut left = 0;
@@ -93,7 +93,7 @@ pub fn put_nodes(
 ) -> usize
     requires may_put { MayPut bytes.now from to words.old at }
     requires fits { (1 ≤ width) × (width ≤ 3) × (up < 2 ^ 31) × AllBelow (2 ^ 31) (words_of bytes.now) }
-    ensures put { PiecePut words.old at (renumberedEvery (width - 1) up down 0 (piece from to (words_of bytes.now)))
+    ensures put { PiecePut words.old at (renumbered_every (width - 1) up down 0 (piece from to (words_of bytes.now)))
         words.new result }
 {
     let end = put_words(bytes, from, to, words, at);
@@ -113,7 +113,7 @@ pub fn put_servers(
 ) -> usize
     requires may_put { MayPut bytes.now from to words.old at }
     requires fits { (up < 2 ^ 31) × AllBelow (2 ^ 31) (words_of bytes.now) }
-    ensures put { PiecePut words.old at (renumberedCords up down 0 (piece from to (words_of bytes.now)))
+    ensures put { PiecePut words.old at (renumbered_cords up down 0 (piece from to (words_of bytes.now)))
         words.new result }
 {
     let end = put_words(bytes, from, to, words, at);

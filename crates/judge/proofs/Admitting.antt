@@ -8,10 +8,10 @@ use lib.ListN.{length}
 use borrow.Author.Tests.{eq-eqb, ne_eqb}
 use Rattle.outcomes.specs.Outcome.{accepted, refused, unless}
 use Rattle.rooms.specs.Part.{good}
-use Rattle.rooms.specs.Table.{Room, roomCords}
-use Rattle.rooms.specs.Limits.{checked, lowsTold}
+use Rattle.rooms.specs.Table.{Room, room_cords}
+use Rattle.rooms.specs.Limits.{checked, lows_told}
 use Rattle.rooms.specs.Rows.{OfRoom, ServersFit, CordsFit, ScaleIs}
-use Rattle.layout.specs.Outcome.{LoadOutcome, loading, loadedOf}
+use Rattle.layout.specs.Outcome.{LoadOutcome, loading, loaded_of}
 use Rattle.layout.specs.declared.room.Counts.{Counts}
 use Rattle.layout.specs.declared.room.LoadRefusal.{LoadRefusal}
 use Rattle.layout.specs.declared.room.Loaded.{Loaded}
@@ -19,40 +19,40 @@ use Rattle.layout.specs.declared.room.Loaded.TheVariants as loads
 use Rattle.layout.proofs.Loads.{RoomFound, found-good, nodes-fit, cords-count, demands-fit, lows-long, lows-told}
 use Rattle.deals.specs.Judge.{verdict}
 use Rattle.deals.specs.declared.Verdict.{Verdict}
-use Rattle.judge.specs.Outcome.{judgeLoaded, judging, answer_of}
+use Rattle.judge.specs.Outcome.{judge_loaded, judging, answer_of}
 use Rattle.judge.specs.Lists.{NodesGiven}
 use Rattle.judge.specs.declared.JudgeRefusal.TheVariants.{Load, GrantCount}
 use Rattle.judge.specs.declared.Judged.TheVariants as judged
 
 module _ (table demands grants : List ℕ) where
-  judging-is : {o : LoadOutcome} → loading table demands ≡ o → judging table demands grants ≡ judgeLoaded o demands grants
+  judging-is : {o : LoadOutcome} → loading table demands ≡ o → judging table demands grants ≡ judge_loaded o demands grants
   unfolding judging
-  judging-is e = ap (λ (o : LoadOutcome). judgeLoaded o demands grants) e
+  judging-is e = ap (λ (o : LoadOutcome). judge_loaded o demands grants) e
 
   -- ---- Refused by loading
 
-  by-refusal : (q : LoadRefusal) → judgeLoaded (refused q) demands grants ≡ refused (Load q)
-  unfolding judgeLoaded
+  by-refusal : (q : LoadRefusal) → judge_loaded (refused q) demands grants ≡ refused (Load q)
+  unfolding judge_loaded
   by-refusal q = refl
 
-  pub load_told : {answer : Loaded} {q : LoadRefusal} → answer ≡ loadedOf (loading table demands) → answer ≡ loads.Refused q
+  pub load_told : {answer : Loaded} {q : LoadRefusal} → answer ≡ loaded_of (loading table demands) → answer ≡ loads.Refused q
       → judged.Refused (Load q) ≡ answer_of (judging table demands grants)
   load_told {q = q} d e = go (loading table demands) refl (sym e ∙ d)
     where
-      go : (o : LoadOutcome) → loading table demands ≡ o → loads.Refused q ≡ loadedOf o → judged.Refused (Load q) ≡ answer_of (judging table demands grants)
+      go : (o : LoadOutcome) → loading table demands ≡ o → loads.Refused q ≡ loaded_of o → judged.Refused (Load q) ≡ answer_of (judging table demands grants)
       go (accepted r) is told = absurd (let z : ◌≡◌ {A = ℕ} 0 1 = cc in omega arith)
       go (refused p) is told = let same : q ≡ p = cc in ap (λ (x : LoadRefusal). judged.Refused (Load x)) same ∙ sym (ap answer_of (judging-is is ∙ by-refusal p))
 
   -- ---- A room that is loaded
 
   module _ (r : Room) where
-    by_count : (length grants ≡ roomCords r → ⊥) → judgeLoaded (accepted r) demands grants ≡ refused (GrantCount (roomCords r))
-    unfolding judgeLoaded unless
-    by_count n = rw (ne_eqb (length grants) (roomCords r) n) refl
+    by_count : (length grants ≡ room_cords r → ⊥) → judge_loaded (accepted r) demands grants ≡ refused (GrantCount (room_cords r))
+    unfolding judge_loaded unless
+    by_count n = rw (ne_eqb (length grants) (room_cords r) n) refl
 
-    by-verdict : length grants ≡ roomCords r → judgeLoaded (accepted r) demands grants ≡ accepted (verdict r demands grants)
-    unfolding judgeLoaded unless
-    by-verdict e = rw (eq-eqb (length grants) (roomCords r) e) refl
+    by-verdict : length grants ≡ room_cords r → judge_loaded (accepted r) demands grants ≡ accepted (verdict r demands grants)
+    unfolding judge_loaded unless
+    by-verdict e = rw (eq-eqb (length grants) (room_cords r) e) refl
 
   module _ {counts : Counts} (f : RoomFound table demands counts) where
     pub count-told : (length grants ≡ counts.cords → ⊥) → judged.Refused (GrantCount counts.cords) ≡ answer_of (judging table demands grants)
@@ -73,7 +73,7 @@ module _ (table demands grants : List ℕ) where
     pub servers-fit : ServersFit table (length demands)
     servers-fit = demands-fit f
 
-    pub nodes-given : {beneath : List ℕ} → beneath ≡ lowsTold (checked table 0) → NodesGiven table counts.nodes beneath
+    pub nodes-given : {beneath : List ℕ} → beneath ≡ lows_told (checked table 0) → NodesGiven table counts.nodes beneath
     nodes-given {beneath} e = record {
       good-table = found-good f;
       nodes-fit = nodes-fit f;
@@ -83,7 +83,7 @@ module _ (table demands grants : List ℕ) where
 
     module _ (size : length grants ≡ counts.cords) where
       pub grants-fit : CordsFit table (length grants)
-      grants-fit = of-found (λ r. length grants ≡ roomCords r) (size ∙ cords-count f)
+      grants-fit = of-found (λ r. length grants ≡ room_cords r) (size ∙ cords-count f)
 
       pub verdict-told : {v : Verdict} → ((r : Room) (end : ℕ) → checked table 0 ≡ good r end → v ≡ verdict r demands grants) → judged.Accepted v ≡ answer_of (judging table demands grants)
       verdict-told is =

@@ -3,17 +3,17 @@
 use Rattle.std.specs.Prelude.{List, [], ◌∷◌, ℕ}
 use Rattle.words.specs.Bytes.{words_of}
 use Rattle.calls.specs.Call.{Call}
-use Rattle.deals.specs.Judge.{verdictNumber, verdictNames, verdictRank}
-use Rattle.judge.specs.Outcome.{judging, answer_of, judgeRefusalNumber, judgeRefusalPlace}
+use Rattle.deals.specs.Judge.{verdict_number, verdict_names, verdict_rank}
+use Rattle.judge.specs.Outcome.{judging, answer_of, judge_refusal_number, judge_refusal_place}
 use Rattle.judge.specs.declared.Judged.{Judged}
 use Rattle.judge.specs.declared.Judged.TheVariants.{Accepted, Refused}
 
 -- The numbers of an answer. Accepted: 0, the verdict's number, what it names and its rank. Refused: the number and the place.
-abbrev pub judgedNumbers : Judged → List ℕ
-judgedNumbers (Accepted v) = 0 ∷ verdictNumber v ∷ verdictNames v ∷ verdictRank v ∷ []
-judgedNumbers (Refused refusal) = judgeRefusalNumber refusal ∷ judgeRefusalPlace refusal ∷ []
+abbrev pub judged_numbers : Judged → List ℕ
+judged_numbers (Accepted v) = 0 ∷ verdict_number v ∷ verdict_names v ∷ verdict_rank v ∷ []
+judged_numbers (Refused refusal) = judge_refusal_number refusal ∷ judge_refusal_place refusal ∷ []
 
 -- Judge, called from C, with an answer of up to four numbers. It writes no other buffer.
 abbrev pub JudgeCall : (table demands grants answer : List ℕ) (r : ℕ) (answer' : List ℕ) → Type 0
 JudgeCall table demands grants answer r answer' =
-    Call 4 (judgedNumbers (answer_of (judging (words_of table) (words_of demands) (words_of grants)))) answer (λ stored. Unit) r answer'
+    Call 4 (judged_numbers (answer_of (judging (words_of table) (words_of demands) (words_of grants)))) answer (λ stored. Unit) r answer'

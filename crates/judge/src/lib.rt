@@ -1,11 +1,11 @@
 // Judge: what is wrong with a list of grants that somebody else made, by the first deal's wants. It writes to no list.
 ghost use Rattle.std.specs.Prelude.{◌≡◌, List, ℕ, suc, ◌≤◌, length};
-ghost use Rattle.rooms.specs.Table.{mostNodes, mostServers, mostCords, mostWords};
+ghost use Rattle.rooms.specs.Table.{most_nodes, most_servers, most_cords, most_words};
 ghost use Rattle.rooms.specs.Rows.{OfRoom, ServersFit, CordsFit, ScaleIs};
 ghost use Rattle.deals.specs.Judge.{verdict};
 ghost use Rattle.calls.specs.Call.{answered};
-ghost use Rattle.judge.specs.Outcome.{judging, answer_of, judgeRefusalNumber, judgeRefusalPlace};
-ghost use Rattle.judge.specs.Call.{judgedNumbers, JudgeCall};
+ghost use Rattle.judge.specs.Outcome.{judging, answer_of, judge_refusal_number, judge_refusal_place};
+ghost use Rattle.judge.specs.Call.{judged_numbers, JudgeCall};
 ghost use Rattle.judge.specs.Lists.{NodesGiven, CordsPass, SomePass};
 
 use deals::Verdict;
@@ -39,7 +39,7 @@ pub enum Judged {
 impl JudgeRefusal {
     // The refusal's number.
     pub fn number(self) -> u64
-        ensures result { result ≡ judgeRefusalNumber self }
+        ensures result { result ≡ judge_refusal_number self }
     {
         match self {
             JudgeRefusal::Load(refusal) => refusal.number(),
@@ -49,7 +49,7 @@ impl JudgeRefusal {
 
     // The refusal's place.
     pub fn place(self) -> usize
-        ensures result { result ≡ judgeRefusalPlace self }
+        ensures result { result ≡ judge_refusal_place self }
     {
         match self {
             JudgeRefusal::Load(refusal) => refusal.place(),
@@ -69,7 +69,7 @@ fn judge_nodes(
     wanting: &mut [u16],
 ) -> Verdict
     requires table { NodesGiven table.now nodes beneath.now }
-    requires lengths { (mostNodes ≤ length given.old) × (length given.old ≤ length raised.old)
+    requires lengths { (most_nodes ≤ length given.old) × (length given.old ≤ length raised.old)
         × (length given.old ≤ length wanting.old) }
     requires noted { SomePass table.now (length given.old) given.old raised.old wanting.old }
     ensures result { OfRoom table.now (λ r. (demands grants : List ℕ) → CordsPass r demands grants (length given.old)
@@ -183,7 +183,7 @@ fn judge_by(
     watts: &mut [u32],
     answer: &mut [u8],
 ) -> u32
-    requires space { (suc mostWords ≤ length words.old) × (suc mostServers ≤ length figures.old) × (suc mostCords ≤ length watts.old) }
+    requires space { (suc most_words ≤ length words.old) × (suc most_servers ≤ length figures.old) × (suc most_cords ≤ length watts.old) }
     ensures called { JudgeCall table.now demands.now grants.now answer.old result
         answer.new }
 {
@@ -205,7 +205,7 @@ fn judge_by(
 // The answer, at the front of its buffer, which has space for it.
 fn tell(judged: Judged, answer: &mut [u8])
     requires long { 32 ≤ length answer.old }
-    ensures told { answer.new ≡ answered 4 (judgedNumbers judged) answer.old }
+    ensures told { answer.new ≡ answered 4 (judged_numbers judged) answer.old }
 {
     match judged {
         Judged::Accepted(verdict) => {

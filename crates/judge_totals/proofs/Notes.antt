@@ -12,16 +12,16 @@ use borrow.Author.Tests.{ltb-true, ltb-false, lt-ltb, le-ltb, leb-true, leb-fals
 use Rattle.figures.specs.Figures.{at}
 use Rattle.figures.specs.Sums.{on}
 use Rattle.figures.proofs.Sums.{on-yes, on-no, on-le}
-use Rattle.rooms.specs.Table.{highestRank}
+use Rattle.rooms.specs.Table.{highest_rank}
 use Rattle.figures.specs.Credits.{credited}
 use Rattle.figures.proofs.Credits.{on-most, credited-at}
 use Rattle.deals.specs.Judge.{highest}
-use Rattle.judge_totals.specs.Totals.{Noted, merged, heldBack}
+use Rattle.judge_totals.specs.Totals.{Noted, merged, held_back}
 
 -- ---- The same figures
 
 pub noted-same : {given most given' most' : ℕ → ℕ} {watts raised wanting watts' raised' wanting' : ℕ} → Noted given most watts raised wanting
-    → ((j : ℕ) → j < highestRank → given' j ≡ given j) → ((j : ℕ) → j < highestRank → most' j ≡ most j)
+    → ((j : ℕ) → j < highest_rank → given' j ≡ given j) → ((j : ℕ) → j < highest_rank → most' j ≡ most j)
     → watts' ≡ watts → raised' ≡ raised → wanting' ≡ wanting → Noted given' most' watts' raised' wanting'
 noted-same n g m w r h =
     let first = g 0 (omega arith) in
@@ -33,11 +33,11 @@ noted-same n g m w r h =
       within = λ j l. omega (arith, g j l, m j l, n.within j l);
       rank = omega (arith, n.rank);
       none-higher = λ j l k. omega (arith, g j l, m j l, n.none-higher j l (omega arith));
-      less = λ j e. let l : j < highestRank = omega (arith, n.rank) in omega (arith, g j l, m j l, n.less j (sym h ∙ e));
+      less = λ j e. let l : j < highest_rank = omega (arith, n.rank) in omega (arith, g j l, m j l, n.less j (sym h ∙ e));
     }
 
 -- Nothing.
-pub noted-none : Noted (λ j. 0) (λ j. 0) 0 highestRank 0
+pub noted-none : Noted (λ j. 0) (λ j. 0) 0 highest_rank 0
 noted-none = record {
   watts-are = refl;
   falls = λ j l. omega arith;
@@ -52,7 +52,7 @@ noted-none = record {
 -- ---- One cord
 
 -- A cord of a level with x watts, which could have y: it counts from the lowest level to its own.
-module _ (level x y : ℕ) (l : level < highestRank) (le : x ≤ y) where
+module _ (level x y : ℕ) (l : level < highest_rank) (le : x ≤ y) where
   counts : (j a : ℕ) → j ≤ level → on (leb j level) a ≡ a
   counts j a h = on-yes (leb j level) a (le-leb j level h)
 
@@ -60,7 +60,7 @@ module _ (level x y : ℕ) (l : level < highestRank) (le : x ≤ y) where
   not-above j a h = on-no (leb j level) a (lt-leb j level h)
 
   pub noted-cord : (some wants : Bool) → (some ≡ true → 0 < x) → (some ≡ false → x ≡ 0) → (wants ≡ true → x < y) → (wants ≡ false → x ≡ y)
-      → Noted (λ j. on (leb j level) x) (λ j. on (leb j level) y) x (cond some (suc level) highestRank) (cond wants (suc level) 0)
+      → Noted (λ j. on (leb j level) x) (λ j. on (leb j level) y) x (cond some (suc level) highest_rank) (cond wants (suc level) 0)
   noted-cord some wants s s' w w' = record {
     watts-are = sym (counts 0 x (omega arith));
     falls = λ j k. omega (arith, on-most (leb j level) x, counts 0 x (omega arith));
@@ -72,16 +72,16 @@ module _ (level x y : ℕ) (l : level < highestRank) (le : x ≤ y) where
     less = λ j e. own wants w j e;
   }
     where
-      lowest : (t : Bool) → (t ≡ true → 0 < x) → (t ≡ false → x ≡ 0) → (j : ℕ) → j < cond t (suc level) highestRank → on (leb j level) x ≡ on (leb 0 level) x
+      lowest : (t : Bool) → (t ≡ true → 0 < x) → (t ≡ false → x ≡ 0) → (j : ℕ) → j < cond t (suc level) highest_rank → on (leb j level) x ≡ on (leb 0 level) x
       lowest true s s' j b = counts j x (omega arith) ∙ sym (counts 0 x (omega arith))
       lowest false s s' j b = omega (arith, on-most (leb j level) x, on-most (leb 0 level) x, s' refl)
 
-      lower : (t : Bool) → (t ≡ true → 0 < x) → (t ≡ false → x ≡ 0) → (j : ℕ) → j < highestRank → cond t (suc level) highestRank ≤ j
+      lower : (t : Bool) → (t ≡ true → 0 < x) → (t ≡ false → x ≡ 0) → (j : ℕ) → j < highest_rank → cond t (suc level) highest_rank ≤ j
           → on (leb j level) x < on (leb 0 level) x
       lower true s s' j k b = omega (arith, not-above j x (omega arith), counts 0 x (omega arith), s refl)
       lower false s s' j k b = absurd (omega arith)
 
-      in-range : (t : Bool) → cond t (suc level) 0 ≤ highestRank
+      in-range : (t : Bool) → cond t (suc level) 0 ≤ highest_rank
       in-range true = omega arith
       in-range false = omega arith
 
@@ -97,11 +97,11 @@ module _ (level x y : ℕ) (l : level < highestRank) (le : x ≤ y) where
 
 module _ {given most given' most' : ℕ → ℕ} {watts raised wanting watts' raised' wanting' : ℕ}
     (n : Noted given most watts raised wanting) (m : Noted given' most' watts' raised' wanting') where
-  lower-both : (j : ℕ) → j < highestRank → min raised raised' ≤ j → (t : Bool) → leb raised j ≡ t → given j + given' j < given 0 + given' 0
+  lower-both : (j : ℕ) → j < highest_rank → min raised raised' ≤ j → (t : Bool) → leb raised j ≡ t → given j + given' j < given 0 + given' 0
   lower-both j l k true e = omega (arith, n.some-lower j l (leb-true raised j e), m.falls j l)
   lower-both j l k false e = omega (arith, n.falls j l, m.some-lower j l (omega (arith, leb-false raised j e)))
 
-  less_both : (j : ℕ) → j < highestRank → max wanting wanting' ≡ suc j → (t : Bool) → eqb wanting (suc j) ≡ t → given j + given' j < most j + most' j
+  less_both : (j : ℕ) → j < highest_rank → max wanting wanting' ≡ suc j → (t : Bool) → eqb wanting (suc j) ≡ t → given j + given' j < most j + most' j
   less_both j l e true q = omega (arith, n.less j (eqb-true wanting (suc j) q), m.within j l)
   less_both j l e false q =
       let other : wanting' ≡ suc j = omega (arith, eqb-false wanting (suc j) q) in
@@ -158,11 +158,11 @@ module _ {given most : ℕ → ℕ} {watts raised wanting : ℕ} (n : Noted give
     less = λ j e. absurd (omega arith);
   }
     where
-      stays : (j : ℕ) → j < highestRank → (t : Bool) → ltb j raised ≡ t → given j ≡ most-here j
+      stays : (j : ℕ) → j < highest_rank → (t : Bool) → ltb j raised ≡ t → given j ≡ most-here j
       stays j l true e = omega (arith, n.watts-are, n.none-lower j l (ltb-true j raised e), n.within j l)
       stays j l false e = omega (arith, n.watts-are, n.falls j l, n.none-higher j l (omega (arith, ltb-false j raised e)))
 
-  pub noted-held : Here (heldBack limit watts raised wanting)
+  pub noted-held : Here (held_back limit watts raised wanting)
   noted-held = go (ltb watts limit) refl (ltb raised wanting) refl
     where
       go : (t : Bool) → ltb watts limit ≡ t → (u : Bool) → ltb raised wanting ≡ u → Here (cond t wanting (cond u wanting 0))
@@ -241,7 +241,7 @@ highest-at test (suc k) rank l none here = go (λ less. highest-at test k rank l
         rw (none k (omega arith) less) (rest less)
 
 pub noted-highest : {given most : ℕ → ℕ} {watts raised wanting : ℕ} → Noted given most watts raised wanting
-    → highest (λ rank. ltb (given (rank - 1)) (most (rank - 1))) highestRank ≡ wanting
-noted-highest {given} {most} {wanting = wanting} n = highest-at (λ rank. ltb (given (rank - 1)) (most (rank - 1))) highestRank wanting n.rank
+    → highest (λ rank. ltb (given (rank - 1)) (most (rank - 1))) highest_rank ≡ wanting
+noted-highest {given} {most} {wanting = wanting} n = highest-at (λ rank. ltb (given (rank - 1)) (most (rank - 1))) highest_rank wanting n.rank
     (λ j l k. let e : suc j - 1 ≡ j = omega arith in rw e (le-ltb (given j) (most j) (omega (arith, n.none-higher j l k))))
     (λ j k. let e : suc j - 1 ≡ j = omega arith in rw e (lt-ltb (given j) (most j) (n.less j k)))

@@ -16,25 +16,25 @@ use Rattle.figures.specs.Sums.{on, sum}
 use Rattle.figures.proofs.Filled.{zeros-at}
 use Rattle.figures.proofs.Sums.{sum-suc, sum-none, sum-cong, up}
 use Rattle.figures.proofs.Lists.{sum-most}
-use Rattle.rooms.specs.Table.{mostNodes, mostCords, mostWatts, highestRank}
-use Rattle.rooms.specs.Limits.{firstNode}
+use Rattle.rooms.specs.Table.{most_nodes, most_cords, most_watts, highest_rank}
+use Rattle.rooms.specs.Limits.{first_node}
 use Rattle.figures.specs.Credits.{credited}
-use Rattle.rooms.specs.Credits.{treeSum, exceeds}
+use Rattle.rooms.specs.Credits.{tree_sum, exceeds}
 use Rattle.figures.proofs.Credits.{on-most, credited-length, credited-at, credited-past}
-use Rattle.rooms.proofs.Credits.{treeSum-step}
+use Rattle.rooms.proofs.Credits.{tree_sum-step}
 use Rattle.rooms.proofs.Gather.{Holds, holds-whole, Gathered, gathered-start, gathered-turn}
-use Rattle.rooms.proofs.Search.{firstNode-cong}
+use Rattle.rooms.proofs.Search.{first_node-cong}
 use Rattle.deals.specs.Ranks.{NodeLists}
-use Rattle.judge_totals.specs.Totals.{GrantedCords, overLow, onNode, fromLevel, Noted, AllNoted, Unnoted, CordsNoted, merged, heldBack, IsMost, NodesNoted, overFrom, Compared}
+use Rattle.judge_totals.specs.Totals.{GrantedCords, over_low, on_node, from_level, Noted, AllNoted, Unnoted, CordsNoted, merged, held_back, IsMost, NodesNoted, over_from, Compared}
 use Rattle.judge_totals.proofs.Notes.{noted-same, noted-none, noted-cord, noted-held, noted-next, noted-highest, merged-length, merged-past}
 use Rattle.judge_totals.proofs.Searching.{Searching, searching-start, searching-next, first_more}
-use Rattle.rooms.specs.Trees.{childSum, sumBeneath}
+use Rattle.rooms.specs.Trees.{child_sum, sum_beneath}
 
 -- ---- The cords
 
 -- What the first c cords on the node at place n have, of a level and above.
 abbrev sofar : (nodes levels : List ℕ) → (ℕ → ℕ) → ℕ → ℕ → ℕ → ℕ
-sofar nodes levels figure c j n = sum c (λ h. on (eqb (at nodes h) (suc n)) (fromLevel levels j figure h))
+sofar nodes levels figure c j n = sum c (λ h. on (eqb (at nodes h) (suc n)) (from_level levels j figure h))
 
 -- The first c cords had their turns: none of them is below its low, and they are noted if none is above its want. The lists keep their
 -- lengths.
@@ -44,13 +44,13 @@ pub record CordTurns (nodes levels lows wants grants : List ℕ) (gn rn wn c abo
   pub wanting-size : length wanting ≡ wn
   pub small : (n : ℕ) → at given n ≤ c * 2 ^ 32
   pub below : Searching (length nodes) (λ h. ltb (at grants h) (at lows h)) c
-  pub above-is : above ≡ firstNode c 0 (λ h. ltb (at wants h) (at grants h))
-  pub noted : above ≡ 0 → AllNoted gn (sofar nodes levels (overLow lows grants) c) (sofar nodes levels (overLow lows wants) c) given raised wanting
+  pub above-is : above ≡ first_node c 0 (λ h. ltb (at wants h) (at grants h))
+  pub noted : above ≡ 0 → AllNoted gn (sofar nodes levels (over_low lows grants) c) (sofar nodes levels (over_low lows wants) c) given raised wanting
 
 module _ {nodes levels lows wants grants : List ℕ} where
   pub cords-start : {given raised wanting : List ℕ} → ((n : ℕ) → at given n ≡ 0) → Unnoted (length given) given raised wanting
       → CordTurns nodes levels lows wants grants (length given) (length raised) (length wanting) 0 0 given raised wanting
-  unfolding firstNode
+  unfolding first_node
   cords-start zeros none = record {
     given-size = refl;
     raised-size = refl;
@@ -63,18 +63,18 @@ module _ {nodes levels lows wants grants : List ℕ} where
 
   module _ {gn rn wn c above : ℕ} {given raised wanting : List ℕ} (inv : CordTurns nodes levels lows wants grants gn rn wn c above given raised wanting) where
     pub cords-end : length nodes ≤ c → above ≡ 0 → CordsNoted gn nodes levels lows wants grants given raised wanting
-    unfolding onNode
+    unfolding on_node
     cords-end h z n l =
         let e : length nodes ≡ c = omega (arith, inv.below.all) in
         noted-same (inv.noted z n l)
-        (λ j k. ap (λ (x : ℕ). sofar nodes levels (overLow lows grants) x j n) e) (λ j k. ap (λ (x : ℕ). sofar nodes levels (overLow lows wants) x j n) e) refl refl refl
+        (λ j k. ap (λ (x : ℕ). sofar nodes levels (over_low lows grants) x j n) e) (λ j k. ap (λ (x : ℕ). sofar nodes levels (over_low lows wants) x j n) e) refl refl refl
 
-    pub above-end : length nodes ≤ c → above ≡ firstNode (length nodes) 0 (λ h. ltb (at wants h) (at grants h))
+    pub above-end : length nodes ≤ c → above ≡ first_node (length nodes) 0 (λ h. ltb (at wants h) (at grants h))
     above-end h =
         let e : c ≡ length nodes = omega (arith, inv.below.all) in
-        inv.above-is ∙ ap (λ (k : ℕ). firstNode k 0 (λ h. ltb (at wants h) (at grants h))) e
+        inv.above-is ∙ ap (λ (k : ℕ). first_node k 0 (λ h. ltb (at wants h) (at grants h))) e
 
-    module _ (l : c < length nodes) (ranked : at levels c < highestRank) (least : at lows c ≤ at grants c) where
+    module _ (l : c < length nodes) (ranked : at levels c < highest_rank) (least : at lows c ≤ at grants c) where
       abbrev level : ℕ
       level = at levels c
 
@@ -94,35 +94,35 @@ module _ {nodes levels lows wants grants : List ℕ} where
           go false e false f z = (omega (arith, ltb-false 0 above e), ltb-false (at wants c) (at grants c) f)
 
       -- The cord's own note.
-      own : at grants c ≤ at wants c → Noted (λ j. fromLevel levels j (overLow lows grants) c) (λ j. fromLevel levels j (overLow lows wants) c) (overLow lows grants c)
-          (cond (ltb (at lows c) (at grants c)) (suc level) highestRank) (cond (ltb (at grants c) (at wants c)) (suc level) 0)
+      own : at grants c ≤ at wants c → Noted (λ j. from_level levels j (over_low lows grants) c) (λ j. from_level levels j (over_low lows wants) c) (over_low lows grants c)
+          (cond (ltb (at lows c) (at grants c)) (suc level) highest_rank) (cond (ltb (at grants c) (at wants c)) (suc level) 0)
       own most =
-          noted-cord level (overLow lows grants c) (overLow lows wants c) ranked (omega arith) (ltb (at lows c) (at grants c)) (ltb (at grants c) (at wants c))
+          noted-cord level (over_low lows grants c) (over_low lows wants c) ranked (omega arith) (ltb (at lows c) (at grants c)) (ltb (at grants c) (at wants c))
           (λ e. omega (arith, ltb-true (at lows c) (at grants c) e)) (λ e. omega (arith, ltb-false (at lows c) (at grants c) e))
           (λ e. omega (arith, ltb-true (at grants c) (at wants c) e)) (λ e. omega (arith, ltb-false (at grants c) (at wants c) e))
 
       -- The cord's turn.
-      module _ (there : node ≤ gn) (lr : gn ≤ rn) (lw : gn ≤ wn) (word : overLow lows grants c < 2 ^ 32) where
+      module _ (there : node ≤ gn) (lr : gn ≤ rn) (lw : gn ≤ wn) (word : over_low lows grants c < 2 ^ 32) where
         abbrev raised_by : ℕ
-        raised_by = cond (ltb (at lows c) (at grants c)) (suc level) highestRank
+        raised_by = cond (ltb (at lows c) (at grants c)) (suc level) highest_rank
 
         abbrev wanted_by : ℕ
         wanted_by = cond (ltb (at grants c) (at wants c)) (suc level) 0
 
-        more : (figure : ℕ → ℕ) (j n : ℕ) → sofar nodes levels figure (suc c) j n ≡ sofar nodes levels figure c j n + on (eqb node (suc n)) (fromLevel levels j figure c)
-        more figure j n = sum-suc c (λ h. on (eqb (at nodes h) (suc n)) (fromLevel levels j figure h))
+        more : (figure : ℕ → ℕ) (j n : ℕ) → sofar nodes levels figure (suc c) j n ≡ sofar nodes levels figure c j n + on (eqb node (suc n)) (from_level levels j figure c)
+        more figure j n = sum-suc c (λ h. on (eqb (at nodes h) (suc n)) (from_level levels j figure h))
 
         cord-turn : CordTurns nodes levels lows wants grants gn rn wn (suc c) above'
-            (credited node (overLow lows grants c) given) (merged min node raised_by raised) (merged max node wanted_by wanting)
+            (credited node (over_low lows grants c) given) (merged min node raised_by raised) (merged max node wanted_by wanting)
         cord-turn = record {
-          given-size = credited-length node (overLow lows grants c) given ∙ inv.given-size;
+          given-size = credited-length node (over_low lows grants c) given ∙ inv.given-size;
           raised-size = merged-length min node raised_by raised ∙ inv.raised-size;
           wanting-size = merged-length max node wanted_by wanting ∙ inv.wanting-size;
           small = λ n.
               omega (
                 arith,
-                credited-at node (overLow lows grants c) given n (omega (arith, inv.given-size)),
-                on-most (eqb node (suc n)) (overLow lows grants c),
+                credited-at node (over_low lows grants c) given n (omega (arith, inv.given-size)),
+                on-most (eqb node (suc n)) (over_low lows grants c),
                 inv.small n,
               );
           below = rw add-one at (searching-next inv.below l (le-ltb (at grants c) (at lows c) least));
@@ -132,13 +132,13 @@ module _ {nodes levels lows wants grants : List ℕ} where
           noted = λ z n k. noted-same
               (noted-next given raised wanting n node (omega (arith, inv.given-size)) (omega (arith, inv.raised-size)) (omega (arith, inv.wanting-size))
               (inv.noted (passed z).0 n k) (own (passed z).1))
-              (λ j q. more (overLow lows grants) j n) (λ j q. more (overLow lows wants) j n) refl refl refl;
+              (λ j q. more (over_low lows grants) j n) (λ j q. more (over_low lows wants) j n) refl refl refl;
         }
 
         -- The same in the terms of the code.
         pub cords-next : {of rank low' want grant above'' : ℕ} {given' raised' wanting' : List ℕ} → of ≡ node → rank ≡ suc level → low' ≡ at lows c → want ≡ at wants c
             → grant ≡ at grants c → above'' ≡ cond (ltb 0 above) above (cond (ltb want grant) (suc c) 0)
-            → given' ≡ credited of (grant - low') given → raised' ≡ merged min of (cond (ltb low' grant) rank highestRank) raised
+            → given' ≡ credited of (grant - low') given → raised' ≡ merged min of (cond (ltb low' grant) rank highest_rank) raised
             → wanting' ≡ merged max of (cond (ltb grant want) rank 0) wanting
             → CordTurns nodes levels lows wants grants gn rn wn (c + 1) above'' given' raised' wanting'
         cords-next en er el ew eg ea e1 e2 e3 = rw (e1, e2, e3, ea, er, en, el, ew, eg, add-one) cord-turn
@@ -158,11 +158,11 @@ pub record NodeTurns (parents spare given₀ raised₀ wanting₀ : List ℕ) (o
   pub turns : ℕ
   pub all : n + turns ≡ length parents
   pub to-come : (has own most : ℕ → ℕ → ℕ) → AllNoted (length parents) has own given₀ raised₀ wanting₀
-      → ((j : ℕ) → j < highestRank → IsMost parents spare (own j) (most j)) → over ≡ 0 → (i : ℕ) → i < n
-      → Noted (λ j. partly parents (has j) (treeSum (at parents) (length parents) (has j)) turns n i) (λ j. partly parents (own j) (most j) turns n i) (at given i) (at raised i) (at wanting i)
+      → ((j : ℕ) → j < highest_rank → IsMost parents spare (own j) (most j)) → over ≡ 0 → (i : ℕ) → i < n
+      → Noted (λ j. partly parents (has j) (tree_sum (at parents) (length parents) (has j)) turns n i) (λ j. partly parents (own j) (most j) turns n i) (at given i) (at raised i) (at wanting i)
   pub done : (has own most : ℕ → ℕ → ℕ) → AllNoted (length parents) has own given₀ raised₀ wanting₀
-      → ((j : ℕ) → j < highestRank → IsMost parents spare (own j) (most j)) → over ≡ 0 → (i : ℕ) → n ≤ i → i < length parents
-      → Noted (λ j. treeSum (at parents) (length parents) (has j) i) (λ j. most j i) (at given i) (at raised i) (at wanting i)
+      → ((j : ℕ) → j < highest_rank → IsMost parents spare (own j) (most j)) → over ≡ 0 → (i : ℕ) → n ≤ i → i < length parents
+      → Noted (λ j. tree_sum (at parents) (length parents) (has j) i) (λ j. most j i) (at given i) (at raised i) (at wanting i)
 
 pub nodes-start : (parents spare given raised wanting : List ℕ) → NodeTurns parents spare given raised wanting 0 (length parents) given raised wanting
 unfolding up
@@ -191,10 +191,10 @@ module _ {parents spare given₀ raised₀ wanting₀ : List ℕ} (nodes : NodeL
     limit = at spare m
 
     abbrev high : ℕ
-    high = heldBack limit (at given m) (at raised m) (at wanting m)
+    high = held_back limit (at given m) (at raised m) (at wanting m)
 
     -- When its turn comes, all its children had theirs.
-    whole : (own passed : ℕ → ℕ) → partly parents own passed inv.turns (suc m) m ≡ own m + childSum (length parents) (at parents) m passed
+    whole : (own passed : ℕ → ℕ) → partly parents own passed inv.turns (suc m) m ≡ own m + child_sum (length parents) (at parents) m passed
     unfolding Holds
     whole own passed = holds-whole (length parents) (at parents) own passed nodes.rises inv.turns m (partly parents own passed inv.turns (suc m)) inv.all (λ i l. refl)
 
@@ -207,16 +207,16 @@ module _ {parents spare given₀ raised₀ wanting₀ : List ℕ} (nodes : NodeL
         go false e z = (ltb-false limit (at given m) e, z)
 
     module _ (has own most : ℕ → ℕ → ℕ) (all : AllNoted (length parents) has own given₀ raised₀ wanting₀)
-        (is : (j : ℕ) → j < highestRank → IsMost parents spare (own j) (most j)) (z : cond (ltb limit (at given m)) (suc m) over ≡ 0) where
+        (is : (j : ℕ) → j < highest_rank → IsMost parents spare (own j) (most j)) (z : cond (ltb limit (at given m)) (suc m) over ≡ 0) where
       -- The node's notes, with all beneath it.
-      here : Noted (λ j. treeSum (at parents) (length parents) (has j) m) (λ j. most j m) (at given m) (at raised m) high
+      here : Noted (λ j. tree_sum (at parents) (length parents) (has j) m) (λ j. most j m) (at given m) (at raised m) high
       here =
           noted-same (noted-held (inv.to-come has own most all is (before z).1 m (omega arith)) limit (before z).0)
-          (λ j k. treeSum-step (length parents) (at parents) nodes.rises (has j) m inside ∙ sym (whole (has j) (treeSum (at parents) (length parents) (has j))))
+          (λ j k. tree_sum-step (length parents) (at parents) nodes.rises (has j) m inside ∙ sym (whole (has j) (tree_sum (at parents) (length parents) (has j))))
           (λ j k. is j k m inside ∙ ap (min limit) (sym (whole (own j) (most j)))) refl refl refl
 
       come : (i : ℕ) → i < m
-          → Noted (λ j. partly parents (has j) (treeSum (at parents) (length parents) (has j)) (suc inv.turns) m i) (λ j. partly parents (own j) (most j) (suc inv.turns) m i)
+          → Noted (λ j. partly parents (has j) (tree_sum (at parents) (length parents) (has j)) (suc inv.turns) m i) (λ j. partly parents (own j) (most j) (suc inv.turns) m i)
           (at (credited (at parents m) (at given m) given) i) (at (merged min (at parents m) (at raised m) raised) i)
           (at (merged max (at parents m) high (set wanting m high)) i)
       unfolding up
@@ -230,7 +230,7 @@ module _ {parents spare given₀ raised₀ wanting₀ : List ℕ} (nodes : NodeL
           (λ j k. omega arith) (λ j k. omega arith) refl refl refl
 
       past : (i : ℕ) → (m ≡ i) ⊎ (m < i) → i < length parents
-          → Noted (λ j. treeSum (at parents) (length parents) (has j) i) (λ j. most j i)
+          → Noted (λ j. tree_sum (at parents) (length parents) (has j) i) (λ j. most j i)
           (at (credited (at parents m) (at given m) given) i) (at (merged min (at parents m) (at raised m) raised) i)
           (at (merged max (at parents m) high (set wanting m high)) i)
       past i (inl q) b =
@@ -263,7 +263,7 @@ module _ {parents spare given₀ raised₀ wanting₀ : List ℕ} (nodes : NodeL
   pub nodes-next : {over n : ℕ} {given raised wanting : List ℕ} → NodeTurns parents spare given₀ raised₀ wanting₀ over n given raised wanting → 0 < n
       → {limit has low high above over' : ℕ} {given' raised' wanting' : List ℕ}
       → limit ≡ at spare (n - 1) → has ≡ at given (n - 1) → low ≡ at raised (n - 1) → above ≡ at parents (n - 1)
-      → high ≡ heldBack limit has low (at wanting (n - 1)) → over' ≡ cond (ltb limit has) (suc (n - 1)) over
+      → high ≡ held_back limit has low (at wanting (n - 1)) → over' ≡ cond (ltb limit has) (suc (n - 1)) over
       → given' ≡ credited above has given → raised' ≡ merged min above low raised → wanting' ≡ merged max above high (set wanting (n - 1) high)
       → NodeTurns parents spare given₀ raised₀ wanting₀ over' (n - 1) given' raised' wanting'
   nodes-next {n = zero} inv p el eh ew ea ek eo eg er et = absurd (omega arith)
@@ -275,51 +275,51 @@ module _ {parents spare given₀ raised₀ wanting₀ : List ℕ} (nodes : NodeL
 
 module _ {parents spare nodes levels lows wants grants : List ℕ} (of-nodes : NodeLists parents spare)
     (lists : GrantedCords (length parents) nodes levels lows wants grants) where
-  module _ {count : ℕ} (given raised wanting : List ℕ) (noted : CordsNoted count nodes levels lows wants grants given raised wanting) (all : mostNodes ≤ count) where
+  module _ {count : ℕ} (given raised wanting : List ℕ) (noted : CordsNoted count nodes levels lows wants grants given raised wanting) (all : most_nodes ≤ count) where
     -- All nodes' own watts together are few.
     pub given-few : sum (length parents) (at given) < 2 ^ 63
-    unfolding onNode
+    unfolding on_node
     given-few =
-        let most : sum (length parents) (at given) ≤ length parents * (mostCords * mostWatts)
-        = sum-most (length parents) (mostCords * mostWatts) (at given) (λ n l.
+        let most : sum (length parents) (at given) ≤ length parents * (most_cords * most_watts)
+        = sum-most (length parents) (most_cords * most_watts) (at given) (λ n l.
         omega (
           arith,
           (noted n (omega (arith, of-nodes.few))).watts-are,
           lists.few,
-          mul-le-mul_right mostWatts lists.few,
-          sum-most (length nodes) mostWatts (λ h. on (eqb (at nodes h) (suc n)) (fromLevel levels 0 (overLow lows grants) h)) (λ h q. figure-most n h q),
+          mul-le-mul_right most_watts lists.few,
+          sum-most (length nodes) most_watts (λ h. on (eqb (at nodes h) (suc n)) (from_level levels 0 (over_low lows grants) h)) (λ h q. figure-most n h q),
         )) in
-        omega (arith, most, mul-le-mul_right (mostCords * mostWatts) of-nodes.few)
+        omega (arith, most, mul-le-mul_right (most_cords * most_watts) of-nodes.few)
       where
-        figure-most : (n h : ℕ) → h < length nodes → on (eqb (at nodes h) (suc n)) (fromLevel levels 0 (overLow lows grants) h) ≤ mostWatts
+        figure-most : (n h : ℕ) → h < length nodes → on (eqb (at nodes h) (suc n)) (from_level levels 0 (over_low lows grants) h) ≤ most_watts
         figure-most n h q =
             omega (
               arith,
-              on-most (eqb (at nodes h) (suc n)) (fromLevel levels 0 (overLow lows grants) h),
-              on-most (leb 0 (at levels h)) (overLow lows grants h),
+              on-most (eqb (at nodes h) (suc n)) (from_level levels 0 (over_low lows grants) h),
+              on-most (leb 0 (at levels h)) (over_low lows grants h),
               lists.most h q,
               lists.wants-most h q,
             )
 
     pub compared : {over : ℕ} (given' raised' wanting' : List ℕ)
-        → over ≡ firstNode (length parents) 0 (exceeds (at parents) (at spare) (length parents) given)
+        → over ≡ first_node (length parents) 0 (exceeds (at parents) (at spare) (length parents) given)
         → NodesNoted parents spare over given raised wanting given' raised' wanting' → Compared parents spare nodes levels lows wants grants over wanting'
-    unfolding overFrom sumBeneath
+    unfolding over_from sum_beneath
     compared given' raised' wanting' o passed = record {
-      over-is = o ∙ firstNode-cong (length parents) 0 _ _ (λ n l. ap (ltb (at spare n)) (same n));
+      over-is = o ∙ first_node-cong (length parents) 0 _ _ (λ n l. ap (ltb (at spare n)) (same n));
       short-is = λ most is none n l. sym (noted-highest (passed has own most (λ m k. noted m (omega (arith, of-nodes.few))) is none n l));
     }
       where
         has : ℕ → ℕ → ℕ
-        has j = onNode nodes (fromLevel levels j (overLow lows grants))
+        has j = on_node nodes (from_level levels j (over_low lows grants))
 
         own : ℕ → ℕ → ℕ
-        own j = onNode nodes (fromLevel levels j (overLow lows wants))
+        own j = on_node nodes (from_level levels j (over_low lows wants))
 
-        same : (n : ℕ) → treeSum (at parents) (length parents) (at given) n ≡ treeSum (at parents) (length parents) (onNode nodes (fromLevel levels 0 (overLow lows grants))) n
+        same : (n : ℕ) → tree_sum (at parents) (length parents) (at given) n ≡ tree_sum (at parents) (length parents) (on_node nodes (from_level levels 0 (over_low lows grants))) n
         same n = sum-cong (length parents) _ _ (λ m l. ap (on (Rattle.rooms.specs.Trees.beneath (at parents) (length parents) n (suc m))) (noted m (omega (arith, of-nodes.few))).watts-are)
 
 -- Nothing is noted before the first cord.
-pub unnoted : (k : ℕ) (wanting : List ℕ) → ((n : ℕ) → at wanting n ≡ 0) → (count : ℕ) → count ≤ k → Unnoted count (replicate k 0) (replicate k highestRank) wanting
+pub unnoted : (k : ℕ) (wanting : List ℕ) → ((n : ℕ) → at wanting n ≡ 0) → (count : ℕ) → count ≤ k → Unnoted count (replicate k 0) (replicate k highest_rank) wanting
 unnoted k wanting none count h n l =
-    noted-same noted-none (λ j q. refl) (λ j q. refl) (zeros-at k n) (get_or-replicate {A = ℕ} k n highestRank 0 (omega arith)) (none n)
+    noted-same noted-none (λ j q. refl) (λ j q. refl) (zeros-at k n) (get_or-replicate {A = ℕ} k n highest_rank 0 (omega arith)) (none n)

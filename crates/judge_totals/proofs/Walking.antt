@@ -10,17 +10,17 @@ use borrow.Author.Tests.{lt-ltb}
 use Rattle.figures.specs.Figures.{at}
 use Rattle.figures.specs.Credits.{credited}
 use Rattle.rooms.specs.Part.{good, Good}
-use Rattle.rooms.specs.Table.{Room, IsScale, mostNodes, mostServers, mostCords, mostWatts, highestRank, roomCords}
-use Rattle.rooms.specs.Limits.{checked, carried, firstNode}
-use Rattle.rooms.specs.Cords.{RoomCord, serverAt}
-use Rattle.rooms.specs.Lists.{nodesOf, levelsOf, lowsOf}
+use Rattle.rooms.specs.Table.{Room, IsScale, most_nodes, most_servers, most_cords, most_watts, highest_rank, room_cords}
+use Rattle.rooms.specs.Limits.{checked, carried, first_node}
+use Rattle.rooms.specs.Cords.{RoomCord, server_at}
+use Rattle.rooms.specs.Lists.{nodes_of, levels_of, lows_of}
 use Rattle.rooms.specs.Rows.{ServersFit, CordsFit, ScaleIs}
-use Rattle.rooms.specs.Walk.{serversIndex}
+use Rattle.rooms.specs.Walk.{servers_index}
 use Rattle.rooms.proofs.Accepted.{Accepted, accepted}
 use Rattle.rooms.proofs.Walk.{Walk, ServerHere, walk_start, walk-server, walk_end}
-use Rattle.deals.specs.Wants.{firstWants}
-use Rattle.deals.specs.Judge.{belowLow}
-use Rattle.deals.proofs.RoomDeals.{nodesOf-length, nodesOf-at, levelsOf-at}
+use Rattle.deals.specs.Wants.{first_wants}
+use Rattle.deals.specs.Judge.{below_low}
+use Rattle.deals.proofs.RoomDeals.{nodes_of-length, nodes_of-at, levels_of-at}
 use Rattle.layout.proofs.Carrying.{CordStands, cord-stands, carried-as, low-is, want_is}
 use Rattle.judge_totals.specs.Totals.{Unnoted, CordsJudged, merged}
 use Rattle.judge_totals.proofs.Searching.{searching-stop, searching-end}
@@ -33,12 +33,12 @@ pub record Walking (table demands grants : List ℕ) (scale gn rn wn v start fir
   pub read : checked table 0 ≡ good room end
   pub scale-is : scale ≡ room.scale
   pub demands-size : length demands ≡ length room.servers
-  pub grants-size : length grants ≡ roomCords room
-  pub given-long : mostNodes ≤ gn
+  pub grants-size : length grants ≡ room_cords room
+  pub given-long : most_nodes ≤ gn
   pub raised_long : gn ≤ rn
   pub wanting-long : gn ≤ wn
   pub walk : Walk table room v start first
-  pub turns : CordTurns (nodesOf room) (levelsOf room) (lowsOf room) (firstWants room demands) grants gn rn wn c above given raised wanting
+  pub turns : CordTurns (nodes_of room) (levels_of room) (lows_of room) (first_wants room demands) grants gn rn wn c above given raised wanting
 
 -- Within that server, of which these figures are read: the words of the cord at place c start at index `word`.
 pub record WalkingServer (table demands grants : List ℕ) (scale gn rn wn v start first rank least need count c word above : ℕ) (given raised wanting : List ℕ) : Type 0 where
@@ -67,8 +67,8 @@ walk-to : {table : List ℕ} {r : Room} {v i j c d : ℕ} → i ≡ j → c ≡ 
 walk-to e f walk = rw (e, f) walk
 
 pub walking_start : {table demands grants : List ℕ} {scale : ℕ} {given raised wanting : List ℕ} (g : Good (checked table 0)) → ScaleIs table scale
-    → ServersFit table (length demands) → CordsFit table (length grants) → mostNodes ≤ length given → length given ≤ length raised → length given ≤ length wanting
-    → ((n : ℕ) → at given n ≡ 0) → Unnoted (length given) given raised wanting → {start : ℕ} → start ≡ serversIndex table + 1
+    → ServersFit table (length demands) → CordsFit table (length grants) → most_nodes ≤ length given → length given ≤ length raised → length given ≤ length wanting
+    → ((n : ℕ) → at given n ≡ 0) → Unnoted (length given) given raised wanting → {start : ℕ} → start ≡ servers_index table + 1
     → Walking table demands grants scale (length given) (length raised) (length wanting) 0 start 0 0 0 given raised wanting
 walking_start g si sf cf lg lr lw zeros none e = record {
   room = g.value;
@@ -92,11 +92,11 @@ module _ {table demands grants : List ℕ} {scale gn rn wn v start first c above
   pub walking-server : v < length demands → ServerHere table walking.room v start first
   walking-server more = walk-server walking.walk (omega (arith, walking.demands-size))
 
-  pub few-cords : v < length demands → first + at table (start + 3) ≤ mostCords
-  few-cords more = omega (arith, (walking-server more).cords-within, ok.fewCords)
+  pub few-cords : v < length demands → first + at table (start + 3) ≤ most_cords
+  few-cords more = omega (arith, (walking-server more).cords-within, ok.few_cords)
 
-  pub few-servers : v < length demands → v < mostServers
-  few-servers more = omega (arith, walking.demands-size, ok.fewServers)
+  pub few-servers : v < length demands → v < most_servers
+  few-servers more = omega (arith, walking.demands-size, ok.few_servers)
 
   pub server-begin : (more : v < length demands) → {rank least need count : ℕ} → rank ≡ at table start → least ≡ at table (start + 1)
       → need ≡ min (max (at demands v) (at table (start + 1))) (at table (start + 2)) → count ≡ at table (start + 3) → c ≡ first
@@ -119,24 +119,24 @@ module _ {table demands grants : List ℕ} {scale gn rn wn v start first c above
   judged-all h e r end is =
       let read = walking.read in
       let same : walking.room ≡ r = cc in
-      let sizes = nodesOf-length walking.room in
-      let all : length (nodesOf walking.room) ≤ c = omega (arith, walk_end walking.walk (omega (arith, walking.demands-size)), sizes) in
+      let sizes = nodes_of-length walking.room in
+      let all : length (nodes_of walking.room) ≤ c = omega (arith, walk_end walking.walk (omega (arith, walking.demands-size)), sizes) in
       rw (← same)
       (record {
-        below-is = searching-end walking.turns.below all ∙ ap (λ (k : ℕ). firstNode k 0 (belowLow walking.room grants)) sizes;
-        above-is = λ z. above-end walking.turns all ∙ ap (λ (k : ℕ). firstNode k 0 (λ h. ltb (at (firstWants walking.room demands) h) (at grants h))) sizes;
+        below-is = searching-end walking.turns.below all ∙ ap (λ (k : ℕ). first_node k 0 (below_low walking.room grants)) sizes;
+        above-is = λ z. above-end walking.turns all ∙ ap (λ (k : ℕ). first_node k 0 (λ h. ltb (at (first_wants walking.room demands) h) (at grants h))) sizes;
         noted = λ z y. cords-end walking.turns all y;
       })
 
 -- What code relies on at a cord.
 pub record CordFits (table grants : List ℕ) (scale least need c word : ℕ) (given raised wanting : List ℕ) : Type 0 where
   pub there : word + 1 < length table
-  pub few : c < mostCords
+  pub few : c < most_cords
   pub in-grants : c < length grants
   pub scaled : IsScale scale
   pub share-most : at table (word + 1) ≤ scale
-  pub least-most : least ≤ mostWatts
-  pub need-most : need ≤ mostWatts
+  pub least-most : least ≤ most_watts
+  pub need-most : need ≤ most_watts
   pub in-given : at table word ≤ length given
   pub in-raised : at table word ≤ length raised
   pub in-wanting : at table word ≤ length wanting
@@ -176,21 +176,21 @@ module _ {table demands grants : List ℕ} {scale gn rn wn v start first rank le
     cord : CordStands table r v c word
     cord = cord-stands standing server.from (omega (arith, server.counted)) server.next
 
-    within : c < roomCords r
+    within : c < room_cords r
     within = cord.within
 
-    in-nodes : c < length (nodesOf r)
-    in-nodes = omega (arith, within, nodesOf-length r)
+    in-nodes : c < length (nodes_of r)
+    in-nodes = omega (arith, within, nodes_of-length r)
 
     pub cord-fits : CordFits table grants scale least need c word given raised wanting
     cord-fits =
         let node = cord.node-most in
         let share = cord.share-most in
-        let few = (ok walking).fewNodes in
+        let few = (ok walking).few_nodes in
         let turns = walking.turns in
         record {
           there = cord.there;
-          few = omega (arith, within, (ok walking).fewCords);
+          few = omega (arith, within, (ok walking).few_cords);
           in-grants = omega (arith, within, walking.grants-size);
           scaled = rw walking.scale-is (ok walking).scaled;
           share-most = omega (arith, share, walking.scale-is);
@@ -199,24 +199,24 @@ module _ {table demands grants : List ℕ} {scale gn rn wn v start first rank le
           in-given = omega (arith, node, few, walking.given-long, turns.given-size);
           in-raised = omega (arith, node, few, walking.given-long, walking.raised_long, turns.raised-size);
           in-wanting = omega (arith, node, few, walking.given-long, walking.wanting-long, turns.wanting-size);
-          small = λ n. omega (arith, turns.small n, within, (ok walking).fewCords);
+          small = λ n. omega (arith, turns.small n, within, (ok walking).few_cords);
         }
 
     -- The cord's figures are those of the room.
-    node-is : at (nodesOf r) c ≡ at table word
-    node-is = nodesOf-at r c ∙ ap (λ (x : RoomCord). x.node) cord.is
+    node-is : at (nodes_of r) c ≡ at table word
+    node-is = nodes_of-at r c ∙ ap (λ (x : RoomCord). x.node) cord.is
 
-    rank-at : rank ≡ suc (at (levelsOf r) c)
+    rank-at : rank ≡ suc (at (levels_of r) c)
     rank-at =
-        omega (arith, server.rank_is, standing.lowest, standing.rank, levelsOf-at r c within, ap (λ (x : RoomCord). (serverAt r x.server).rank) cord.is)
+        omega (arith, server.rank_is, standing.lowest, standing.rank, levels_of-at r c within, ap (λ (x : RoomCord). (server_at r x.server).rank) cord.is)
 
-    ranked : at (levelsOf r) c < highestRank
+    ranked : at (levels_of r) c < highest_rank
     ranked = omega (arith, rank-at, server.rank_is, standing.highest)
 
-    low-at : at (lowsOf r) c ≡ carried scale (at table (word + 1)) least
+    low-at : at (lows_of r) c ≡ carried scale (at table (word + 1)) least
     low-at = sym (carried-as (at table (word + 1)) walking.scale-is server.least-is (low-is standing cord (ok walking)))
 
-    want-at : at (firstWants r demands) c ≡ carried scale (at table (word + 1)) need
+    want-at : at (first_wants r demands) c ≡ carried scale (at table (word + 1)) need
     want-at = sym (carried-as (at table (word + 1)) walking.scale-is server.need-is (want_is standing cord demands (omega (arith, server.more, walking.demands-size))))
 
     -- It has less than its low.
@@ -228,8 +228,8 @@ module _ {table demands grants : List ℕ} {scale gn rn wn v start first rank le
         let same : r ≡ q = cc in
         rw (← same)
         (record {
-          below-is = searching-stop walking.turns.below in-nodes (lt-ltb (at grants c) (at (lowsOf r) c) (omega (arith, low-at)))
-              ∙ ap (λ (k : ℕ). firstNode k 0 (belowLow r grants)) (nodesOf-length r);
+          below-is = searching-stop walking.turns.below in-nodes (lt-ltb (at grants c) (at (lows_of r) c) (omega (arith, low-at)))
+              ∙ ap (λ (k : ℕ). first_node k 0 (below_low r grants)) (nodes_of-length r);
           above-is = λ z. absurd (omega arith);
           noted = λ z y. absurd (omega arith);
         })
@@ -238,16 +238,16 @@ module _ {table demands grants : List ℕ} {scale gn rn wn v start first rank le
     pub server-cord : {node low want grant above' : ℕ} {given' raised' wanting' : List ℕ} → node ≡ at table word → low ≡ carried scale (at table (word + 1)) least
         → want ≡ carried scale (at table (word + 1)) need → grant ≡ at grants c → low ≤ grant → grant - low < 2 ^ 32
         → above' ≡ cond (ltb 0 above) above (cond (ltb want grant) (suc c) 0)
-        → given' ≡ credited node (grant - low) given → raised' ≡ merged min node (cond (ltb low grant) rank highestRank) raised
+        → given' ≡ credited node (grant - low) given → raised' ≡ merged min node (cond (ltb low grant) rank highest_rank) raised
         → wanting' ≡ merged max node (cond (ltb grant want) rank 0) wanting
         → WalkingServer table demands grants scale gn rn wn v start first rank least need count (c + 1) (word + 2) above' given' raised' wanting'
     server-cord {node} {low} {want} {grant} {above'} {given'} {raised'} {wanting'} en el ew eg le lt ea e1 e2 e3 =
         let fits = cord-fits in
         let turns = walking.turns in
-        let en' : node ≡ at (nodesOf r) c = en ∙ sym node-is in
-        let el' : low ≡ at (lowsOf r) c = el ∙ sym low-at in
-        let ew' : want ≡ at (firstWants r demands) c = ew ∙ sym want-at in
-        let next : CordTurns (nodesOf r) (levelsOf r) (lowsOf r) (firstWants r demands) grants gn rn wn (c + 1) above' given' raised' wanting'
+        let en' : node ≡ at (nodes_of r) c = en ∙ sym node-is in
+        let el' : low ≡ at (lows_of r) c = el ∙ sym low-at in
+        let ew' : want ≡ at (first_wants r demands) c = ew ∙ sym want-at in
+        let next : CordTurns (nodes_of r) (levels_of r) (lows_of r) (first_wants r demands) grants gn rn wn (c + 1) above' given' raised' wanting'
         = cords-next turns in-nodes ranked (omega (arith, el', eg, le)) (omega (arith, node-is, fits.in-given, turns.given-size)) walking.raised_long walking.wanting-long
         (omega (arith, el', eg, lt)) en' rank-at el' ew' eg ea e1 e2 e3 in
         record {

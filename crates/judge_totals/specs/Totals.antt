@@ -3,40 +3,40 @@
 use Rattle.std.specs.Prelude.{◌≡◌, Bool, cond, List, ℕ, zero, suc, ◌+◌, ◌-◌, ◌≤◌, ◌<◌, min, eqb, leb, ltb, length, set}
 use Rattle.figures.specs.Figures.{at}
 use Rattle.figures.specs.Sums.{on, sum}
-use Rattle.rooms.specs.Table.{Room, mostCords, mostWatts, highestRank, roomCords}
-use Rattle.rooms.specs.Limits.{firstNode}
-use Rattle.rooms.specs.Credits.{treeSum}
-use Rattle.rooms.specs.Lists.{nodesOf, levelsOf, lowsOf}
-use Rattle.deals.specs.Wants.{firstWants}
-use Rattle.deals.specs.Judge.{highest, belowLow, aboveWant}
+use Rattle.rooms.specs.Table.{Room, most_cords, most_watts, highest_rank, room_cords}
+use Rattle.rooms.specs.Limits.{first_node}
+use Rattle.rooms.specs.Credits.{tree_sum}
+use Rattle.rooms.specs.Lists.{nodes_of, levels_of, lows_of}
+use Rattle.deals.specs.Wants.{first_wants}
+use Rattle.deals.specs.Judge.{highest, below_low, above_want}
 use Rattle.judge_totals.specs.declared.Faults.{Faults}
-use Rattle.rooms.specs.Trees.{sumBeneath}
+use Rattle.rooms.specs.Trees.{sum_beneath}
 
 -- ---- The lists
 
 -- The cords: the node and the level of each, and its low, want and grant, in this order.
-pub record GrantedCords (nodeCount : ℕ) (nodes levels lows wants grants : List ℕ) : Type 0 where
-  pub few : length nodes ≤ mostCords
+pub record GrantedCords (node_count : ℕ) (nodes levels lows wants grants : List ℕ) : Type 0 where
+  pub few : length nodes ≤ most_cords
   pub hangs : (c : ℕ) → c < length nodes → 1 ≤ at nodes c
-  pub within : (c : ℕ) → c < length nodes → at nodes c ≤ nodeCount
-  pub ranked : (c : ℕ) → c < length nodes → at levels c < highestRank
+  pub within : (c : ℕ) → c < length nodes → at nodes c ≤ node_count
+  pub ranked : (c : ℕ) → c < length nodes → at levels c < highest_rank
   pub least : (c : ℕ) → c < length nodes → at lows c ≤ at grants c
   pub most : (c : ℕ) → c < length nodes → at grants c ≤ at wants c
-  pub wants-most : (c : ℕ) → c < length nodes → at wants c ≤ mostWatts
+  pub wants-most : (c : ℕ) → c < length nodes → at wants c ≤ most_watts
 
 -- ---- Sums on nodes
 
 -- The watts of each cord over its low.
-abbrev pub overLow : List ℕ → List ℕ → ℕ → ℕ
-overLow lows watts c = at watts c - at lows c
+abbrev pub over_low : List ℕ → List ℕ → ℕ → ℕ
+over_low lows watts c = at watts c - at lows c
 
 -- A figure of the cords that hang on the node at place n itself, summed.
-unfoldable pub onNode : List ℕ → (ℕ → ℕ) → ℕ → ℕ
-onNode nodes figure n = sum (length nodes) (λ c. on (eqb (at nodes c) (suc n)) (figure c))
+unfoldable pub on_node : List ℕ → (ℕ → ℕ) → ℕ → ℕ
+on_node nodes figure n = sum (length nodes) (λ c. on (eqb (at nodes c) (suc n)) (figure c))
 
 -- A figure of the cords of a level and above; 0 for the others.
-abbrev pub fromLevel : List ℕ → ℕ → (ℕ → ℕ) → ℕ → ℕ
-fromLevel levels j figure c = on (leb j (at levels c)) (figure c)
+abbrev pub from_level : List ℕ → ℕ → (ℕ → ℕ) → ℕ → ℕ
+from_level levels j figure c = on (leb j (at levels c)) (figure c)
 
 -- ---- What is noted on nodes
 
@@ -44,14 +44,14 @@ fromLevel levels j figure c = on (leb j (at levels c)) (figure c)
 -- have more. `given` and `most` are by level: what the cords of the level and above have, and the most that they could have.
 pub record Noted (given most : ℕ → ℕ) (watts raised wanting : ℕ) : Type 0 where
   pub watts-are : watts ≡ given 0
-  pub falls : (j : ℕ) → j < highestRank → given j ≤ given 0
+  pub falls : (j : ℕ) → j < highest_rank → given j ≤ given 0
   -- The levels below j have watts exactly where the lowest rank is one of theirs. For no watts it may be the highest rank.
-  pub none-lower : (j : ℕ) → j < highestRank → j < raised → given j ≡ given 0
-  pub some-lower : (j : ℕ) → j < highestRank → raised ≤ j → given j < given 0
-  pub within : (j : ℕ) → j < highestRank → given j ≤ most j
+  pub none-lower : (j : ℕ) → j < highest_rank → j < raised → given j ≡ given 0
+  pub some-lower : (j : ℕ) → j < highest_rank → raised ≤ j → given j < given 0
+  pub within : (j : ℕ) → j < highest_rank → given j ≤ most j
   -- From the highest rank that could have more, 0 for none, the levels above have the most; and its own has less.
-  pub rank : wanting ≤ highestRank
-  pub none-higher : (j : ℕ) → j < highestRank → wanting ≤ j → given j ≡ most j
+  pub rank : wanting ≤ highest_rank
+  pub none-higher : (j : ℕ) → j < highest_rank → wanting ≤ j → given j ≡ most j
   pub less : (j : ℕ) → wanting ≡ suc j → given j < most j
 
 -- It is noted of each of so many nodes.
@@ -66,15 +66,15 @@ Unnoted count = AllNoted count (λ j n. 0) (λ j n. 0)
 -- The cords' own notes on their nodes.
 abbrev pub CordsNoted : ℕ → (nodes levels lows wants grants watts raised wanting : List ℕ) → Type 0
 CordsNoted count nodes levels lows wants grants =
-    AllNoted count (λ j. onNode nodes (fromLevel levels j (overLow lows grants))) (λ j. onNode nodes (fromLevel levels j (overLow lows wants)))
+    AllNoted count (λ j. on_node nodes (from_level levels j (over_low lows grants))) (λ j. on_node nodes (from_level levels j (over_low lows wants)))
 
 -- What the pass over a room's cords finds and leaves: the first cord below its low; if there is none, the first above its want; and if
 -- there is none either, the notes of all.
 pub record CordsJudged (r : Room) (demands grants : List ℕ) (count : ℕ) (faults : Faults) (watts raised wanting : List ℕ) : Type 0 where
-  pub below-is : faults.below ≡ firstNode (roomCords r) 0 (belowLow r grants)
-  pub above-is : faults.below ≡ 0 → faults.above ≡ firstNode (roomCords r) 0 (aboveWant r demands grants)
+  pub below-is : faults.below ≡ first_node (room_cords r) 0 (below_low r grants)
+  pub above-is : faults.below ≡ 0 → faults.above ≡ first_node (room_cords r) 0 (above_want r demands grants)
   pub noted : faults.below ≡ 0 → faults.above ≡ 0
-      → CordsNoted count (nodesOf r) (levelsOf r) (lowsOf r) (firstWants r demands) grants watts raised wanting
+      → CordsNoted count (nodes_of r) (levels_of r) (lows_of r) (first_wants r demands) grants watts raised wanting
 
 -- A rank merged with the one that stands on a node, by the node's number; 0 is no node.
 unfoldable pub merged : (ℕ → ℕ → ℕ) → ℕ → ℕ → List ℕ → List ℕ
@@ -82,8 +82,8 @@ merged with zero rank l = l
 merged with (suc m) rank l = set l m (with (at l m) rank)
 
 -- The highest rank that could have more, with the node's limit.
-abbrev pub heldBack : ℕ → ℕ → ℕ → ℕ → ℕ
-heldBack limit has raised wanting = cond (ltb has limit) wanting (cond (ltb raised wanting) wanting 0)
+abbrev pub held_back : ℕ → ℕ → ℕ → ℕ → ℕ
+held_back limit has raised wanting = cond (ltb has limit) wanting (cond (ltb raised wanting) wanting 0)
 
 -- ---- Totals beneath nodes
 
@@ -99,26 +99,26 @@ IsMost parents spare own most =
 abbrev pub NodesNoted : (parents spare : List ℕ) (over : ℕ) (watts raised wanting watts' raised' wanting' : List ℕ) → Type 0
 NodesNoted parents spare over watts raised wanting watts' raised' wanting' =
     (given own most : ℕ → ℕ → ℕ) → AllNoted (length parents) given own watts raised wanting
-    → ((j : ℕ) → j < highestRank → IsMost parents spare (own j) (most j)) → over ≡ 0
-    → AllNoted (length parents) (λ j. treeSum (at parents) (length parents) (given j)) most watts' raised' wanting'
+    → ((j : ℕ) → j < highest_rank → IsMost parents spare (own j) (most j)) → over ≡ 0
+    → AllNoted (length parents) (λ j. tree_sum (at parents) (length parents) (given j)) most watts' raised' wanting'
 
 -- What the cords of a level and above, beneath the node at place n, have over their lows.
-unfoldable pub overFrom : (parents nodes levels lows watts : List ℕ) → ℕ → ℕ → ℕ
-unfolding onNode sumBeneath
-overFrom parents nodes levels lows watts j n = treeSum (at parents) (length parents) (onNode nodes (fromLevel levels j (overLow lows watts))) n
+unfoldable pub over_from : (parents nodes levels lows watts : List ℕ) → ℕ → ℕ → ℕ
+unfolding on_node sum_beneath
+over_from parents nodes levels lows watts j n = tree_sum (at parents) (length parents) (on_node nodes (from_level levels j (over_low lows watts))) n
 
 -- The most that the cords of each level and above can have over their lows, beneath each node.
 abbrev pub IsMostFrom : (parents spare nodes levels lows wants : List ℕ) → (ℕ → ℕ → ℕ) → Type 0
 IsMostFrom parents spare nodes levels lows wants most =
-    (j : ℕ) → j < highestRank → IsMost parents spare (onNode nodes (fromLevel levels j (overLow lows wants))) (most j)
+    (j : ℕ) → j < highest_rank → IsMost parents spare (on_node nodes (from_level levels j (over_low lows wants))) (most j)
 
 -- Whether the grants of a rank and above, beneath the node at place n, are less than the most.
-abbrev pub lessThan : (parents nodes levels lows grants : List ℕ) → (ℕ → ℕ → ℕ) → ℕ → ℕ → Bool
-lessThan parents nodes levels lows grants most n rank = ltb (overFrom parents nodes levels lows grants (rank - 1) n) (most (rank - 1) n)
+abbrev pub less_than : (parents nodes levels lows grants : List ℕ) → (ℕ → ℕ → ℕ) → ℕ → ℕ → Bool
+less_than parents nodes levels lows grants most n rank = ltb (over_from parents nodes levels lows grants (rank - 1) n) (most (rank - 1) n)
 
 -- What the passes come to: the lowest node that is given more than it has to spare, 0 if there is none; and, if there is none, each node's
 -- mark, the highest rank at which it has less than the most.
 pub record Compared (parents spare nodes levels lows wants grants : List ℕ) (over : ℕ) (short : List ℕ) : Type 0 where
-  pub over-is : over ≡ firstNode (length parents) 0 (λ n. ltb (at spare n) (overFrom parents nodes levels lows grants 0 n))
+  pub over-is : over ≡ first_node (length parents) 0 (λ n. ltb (at spare n) (over_from parents nodes levels lows grants 0 n))
   pub short-is : (most : ℕ → ℕ → ℕ) → IsMostFrom parents spare nodes levels lows wants most → over ≡ 0
-      → (n : ℕ) → n < length parents → at short n ≡ highest (lessThan parents nodes levels lows grants most n) highestRank
+      → (n : ℕ) → n < length parents → at short n ≡ highest (less_than parents nodes levels lows grants most n) highest_rank

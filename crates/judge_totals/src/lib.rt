@@ -9,12 +9,12 @@ ghost use Rattle.figures.specs.Figures.{at};
 ghost use Rattle.figures.specs.Sums.{sum};
 ghost use Rattle.figures.specs.Credits.{credited};
 ghost use Rattle.rooms.specs.Part.{Good};
-ghost use Rattle.rooms.specs.Table.{mostNodes, mostCords, highestRank};
-ghost use Rattle.rooms.specs.Limits.{checked, firstNode};
+ghost use Rattle.rooms.specs.Table.{most_nodes, most_cords, highest_rank};
+ghost use Rattle.rooms.specs.Limits.{checked, first_node};
 ghost use Rattle.rooms.specs.Rows.{OfRoom, ServersFit, CordsFit, ScaleIs};
 ghost use Rattle.rooms.specs.Credits.{exceeds};
 ghost use Rattle.deals.specs.Ranks.{NodeLists};
-ghost use Rattle.judge_totals.specs.Totals.{merged, heldBack, Unnoted, CordsJudged, NodesNoted};
+ghost use Rattle.judge_totals.specs.Totals.{merged, held_back, Unnoted, CordsJudged, NodesNoted};
 
 use figures::{credit, index, short, wide, word_index};
 use layout::need_of;
@@ -93,7 +93,7 @@ fn note_cord(
     requires least { low ≤ grant }
     requires sum_fits { at given.old (node - 1) < 2 ^ 63 }
     ensures noted { (given.new ≡ credited node (grant - low) given.old)
-        × (raised.new ≡ merged min node (cond (ltb low grant) rank highestRank) raised.old)
+        × (raised.new ≡ merged min node (cond (ltb low grant) rank highest_rank) raised.old)
         × (wanting.new ≡ merged max node (cond (ltb grant want) rank 0) wanting.old) }
     ensures word { grant - low < 2 ^ 32 }
 {
@@ -110,7 +110,7 @@ fn note_cord(
 
 // What was found before, else the number, from 1, of a cord that has more than another figure, else 0.
 fn first_above(found: usize, want: u32, grant: u32, cord: usize) -> usize
-    requires cord { cord < mostCords }
+    requires cord { cord < most_cords }
     ensures result { result ≡ cond (ltb 0 found) found (cond (ltb want grant) (suc cord) 0) }
 {
     if 0 < found {
@@ -131,7 +131,7 @@ pub fn note_cords(
 ) -> Faults
     requires good { Good (checked table.now 0) × ScaleIs table.now scale }
     requires sizes { ServersFit table.now (length demands.now) × CordsFit table.now (length grants.now) }
-    requires lengths { (mostNodes ≤ length given.old) × (length given.old ≤ length raised.old)
+    requires lengths { (most_nodes ≤ length given.old) × (length given.old ≤ length raised.old)
         × (length given.old ≤ length wanting.old) }
     requires unnoted { ((n : ℕ) → at given.old n ≡ 0) × Unnoted (length given.old) given.old raised.old wanting.old }
     ensures judged { OfRoom table.now (λ r. CordsJudged r demands.now grants.now
@@ -179,7 +179,7 @@ pub fn note_cords(
 // The highest rank beneath a node that could have more, with the node's limit. A full node lets a rank rise only where it carries watts of
 // a lower one.
 fn held_back(limit: u64, has: u64, low: u16, high: u16) -> u16
-    ensures result { result ≡ heldBack limit has low high }
+    ensures result { result ≡ held_back limit has low high }
 {
     if has < limit {
         return high;
@@ -201,7 +201,7 @@ pub fn note_nodes(
     requires lengths { (length parents.now ≤ length given.old) × (length parents.now ≤ length raised.old)
         × (length parents.now ≤ length wanting.old) }
     requires sums_fit { sum (length parents.now) (at given.old) < 2 ^ 63 }
-    ensures result { result ≡ firstNode (length parents.now) 0
+    ensures result { result ≡ first_node (length parents.now) 0
         (exceeds (at parents.now) (at spare.now) (length parents.now) given.old) }
     ensures noted { NodesNoted parents.now spare.now result given.old raised.old
         wanting.old given.new raised.new wanting.new }
@@ -224,7 +224,7 @@ pub fn note_nodes(
 // The lowest root with a mark, by its number; 0 if there is none.
 pub fn lowest_marked(parents: &[u16], short: &[u16]) -> usize
     requires lengths { length parents.now ≤ length short.now }
-    ensures result { result ≡ firstNode (length parents.now) 0
+    ensures result { result ≡ first_node (length parents.now) 0
         (λ n. eqb (at parents.now n) 0 && ltb 0 (at short.now n)) }
 {
     for n in 0..parents.len() {

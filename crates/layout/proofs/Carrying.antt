@@ -6,21 +6,21 @@ use native.Mathlib.Omega.{arith}
 use lib.ListN.{length}
 use Rattle.figures.specs.Figures.{figures, at}
 use Rattle.figures.proofs.Lists.{figures-at}
-use Rattle.rooms.specs.Table.{Room, roomCords}
+use Rattle.rooms.specs.Table.{Room, room_cords}
 use Rattle.rooms.specs.Limits.{carried}
-use Rattle.rooms.specs.Cords.{RoomCord, cordAt, serverAt}
-use Rattle.rooms.specs.Lists.{lowsOf}
+use Rattle.rooms.specs.Cords.{RoomCord, cord_at, server_at}
+use Rattle.rooms.specs.Lists.{lows_of}
 use Rattle.rooms.proofs.Accepted.{Accepted}
 use Rattle.rooms.proofs.Walk.{CordHere, ServerHere}
-use Rattle.deals.specs.Wants.{needs, firstWants}
-use Rattle.deals.specs.Headroom.{ceilingsOf}
-use Rattle.deals.proofs.BothDeals.{needs-at, carriedBy-at, lowsOf-at}
+use Rattle.deals.specs.Wants.{needs, first_wants}
+use Rattle.deals.specs.Headroom.{ceilings_of}
+use Rattle.deals.proofs.BothDeals.{needs-at, carried_by-at, lows_of-at}
 
 -- The cord at place c is the server's at place v, and its words start at index `word`.
 pub record CordStands (table : List ℕ) (r : Room) (v c word : ℕ) : Type 0 where
   pub there : word + 1 < length table
-  pub within : c < roomCords r
-  pub is : cordAt r c ≡ record { server = v; node = at table word; share = at table (word + 1) }
+  pub within : c < room_cords r
+  pub is : cord_at r c ≡ record { server = v; node = at table word; share = at table (word + 1) }
   pub node-most : at table word ≤ length r.nodes
   pub share-most : at table (word + 1) ≤ r.scale
 
@@ -50,21 +50,21 @@ module _ {table : List ℕ} {r : Room} {v start first : ℕ} (standing : ServerH
   -- The cord's low, want and ceiling, by its words and those of its server.
   module _ {c word : ℕ} (cord : CordStands table r v c word) where
     -- What it carries of its server's load.
-    load_is : (loads : List ℕ) {load : ℕ} → at loads v ≡ load → carried r.scale (cordAt r c).share (at loads (cordAt r c).server) ≡ carried r.scale (at table (word + 1)) load
+    load_is : (loads : List ℕ) {load : ℕ} → at loads v ≡ load → carried r.scale (cord_at r c).share (at loads (cord_at r c).server) ≡ carried r.scale (at table (word + 1)) load
     load_is loads e = ap₂ (carried r.scale) (ap (λ (x : RoomCord). x.share) cord.is) (ap (λ (x : RoomCord). at loads x.server) cord.is ∙ e)
 
-    pub low-is : Accepted r → at (lowsOf r) c ≡ carried r.scale (at table (word + 1)) (at table (start + 1))
+    pub low-is : Accepted r → at (lows_of r) c ≡ carried r.scale (at table (word + 1)) (at table (start + 1))
     low-is ok =
-        lowsOf-at r ok c cord.within
-        ∙ ap₂ (carried r.scale) (ap (λ (x : RoomCord). x.share) cord.is) (ap (λ (x : RoomCord). (serverAt r x.server).least) cord.is ∙ standing.least)
+        lows_of-at r ok c cord.within
+        ∙ ap₂ (carried r.scale) (ap (λ (x : RoomCord). x.share) cord.is) (ap (λ (x : RoomCord). (server_at r x.server).least) cord.is ∙ standing.least)
 
     pub want_is : (demands : List ℕ) → v < length r.servers
-        → at (firstWants r demands) c ≡ carried r.scale (at table (word + 1)) (min (max (at demands v) (at table (start + 1))) (at table (start + 2)))
-    unfolding firstWants
-    want_is demands here = carriedBy-at r (needs r demands) c cord.within ∙ load_is (needs r demands) (need-is demands here)
+        → at (first_wants r demands) c ≡ carried r.scale (at table (word + 1)) (min (max (at demands v) (at table (start + 1))) (at table (start + 2)))
+    unfolding first_wants
+    want_is demands here = carried_by-at r (needs r demands) c cord.within ∙ load_is (needs r demands) (need-is demands here)
 
-    pub ceiling-is : v < length r.servers → at (ceilingsOf r) c ≡ carried r.scale (at table (word + 1)) (at table (start + 2))
-    unfolding ceilingsOf
+    pub ceiling-is : v < length r.servers → at (ceilings_of r) c ≡ carried r.scale (at table (word + 1)) (at table (start + 2))
+    unfolding ceilings_of
     ceiling-is here =
-        let greatests : List ℕ = figures (length r.servers) (λ u. (serverAt r u).greatest) in
-        carriedBy-at r greatests c cord.within ∙ load_is greatests (figures-at (length r.servers) v _ here ∙ standing.greatest)
+        let greatests : List ℕ = figures (length r.servers) (λ u. (server_at r u).greatest) in
+        carried_by-at r greatests c cord.within ∙ load_is greatests (figures-at (length r.servers) v _ here ∙ standing.greatest)

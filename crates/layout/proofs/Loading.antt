@@ -9,27 +9,27 @@ use Rattle.figures.specs.Figures.{figures, at}
 use Rattle.figures.proofs.Lists.{figures-length}
 use Rattle.figures.proofs.Filled.{Filled, filled_none, filled-one}
 use Rattle.rooms.specs.Part.{good}
-use Rattle.rooms.specs.Table.{Room, IsScale, mostServers, mostCords, mostWatts, roomCords}
+use Rattle.rooms.specs.Table.{Room, IsScale, most_servers, most_cords, most_watts, room_cords}
 use Rattle.rooms.specs.Limits.{checked, carried}
-use Rattle.rooms.specs.Cords.{serverAt}
-use Rattle.rooms.specs.Lists.{lowsOf}
+use Rattle.rooms.specs.Cords.{server_at}
+use Rattle.rooms.specs.Lists.{lows_of}
 use Rattle.rooms.specs.Rows.{OfRoom, ScaleIs}
-use Rattle.rooms.specs.Walk.{serversIndex}
+use Rattle.rooms.specs.Walk.{servers_index}
 use Rattle.rooms.proofs.Accepted.{Accepted, accepted}
 use Rattle.rooms.proofs.Walk.{ServerHere, walk_end}
 use Rattle.rooms.proofs.Laying.{Laying, LayingServer, laying-start, laying-end, served, corded}
 use Rattle.rooms.proofs.Laying as rows
-use Rattle.deals.specs.Wants.{needs, firstWants}
-use Rattle.deals.specs.Headroom.{ceilingsOf}
-use Rattle.deals.proofs.BothDeals.{carriedBy-length, lowsOf-length}
+use Rattle.deals.specs.Wants.{needs, first_wants}
+use Rattle.deals.specs.Headroom.{ceilings_of}
+use Rattle.deals.proofs.BothDeals.{carried_by-length, lows_of-length}
 use Rattle.layout.specs.Lists.{CordsLent, CordsLaidOut}
 use Rattle.layout.proofs.Carrying.{CordStands, cord-stands, carried-as, need-is, low-is, want_is, ceiling-is}
 
 -- The lists have the figures of the cords before place c, and the needs of the servers before place v.
 pub record FiguresDone (r : Room) (demands : List ℕ) (v c : ℕ) (lows wants ceilings needed : List ℕ) : Type 0 where
-  pub lows-done : Filled (at (lowsOf r)) (roomCords r) c lows
-  pub wants-done : Filled (at (firstWants r demands)) (roomCords r) c wants
-  pub ceilings-done : Filled (at (ceilingsOf r)) (roomCords r) c ceilings
+  pub lows-done : Filled (at (lows_of r)) (room_cords r) c lows
+  pub wants-done : Filled (at (first_wants r demands)) (room_cords r) c wants
+  pub ceilings-done : Filled (at (ceilings_of r)) (room_cords r) c ceilings
   pub needs-done : Filled (at (needs r demands)) (length r.servers) v needed
 
 -- The walk stands before the server at place v, whose cords stand from place `first` on; the cords before place c are loaded. What is known
@@ -70,7 +70,7 @@ none_filled : {n : ℕ} (g : ℕ → ℕ) (l : List ℕ) → length l ≡ n → 
 none_filled g l e = rw (← e) (filled_none g l)
 
 pub loading-start : {table demands : List ℕ} {cords : List (List ℕ)} {lows wants ceilings needed : List ℕ} → CordsLent table demands cords lows wants ceilings needed
-    → {scale : ℕ} → ScaleIs table scale → {start : ℕ} → start ≡ serversIndex table + 1 → Loading table demands scale 0 start 0 0 cords lows wants ceilings needed
+    → {scale : ℕ} → ScaleIs table scale → {start : ℕ} → start ≡ servers_index table + 1 → Loading table demands scale 0 start 0 0 cords lows wants ceilings needed
 loading-start {table} {demands} {cords} {lows} {wants} {ceilings} {needed} lent scaled {start} e =
     let room = lent.good-table.value in
     let end = lent.good-table.next in
@@ -101,13 +101,13 @@ needs-length : (r : Room) (demands : List ℕ) → length (needs r demands) ≡ 
 unfolding needs
 needs-length r demands = figures-length (length r.servers) _
 
-wants-length : (r : Room) (demands : List ℕ) → length (firstWants r demands) ≡ roomCords r
-unfolding firstWants
-wants-length r demands = carriedBy-length r (needs r demands)
+wants-length : (r : Room) (demands : List ℕ) → length (first_wants r demands) ≡ room_cords r
+unfolding first_wants
+wants-length r demands = carried_by-length r (needs r demands)
 
-ceilings-length : (r : Room) → length (ceilingsOf r) ≡ roomCords r
-unfolding ceilingsOf
-ceilings-length r = carriedBy-length r (figures (length r.servers) (λ v. (serverAt r v).greatest))
+ceilings-length : (r : Room) → length (ceilings_of r) ≡ room_cords r
+unfolding ceilings_of
+ceilings-length r = carried_by-length r (figures (length r.servers) (λ v. (server_at r v).greatest))
 
 module _ {table demands : List ℕ} {scale v start first c : ℕ} {cords : List (List ℕ)} {lows wants ceilings needed : List ℕ}
     (loading : Loading table demands scale v start first c cords lows wants ceilings needed) where
@@ -139,12 +139,12 @@ module _ {table demands : List ℕ} {scale v start first c : ℕ} {cords : List 
   loading-end h f r end is =
       let all : length loading.room.servers ≤ v = omega (arith, servers-size) in
       let cords-all = walk_end loading.laying.walk (omega (arith, served loading.laying, loading.demands-size)) in
-      let done : roomCords loading.room ≤ c = omega (arith, cords-all, ap roomCords of-laying) in
+      let done : room_cords loading.room ≤ c = omega (arith, cords-all, ap room_cords of-laying) in
       let figures = loading.figures in
       rw (← one-room table loading.read is)
       (record {
         rows_are = (laying-end loading.laying (omega (arith, loading.demands-size)) f loading.room loading.end loading.read).1;
-        lows-are = filled-whole figures.lows-done (lowsOf-length loading.room) done;
+        lows-are = filled-whole figures.lows-done (lows_of-length loading.room) done;
         wants-are = filled-whole figures.wants-done (wants-length loading.room demands) done;
         ceilings-are = filled-whole figures.ceilings-done (ceilings-length loading.room) done;
         needs-are = filled-whole figures.needs-done (needs-length loading.room demands) all;
@@ -157,11 +157,11 @@ module _ {table demands : List ℕ} {scale v start first c : ℕ} {cords : List 
     pub server-here : ServerHere table loading.room v start first
     server-here = here_in of-laying (rows.laying-server loading.laying row_more)
 
-    pub few-cords : first + at table (start + 3) ≤ mostCords
+    pub few-cords : first + at table (start + 3) ≤ most_cords
     few-cords = rows.few-cords loading.laying row_more
 
-    pub few-servers : v < mostServers
-    few-servers = omega (arith, servers-size, (accepted table loading.room loading.end loading.read).fewServers)
+    pub few-servers : v < most_servers
+    few-servers = omega (arith, servers-size, (accepted table loading.room loading.end loading.read).few_servers)
 
     pub server-begin : c ≡ first → {level least greatest need count : ℕ} → level ≡ at table start - 1 → least ≡ at table (start + 1) → greatest ≡ at table (start + 2)
         → need ≡ min (max (at demands v) (at table (start + 1))) (at table (start + 2)) → count ≡ at table (start + 3)
@@ -189,7 +189,7 @@ row_as e f g h = λ i. e i ∷ f i ∷ g i ∷ h i ∷ []
 -- What code relies on at a cord.
 pub record CordFits (table : List ℕ) (scale v least greatest need c word : ℕ) (cords : List (List ℕ)) (lows wants ceilings : List ℕ) : Type 0 where
   pub there : word + 1 < length table
-  pub few : c < mostCords
+  pub few : c < most_cords
   pub in-cords : c < length cords
   pub in-lows : c < length lows
   pub in-wants : c < length wants
@@ -199,9 +199,9 @@ pub record CordFits (table : List ℕ) (scale v least greatest need c word : ℕ
   pub share-short : at table (word + 1) < 2 ^ 16
   pub scaled : IsScale scale
   pub share-most : at table (word + 1) ≤ scale
-  pub least-most : least ≤ mostWatts
-  pub need-most : need ≤ mostWatts
-  pub greatest-most : greatest ≤ mostWatts
+  pub least-most : least ≤ most_watts
+  pub need-most : need ≤ most_watts
+  pub greatest-most : greatest ≤ most_watts
 
 module _ {table demands : List ℕ} {scale v start first level least greatest need count c word : ℕ} {cords : List (List ℕ)} {lows wants ceilings needed : List ℕ}
     (server : LoadingServer table demands scale v start first level least greatest need count c word cords lows wants ceilings needed) where
@@ -259,8 +259,8 @@ module _ {table demands : List ℕ} {scale v start first level least greatest ne
         let row = rows.row_fits laying short in
         record {
           there = cord.there;
-          few = omega (arith, within, ok.fewCords);
-          in-cords = omega (arith, within, corded laying.laying, ap roomCords of_row);
+          few = omega (arith, within, ok.few_cords);
+          in-cords = omega (arith, within, corded laying.laying, ap room_cords of_row);
           in-lows = omega (arith, within, figures.lows-done.size_is);
           in-wants = omega (arith, within, figures.wants-done.size_is);
           in-ceilings = omega (arith, within, figures.ceilings-done.size_is);

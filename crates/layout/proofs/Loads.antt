@@ -9,30 +9,30 @@ use lib.ListN.{length, take, drop}
 use lib.Seq.{sets, length-take-le, take_all, take_at}
 use borrow.Author.Tests.{eqb-true, eqb-false, eq-eqb, ne_eqb, lt-ltb, le-ltb, leb-true, leb-false}
 use Rattle.outcomes.specs.Outcome.{accepted, refused, Reason, unless}
-use Rattle.outcomes.specs.Part.{whenGood}
+use Rattle.outcomes.specs.Part.{when_good}
 use Rattle.outcomes.proofs.Outcomes.{unless-stop, unless-pass, unless-back, unless-none, unless-is, accepted-is}
 use Rattle.outcomes.proofs.Parts.{accepted-went}
 use Rattle.words.specs.Bytes.{words_of}
 use Rattle.words.proofs.Bytes.{take-loaded}
 use Rattle.figures.specs.Figures.{at}
 use Rattle.rooms.specs.Part.{Step, good, bad, Good}
-use Rattle.rooms.specs.Table.{Room, mostNodes, mostServers, mostCords, mostWords, roomCords}
-use Rattle.rooms.specs.Limits.{lowsBeneath, checked, lowsTold}
-use Rattle.rooms.specs.Lists.{parentsOf, limitsOf}
+use Rattle.rooms.specs.Table.{Room, most_nodes, most_servers, most_cords, most_words, room_cords}
+use Rattle.rooms.specs.Limits.{lows_beneath, checked, lows_told}
+use Rattle.rooms.specs.Lists.{parents_of, limits_of}
 use Rattle.rooms.specs.Rows.{OfRoom, NodesFit, ServersFit, CordsFit}
 use Rattle.rooms.specs.Told.{told}
 use Rattle.rooms.specs.declared.Checked.{Checked}
 use Rattle.rooms.specs.declared.Checked.TheVariants as checks
 use Rattle.rooms.specs.declared.SheetRefusal.{SheetRefusal}
-use Rattle.rooms.proofs.Found.{nodeLows-at, lowsTold-length}
+use Rattle.rooms.proofs.Found.{node_lows-at, lows_told-length}
 use Rattle.rooms.proofs.Accepted.{Accepted}
 use Rattle.rooms.proofs.Accepted as rooms
 use Rattle.rooms.proofs.Steps.{known}
 use Rattle.rooms.proofs.Outcomes.{refused-so}
 use Rattle.rooms.proofs.Reach.{prefix-decides}
-use Rattle.deals.specs.Plan.{firstTooLarge}
+use Rattle.deals.specs.Plan.{first_too_large}
 use Rattle.layout.specs.Lists.{HasLowsBeneath, CordsLaidOut}
-use Rattle.layout.specs.Outcome.{LoadOutcome, loadReasons, loading, countsOf, loadedOf}
+use Rattle.layout.specs.Outcome.{LoadOutcome, load_reasons, loading, counts_of, loaded_of}
 use Rattle.layout.specs.Room.{RoomLists, RoomLoaded}
 use Rattle.layout.specs.declared.room.Counts.{Counts}
 use Rattle.layout.specs.declared.room.LoadRefusal.{LoadRefusal}
@@ -43,59 +43,59 @@ use Rattle.layout.specs.declared.room.Loaded.TheVariants as loads
 -- ---- What the table's check tells
 
 -- The check tells a good table and the count of its cords.
-pub table-good : (table : List ℕ) {answer : Checked} {v j : ℕ} → answer ≡ told roomCords (checked table 0) → answer ≡ checks.Good v j → Good (checked table 0)
-table-good table d e = let k = known roomCords (checked table 0) d e in record { value = k.got; next = _; is = k.is }
+pub table-good : (table : List ℕ) {answer : Checked} {v j : ℕ} → answer ≡ told room_cords (checked table 0) → answer ≡ checks.Good v j → Good (checked table 0)
+table-good table d e = let k = known room_cords (checked table 0) d e in record { value = k.got; next = _; is = k.is }
 
-pub cords-told : (table : List ℕ) {answer : Checked} {v j : ℕ} → answer ≡ told roomCords (checked table 0) → answer ≡ checks.Good v j → CordsFit table v
+pub cords-told : (table : List ℕ) {answer : Checked} {v j : ℕ} → answer ≡ told room_cords (checked table 0) → answer ≡ checks.Good v j → CordsFit table v
 unfolding told
-cords-told table {answer = answer} {v = v} d e r end is = let t : answer ≡ checks.Good (roomCords r) end = d ∙ rw is in cc
+cords-told table {answer = answer} {v = v} d e r end is = let t : answer ≡ checks.Good (room_cords r) end = d ∙ rw is in cc
 
 -- The list that the check hands out has a place for each node, and there the lows beneath it.
-pub lows-long : (table list : List ℕ) → list ≡ lowsTold (checked table 0) → mostNodes ≡ length list
-lows-long table list e = sym (ap length e ∙ lowsTold-length (checked table 0))
+pub lows-long : (table list : List ℕ) → list ≡ lows_told (checked table 0) → most_nodes ≡ length list
+lows-long table list e = sym (ap length e ∙ lows_told-length (checked table 0))
 
-pub lows-told : (table list : List ℕ) → list ≡ lowsTold (checked table 0) → HasLowsBeneath table list
-unfolding lowsTold
+pub lows-told : (table list : List ℕ) → list ≡ lows_told (checked table 0) → HasLowsBeneath table list
+unfolding lows_told
 lows-told table list e r end is n l =
-    ap (λ (x : List ℕ). at x n) (e ∙ ap lowsTold is) ∙ nodeLows-at r n (omega (arith, (rooms.accepted table r end is).fewNodes))
+    ap (λ (x : List ℕ). at x n) (e ∙ ap lows_told is) ∙ node_lows-at r n (omega (arith, (rooms.accepted table r end is).few_nodes))
 
 -- ---- The checks, in their order
 
 -- What loading comes to, by what the table's check gives.
 abbrev by_step : Step Room → List ℕ → LoadOutcome
-by_step step demands = whenGood Table step (λ r. unless (loadReasons r demands) r)
+by_step step demands = when_good Table step (λ r. unless (load_reasons r demands) r)
 
 module _ (table demands : List ℕ) where
   loading-is : {step : Step Room} → checked table 0 ≡ step → loading table demands ≡ by_step step demands
   unfolding loading
   loading-is e = ap (λ (s : Step Room). by_step s demands) e
 
-  pub loading-good : {r : Room} {end : ℕ} → checked table 0 ≡ good r end → loading table demands ≡ unless (loadReasons r demands) r
+  pub loading-good : {r : Room} {end : ℕ} → checked table 0 ≡ good r end → loading table demands ≡ unless (load_reasons r demands) r
   loading-good e = loading-is e
 
   pub loading-bad : {q : SheetRefusal} → checked table 0 ≡ bad q → loading table demands ≡ refused (Table q)
   loading-bad e = loading-is e
 
   -- A refusal is told.
-  refused-told : {q : LoadRefusal} → loading table demands ≡ refused q → loads.Refused q ≡ loadedOf (loading table demands)
+  refused-told : {q : LoadRefusal} → loading table demands ≡ refused q → loads.Refused q ≡ loaded_of (loading table demands)
   refused-told e = rw e refl
 
   -- The table's refusal stands.
-  pub table-told : {answer : Checked} {q : SheetRefusal} → answer ≡ told roomCords (checked table 0) → answer ≡ checks.Refused q
-      → loads.Refused (Table q) ≡ loadedOf (loading table demands)
-  table-told d e = refused-told (loading-bad (refused-so roomCords (checked table 0) d e))
+  pub table-told : {answer : Checked} {q : SheetRefusal} → answer ≡ told room_cords (checked table 0) → answer ≡ checks.Refused q
+      → loads.Refused (Table q) ≡ loaded_of (loading table demands)
+  table-told d e = refused-told (loading-bad (refused-so room_cords (checked table 0) d e))
 
   -- These reasons to refuse are left, of those of a good table's room, and decide.
   pub record Left (room : Room) (rest : List (Reason LoadRefusal)) : Type 0 where
     pub is : loading table demands ≡ unless rest room
 
   -- Of a good table all are left.
-  pub table-passed : (g : Good (checked table 0)) → Left g.value (loadReasons g.value demands)
+  pub table-passed : (g : Good (checked table 0)) → Left g.value (load_reasons g.value demands)
   table-passed g = record { is = loading-good g.is }
 
   -- A reason holds, and its refusal is told; or it does not, and the others are left.
   module _ {room : Room} {reason : Reason LoadRefusal} {rest : List (Reason LoadRefusal)} (left : Left room (reason ∷ rest)) where
-    stopped : reason.holds ≡ true → loads.Refused reason.refusal ≡ loadedOf (loading table demands)
+    stopped : reason.holds ≡ true → loads.Refused reason.refusal ≡ loaded_of (loading table demands)
     stopped h = refused-told (left.is ∙ unless-stop reason rest room h)
 
     passed : reason.holds ≡ false → Left room rest
@@ -104,24 +104,24 @@ module _ (table demands : List ℕ) where
   module _ (g : Good (checked table 0)) where
     -- The count of demands.
     module _ (n : ℕ) (is : n ≡ length g.value.servers) where
-      pub count-told : (length demands ≡ n → ⊥) → loads.Refused (DemandCount n) ≡ loadedOf (loading table demands)
+      pub count-told : (length demands ≡ n → ⊥) → loads.Refused (DemandCount n) ≡ loaded_of (loading table demands)
       count-told h =
           ap (λ (k : ℕ). loads.Refused (DemandCount k)) is
           ∙ stopped (table-passed g) (ap not (ne_eqb (length demands) (length g.value.servers) (λ e. h (e ∙ sym is))))
 
-      pub count-passed : length demands ≡ n → Left g.value (drop 1 (loadReasons g.value demands))
+      pub count-passed : length demands ≡ n → Left g.value (drop 1 (load_reasons g.value demands))
       count-passed h = passed (table-passed g) (ap not (eq-eqb (length demands) (length g.value.servers) (h ∙ is)))
 
     -- The demands themselves.
-    module _ (left : Left g.value (drop 1 (loadReasons g.value demands))) (n : ℕ) (is : n ≡ firstTooLarge demands) where
-      pub large-told : n < length demands → loads.Refused (DemandTooLarge n) ≡ loadedOf (loading table demands)
-      large-told h = ap (λ (k : ℕ). loads.Refused (DemandTooLarge k)) is ∙ stopped left (lt-ltb (firstTooLarge demands) (length demands) (omega arith))
+    module _ (left : Left g.value (drop 1 (load_reasons g.value demands))) (n : ℕ) (is : n ≡ first_too_large demands) where
+      pub large-told : n < length demands → loads.Refused (DemandTooLarge n) ≡ loaded_of (loading table demands)
+      large-told h = ap (λ (k : ℕ). loads.Refused (DemandTooLarge k)) is ∙ stopped left (lt-ltb (first_too_large demands) (length demands) (omega arith))
 
       pub all-passed : length demands ≤ n → loading table demands ≡ accepted g.value
-      all-passed h = (passed left (le-ltb (firstTooLarge demands) (length demands) (omega arith))).is ∙ unless-none g.value
+      all-passed h = (passed left (le-ltb (first_too_large demands) (length demands) (omega arith))).is ∙ unless-none g.value
 
     -- The room's counts are told.
-    pub room-told : loading table demands ≡ accepted g.value → {counts : Counts} → counts ≡ countsOf g.value → loads.Good counts ≡ loadedOf (loading table demands)
+    pub room-told : loading table demands ≡ accepted g.value → {counts : Counts} → counts ≡ counts_of g.value → loads.Good counts ≡ loaded_of (loading table demands)
     room-told e is = rw (e, is) refl
 
 -- ---- What is loaded
@@ -132,28 +132,28 @@ pub record RoomFound (table demands : List ℕ) (counts : Counts) : Type 0 where
   pub end : ℕ
   pub is : checked table 0 ≡ good room end
   pub accepts : loading table demands ≡ accepted room
-  pub demandCount : length demands ≡ length room.servers
-  pub counted : counts ≡ countsOf room
+  pub demand_count : length demands ≡ length room.servers
+  pub counted : counts ≡ counts_of room
 
 -- So it is where the outcome is accepted.
 module _ (table demands : List ℕ) {r : Room} (e : loading table demands ≡ accepted r) where
   good-step : Good (checked table 0)
   unfolding loading
-  good-step = (accepted-went Table (λ x. unless (loadReasons x demands) x) (checked table 0) e).good-step
+  good-step = (accepted-went Table (λ x. unless (load_reasons x demands) x) (checked table 0) e).good-step
 
-  went : unless (loadReasons good-step.value demands) good-step.value ≡ accepted r
+  went : unless (load_reasons good-step.value demands) good-step.value ≡ accepted r
   went = sym (loading-good table demands good-step.is) ∙ e
 
   found-room : r ≡ good-step.value
-  found-room = unless-is (loadReasons good-step.value demands) good-step.value r went
+  found-room = unless-is (load_reasons good-step.value demands) good-step.value r went
 
-  pub outcome-found : RoomFound table demands (countsOf r)
+  pub outcome-found : RoomFound table demands (counts_of r)
   outcome-found = record {
     room = r;
     end = good-step.next;
     is = good-step.is ∙ ap (λ (x : Room). good x good-step.next) (sym found-room);
     accepts = e;
-    demandCount = not-differs (length demands) (length good-step.value.servers) (unless-back _ _ good-step.value went).0 ∙ ap (λ (x : Room). length x.servers) (sym found-room);
+    demand_count = not-differs (length demands) (length good-step.value.servers) (unless-back _ _ good-step.value went).0 ∙ ap (λ (x : Room). length x.servers) (sym found-room);
     counted = refl;
   }
     where
@@ -164,11 +164,11 @@ module _ (table demands : List ℕ) {r : Room} (e : loading table demands ≡ ac
           go true h d = eqb-true a b h
           go false h d = absurd (true≢false d)
 
-pub found : {table demands : List ℕ} {answer : Loaded} {counts : Counts} → answer ≡ loadedOf (loading table demands) → answer ≡ loads.Good counts → RoomFound table demands counts
+pub found : {table demands : List ℕ} {answer : Loaded} {counts : Counts} → answer ≡ loaded_of (loading table demands) → answer ≡ loads.Good counts → RoomFound table demands counts
 found {table} {demands} {answer} {counts} d e = go (loading table demands) refl (sym e ∙ d)
   where
-    go : (o : LoadOutcome) → loading table demands ≡ o → loads.Good counts ≡ loadedOf o → RoomFound table demands counts
-    go (accepted r) is told = let same : counts ≡ countsOf r = cc in rw same (outcome-found table demands is)
+    go : (o : LoadOutcome) → loading table demands ≡ o → loads.Good counts ≡ loaded_of o → RoomFound table demands counts
+    go (accepted r) is told = let same : counts ≡ counts_of r = cc in rw same (outcome-found table demands is)
     go (refused q) is told = absurd (let z : ◌≡◌ {A = ℕ} 0 1 = cc in omega arith)
 
 module _ {table demands : List ℕ} {counts : Counts} (f : RoomFound table demands counts) where
@@ -188,36 +188,36 @@ module _ {table demands : List ℕ} {counts : Counts} (f : RoomFound table deman
   pub servers-count : counts.servers ≡ length f.room.servers
   servers-count = ap (λ (c : Counts). c.servers) f.counted
 
-  pub cords-count : counts.cords ≡ roomCords f.room
+  pub cords-count : counts.cords ≡ room_cords f.room
   cords-count = ap (λ (c : Counts). c.cords) f.counted
 
-  pub nodes-few : counts.nodes ≤ mostNodes
-  nodes-few = omega (arith, nodes-count, found-accepted.fewNodes)
+  pub nodes-few : counts.nodes ≤ most_nodes
+  nodes-few = omega (arith, nodes-count, found-accepted.few_nodes)
 
-  pub servers-few : counts.servers ≤ mostServers
-  servers-few = omega (arith, servers-count, found-accepted.fewServers)
+  pub servers-few : counts.servers ≤ most_servers
+  servers-few = omega (arith, servers-count, found-accepted.few_servers)
 
-  pub cords-few : counts.cords ≤ mostCords
-  cords-few = omega (arith, cords-count, found-accepted.fewCords)
+  pub cords-few : counts.cords ≤ most_cords
+  cords-few = omega (arith, cords-count, found-accepted.few_cords)
 
   pub nodes-fit : NodesFit table counts.nodes
   nodes-fit r end q = nodes-count ∙ ap (λ (x : Room). length x.nodes) (same-room r end q)
 
   -- Lists that are lent by their fronts fit.
   module _ {A : Type 0} (list : List A) where
-    pub nodes-lent : mostNodes ≤ length list → NodesFit table (length (take counts.nodes list))
+    pub nodes-lent : most_nodes ≤ length list → NodesFit table (length (take counts.nodes list))
     nodes-lent space r end q =
         length-take-le counts.nodes list (omega (arith, nodes-few)) ∙ nodes-fit r end q
 
-    pub servers-lent : mostServers ≤ length list → ServersFit table (length (take counts.servers list))
+    pub servers-lent : most_servers ≤ length list → ServersFit table (length (take counts.servers list))
     servers-lent space r end q =
         length-take-le counts.servers list (omega (arith, servers-few)) ∙ servers-count ∙ ap (λ (x : Room). length x.servers) (same-room r end q)
 
-    pub cords-lent : mostCords ≤ length list → CordsFit table (length (take counts.cords list))
-    cords-lent space r end q = length-take-le counts.cords list (omega (arith, cords-few)) ∙ cords-count ∙ ap roomCords (same-room r end q)
+    pub cords-lent : most_cords ≤ length list → CordsFit table (length (take counts.cords list))
+    cords-lent space r end q = length-take-le counts.cords list (omega (arith, cords-few)) ∙ cords-count ∙ ap room_cords (same-room r end q)
 
   pub demands-fit : ServersFit table (length demands)
-  demands-fit r end q = f.demandCount ∙ ap (λ (x : Room). length x.servers) (same-room r end q)
+  demands-fit r end q = f.demand_count ∙ ap (λ (x : Room). length x.servers) (same-room r end q)
 
 -- The first n entries of a list were lent, and `back` came back for them.
 pub record Back {A : Type 0} (n : ℕ) (list back : List A) : Type 0 where
@@ -231,7 +231,7 @@ front-is {n = n} {m = m} {list = list} {back = back} b e = take_at back (drop n 
 -- The room's lists stand at the fronts.
 module _ {table demands : List ℕ} {counts : Counts} (f : RoomFound table demands counts)
     {parents spare lows wants ceilings needed parents' spare' lows' wants' ceilings' needed' : List ℕ} {cords cords' : List (List ℕ)}
-    (of-nodes : OfRoom table (λ r. (parents' ≡ parentsOf r) × ((n : ℕ) → n < length r.nodes → at spare' n + lowsBeneath r n ≡ at (limitsOf r) n)))
+    (of-nodes : OfRoom table (λ r. (parents' ≡ parents_of r) × ((n : ℕ) → n < length r.nodes → at spare' n + lows_beneath r n ≡ at (limits_of r) n)))
     (of-cords : OfRoom table (λ r. CordsLaidOut r demands cords' lows' wants' ceilings' needed'))
     (p : Back counts.nodes parents parents') (s : Back counts.nodes spare spare') (k : Back counts.cords cords cords') (l : Back counts.cords lows lows')
     (w : Back counts.cords wants wants') (t : Back counts.cords ceilings ceilings') (n : Back counts.servers needed needed') where
@@ -257,8 +257,8 @@ module _ {table demands : List ℕ} {counts : Counts} (f : RoomFound table deman
   lists-loaded r e = subst LoadedAs (accepted-is (sym f.accepts ∙ e)) own
 
 -- Where loading is refused, no room is accepted.
-pub none-loaded : (table demands : List ℕ) {q : LoadRefusal} → loads.Refused q ≡ loadedOf (loading table demands) → (r : Room) → loading table demands ≡ accepted r → ⊥
-none-loaded table demands d r e = let h = d ∙ ap loadedOf e in let z : ◌≡◌ {A = ℕ} 0 1 = cc in omega arith
+pub none-loaded : (table demands : List ℕ) {q : LoadRefusal} → loads.Refused q ≡ loaded_of (loading table demands) → (r : Room) → loading table demands ≡ accepted r → ⊥
+none-loaded table demands d r e = let h = d ∙ ap loaded_of e in let z : ◌≡◌ {A = ℕ} 0 1 = cc in omega arith
 
 -- ---- A table and demands in bytes
 
@@ -270,42 +270,42 @@ count_cut demands servers m h n e = go (leb m (length demands)) refl
     go true l = absurd (omega (arith, length-take-le m demands (leb-true m (length demands) l)))
     go false l = n (sym (ap length (take_all m demands (omega (arith, leb-false m (length demands) l)))) ∙ e)
 
-demands-cut : (r : Room) (demands : List ℕ) (m : ℕ) → length r.servers < m → unless (loadReasons r (take m demands)) r ≡ unless (loadReasons r demands) r
+demands-cut : (r : Room) (demands : List ℕ) (m : ℕ) → length r.servers < m → unless (load_reasons r (take m demands)) r ≡ unless (load_reasons r demands) r
 demands-cut r demands m h = go (eqb (length demands) (length r.servers)) refl
   where
-    differs : (d : List ℕ) → (length d ≡ length r.servers → ⊥) → unless (loadReasons r d) r ≡ refused (DemandCount (length r.servers))
+    differs : (d : List ℕ) → (length d ≡ length r.servers → ⊥) → unless (load_reasons r d) r ≡ refused (DemandCount (length r.servers))
     differs d n = unless-stop _ _ r (ap not (ne_eqb (length d) (length r.servers) n))
 
-    go : (t : Bool) → eqb (length demands) (length r.servers) ≡ t → unless (loadReasons r (take m demands)) r ≡ unless (loadReasons r demands) r
-    go true e = ap (λ (d : List ℕ). unless (loadReasons r d) r) (take_all m demands (omega (arith, eqb-true (length demands) (length r.servers) e)))
+    go : (t : Bool) → eqb (length demands) (length r.servers) ≡ t → unless (load_reasons r (take m demands)) r ≡ unless (load_reasons r demands) r
+    go true e = ap (λ (d : List ℕ). unless (load_reasons r d) r) (take_all m demands (omega (arith, eqb-true (length demands) (length r.servers) e)))
     go false e =
         let n = eqb-false (length demands) (length r.servers) e in
         differs (take m demands) (count_cut demands (length r.servers) m h n) ∙ sym (differs demands n)
 
 -- Loading comes to the same of a table and demands that are cut no shorter than decides every answer.
-loading-cut : (table demands : List ℕ) (w m : ℕ) → suc mostWords ≤ w → suc mostServers ≤ m → loading (take w table) (take m demands) ≡ loading table demands
+loading-cut : (table demands : List ℕ) (w m : ℕ) → suc most_words ≤ w → suc most_servers ≤ m → loading (take w table) (take m demands) ≡ loading table demands
 unfolding loading
 loading-cut table demands w m hw hm = ap (λ (s : Step Room). by_step s (take m demands)) (prefix-decides table w hw) ∙ go (checked table 0) refl
   where
     go : (s : Step Room) → checked table 0 ≡ s → by_step s (take m demands) ≡ by_step s demands
-    go (good r end) e = demands-cut r demands m (omega (arith, (rooms.accepted table r end e).fewServers))
+    go (good r end) e = demands-cut r demands m (omega (arith, (rooms.accepted table r end e).few_servers))
     go (bad q) e = refl
 
 -- What `load` took of a table and of demands, into lists that are long enough.
-module _ (table demands words figures : List ℕ) {wordCount figureCount : ℕ} {words' figures' : List ℕ}
-    (hw : suc mostWords ≤ length words) (hf : suc mostServers ≤ length figures)
-    (nw : wordCount ≡ min (length table / 4) (length words)) (w : words' ≡ sets words 0 (words_of table))
-    (nf : figureCount ≡ min (length demands / 4) (length figures)) (d : figures' ≡ sets figures 0 (words_of demands)) where
-  taken : take figureCount figures' ≡ take (length figures) (words_of demands)
-  taken = take-loaded (length figures) figureCount demands figures figures' refl nf d
+module _ (table demands words figures : List ℕ) {word_count figure_count : ℕ} {words' figures' : List ℕ}
+    (hw : suc most_words ≤ length words) (hf : suc most_servers ≤ length figures)
+    (nw : word_count ≡ min (length table / 4) (length words)) (w : words' ≡ sets words 0 (words_of table))
+    (nf : figure_count ≡ min (length demands / 4) (length figures)) (d : figures' ≡ sets figures 0 (words_of demands)) where
+  taken : take figure_count figures' ≡ take (length figures) (words_of demands)
+  taken = take-loaded (length figures) figure_count demands figures figures' refl nf d
 
-  pub bytes-loading : loading (take wordCount words') (take figureCount figures') ≡ loading (words_of table) (words_of demands)
+  pub bytes-loading : loading (take word_count words') (take figure_count figures') ≡ loading (words_of table) (words_of demands)
   bytes-loading =
-      ap₂ loading (take-loaded (length words) wordCount table words words' refl nw w) taken
+      ap₂ loading (take-loaded (length words) word_count table words words' refl nw w) taken
       ∙ loading-cut (words_of table) (words_of demands) (length words) (length figures) hw hf
 
   -- Of a room that is accepted, all demands were taken.
-  pub bytes-demands : (r : Room) → loading (words_of table) (words_of demands) ≡ accepted r → take figureCount figures' ≡ words_of demands
+  pub bytes-demands : (r : Room) → loading (words_of table) (words_of demands) ≡ accepted r → take figure_count figures' ≡ words_of demands
   bytes-demands r e =
       let f = outcome-found (words_of table) (words_of demands) e in
-      taken ∙ take_all (length figures) (words_of demands) (omega (arith, f.demandCount, (found-accepted f).fewServers))
+      taken ∙ take_all (length figures) (words_of demands) (omega (arith, f.demand_count, (found-accepted f).few_servers))

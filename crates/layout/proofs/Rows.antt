@@ -6,27 +6,27 @@ use lib.ListN.{length}
 use Rattle.figures.specs.Figures.{figures, at, cell}
 use Rattle.figures.proofs.Lists.{figures-length}
 use Rattle.figures.proofs.Columns.{column-length, column-at}
-use Rattle.rooms.specs.Table.{Room, roomCords}
+use Rattle.rooms.specs.Table.{Room, room_cords}
 use Rattle.rooms.specs.Limits.{carried}
-use Rattle.rooms.specs.Cords.{cordAt}
-use Rattle.rooms.specs.Lists.{carriedBy, shares_of, serversOf}
-use Rattle.rooms.specs.Rows.{nodeColumn, serverColumn, shareColumn, carriedFrom, CordRows}
-use Rattle.deals.proofs.RoomDeals.{nodesOf-length, nodesOf-at, sharesOf-at, serversOf-at}
+use Rattle.rooms.specs.Cords.{cord_at}
+use Rattle.rooms.specs.Lists.{carried_by, shares_of, servers_of}
+use Rattle.rooms.specs.Rows.{node_column, server_column, share_column, carried_from, CordRows}
+use Rattle.deals.proofs.RoomDeals.{nodes_of-length, nodes_of-at, shares_of-at, servers_of-at}
 
 module _ {r : Room} {rows : List (List ℕ)} (of-cords : CordRows r rows) where
-  pub cords-count : length rows ≡ roomCords r
-  cords-count = sym (column-length nodeColumn rows) ∙ ap length of-cords.nodes ∙ nodesOf-length r
+  pub cords-count : length rows ≡ room_cords r
+  cords-count = sym (column-length node_column rows) ∙ ap length of-cords.nodes ∙ nodes_of-length r
 
-  pub node_at : (c : ℕ) → cell rows c nodeColumn ≡ (cordAt r c).node
-  node_at c = sym (column-at nodeColumn rows c) ∙ ap (λ (l : List ℕ). at l c) of-cords.nodes ∙ nodesOf-at r c
+  pub node_stands : (c : ℕ) → cell rows c node_column ≡ (cord_at r c).node
+  node_stands c = sym (column-at node_column rows c) ∙ ap (λ (l : List ℕ). at l c) of-cords.nodes ∙ nodes_of-at r c
 
-  pub server-at : (c : ℕ) → cell rows c serverColumn ≡ (cordAt r c).server
-  server-at c = sym (column-at serverColumn rows c) ∙ ap (λ (l : List ℕ). at l c) of-cords.servers ∙ serversOf-at r c
+  pub server-at : (c : ℕ) → cell rows c server_column ≡ (cord_at r c).server
+  server-at c = sym (column-at server_column rows c) ∙ ap (λ (l : List ℕ). at l c) of-cords.servers ∙ servers_of-at r c
 
-  pub share-at : (c : ℕ) → cell rows c shareColumn ≡ (cordAt r c).share
-  share-at c = sym (column-at shareColumn rows c) ∙ ap (λ (l : List ℕ). at l c) of-cords.shares ∙ sharesOf-at r c
+  pub share-at : (c : ℕ) → cell rows c share_column ≡ (cord_at r c).share
+  share-at c = sym (column-at share_column rows c) ∙ ap (λ (l : List ℕ). at l c) of-cords.shares ∙ shares_of-at r c
 
 -- What is carried by the room's shares and servers.
-pub carried-is : (r : Room) (loads : List ℕ) → carriedFrom r.scale (shares_of r) (serversOf r) loads ≡ carriedBy r loads
-unfolding carriedBy
-carried-is r loads = λ i. figures (figures-length (roomCords r) (λ c. (cordAt r c).share) i) (λ c. carried r.scale (sharesOf-at r c i) (at loads (serversOf-at r c i)))
+pub carried-is : (r : Room) (loads : List ℕ) → carried_from r.scale (shares_of r) (servers_of r) loads ≡ carried_by r loads
+unfolding carried_by
+carried-is r loads = λ i. figures (figures-length (room_cords r) (λ c. (cord_at r c).share) i) (λ c. carried r.scale (shares_of-at r c i) (at loads (servers_of-at r c i)))

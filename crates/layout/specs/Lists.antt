@@ -3,15 +3,15 @@ use Rattle.std.specs.Prelude.{◌≡◌, List, ℕ, ◌<◌, length}
 use Rattle.figures.specs.Figures.{at}
 use Rattle.rooms.specs.Part.{Good}
 use Rattle.rooms.specs.Table.{Room}
-use Rattle.rooms.specs.Limits.{lowsBeneath, checked}
-use Rattle.rooms.specs.Lists.{lowsOf}
+use Rattle.rooms.specs.Limits.{lows_beneath, checked}
+use Rattle.rooms.specs.Lists.{lows_of}
 use Rattle.rooms.specs.Rows.{OfRoom, ServersFit, CordsFit, CordRows}
-use Rattle.deals.specs.Wants.{needs, firstWants}
-use Rattle.deals.specs.Headroom.{ceilingsOf}
+use Rattle.deals.specs.Wants.{needs, first_wants}
+use Rattle.deals.specs.Headroom.{ceilings_of}
 
 -- A list has at each node's place the lows of all cords beneath the node.
 abbrev pub HasLowsBeneath : List ℕ → List ℕ → Type 0
-HasLowsBeneath table list = OfRoom table (λ r. (n : ℕ) → n < length r.nodes → at list n ≡ lowsBeneath r n)
+HasLowsBeneath table list = OfRoom table (λ r. (n : ℕ) → n < length r.nodes → at list n ≡ lows_beneath r n)
 
 -- The lists that are lent for a good table's cords and servers are as long as these are many: for each cord its row, its low, its
 -- want and its ceiling; for each server its need. There is a demand for each server.
@@ -27,7 +27,7 @@ pub record CordsLent (table demands : List ℕ) (cords : List (List ℕ)) (lows 
 -- The lists are those of the room's cords and servers, with the wants of the first deal.
 pub record CordsLaidOut (r : Room) (demands : List ℕ) (cords : List (List ℕ)) (lows wants ceilings needed : List ℕ) : Type 0 where
   pub rows_are : CordRows r cords
-  pub lows-are : lows ≡ lowsOf r
-  pub wants-are : wants ≡ firstWants r demands
-  pub ceilings-are : ceilings ≡ ceilingsOf r
+  pub lows-are : lows ≡ lows_of r
+  pub wants-are : wants ≡ first_wants r demands
+  pub ceilings-are : ceilings ≡ ceilings_of r
   pub needs-are : needed ≡ needs r demands

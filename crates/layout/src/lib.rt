@@ -3,10 +3,10 @@
 ghost use Rattle.std.specs.Prelude.{◌≡◌, ℕ, ◌+◌, ◌≤◌, ◌<◌, min, max, length, set};
 ghost use Rattle.figures.specs.Figures.{at, column};
 ghost use Rattle.rooms.specs.Part.{Good};
-ghost use Rattle.rooms.specs.Table.{IsScale, mostWatts};
-ghost use Rattle.rooms.specs.Limits.{lowsBeneath, carried, checked};
-ghost use Rattle.rooms.specs.Lists.{parentsOf, limitsOf};
-ghost use Rattle.rooms.specs.Rows.{OfRoom, NodesFit, nodeColumn};
+ghost use Rattle.rooms.specs.Table.{IsScale, most_watts};
+ghost use Rattle.rooms.specs.Limits.{lows_beneath, carried, checked};
+ghost use Rattle.rooms.specs.Lists.{parents_of, limits_of};
+ghost use Rattle.rooms.specs.Rows.{OfRoom, NodesFit, node_column};
 ghost use Rattle.layout.specs.Lists.{HasLowsBeneath, CordsLent, CordsLaidOut};
 
 use figures::{narrow, place, short, wide, word_index};
@@ -32,8 +32,8 @@ pub fn load_nodes(table: &[u32], beneath: &[u64], parents: &mut [u16], spare: &m
     requires good { Good (checked table.now 0) }
     requires lists { NodesFit table.now (length beneath.now) × NodesFit table.now (length parents.old)
         × NodesFit table.now (length spare.old) × HasLowsBeneath table.now beneath.now }
-    ensures laid_out { OfRoom table.now (λ r. (parents.new ≡ parentsOf r)
-        × ((n : ℕ) → n < length r.nodes → at spare.new n + lowsBeneath r n ≡ at (limitsOf r) n)) }
+    ensures laid_out { OfRoom table.now (λ r. (parents.new ≡ parents_of r)
+        × ((n : ℕ) → n < length r.nodes → at spare.new n + lows_beneath r n ≡ at (limits_of r) n)) }
 {
     lay_out_nodes(table, parents, spare);
     spare_limits(beneath, spare);
@@ -60,7 +60,7 @@ fn load_cord(
     ceilings: &mut [u32],
 )
     requires place { (c < length lows.old) × (c < length wants.old) × (c < length ceilings.old) }
-    requires in_range { IsScale scale × (share ≤ scale) × (least ≤ mostWatts) × (need ≤ mostWatts) × (greatest ≤ mostWatts) }
+    requires in_range { IsScale scale × (share ≤ scale) × (least ≤ most_watts) × (need ≤ most_watts) × (greatest ≤ most_watts) }
     ensures loaded { (lows.new ≡ set lows.old c (carried scale share least))
         × (wants.new ≡ set wants.old c (carried scale share need))
         × (ceilings.new ≡ set ceilings.old c (carried scale share greatest)) }
@@ -113,7 +113,7 @@ pub fn load_cords(
 // The node of each cord, by the rows.
 pub fn list_nodes(cords: &[[u16; 4]], nodes: &mut [u16])
     requires size { length nodes.old ≡ length cords.now }
-    ensures listed { nodes.new ≡ column nodeColumn cords.now }
+    ensures listed { nodes.new ≡ column node_column cords.now }
 {
     for c in 0..cords.len() {
         nodes[c] = cords[c][NODE];

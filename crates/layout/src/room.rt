@@ -4,8 +4,8 @@ ghost use Rattle.std.specs.Prelude.{◌≡◌, length};
 ghost use Rattle.outcomes.specs.Outcome.{accepted};
 ghost use Rattle.words.specs.Bytes.{words_of};
 ghost use Rattle.rooms.specs.Table.{Room};
-ghost use Rattle.rooms.specs.Limits.{checked, lowsTold};
-ghost use Rattle.layout.specs.Outcome.{loading, loadedOf, loadRefusalNumber, loadRefusalPlace};
+ghost use Rattle.rooms.specs.Limits.{checked, lows_told};
+ghost use Rattle.layout.specs.Outcome.{loading, loaded_of, load_refusal_number, load_refusal_place};
 ghost use Rattle.layout.specs.Room.{LoadSpace, RoomLoaded};
 
 use crate::{load_cords, load_nodes};
@@ -37,7 +37,7 @@ pub enum LoadRefusal {
 impl LoadRefusal {
     // The refusal's number.
     pub fn number(self) -> u64
-        ensures result { result ≡ loadRefusalNumber self }
+        ensures result { result ≡ load_refusal_number self }
     {
         match self {
             LoadRefusal::Table(refusal) => refusal.number(),
@@ -48,7 +48,7 @@ impl LoadRefusal {
 
     // The refusal's place.
     pub fn place(self) -> usize
-        ensures result { result ≡ loadRefusalPlace self }
+        ensures result { result ≡ load_refusal_place self }
     {
         match self {
             LoadRefusal::Table(refusal) => refusal.place(),
@@ -67,8 +67,8 @@ pub enum Loaded {
 
 // The checks of a table and demands, in their order. Of a good table, `beneath` gets the lows beneath each node.
 pub fn admit(table: &[u32], demands: &[u32], beneath: &mut [u64; 512]) -> Loaded
-    ensures answer { result ≡ loadedOf (loading table.now demands.now) }
-    ensures lows { beneath.new ≡ lowsTold (checked table.now 0) }
+    ensures answer { result ≡ loaded_of (loading table.now demands.now) }
+    ensures lows { beneath.new ≡ lows_told (checked table.now 0) }
 {
     let checked = rooms::parts::check_lows(table, beneath);
     let count = match checked {
@@ -106,7 +106,7 @@ pub fn load_room(
 ) -> Loaded
     requires space { LoadSpace (length parents.old) (length spare.old) (length cords.old) (length lows.old) (length wants.old)
         (length ceilings.old) (length needs.old) }
-    ensures answer { result ≡ loadedOf (loading table.now demands.now) }
+    ensures answer { result ≡ loaded_of (loading table.now demands.now) }
     ensures lists { (r : Room) → loading table.now demands.now ≡ accepted r
         → RoomLoaded r demands.now parents.new spare.new cords.new lows.new
         wants.new ceilings.new needs.new }
@@ -149,7 +149,7 @@ pub fn load_bytes(
 ) -> Loaded
     requires space { LoadSpace (length parents.old) (length spare.old) (length cords.old) (length lows.old) (length wants.old)
         (length ceilings.old) (length needs.old) }
-    ensures answer { result ≡ loadedOf (loading (words_of table.now) (words_of demands.now)) }
+    ensures answer { result ≡ loaded_of (loading (words_of table.now) (words_of demands.now)) }
     ensures lists { (r : Room) → loading (words_of table.now) (words_of demands.now) ≡ accepted r
         → RoomLoaded r (words_of demands.now) parents.new spare.new cords.new lows.new
         wants.new ceilings.new needs.new }

@@ -21,17 +21,17 @@ module _ (value : ℕ) (sheet : List ℕ) (at : ℕ) where
   long changed next n s rest h = rw (n, s) (sym (sets-append sheet at (form value) rest))
 
   -- The sheet with two bytes, and the place after the first, or after the second if there is another.
-  abbrev twoBytes : ℕ → List ℕ
-  twoBytes another = set (set sheet at (128 * another + value % 128)) (at + 1) (value / 128)
+  abbrev two_bytes : ℕ → List ℕ
+  two_bytes another = set (set sheet at (128 * another + value % 128)) (at + 1) (value / 128)
 
   abbrev Short : ℕ → Type 0
-  Short another = (at + 1 + another ≡ at + length (form value)) × Followed value sheet at (twoBytes another) (at + 1 + another)
+  Short another = (at + 1 + another ≡ at + length (form value)) × Followed value sheet at (two_bytes another) (at + 1 + another)
 
   -- The first byte of what follows is stored over the second.
   none : value < 128 → (another : ℕ) → another ≡ 0 → Short another
   none low another n = (rw (groups-last 3 value low, n) (omega arith), over)
     where
-      over : Followed value sheet at (twoBytes another) (at + 1 + another)
+      over : Followed value sheet at (two_bytes another) (at + 1 + another)
       over [] h = absurd (omega arith)
       over (b ∷ rest) h =
           let first : 128 * another + value % 128 ≡ value = omega (arith, mod-eq_of_lt low) in

@@ -7,7 +7,7 @@ use native.Mathlib.Numerals.{add-one}
 use lib.ListN.{length, get_or, drop, set, length-append, length-drop, length-set, drop_of_length-le}
 use lib.Seq.{sets, length-sets, drop-drop}
 use Rattle.numbers.specs.Number.{Front, good, bad, number, decoded, form}
-use Rattle.numbers.specs.Sheet.{whole, onto, sheetFrom, sheetOf, answer, judged, bytes_of}
+use Rattle.numbers.specs.Sheet.{whole, onto, sheet_from, sheet_of, answer, judged, bytes_of}
 use Rattle.figures.specs.Bounds.{AllBelow}
 use Rattle.numbers.specs.declared.Fault.{Fault}
 use Rattle.numbers.specs.declared.Decoded.TheVariants.{Number, Refused}
@@ -15,7 +15,7 @@ use Rattle.numbers.specs.declared.JudgedSheet.TheVariants.{Words, Refused as Tur
 use Rattle.numbers.proofs.NumberLaws.{Good, number-good, 1≤length-form, length-form≤4}
 use Rattle.figures.proofs.Bounds.{drop-below}
 use Rattle.figures.proofs.Stores.{sets-append}
-use Rattle.numbers.proofs.SheetLaws.{sheetFrom-end, sheetFrom-some, bytesOf-drop}
+use Rattle.numbers.proofs.SheetLaws.{sheet_from-end, sheet_from-some, bytes_of-drop}
 
 -- ---- `decode_sheet`: the numbers in front of `at` are stored; those from there on complete the answer and the list
 
@@ -39,8 +39,8 @@ pub record ReadingSheet (sheet words₀ words : List ℕ) (at count : ℕ) : Typ
   pub within : at ≤ length sheet
   pub counted : count ≤ at
   pub size : length words ≡ length words₀
-  pub answered : answer (count + length (sheetFrom fuel at (drop at sheet)).words) (sheetFrom fuel at (drop at sheet)).ending ≡ judged (sheetOf sheet)
-  pub stored : sets words count (sheetFrom fuel at (drop at sheet)).words ≡ sets words₀ 0 (sheetOf sheet).words
+  pub answered : answer (count + length (sheet_from fuel at (drop at sheet)).words) (sheet_from fuel at (drop at sheet)).ending ≡ judged (sheet_of sheet)
+  pub stored : sets words count (sheet_from fuel at (drop at sheet)).words ≡ sets words₀ 0 (sheet_of sheet).words
 
 pub reading-begin : (sheet words : List ℕ) → AllBelow 256 sheet → ReadingSheet sheet words words 0 0
 reading-begin sheet words all =
@@ -51,27 +51,27 @@ reading-begin sheet words all =
       within = omega arith;
       counted = omega arith;
       size = refl;
-      answered = ap (λ (n : ℕ). answer n (sheetOf sheet).ending) (omega arith);
+      answered = ap (λ (n : ℕ). answer n (sheet_of sheet).ending) (omega arith);
       stored = refl;
     }
 
 module _ (sheet words₀ words : List ℕ) (at count : ℕ) (inv : ReadingSheet sheet words₀ words at count) where
-  pub reading-end : length sheet ≤ at → (Words count ≡ judged (sheetOf sheet)) × (words ≡ sets words₀ 0 (sheetOf sheet).words)
+  pub reading-end : length sheet ≤ at → (Words count ≡ judged (sheet_of sheet)) × (words ≡ sets words₀ 0 (sheet_of sheet).words)
   reading-end h =
-      let e : sheetFrom inv.fuel at (drop at sheet) ≡ record { words = []; ending = whole } = rw (drop_of_length-le sheet h) (sheetFrom-end inv.fuel at) in
+      let e : sheet_from inv.fuel at (drop at sheet) ≡ record { words = []; ending = whole } = rw (drop_of_length-le sheet h) (sheet_from-end inv.fuel at) in
       (ap Words (omega arith) ∙ (rw e at inv.answered), rw e at inv.stored)
 
   module _ (h : at < length sheet) where
     -- What the bytes from `at` on hold is what stands there, and then what follows that. There is fuel for it.
     rest : (f : Front) → number (drop at sheet) ≡ f → (fuel : ℕ) → length sheet ≤ at + fuel
-        → sheetFrom fuel at (drop at sheet) ≡ onto at f (λ size. sheetFrom (fuel - 1) (at + size) (drop (at + size) sheet))
+        → sheet_from fuel at (drop at sheet) ≡ onto at f (λ size. sheet_from (fuel - 1) (at + size) (drop (at + size) sheet))
     rest f e zero enough = absurd (omega arith)
     rest f e (suc fuel) enough =
         let l : suc fuel - 1 ≡ fuel = omega arith in
-        rw (← e, l) (sheetFrom-some fuel at (drop at sheet) (omega (arith, length-drop at sheet)) ∙ simp drop-drop)
+        rw (← e, l) (sheet_from-some fuel at (drop at sheet) (omega (arith, length-drop at sheet)) ∙ simp drop-drop)
 
     pub reading-stop : (fault : Fault) (place : ℕ) → Refused fault place ≡ decoded at (number (drop at sheet))
-        → (Turned fault place ≡ judged (sheetOf sheet)) × (words ≡ sets words₀ 0 (sheetOf sheet).words)
+        → (Turned fault place ≡ judged (sheet_of sheet)) × (words ≡ sets words₀ 0 (sheet_of sheet).words)
     reading-stop fault place d =
         let b = decoded-bad at fault place (number (drop at sheet)) d in
         let e = rest (bad fault) b.0 inv.fuel inv.enough in
@@ -89,7 +89,7 @@ module _ (sheet words₀ words : List ℕ) (at count : ℕ) (inv : ReadingSheet 
           let b = decoded-good at value next (number (drop at sheet)) d in
           let n : at + (next - at) ≡ next = omega arith in
           let e = rw n at (rest (good value (next - at)) b.0 inv.fuel inv.enough) in
-          let after = sheetFrom (inv.fuel - 1) next (drop next sheet) in
+          let after = sheet_from (inv.fuel - 1) next (drop next sheet) in
           let k : count + 1 + length after.words ≡ count + suc (length after.words) = omega arith in
           rw w
           (record {
@@ -115,9 +115,9 @@ pub writing-begin : (words sheet : List ℕ) → Writing words sheet sheet 0 0
 writing-begin words sheet = record { within = omega arith; end = omega arith; size = refl; same = refl }
 
 -- The length of the words' bytes from an index on.
-length-bytesOf-drop : (words : List ℕ) (index : ℕ) → index < length words
+length-bytes_of-drop : (words : List ℕ) (index : ℕ) → index < length words
     → length (bytes_of (drop index words)) ≡ length (form (get_or words index 0)) + length (bytes_of (drop (suc index) words))
-length-bytesOf-drop words index h = rw (bytesOf-drop words index h) (length-append (form (get_or words index 0)) (bytes_of (drop (suc index) words)))
+length-bytes_of-drop words index h = rw (bytes_of-drop words index h) (length-append (form (get_or words index 0)) (bytes_of (drop (suc index) words)))
 
 module _ (words sheet₀ sheet : List ℕ) (index at : ℕ) (inv : Writing words sheet₀ sheet index at) where
   pub writing-end : length words ≤ index → (at ≡ length (bytes_of words)) × (sheet ≡ sets sheet₀ 0 (bytes_of words))
@@ -129,7 +129,7 @@ module _ (words sheet₀ sheet : List ℕ) (index at : ℕ) (inv : Writing words
 
   module _ (h : index < length words) where
     pub writing-fits : length (bytes_of words) ≤ length sheet₀ → at + length (form (get_or words index 0)) ≤ length sheet
-    writing-fits f = omega (arith, inv.end, inv.size, length-bytesOf-drop words index h)
+    writing-fits f = omega (arith, inv.end, inv.size, length-bytes_of-drop words index h)
 
     -- What follows the word completes the sheet, also over a byte too much.
     pub writing-again : (sheet' : List ℕ) (at' : ℕ) → at' ≡ at + length (form (get_or words index 0)) → length sheet' ≡ length sheet
@@ -139,18 +139,18 @@ module _ (words sheet₀ sheet : List ℕ) (index at : ℕ) (inv : Writing words
         rw add-one
         (record {
           within = h;
-          end = omega (arith, inv.end, length-bytesOf-drop words index h);
+          end = omega (arith, inv.end, length-bytes_of-drop words index h);
           size = l ∙ inv.size;
-          same = s ∙ (rw (bytesOf-drop words index h) at inv.same);
+          same = s ∙ (rw (bytes_of-drop words index h) at inv.same);
         })
 
   -- A byte at least follows every word but the last.
   module _ (h : index + 1 < length words) where
     pub writing_more : 0 < length (bytes_of (drop (suc index) words))
-    writing_more = omega (arith, length-bytesOf-drop words (suc index) (omega arith), 1≤length-form (get_or words (suc index) 0))
+    writing_more = omega (arith, length-bytes_of-drop words (suc index) (omega arith), 1≤length-form (get_or words (suc index) 0))
 
     pub writing-fits-more : length (bytes_of words) ≤ length sheet₀ → at + length (form (get_or words index 0)) < length sheet
-    writing-fits-more f = omega (arith, inv.end, inv.size, length-bytesOf-drop words index (omega arith), writing_more)
+    writing-fits-more f = omega (arith, inv.end, inv.size, length-bytes_of-drop words index (omega arith), writing_more)
 
 -- The last word completes the sheet.
 pub writing-last : (words sheet₀ sheet : List ℕ) (index at : ℕ) → Writing words sheet₀ sheet index at → index < length words → length words ≤ index + 1
@@ -179,7 +179,7 @@ module _ (words : List ℕ) (total index : ℕ) (inv : Sizing words total index)
       record {
         within = omega arith;
         small = omega (arith, inv.small, length-form≤4 (get_or words index 0));
-        same = rw add-one (omega (arith, inv.same, length-bytesOf-drop words index h));
+        same = rw add-one (omega (arith, inv.same, length-bytes_of-drop words index h));
       }
 
   pub sizing-end : length words ≤ index → total ≡ length (bytes_of words)

@@ -7,10 +7,10 @@ use Rattle.numbers.specs.declared.Decoded.{Decoded}
 use Rattle.numbers.specs.declared.Decoded.TheVariants.{Number, Refused}
 
 -- The refusal's number.
-abbrev pub faultNumber : Fault → ℕ
-faultNumber TooLong = 1
-faultNumber NotShortest = 2
-faultNumber CutShort = 3
+abbrev pub fault_number : Fault → ℕ
+fault_number TooLong = 1
+fault_number NotShortest = 2
+fault_number CutShort = 3
 
 -- ---- reading
 
@@ -57,5 +57,5 @@ abbrev pub form : ℕ → List ℕ
 form value = groups 4 value
 
 -- A value has a form if four groups of seven bits carry it: if it is below this.
-abbrev pub formLimit : ℕ
-formLimit = 2 ^ 28
+abbrev pub form_limit : ℕ
+form_limit = 2 ^ 28

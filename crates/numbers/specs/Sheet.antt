@@ -1,13 +1,13 @@
 -- The sheet (document 01): words as numbers, nothing between or after.
 use Rattle.std.specs.Prelude.{cond, List, [], ◌∷◌, ◌++◌, ℕ, zero, suc, ◌+◌, length, drop, ltb, leb}
 use Rattle.std.proofs.lemmas.List.Edits.{sets}
-use Rattle.figures.specs.Bounds.{firstNotBelow}
+use Rattle.figures.specs.Bounds.{first_not_below}
 use Rattle.numbers.specs.declared.Fault.{Fault}
 use Rattle.numbers.specs.declared.JudgedSheet.{JudgedSheet}
 use Rattle.numbers.specs.declared.JudgedSheet.TheVariants.{Words, Refused}
 use Rattle.numbers.specs.declared.Written.{Written}
 use Rattle.numbers.specs.declared.Written.TheVariants.{Bytes, TooLarge, TooShort}
-use Rattle.numbers.specs.Number.{Front, good, bad, number, form, formLimit}
+use Rattle.numbers.specs.Number.{Front, good, bad, number, form, form_limit}
 
 -- ---- reading
 
@@ -27,14 +27,14 @@ onto at (good value size) rest = record { words = value ∷ (rest size).words; e
 onto at (bad fault) rest = record { words = []; ending = refused fault at }
 
 -- The bytes of a sheet from a place on. A number takes at least one byte, so a `fuel` of their count is enough.
-unfoldable pub sheetFrom : ℕ → ℕ → List ℕ → Sheet
-sheetFrom zero at bytes = record { words = []; ending = whole }
-sheetFrom (suc fuel) at [] = record { words = []; ending = whole }
-sheetFrom (suc fuel) at (b ∷ bytes) = onto at (number (b ∷ bytes)) (λ size. sheetFrom fuel (at + size) (drop size (b ∷ bytes)))
+unfoldable pub sheet_from : ℕ → ℕ → List ℕ → Sheet
+sheet_from zero at bytes = record { words = []; ending = whole }
+sheet_from (suc fuel) at [] = record { words = []; ending = whole }
+sheet_from (suc fuel) at (b ∷ bytes) = onto at (number (b ∷ bytes)) (λ size. sheet_from fuel (at + size) (drop size (b ∷ bytes)))
 
 -- A whole sheet, number by number.
-abbrev pub sheetOf : List ℕ → Sheet
-sheetOf bytes = sheetFrom (length bytes) 0 bytes
+abbrev pub sheet_of : List ℕ → Sheet
+sheet_of bytes = sheet_from (length bytes) 0 bytes
 
 -- The answer on a sheet of `count` good numbers.
 abbrev pub answer : ℕ → SheetEnding → JudgedSheet
@@ -53,8 +53,8 @@ bytes_of [] = []
 bytes_of (w ∷ words) = form w ++ bytes_of words
 
 -- The index of the first word that has no form; the count of words, if each has one.
-abbrev pub firstFormless : List ℕ → ℕ
-firstFormless words = firstNotBelow formLimit words
+abbrev pub first_formless : List ℕ → ℕ
+first_formless words = first_not_below form_limit words
 
 -- What becomes of `size` bytes that are to stand in a sheet with space for so many.
 abbrev pub fitted : ℕ → ℕ → Written
@@ -62,10 +62,10 @@ fitted size space = cond (leb size space) (Bytes size) (TooShort size)
 
 -- What becomes of words that are to stand in a sheet with space for so many bytes.
 abbrev pub written : List ℕ → ℕ → Written
-written words space = cond (ltb (firstFormless words) (length words)) (TooLarge (firstFormless words)) (fitted (length (bytes_of words)) space)
+written words space = cond (ltb (first_formless words) (length words)) (TooLarge (first_formless words)) (fitted (length (bytes_of words)) space)
 
 -- The sheet after that answer: words that were not written left it unchanged.
-abbrev pub afterEncodeSheet : Written → List ℕ → List ℕ → List ℕ
-afterEncodeSheet (Bytes size) words sheet = sets sheet 0 (bytes_of words)
-afterEncodeSheet (TooLarge index) words sheet = sheet
-afterEncodeSheet (TooShort size) words sheet = sheet
+abbrev pub after_encode_sheet : Written → List ℕ → List ℕ → List ℕ
+after_encode_sheet (Bytes size) words sheet = sets sheet 0 (bytes_of words)
+after_encode_sheet (TooLarge index) words sheet = sheet
+after_encode_sheet (TooShort size) words sheet = sheet

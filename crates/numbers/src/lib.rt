@@ -4,7 +4,7 @@ ghost use Rattle.std.specs.Prelude.{◌≡◌, ◌+◌, ◌^◌, ◌<◌, ◌≤
 ghost use Rattle.std.proofs.lemmas.List.Edits.{sets};
 ghost use Rattle.numbers.specs.Number.{number, decoded, form};
 ghost use Rattle.numbers.specs.Followed.{Followed};
-ghost use Rattle.numbers.specs.Sheet.{bytes_of, written, afterEncodeSheet};
+ghost use Rattle.numbers.specs.Sheet.{bytes_of, written, after_encode_sheet};
 ghost use Rattle.figures.specs.Bounds.{AllBelow};
 
 use figures::first_not_below;
@@ -202,7 +202,7 @@ fn put_all(words: &[u32], sheet: &mut [u8]) -> usize
 // Writes words as numbers to the front of a sheet. Refused, it leaves the sheet unchanged.
 pub fn encode_sheet(words: &[u32], sheet: &mut [u8]) -> Written
     ensures result { result ≡ written words.now (length sheet.old) }
-    ensures sheet { sheet.new ≡ afterEncodeSheet result words.now sheet.old }
+    ensures sheet { sheet.new ≡ after_encode_sheet result words.now sheet.old }
 {
     let large = first_not_below(FORM_LIMIT, words);
     if large < words.len() {

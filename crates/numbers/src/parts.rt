@@ -2,14 +2,14 @@
 // that is lent.
 ghost use Rattle.std.specs.Prelude.{◌≡◌};
 ghost use Rattle.std.proofs.lemmas.List.Edits.{sets};
-ghost use Rattle.numbers.specs.Sheet.{sheetOf, judged};
+ghost use Rattle.numbers.specs.Sheet.{sheet_of, judged};
 
 use crate::{Decoded, JudgedSheet};
 
 // Reads a sheet to its end or its first fault. The numbers go to the front of `words`, as many as it has space for.
 pub fn decode_sheet(sheet: &[u8], words: &mut [u32]) -> JudgedSheet
-    ensures result { result ≡ judged (sheetOf sheet.now) }
-    ensures words { words.new ≡ sets words.old 0 (sheetOf sheet.now).words }
+    ensures result { result ≡ judged (sheet_of sheet.now) }
+    ensures words { words.new ≡ sets words.old 0 (sheet_of sheet.now).words }
 {
     let mut at = 0;
     let mut count = 0;

@@ -6,7 +6,7 @@ use Prim.Native.Nat.{ℕ, ◌≤◌, ◌<◌}
 use native.Mathlib.Omega.{arith}
 use lib.ListN.{length}
 use borrow.Author.Tests.{ltb-false, lt-ltb, le-ltb}
-use Rattle.outcomes.specs.Outcome.{Outcome, accepted, refused, Reason, unless, tooShort, fitting}
+use Rattle.outcomes.specs.Outcome.{Outcome, accepted, refused, Reason, unless, too_short, fitting}
 
 module _ {A R : Type 0} where
   -- An outcome is not both.
@@ -57,15 +57,15 @@ module _ {A R : Type 0} where
 module _ {X R : Type 0} (refusal : ℕ → R) (output : List X) (entries : ℕ) where
   -- An output is too short for its list, or fits it.
   pub fitting-short : entries < length output → fitting refusal output entries ≡ refused (refusal (length output))
-  fitting-short h = unless-stop (tooShort refusal entries (length output)) [] output (lt-ltb entries (length output) h)
+  fitting-short h = unless-stop (too_short refusal entries (length output)) [] output (lt-ltb entries (length output) h)
 
   pub fitting-whole : length output ≤ entries → fitting refusal output entries ≡ accepted output
-  fitting-whole h = unless-pass (tooShort refusal entries (length output)) [] output (le-ltb entries (length output) h) ∙ unless-none output
+  fitting-whole h = unless-pass (too_short refusal entries (length output)) [] output (le-ltb entries (length output) h) ∙ unless-none output
 
   -- What holds of either holds.
   pub fitting-either : (P : Outcome (List X) R → Type 0) → P (refused (refusal (length output))) → P (accepted output) → P (fitting refusal output entries)
   fitting-either P short whole =
-      unless-either (tooShort refusal entries (length output)) [] output P (λ _. short) (λ _. subst P (sym (unless-none output)) whole)
+      unless-either (too_short refusal entries (length output)) [] output P (λ _. short) (λ _. subst P (sym (unless-none output)) whole)
 
   -- What is accepted is the output, and fits.
   pub fitting-is : {given : List X} → fitting refusal output entries ≡ accepted given → output ≡ given

@@ -2,15 +2,15 @@
 use mathlib.Core.Path.{◌≡◌, refl, sym, ap}
 use Prim.Native.Nat.{ℕ}
 use Rattle.outcomes.specs.Outcome.{Outcome, accepted, refused}
-use Rattle.outcomes.specs.Part.{Step, good, bad, Good, whenGood}
+use Rattle.outcomes.specs.Part.{Step, good, bad, Good, when_good}
 use Rattle.outcomes.proofs.Outcomes.{accepted≢refused}
 
 module _ {R S A B : Type 0} (refusal : R → S) {step : Step R A} (k : A → Outcome B S) where
-  pub good-goes-on : {a : A} {next : ℕ} → step ≡ good a next → whenGood refusal step k ≡ k a
-  good-goes-on e = ap (λ (s : Step R A). whenGood refusal s k) e
+  pub good-goes-on : {a : A} {next : ℕ} → step ≡ good a next → when_good refusal step k ≡ k a
+  good-goes-on e = ap (λ (s : Step R A). when_good refusal s k) e
 
-  pub bad-stands : {q : R} → step ≡ bad q → whenGood refusal step k ≡ refused (refusal q)
-  bad-stands e = ap (λ (s : Step R A). whenGood refusal s k) e
+  pub bad-stands : {q : R} → step ≡ bad q → when_good refusal step k ≡ refused (refusal q)
+  bad-stands e = ap (λ (s : Step R A). when_good refusal s k) e
 
 -- What is accepted follows a good step.
 module _ {R S A B : Type 0} (refusal : R → S) (k : A → Outcome B S) where
@@ -18,6 +18,6 @@ module _ {R S A B : Type 0} (refusal : R → S) (k : A → Outcome B S) where
     pub good-step : Good step
     pub is : k good-step.value ≡ accepted result
 
-  pub accepted-went : (step : Step R A) {result : B} → whenGood refusal step k ≡ accepted result → Went step result
+  pub accepted-went : (step : Step R A) {result : B} → when_good refusal step k ≡ accepted result → Went step result
   accepted-went (good a next) e = record { good-step = record { value = a; next = next; is = refl }; is = e }
   accepted-went (bad q) e = absurd (accepted≢refused (sym e))

@@ -20,12 +20,12 @@ unless [] result = accepted result
 unless (reason ∷ rest) result = cond reason.holds (refused reason.refusal) (unless rest result)
 
 -- A list of so many entries is too short for what is needed: the refusal is given the length needed.
-abbrev pub tooShort : {R : Type 0} → (ℕ → R) → (entries needed : ℕ) → Reason R
-tooShort refusal entries needed = record { holds = ltb entries needed; refusal = refusal needed }
+abbrev pub too_short : {R : Type 0} → (ℕ → R) → (entries needed : ℕ) → Reason R
+too_short refusal entries needed = record { holds = ltb entries needed; refusal = refusal needed }
 
 -- An output for a list or buffer of so many entries, which may be too short.
 abbrev pub fitting : {X R : Type 0} → (ℕ → R) → List X → ℕ → Outcome (List X) R
-fitting refusal output entries = unless (tooShort refusal entries (length output) ∷ []) output
+fitting refusal output entries = unless (too_short refusal entries (length output) ∷ []) output
 
 -- ---- What the caller sees
 
@@ -39,6 +39,6 @@ abbrev pub after : {A R X : Type 0} → (A → List X) → Outcome A R → List 
 after output outcome list = sets list 0 (written output outcome)
 
 -- The numbers of an answer: 0 and the figures of the result, or the refusal's number and its place.
-abbrev pub numbersOf : {A R : Type 0} → (A → List ℕ) → (number place : R → ℕ) → Outcome A R → List ℕ
-numbersOf figures number place (accepted result) = 0 ∷ figures result
-numbersOf figures number place (refused refusal) = number refusal ∷ place refusal ∷ []
+abbrev pub numbers_of : {A R : Type 0} → (A → List ℕ) → (number place : R → ℕ) → Outcome A R → List ℕ
+numbers_of figures number place (accepted result) = 0 ∷ figures result
+numbers_of figures number place (refused refusal) = number refusal ∷ place refusal ∷ []

@@ -32,6 +32,6 @@ abbrev pub give : {R A : Type 0} → A → Part R A
 give a = λ w i. good a i
 
 -- What an operation comes to by the value of a good step; a step's refusal stands, as one of the operation's.
-abbrev pub whenGood : {R S A B : Type 0} → (R → S) → Step R A → (A → Outcome B S) → Outcome B S
-whenGood refusal (good a next) k = k a
-whenGood refusal (bad q) k = refused (refusal q)
+abbrev pub when_good : {R S A B : Type 0} → (R → S) → Step R A → (A → Outcome B S) → Outcome B S
+when_good refusal (good a next) k = k a
+when_good refusal (bad q) k = refused (refusal q)

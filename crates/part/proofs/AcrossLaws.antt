@@ -11,7 +11,7 @@ use borrow.Author.Tests.{ltb-true, ltb-false, lt-leb, le-leb}
 use Rattle.join.specs.Pieces.{piece}
 use Rattle.join.proofs.PieceLaws.{drop-take}
 use Rattle.part.specs.Crossing.{across}
-use Rattle.part.specs.Sides.{everyAcross, cordsAcross, serverSpan, span}
+use Rattle.part.specs.Sides.{every_across, cords_across, server_span, span}
 
 -- ---- Pieces
 
@@ -30,108 +30,108 @@ module _ (w : List ℕ) where
 -- ---- Parents
 
 module _ (nodes gap : ℕ) where
-  every-none : (index : ℕ) → everyAcross nodes gap 0 index [] ≡ 0
-  unfolding everyAcross
+  every-none : (index : ℕ) → every_across nodes gap 0 index [] ≡ 0
+  unfolding every_across
   every-none index = refl
 
-  every-skip : (skip index : ℕ) (l : List ℕ) → everyAcross nodes gap skip index l ≡ everyAcross nodes gap 0 (index + skip) (drop skip l)
-  unfolding everyAcross
-  every-skip zero index l = ap (λ (k : ℕ). everyAcross nodes gap 0 k l) (let q : index ≡ index + 0 = omega arith in q)
+  every-skip : (skip index : ℕ) (l : List ℕ) → every_across nodes gap skip index l ≡ every_across nodes gap 0 (index + skip) (drop skip l)
+  unfolding every_across
+  every-skip zero index l = ap (λ (k : ℕ). every_across nodes gap 0 k l) (let q : index ≡ index + 0 = omega arith in q)
   every-skip (suc skip) index [] = refl
   every-skip (suc skip) index (x ∷ l) =
-      every-skip skip (index + 1) l ∙ ap (λ (k : ℕ). everyAcross nodes gap 0 k (drop skip l)) (let q : index + 1 + skip ≡ index + suc skip = omega arith in q)
+      every-skip skip (index + 1) l ∙ ap (λ (k : ℕ). every_across nodes gap 0 k (drop skip l)) (let q : index + 1 + skip ≡ index + suc skip = omega arith in q)
 
-  every-stop : (index x : ℕ) (l : List ℕ) → across nodes false x ≡ true → everyAcross nodes gap 0 index (x ∷ l) ≡ index
-  unfolding everyAcross
-  every-stop index x l e = ap (λ (t : Bool). cond t index (everyAcross nodes gap gap (index + 1) l)) e
+  every-stop : (index x : ℕ) (l : List ℕ) → across nodes false x ≡ true → every_across nodes gap 0 index (x ∷ l) ≡ index
+  unfolding every_across
+  every-stop index x l e = ap (λ (t : Bool). cond t index (every_across nodes gap gap (index + 1) l)) e
 
   every-pass : (index x : ℕ) (l : List ℕ) → across nodes false x ≡ false
-      → everyAcross nodes gap 0 index (x ∷ l) ≡ everyAcross nodes gap 0 (index + 1 + gap) (drop gap l)
-  unfolding everyAcross
-  every-pass index x l e = ap (λ (t : Bool). cond t index (everyAcross nodes gap gap (index + 1) l)) e ∙ every-skip gap (index + 1) l
+      → every_across nodes gap 0 index (x ∷ l) ≡ every_across nodes gap 0 (index + 1 + gap) (drop gap l)
+  unfolding every_across
+  every-pass index x l e = ap (λ (t : Bool). cond t index (every_across nodes gap gap (index + 1) l)) e ∙ every-skip gap (index + 1) l
 
 module _ (w : List ℕ) (nodes width i to : ℕ) where
   -- What is left to search, from i on.
-  abbrev pub parentsLeft : ℕ
-  parentsLeft = everyAcross nodes (width - 1) 0 i (piece i to w)
+  abbrev pub parents_left : ℕ
+  parents_left = every_across nodes (width - 1) 0 i (piece i to w)
 
-  pub parent-found : {t : Bool} → i < to → to ≤ length w → t ≡ across nodes false (get_or w i 0) → t ≡ true → i ≡ parentsLeft
+  pub parent-found : {t : Bool} → i < to → to ≤ length w → t ≡ across nodes false (get_or w i 0) → t ≡ true → i ≡ parents_left
   parent-found h l is e =
-      sym (every-stop nodes (width - 1) i (get_or w i 0) (piece (i + 1) to w) (sym is ∙ e)) ∙ sym (ap (everyAcross nodes (width - 1) 0 i) (piece-cons w i to h l))
+      sym (every-stop nodes (width - 1) i (get_or w i 0) (piece (i + 1) to w) (sym is ∙ e)) ∙ sym (ap (every_across nodes (width - 1) 0 i) (piece-cons w i to h l))
 
-  pub parents-end : to ≤ i → 0 ≡ parentsLeft
-  parents-end h = sym (ap (everyAcross nodes (width - 1) 0 i) (piece-past w i to h) ∙ every-none nodes (width - 1) i)
+  pub parents-end : to ≤ i → 0 ≡ parents_left
+  parents-end h = sym (ap (every_across nodes (width - 1) 0 i) (piece-past w i to h) ∙ every-none nodes (width - 1) i)
 
 pub parents-again : (w : List ℕ) (nodes width i to : ℕ) {t : Bool} {all : ℕ} → 1 ≤ width → i < to → to ≤ length w → t ≡ across nodes false (get_or w i 0) → t ≡ false
-    → parentsLeft w nodes width i to ≡ all → parentsLeft w nodes width (i + width) to ≡ all
+    → parents_left w nodes width i to ≡ all → parents_left w nodes width (i + width) to ≡ all
 parents-again w nodes width i to some h l is e all =
     let gap = width - 1 in
     let on : i + 1 + gap ≡ i + width = omega arith in
-    ap (λ (k : ℕ). everyAcross nodes gap 0 k (piece k to w)) (sym on)
-    ∙ ap (everyAcross nodes gap 0 (i + 1 + gap)) (sym (piece-drop w gap (i + 1) to))
+    ap (λ (k : ℕ). every_across nodes gap 0 k (piece k to w)) (sym on)
+    ∙ ap (every_across nodes gap 0 (i + 1 + gap)) (sym (piece-drop w gap (i + 1) to))
     ∙ sym (every-pass nodes gap i (get_or w i 0) (piece (i + 1) to w) (sym is ∙ e))
-    ∙ sym (ap (everyAcross nodes gap 0 i) (piece-cons w i to h l))
+    ∙ sym (ap (every_across nodes gap 0 i) (piece-cons w i to h l))
     ∙ all
 
 -- ---- Cords
 
 module _ (nodes : ℕ) (before : Bool) where
-  cords-none : (left index : ℕ) → cordsAcross nodes before left index [] ≡ 0
-  unfolding cordsAcross
+  cords-none : (left index : ℕ) → cords_across nodes before left index [] ≡ 0
+  unfolding cords_across
   cords-none zero index = refl
   cords-none (suc left) index = refl
 
-  server-pass : (index : ℕ) (l : List ℕ) → cordsAcross nodes before 0 index l ≡ cordsAcross nodes before (get_or l 3 0) (index + 4) (drop 4 l)
-  unfolding cordsAcross
+  server-pass : (index : ℕ) (l : List ℕ) → cords_across nodes before 0 index l ≡ cords_across nodes before (get_or l 3 0) (index + 4) (drop 4 l)
+  unfolding cords_across
   server-pass index (a ∷ b ∷ c ∷ k ∷ l) = refl
   server-pass index (a ∷ b ∷ c ∷ []) = refl
   server-pass index (a ∷ b ∷ []) = refl
   server-pass index (a ∷ []) = refl
   server-pass index [] = refl
 
-  cord-stop : (k index x : ℕ) (l : List ℕ) → across nodes before x ≡ true → cordsAcross nodes before (suc k) index (x ∷ l) ≡ index
-  unfolding cordsAcross
+  cord-stop : (k index x : ℕ) (l : List ℕ) → across nodes before x ≡ true → cords_across nodes before (suc k) index (x ∷ l) ≡ index
+  unfolding cords_across
   cord-stop k index x [] e = ap (λ (t : Bool). cond t index 0) e
-  cord-stop k index x (s ∷ l) e = ap (λ (t : Bool). cond t index (cordsAcross nodes before k (index + 2) l)) e
+  cord-stop k index x (s ∷ l) e = ap (λ (t : Bool). cond t index (cords_across nodes before k (index + 2) l)) e
 
-  cord-pass : (k index x : ℕ) (l : List ℕ) → across nodes before x ≡ false → cordsAcross nodes before (suc k) index (x ∷ l) ≡ cordsAcross nodes before k (index + 2) (drop 1 l)
-  unfolding cordsAcross
+  cord-pass : (k index x : ℕ) (l : List ℕ) → across nodes before x ≡ false → cords_across nodes before (suc k) index (x ∷ l) ≡ cords_across nodes before k (index + 2) (drop 1 l)
+  unfolding cords_across
   cord-pass k index x [] e = ap (λ (t : Bool). cond t index 0) e ∙ sym (cords-none k (index + 2))
-  cord-pass k index x (s ∷ l) e = ap (λ (t : Bool). cond t index (cordsAcross nodes before k (index + 2) l)) e
+  cord-pass k index x (s ∷ l) e = ap (λ (t : Bool). cond t index (cords_across nodes before k (index + 2) l)) e
 
 module _ (w : List ℕ) (nodes : ℕ) (before : Bool) (left i to : ℕ) where
   -- What is left to search, from i on, where so many cords come first.
-  abbrev pub cordsLeft : ℕ
-  cordsLeft = cordsAcross nodes before left i (piece i to w)
+  abbrev pub cords_left : ℕ
+  cords_left = cords_across nodes before left i (piece i to w)
 
-  pub cords-end : to ≤ i → 0 ≡ cordsLeft
-  cords-end h = sym (ap (cordsAcross nodes before left i) (piece-past w i to h) ∙ cords-none nodes before left i)
+  pub cords-end : to ≤ i → 0 ≡ cords_left
+  cords-end h = sym (ap (cords_across nodes before left i) (piece-past w i to h) ∙ cords-none nodes before left i)
 
-  pub cord-found : {t : Bool} → (left ≡ 0 → ⊥) → i < to → to ≤ length w → t ≡ across nodes before (get_or w i 0) → t ≡ true → i ≡ cordsLeft
+  pub cord-found : {t : Bool} → (left ≡ 0 → ⊥) → i < to → to ≤ length w → t ≡ across nodes before (get_or w i 0) → t ≡ true → i ≡ cords_left
   cord-found some h l is e =
       sym (cord-stop nodes before (left - 1) i (get_or w i 0) (piece (i + 1) to w) (sym is ∙ e))
-      ∙ sym (ap₂ (λ (k : ℕ) (z : List ℕ). cordsAcross nodes before k i z) (let q : left ≡ suc (left - 1) = omega arith in q) (piece-cons w i to h l))
+      ∙ sym (ap₂ (λ (k : ℕ) (z : List ℕ). cords_across nodes before k i z) (let q : left ≡ suc (left - 1) = omega arith in q) (piece-cons w i to h l))
 
 module _ (w : List ℕ) (nodes : ℕ) (before : Bool) (left i to : ℕ) {all : ℕ} where
   pub server-again : {count : ℕ} → left ≡ 0 → to ≤ length w → count ≡ get_or w (i + 3) 0
-      → cordsLeft w nodes before left i to ≡ all → cordsLeft w nodes before count (i + 4) to ≡ all
-  server-again {count} none l c is = go (ltb (i + 3) to) refl ∙ sym (server-pass nodes before i (piece i to w)) ∙ ap (λ (k : ℕ). cordsAcross nodes before k i (piece i to w)) (sym none) ∙ is
+      → cords_left w nodes before left i to ≡ all → cords_left w nodes before count (i + 4) to ≡ all
+  server-again {count} none l c is = go (ltb (i + 3) to) refl ∙ sym (server-pass nodes before i (piece i to w)) ∙ ap (λ (k : ℕ). cords_across nodes before k i (piece i to w)) (sym none) ∙ is
     where
-      go : (t : Bool) → ltb (i + 3) to ≡ t → cordsLeft w nodes before count (i + 4) to ≡ cordsAcross nodes before (get_or (piece i to w) 3 0) (i + 4) (drop 4 (piece i to w))
-      go true h = ap₂ (λ (k : ℕ) (z : List ℕ). cordsAcross nodes before k (i + 4) z)
+      go : (t : Bool) → ltb (i + 3) to ≡ t → cords_left w nodes before count (i + 4) to ≡ cords_across nodes before (get_or (piece i to w) 3 0) (i + 4) (drop 4 (piece i to w))
+      go true h = ap₂ (λ (k : ℕ) (z : List ℕ). cords_across nodes before k (i + 4) z)
           (c ∙ sym (get_or-take (to - i) (drop i w) 3 0 (omega (arith, ltb-true (i + 3) to h)) ∙ get_or-drop i w 3 0)) (sym (piece-drop w 4 i to))
       go false h =
           sym (cords-end w nodes before count (i + 4) to (omega (arith, ltb-false (i + 3) to h)))
           ∙ cords-end w nodes before (get_or (piece i to w) 3 0) (i + 4) to (omega (arith, ltb-false (i + 3) to h))
-          ∙ ap (cordsAcross nodes before (get_or (piece i to w) 3 0) (i + 4)) (sym (piece-drop w 4 i to))
+          ∙ ap (cords_across nodes before (get_or (piece i to w) 3 0) (i + 4)) (sym (piece-drop w 4 i to))
 
   pub cord-again : {t : Bool} → (left ≡ 0 → ⊥) → i < to → to ≤ length w → t ≡ across nodes before (get_or w i 0) → t ≡ false
-      → cordsLeft w nodes before left i to ≡ all → cordsLeft w nodes before (left - 1) (i + 2) to ≡ all
+      → cords_left w nodes before left i to ≡ all → cords_left w nodes before (left - 1) (i + 2) to ≡ all
   cord-again some h l is e all =
-      ap (λ (k : ℕ). cordsAcross nodes before (left - 1) (i + 2) (piece k to w)) (let q : i + 2 ≡ i + 1 + 1 = omega arith in q)
-      ∙ ap (cordsAcross nodes before (left - 1) (i + 2)) (sym (piece-drop w 1 (i + 1) to))
+      ap (λ (k : ℕ). cords_across nodes before (left - 1) (i + 2) (piece k to w)) (let q : i + 2 ≡ i + 1 + 1 = omega arith in q)
+      ∙ ap (cords_across nodes before (left - 1) (i + 2)) (sym (piece-drop w 1 (i + 1) to))
       ∙ sym (cord-pass nodes before (left - 1) i (get_or w i 0) (piece (i + 1) to w) (sym is ∙ e))
-      ∙ sym (ap₂ (λ (k : ℕ) (z : List ℕ). cordsAcross nodes before k i z) (let q : left ≡ suc (left - 1) = omega arith in q) (piece-cons w i to h l))
+      ∙ sym (ap₂ (λ (k : ℕ) (z : List ℕ). cords_across nodes before k i z) (let q : left ≡ suc (left - 1) = omega arith in q) (piece-cons w i to h l))
       ∙ all
 
 -- ---- Where servers end
@@ -148,20 +148,20 @@ span-near size most i more none small near = go (ltb i size) refl
     go false e = omega (arith, none (ltb-false i size e))
 
 module _ (w : List ℕ) (i : ℕ) where
-  pub span-past : length w ≤ i → 0 ≡ serverSpan (drop i w)
-  span-past h = sym (ap serverSpan (drop_of_length-le w h))
+  pub span-past : length w ≤ i → 0 ≡ server_span (drop i w)
+  span-past h = sym (ap server_span (drop_of_length-le w h))
 
-  pub span-here : {count : ℕ} → i < length w → count ≡ get_or w (i + 3) 0 → 4 + 2 * count ≡ serverSpan (drop i w)
+  pub span-here : {count : ℕ} → i < length w → count ≡ get_or w (i + 3) 0 → 4 + 2 * count ≡ server_span (drop i w)
   span-here {count} h c =
       ap (λ (k : ℕ). 4 + 2 * k) (c ∙ ap (λ (k : ℕ). get_or w k 0) (let q : i + 3 ≡ suc i + 2 = omega arith in q) ∙ sym (get_or-drop (suc i) w 2 0))
-      ∙ sym (ap serverSpan (drop-cons w i 0 h))
+      ∙ sym (ap server_span (drop-cons w i 0 h))
 
   -- One server more.
-  pub span_more : {k left more all : ℕ} → more ≡ serverSpan (drop i w) → k ≡ suc left → i + span k (drop i w) ≡ all → i + more + span left (drop (i + more) w) ≡ all
+  pub span_more : {k left more all : ℕ} → more ≡ server_span (drop i w) → k ≡ suc left → i + span k (drop i w) ≡ all → i + more + span left (drop (i + more) w) ≡ all
   unfolding span
   span_more {k} {left} {more} {all} is n e =
-      let whole : span k (drop i w) ≡ serverSpan (drop i w) + span left (drop (serverSpan (drop i w)) (drop i w)) = ap (λ (m : ℕ). span m (drop i w)) n in
-      let behind : span left (drop (serverSpan (drop i w)) (drop i w)) ≡ span left (drop (i + more) w)
+      let whole : span k (drop i w) ≡ server_span (drop i w) + span left (drop (server_span (drop i w)) (drop i w)) = ap (λ (m : ℕ). span m (drop i w)) n in
+      let behind : span left (drop (server_span (drop i w)) (drop i w)) ≡ span left (drop (i + more) w)
       = ap (λ (m : ℕ). span left (drop m (drop i w))) (sym is) ∙ ap (span left) (drop-drop more i w) in
       omega arith
 

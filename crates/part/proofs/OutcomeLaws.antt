@@ -13,7 +13,7 @@ use Rattle.outcomes.proofs.Outcomes.{accepted≢refused, unless-stop, unless-pas
 use Rattle.outcomes.proofs.Parts.{good-goes-on, bad-stands}
 use Rattle.figures.specs.Figures.{at}
 use Rattle.rooms.specs.Part.{Step, good, bad}
-use Rattle.rooms.specs.Table.{Room, mostWords}
+use Rattle.rooms.specs.Table.{Room, most_words}
 use Rattle.rooms.specs.Limits.{checked}
 use Rattle.rooms.specs.Rows.{OfRoom}
 use Rattle.rooms.specs.declared.SheetRefusal.{SheetRefusal}
@@ -24,8 +24,8 @@ use Rattle.join.specs.declared.Examined.{Examined}
 use Rattle.join.specs.declared.Examined.TheVariants as examineds
 use Rattle.join.proofs.HutLaws.{bad-examined}
 use Rattle.part.specs.Crossing.{crossing}
-use Rattle.part.specs.Outcome.{Parts, PartOutcome, parts_of, reasons, partRoom, parting}
-use Rattle.part.specs.Sides.{sideBefore, sideBehind, behindOf, sideTable, SideFits, sideWords, firstAcross, Halved, Admits}
+use Rattle.part.specs.Outcome.{Parts, PartOutcome, parts_of, reasons, part_room, parting}
+use Rattle.part.specs.Sides.{side_before, side_behind, behind_of, side_table, SideFits, side_words, first_across, Halved, Admits}
 use Rattle.part.specs.declared.Side.{Side}
 use Rattle.part.specs.declared.Admitted.{Admitted}
 use Rattle.part.specs.declared.Admitted.TheVariants as answers
@@ -41,7 +41,7 @@ module _ (w : List ℕ) (n s first second : ℕ) where
 
   pub table-bad : {q : SheetRefusal} → checked w 0 ≡ bad q → outcome ≡ refused (Table q)
   unfolding parting
-  table-bad e = bad-stands Table (λ r. partRoom (at w 0) r n s first second) e
+  table-bad e = bad-stands Table (λ r. part_room (at w 0) r n s first second) e
 
   pub table-refused : {k : Examined} {q : SheetRefusal} → k ≡ examined w → k ≡ examineds.Refused q → outcome ≡ refused (Table q)
   table-refused d e = table-bad (bad-examined w d e)
@@ -54,8 +54,8 @@ module _ (w : List ℕ) (n s first second : ℕ) where
     why = reasons (at w 0) a.room n s first second
 
     pub table-good : outcome ≡ unless why parts
-    unfolding parting partRoom
-    table-good = good-goes-on Table (λ r. partRoom (at w 0) r n s first second) a.good-table
+    unfolding parting part_room
+    table-good = good-goes-on Table (λ r. part_room (at w 0) r n s first second) a.good-table
 
     nodes-are : hut.nodes ≡ length a.room.nodes
     nodes-are = ap (λ (x : Hut). x.nodes) a.is
@@ -78,7 +78,7 @@ module _ (w : List ℕ) (n s first second : ℕ) where
       pub many-servers : hut.servers < s → outcome ≡ refused ServersOutOfRange
       many-servers h = pass-nodes ∙ unless-stop _ _ parts (lt-ltb (length a.room.servers) s (omega (arith, servers-are)))
 
-      module _ (fewServers : s ≤ hut.servers) where
+      module _ (few_servers : s ≤ hut.servers) where
         pass-servers : outcome ≡ unless (drop 2 why) parts
         pass-servers = pass-nodes ∙ unless-pass _ _ parts (le-ltb (length a.room.servers) s (omega (arith, servers-are)))
 
@@ -111,10 +111,10 @@ module _ (w : List ℕ) (n s first second : ℕ) where
 -- What the count of a side's words wants.
 pub words-fit : (w : List ℕ) {side : Side} → SideFits w side → (side.top ≤ side.bottom) × (side.start ≤ side.end) × (side.bottom < 4294967296) × (side.end < 4294967296)
 words-fit w fits =
-    (fits.nodeWords-there.0, fits.serverWords-there.0, omega (arith, fits.nodeWords-there.1, fits.long), omega (arith, fits.serverWords-there.1, fits.long))
+    (fits.node_words-there.0, fits.server_words-there.0, omega (arith, fits.node_words-there.1, fits.long), omega (arith, fits.server_words-there.1, fits.long))
 
-module _ {w : List ℕ} {hut : Hut} (a : HutOf w hut) {n s : ℕ} (some : 1 ≤ n) (few : n < hut.nodes) (fewServers : s ≤ hut.servers)
-    {one : Side} (one-is : OfRoom w (λ room. one ≡ sideBefore (at w 0) n s room)) where
+module _ {w : List ℕ} {hut : Hut} (a : HutOf w hut) {n s : ℕ} (some : 1 ≤ n) (few : n < hut.nodes) (few_servers : s ≤ hut.servers)
+    {one : Side} (one-is : OfRoom w (λ room. one ≡ side_before (at w 0) n s room)) where
   abbrev r : Room
   r = a.room
 
@@ -124,7 +124,7 @@ module _ {w : List ℕ} {hut : Hut} (a : HutOf w hut) {n s : ℕ} (some : 1 ≤ 
   within : s ≤ length r.servers
   within = omega (arith, ap (λ (x : Hut). x.servers) a.is)
 
-  before-is : one ≡ sideBefore (at w 0) n s r
+  before-is : one ≡ side_before (at w 0) n s r
   before-is = one-is r a.end a.good-table
 
   pub one-within : (one.nodes ≤ hut.nodes) × (one.servers ≤ hut.servers) × (one.nodes < 4294967296)
@@ -136,16 +136,16 @@ module _ {w : List ℕ} {hut : Hut} (a : HutOf w hut) {n s : ℕ} (some : 1 ≤ 
   pub one-fits : SideFits w one
   one-fits = subst (SideFits w) (sym before-is) (before-fits w r a.end a.good-table n s fewer within)
 
-  module _ {two : Side} (two_is : two ≡ behindOf hut one) where
-    behind-is : two ≡ sideBehind (length w) (at w 0) n s r
-    behind-is = two_is ∙ ap₂ behindOf a.is before-is
+  module _ {two : Side} (two_is : two ≡ behind_of hut one) where
+    behind-is : two ≡ side_behind (length w) (at w 0) n s r
+    behind-is = two_is ∙ ap₂ behind_of a.is before-is
         ∙ ap (λ (m : ℕ). record {
           version = at w 0;
           nodes = length r.nodes - n;
-          top = (sideBefore (at w 0) n s r).bottom;
+          top = (side_before (at w 0) n s r).bottom;
           bottom = m;
           servers = length r.servers - s;
-          start = (sideBefore (at w 0) n s r).end;
+          start = (side_before (at w 0) n s r).end;
           end = length w;
           down = n;
         }) (middle-at w r a.end a.good-table)
@@ -153,36 +153,36 @@ module _ {w : List ℕ} {hut : Hut} (a : HutOf w hut) {n s : ℕ} (some : 1 ≤ 
     pub two_fits : SideFits w two
     two_fits = subst (SideFits w) (sym behind-is) (behind-fits w r a.end a.good-table n s fewer within)
 
-    pub crossing_is : {index : ℕ} → index ≡ firstAcross one two w → index ≡ crossing (at w 0) n s r
-    crossing_is e = e ∙ ap₂ (λ (x y : Side). firstAcross x y w) before-is behind-is ∙ across-is w r a.end a.good-table n s fewer within
+    pub crossing_is : {index : ℕ} → index ≡ first_across one two w → index ≡ crossing (at w 0) n s r
+    crossing_is e = e ∙ ap₂ (λ (x y : Side). first_across x y w) before-is behind-is ∙ across-is w r a.end a.good-table n s fewer within
 
-    first-table : sideTable one w ≡ (parts_of (at w 0) n s r).first
-    first-table = ap (λ (x : Side). sideTable x w) before-is ∙ table_before w r a.end a.good-table n s fewer within
+    first-table : side_table one w ≡ (parts_of (at w 0) n s r).first
+    first-table = ap (λ (x : Side). side_table x w) before-is ∙ table_before w r a.end a.good-table n s fewer within
 
-    second-table : sideTable two w ≡ (parts_of (at w 0) n s r).second
-    second-table = ap (λ (x : Side). sideTable x w) behind-is ∙ table-behind w r a.end a.good-table n s fewer within
+    second-table : side_table two w ≡ (parts_of (at w 0) n s r).second
+    second-table = ap (λ (x : Side). side_table x w) behind-is ∙ table-behind w r a.end a.good-table n s fewer within
 
-    pub first-long : {k : ℕ} → k ≡ sideWords one → k ≡ length (parts_of (at w 0) n s r).first
+    pub first-long : {k : ℕ} → k ≡ side_words one → k ≡ length (parts_of (at w 0) n s r).first
     first-long e = e ∙ sym (side-length w one one-fits) ∙ ap length first-table
 
-    pub second-long : {k : ℕ} → k ≡ sideWords two → k ≡ length (parts_of (at w 0) n s r).second
+    pub second-long : {k : ℕ} → k ≡ side_words two → k ≡ length (parts_of (at w 0) n s r).second
     second-long e = e ∙ sym (side-length w two two_fits) ∙ ap length second-table
 
     -- A cut that passes every check.
-    pub halved : (first second : ℕ) {index before behind : ℕ} → index ≡ firstAcross one two w → index ≡ 0 → before ≡ sideWords one → before ≤ first
-        → behind ≡ sideWords two → behind ≤ second → Halved w (parting w n s first second) first second one two
+    pub halved : (first second : ℕ) {index before behind : ℕ} → index ≡ first_across one two w → index ≡ 0 → before ≡ side_words one → before ≤ first
+        → behind ≡ side_words two → behind ≤ second → Halved w (parting w n s first second) first second one two
     halved first second is none b fits c more = record {
-      is = both-fit w n s first second a some few fewServers (crossing_is is) none (first-long b) fits (second-long c) more
+      is = both-fit w n s first second a some few few_servers (crossing_is is) none (first-long b) fits (second-long c) more
           ∙ (λ i. accepted (record { first = sym first-table i; second = sym second-table i }));
       first_fits = one-fits;
       second_fits = two_fits;
-      first-space = (subst (λ (x : Side). sideWords x ≤ mostWords) (sym before-is) (before_small w r a.end a.good-table n s fewer within), omega arith);
-      second-space = (subst (λ (x : Side). sideWords x ≤ mostWords) (sym behind-is) (behind-small w r a.end a.good-table n s fewer within), omega arith);
+      first-space = (subst (λ (x : Side). side_words x ≤ most_words) (sym before-is) (before_small w r a.end a.good-table n s fewer within), omega arith);
+      second-space = (subst (λ (x : Side). side_words x ≤ most_words) (sym behind-is) (behind-small w r a.end a.good-table n s fewer within), omega arith);
     }
 
 -- ---- The first words of a longer list decide
 
-pub admits-cut : (k : ℕ) (w : List ℕ) (n s first second : ℕ) → suc mostWords ≤ k → (a : Admitted)
+pub admits-cut : (k : ℕ) (w : List ℕ) (n s first second : ℕ) → suc most_words ≤ k → (a : Admitted)
     → Admits (take k w) (parting (take k w) n s first second) first second a → Admits w (parting w n s first second) first second a
 admits-cut k w n s first second h a = go (checked w 0) refl a
   where

@@ -9,8 +9,8 @@ use lib.ListN.{length, take, drop, take-append-drop}
 use lib.Seq.{take-append_seam, drop-append_seam, length-take-le}
 use Rattle.rooms.specs.Table.{raised, Node, Cord, Server, Room}
 use Rattle.rooms.proofs.All.{All}
-use Rattle.join.specs.Joined.{raisedNode, raisedCord, raisedServer, joined}
-use Rattle.part.specs.Parted.{loweredNode, loweredCord, loweredServer, front, back, Behind}
+use Rattle.join.specs.Joined.{raised_node, raised_cord, raised_server, joined}
+use Rattle.part.specs.Parted.{lowered_node, lowered_cord, lowered_server, front, back, Behind}
 
 -- No link of what stands behind the cut goes across. (Of what stands before it, a cord might.)
 pub record BackWhole (n s : ℕ) (r : Room) : Type 0 where
@@ -51,57 +51,57 @@ map-twice g f (x ∷ l) = ap (λ z. g (f x) ∷ z) (map-twice g f l)
 
 module _ (r q : Room) (same : q.scale ≡ r.scale) where
   pub parted-front : front (length r.nodes) (length r.servers) (joined r q) ≡ r
-  parted-front = λ i. record { scale = r.scale; nodes = take-append_seam r.nodes (map (raisedNode (length r.nodes)) q.nodes) i; servers = take-append_seam r.servers (map (raisedServer (length r.nodes)) q.servers) i }
+  parted-front = λ i. record { scale = r.scale; nodes = take-append_seam r.nodes (map (raised_node (length r.nodes)) q.nodes) i; servers = take-append_seam r.servers (map (raised_server (length r.nodes)) q.servers) i }
 
-  cords-back : (n : ℕ) (l : List Cord) → map (loweredCord n) (map (raisedCord n) l) ≡ l
-  cords-back n l = map-twice (loweredCord n) (raisedCord n) l ∙ map_same (λ c. loweredCord n (raisedCord n c)) (λ c i. record { node = lower-raised n c.node i; share = c.share }) l
+  cords-back : (n : ℕ) (l : List Cord) → map (lowered_cord n) (map (raised_cord n) l) ≡ l
+  cords-back n l = map-twice (lowered_cord n) (raised_cord n) l ∙ map_same (λ c. lowered_cord n (raised_cord n c)) (λ c i. record { node = lower-raised n c.node i; share = c.share }) l
 
-  servers-back : (n : ℕ) (l : List Server) → map (loweredServer n) (map (raisedServer n) l) ≡ l
+  servers-back : (n : ℕ) (l : List Server) → map (lowered_server n) (map (raised_server n) l) ≡ l
   servers-back n l =
-      map-twice (loweredServer n) (raisedServer n) l
-      ∙ map_same (λ s. loweredServer n (raisedServer n s)) (λ s i. record { rank = s.rank; least = s.least; greatest = s.greatest; cords = cords-back n s.cords i }) l
+      map-twice (lowered_server n) (raised_server n) l
+      ∙ map_same (λ s. lowered_server n (raised_server n s)) (λ s i. record { rank = s.rank; least = s.least; greatest = s.greatest; cords = cords-back n s.cords i }) l
 
-  nodes-back : (n : ℕ) (l : List Node) → map (loweredNode n) (map (raisedNode n) l) ≡ l
-  nodes-back n l = map-twice (loweredNode n) (raisedNode n) l ∙ map_same (λ x. loweredNode n (raisedNode n x)) (λ x i. record { parent = lower-raised n x.parent i; rating = x.rating; percent = x.percent }) l
+  nodes-back : (n : ℕ) (l : List Node) → map (lowered_node n) (map (raised_node n) l) ≡ l
+  nodes-back n l = map-twice (lowered_node n) (raised_node n) l ∙ map_same (λ x. lowered_node n (raised_node n x)) (λ x i. record { parent = lower-raised n x.parent i; rating = x.rating; percent = x.percent }) l
 
   pub parted-back : back (length r.nodes) (length r.servers) (joined r q) ≡ q
   parted-back = λ i. record {
     scale = sym same i;
-    nodes = (ap (map (loweredNode (length r.nodes))) (drop-append_seam r.nodes (map (raisedNode (length r.nodes)) q.nodes)) ∙ nodes-back (length r.nodes) q.nodes) i;
-    servers = (ap (map (loweredServer (length r.nodes))) (drop-append_seam r.servers (map (raisedServer (length r.nodes)) q.servers)) ∙ servers-back (length r.nodes) q.servers) i;
+    nodes = (ap (map (lowered_node (length r.nodes))) (drop-append_seam r.nodes (map (raised_node (length r.nodes)) q.nodes)) ∙ nodes-back (length r.nodes) q.nodes) i;
+    servers = (ap (map (lowered_server (length r.nodes))) (drop-append_seam r.servers (map (raised_server (length r.nodes)) q.servers)) ∙ servers-back (length r.nodes) q.servers) i;
   }
 
 -- ---- Parted, then joined
 
 module _ (n s : ℕ) (r : Room) (few : n ≤ length r.nodes) (uncut : BackWhole n s r) where
-  node-again : (x : Node) → Behind n x.parent → raisedNode n (loweredNode n x) ≡ x
+  node-again : (x : Node) → Behind n x.parent → raised_node n (lowered_node n x) ≡ x
   node-again x h = λ i. record { parent = raised-lower n x.parent h i; rating = x.rating; percent = x.percent }
 
-  cord-again : (c : Cord) → Behind n c.node → raisedCord n (loweredCord n c) ≡ c
+  cord-again : (c : Cord) → Behind n c.node → raised_cord n (lowered_cord n c) ≡ c
   cord-again c h = λ i. record { node = raised-lower n c.node h i; share = c.share }
 
-  server-again : (x : Server) → All (λ (c : Cord). Behind n c.node) x.cords → raisedServer n (loweredServer n x) ≡ x
+  server-again : (x : Server) → All (λ (c : Cord). Behind n c.node) x.cords → raised_server n (lowered_server n x) ≡ x
   server-again x h = λ i. record {
     rank = x.rank;
     least = x.least;
     greatest = x.greatest;
-    cords = (map-twice (raisedCord n) (loweredCord n) x.cords ∙ map-all _ _ cord-again x.cords h) i;
+    cords = (map-twice (raised_cord n) (lowered_cord n) x.cords ∙ map-all _ _ cord-again x.cords h) i;
   }
 
   size : length (take n r.nodes) ≡ n
   size = length-take-le n r.nodes few
 
-  nodes-again : take n r.nodes ++ map (raisedNode n) (map (loweredNode n) (drop n r.nodes)) ≡ r.nodes
+  nodes-again : take n r.nodes ++ map (raised_node n) (map (lowered_node n) (drop n r.nodes)) ≡ r.nodes
   nodes-again =
-      ap (λ (z : List Node). take n r.nodes ++ z) (map-twice (raisedNode n) (loweredNode n) (drop n r.nodes) ∙ map-all _ _ node-again (drop n r.nodes) uncut.nodes)
+      ap (λ (z : List Node). take n r.nodes ++ z) (map-twice (raised_node n) (lowered_node n) (drop n r.nodes) ∙ map-all _ _ node-again (drop n r.nodes) uncut.nodes)
       ∙ take-append-drop n r.nodes
 
-  servers-again : take s r.servers ++ map (raisedServer n) (map (loweredServer n) (drop s r.servers)) ≡ r.servers
+  servers-again : take s r.servers ++ map (raised_server n) (map (lowered_server n) (drop s r.servers)) ≡ r.servers
   servers-again =
-      ap (λ (z : List Server). take s r.servers ++ z) (map-twice (raisedServer n) (loweredServer n) (drop s r.servers) ∙ map-all _ _ server-again (drop s r.servers) uncut.servers)
+      ap (λ (z : List Server). take s r.servers ++ z) (map-twice (raised_server n) (lowered_server n) (drop s r.servers) ∙ map-all _ _ server-again (drop s r.servers) uncut.servers)
       ∙ take-append-drop s r.servers
 
   pub joined-again : joined (front n s r) (back n s r) ≡ r
   joined-again =
-      ap (λ (k : ℕ). record { scale = r.scale; nodes = take n r.nodes ++ map (raisedNode k) (back n s r).nodes; servers = take s r.servers ++ map (raisedServer k) (back n s r).servers }) size
+      ap (λ (k : ℕ). record { scale = r.scale; nodes = take n r.nodes ++ map (raised_node k) (back n s r).nodes; servers = take s r.servers ++ map (raised_server k) (back n s r).servers }) size
       ∙ (λ i. record { scale = r.scale; nodes = nodes-again i; servers = servers-again i })

@@ -11,21 +11,21 @@ use lib.Seq.{length-take-le}
 use Rattle.figures.specs.Figures.{total}
 use Rattle.figures.proofs.Lists.{total-append}
 use Rattle.rooms.specs.Part.{good}
-use Rattle.rooms.specs.Table.{Node, Cord, Server, Room, cordCount, roomCords, share_of}
-use Rattle.rooms.specs.Limits.{limit, nodeAt, lowsBeneath, checked}
-use Rattle.rooms.specs.Cords.{cordAt, serverAt}
+use Rattle.rooms.specs.Table.{Node, Cord, Server, Room, cord_count, room_cords, share_of}
+use Rattle.rooms.specs.Limits.{limit, node_at, lows_beneath, checked}
+use Rattle.rooms.specs.Cords.{cord_at, server_at}
 use Rattle.rooms.specs.Promises.{IsNode, Within}
 use Rattle.rooms.proofs.All.{All, all-at}
 use Rattle.rooms.proofs.Accepted.{CordAccepted, ServerAccepted, Accepted}
-use Rattle.rooms.proofs.Cords.{cordsOf-all}
+use Rattle.rooms.proofs.Cords.{cords_of-all}
 use Rattle.rooms.specs.Words.{table_of}
 use Rattle.rooms.proofs.Tables.{Chain, RoomFits, table-reads}
 use Rattle.rooms.proofs.Words.{servers-fit, servers-all}
 use Rattle.rooms.proofs.Promises.{refusal-nine}
 use Rattle.join.specs.Joined.{joined}
 use Rattle.join.proofs.JoinedRoom.{Linked, accepted-facts, total_kept, first-inside, second-inside}
-use Rattle.join.proofs.JoinedTable.{Nodes, with-cords, lowsBeneath-in}
-use Rattle.part.specs.Parted.{loweredNode, loweredCord, loweredServer, front, back, Behind}
+use Rattle.join.proofs.JoinedTable.{Nodes, with-cords, lows_beneath-in}
+use Rattle.part.specs.Parted.{lowered_node, lowered_cord, lowered_server, front, back, Behind}
 use Rattle.part.proofs.PartLaws.{BackWhole, joined-again}
 
 -- ---- Rows cut in two
@@ -55,7 +55,7 @@ nodes-take percents (suc k) [] own f = tt
 nodes-take percents (suc k) (x ∷ l) own f = (f.0, nodes-take percents k l (suc own) f.1)
 
 -- The nodes behind the cut, by their new numbers.
-nodes-lowered : (percents : Bool) (n : ℕ) (l : List Node) (own : ℕ) → Nodes percents (own + n) l → Nodes percents own (map (loweredNode n) l)
+nodes-lowered : (percents : Bool) (n : ℕ) (l : List Node) (own : ℕ) → Nodes percents (own + n) l → Nodes percents own (map (lowered_node n) l)
 unfolding Chain
 nodes-lowered percents n [] own f = tt
 nodes-lowered percents n (x ∷ l) own f = (
@@ -83,10 +83,10 @@ node-below percents (x ∷ l) own (suc m) none f h =
 pub fits-facts : (version : ℕ) (r : Room) → RoomFits version r → Linked r
 fits-facts version r f =
     let each = servers-all r.scale (length r.nodes) r.servers 0 f.servers in
-    let cords : (c : ℕ) → c < roomCords r → ((cordAt r c).server < length r.servers) × ((cordAt r c).node ≤ length r.nodes)
-    = cordsOf-all (λ x. (x.server < length r.servers) × (x.node ≤ length r.nodes)) r (λ v k lv lk.
+    let cords : (c : ℕ) → c < room_cords r → ((cord_at r c).server < length r.servers) × ((cord_at r c).node ≤ length r.nodes)
+    = cords_of-all (λ x. (x.server < length r.servers) × (x.node ≤ length r.nodes)) r (λ v k lv lk.
     let s = all-at (ServerAccepted r.scale (length r.nodes)) r.servers each v _ lv in
-    (lv, (all-at (CordAccepted r.scale (length r.nodes)) (serverAt r v).cords s.cords k _ lk).nodeTo)) in
+    (lv, (all-at (CordAccepted r.scale (length r.nodes)) (server_at r v).cords s.cords k _ lk).node_to)) in
     record {
       rises = λ m l. let h = node-below _ r.nodes 1 m (record { parent = 0; rating = 0; percent = 0 }) f.nodes l in omega arith;
       here = λ c l. (cords c l).1;
@@ -108,22 +108,22 @@ BackCords n s = All (λ (c : Cord). Behind n c.node) s.cords
 server-front : (scale k n : ℕ) (s : Server) → ServerAccepted scale k s → FrontCords n s → ServerAccepted scale n s
 server-front scale k n s f g =
     with-cords s.cords f refl refl
-    (subst (All (CordAccepted scale n)) (map-id s.cords) (all_both _ _ (CordAccepted scale n) (λ c. c) (λ c a b. record { nodeFrom = a.nodeFrom; nodeTo = b; shareTo = a.shareTo }) s.cords f.cords g))
+    (subst (All (CordAccepted scale n)) (map-id s.cords) (all_both _ _ (CordAccepted scale n) (λ c. c) (λ c a b. record { node_from = a.node_from; node_to = b; share_to = a.share_to }) s.cords f.cords g))
 
 lowered-from : (n v : ℕ) → 1 ≤ v → Behind n v → 1 ≤ v - n
 lowered-from n v h (inl e) = absurd (omega arith)
 lowered-from n v h (inr l) = omega arith
 
-server-back : (scale k n : ℕ) (s : Server) → ServerAccepted scale k s → BackCords n s → ServerAccepted scale (k - n) (loweredServer n s)
+server-back : (scale k n : ℕ) (s : Server) → ServerAccepted scale k s → BackCords n s → ServerAccepted scale (k - n) (lowered_server n s)
 server-back scale k n s f g =
-    with-cords _ f (length-map s.cords (loweredCord n)) (total_kept share_of (loweredCord n) (λ c. refl) s.cords)
-    (all_both _ _ (CordAccepted scale (k - n)) (loweredCord n)
-    (λ c a b. record { nodeFrom = lowered-from n c.node a.nodeFrom b; nodeTo = omega (arith, a.nodeTo); shareTo = a.shareTo }) s.cords f.cords g)
+    with-cords _ f (length-map s.cords (lowered_cord n)) (total_kept share_of (lowered_cord n) (λ c. refl) s.cords)
+    (all_both _ _ (CordAccepted scale (k - n)) (lowered_cord n)
+    (λ c a b. record { node_from = lowered-from n c.node a.node_from b; node_to = omega (arith, a.node_to); share_to = a.share_to }) s.cords f.cords g)
 
 -- ---- The parts
 
-module _ (version n s : ℕ) (r : Room) (fits : RoomFits version r) (ok : Accepted r) (some : 1 ≤ n) (few : n < length r.nodes) (fewServers : s ≤ length r.servers)
-    (behindCut : BackWhole n s r) (beforeCut : All (FrontCords n) (take s r.servers)) where
+module _ (version n s : ℕ) (r : Room) (fits : RoomFits version r) (ok : Accepted r) (some : 1 ≤ n) (few : n < length r.nodes) (few_servers : s ≤ length r.servers)
+    (behind_cut : BackWhole n s r) (before_cut : All (FrontCords n) (take s r.servers)) where
   abbrev one : Room
   one = front n s r
 
@@ -134,13 +134,13 @@ module _ (version n s : ℕ) (r : Room) (fits : RoomFits version r) (ok : Accept
   size-one = length-take-le n r.nodes (omega arith)
 
   size-two : length two.nodes ≡ length r.nodes - n
-  size-two = length-map (drop n r.nodes) (loweredNode n) ∙ length-drop n r.nodes
+  size-two = length-map (drop n r.nodes) (lowered_node n) ∙ length-drop n r.nodes
 
-  cords-both : roomCords one + roomCords two ≡ roomCords r
+  cords-both : room_cords one + room_cords two ≡ room_cords r
   cords-both =
-      ap (λ (x : ℕ). roomCords one + x) (total_kept cordCount (loweredServer n) (λ v. length-map v.cords (loweredCord n)) (drop s r.servers))
-      ∙ sym (total-append cordCount (take s r.servers) (drop s r.servers))
-      ∙ ap (total cordCount) (take-append-drop s r.servers)
+      ap (λ (x : ℕ). room_cords one + x) (total_kept cord_count (lowered_server n) (λ v. length-map v.cords (lowered_cord n)) (drop s r.servers))
+      ∙ sym (total-append cord_count (take s r.servers) (drop s r.servers))
+      ∙ ap (total cord_count) (take-append-drop s r.servers)
 
   each : All (ServerAccepted r.scale (length r.nodes)) r.servers
   each = ok.servers
@@ -150,15 +150,15 @@ module _ (version n s : ℕ) (r : Room) (fits : RoomFits version r) (ok : Accept
     first = fits.first;
     newest = fits.newest;
     scaled = fits.scaled;
-    someNodes = omega (arith, size-one);
-    fewNodes = omega (arith, size-one, fits.fewNodes);
+    some_nodes = omega (arith, size-one);
+    few_nodes = omega (arith, size-one, fits.few_nodes);
     nodes = nodes-take _ n r.nodes 1 fits.nodes;
-    fewServers = omega (arith, length-take-le s r.servers fewServers, fits.fewServers);
+    few_servers = omega (arith, length-take-le s r.servers few_servers, fits.few_servers);
     servers =
-        servers-fit r.scale (length one.nodes) (take s r.servers) 0 (omega (arith, cords-both, ok.fewCords))
+        servers-fit r.scale (length one.nodes) (take s r.servers) 0 (omega (arith, cords-both, ok.few_cords))
         (subst (λ (k : ℕ). All (ServerAccepted r.scale k) (take s r.servers)) (sym size-one)
         (subst (All (ServerAccepted r.scale n)) (map-id (take s r.servers))
-        (all_both _ _ (ServerAccepted r.scale n) (λ x. x) (server-front r.scale (length r.nodes) n) (take s r.servers) (all_take _ s r.servers each) beforeCut)));
+        (all_both _ _ (ServerAccepted r.scale n) (λ x. x) (server-front r.scale (length r.nodes) n) (take s r.servers) (all_take _ s r.servers each) before_cut)));
   }
 
   pub back_fits : RoomFits version two
@@ -166,26 +166,26 @@ module _ (version n s : ℕ) (r : Room) (fits : RoomFits version r) (ok : Accept
     first = fits.first;
     newest = fits.newest;
     scaled = fits.scaled;
-    someNodes = omega (arith, size-two);
-    fewNodes = omega (arith, size-two, fits.fewNodes);
+    some_nodes = omega (arith, size-two);
+    few_nodes = omega (arith, size-two, fits.few_nodes);
     nodes = nodes-lowered _ n (drop n r.nodes) 1 (nodes-drop _ n r.nodes 1 fits.nodes);
-    fewServers = omega (arith, length-map (drop s r.servers) (loweredServer n), length-drop s r.servers, fits.fewServers);
+    few_servers = omega (arith, length-map (drop s r.servers) (lowered_server n), length-drop s r.servers, fits.few_servers);
     servers =
-        servers-fit r.scale (length two.nodes) two.servers 0 (omega (arith, cords-both, ok.fewCords))
+        servers-fit r.scale (length two.nodes) two.servers 0 (omega (arith, cords-both, ok.few_cords))
         (subst (λ (k : ℕ). All (ServerAccepted r.scale k) two.servers) (sym size-two)
-        (all_both _ _ (ServerAccepted r.scale (length r.nodes - n)) (loweredServer n) (server-back r.scale (length r.nodes) n) (drop s r.servers)
-        (all_drop _ s r.servers each) behindCut.servers));
+        (all_both _ _ (ServerAccepted r.scale (length r.nodes - n)) (lowered_server n) (server-back r.scale (length r.nodes) n) (drop s r.servers)
+        (all_drop _ s r.servers each) behind_cut.servers));
   }
 
   -- The lows beneath a node are what they were in the whole, which is the parts joined.
   whole_is : joined one two ≡ r
-  whole_is = joined-again n s r (omega arith) behindCut
+  whole_is = joined-again n s r (omega arith) behind_cut
 
   whole-facts : Linked (joined one two)
   whole-facts = subst Linked (sym whole_is) (accepted-facts r ok)
 
-  whole-lows : (m : ℕ) → m < length (joined one two).nodes → lowsBeneath (joined one two) m ≤ limit (nodeAt (joined one two) m)
-  whole-lows = subst (λ (x : Room). (m : ℕ) → m < length x.nodes → lowsBeneath x m ≤ limit (nodeAt x m)) (sym whole_is) ok.lows
+  whole-lows : (m : ℕ) → m < length (joined one two).nodes → lows_beneath (joined one two) m ≤ limit (node_at (joined one two) m)
+  whole-lows = subst (λ (x : Room). (m : ℕ) → m < length x.nodes → lows_beneath x m ≤ limit (node_at x m)) (sym whole_is) ok.lows
 
   front-facts : Linked one
   front-facts = fits-facts version one front_fits
@@ -194,15 +194,15 @@ module _ (version n s : ℕ) (r : Room) (fits : RoomFits version r) (ok : Accept
   front-within k h =
       let ins = first-inside one two front-facts in
       let l : k - 1 < length one.nodes = omega arith in
-      let e = lowsBeneath-in one (joined one two) 0 0 0 ins front-facts whole-facts (k - 1) l in
-      omega (arith, ins.limits (k - 1) l, whole-lows (k - 1 + 0) (omega (arith, ins.nodesFit)))
+      let e = lows_beneath-in one (joined one two) 0 0 0 ins front-facts whole-facts (k - 1) l in
+      omega (arith, ins.limits (k - 1) l, whole-lows (k - 1 + 0) (omega (arith, ins.nodes_fit)))
 
   back-within : (k : ℕ) → IsNode two k → Within two k
   back-within k h =
       let ins = second-inside one two front-facts refl in
       let l : k - 1 < length two.nodes = omega arith in
-      let e = lowsBeneath-in two (joined one two) _ _ _ ins (fits-facts version two back_fits) whole-facts (k - 1) l in
-      omega (arith, ins.limits (k - 1) l, whole-lows (k - 1 + length one.nodes) (omega (arith, ins.nodesFit)))
+      let e = lows_beneath-in two (joined one two) _ _ _ ins (fits-facts version two back_fits) whole-facts (k - 1) l in
+      omega (arith, ins.limits (k - 1) l, whole-lows (k - 1 + length one.nodes) (omega (arith, ins.nodes_fit)))
 
   pub front-checked : (let t = table-reads version one front_fits in checked (table_of version one) 0 ≡ good one t.next)
   front-checked = let t = table-reads version one front_fits in refusal-nine.passed (table_of version one) one t.next t.is front-within

@@ -14,29 +14,29 @@ use Rattle.outcomes.specs.Outcome.{accepted, unless}
 use Rattle.outcomes.proofs.Outcomes.{accepted-is, unless-back, unless-is}
 use Rattle.figures.specs.Figures.{at}
 use Rattle.rooms.specs.Part.{good, within}
-use Rattle.rooms.specs.Table.{raised, Node, Cord, Room, form_of, cordCount, roomCords}
+use Rattle.rooms.specs.Table.{raised, Node, Cord, Room, form_of, cord_count, room_cords}
 use Rattle.rooms.specs.Limits.{checked}
 use Rattle.rooms.specs.Words.{table_of}
-use Rattle.rooms.specs.Cords.{serverAt}
+use Rattle.rooms.specs.Cords.{server_at}
 use Rattle.rooms.proofs.All.{All, all-at, all_from}
 use Rattle.rooms.proofs.Accepted.{CordAccepted, ServerAccepted, Accepted}
 use Rattle.rooms.proofs.Accepted as rooms
 use Rattle.rooms.proofs.Whole.{checked-is}
 use Rattle.rooms.proofs.Tables.{table_fits}
 use Rattle.rooms.proofs.Reach.{next-is-length}
-use Rattle.deals.specs.Plan.{Plan, plan_of, firstTooLarge, planRoom, plan}
+use Rattle.deals.specs.Plan.{Plan, plan_of, first_too_large, plan_room, plan}
 use Rattle.deals.specs.declared.Lengths.{Lengths}
-use Rattle.deals.proofs.Plans.{plan-good-table, planRoom-accepted}
-use Rattle.join.specs.Joined.{raisedNode, raisedCord, raisedServer, joined, joinedPlan}
+use Rattle.deals.proofs.Plans.{plan-good-table, plan_room-accepted}
+use Rattle.join.specs.Joined.{raised_node, raised_cord, raised_server, joined, joined_plan}
 use Rattle.join.specs.Outcome.{joining}
 use Rattle.join.specs.Promises.{AcceptedJoin, Ample}
-use Rattle.join.specs.Huts.{hutOf, HutOf}
+use Rattle.join.specs.Huts.{hut_of, HutOf}
 use Rattle.join.proofs.JoinedRoom.{nodes-joined, servers-joined, cords-count}
 use Rattle.join.proofs.TableWords.{words_are}
 use Rattle.join.proofs.HutLaws.{both-good, table-long, fits}
 use Rattle.join.proofs.Demands.{first-in-first, first-in-second, same_count, DemandsFit, accepted-demands, ample-told}
 use Rattle.join.proofs.Promises.{join-gives-room, join-plans-both}
-use Rattle.part.specs.Parted.{front, back, Behind, cordOf, Uncrossed}
+use Rattle.part.specs.Parted.{front, back, Behind, cord_of, Uncrossed}
 use Rattle.part.specs.Crossing.{crossing}
 use Rattle.part.specs.Outcome.{Parts, parts_of, reasons}
 use Rattle.part.specs.Promises.{PartsOfJoined, JoinedParts, Cut, GoodParts, PartsAreGood, AcceptedPart, PartGivesParts, PartsJoined, PartPlansBoth, PlansParted, PlanOfParts}
@@ -117,15 +117,15 @@ module _ (p : AcceptedPart) where
   abbrev version : ℕ
   version = at w 0
 
-  abbrev hut : HutOf w (hutOf w room)
+  abbrev hut : HutOf w (hut_of w room)
   hut = record { room = room; end = p.end; good-table = p.is_room; is = refl }
 
   abbrev given : Parts
   given = parts_of version p.nodes p.servers room
 
   -- No reason to refuse held.
-  told : unless (reasons version room p.nodes p.servers p.firstEntries p.secondEntries) given ≡ accepted p.parts
-  told = sym (table-good w p.nodes p.servers p.firstEntries p.secondEntries hut) ∙ p.isParts
+  told : unless (reasons version room p.nodes p.servers p.first_entries p.second_entries) given ≡ accepted p.parts
+  told = sym (table-good w p.nodes p.servers p.first_entries p.second_entries hut) ∙ p.is_parts
 
   words : p.parts ≡ given
   words = unless-is _ given p.parts told
@@ -144,10 +144,10 @@ module _ (p : AcceptedPart) where
   ok : Accepted room
   ok = rooms.accepted w room p.end p.is_room
 
-  hangs : (v k : ℕ) → v < length room.servers → k < cordCount (serverAt room v) → 1 ≤ (cordOf room v k).node
+  hangs : (v k : ℕ) → v < length room.servers → k < cord_count (server_at room v) → 1 ≤ (cord_of room v k).node
   hangs v k h l =
       let s = all-at (ServerAccepted room.scale (length room.nodes)) room.servers ok.servers v _ h in
-      (all-at (CordAccepted room.scale (length room.nodes)) (serverAt room v).cords s.cords k _ l).nodeFrom
+      (all-at (CordAccepted room.scale (length room.nodes)) (server_at room v).cords s.cords k _ l).node_from
 
   abbrev cut : Cut w p.nodes p.servers
   cut = record {
@@ -178,13 +178,13 @@ module _ (p : AcceptedPart) where
   -- The parts joined.
   joins : (entries : ℕ) → length w ≤ entries → joining one two entries ≡ accepted w
   joins entries h =
-      let a : HutOf one (hutOf one front-room) = record { room = front-room; end = length one; good-table = both.first; is = refl } in
-      let b : HutOf two (hutOf two back-room) = record { room = back-room; end = length two; good-table = both.second; is = refl } in
+      let a : HutOf one (hut_of one front-room) = record { room = front-room; end = length one; good-table = both.first; is = refl } in
+      let b : HutOf two (hut_of two back-room) = record { room = back-room; end = length two; good-table = both.second; is = refl } in
       let whole : table_of version (joined front-room back-room) ≡ w = ap (table_of version) both.again ∙ sym (words_are w room p.end p.is_room) in
       let nodes = ap (λ (x : Room). length x.nodes) (sym both.again) ∙ nodes-joined front-room back-room in
       let servers = ap (λ (x : Room). length x.servers) (sym both.again) ∙ servers-joined front-room back-room in
-      let cords = ap roomCords (sym both.again) ∙ cords-count front-room back-room in
-      fits one two entries a b refl (omega (arith, ok.fewNodes)) (omega (arith, ok.fewServers)) (omega (arith, ok.fewCords))
+      let cords = ap room_cords (sym both.again) ∙ cords-count front-room back-room in
+      fits one two entries a b refl (omega (arith, ok.few_nodes)) (omega (arith, ok.few_servers)) (omega (arith, ok.few_cords))
       (omega (arith, ap length whole, table-long one two entries a b refl)) ∙ ap accepted whole
 
   -- Join accepts the parts.
@@ -194,13 +194,13 @@ module _ (p : AcceptedPart) where
     second = two;
     entries = length w;
     table = w;
-    isTable = joins (length w) (le_refl (length w));
+    is_table = joins (length w) (le_refl (length w));
     one = front-room;
-    oneEnd = length one;
-    isOne = both.first;
+    one_end = length one;
+    is_one = both.first;
     two = back-room;
-    twoEnd = length two;
-    isTwo = both.second;
+    two_end = length two;
+    is_two = both.second;
   }
 
 pub part-gives-parts : PartGivesParts
@@ -217,20 +217,20 @@ part-plans-both p d e ours theirs lengths q t a b long =
     (join-plans-both (joint p)).planned d e ours theirs lengths q t
     (ap (λ (x : Parts). plan x.first d ours) (sym (words p)) ∙ a) (ap (λ (x : Parts). plan x.second e theirs) (sym (words p)) ∙ b)
     (subst (λ (x : Room). Ample x lengths) (sym (both p).again) long)
-    ∙ ap (λ (n : ℕ). accepted (joinedPlan n q t)) (length-take-le p.nodes p.room.nodes (omega (arith, (range p).1)))
+    ∙ ap (λ (n : ℕ). accepted (joined_plan n q t)) (length-take-le p.nodes p.room.nodes (omega (arith, (range p).1)))
 
 -- ---- The demands of each part
 
-module _ (d e : List ℕ) (h : length (d ++ e) ≤ firstTooLarge (d ++ e)) where
+module _ (d e : List ℕ) (h : length (d ++ e) ≤ first_too_large (d ++ e)) where
   -- Where none of both is too large, none of either is.
-  none_first : length d ≤ firstTooLarge d
-  none_first = go (ltb (firstTooLarge d) (length d)) refl
+  none_first : length d ≤ first_too_large d
+  none_first = go (ltb (first_too_large d) (length d)) refl
     where
-      go : (t : Bool) → ltb (firstTooLarge d) (length d) ≡ t → length d ≤ firstTooLarge d
+      go : (t : Bool) → ltb (first_too_large d) (length d) ≡ t → length d ≤ first_too_large d
       go true q = let less = ltb-true _ _ q in omega (arith, first-in-first _ d e less, less, h, length-append d e)
       go false q = ltb-false _ _ q
 
-  none-second : length e ≤ firstTooLarge e
+  none-second : length e ≤ first_too_large e
   none-second = omega (arith, first-in-second _ d e none_first, h, length-append d e)
 
 module _ (p : AcceptedPart) (demands : List ℕ) (lengths ours theirs : Lengths) (whole : Plan) (is : plan p.table demands lengths ≡ accepted whole) where
@@ -240,14 +240,14 @@ module _ (p : AcceptedPart) (demands : List ℕ) (lengths ours theirs : Lengths)
   abbrev e : List ℕ
   e = drop p.servers demands
 
-  of_room : planRoom p.room demands lengths ≡ accepted whole
+  of_room : plan_room p.room demands lengths ≡ accepted whole
   of_room = sym (plan-good-table p.table demands lengths p.room p.end p.is_room) ∙ is
 
   fit : DemandsFit p.room demands lengths
   fit = accepted-demands p.room demands lengths of_room
 
-  none : length (d ++ e) ≤ firstTooLarge (d ++ e)
-  none = subst (λ (x : List ℕ). length x ≤ firstTooLarge x) (sym (take-append-drop p.servers demands)) fit.none
+  none : length (d ++ e) ≤ first_too_large (d ++ e)
+  none = subst (λ (x : List ℕ). length x ≤ first_too_large x) (sym (take-append-drop p.servers demands)) fit.none
 
   fit-first : DemandsFit (front-room p) d ours
   fit-first = record {
@@ -270,7 +270,7 @@ module _ (p : AcceptedPart) (demands : List ℕ) (lengths ours theirs : Lengths)
 
   -- The lists of the whole were long enough.
   ample : Ample p.room lengths
-  ample list = ((planRoom-accepted p.room demands lengths whole of_room).fits list).within
+  ample list = ((plan_room-accepted p.room demands lengths whole of_room).fits list).within
 
   plans-parted : Ample (front-room p) ours → Ample (back-room p) theirs → PlansParted p demands ours theirs whole
   plans-parted long wide =
@@ -280,8 +280,8 @@ module _ (p : AcceptedPart) (demands : List ℕ) (lengths ours theirs : Lengths)
       record {
         first = plan_of (front-room p) d;
         second = plan_of (back-room p) e;
-        isFirst = one;
-        isSecond = two;
+        is_first = one;
+        is_second = two;
         is_whole = accepted-is (sym is ∙ ap (λ (x : List ℕ). plan p.table x lengths) (sym (take-append-drop p.servers demands)) ∙ again);
       }
 
@@ -304,23 +304,23 @@ module _ (j : AcceptedJoin) where
   s = length r.servers
 
   ours : Accepted r
-  ours = rooms.accepted j.first r j.oneEnd j.isOne
+  ours = rooms.accepted j.first r j.one_end j.is_one
 
   theirs : Accepted q
-  theirs = rooms.accepted j.second q j.twoEnd j.isTwo
+  theirs = rooms.accepted j.second q j.two_end j.is_two
 
   -- Both are of one version, and so of one scale.
   versions : at j.first 0 ≡ at j.second 0
   versions =
-      let a : HutOf j.first (hutOf j.first r) = record { room = r; end = j.oneEnd; good-table = j.isOne; is = refl } in
-      let b : HutOf j.second (hutOf j.second q) = record { room = q; end = j.twoEnd; good-table = j.isTwo; is = refl } in
-      same_count _ _ (unless-back _ _ _ (sym (both-good j.first j.second j.entries a b) ∙ j.isTable)).0
+      let a : HutOf j.first (hut_of j.first r) = record { room = r; end = j.one_end; good-table = j.is_one; is = refl } in
+      let b : HutOf j.second (hut_of j.second q) = record { room = q; end = j.two_end; good-table = j.is_two; is = refl } in
+      same_count _ _ (unless-back _ _ _ (sym (both-good j.first j.second j.entries a b) ∙ j.is_table)).0
 
   same_scale : q.scale ≡ r.scale
   same_scale =
-      (table_fits j.second q j.twoEnd (checked-is j.second q j.twoEnd j.isTwo).0).scaled
+      (table_fits j.second q j.two_end (checked-is j.second q j.two_end j.is_two).0).scaled
       ∙ ap (λ (v : ℕ). (form_of v).scale) (sym versions)
-      ∙ sym (table_fits j.first r j.oneEnd (checked-is j.first r j.oneEnd j.isOne).0).scaled
+      ∙ sym (table_fits j.first r j.one_end (checked-is j.first r j.one_end j.is_one).0).scaled
 
   abbrev whole : Room
   whole = joined r q
@@ -332,10 +332,10 @@ module _ (j : AcceptedJoin) where
   parted = joined-parts r q same_scale
 
   first-words : table_of (at j.table 0) (front n s whole) ≡ j.first
-  first-words = ap₂ table_of table-version parted.first ∙ sym (words_are j.first r j.oneEnd j.isOne)
+  first-words = ap₂ table_of table-version parted.first ∙ sym (words_are j.first r j.one_end j.is_one)
 
   second-words : table_of (at j.table 0) (back n s whole) ≡ j.second
-  second-words = ap₂ table_of (table-version ∙ versions) parted.second ∙ sym (words_are j.second q j.twoEnd j.isTwo)
+  second-words = ap₂ table_of (table-version ∙ versions) parted.second ∙ sym (words_are j.second q j.two_end j.is_two)
 
   -- No link of the joined room crosses the seam.
   raised-behind : (v : ℕ) → Behind n (raised n v)
@@ -343,24 +343,24 @@ module _ (j : AcceptedJoin) where
   raised-behind (suc m) = inr (omega arith)
 
   nodes-clear : All (λ (x : Node). Behind n x.parent) (drop n whole.nodes)
-  nodes-clear = subst (All (λ (x : Node). Behind n x.parent)) (sym (drop-append_seam r.nodes (map (raisedNode n) q.nodes)))
-      (all-mapped (λ (x : Node). Behind n x.parent) (raisedNode n) (λ x. raised-behind x.parent) q.nodes)
+  nodes-clear = subst (All (λ (x : Node). Behind n x.parent)) (sym (drop-append_seam r.nodes (map (raised_node n) q.nodes)))
+      (all-mapped (λ (x : Node). Behind n x.parent) (raised_node n) (λ x. raised-behind x.parent) q.nodes)
 
   before-clear : All (SameSide n true) (take s whole.servers)
-  before-clear = subst (All (SameSide n true)) (sym (take-append_seam r.servers (map (raisedServer n) q.servers)))
-      (all_so (ServerAccepted r.scale n) (SameSide n true) (λ x a. all_so (CordAccepted r.scale n) (Same n true) (λ c k. le-ltb n c.node k.nodeTo) x.cords a.cords) r.servers ours.servers)
+  before-clear = subst (All (SameSide n true)) (sym (take-append_seam r.servers (map (raised_server n) q.servers)))
+      (all_so (ServerAccepted r.scale n) (SameSide n true) (λ x a. all_so (CordAccepted r.scale n) (Same n true) (λ c k. le-ltb n c.node k.node_to) x.cords a.cords) r.servers ours.servers)
 
   behind-clear : All (SameSide n false) (drop s whole.servers)
-  behind-clear = subst (All (SameSide n false)) (sym (drop-append_seam r.servers (map (raisedServer n) q.servers)))
-      (all-mapped (SameSide n false) (raisedServer n)
-      (λ x. all-mapped (Same n false) (raisedCord n) (λ c. behind-number n (raised n c.node) (raised-behind c.node)) x.cords) q.servers)
+  behind-clear = subst (All (SameSide n false)) (sym (drop-append_seam r.servers (map (raised_server n) q.servers)))
+      (all-mapped (SameSide n false) (raised_server n)
+      (λ x. all-mapped (Same n false) (raised_cord n) (λ c. behind-number n (raised n c.node) (raised-behind c.node)) x.cords) q.servers)
 
-  abbrev joined-hut : HutOf j.table (hutOf j.table whole)
+  abbrev joined-hut : HutOf j.table (hut_of j.table whole)
   joined-hut = record { room = whole; end = length j.table; good-table = (join-gives-room j).checks; is = refl }
 
 pub parts-joined : PartsJoined
 parts-joined j first second a b =
-    both-fit j.table (n j) (s j) first second (joined-hut j) (ours j).someNodes (omega (arith, nodes-joined (r j) (q j), (theirs j).someNodes))
+    both-fit j.table (n j) (s j) first second (joined-hut j) (ours j).some_nodes (omega (arith, nodes-joined (r j) (q j), (theirs j).some_nodes))
     (omega (arith, servers-joined (r j) (q j)))
     (sym (none-crossing (at j.table 0) (n j) (s j) (whole j) (nodes-clear j) (before-clear j) (behind-clear j))) refl
     (sym (ap length (first-words j))) a (sym (ap length (second-words j))) b

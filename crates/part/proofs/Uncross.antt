@@ -9,13 +9,13 @@ use lib.ListN.{length, get_or, take, drop, length-drop}
 use lib.Seq.{length-take-le, get_or-take, get_or-drop}
 use lib.Dec.{leb}
 use borrow.Author.Tests.{ltb-false, leb-false, lt-leb, le-leb}
-use Rattle.rooms.specs.Table.{Node, Cord, Server, Room, form_of, nodeWords, cordCount}
+use Rattle.rooms.specs.Table.{Node, Cord, Server, Room, form_of, node_words, cord_count}
 use Rattle.rooms.specs.Limits.{parent_of}
-use Rattle.rooms.specs.Cords.{serverAt}
-use Rattle.rooms.specs.Words.{wordsOfServer}
+use Rattle.rooms.specs.Cords.{server_at}
+use Rattle.rooms.specs.Words.{words_of_server}
 use Rattle.rooms.proofs.All.{All, all-at}
-use Rattle.part.specs.Parted.{Behind, cordOf, Uncrossed}
-use Rattle.part.specs.Crossing.{across, or_else, parentAcross, cordAcross, serverAcross, nodesBehind, serversStart, serversBehind, crossing}
+use Rattle.part.specs.Parted.{Behind, cord_of, Uncrossed}
+use Rattle.part.specs.Crossing.{across, or_else, parent_across, cord_across, server_across, nodes_behind, servers_start, servers_behind, crossing}
 
 -- ---- One number
 
@@ -55,43 +55,43 @@ abbrev pub SameSide : ℕ → Bool → Server → Type 0
 SameSide n before s = All (Same n before) s.cords
 
 module _ (n : ℕ) where
-  parents-none : (width k : ℕ) (l : List Node) → 1 ≤ k → parentAcross n width k l ≡ 0 → All (λ (x : Node). Behind n x.parent) l
-  unfolding All parentAcross
+  parents-none : (width k : ℕ) (l : List Node) → 1 ≤ k → parent_across n width k l ≡ 0 → All (λ (x : Node). Behind n x.parent) l
+  unfolding All parent_across
   parents-none width k [] h e = tt
   parents-none width k (x ∷ l) h e =
       let p = passed (across n false x.parent) k _ h e in
       (number_behind n x.parent p.0, parents-none width (k + width) l (omega arith) p.1)
 
-  none-parents : (width k : ℕ) (l : List Node) → All (λ (x : Node). Behind n x.parent) l → parentAcross n width k l ≡ 0
-  unfolding All parentAcross
+  none-parents : (width k : ℕ) (l : List Node) → All (λ (x : Node). Behind n x.parent) l → parent_across n width k l ≡ 0
+  unfolding All parent_across
   none-parents width k [] f = refl
   none-parents width k (x ∷ l) f =
-      ap (λ (t : Bool). cond t k (parentAcross n width (k + width) l)) (behind-number n x.parent f.0) ∙ none-parents width (k + width) l f.1
+      ap (λ (t : Bool). cond t k (parent_across n width (k + width) l)) (behind-number n x.parent f.0) ∙ none-parents width (k + width) l f.1
 
   module _ (before : Bool) where
-    cords-none : (k : ℕ) (l : List Cord) → 1 ≤ k → cordAcross n before k l ≡ 0 → All (Same n before) l
-    unfolding All cordAcross
+    cords-none : (k : ℕ) (l : List Cord) → 1 ≤ k → cord_across n before k l ≡ 0 → All (Same n before) l
+    unfolding All cord_across
     cords-none k [] h e = tt
     cords-none k (c ∷ l) h e =
         let p = passed (across n before c.node) k _ h e in
         (p.0, cords-none (k + 2) l (omega arith) p.1)
 
-    none-cords : (k : ℕ) (l : List Cord) → All (Same n before) l → cordAcross n before k l ≡ 0
-    unfolding All cordAcross
+    none-cords : (k : ℕ) (l : List Cord) → All (Same n before) l → cord_across n before k l ≡ 0
+    unfolding All cord_across
     none-cords k [] f = refl
-    none-cords k (c ∷ l) f = ap (λ (t : Bool). cond t k (cordAcross n before (k + 2) l)) f.0 ∙ none-cords (k + 2) l f.1
+    none-cords k (c ∷ l) f = ap (λ (t : Bool). cond t k (cord_across n before (k + 2) l)) f.0 ∙ none-cords (k + 2) l f.1
 
-    servers-none : (k : ℕ) (l : List Server) → 1 ≤ k → serverAcross n before k l ≡ 0 → All (SameSide n before) l
-    unfolding All serverAcross
+    servers-none : (k : ℕ) (l : List Server) → 1 ≤ k → server_across n before k l ≡ 0 → All (SameSide n before) l
+    unfolding All server_across
     servers-none k [] h e = tt
     servers-none k (s ∷ l) h e =
-        let p = or-none (cordAcross n before (k + 4) s.cords) _ e in
-        (cords-none (k + 4) s.cords (omega arith) p.0, servers-none (k + length (wordsOfServer s)) l (omega arith) p.1)
+        let p = or-none (cord_across n before (k + 4) s.cords) _ e in
+        (cords-none (k + 4) s.cords (omega arith) p.0, servers-none (k + length (words_of_server s)) l (omega arith) p.1)
 
-    none-servers : (k : ℕ) (l : List Server) → All (SameSide n before) l → serverAcross n before k l ≡ 0
-    unfolding All serverAcross
+    none-servers : (k : ℕ) (l : List Server) → All (SameSide n before) l → server_across n before k l ≡ 0
+    unfolding All server_across
     none-servers k [] f = refl
-    none-servers k (s ∷ l) f = none_or _ _ (none-cords (k + 4) s.cords f.0) (none-servers (k + length (wordsOfServer s)) l f.1)
+    none-servers k (s ∷ l) f = none_or _ _ (none-cords (k + 4) s.cords f.0) (none-servers (k + length (words_of_server s)) l f.1)
 
 -- ---- A room
 
@@ -103,9 +103,9 @@ module _ (version n s : ℕ) (r : Room) where
       none_or _ _ (none-parents n _ _ (drop n r.nodes) nodes) (none_or _ _ (none-servers n true _ (take s r.servers) before) (none-servers n false _ (drop s r.servers) behind))
 
   module _ (within : s ≤ length r.servers) (none : crossing version n s r ≡ 0) where
-    rows : (parentAcross n (nodeWords (form_of version).percents) (nodesBehind version n) (drop n r.nodes) ≡ 0)
-        × (serverAcross n true (serversStart version r) (take s r.servers) ≡ 0)
-        × (serverAcross n false (serversBehind version s r) (drop s r.servers) ≡ 0)
+    rows : (parent_across n (node_words (form_of version).percents) (nodes_behind version n) (drop n r.nodes) ≡ 0)
+        × (server_across n true (servers_start version r) (take s r.servers) ≡ 0)
+        × (server_across n false (servers_behind version s r) (drop s r.servers) ≡ 0)
     unfolding crossing
     rows =
         let a = or-none _ _ none in
@@ -121,8 +121,8 @@ module _ (version n s : ℕ) (r : Room) where
     behind-row : All (SameSide n false) (drop s r.servers)
     behind-row = servers-none n false _ (drop s r.servers) (omega arith) rows.2
 
-    abbrev noServer : Server
-    noServer = record { rank = 0; least = 0; greatest = 0; cords = [] }
+    abbrev no_server : Server
+    no_server = record { rank = 0; least = 0; greatest = 0; cords = [] }
 
     abbrev no_node : Node
     no_node = record { parent = 0; rating = 0; percent = 0 }
@@ -133,21 +133,21 @@ module _ (version n s : ℕ) (r : Room) where
         (get_or-drop n r.nodes (m - n) no_node ∙ ap (λ (k : ℕ). get_or r.nodes k no_node) (let q : n + (m - n) ≡ m = omega arith in q))
         (all-at (λ (x : Node). Behind n x.parent) (drop n r.nodes) nodes-row (m - n) no_node (omega (arith, length-drop n r.nodes)))
 
-    before_at : (v : ℕ) → v < s → SameSide n true (serverAt r v)
-    before_at v h = subst (SameSide n true) (get_or-take s r.servers v noServer h)
-        (all-at (SameSide n true) (take s r.servers) before-row v noServer (omega (arith, length-take-le s r.servers within)))
+    before_at : (v : ℕ) → v < s → SameSide n true (server_at r v)
+    before_at v h = subst (SameSide n true) (get_or-take s r.servers v no_server h)
+        (all-at (SameSide n true) (take s r.servers) before-row v no_server (omega (arith, length-take-le s r.servers within)))
 
-    behind-at : (v : ℕ) → s ≤ v → v < length r.servers → SameSide n false (serverAt r v)
+    behind-at : (v : ℕ) → s ≤ v → v < length r.servers → SameSide n false (server_at r v)
     behind-at v h l = subst (SameSide n false)
-        (get_or-drop s r.servers (v - s) noServer ∙ ap (λ (k : ℕ). get_or r.servers k noServer) (let q : s + (v - s) ≡ v = omega arith in q))
-        (all-at (SameSide n false) (drop s r.servers) behind-row (v - s) noServer (omega (arith, length-drop s r.servers)))
+        (get_or-drop s r.servers (v - s) no_server ∙ ap (λ (k : ℕ). get_or r.servers k no_server) (let q : s + (v - s) ≡ v = omega arith in q))
+        (all-at (SameSide n false) (drop s r.servers) behind-row (v - s) no_server (omega (arith, length-drop s r.servers)))
 
     -- A cord hangs on a node, so that one behind the cut hangs on one behind.
-    pub uncrossed : ((v k : ℕ) → v < length r.servers → k < cordCount (serverAt r v) → 1 ≤ (cordOf r v k).node) → Uncrossed n s r
+    pub uncrossed : ((v k : ℕ) → v < length r.servers → k < cord_count (server_at r v) → 1 ≤ (cord_of r v k).node) → Uncrossed n s r
     uncrossed hangs = record {
       parents = parent-at;
-      before = λ v k h l. ltb-false n (cordOf r v k).node (all-at (Same n true) (serverAt r v).cords (before_at v h) k _ l);
-      behind = λ v k h here l. some-behind (cordOf r v k).node (hangs v k here l) (all-at (Same n false) (serverAt r v).cords (behind-at v h here) k _ l);
+      before = λ v k h l. ltb-false n (cord_of r v k).node (all-at (Same n true) (server_at r v).cords (before_at v h) k _ l);
+      behind = λ v k h here l. some-behind (cord_of r v k).node (hangs v k here l) (all-at (Same n false) (server_at r v).cords (behind-at v h here) k _ l);
     }
       where
         some-behind : (v : ℕ) → 1 ≤ v → across n false v ≡ false → n < v

@@ -1,13 +1,13 @@
 -- Part: what it comes to.
 use Rattle.std.specs.Prelude.{not, List, [], ◌∷◌, ℕ, ◌-◌, length, eqb, ltb}
-use Rattle.outcomes.specs.Outcome.{Outcome, Reason, unless, tooShort, numbersOf}
-use Rattle.outcomes.specs.Part.{whenGood}
+use Rattle.outcomes.specs.Outcome.{Outcome, Reason, unless, too_short, numbers_of}
+use Rattle.outcomes.specs.Part.{when_good}
 use Rattle.figures.specs.Figures.{at}
 use Rattle.rooms.specs.Part.{within}
 use Rattle.rooms.specs.Table.{Room}
 use Rattle.rooms.specs.Limits.{checked}
 use Rattle.rooms.specs.Words.{table_of}
-use Rattle.rooms.specs.Outcome.{sheetRefusalNumber, sheetRefusalPlace}
+use Rattle.rooms.specs.Outcome.{sheet_refusal_number, sheet_refusal_place}
 use Rattle.part.specs.Parted.{front, back}
 use Rattle.part.specs.Crossing.{crossing}
 use Rattle.part.specs.declared.PartRefusal.{PartRefusal}
@@ -37,42 +37,42 @@ reasons version r nodes servers first second =
     record { holds = not (within 1 (length r.nodes - 1) nodes); refusal = NodesOutOfRange }
     ∷ record { holds = ltb (length r.servers) servers; refusal = ServersOutOfRange }
     ∷ record { holds = not (eqb (crossing version nodes servers r) 0); refusal = LinkAcross (crossing version nodes servers r) }
-    ∷ tooShort FirstTooShort first (length (parts_of version nodes servers r).first)
-    ∷ tooShort SecondTooShort second (length (parts_of version nodes servers r).second)
+    ∷ too_short FirstTooShort first (length (parts_of version nodes servers r).first)
+    ∷ too_short SecondTooShort second (length (parts_of version nodes servers r).second)
     ∷ []
 
 -- ---- Part
 
 -- Part of a good room.
-unfoldable pub partRoom : (version : ℕ) (r : Room) (nodes servers first second : ℕ) → PartOutcome
+unfoldable pub part_room : (version : ℕ) (r : Room) (nodes servers first second : ℕ) → PartOutcome
 unfolding unless
-partRoom version r nodes servers first second = unless (reasons version r nodes servers first second) (parts_of version nodes servers r)
+part_room version r nodes servers first second = unless (reasons version r nodes servers first second) (parts_of version nodes servers r)
 
 -- Part: a table, cut after so many nodes and servers, for two outputs of so many words. All checks of the table come first.
 unfoldable pub parting : List ℕ → (nodes servers first second : ℕ) → PartOutcome
-unfolding partRoom checked
-parting table nodes servers first second = whenGood Table (checked table 0) (λ r. partRoom (at table 0) r nodes servers first second)
+unfolding part_room checked
+parting table nodes servers first second = when_good Table (checked table 0) (λ r. part_room (at table 0) r nodes servers first second)
 
 -- ---- Numbers and places
 
 -- A refusal's number.
-abbrev pub partRefusalNumber : PartRefusal → ℕ
-partRefusalNumber (Table refusal) = sheetRefusalNumber refusal
-partRefusalNumber NodesOutOfRange = 22
-partRefusalNumber ServersOutOfRange = 22
-partRefusalNumber (LinkAcross index) = 23
-partRefusalNumber (FirstTooShort needed) = 12
-partRefusalNumber (SecondTooShort needed) = 12
+abbrev pub part_refusal_number : PartRefusal → ℕ
+part_refusal_number (Table refusal) = sheet_refusal_number refusal
+part_refusal_number NodesOutOfRange = 22
+part_refusal_number ServersOutOfRange = 22
+part_refusal_number (LinkAcross index) = 23
+part_refusal_number (FirstTooShort needed) = 12
+part_refusal_number (SecondTooShort needed) = 12
 
 -- A refusal's place: that of the table; the count that is out of range; the index of the word; or the length needed.
-abbrev pub partRefusalPlace : PartRefusal → ℕ
-partRefusalPlace (Table refusal) = sheetRefusalPlace refusal
-partRefusalPlace NodesOutOfRange = 0
-partRefusalPlace ServersOutOfRange = 1
-partRefusalPlace (LinkAcross index) = index
-partRefusalPlace (FirstTooShort needed) = needed
-partRefusalPlace (SecondTooShort needed) = needed
+abbrev pub part_refusal_place : PartRefusal → ℕ
+part_refusal_place (Table refusal) = sheet_refusal_place refusal
+part_refusal_place NodesOutOfRange = 0
+part_refusal_place ServersOutOfRange = 1
+part_refusal_place (LinkAcross index) = index
+part_refusal_place (FirstTooShort needed) = needed
+part_refusal_place (SecondTooShort needed) = needed
 
 -- The numbers of the answer to an outcome: 0 and both counts of words, or the refusal's number and its place.
-abbrev pub partNumbers : PartOutcome → List ℕ
-partNumbers = numbersOf (λ parts. length parts.first ∷ length parts.second ∷ []) partRefusalNumber partRefusalPlace
+abbrev pub part_numbers : PartOutcome → List ℕ
+part_numbers = numbers_of (λ parts. length parts.first ∷ length parts.second ∷ []) part_refusal_number part_refusal_place

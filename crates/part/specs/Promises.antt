@@ -8,7 +8,7 @@ use Rattle.rooms.specs.Limits.{checked}
 use Rattle.rooms.specs.Words.{table_of}
 use Rattle.deals.specs.Plan.{Plan, plan}
 use Rattle.deals.specs.declared.Lengths.{Lengths}
-use Rattle.join.specs.Joined.{joined, joinedPlan}
+use Rattle.join.specs.Joined.{joined, joined_plan}
 use Rattle.join.specs.Outcome.{joining}
 use Rattle.join.specs.Promises.{AcceptedJoin, Ample}
 use Rattle.part.specs.Parted.{front, back, Uncrossed}
@@ -50,10 +50,10 @@ pub record AcceptedPart : Type 0 where
   pub table : List ℕ
   pub nodes : ℕ
   pub servers : ℕ
-  pub firstEntries : ℕ
-  pub secondEntries : ℕ
+  pub first_entries : ℕ
+  pub second_entries : ℕ
   pub parts : Parts
-  pub isParts : parting table nodes servers firstEntries secondEntries ≡ accepted parts
+  pub is_parts : parting table nodes servers first_entries second_entries ≡ accepted parts
   pub room : Room
   pub end : ℕ
   pub is_room : checked table 0 ≡ good room end
@@ -80,16 +80,16 @@ PartsJoined = (j : AcceptedJoin) (first second : ℕ) → length j.first ≤ fir
 abbrev pub PartPlansBoth : Type 0
 PartPlansBoth = (p : AcceptedPart) (d e : List ℕ) (ours theirs lengths : Lengths) (q t : Plan)
     → plan p.parts.first d ours ≡ accepted q → plan p.parts.second e theirs ≡ accepted t → Ample p.room lengths
-    → plan p.table (d ++ e) lengths ≡ accepted (joinedPlan p.nodes q t)
+    → plan p.table (d ++ e) lengths ≡ accepted (joined_plan p.nodes q t)
 
 -- The other way round: the plan of a table is made up of its parts' plans, each with the demands of its own servers, which are accepted with
 -- lists that are long enough.
 pub record PlansParted (p : AcceptedPart) (demands : List ℕ) (ours theirs : Lengths) (whole : Plan) : Type 0 where
   pub first : Plan
   pub second : Plan
-  pub isFirst : plan p.parts.first (take p.servers demands) ours ≡ accepted first
-  pub isSecond : plan p.parts.second (drop p.servers demands) theirs ≡ accepted second
-  pub is_whole : whole ≡ joinedPlan p.nodes first second
+  pub is_first : plan p.parts.first (take p.servers demands) ours ≡ accepted first
+  pub is_second : plan p.parts.second (drop p.servers demands) theirs ≡ accepted second
+  pub is_whole : whole ≡ joined_plan p.nodes first second
 
 abbrev pub PlanOfParts : Type 0
 PlanOfParts = (p : AcceptedPart) (demands : List ℕ) (lengths ours theirs : Lengths) (whole : Plan)

@@ -2,10 +2,10 @@
 use Rattle.std.specs.Prelude.{◌≡◌, Bool, true, false, cond, List, [], ◌∷◌, ◌++◌, ℕ, zero, suc, ◌+◌, ◌-◌, ◌*◌, ◌^◌, ◌≤◌, ◌<◌, length, get_or, drop}
 use Rattle.outcomes.specs.Outcome.{accepted, refused}
 use Rattle.figures.specs.Bounds.{AllBelow}
-use Rattle.rooms.specs.Table.{Room, mostWords, form_of, nodeWords}
+use Rattle.rooms.specs.Table.{Room, most_words, form_of, node_words}
 use Rattle.join.specs.declared.Hut.{Hut}
-use Rattle.join.specs.Pieces.{renumberedEvery, renumberedCords, piece}
-use Rattle.part.specs.Crossing.{across, or_else, nodesBehind, serversStart, serversBehind}
+use Rattle.join.specs.Pieces.{renumbered_every, renumbered_cords, piece}
+use Rattle.part.specs.Crossing.{across, or_else, nodes_behind, servers_start, servers_behind}
 use Rattle.part.specs.Outcome.{PartOutcome}
 use Rattle.part.specs.declared.Side.{Side}
 use Rattle.part.specs.declared.Admitted.{Admitted}
@@ -15,63 +15,63 @@ use Rattle.part.specs.declared.Admitted.TheVariants as answers
 
 -- The index of the first word across the cut, of words that start at an index of which one is a parent, and then, after each, a gap of so
 -- many is not; `skip` of them are left of a gap. 0 if there is none.
-unfoldable pub everyAcross : (nodes gap skip index : ℕ) → List ℕ → ℕ
-everyAcross nodes gap zero index (word ∷ rest) = cond (across nodes false word) index (everyAcross nodes gap gap (index + 1) rest)
-everyAcross nodes gap (suc skip) index (word ∷ rest) = everyAcross nodes gap skip (index + 1) rest
-everyAcross nodes gap zero index [] = 0
-everyAcross nodes gap (suc skip) index [] = 0
+unfoldable pub every_across : (nodes gap skip index : ℕ) → List ℕ → ℕ
+every_across nodes gap zero index (word ∷ rest) = cond (across nodes false word) index (every_across nodes gap gap (index + 1) rest)
+every_across nodes gap (suc skip) index (word ∷ rest) = every_across nodes gap skip (index + 1) rest
+every_across nodes gap zero index [] = 0
+every_across nodes gap (suc skip) index [] = 0
 
 -- Likewise of words of servers that start with so many cords, node and share each.
-unfoldable pub cordsAcross : (nodes : ℕ) (before : Bool) (cords index : ℕ) → List ℕ → ℕ
-cordsAcross nodes before (suc cords) index (node ∷ share ∷ rest) =
-    cond (across nodes before node) index (cordsAcross nodes before cords (index + 2) rest)
-cordsAcross nodes before (suc cords) index (node ∷ []) = cond (across nodes before node) index 0
-cordsAcross nodes before (suc cords) index [] = 0
-cordsAcross nodes before zero index (rank ∷ least ∷ greatest ∷ cords ∷ rest) = cordsAcross nodes before cords (index + 4) rest
-cordsAcross nodes before zero index (rank ∷ least ∷ greatest ∷ []) = 0
-cordsAcross nodes before zero index (rank ∷ least ∷ []) = 0
-cordsAcross nodes before zero index (rank ∷ []) = 0
-cordsAcross nodes before zero index [] = 0
+unfoldable pub cords_across : (nodes : ℕ) (before : Bool) (cords index : ℕ) → List ℕ → ℕ
+cords_across nodes before (suc cords) index (node ∷ share ∷ rest) =
+    cond (across nodes before node) index (cords_across nodes before cords (index + 2) rest)
+cords_across nodes before (suc cords) index (node ∷ []) = cond (across nodes before node) index 0
+cords_across nodes before (suc cords) index [] = 0
+cords_across nodes before zero index (rank ∷ least ∷ greatest ∷ cords ∷ rest) = cords_across nodes before cords (index + 4) rest
+cords_across nodes before zero index (rank ∷ least ∷ greatest ∷ []) = 0
+cords_across nodes before zero index (rank ∷ least ∷ []) = 0
+cords_across nodes before zero index (rank ∷ []) = 0
+cords_across nodes before zero index [] = 0
 
 -- How many words the server has that some words start with, and so many servers.
-abbrev pub serverSpan : List ℕ → ℕ
-serverSpan [] = 0
-serverSpan (rank ∷ rest) = 4 + 2 * get_or rest 2 0
+abbrev pub server_span : List ℕ → ℕ
+server_span [] = 0
+server_span (rank ∷ rest) = 4 + 2 * get_or rest 2 0
 
 unfoldable pub span : ℕ → List ℕ → ℕ
 span zero words = 0
-span (suc servers) words = serverSpan words + span servers (drop (serverSpan words) words)
+span (suc servers) words = server_span words + span servers (drop (server_span words) words)
 
 -- ---- Sides
 
 -- The sides of a cut after so many nodes and servers.
-abbrev pub sideBefore : (version nodes servers : ℕ) → Room → Side
-sideBefore version nodes servers r = record {
+abbrev pub side_before : (version nodes servers : ℕ) → Room → Side
+side_before version nodes servers r = record {
   version = version;
   nodes = nodes;
   top = 2;
-  bottom = nodesBehind version nodes;
+  bottom = nodes_behind version nodes;
   servers = servers;
-  start = serversStart version r;
-  end = serversBehind version servers r;
+  start = servers_start version r;
+  end = servers_behind version servers r;
   down = 0;
 }
 
-abbrev pub sideBehind : (words version nodes servers : ℕ) → Room → Side
-sideBehind words version nodes servers r = record {
+abbrev pub side_behind : (words version nodes servers : ℕ) → Room → Side
+side_behind words version nodes servers r = record {
   version = version;
   nodes = length r.nodes - nodes;
-  top = nodesBehind version nodes;
-  bottom = nodesBehind version (length r.nodes);
+  top = nodes_behind version nodes;
+  bottom = nodes_behind version (length r.nodes);
   servers = length r.servers - servers;
-  start = serversBehind version servers r;
+  start = servers_behind version servers r;
   end = words;
   down = nodes;
 }
 
 -- The side behind a cut, by what is kept of a table and the side before.
-abbrev pub behindOf : Hut → Side → Side
-behindOf hut one = record {
+abbrev pub behind_of : Hut → Side → Side
+behind_of hut one = record {
   version = hut.version;
   nodes = hut.nodes - one.nodes;
   top = one.bottom;
@@ -83,39 +83,39 @@ behindOf hut one = record {
 }
 
 -- The table that a side gives.
-abbrev pub sideTable : Side → List ℕ → List ℕ
-sideTable side w =
+abbrev pub side_table : Side → List ℕ → List ℕ
+side_table side w =
     side.version ∷ side.nodes
-    ∷ (renumberedEvery (nodeWords (form_of side.version).percents - 1) 0 side.down 0 (piece side.top side.bottom w)
-    ++ (side.servers ∷ renumberedCords 0 side.down 0 (piece side.start side.end w)))
+    ∷ (renumbered_every (node_words (form_of side.version).percents - 1) 0 side.down 0 (piece side.top side.bottom w)
+    ++ (side.servers ∷ renumbered_cords 0 side.down 0 (piece side.start side.end w)))
 
 -- A side's words are there, its counts fit a word, and so does every word of the table.
 pub record SideFits (w : List ℕ) (side : Side) : Type 0 where
   pub nodes : side.nodes < 2 ^ 32
   pub servers : side.servers < 2 ^ 32
-  pub nodeWords-there : (side.top ≤ side.bottom) × (side.bottom ≤ length w)
-  pub serverWords-there : (side.start ≤ side.end) × (side.end ≤ length w)
+  pub node_words-there : (side.top ≤ side.bottom) × (side.bottom ≤ length w)
+  pub server_words-there : (side.start ≤ side.end) × (side.end ≤ length w)
   pub long : length w < 2 ^ 32
   pub below : AllBelow (2 ^ 31) w
 
 -- How many words a side's table has.
-abbrev pub sideWords : Side → ℕ
-sideWords side = 3 + (side.bottom - side.top) + (side.end - side.start)
+abbrev pub side_words : Side → ℕ
+side_words side = 3 + (side.bottom - side.top) + (side.end - side.start)
 
 -- The index of the first word across the cut between two sides; 0 if there is none.
-abbrev pub firstAcross : (one two : Side) → List ℕ → ℕ
-firstAcross one two w =
-    or_else (everyAcross one.nodes (nodeWords (form_of one.version).percents - 1) 0 two.top (piece two.top two.bottom w))
-    (or_else (cordsAcross one.nodes true 0 one.start (piece one.start one.end w))
-    (cordsAcross one.nodes false 0 two.start (piece two.start two.end w)))
+abbrev pub first_across : (one two : Side) → List ℕ → ℕ
+first_across one two w =
+    or_else (every_across one.nodes (node_words (form_of one.version).percents - 1) 0 two.top (piece two.top two.bottom w))
+    (or_else (cords_across one.nodes true 0 one.start (piece one.start one.end w))
+    (cords_across one.nodes false 0 two.start (piece two.start two.end w)))
 
 -- What is admitted of a table, for outputs of so many words: both sides, whose tables are the parts; or the refusal.
 pub record Halved (w : List ℕ) (outcome : PartOutcome) (first second : ℕ) (one two : Side) : Type 0 where
-  pub is : outcome ≡ accepted (record { first = sideTable one w; second = sideTable two w })
+  pub is : outcome ≡ accepted (record { first = side_table one w; second = side_table two w })
   pub first_fits : SideFits w one
   pub second_fits : SideFits w two
-  pub first-space : (sideWords one ≤ mostWords) × (sideWords one ≤ first)
-  pub second-space : (sideWords two ≤ mostWords) × (sideWords two ≤ second)
+  pub first-space : (side_words one ≤ most_words) × (side_words one ≤ first)
+  pub second-space : (side_words two ≤ most_words) × (side_words two ≤ second)
 
 abbrev pub Admits : List ℕ → PartOutcome → (first second : ℕ) → Admitted → Type 0
 Admits w outcome first second (answers.Good one two) = Halved w outcome first second one two

@@ -3,9 +3,9 @@
 // The table comes in bytes, as C hands it over. It passes through one list of words, in which it is checked, and each part is put together
 // there in its turn: so the call needs hardly more stack than Read, and not that of three tables.
 ghost use Rattle.std.specs.Prelude.{◌≡◌, suc, ◌≤◌, ◌<◌, length};
-ghost use Rattle.rooms.specs.Table.{mostWords};
+ghost use Rattle.rooms.specs.Table.{most_words};
 ghost use Rattle.join.specs.Huts.{HutOf};
-ghost use Rattle.part.specs.Outcome.{parting, partRefusalNumber, partRefusalPlace};
+ghost use Rattle.part.specs.Outcome.{parting, part_refusal_number, part_refusal_place};
 ghost use Rattle.part.specs.Call.{PartCall};
 ghost use Rattle.part.specs.Sides.{Admits};
 
@@ -52,7 +52,7 @@ pub enum Admitted {
 impl PartRefusal {
     // The refusal's number.
     pub fn number(self) -> u64
-        ensures is { result ≡ partRefusalNumber self }
+        ensures is { result ≡ part_refusal_number self }
     {
         match self {
             PartRefusal::Table(refusal) => refusal.number(),
@@ -66,7 +66,7 @@ impl PartRefusal {
 
     // The refusal's place.
     pub fn place(self) -> usize
-        ensures is { result ≡ partRefusalPlace self }
+        ensures is { result ≡ part_refusal_place self }
     {
         match self {
             PartRefusal::Table(refusal) => refusal.place(),
@@ -106,7 +106,7 @@ fn part_by(
     second: &mut [u8],
     answer: &mut [u8],
 ) -> u32
-    requires deciding { suc mostWords ≤ length words.old }
+    requires deciding { suc most_words ≤ length words.old }
     ensures called { PartCall table.now nodes servers first.old second.old answer.old
         result first.new second.new answer.new }
 {

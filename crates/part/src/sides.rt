@@ -8,8 +8,8 @@ ghost use Rattle.rooms.specs.Rows.{OfRoom};
 ghost use Rattle.join.specs.Huts.{HutOf};
 ghost use Rattle.join.specs.Pieces.{piece, PiecePut};
 ghost use Rattle.part.specs.Crossing.{across};
-ghost use Rattle.part.specs.Sides.{everyAcross, cordsAcross, serverSpan, span, firstAcross};
-ghost use Rattle.part.specs.Sides.{sideBefore, behindOf, sideTable, sideWords, SideFits};
+ghost use Rattle.part.specs.Sides.{every_across, cords_across, server_span, span, first_across};
+ghost use Rattle.part.specs.Sides.{side_before, behind_of, side_table, side_words, SideFits};
 
 use crate::Side;
 use figures::index_word;
@@ -22,7 +22,7 @@ use join::pieces::{count_at, node_width, put_nodes, put_servers};
 pub fn side_before(table: &[u32], hut: Hut, nodes: usize, servers: usize) -> Side
     requires hut { HutOf table.now hut }
     requires nodes { nodes ≤ hut.nodes }
-    ensures is { OfRoom table.now (λ room. result ≡ sideBefore (at table.now 0) nodes servers room) }
+    ensures is { OfRoom table.now (λ room. result ≡ side_before (at table.now 0) nodes servers room) }
 {
     let start = hut.middle + 1;
     Side {
@@ -40,7 +40,7 @@ pub fn side_before(table: &[u32], hut: Hut, nodes: usize, servers: usize) -> Sid
 // The side behind the cut.
 pub fn side_behind(hut: Hut, one: Side) -> Side
     requires within { (one.nodes ≤ hut.nodes) × (one.servers ≤ hut.servers) × (one.nodes < 2 ^ 32) }
-    ensures is { result ≡ behindOf hut one }
+    ensures is { result ≡ behind_of hut one }
 {
     Side {
         version: hut.version,
@@ -70,7 +70,7 @@ fn servers_end(table: &[u32], start: usize, servers: usize) -> usize
 // How many words the server has whose words start at i; none past the end.
 fn server_span(words: &[u32], i: usize) -> usize
     requires below { AllBelow (2 ^ 31) words.now }
-    ensures is { result ≡ serverSpan (drop i words.now) }
+    ensures is { result ≡ server_span (drop i words.now) }
     ensures small { result < 2 ^ 34 }
     ensures none { length words.now ≤ i → result ≡ 0 }
 {
@@ -83,7 +83,7 @@ fn server_span(words: &[u32], i: usize) -> usize
 // How many words a side's table has.
 pub fn side_words(side: Side) -> usize
     requires fits { (side.top ≤ side.bottom) × (side.start ≤ side.end) × (side.bottom < 2 ^ 32) × (side.end < 2 ^ 32) }
-    ensures is { result ≡ sideWords side }
+    ensures is { result ≡ side_words side }
 {
     3 + (side.bottom - side.top) + (side.end - side.start)
 }
@@ -93,7 +93,7 @@ pub fn side_words(side: Side) -> usize
 // The index of the first word of a good table that names a node on the other side of the cut; 0 if there is none.
 pub fn first_across(table: &[u32], one: Side, two: Side) -> usize
     requires fits { SideFits table.now one × SideFits table.now two }
-    ensures is { result ≡ firstAcross one two table.now }
+    ensures is { result ≡ first_across one two table.now }
 {
     let nodes = index_word(one.nodes);
     let parent = parent_across(table, node_width(one.version), nodes, two.top, two.bottom);
@@ -111,7 +111,7 @@ pub fn first_across(table: &[u32], one: Side, two: Side) -> usize
 fn parent_across(table: &[u32], width: usize, nodes: u32, from: usize, to: usize) -> usize
     requires width { (1 ≤ width) × (width ≤ 3) }
     requires there { to ≤ length table.now }
-    ensures is { result ≡ everyAcross nodes (width - 1) 0 from (piece from to table.now) }
+    ensures is { result ≡ every_across nodes (width - 1) 0 from (piece from to table.now) }
 {
     let mut i = from;
     while i < to {
@@ -126,7 +126,7 @@ fn parent_across(table: &[u32], width: usize, nodes: u32, from: usize, to: usize
 // Likewise of cords, of servers that stand before the cut or behind it.
 fn cord_across(table: &[u32], nodes: u32, before: bool, from: usize, to: usize) -> usize
     requires there { to ≤ length table.now }
-    ensures is { result ≡ cordsAcross nodes before 0 from (piece from to table.now) }
+    ensures is { result ≡ cords_across nodes before 0 from (piece from to table.now) }
 {
     let mut i = from;
     let mut left = 0;
@@ -160,9 +160,9 @@ fn across(number: u32, nodes: u32, before: bool) -> bool
 // A side's table, by way of a list of words, at the front of an output that has space for it; how many words.
 pub fn store_side(table: &[u8], side: Side, words: &mut [u32], output: &mut [u8]) -> usize
     requires fits { SideFits (words_of table.now) side }
-    requires space { (sideWords side ≤ length words.old) × (sideWords side ≤ length output.old / 4) }
-    ensures count { result ≡ length (sideTable side (words_of table.now)) }
-    ensures stored { output.new ≡ sets output.old 0 (bytes_of (sideTable side (words_of table.now))) }
+    requires space { (side_words side ≤ length words.old) × (side_words side ≤ length output.old / 4) }
+    ensures count { result ≡ length (side_table side (words_of table.now)) }
+    ensures stored { output.new ≡ sets output.old 0 (bytes_of (side_table side (words_of table.now))) }
 {
     let count = put_side(table, side, words);
     words::store(&words[..count], output);
@@ -172,8 +172,8 @@ pub fn store_side(table: &[u8], side: Side, words: &mut [u32], output: &mut [u8]
 // A side's table, put together at the front of `words`.
 fn put_side(table: &[u8], side: Side, words: &mut [u32]) -> usize
     requires fits { SideFits (words_of table.now) side }
-    requires space { sideWords side ≤ length words.old }
-    ensures put { PiecePut words.old 0 (sideTable side (words_of table.now)) words.new result }
+    requires space { side_words side ≤ length words.old }
+    ensures put { PiecePut words.old 0 (side_table side (words_of table.now)) words.new result }
 {
     let width = node_width(side.version);
     words[0] = side.version;

@@ -11,14 +11,14 @@ use Rattle.calls.specs.Call.{answered}
 use Rattle.calls.proofs.Calls.{answer-told, call-short, call-done}
 use Rattle.calls.proofs.Fronts.{bytes_after}
 use Rattle.outcomes.specs.Outcome.{accepted, refused, written, after}
-use Rattle.deals.specs.Plan.{Plan, PlanOutcome, output, count, entries, Lists, plan, answer_of, planNumber, planFigure}
+use Rattle.deals.specs.Plan.{Plan, PlanOutcome, output, count, entries, Lists, plan, answer_of, plan_number, plan_figure}
 use Rattle.deals.specs.declared.Lengths.{Lengths}
 use Rattle.deals.specs.declared.Planned.{Planned}
 use Rattle.deals.specs.declared.Planned.TheVariants as planned
 use Rattle.deals.specs.declared.PlanRefusal.{PlanRefusal}
 use Rattle.deals.specs.declared.PlanList.{PlanList}
 use Rattle.deals.proofs.Lent.{plan-written}
-use Rattle.rooms.specs.Table.{Room, roomCords}
+use Rattle.rooms.specs.Table.{Room, room_cords}
 use Rattle.layout.specs.declared.room.Counts.{Counts}
 use Rattle.layout.proofs.Loads.{servers-count, cords-count}
 use Rattle.plan_rooms.specs.Planning.{PlanLeft}
@@ -45,7 +45,7 @@ module _ {table demands : List ℕ} {lengths : Lengths} {counts : Counts} (a : A
       → ((list : PlanList) → count counts.cords counts.servers list ≤ length (lent list))
       → FiguresLeft (plan table demands lengths) (record { answer = planned.Accepted freed; cords = counts.cords; servers = counts.servers }) lent'
   figures-accepted lent lent' left long =
-      let counted : (list : PlanList) → count counts.cords counts.servers list ≡ count (roomCords room) (length room.servers) list =
+      let counted : (list : PlanList) → count counts.cords counts.servers list ≡ count (room_cords room) (length room.servers) list =
       λ list. ap₂ (λ (cords servers : ℕ). count cords servers list) (cords-count a.room-found) (servers-count a.room-found) in
       rw a.is
       (record {
@@ -92,7 +92,7 @@ plan-short outcome lent answer h = call-short _ answer _ (omega arith) (record {
 pub plan-done : (outcome : PlanOutcome) (lent lent' : Lists) (answer : List ℕ) {planned : Planned} {answer' : List ℕ} {number figure : ℕ}
     → 16 ≤ length answer → planned ≡ answer_of outcome
     → ((list : PlanList) → lent' list ≡ after (λ p. bytes_of (output list p)) outcome (lent list))
-    → number ≡ planNumber planned → figure ≡ planFigure planned → answer' ≡ answered 2 (number ∷ figure ∷ []) answer
+    → number ≡ plan_number planned → figure ≡ plan_figure planned → answer' ≡ answered 2 (number ∷ figure ∷ []) answer
     → PlannedCall outcome lent answer 1 lent' answer'
 plan-done outcome lent lent' answer long is stored k v a =
-    call-done _ answer _ (omega arith) (record { lists-after = stored }) (answer-told answer (k ∙ ap planNumber is) (v ∙ ap planFigure is) a)
+    call-done _ answer _ (omega arith) (record { lists-after = stored }) (answer-told answer (k ∙ ap plan_number is) (v ∙ ap plan_figure is) a)

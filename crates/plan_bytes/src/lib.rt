@@ -1,7 +1,7 @@
 // Plan called from C: bytes to words, the operation, words and the answer to bytes.
 ghost use Rattle.std.specs.Prelude.{◌≤◌, length};
 ghost use Rattle.words.specs.Bytes.{words_of};
-ghost use Rattle.rooms.specs.Table.{mostServers, mostCords};
+ghost use Rattle.rooms.specs.Table.{most_servers, most_cords};
 ghost use Rattle.deals.specs.Plan.{lists, plan};
 ghost use Rattle.plan_bytes.specs.Call.{PlanCall};
 ghost use Rattle.plan_bytes.specs.Figures.{FiguresLeft};
@@ -80,8 +80,8 @@ fn plan_figures(
     lent: &mut [u32],
     holders: &mut [u32],
 ) -> PlannedFigures
-    requires cords { (mostCords ≤ length granted.old) × (mostCords ≤ length lent.old) × (mostCords ≤ length holders.old) }
-    requires servers { mostServers ≤ length capped.old }
+    requires cords { (most_cords ≤ length granted.old) × (most_cords ≤ length lent.old) × (most_cords ≤ length holders.old) }
+    requires servers { most_servers ≤ length capped.old }
     ensures planned { FiguresLeft (plan (words_of table.now) (words_of demands.now) lengths) result
         (lists granted.new capped.new lent.new holders.new) }
 {

@@ -7,17 +7,17 @@ use lib.ListN.{length}
 use lib.Seq.{ext_get_or}
 use Rattle.figures.specs.Figures.{at}
 use Rattle.figures.proofs.Lists.{figures-length}
-use Rattle.rooms.specs.Table.{mostWatts}
+use Rattle.rooms.specs.Table.{most_watts}
 use Rattle.splits.specs.Split.{part}
-use Rattle.deals.specs.Passes.{cordWeight, weightOf}
-use Rattle.deals.specs.Metrics.{Deal, dealFrom, metrics, overChildren}
-use Rattle.deals.specs.Headroom.{requestsAt, headroomOver}
+use Rattle.deals.specs.Passes.{cord_weight, weight_of}
+use Rattle.deals.specs.Metrics.{Deal, deal_from, metrics, over_children}
+use Rattle.deals.specs.Headroom.{requests_at, headroom_over}
 use Rattle.deals.proofs.Amounts.{ByWeights}
 use Rattle.deals.proofs.Headroom.{lent-only}
 use Rattle.deals.proofs.Ranks.{dealable}
 use Rattle.plan_headroom.specs.Lending.{LendGiven}
-use Rattle.plan_headroom.specs.Passes.{LendLists, cordsBefore, LendWeights, DealtOut}
-use Rattle.rooms.specs.Trees.{childSum}
+use Rattle.plan_headroom.specs.Passes.{LendLists, cords_before, LendWeights, DealtOut}
+use Rattle.rooms.specs.Trees.{child_sum}
 
 module _ {parents nodes wants left ceilings limits levels lows starts : List ℕ} (given : LendGiven parents nodes wants left ceilings limits levels lows starts) where
   pub lend-lists : LendLists parents nodes wants ceilings
@@ -33,37 +33,37 @@ module _ {parents nodes wants left ceilings limits levels lows starts : List ℕ
     most = given.most;
   }
 
-  pub left-most : (n : ℕ) → n < length parents → at left n ≤ mostWatts
+  pub left-most : (n : ℕ) → n < length parents → at left n ≤ most_watts
   left-most n l = omega (arith, given.left_is n l, given.lists.of-nodes.most n l)
 
-  abbrev theDeal : Deal
-  theDeal = dealFrom parents limits nodes levels lows starts wants
+  abbrev the_deal : Deal
+  the_deal = deal_from parents limits nodes levels lows starts wants
 
   module _ {weights wholes headroom : List ℕ} (weighed : LendWeights parents nodes wants ceilings weights wholes)
-      (cut : (n : ℕ) → n < length parents → weightOf weights wholes n ≡ weightOf left wholes n) (dealt : DealtOut parents nodes wants ceilings weights wholes headroom) where
-    whole_is : (n : ℕ) → n < length parents → at wholes n ≡ overChildren theDeal n (weightOf weights wholes) (cordWeight wants ceilings)
-    unfolding dealFrom
+      (cut : (n : ℕ) → n < length parents → weight_of weights wholes n ≡ weight_of left wholes n) (dealt : DealtOut parents nodes wants ceilings weights wholes headroom) where
+    whole_is : (n : ℕ) → n < length parents → at wholes n ≡ over_children the_deal n (weight_of weights wholes) (cord_weight wants ceilings)
+    unfolding deal_from
     whole_is n l = weighed.whole n l
 
     cut-is : (n : ℕ) → n < length parents
-        → weightOf weights wholes n ≡ min (at limits n - requestsAt (metrics theDeal) n) (overChildren theDeal n (weightOf weights wholes) (cordWeight wants ceilings))
-    cut-is n l = cut n l ∙ ap₂ min (let e : at left n ≡ at limits n - requestsAt (metrics theDeal) n = omega (arith, given.left_is n l) in e) (whole_is n l)
+        → weight_of weights wholes n ≡ min (at limits n - requests_at (metrics the_deal) n) (over_children the_deal n (weight_of weights wholes) (cord_weight wants ceilings))
+    cut-is n l = cut n l ∙ ap₂ min (let e : at left n ≡ at limits n - requests_at (metrics the_deal) n = omega (arith, given.left_is n l) in e) (whole_is n l)
 
-    by_weights : ByWeights theDeal (weightOf weights wholes) (cordWeight wants ceilings) dealt.lends (at headroom)
-    unfolding dealFrom
+    by_weights : ByWeights the_deal (weight_of weights wholes) (cord_weight wants ceilings) dealt.lends (at headroom)
+    unfolding deal_from
     by_weights = record {
       root = dealt.root;
       inner = λ m n l e.
           dealt.inner m n l e
-          ∙ ap (λ (z : ℕ). part (dealt.lends n) z (childSum m (at parents) n (weightOf weights wholes)) (weightOf weights wholes m)) (whole_is n (omega (arith, given.lists.of-nodes.rises m l)));
+          ∙ ap (λ (z : ℕ). part (dealt.lends n) z (child_sum m (at parents) n (weight_of weights wholes)) (weight_of weights wholes m)) (whole_is n (omega (arith, given.lists.of-nodes.rises m l)));
       leaf = λ c n l e.
           dealt.leaf c n l e
-          ∙ ap (λ (z : ℕ). part (dealt.lends n) z (childSum (length parents) (at parents) n (weightOf weights wholes) + cordsBefore nodes wants ceilings n c) (cordWeight wants ceilings c))
+          ∙ ap (λ (z : ℕ). part (dealt.lends n) z (child_sum (length parents) (at parents) n (weight_of weights wholes) + cords_before nodes wants ceilings n c) (cord_weight wants ceilings c))
           (whole_is n (omega (arith, given.lists.of-cords.within c l)));
     }
 
-    pub headroom-is : length headroom ≡ length ceilings → headroom ≡ headroomOver theDeal (at ceilings)
-    unfolding dealFrom headroomOver
+    pub headroom-is : length headroom ≡ length ceilings → headroom ≡ headroom_over the_deal (at ceilings)
+    unfolding deal_from headroom_over
     headroom-is size =
-        ext_get_or 0 headroom (headroomOver theDeal (at ceilings)) (size ∙ given.ceilings-size ∙ sym (figures-length (length nodes) _))
-        (λ c l. lent-only theDeal (dealable parents limits nodes levels lows starts wants given.lists) (at ceilings) given.wanted (weightOf weights wholes) dealt.lends (at headroom) cut-is by_weights c (omega (arith, size, given.ceilings-size)))
+        ext_get_or 0 headroom (headroom_over the_deal (at ceilings)) (size ∙ given.ceilings-size ∙ sym (figures-length (length nodes) _))
+        (λ c l. lent-only the_deal (dealable parents limits nodes levels lows starts wants given.lists) (at ceilings) given.wanted (weight_of weights wholes) dealt.lends (at headroom) cut-is by_weights c (omega (arith, size, given.ceilings-size)))

@@ -10,40 +10,40 @@ use lib.Seq.{get_or-take, length-take-le}
 use Rattle.figures.specs.Sums.{on, sum}
 use Rattle.figures.specs.Figures.{at}
 use Rattle.figures.proofs.Sums.{sum-cong}
-use Rattle.rooms.specs.Table.{mostCords, mostWatts}
-use Rattle.rooms.specs.Credits.{treeSum}
-use Rattle.rooms.proofs.Trees.{childSum-cong, childSum-le, down}
-use Rattle.rooms.proofs.Credits.{treeSum-most, treeSum-step}
+use Rattle.rooms.specs.Table.{most_cords, most_watts}
+use Rattle.rooms.specs.Credits.{tree_sum}
+use Rattle.rooms.proofs.Trees.{child_sum-cong, child_sum-le, down}
+use Rattle.rooms.proofs.Credits.{tree_sum-most, tree_sum-step}
 use Rattle.splits.specs.Split.{part}
-use Rattle.deals.proofs.Amounts.{childCords-most}
+use Rattle.deals.proofs.Amounts.{child_cords-most}
 use Rattle.figures.specs.Places.{Absent, Present}
 use Rattle.deals.specs.Levels.{ActiveNodes}
-use Rattle.deals.specs.Passes.{LevelCords, listedBefore, overListed, cordWeight, weightOf, WeightsListed, Weighed, NodesDealt, CordsDealt}
-use Rattle.plan_headroom.specs.Passes.{AllPlaces, LendLists, cordsBefore, LendWeights, DealtOut}
-use Rattle.rooms.specs.Trees.{ParentsFirst, childSum}
+use Rattle.deals.specs.Passes.{LevelCords, listed_before, over_listed, cord_weight, weight_of, WeightsListed, Weighed, NodesDealt, CordsDealt}
+use Rattle.plan_headroom.specs.Passes.{AllPlaces, LendLists, cords_before, LendWeights, DealtOut}
+use Rattle.rooms.specs.Trees.{ParentsFirst, child_sum}
 
 module _ {parents nodes wants ceilings all : List ℕ} (lists : LendLists parents nodes wants ceilings) (places : AllPlaces all) where
   abbrev weight : ℕ → ℕ
-  weight = cordWeight wants ceilings
+  weight = cord_weight wants ceilings
 
   -- ---- All nodes and all cords, listed
 
-  node_at : (n : ℕ) → n < length parents → at all n ≡ n
-  node_at n l = places.own n (omega (arith, lists.few-nodes))
+  node_stands : (n : ℕ) → n < length parents → at all n ≡ n
+  node_stands n l = places.own n (omega (arith, lists.few-nodes))
 
   all-nodes : ActiveNodes parents all (length parents)
   all-nodes = record {
     few = omega (arith, lists.few-nodes, places.size);
-    within = λ i h. omega (arith, node_at i h);
-    rises = λ i k h l. omega (arith, node_at i (omega arith), node_at k l);
+    within = λ i h. omega (arith, node_stands i h);
+    rises = λ i k h l. omega (arith, node_stands i (omega arith), node_stands k l);
     closed = λ m n l e none.
         let q : n < length parents = omega (arith, lists.rises m l) in
-        absurd (none n q (node_at n q));
+        absurd (none n q (node_stands n q));
   }
 
   -- Every node is listed, and the front of the list has every cord.
   here : (n : ℕ) → n < length parents → Present all (length parents) n
-  here n l none = none n l (node_at n l)
+  here n l none = none n l (node_stands n l)
 
   abbrev listed : List ℕ
   listed = take (length nodes) all
@@ -71,15 +71,15 @@ module _ {parents nodes wants ceilings all : List ℕ} (lists : LendLists parent
     hangs = each (λ c. 1 ≤ at nodes c) lists.hangs;
     there = each (λ c. at nodes c ≤ count) (λ c l. omega (arith, lists.within c l));
     ordered = each (λ c. at wants c ≤ at ceilings c) lists.wanted;
-    most = each (λ c. at ceilings c ≤ mostWatts) lists.most;
+    most = each (λ c. at ceilings c ≤ most_watts) lists.most;
   }
 
   -- Sums over the list are sums over the cords.
-  listed-before : (n i : ℕ) → i ≤ length nodes → listedBefore listed nodes weight n i ≡ cordsBefore nodes wants ceilings n i
+  listed-before : (n i : ℕ) → i ≤ length nodes → listed_before listed nodes weight n i ≡ cords_before nodes wants ceilings n i
   listed-before n i h = sum-cong i _ _ (λ c l. ap (λ (z : ℕ). on (eqb (at nodes z) (suc n)) (weight z)) (listed_at c (omega arith)))
 
-  listed-all : (n : ℕ) → overListed listed nodes weight n ≡ cordsBefore nodes wants ceilings n (length nodes)
-  listed-all n = ap (listedBefore listed nodes weight n) listed-length ∙ listed-before n (length nodes) (le_refl (length nodes))
+  listed-all : (n : ℕ) → over_listed listed nodes weight n ≡ cords_before nodes wants ceilings n (length nodes)
+  listed-all n = ap (listed_before listed nodes weight n) listed-length ∙ listed-before n (length nodes) (le_refl (length nodes))
 
   -- ---- The weights
 
@@ -88,42 +88,42 @@ module _ {parents nodes wants ceilings all : List ℕ} (lists : LendLists parent
 
   -- What is summed on the nodes are the weights of all cords.
   abbrev pub OnNodes : List ℕ → Type 0
-  OnNodes sums = (n : ℕ) → n < length parents → at sums n ≡ overListed listed nodes weight n
+  OnNodes sums = (n : ℕ) → n < length parents → at sums n ≡ over_listed listed nodes weight n
 
-  sums-most : (sums : List ℕ) → OnNodes sums → sum (length parents) (at sums) ≤ mostCords * mostWatts
+  sums-most : (sums : List ℕ) → OnNodes sums → sum (length parents) (at sums) ≤ most_cords * most_watts
   sums-most sums on-nodes =
       le_trans (le_of_eq (sum-cong (length parents) _ _ (λ n l. on-nodes n l ∙ listed-all n)))
-      (le_trans (childCords-most (length parents) (length nodes) (at nodes) lists.hangs lists.within weight mostWatts (λ c l. omega (arith, lists.most c l)))
-      (mul-le-mul_right mostWatts lists.few))
+      (le_trans (child_cords-most (length parents) (length nodes) (at nodes) lists.hangs lists.within weight most_watts (λ c l. omega (arith, lists.most c l)))
+      (mul-le-mul_right most_watts lists.few))
 
   pub weigh-asks : (left sums : List ℕ) {weights-length : ℕ} → length left ≡ length parents → OnNodes sums → length parents ≤ length sums → length parents ≤ weights-length
       → (ActiveNodes parents all (length parents) × ParentsFirst (length parents) (at parents))
       × (((length left ≡ length parents) × (length parents ≤ length sums) × (length parents ≤ weights-length))
-      × ((sum (length parents) (at sums) ≤ mostCords * mostWatts) × ((n : ℕ) → n < length parents → Absent all (length parents) n → at sums n ≡ 0)))
+      × ((sum (length parents) (at sums) ≤ most_cords * most_watts) × ((n : ℕ) → n < length parents → Absent all (length parents) n → at sums n ≡ 0)))
   weigh-asks left sums left-size on-nodes sums-size weights-size = (
     (all-nodes, lists.rises),
     ((left-size, sums-size, weights-size), (sums-most sums on-nodes, λ n l none. absurd (here n l none))),
   )
 
   module _ {left sums left' wholes weights : List ℕ} (g : Weighed parents all (length parents) left sums left' wholes weights)
-      (left-most : (n : ℕ) → n < length parents → at left n ≤ mostWatts) (on-nodes : OnNodes sums) where
-    children-are : (n : ℕ) → n < length parents → at wholes n ≡ childSum (length parents) (at parents) n (weightOf weights wholes) + at sums n
+      (left-most : (n : ℕ) → n < length parents → at left n ≤ most_watts) (on-nodes : OnNodes sums) where
+    children-are : (n : ℕ) → n < length parents → at wholes n ≡ child_sum (length parents) (at parents) n (weight_of weights wholes) + at sums n
     children-are n l =
         omega (
           arith,
           g.children n l,
-          childSum-cong (length parents) (at parents) n (weightOf left wholes) (weightOf weights wholes) (λ m lm q. sym (g.weights-are m lm)),
+          child_sum-cong (length parents) (at parents) n (weight_of left wholes) (weight_of weights wholes) (λ m lm q. sym (g.weights-are m lm)),
         )
 
     -- No node's children weight more than all cords beneath it.
-    wholes-beneath : (n : ℕ) → n < length parents → at wholes n ≤ treeSum (at parents) (length parents) (at sums) n
-    wholes-beneath = down (length parents) (λ n. at wholes n ≤ treeSum (at parents) (length parents) (at sums) n) (λ n l ih.
+    wholes-beneath : (n : ℕ) → n < length parents → at wholes n ≤ tree_sum (at parents) (length parents) (at sums) n
+    wholes-beneath = down (length parents) (λ n. at wholes n ≤ tree_sum (at parents) (length parents) (at sums) n) (λ n l ih.
         omega (
           arith,
           children-are n l,
-          childSum-le (length parents) (at parents) n (weightOf weights wholes) (treeSum (at parents) (length parents) (at sums)) (λ m lm q.
+          child_sum-le (length parents) (at parents) n (weight_of weights wholes) (tree_sum (at parents) (length parents) (at sums)) (λ m lm q.
               omega (arith, ih m lm (subst (λ (z : ℕ). z ≤ m) q (lists.rises m lm)))),
-          treeSum-step (length parents) (at parents) lists.rises (at sums) n l,
+          tree_sum-step (length parents) (at parents) lists.rises (at sums) n l,
         ))
 
     pub lend-weights : LendWeights parents nodes wants ceilings weights wholes
@@ -131,7 +131,7 @@ module _ {parents nodes wants ceilings all : List ℕ} (lists : LendLists parent
       whole = λ n l. omega (arith, children-are n l, on-nodes n l, listed-all n);
       enough = λ n l. g.listed.within n l (here n l);
       most = λ n l. omega (arith, g.weights-are n l, left-most n l);
-      wholes-most = λ n l. omega (arith, wholes-beneath n l, treeSum-most (length parents) (at parents) (at sums) n, sums-most sums on-nodes);
+      wholes-most = λ n l. omega (arith, wholes-beneath n l, tree_sum-most (length parents) (at parents) (at sums) n, sums-most sums on-nodes);
     }
 
   -- ---- What is dealt by them
@@ -140,7 +140,7 @@ module _ {parents nodes wants ceilings all : List ℕ} (lists : LendLists parent
     pub deal-nodes-asks : length parents ≤ length weights → length wholes ≡ length weights → {size-e size-d : ℕ} → size-e ≡ length weights → size-d ≡ length weights
         → ((length parents ≤ size-e) × (size-d ≡ size-e) × ParentsFirst (length parents) (at parents))
         × (WeightsListed parents all (length parents) wholes weights
-        × ((n : ℕ) → n < length parents → (weightOf weights wholes n ≤ mostWatts) × (at wholes n ≤ mostCords * mostWatts) × (childSum (length parents) (at parents) n (weightOf weights wholes) ≤ at wholes n)))
+        × ((n : ℕ) → n < length parents → (weight_of weights wholes n ≤ most_watts) × (at wholes n ≤ most_cords * most_watts) × (child_sum (length parents) (at parents) n (weight_of weights wholes) ≤ at wholes n)))
     deal-nodes-asks sa sw se sd = (
       (omega arith, sd ∙ sym se, lists.rises),
       (
@@ -155,7 +155,7 @@ module _ {parents nodes wants ceilings all : List ℕ} (lists : LendLists parent
       ),
     )
 
-    module _ {amounts before dealt : List ℕ} (nd : NodesDealt parents all (length parents) (weightOf weights wholes) wholes amounts before dealt) where
+    module _ {amounts before dealt : List ℕ} (nd : NodesDealt parents all (length parents) (weight_of weights wholes) wholes amounts before dealt) where
       there : (i n : ℕ) → i < length listed → at nodes (at listed i) ≡ suc n → n < length parents
       there i n h e = omega (arith, each (λ c. at nodes c ≤ length parents) lists.within i h)
 
@@ -163,9 +163,9 @@ module _ {parents nodes wants ceilings all : List ℕ} (lists : LendLists parent
           → size-t ≡ length nodes
           → LevelCords (length amounts) listed nodes wants ceilings
           × (((length wholes ≡ length amounts) × (length before ≡ length amounts) × (length dealt ≡ length amounts) × (size-t ≡ length nodes))
-          × ((i n : ℕ) → i < length listed → at nodes (at listed i) ≡ suc n → (at amounts n ≤ mostWatts) × (at amounts n ≤ at wholes n) × (at wholes n ≤ mostCords * mostWatts)
+          × ((i n : ℕ) → i < length listed → at nodes (at listed i) ≡ suc n → (at amounts n ≤ most_watts) × (at amounts n ≤ at wholes n) × (at wholes n ≤ most_cords * most_watts)
           × (at dealt n ≡ at amounts n * at before n / at wholes n)
-          × (at before n + overListed listed nodes weight n ≤ at wholes n)))
+          × (at before n + over_listed listed nodes weight n ≤ at wholes n)))
       deal-cords-asks sa sw se sd st = (
         all-cords sa,
         (
@@ -185,13 +185,13 @@ module _ {parents nodes wants ceilings all : List ℕ} (lists : LendLists parent
       module _ {tops tops' : List ℕ} (cd : CordsDealt listed nodes wants ceilings wholes amounts before tops tops') where
         -- A cord's top is its want and its part.
         top-is : (c n : ℕ) → c < length nodes → at nodes c ≡ suc n
-            → at tops' c ≡ at wants c + part (at amounts n) (at wholes n) (childSum (length parents) (at parents) n (weightOf weights wholes) + cordsBefore nodes wants ceilings n c) (weight c)
+            → at tops' c ≡ at wants c + part (at amounts n) (at wholes n) (child_sum (length parents) (at parents) n (weight_of weights wholes) + cords_before nodes wants ceilings n c) (weight c)
         top-is c n l e =
             let q : n < length parents = omega (arith, lists.within c l) in
             let s : at listed c ≡ c = listed_at c l in
-            let b : at before n ≡ childSum (length parents) (at parents) n (weightOf weights wholes) = nd.served n q (here n q) in
+            let b : at before n ≡ child_sum (length parents) (at parents) n (weight_of weights wholes) = nd.served n q (here n q) in
             subst
-            (λ (h : ℕ). at tops' h ≡ at wants h + part (at amounts n) (at wholes n) (childSum (length parents) (at parents) n (weightOf weights wholes) + cordsBefore nodes wants ceilings n c) (weight h)) s
+            (λ (h : ℕ). at tops' h ≡ at wants h + part (at amounts n) (at wholes n) (child_sum (length parents) (at parents) n (weight_of weights wholes) + cords_before nodes wants ceilings n c) (weight h)) s
             (cd.ours c n (omega (arith, listed-length)) (ap (at nodes) s ∙ e)
             ∙ ap₂ (λ (a b : ℕ). at wants (at listed c) + part (at amounts n) (at wholes n) (a + b) (weight (at listed c))) b (listed-before n c (omega arith)))
 

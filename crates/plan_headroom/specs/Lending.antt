@@ -1,9 +1,9 @@
 -- Headroom after a deal: what the contract of `lend` cites. Figures stand in lists, by the places of nodes or cords.
 use Rattle.std.specs.Prelude.{◌≡◌, List, ℕ, ◌+◌, ◌≤◌, ◌<◌, length}
-use Rattle.rooms.specs.Table.{mostWatts}
+use Rattle.rooms.specs.Table.{most_watts}
 use Rattle.figures.specs.Figures.{at}
-use Rattle.deals.specs.Metrics.{dealFrom, metrics}
-use Rattle.deals.specs.Headroom.{requestsAt}
+use Rattle.deals.specs.Metrics.{deal_from, metrics}
+use Rattle.deals.specs.Headroom.{requests_at}
 use Rattle.deals.specs.Ranks.{DealLists}
 
 -- The lists are those of a deal by these limits, levels, lows and starts, after it is made: what each limit has over the node's Requests,
@@ -12,10 +12,10 @@ pub record LendGiven (parents nodes wants left ceilings limits levels lows start
   pub lists : DealLists parents limits nodes levels lows starts wants
   pub left-size : length left ≡ length parents
   pub left_is : (n : ℕ) → n < length parents
-      → at left n + requestsAt (metrics (dealFrom parents limits nodes levels lows starts wants)) n ≡ at limits n
+      → at left n + requests_at (metrics (deal_from parents limits nodes levels lows starts wants)) n ≡ at limits n
   pub ceilings-size : length ceilings ≡ length nodes
   pub wanted : (c : ℕ) → c < length nodes → at wants c ≤ at ceilings c
-  pub most : (c : ℕ) → c < length nodes → at ceilings c ≤ mostWatts
+  pub most : (c : ℕ) → c < length nodes → at ceilings c ≤ most_watts
 
 -- There are such limits, levels, lows and starts. The code needs none: `left` has all that it uses of them.
 pub record SomeLending (parents nodes wants left ceilings : List ℕ) : Type 0 where

@@ -2,9 +2,9 @@
 // Private to Plan: no operation stands here.
 ghost use Rattle.std.specs.Prelude.{◌≡◌, List, ℕ, ◌-◌, ◌≤◌, ◌<◌, length};
 ghost use Rattle.figures.specs.Figures.{at};
-ghost use Rattle.rooms.specs.Table.{mostCords};
-ghost use Rattle.deals.specs.Metrics.{dealFrom};
-ghost use Rattle.deals.specs.Headroom.{headroomOver};
+ghost use Rattle.rooms.specs.Table.{most_cords};
+ghost use Rattle.deals.specs.Metrics.{deal_from};
+ghost use Rattle.deals.specs.Headroom.{headroom_over};
 ghost use Rattle.plan_headroom.specs.Lending.{LendGiven, SomeLending};
 ghost use Rattle.plan_headroom.specs.Passes.{AllPlaces, LendLists, LendWeights, DealtOut};
 
@@ -15,7 +15,7 @@ use figures::place;
 
 // Lists all places.
 fn list_all(all: &mut [u16])
-    requires size { length all.old ≡ mostCords }
+    requires size { length all.old ≡ most_cords }
     ensures listed { AllPlaces all.new }
 {
     for i in 0..all.len() {
@@ -87,7 +87,7 @@ pub fn lend(
     requires lists { SomeLending parents.now nodes.now wants.now left.old headroom.old × (length tops.old ≡ length nodes.now) }
     ensures lent { (limits levels lows starts : List ℕ) → LendGiven parents.now nodes.now wants.now
         left.old headroom.old limits levels lows starts
-        → headroom.new ≡ headroomOver (dealFrom parents.now limits nodes.now levels lows starts wants.now)
+        → headroom.new ≡ headroom_over (deal_from parents.now limits nodes.now levels lows starts wants.now)
         (at headroom.old) }
 {
     let mut all = [0u16; 1024];

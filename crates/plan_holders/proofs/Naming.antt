@@ -12,21 +12,21 @@ use Rattle.figures.specs.Figures.{figures, at, cell, column}
 use Rattle.figures.specs.Sums.{on}
 use Rattle.figures.proofs.Lists.{figures-at, figures-length}
 use Rattle.figures.proofs.Columns.{column-length, column-at}
-use Rattle.rooms.specs.Table.{Room, highestRank}
-use Rattle.rooms.specs.Lists.{parentsOf, limitsOf, nodesOf, levelsOf, lowsOf}
-use Rattle.rooms.specs.Rows.{nodeColumn, levelColumn, CordRows}
-use Rattle.deals.specs.Metrics.{dealFrom, dealOf, metrics}
+use Rattle.rooms.specs.Table.{Room, highest_rank}
+use Rattle.rooms.specs.Lists.{parents_of, limits_of, nodes_of, levels_of, lows_of}
+use Rattle.rooms.specs.Rows.{node_column, level_column, CordRows}
+use Rattle.deals.specs.Metrics.{deal_from, deal_of, metrics}
 use Rattle.deals.specs.Dealing.{granted}
-use Rattle.deals.specs.SecondDeal.{firstUsed, secondDeal, secondWants, secondGrants}
-use Rattle.deals.specs.Held.{cutFrom, nearestRoot, holder, heldOver, held}
-use Rattle.plan_holders.specs.Holding.{HeldLists, holderFrom, heldFrom}
+use Rattle.deals.specs.SecondDeal.{first_used, second_deal, second_wants, second_grants}
+use Rattle.deals.specs.Held.{cut_from, nearest_root, holder, held_over, held}
+use Rattle.plan_holders.specs.Holding.{HeldLists, holder_from, held_from}
 use Rattle.plan_holders.proofs.Rows.{held_at}
 use Rattle.rooms.specs.Trees.{ParentsFirst}
 
 -- Two tests that agree on every node name the same one.
 nearest-cong : (nodes : ℕ) (parent : ℕ → ℕ) → ParentsFirst nodes parent → (test other : ℕ → Bool) → ((n : ℕ) → n < nodes → test n ≡ other n)
-    → (k v : ℕ) → v ≤ nodes → nearestRoot parent test k v ≡ nearestRoot parent other k v
-unfolding nearestRoot
+    → (k v : ℕ) → v ≤ nodes → nearest_root parent test k v ≡ nearest_root parent other k v
+unfolding nearest_root
 nearest-cong nodes parent rises test other e zero v h = refl
 nearest-cong nodes parent rises test other e (suc k) zero h = refl
 nearest-cong nodes parent rises test other e (suc k) (suc m) h =
@@ -43,39 +43,39 @@ module _ (parents limits nodes levels lows starts wants : List ℕ) where
   -- The nodes' marks say of each node at which levels of the deal it is cut.
   abbrev pub CutsMarked : List ℕ → Type 0
   CutsMarked cuts =
-      let d = dealFrom parents limits nodes levels lows starts wants in
-      (n j : ℕ) → n < d.nodes → j < highestRank → cutFrom d (metrics d) j n ≡ ltb j (at cuts n)
+      let d = deal_from parents limits nodes levels lows starts wants in
+      (n j : ℕ) → n < d.nodes → j < highest_rank → cut_from d (metrics d) j n ≡ ltb j (at cuts n)
 
   module _ {cuts : List ℕ} {cords : List (List ℕ)} {grants : List ℕ} (lists : HeldLists parents cuts cords wants grants) where
     -- What is named for each cord.
-    held_one : column nodeColumn cords ≡ nodes → column levelColumn cords ≡ levels → CutsMarked cuts → (c : ℕ) → c < length cords
-        → holderFrom parents cuts (cell cords c levelColumn) (cell cords c nodeColumn)
-        ≡ holder (dealFrom parents limits nodes levels lows starts wants) (metrics (dealFrom parents limits nodes levels lows starts wants)) c
-    unfolding holder dealFrom
+    held_one : column node_column cords ≡ nodes → column level_column cords ≡ levels → CutsMarked cuts → (c : ℕ) → c < length cords
+        → holder_from parents cuts (cell cords c level_column) (cell cords c node_column)
+        ≡ holder (deal_from parents limits nodes levels lows starts wants) (metrics (deal_from parents limits nodes levels lows starts wants)) c
+    unfolding holder deal_from
     held_one n l marked c h =
-        let d = dealFrom parents limits nodes levels lows starts wants in
-        let node-is : cell cords c nodeColumn ≡ at nodes c = sym (column-at nodeColumn cords c) ∙ ap (λ (z : List ℕ). at z c) n in
-        let level-is : cell cords c levelColumn ≡ at levels c = sym (column-at levelColumn cords c) ∙ ap (λ (z : List ℕ). at z c) l in
-        ap₂ (holderFrom parents cuts) level-is node-is
-        ∙ sym (nearest-cong (length parents) (at parents) lists.of-nodes.rises (cutFrom d (metrics d) (at levels c)) (λ i. ltb (at levels c) (at cuts i))
+        let d = deal_from parents limits nodes levels lows starts wants in
+        let node-is : cell cords c node_column ≡ at nodes c = sym (column-at node_column cords c) ∙ ap (λ (z : List ℕ). at z c) n in
+        let level-is : cell cords c level_column ≡ at levels c = sym (column-at level_column cords c) ∙ ap (λ (z : List ℕ). at z c) l in
+        ap₂ (holder_from parents cuts) level-is node-is
+        ∙ sym (nearest-cong (length parents) (at parents) lists.of-nodes.rises (cut_from d (metrics d) (at levels c)) (λ i. ltb (at levels c) (at cuts i))
         (λ i q. marked i (at levels c) q (omega (arith, level-is, lists.ranked c h))) (length parents) (at nodes c) (omega (arith, node-is, lists.within c h)))
 
-    pub held-over : column nodeColumn cords ≡ nodes → column levelColumn cords ≡ levels → grants ≡ granted (dealFrom parents limits nodes levels lows starts wants)
-        → CutsMarked cuts → heldFrom parents cuts cords wants grants ≡ heldOver (dealFrom parents limits nodes levels lows starts wants)
-    unfolding heldOver dealFrom
+    pub held-over : column node_column cords ≡ nodes → column level_column cords ≡ levels → grants ≡ granted (deal_from parents limits nodes levels lows starts wants)
+        → CutsMarked cuts → held_from parents cuts cords wants grants ≡ held_over (deal_from parents limits nodes levels lows starts wants)
+    unfolding held_over deal_from
     held-over n l g marked =
-        let d = dealFrom parents limits nodes levels lows starts wants in
-        let size : length cords ≡ length nodes = sym (column-length nodeColumn cords) ∙ ap length n in
+        let d = deal_from parents limits nodes levels lows starts wants in
+        let size : length cords ≡ length nodes = sym (column-length node_column cords) ∙ ap length n in
         figures-cong (length cords) (held_at parents cuts cords wants grants) (λ c. cond (eqb (at (granted d) c) (at wants c)) 0 (holder d (metrics d) c))
         (λ c h. ap₂ (λ (got : List ℕ) (by : ℕ). cond (eqb (at got c) (at wants c)) 0 by) g (held_one n l marked c h))
         ∙ ap (λ (k : ℕ). figures k (λ c. cond (eqb (at (granted d) c) (at wants c)) 0 (holder d (metrics d) c))) size
 
 -- Of the second deal of a room with given demands.
 pub held-second : (r : Room) (demands : List ℕ) {cuts : List ℕ} {cords : List (List ℕ)} {grants : List ℕ}
-    → HeldLists (parentsOf r) cuts cords (secondWants r demands) grants → CordRows r cords → grants ≡ secondGrants r demands
-    → ((n j : ℕ) → n < (secondDeal r demands).nodes → j < highestRank → cutFrom (secondDeal r demands) (metrics (secondDeal r demands)) j n ≡ ltb j (at cuts n))
-    → heldFrom (parentsOf r) cuts cords (secondWants r demands) grants ≡ held r demands
-unfolding held secondGrants secondDeal dealOf
+    → HeldLists (parents_of r) cuts cords (second_wants r demands) grants → CordRows r cords → grants ≡ second_grants r demands
+    → ((n j : ℕ) → n < (second_deal r demands).nodes → j < highest_rank → cut_from (second_deal r demands) (metrics (second_deal r demands)) j n ≡ ltb j (at cuts n))
+    → held_from (parents_of r) cuts cords (second_wants r demands) grants ≡ held r demands
+unfolding held second_grants second_deal deal_of
 held-second r demands lists rows g marked =
-    held-over (parentsOf r) (limitsOf r) (nodesOf r) (levelsOf r) (lowsOf r) (firstUsed r demands) (secondWants r demands) lists rows.nodes rows.levels g
+    held-over (parents_of r) (limits_of r) (nodes_of r) (levels_of r) (lows_of r) (first_used r demands) (second_wants r demands) lists rows.nodes rows.levels g
     marked

@@ -15,18 +15,18 @@ use Rattle.figures.specs.Figures.{at, cell}
 use Rattle.figures.specs.Places.{ZeroRows}
 use Rattle.figures.specs.Sums.{on}
 use Rattle.figures.proofs.Lists.{figures-at, figures-length}
-use Rattle.rooms.specs.Table.{mostNodes, highestRank}
-use Rattle.deals.specs.Held.{nearestRoot}
-use Rattle.rooms.specs.Rows.{nodeColumn, levelColumn}
-use Rattle.plan_holders.specs.Holding.{HeldLists, holderFrom, CutNodes, RowsByNumber, nextRow, HolderRows}
+use Rattle.rooms.specs.Table.{most_nodes, highest_rank}
+use Rattle.deals.specs.Held.{nearest_root}
+use Rattle.rooms.specs.Rows.{node_column, level_column}
+use Rattle.plan_holders.specs.Holding.{HeldLists, holder_from, CutNodes, RowsByNumber, next_row, HolderRows}
 use Rattle.rooms.specs.Trees.{ParentsFirst}
 
 -- ---- The node nearest the root
 
 -- A parent's number is below its child's: steps beyond a node's number change nothing.
 module _ (nodes : ℕ) (parent : ℕ → ℕ) (rises : ParentsFirst nodes parent) (test : ℕ → Bool) where
-  nearest-steps : (k l v : ℕ) → v ≤ k → v ≤ l → v ≤ nodes → nearestRoot parent test k v ≡ nearestRoot parent test l v
-  unfolding nearestRoot
+  nearest-steps : (k l v : ℕ) → v ≤ k → v ≤ l → v ≤ nodes → nearest_root parent test k v ≡ nearest_root parent test l v
+  unfolding nearest_root
   nearest-steps zero zero v a b h = refl
   nearest-steps zero (suc l) zero a b h = refl
   nearest-steps zero (suc l) (suc m) a b h = absurd (omega arith)
@@ -37,16 +37,16 @@ module _ (nodes : ℕ) (parent : ℕ → ℕ) (rises : ParentsFirst nodes parent
       ap (λ (above : ℕ). cond (eqb above 0) (on (test m) (suc m)) above)
       (nearest-steps k l (parent m) (omega (arith, rises m h)) (omega (arith, rises m h)) (omega (arith, rises m h)))
 
-  nearest_zero : (k : ℕ) → nearestRoot parent test k 0 ≡ 0
-  unfolding nearestRoot
+  nearest_zero : (k : ℕ) → nearest_root parent test k 0 ≡ 0
+  unfolding nearest_root
   nearest_zero zero = refl
   nearest_zero (suc k) = refl
 
   -- That of a node, from its parent's.
   nearest-suc : (m : ℕ) → m < nodes
-      → nearestRoot parent test nodes (suc m)
-      ≡ cond (eqb (nearestRoot parent test nodes (parent m)) 0) (on (test m) (suc m)) (nearestRoot parent test nodes (parent m))
-  unfolding nearestRoot
+      → nearest_root parent test nodes (suc m)
+      ≡ cond (eqb (nearest_root parent test nodes (parent m)) 0) (on (test m) (suc m)) (nearest_root parent test nodes (parent m))
+  unfolding nearest_root
   nearest-suc m h =
       nearest-steps nodes (suc nodes) (suc m) h (omega arith) h
 
@@ -54,15 +54,15 @@ module _ (nodes : ℕ) (parent : ℕ → ℕ) (rises : ParentsFirst nodes parent
 
 -- Before the turn of level i, the row has the new figures below i and the parent's from i on.
 pub record Turning (above : List ℕ) (cut number i : ℕ) (row : List ℕ) : Type 0 where
-  pub size : length row ≡ highestRank
+  pub size : length row ≡ highest_rank
   pub done : (j : ℕ) → j < i → at row j ≡ cond (eqb (at above j) 0) (on (ltb j cut) number) (at above j)
   pub left : (j : ℕ) → i ≤ j → at row j ≡ at above j
 
 module _ {above : List ℕ} {cut number : ℕ} where
-  pub turning-start : length above ≡ highestRank → Turning above cut number 0 above
+  pub turning-start : length above ≡ highest_rank → Turning above cut number 0 above
   turning-start e = record { size = e; done = λ j h. absurd (omega arith); left = λ j h. refl }
 
-  pub turning-next : {i rank own x : ℕ} {row : List ℕ} → Turning above cut number i row → i < highestRank → rank ≡ i + 1
+  pub turning-next : {i rank own x : ℕ} {row : List ℕ} → Turning above cut number i row → i < highest_rank → rank ≡ i + 1
       → own ≡ on (leb rank cut) number → x ≡ cond (eqb (at row i) 0) own (at row i) → Turning above cut number (i + 1) (set row i x)
   turning-next {i} {rank} {own} {x} {row} t h r o e =
       rw add-one
@@ -82,28 +82,28 @@ module _ {above : List ℕ} {cut number : ℕ} where
       go j (inl q) = rw q (get_or-set_same row i x 0 (omega (arith, t.size)) ∙ here)
       go j (inr q) = get_or-set_other row i j x 0 (λ z. omega arith) ∙ t.done j q
 
-  pub turning-end : {i : ℕ} {row : List ℕ} → Turning above cut number i row → highestRank ≤ i → row ≡ nextRow above cut number
+  pub turning-end : {i : ℕ} {row : List ℕ} → Turning above cut number i row → highest_rank ≤ i → row ≡ next_row above cut number
   turning-end {i} {row} t h =
-      ext_get_or 0 row (nextRow above cut number) (t.size ∙ sym (figures-length highestRank _))
-      (λ j q. let m : j < highestRank = omega (arith, t.size) in t.done j (omega arith) ∙ sym (figures-at highestRank j _ m))
+      ext_get_or 0 row (next_row above cut number) (t.size ∙ sym (figures-length highest_rank _))
+      (λ j q. let m : j < highest_rank = omega (arith, t.size) in t.done j (omega arith) ∙ sym (figures-at highest_rank j _ m))
 
 -- ---- All rows
 
 -- Before the turn of the node at place n, the rows of the numbers up to n have their holders.
 pub record Filling (parents cuts : List ℕ) (n : ℕ) (rows : List (List ℕ)) : Type 0 where
   pub full : RowsByNumber rows
-  pub named : (v j : ℕ) → v ≤ n → j < highestRank → cell rows v j ≡ holderFrom parents cuts j v
+  pub named : (v j : ℕ) → v ≤ n → j < highest_rank → cell rows v j ≡ holder_from parents cuts j v
 
 module _ {parents cuts : List ℕ} where
-  pub filling-start : {rows : List (List ℕ)} → CutNodes parents cuts → ZeroRows (suc mostNodes) highestRank rows → Filling parents cuts 0 rows
+  pub filling-start : {rows : List (List ℕ)} → CutNodes parents cuts → ZeroRows (suc most_nodes) highest_rank rows → Filling parents cuts 0 rows
   filling-start {rows} ok none = record { full = none.full; named = go }
     where
-      go : (v j : ℕ) → v ≤ 0 → j < highestRank → cell rows v j ≡ holderFrom parents cuts j v
+      go : (v j : ℕ) → v ≤ 0 → j < highest_rank → cell rows v j ≡ holder_from parents cuts j v
       go zero j a h = none.none 0 j ∙ sym (nearest_zero (length parents) (at parents) ok.rises (λ n. ltb j (at cuts n)) (length parents))
       go (suc v) j a h = absurd (omega arith)
 
   pub filling-next : {n : ℕ} {above row : List ℕ} {cut number : ℕ} {rows : List (List ℕ)} → CutNodes parents cuts → Filling parents cuts n rows → n < length parents
-      → above ≡ get_or rows (at parents n) [] → cut ≡ at cuts n → number ≡ n + 1 → row ≡ nextRow above cut number
+      → above ≡ get_or rows (at parents n) [] → cut ≡ at cuts n → number ≡ n + 1 → row ≡ next_row above cut number
       → Filling parents cuts (n + 1) (set rows (n + 1) row)
   filling-next {n} {above} {row} {cut} {number} {rows} ok f l a c m e = record {
     full = (length-set rows (n + 1) row ∙ f.full.0, λ v. wide v (eqb v (n + 1)) refl);
@@ -113,33 +113,33 @@ module _ {parents cuts : List ℕ} where
       there : n + 1 < length rows
       there = omega (arith, f.full.0, ok.few)
 
-      width : length row ≡ highestRank
-      width = ap length e ∙ figures-length highestRank _
+      width : length row ≡ highest_rank
+      width = ap length e ∙ figures-length highest_rank _
 
-      wide : (v : ℕ) → (t : Bool) → eqb v (n + 1) ≡ t → v < suc mostNodes → length (get_or (set rows (n + 1) row) v []) ≡ highestRank
+      wide : (v : ℕ) → (t : Bool) → eqb v (n + 1) ≡ t → v < suc most_nodes → length (get_or (set rows (n + 1) row) v []) ≡ highest_rank
       wide v true q h = ap (λ (k : ℕ). length (get_or (set rows (n + 1) row) k [])) (eqb-true v (n + 1) q) ∙ ap length (get_or-set_same rows (n + 1) row [] there) ∙ width
       wide v false q h = ap length (get_or-set_other rows (n + 1) v row [] (eqb-false v (n + 1) q)) ∙ f.full.1 v h
 
       -- The parent's row has its holders, and the node's follows.
-      parent : (j : ℕ) → j < highestRank → at above j ≡ holderFrom parents cuts j (at parents n)
+      parent : (j : ℕ) → j < highest_rank → at above j ≡ holder_from parents cuts j (at parents n)
       parent j h = ap (λ (r : List ℕ). at r j) a ∙ f.named (at parents n) j (ok.rises n l) h
 
       own : (j : ℕ) → on (ltb j cut) number ≡ on (ltb j (at cuts n)) (suc n)
       own j = ap₂ (λ (k : ℕ) (i : ℕ). on (ltb j k) i) c (m ∙ add-one n)
 
-      next : (j : ℕ) → j < highestRank → at row j ≡ holderFrom parents cuts j (suc n)
+      next : (j : ℕ) → j < highest_rank → at row j ≡ holder_from parents cuts j (suc n)
       next j h =
           ap (λ (r : List ℕ). at r j) e
-          ∙ figures-at highestRank j (λ j. cond (eqb (at above j) 0) (on (ltb j cut) number) (at above j)) h
+          ∙ figures-at highest_rank j (λ j. cond (eqb (at above j) 0) (on (ltb j cut) number) (at above j)) h
           ∙ ap₂ (λ (o : ℕ) (x : ℕ). cond (eqb x 0) o x) (own j) (parent j h)
           ∙ sym (nearest-suc (length parents) (at parents) ok.rises (λ i. ltb j (at cuts i)) n l)
 
-      go : (v j : ℕ) → j < highestRank → (v ≡ n + 1) ⊎ (v < n + 1) → cell (set rows (n + 1) row) v j ≡ holderFrom parents cuts j v
+      go : (v j : ℕ) → j < highest_rank → (v ≡ n + 1) ⊎ (v < n + 1) → cell (set rows (n + 1) row) v j ≡ holder_from parents cuts j v
       go v j h (inl q) =
           ap (λ (k : ℕ). cell (set rows (n + 1) row) k j) q
           ∙ ap (λ (r : List ℕ). at r j) (get_or-set_same rows (n + 1) row [] there)
           ∙ next j h
-          ∙ ap (holderFrom parents cuts j) (sym (q ∙ add-one n))
+          ∙ ap (holder_from parents cuts j) (sym (q ∙ add-one n))
       go v j h (inr q) =
           ap (λ (r : List ℕ). at r j) (get_or-set_other rows (n + 1) v row [] (λ z. omega arith)) ∙ f.named v j (omega arith) h
 
@@ -151,13 +151,13 @@ module _ {parents cuts : List ℕ} where
 -- What is named for the cord at place c.
 abbrev pub held_at : List ℕ → List ℕ → List (List ℕ) → List ℕ → List ℕ → ℕ → ℕ
 held_at parents cuts cords wants grants c =
-    cond (eqb (at grants c) (at wants c)) 0 (holderFrom parents cuts (cell cords c levelColumn) (cell cords c nodeColumn))
+    cond (eqb (at grants c) (at wants c)) 0 (holder_from parents cuts (cell cords c level_column) (cell cords c node_column))
 
 -- By the row of its node, at its level.
 pub held-is : {parents cuts : List ℕ} {cords rows : List (List ℕ)} {wants grants : List ℕ} {c node level x : ℕ} → HeldLists parents cuts cords wants grants
-    → HolderRows parents cuts rows → c < length cords → node ≡ cell cords c nodeColumn → level ≡ cell cords c levelColumn
+    → HolderRows parents cuts rows → c < length cords → node ≡ cell cords c node_column → level ≡ cell cords c level_column
     → x ≡ cond (eqb (at grants c) (at wants c)) 0 (cell rows node level) → x ≡ held_at parents cuts cords wants grants c
 held-is {parents} {cuts} {cords} {rows} {wants} {grants} {c} {node} {level} h r l n j e =
     e
     ∙ ap (λ (k : ℕ). cond (eqb (at grants c) (at wants c)) 0 k)
-    (ap₂ (cell rows) n j ∙ r.named (cell cords c nodeColumn) (cell cords c levelColumn) (h.within c l) (h.ranked c l))
+    (ap₂ (cell rows) n j ∙ r.named (cell cords c node_column) (cell cords c level_column) (h.within c l) (h.ranked c l))

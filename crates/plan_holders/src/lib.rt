@@ -3,8 +3,8 @@
 ghost use Rattle.std.specs.Prelude.{◌≡◌, cond, suc, eqb, leb, length};
 ghost use Rattle.figures.specs.Places.{ZeroRows};
 ghost use Rattle.figures.specs.Sums.{on};
-ghost use Rattle.rooms.specs.Table.{mostNodes, highestRank};
-ghost use Rattle.plan_holders.specs.Holding.{HeldLists, CutNodes, HolderRows, nextRow, heldFrom};
+ghost use Rattle.rooms.specs.Table.{most_nodes, highest_rank};
+ghost use Rattle.plan_holders.specs.Holding.{HeldLists, CutNodes, HolderRows, next_row, held_from};
 
 use figures::{index, index_word, place};
 use rooms::lists::{LEVEL, NODE};
@@ -25,7 +25,7 @@ fn nearer_root(above: u16, own: u16) -> u16
 
 // A node's row, from that of its parent.
 fn next_row(above: [u16; 16], cut: u16, number: u16) -> [u16; 16]
-    ensures result { result ≡ nextRow above cut number }
+    ensures result { result ≡ next_row above cut number }
 {
     let mut row = above;
     for level in 0..16 {
@@ -37,7 +37,7 @@ fn next_row(above: [u16; 16], cut: u16, number: u16) -> [u16; 16]
 // The row of each node, by its number, from the first node to the last: a parent's stands before its child's. Row 0, which stands for a
 // root's parent, names none; all rows come as zeros.
 fn fill_rows(parents: &[u16], cuts: &[u16], rows: &mut [[u16; 16]; 513])
-    requires nodes { CutNodes parents.now cuts.now × ZeroRows (suc mostNodes) highestRank rows.old }
+    requires nodes { CutNodes parents.now cuts.now × ZeroRows (suc most_nodes) highest_rank rows.old }
     ensures holders { HolderRows parents.now cuts.now rows.new }
 {
     for n in 0..parents.len() {
@@ -68,7 +68,7 @@ pub fn name_holders(
     held: &mut [u32],
 )
     requires lists { HeldLists parents.now cuts.now cords.now wants.now grants.now × (length held.old ≡ length cords.now) }
-    ensures named { held.new ≡ heldFrom parents.now cuts.now cords.now wants.now
+    ensures named { held.new ≡ held_from parents.now cuts.now cords.now wants.now
         grants.now }
 {
     let mut rows = [[0u16; 16]; 513];

@@ -13,51 +13,51 @@ use lib.Seq.{get_or-set_same, get_or-set_other}
 use Rattle.figures.specs.Figures.{at}
 use Rattle.figures.specs.Sums.{on, sum}
 use Rattle.figures.proofs.Sums.{on-add, sum-suc, sum-none}
-use Rattle.rooms.specs.Table.{mostCords, mostWatts}
-use Rattle.rooms.specs.Trees.{beneath, ParentsFirst, sumBeneath}
-use Rattle.rooms.specs.Credits.{treeSum}
+use Rattle.rooms.specs.Table.{most_cords, most_watts}
+use Rattle.rooms.specs.Trees.{beneath, ParentsFirst, sum_beneath}
+use Rattle.rooms.specs.Credits.{tree_sum}
 use Rattle.figures.specs.Credits.{credited}
 use Rattle.figures.proofs.Credits.{credited-length, figure-in-sum, sum_zeros, sum-credited}
-use Rattle.rooms.proofs.Credits.{treeSum-zero, treeSum-credited}
+use Rattle.rooms.proofs.Credits.{tree_sum-zero, tree_sum-credited}
 use Rattle.deals.proofs.NodeSums.{Summing, summing_start, summing-at, whole-at}
 use Rattle.plan_reclaim.specs.Raising.{Raisable}
-use Rattle.deals.specs.Ranks.{listBeneath}
+use Rattle.deals.specs.Ranks.{list_beneath}
 
 -- ---- The loop over the cords
 
 -- The watts of the cords before place c that hang beneath the node at place n, of so many nodes.
-abbrev pub wattsBefore : (ℕ → ℕ) → ℕ → List ℕ → List ℕ → ℕ → ℕ → ℕ
-wattsBefore parent count nodes watts c n = sumBeneath count parent c (at nodes) n (at watts)
+abbrev pub watts_before : (ℕ → ℕ) → ℕ → List ℕ → List ℕ → ℕ → ℕ → ℕ
+watts_before parent count nodes watts c n = sum_beneath count parent c (at nodes) n (at watts)
 
 -- What the cords before place c rise by stands on their nodes.
 pub record RisesCredited (nodes lows starts : List ℕ) (count c : ℕ) (raised : List ℕ) : Type 0 where
   pub size : length raised ≡ count
-  pub most : sum count (at raised) ≤ c * mostWatts
-  pub risen : (parent : ℕ → ℕ) (n : ℕ) → treeSum parent count (at raised) n + wattsBefore parent count nodes lows c n ≡ wattsBefore parent count nodes starts c n
+  pub most : sum count (at raised) ≤ c * most_watts
+  pub risen : (parent : ℕ → ℕ) (n : ℕ) → tree_sum parent count (at raised) n + watts_before parent count nodes lows c n ≡ watts_before parent count nodes starts c n
 
 module _ {nodes lows starts : List ℕ} where
   pub rises-start : {raised : List ℕ} → ((n : ℕ) → at raised n ≡ 0) → RisesCredited nodes lows starts (length raised) 0 raised
-  unfolding sumBeneath
+  unfolding sum_beneath
   rises-start {raised} zeros = record {
     size = refl;
     most = omega (arith, sum_zeros (length raised) raised zeros);
     risen = λ parent n.
         let low : ℕ → ℕ = λ h. on (beneath parent (length raised) n (at nodes h)) (at lows h) in
         let start : ℕ → ℕ = λ h. on (beneath parent (length raised) n (at nodes h)) (at starts h) in
-        omega (arith, treeSum-zero (length raised) parent (at raised) n zeros, sum-none low, sum-none start);
+        omega (arith, tree_sum-zero (length raised) parent (at raised) n zeros, sum-none low, sum-none start);
   }
 
   module _ {count c node rise : ℕ} {raised : List ℕ} (inv : RisesCredited nodes lows starts count c raised) (node-is : node ≡ at nodes c) (rise-is : rise ≡ at starts c - at lows c)
-      (hangs : (1 ≤ at nodes c) × (at nodes c ≤ count) × (at lows c ≤ at starts c) × (at starts c ≤ mostWatts)) where
+      (hangs : (1 ≤ at nodes c) × (at nodes c ≤ count) × (at lows c ≤ at starts c) × (at starts c ≤ most_watts)) where
     -- A cord's rise does not overflow its node's figure.
-    pub rise-fits : c < mostCords → (node ≤ length raised) × (at raised (node - 1) + rise < 2 ^ 64)
+    pub rise-fits : c < most_cords → (node ≤ length raised) × (at raised (node - 1) + rise < 2 ^ 64)
     rise-fits few = (
       omega (arith, inv.size, hangs.1),
       omega (arith, figure-in-sum count (node - 1) raised (omega (arith, hangs.0, hangs.1)), inv.most, hangs.3),
     )
 
     pub rises-turn : {raised' : List ℕ} → raised' ≡ credited node rise raised → RisesCredited nodes lows starts count (c + 1) raised'
-    unfolding sumBeneath
+    unfolding sum_beneath
     rises-turn is =
         let some : 1 ≤ node = omega (arith, hangs.0) in
         let there : node ≤ count = omega (arith, hangs.1) in
@@ -73,16 +73,16 @@ module _ {nodes lows starts : List ℕ} where
               let more : on (beneath parent count n node) rise ≡ on here rise = ap (λ (v : ℕ). on (beneath parent count n v) rise) node-is in
               let up_to : rise + at lows c ≡ at starts c = omega (arith, hangs.2) in
               let whole : on here rise + on here (at lows c) ≡ on here (at starts c) = sym (on-add here rise (at lows c)) ∙ ap (on here) up_to in
-              omega (arith, treeSum-credited count parent node rise raised n some there long, inv.risen parent n, sum-suc c low, sum-suc c start);
+              omega (arith, tree_sum-credited count parent node rise raised n some there long, inv.risen parent n, sum-suc c low, sum-suc c start);
         })
 
   -- After the last cord.
   module _ {count c : ℕ} {raised : List ℕ} (inv : RisesCredited nodes lows starts count c raised) (all : c ≡ length nodes) where
-    pub rises-most : length nodes ≤ mostCords → sum count (at raised) ≤ mostCords * mostWatts
+    pub rises-most : length nodes ≤ most_cords → sum count (at raised) ≤ most_cords * most_watts
     rises-most few = omega (arith, inv.most)
 
     pub rises-end : (parents : List ℕ) (n : ℕ) → length parents ≡ count
-        → treeSum (at parents) (length parents) (at raised) n + listBeneath parents nodes lows n ≡ listBeneath parents nodes starts n
+        → tree_sum (at parents) (length parents) (at raised) n + list_beneath parents nodes lows n ≡ list_beneath parents nodes starts n
     rises-end parents n is = rw (is, ← all) (inv.risen (at parents) n)
 
 -- ---- The loop over the nodes
@@ -92,7 +92,7 @@ module _ {nodes lows starts : List ℕ} where
 pub record RisesTaken (parents raised₀ left₀ : List ℕ) (n : ℕ) (raised left : List ℕ) : Type 0 where
   pub summed : Summing parents raised₀ n raised
   pub size : length left ≡ length left₀
-  pub taken : (m : ℕ) → n ≤ m → m < length parents → at left m + treeSum (at parents) (length parents) (at raised₀) m ≡ at left₀ m
+  pub taken : (m : ℕ) → n ≤ m → m < length parents → at left m + tree_sum (at parents) (length parents) (at raised₀) m ≡ at left₀ m
   pub rest : (m : ℕ) → m < n → at left m ≡ at left₀ m
 
 pub taken_start : {parents raised left : List ℕ} → RisesTaken parents raised left (length parents) raised left
@@ -106,7 +106,7 @@ module _ {parents raised₀ left₀ : List ℕ} {m : ℕ} {raised left : List �
   pub node-there : m < length parents
   node-there = omega (arith, inv.summed.all)
 
-  module _ (rises : ParentsFirst (length parents) (at parents)) (enough : (n : ℕ) → n < length parents → treeSum (at parents) (length parents) (at raised₀) n ≤ at left₀ n) where
+  module _ (rises : ParentsFirst (length parents) (at parents)) (enough : (n : ℕ) → n < length parents → tree_sum (at parents) (length parents) (at raised₀) n ≤ at left₀ n) where
     -- What stands on the node is no more than what its limit has left.
     pub taken-fits : at raised m ≤ at left m
     taken-fits = omega (arith, whole-at rises inv.summed, enough m node-there, inv.rest m (omega arith))
@@ -121,10 +121,10 @@ module _ {parents raised₀ left₀ : List ℕ} {m : ℕ} {raised left : List �
       rest = λ i l. get_or-set_other left m i over 0 (λ e. omega arith) ∙ inv.rest i (omega arith);
     }
       where
-        here : over + treeSum (at parents) (length parents) (at raised₀) m ≡ at left₀ m
+        here : over + tree_sum (at parents) (length parents) (at raised₀) m ≡ at left₀ m
         here = omega (arith, whole-at rises inv.summed, taken-fits, inv.rest m (omega arith))
 
-        go : (i : ℕ) → i < length parents → (m ≡ i) ⊎ (m < i) → at (set left m over) i + treeSum (at parents) (length parents) (at raised₀) i ≡ at left₀ i
+        go : (i : ℕ) → i < length parents → (m ≡ i) ⊎ (m < i) → at (set left m over) i + tree_sum (at parents) (length parents) (at raised₀) i ≡ at left₀ i
         go i l (inl e) = rw (← e) (omega (arith, get_or-set_same left m over 0 (omega (arith, inv.size, node-there)), here))
         go i l (inr later) = omega (arith, get_or-set_other left m i over 0 (λ e. omega arith), inv.taken i later l)
 
@@ -140,14 +140,14 @@ zeros-front-at (suc k) (suc n) (suc i) = zeros-front-at k n i
 -- What the cords rise by stands on the room's nodes.
 pub record Raised (parents nodes lows starts raised : List ℕ) : Type 0 where
   pub size : length raised ≡ length parents
-  pub most : sum (length parents) (at raised) ≤ mostCords * mostWatts
-  pub risen : (n : ℕ) → treeSum (at parents) (length parents) (at raised) n + listBeneath parents nodes lows n ≡ listBeneath parents nodes starts n
+  pub most : sum (length parents) (at raised) ≤ most_cords * most_watts
+  pub risen : (n : ℕ) → tree_sum (at parents) (length parents) (at raised) n + list_beneath parents nodes lows n ≡ list_beneath parents nodes starts n
 
 module _ {parents nodes lows starts left : List ℕ} (ok : Raisable parents nodes lows starts left) where
   -- What `credit_rises` asks of its lists.
   pub credit-asks : (raised : List ℕ) → length raised ≡ length parents → ((n : ℕ) → at raised n ≡ 0)
-      → ((length nodes ≤ mostCords) × (length lows ≡ length nodes) × (length starts ≡ length nodes))
-      × (((c : ℕ) → c < length nodes → (1 ≤ at nodes c) × (at nodes c ≤ length raised) × (at lows c ≤ at starts c) × (at starts c ≤ mostWatts))
+      → ((length nodes ≤ most_cords) × (length lows ≡ length nodes) × (length starts ≡ length nodes))
+      × (((c : ℕ) → c < length nodes → (1 ≤ at nodes c) × (at nodes c ≤ length raised) × (at lows c ≤ at starts c) × (at starts c ≤ most_watts))
       × ((n : ℕ) → at raised n ≡ 0))
   credit-asks raised size zeros = (
     (ok.few, ok.lows-size, ok.starts-size),
@@ -156,18 +156,18 @@ module _ {parents nodes lows starts left : List ℕ} (ok : Raisable parents node
 
   -- What it leaves in the list that it was lent, which is lent again.
   pub raised-again : (lent : List ℕ) {back again : List ℕ} → length lent ≡ length parents → length back ≡ length lent → again ≡ back
-      → sum (length lent) (at back) ≤ mostCords * mostWatts
-      → ((parents' : List ℕ) (n : ℕ) → length parents' ≡ length lent → treeSum (at parents') (length parents') (at back) n + listBeneath parents' nodes lows n ≡ listBeneath parents' nodes starts n)
+      → sum (length lent) (at back) ≤ most_cords * most_watts
+      → ((parents' : List ℕ) (n : ℕ) → length parents' ≡ length lent → tree_sum (at parents') (length parents') (at back) n + list_beneath parents' nodes lows n ≡ list_beneath parents' nodes starts n)
       → Raised parents nodes lows starts again
   raised-again lent size kept again most risen =
       rw again (record { size = kept ∙ size; most = rw (← size) most; risen = λ n. risen parents n (sym size) })
 
   module _ {raised : List ℕ} (done : Raised parents nodes lows starts raised) where
     -- What `take_rises` asks of its lists.
-    pub take-asks : ((length raised ≡ length parents) × (length left ≡ length parents) × (sum (length parents) (at raised) ≤ mostCords * mostWatts))
-        × (ParentsFirst (length parents) (at parents) × ((n : ℕ) → n < length parents → treeSum (at parents) (length parents) (at raised) n ≤ at left n))
+    pub take-asks : ((length raised ≡ length parents) × (length left ≡ length parents) × (sum (length parents) (at raised) ≤ most_cords * most_watts))
+        × (ParentsFirst (length parents) (at parents) × ((n : ℕ) → n < length parents → tree_sum (at parents) (length parents) (at raised) n ≤ at left n))
     take-asks = ((done.size, ok.left-size, done.most), (ok.rises, λ n l. omega (arith, done.risen n, ok.enough n l)))
 
-    pub raised-end : (left' : List ℕ) → ((n : ℕ) → n < length parents → at left' n + treeSum (at parents) (length parents) (at raised) n ≡ at left n)
-        → (n : ℕ) → n < length parents → at left' n + listBeneath parents nodes starts n ≡ at left n + listBeneath parents nodes lows n
+    pub raised-end : (left' : List ℕ) → ((n : ℕ) → n < length parents → at left' n + tree_sum (at parents) (length parents) (at raised) n ≡ at left n)
+        → (n : ℕ) → n < length parents → at left' n + list_beneath parents nodes starts n ≡ at left n + list_beneath parents nodes lows n
     raised-end left' taken n l = omega (arith, taken n l, done.risen n)

@@ -15,77 +15,77 @@ use Rattle.rooms.specs.Limits.{carried}
 use Rattle.figures.proofs.Tests.{and-false}
 use Rattle.figures.proofs.Sums.{sum-suc, sum-none}
 use Rattle.figures.specs.Figures.{figures, at, cell, column, sum_of}
-use Rattle.rooms.specs.Rows.{serverColumn, shareColumn}
-use Rattle.plan_reclaim.specs.Reclaimed.{ServerLists, usableBefore, usableFrom, usedFrom, strandedFrom, wantsFrom}
+use Rattle.rooms.specs.Rows.{server_column, share_column}
+use Rattle.plan_reclaim.specs.Reclaimed.{ServerLists, usable_before, usable_from, used_from, stranded_from, wants_from}
 use Rattle.figures.proofs.Lists.{figures-at, figures-length, total-sum}
 use Rattle.figures.proofs.Columns.{column-length, column-at}
-use Rattle.deals.proofs.Loads.{leastOver-next, leastOver-zero, leastOver-start}
+use Rattle.deals.proofs.Loads.{least_over-next, least_over-zero, least_over-start}
 use Rattle.figures.proofs.Filled.{Filled, filled_none, filled-one, filled-all}
 
 -- The share of each cord, the place of its server, and what it carries of what its server can use.
 abbrev shares : List (List ℕ) → List ℕ
-shares cords = column shareColumn cords
+shares cords = column share_column cords
 
 abbrev servers : List (List ℕ) → List ℕ
-servers cords = column serverColumn cords
+servers cords = column server_column cords
 
 abbrev used : ℕ → List (List ℕ) → List ℕ → List ℕ
-used scale cords usable = usedFrom scale (shares cords) (servers cords) usable
+used scale cords usable = used_from scale (shares cords) (servers cords) usable
 
 -- ---- The usable watts
 
 -- Each server's usable watts by its cords before place c.
 pub record UsableBy (scale : ℕ) (cords : List (List ℕ)) (needs grants : List ℕ) (c : ℕ) (usable : List ℕ) : Type 0 where
   pub size_is : length usable ≡ length needs
-  pub is : (v : ℕ) → v < length needs → at usable v ≡ usableBefore scale (shares cords) (servers cords) needs grants c v
+  pub is : (v : ℕ) → v < length needs → at usable v ≡ usable_before scale (shares cords) (servers cords) needs grants c v
 
 module _ {scale : ℕ} {cords : List (List ℕ)} {needs grants : List ℕ} where
   pub usable-none : UsableBy scale cords needs grants 0 needs
-  usable-none = record { size_is = refl; is = λ v l. sym (leastOver-zero _ _ (at needs v)) }
+  usable-none = record { size_is = refl; is = λ v l. sym (least_over-zero _ _ (at needs v)) }
 
   module _ {c : ℕ} {usable : List ℕ} (by : UsableBy scale cords needs grants c usable) where
     -- One cord more: its share is 0, or it lowers its server's figure to the load at which it carries its grant.
-    pub usable-kept : cell cords c shareColumn ≡ 0 → UsableBy scale cords needs grants (c + 1) usable
+    pub usable-kept : cell cords c share_column ≡ 0 → UsableBy scale cords needs grants (c + 1) usable
     usable-kept z =
-        let none : at (shares cords) c ≡ 0 = column-at shareColumn cords c ∙ z in
+        let none : at (shares cords) c ≡ 0 = column-at share_column cords c ∙ z in
         record {
           size_is = by.size_is;
-          is = λ v l. by.is v l ∙ sym (leastOver-next c _ _ (at needs v) false (ap (λ (t : Bool). eqb (at (servers cords) c) v && t) (le-ltb 0 (at (shares cords) c) (omega arith)) ∙ and-false (eqb (at (servers cords) c) v)));
+          is = λ v l. by.is v l ∙ sym (least_over-next c _ _ (at needs v) false (ap (λ (t : Bool). eqb (at (servers cords) c) v && t) (le-ltb 0 (at (shares cords) c) (omega arith)) ∙ and-false (eqb (at (servers cords) c) v)));
         }
 
-    pub usable-lowered : {v share times grant before after : ℕ} → v ≡ cell cords c serverColumn → v < length needs → share ≡ cell cords c shareColumn → (share ≡ 0 → ⊥)
+    pub usable-lowered : {v share times grant before after : ℕ} → v ≡ cell cords c server_column → v < length needs → share ≡ cell cords c share_column → (share ≡ 0 → ⊥)
         → times ≡ scale → grant ≡ at grants c → before ≡ at usable v → after ≡ min before (times * grant / share)
         → UsableBy scale cords needs grants (c + 1) (set usable v after)
     usable-lowered {v} {share} {times} {grant} {before} {after} place within part some et eg eb ea =
         record { size_is = length-set usable v after ∙ by.size_is; is = λ h l. go h l (eqb (at (servers cords) c) h) refl }
       where
         ev : v ≡ at (servers cords) c
-        ev = place ∙ sym (column-at serverColumn cords c)
+        ev = place ∙ sym (column-at server_column cords c)
 
         es : share ≡ at (shares cords) c
-        es = part ∙ sym (column-at shareColumn cords c)
+        es = part ∙ sym (column-at share_column cords c)
 
         lowered : after ≡ min (at usable v) (scale * at grants c / at (shares cords) c)
         lowered = ea ∙ rw (es, et, eg, eb)
 
-        go : (h : ℕ) → h < length needs → (t : Bool) → eqb (at (servers cords) c) h ≡ t → at (set usable v after) h ≡ usableBefore scale (shares cords) (servers cords) needs grants (c + 1) h
+        go : (h : ℕ) → h < length needs → (t : Bool) → eqb (at (servers cords) c) h ≡ t → at (set usable v after) h ≡ usable_before scale (shares cords) (servers cords) needs grants (c + 1) h
         go h l true q =
             let here : v ≡ h = ev ∙ eqb-true (at (servers cords) c) h q in
             ap (at (set usable v after)) (sym here)
             ∙ get_or-set_same usable v after 0 (omega (arith, by.size_is))
             ∙ lowered
             ∙ ap (λ (x : ℕ). min x (scale * at grants c / at (shares cords) c)) (ap (at usable) here ∙ by.is h l)
-            ∙ sym (leastOver-next c _ _ (at needs h) true (ap₂ ◌&&◌ q (lt-ltb 0 (at (shares cords) c) (omega (arith, es)))))
+            ∙ sym (least_over-next c _ _ (at needs h) true (ap₂ ◌&&◌ q (lt-ltb 0 (at (shares cords) c) (omega (arith, es)))))
         go h l false q =
             get_or-set_other usable v h after 0 (λ z. eqb-false (at (servers cords) c) h q (sym (z ∙ ev)))
             ∙ by.is h l
-            ∙ sym (leastOver-next c _ _ (at needs h) false (ap (λ (t : Bool). t && ltb 0 (at (shares cords) c)) q))
+            ∙ sym (least_over-next c _ _ (at needs h) false (ap (λ (t : Bool). t && ltb 0 (at (shares cords) c)) q))
 
-    pub usable-all : c ≡ length cords → usable ≡ usableFrom scale (shares cords) (servers cords) needs grants
+    pub usable-all : c ≡ length cords → usable ≡ usable_from scale (shares cords) (servers cords) needs grants
     usable-all e =
-        let all : c ≡ length (shares cords) = e ∙ sym (column-length shareColumn cords) in
+        let all : c ≡ length (shares cords) = e ∙ sym (column-length share_column cords) in
         rw (← all)
-        (ext_get_or 0 usable (figures (length needs) (usableBefore scale (shares cords) (servers cords) needs grants c)) (by.size_is ∙ sym (figures-length (length needs) _))
+        (ext_get_or 0 usable (figures (length needs) (usable_before scale (shares cords) (servers cords) needs grants c)) (by.size_is ∙ sym (figures-length (length needs) _))
         (λ v l. let here : v < length needs = omega (arith, by.size_is) in by.is v here ∙ sym (figures-at (length needs) v _ here)))
 
 -- A product of two figures of 32 bits is below 2^64, whatever they are.
@@ -97,9 +97,9 @@ product-fits {a} {b} l h =
 
 -- They are no more than the needs, so that the cords carry them too.
 pub usable-lists : {scale : ℕ} {cords : List (List ℕ)} {needs : List ℕ} (grants : List ℕ) {n : ℕ} → ServerLists scale cords needs n
-    → ServerLists scale cords (usableFrom scale (shares cords) (servers cords) needs grants) n
+    → ServerLists scale cords (usable_from scale (shares cords) (servers cords) needs grants) n
 usable-lists {scale} {cords} {needs} grants lists =
-    let size = figures-length (length needs) (usableBefore scale (shares cords) (servers cords) needs grants (length (shares cords))) in
+    let size = figures-length (length needs) (usable_before scale (shares cords) (servers cords) needs grants (length (shares cords))) in
     record {
       scaled = lists.scaled;
       few = lists.few;
@@ -108,21 +108,21 @@ usable-lists {scale} {cords} {needs} grants lists =
       parts = lists.parts;
       most = λ v l.
           let here : v < length needs = omega arith in
-          le_trans (le_of_eq (figures-at (length needs) v _ here)) (le_trans (leastOver-start (length (shares cords)) _ _ (at needs v)) (lists.most v here));
+          le_trans (le_of_eq (figures-at (length needs) v _ here)) (le_trans (least_over-start (length (shares cords)) _ _ (at needs v)) (lists.most v here));
     }
 
 -- ---- The watts freed, and the wants of the next deal
 
 -- After the cords before place c.
 pub record Reclaiming (scale : ℕ) (cords : List (List ℕ)) (usable grants first starts₀ : List ℕ) (c freed : ℕ) (starts wants : List ℕ) : Type 0 where
-  pub freed-is : freed ≡ sum c (at (strandedFrom (used scale cords usable) grants))
+  pub freed-is : freed ≡ sum c (at (stranded_from (used scale cords usable) grants))
   pub freed-most : freed ≤ c * 4294967295
   pub starts-done : Filled (at (used scale cords usable)) (length starts₀) c starts
-  pub wants-done : Filled (at (wantsFrom (used scale cords usable) grants first)) (length first) c wants
+  pub wants-done : Filled (at (wants_from (used scale cords usable) grants first)) (length first) c wants
   pub wants-left : (h : ℕ) → c ≤ h → at wants h ≡ at first h
 
 used-length : (scale : ℕ) (cords : List (List ℕ)) (usable : List ℕ) → length (used scale cords usable) ≡ length cords
-used-length scale cords usable = figures-length (length (shares cords)) _ ∙ column-length shareColumn cords
+used-length scale cords usable = figures-length (length (shares cords)) _ ∙ column-length share_column cords
 
 module _ {scale : ℕ} {cords : List (List ℕ)} {usable grants first starts₀ : List ℕ} where
   pub reclaiming-start : Reclaiming scale cords usable grants first starts₀ 0 0 starts₀ first
@@ -130,32 +130,32 @@ module _ {scale : ℕ} {cords : List (List ℕ)} {usable grants first starts₀ 
 
   module _ {c freed : ℕ} {starts wants : List ℕ} (by : Reclaiming scale cords usable grants first starts₀ c freed starts wants) (sizes : (length starts₀ ≡ length cords) × (length first ≡ length cords)) where
     module _ (here : c < length cords)
-        {share v x watts more : ℕ} (share-is : share ≡ cell cords c shareColumn) (place_is : v ≡ cell cords c serverColumn)
+        {share v x watts more : ℕ} (share-is : share ≡ cell cords c share_column) (place_is : v ≡ cell cords c server_column)
         (used-is : x ≡ carried scale share (at usable v)) (stranded-is : watts ≡ at grants c - x)
         (most : watts ≤ 4294967295) (more-is : more ≡ freed + watts) where
       used-here : at (used scale cords usable) c ≡ x
       used-here =
-          figures-at (length (shares cords)) c _ (omega (arith, column-length shareColumn cords))
-          ∙ ap₂ (λ (part h : ℕ). carried scale part (at usable h)) (column-at shareColumn cords c ∙ sym share-is) (column-at serverColumn cords c ∙ sym place_is)
+          figures-at (length (shares cords)) c _ (omega (arith, column-length share_column cords))
+          ∙ ap₂ (λ (part h : ℕ). carried scale part (at usable h)) (column-at share_column cords c ∙ sym share-is) (column-at server_column cords c ∙ sym place_is)
           ∙ sym used-is
 
       placed : c < length (used scale cords usable)
       placed = omega (arith, used-length scale cords usable)
 
-      stranded-here : at (strandedFrom (used scale cords usable) grants) c ≡ watts
+      stranded-here : at (stranded_from (used scale cords usable) grants) c ≡ watts
       stranded-here = figures-at _ c _ placed ∙ ap (λ (y : ℕ). at grants c - y) used-here ∙ sym stranded-is
 
-      want-here : {want : ℕ} → want ≡ cond (ltb 0 watts) x (at wants c) → want ≡ at (wantsFrom (used scale cords usable) grants first) c
+      want-here : {want : ℕ} → want ≡ cond (ltb 0 watts) x (at wants c) → want ≡ at (wants_from (used scale cords usable) grants first) c
       want-here e =
           e
           ∙ ap (cond (ltb 0 watts) x) (by.wants-left c (omega arith))
           ∙ sym (figures-at _ c _ placed ∙ ap₂ (λ (y z : ℕ). cond (ltb 0 y) z (at first c)) stranded-here used-here)
 
-      freed-here : more ≡ sum (c + 1) (at (strandedFrom (used scale cords usable) grants))
+      freed-here : more ≡ sum (c + 1) (at (stranded_from (used scale cords usable) grants))
       freed-here =
           more-is
           ∙ ap₂ ◌+◌ by.freed-is (sym stranded-here)
-          ∙ sym (ap (λ (n : ℕ). sum n (at (strandedFrom (used scale cords usable) grants))) (add-one c) ∙ sum-suc c _)
+          ∙ sym (ap (λ (n : ℕ). sum n (at (stranded_from (used scale cords usable) grants))) (add-one c) ∙ sum-suc c _)
 
       -- One cord more: it wants its used watts if it leaves watts stranded, else what it did.
       pub reclaiming-more : {want : ℕ} → want ≡ cond (ltb 0 watts) x (at wants c) → Reclaiming scale cords usable grants first starts₀ (c + 1) more (set starts c x) (set wants c want)
@@ -169,10 +169,10 @@ module _ {scale : ℕ} {cords : List (List ℕ)} {usable grants first starts₀ 
           }
 
     pub reclaiming-end : c ≡ length cords
-        → (freed ≡ sum_of (strandedFrom (used scale cords usable) grants)) × ((starts ≡ used scale cords usable) × (wants ≡ wantsFrom (used scale cords usable) grants first))
+        → (freed ≡ sum_of (stranded_from (used scale cords usable) grants)) × ((starts ≡ used scale cords usable) × (wants ≡ wants_from (used scale cords usable) grants first))
     reclaiming-end e =
         let n = used-length scale cords usable in
-        let last : List ℕ = strandedFrom (used scale cords usable) grants in
+        let last : List ℕ = stranded_from (used scale cords usable) grants in
         let all : c ≡ length last = omega (arith, figures-length (length (used scale cords usable)) (λ c. at grants c - at (used scale cords usable) c)) in (
           by.freed-is ∙ ap (λ (n : ℕ). sum n (at last)) all ∙ sym (total-sum (λ a. a) 0 last),
           (

@@ -2,8 +2,8 @@
 // Private to Plan: no operation stands here.
 ghost use Rattle.std.specs.Prelude.{◌≡◌, cond, ◌^◌, ◌<◌, ltb, length};
 ghost use Rattle.figures.specs.Figures.{column};
-ghost use Rattle.rooms.specs.Rows.{serverColumn, shareColumn};
-ghost use Rattle.plan_reclaim.specs.Reclaimed.{ServerLists, usableFrom, usedFrom, freedFrom, wantsFrom};
+ghost use Rattle.rooms.specs.Rows.{server_column, share_column};
+ghost use Rattle.plan_reclaim.specs.Reclaimed.{ServerLists, usable_from, used_from, freed_from, wants_from};
 
 use figures::{index, least, narrow, over, wide, word16};
 use rooms::limits::carried_by;
@@ -15,7 +15,7 @@ pub mod raise;
 // if that is less.
 pub fn usable_of(cords: &[[u16; 4]], grants: &[u32], usable: &mut [u32], scale: u32)
     requires lists { ServerLists scale cords.now usable.old (length grants.now) }
-    ensures usable { usable.new ≡ usableFrom scale (column shareColumn cords.now) (column serverColumn cords.now)
+    ensures usable { usable.new ≡ usable_from scale (column share_column cords.now) (column server_column cords.now)
         usable.old grants.now }
 {
     for c in 0..cords.len() {
@@ -51,12 +51,12 @@ pub fn reclaim(
 ) -> u64
     requires lists { ServerLists scale cords.now usable.now (length grants.now) × (length starts.old ≡ length cords.now)
         × (length wants.old ≡ length cords.now) }
-    ensures freed { result ≡ freedFrom scale (column shareColumn cords.now) (column serverColumn cords.now)
+    ensures freed { result ≡ freed_from scale (column share_column cords.now) (column server_column cords.now)
         usable.now grants.now }
-    ensures starts { starts.new ≡ usedFrom scale (column shareColumn cords.now) (column serverColumn cords.now)
+    ensures starts { starts.new ≡ used_from scale (column share_column cords.now) (column server_column cords.now)
         usable.now }
-    ensures wants { wants.new ≡ wantsFrom (usedFrom scale (column shareColumn cords.now)
-        (column serverColumn cords.now) usable.now) grants.now wants.old }
+    ensures wants { wants.new ≡ wants_from (used_from scale (column share_column cords.now)
+        (column server_column cords.now) usable.now) grants.now wants.old }
 {
     let mut freed: u64 = 0;
     for c in 0..cords.len() {

@@ -7,22 +7,22 @@ use native.Mathlib.Omega.{arith}
 use lib.ListN.{length}
 use Rattle.figures.specs.Figures.{at}
 use Rattle.figures.proofs.Lists.{figures-length}
-use Rattle.rooms.specs.Table.{Room, roomCords}
-use Rattle.rooms.specs.Lists.{limitsOf, nodesOf, levelsOf, lowsOf}
+use Rattle.rooms.specs.Table.{Room, room_cords}
+use Rattle.rooms.specs.Lists.{limits_of, nodes_of, levels_of, lows_of}
 use Rattle.rooms.proofs.Accepted.{Accepted}
-use Rattle.deals.specs.Metrics.{dealFrom, dealOf}
+use Rattle.deals.specs.Metrics.{deal_from, deal_of}
 use Rattle.deals.specs.Dealing.{granted}
-use Rattle.deals.specs.SecondDeal.{wantsAfter, firstUsed, secondDeal, secondWants}
-use Rattle.deals.specs.Headroom.{ceilingsOf, headroomOver}
+use Rattle.deals.specs.SecondDeal.{wants_after, first_used, second_deal, second_wants}
+use Rattle.deals.specs.Headroom.{ceilings_of, headroom_over}
 use Rattle.deals.specs.Headroom as lending
 use Rattle.deals.specs.Held as holding
-use Rattle.deals.proofs.RoomDeals.{nodesOf-length}
+use Rattle.deals.proofs.RoomDeals.{nodes_of-length}
 use Rattle.deals.proofs.BothDeals.{cord-facts}
 use Rattle.deals.proofs.RoomHeadroom.{ceilings-count, ceilings-most, wants-ceilings}
 use Rattle.plan_headroom.specs.Lending.{LendGiven}
-use Rattle.plan_holders.specs.Holding.{HeldLists, heldFrom}
+use Rattle.plan_holders.specs.Holding.{HeldLists, held_from}
 use Rattle.plan_holders.proofs.Naming.{held-second}
-use Rattle.layout.proofs.Rows.{cords-count, node_at}
+use Rattle.layout.proofs.Rows.{cords-count, node_stands}
 use Rattle.plan_rooms.specs.Planning.{RoomToDeal, DealtTwice}
 use Rattle.plan_rooms.proofs.Planning.{lists-second, levels-nodes, levels-cords, second-dealt}
 
@@ -33,12 +33,12 @@ module _ {r : Room} (ok : Accepted r) {demands parents spare : List ℕ} {cords 
     {watts : ℕ} {given left cuts grants caps : List ℕ}
     (dealt : DealtTwice r demands watts given left cuts grants caps) where
   given-count : length given ≡ length cords
-  unfolding secondWants wantsAfter
-  given-count = ap length dealt.wants-are ∙ figures-length (roomCords r) _ ∙ sym (cords-count of.lists.cords-are.rows_are)
+  unfolding second_wants wants_after
+  given-count = ap length dealt.wants-are ∙ figures-length (room_cords r) _ ∙ sym (cords-count of.lists.cords-are.rows_are)
 
   grants-count : length grants ≡ length cords
-  unfolding secondDeal dealOf dealFrom granted
-  grants-count = ap length dealt.made.grants-are ∙ figures-length (length (nodesOf r)) _ ∙ nodesOf-length r ∙ sym (cords-count of.lists.cords-are.rows_are)
+  unfolding second_deal deal_of deal_from granted
+  grants-count = ap length dealt.made.grants-are ∙ figures-length (length (nodes_of r)) _ ∙ nodes_of-length r ∙ sym (cords-count of.lists.cords-are.rows_are)
 
   -- What naming the holders asks.
   pub held-lists : length cuts ≡ length parents → HeldLists parents cuts cords given grants
@@ -51,17 +51,17 @@ module _ {r : Room} (ok : Accepted r) {demands parents spare : List ℕ} {cords 
         few = of-cords.few;
         wants-size = given-count;
         grants-size = grants-count;
-        hangs = λ c l. omega (arith, node_at rows c, cords-count rows, (cord-facts r ok c (omega (arith, cords-count rows))).1);
+        hangs = λ c l. omega (arith, node_stands rows c, cords-count rows, (cord-facts r ok c (omega (arith, cords-count rows))).1);
         within = of-cords.within;
         ranked = of-cords.ranked;
       }
 
   -- What lending the headroom asks, with the deal's other lists.
-  pub lend-given : {ceilings : List ℕ} → ceilings ≡ ceilingsOf r → length left ≡ length parents
-      → LendGiven parents nodes given left ceilings (limitsOf r) (levelsOf r) (lowsOf r) (firstUsed r demands)
-  unfolding secondDeal dealOf dealFrom
+  pub lend-given : {ceilings : List ℕ} → ceilings ≡ ceilings_of r → length left ≡ length parents
+      → LendGiven parents nodes given left ceilings (limits_of r) (levels_of r) (lows_of r) (first_used r demands)
+  unfolding second_deal deal_of deal_from
   lend-given e size =
-      let n = nodesOf-length r in
+      let n = nodes_of-length r in
       rw (e, of.lists.parents-are, of.nodes-are, dealt.wants-are)
       (record {
         lists = lists-second ok of;
@@ -73,16 +73,16 @@ module _ {r : Room} (ok : Accepted r) {demands parents spare : List ℕ} {cords 
       })
 
   -- What both leave is the plan's.
-  pub held-made : {held : List ℕ} → HeldLists parents cuts cords given grants → held ≡ heldFrom parents cuts cords given grants → held ≡ holding.held r demands
+  pub held-made : {held : List ℕ} → HeldLists parents cuts cords given grants → held ≡ held_from parents cuts cords given grants → held ≡ holding.held r demands
   held-made lists named = named ∙ is lists
     where
-      is : HeldLists parents cuts cords given grants → heldFrom parents cuts cords given grants ≡ holding.held r demands
+      is : HeldLists parents cuts cords given grants → held_from parents cuts cords given grants ≡ holding.held r demands
       is =
           rw (of.lists.parents-are, dealt.wants-are)
           (λ lists. held-second r demands lists of.lists.cords-are.rows_are (second-dealt ok of dealt.made) dealt.made.cuts_are)
 
-  pub headroom-made : {ceilings headroom : List ℕ} → ceilings ≡ ceilingsOf r
-      → headroom ≡ headroomOver (dealFrom parents (limitsOf r) nodes (levelsOf r) (lowsOf r) (firstUsed r demands) given) (at ceilings)
+  pub headroom-made : {ceilings headroom : List ℕ} → ceilings ≡ ceilings_of r
+      → headroom ≡ headroom_over (deal_from parents (limits_of r) nodes (levels_of r) (lows_of r) (first_used r demands) given) (at ceilings)
       → headroom ≡ lending.headroom r demands
-  unfolding secondDeal dealOf lending.headroom
+  unfolding second_deal deal_of lending.headroom
   headroom-made e lent = lent ∙ rw (e, of.lists.parents-are, of.nodes-are, dealt.wants-are)

@@ -11,13 +11,13 @@ use borrow.Author.Tests.{leb-true, leb-false}
 use Rattle.figures.specs.Figures.{column}
 use Rattle.figures.proofs.Lists.{figures-length}
 use Rattle.figures.proofs.Stores.{sets-front}
-use Rattle.rooms.specs.Table.{Room, mostNodes, mostCords, roomCords}
-use Rattle.rooms.specs.Rows.{nodeColumn}
+use Rattle.rooms.specs.Table.{Room, most_nodes, most_cords, room_cords}
+use Rattle.rooms.specs.Rows.{node_column}
 use Rattle.rooms.proofs.Accepted.{Accepted, accepted}
-use Rattle.deals.specs.Wants.{needs, firstWants}
-use Rattle.deals.specs.Headroom.{ceilingsOf}
-use Rattle.deals.proofs.RoomDeals.{parentsOf-length}
-use Rattle.deals.proofs.BothDeals.{lowsOf-length, carriedBy-length}
+use Rattle.deals.specs.Wants.{needs, first_wants}
+use Rattle.deals.specs.Headroom.{ceilings_of}
+use Rattle.deals.proofs.RoomDeals.{parents_of-length}
+use Rattle.deals.proofs.BothDeals.{lows_of-length, carried_by-length}
 use Rattle.deals.proofs.RoomHeadroom.{ceilings-count}
 use Rattle.layout.specs.Room.{RoomLists}
 use Rattle.layout.specs.declared.room.Counts.{Counts}
@@ -44,14 +44,14 @@ module _ {table demands : List ℕ} {r : Room} {counts : Counts} {parents spare 
   servers-are : counts.servers ≡ length r.servers
   servers-are = ap (λ (c : Counts). c.servers) g.counted
 
-  cords-are : counts.cords ≡ roomCords r
+  cords-are : counts.cords ≡ room_cords r
   cords-are = ap (λ (c : Counts). c.cords) g.counted
 
-  pub nodes-few : counts.nodes ≤ mostNodes
-  nodes-few = omega (arith, nodes-are, given-ok.fewNodes)
+  pub nodes-few : counts.nodes ≤ most_nodes
+  nodes-few = omega (arith, nodes-are, given-ok.few_nodes)
 
-  pub cords-few : counts.cords ≤ mostCords
-  cords-few = omega (arith, cords-are, given-ok.fewCords)
+  pub cords-few : counts.cords ≤ most_cords
+  cords-few = omega (arith, cords-are, given-ok.few_cords)
 
   -- The fronts are the room's lists.
   pub given-lists : RoomLists r demands (take counts.nodes parents) (take counts.nodes spare) (take counts.cords cords)
@@ -60,20 +60,20 @@ module _ {table demands : List ℕ} {r : Room} {counts : Counts} {parents spare 
 
   -- Every list is long enough.
   pub parents-long : counts.nodes ≤ length parents
-  parents-long = front_long parents (ap length given-lists.parents-are ∙ parentsOf-length r) nodes-are
+  parents-long = front_long parents (ap length given-lists.parents-are ∙ parents_of-length r) nodes-are
 
   pub spare-long : counts.nodes ≤ length spare
-  spare-long = front_long spare (given-lists.spare-size ∙ ap length given-lists.parents-are ∙ parentsOf-length r) nodes-are
+  spare-long = front_long spare (given-lists.spare-size ∙ ap length given-lists.parents-are ∙ parents_of-length r) nodes-are
 
   pub cords-long : counts.cords ≤ length cords
   cords-long = front_long cords (cords-count given-lists.cords-are.rows_are) cords-are
 
   pub lows-long : counts.cords ≤ length lows
-  lows-long = front_long lows (ap length given-lists.cords-are.lows-are ∙ lowsOf-length r) cords-are
+  lows-long = front_long lows (ap length given-lists.cords-are.lows-are ∙ lows_of-length r) cords-are
 
   pub wants-long : counts.cords ≤ length wants
-  unfolding firstWants
-  wants-long = front_long wants (ap length given-lists.cords-are.wants-are ∙ carriedBy-length r (needs r demands)) cords-are
+  unfolding first_wants
+  wants-long = front_long wants (ap length given-lists.cords-are.wants-are ∙ carried_by-length r (needs r demands)) cords-are
 
   pub headroom-long : counts.cords ≤ length headroom
   headroom-long = front_long headroom (ap length given-lists.cords-are.ceilings-are ∙ ceilings-count r given-ok demands) cords-are
@@ -83,7 +83,7 @@ module _ {table demands : List ℕ} {r : Room} {counts : Counts} {parents spare 
   caps-long = front_long caps (ap length given-lists.cords-are.needs-are ∙ figures-length (length r.servers) _) servers-are
 
   -- With the cords' nodes they are what both deals ask.
-  pub to-deal : {nodes : List ℕ} → nodes ≡ column nodeColumn (take counts.cords cords)
+  pub to-deal : {nodes : List ℕ} → nodes ≡ column node_column (take counts.cords cords)
       → RoomToDeal r demands (take counts.nodes parents) (take counts.nodes spare) (take counts.cords cords) nodes
       (take counts.cords lows) (take counts.cords wants) (take counts.servers caps) counts.scale
   to-deal listed =
@@ -105,7 +105,7 @@ module _ {table demands : List ℕ} {r : Room} {counts : Counts} {parents spare 
         scale-is = ap (λ (c : Counts). c.scale) g.counted;
       }
 
-  pub ceilings-given : take counts.cords headroom ≡ ceilingsOf r
+  pub ceilings-given : take counts.cords headroom ≡ ceilings_of r
   ceilings-given = given-lists.cords-are.ceilings-are
 
 -- What came back for a front stands before the rest.

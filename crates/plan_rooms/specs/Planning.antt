@@ -4,14 +4,14 @@ use Rattle.std.proofs.lemmas.List.Edits.{sets}
 use Rattle.rooms.specs.Part.{good}
 use Rattle.rooms.specs.Table.{Room}
 use Rattle.rooms.specs.Limits.{checked}
-use Rattle.rooms.specs.Lists.{nodesOf}
-use Rattle.deals.specs.SecondDeal.{freed, secondDeal, secondWants}
+use Rattle.rooms.specs.Lists.{nodes_of}
+use Rattle.deals.specs.SecondDeal.{freed, second_deal, second_wants}
 use Rattle.deals.specs.SecondDeal as second
 use Rattle.deals.specs.Headroom as lending
 use Rattle.deals.specs.Plan.{plan_of, output, Lists}
 use Rattle.deals.specs.declared.PlanList.{PlanList}
 use Rattle.deals.specs.Ranks.{DealMade}
-use Rattle.layout.specs.Outcome.{countsOf}
+use Rattle.layout.specs.Outcome.{counts_of}
 use Rattle.layout.specs.Room.{RoomLists, RoomLoaded}
 use Rattle.layout.specs.declared.room.Counts.{Counts}
 
@@ -20,8 +20,8 @@ use Rattle.layout.specs.declared.room.Counts.{Counts}
 -- The lists are those of a room, with given demands, the numbers of its cords' nodes, and its scale. Of the ceilings nothing is asked.
 pub record RoomToDeal (r : Room) (demands parents spare : List ℕ) (cords : List (List ℕ)) (nodes lows wants needed : List ℕ)
     (scale : ℕ) : Type 0 where
-  pub lists : RoomLists r demands parents spare cords lows wants (lending.ceilingsOf r) needed
-  pub nodes-are : nodes ≡ nodesOf r
+  pub lists : RoomLists r demands parents spare cords lows wants (lending.ceilings_of r) needed
+  pub nodes-are : nodes ≡ nodes_of r
   pub scale-is : scale ≡ r.scale
 
 -- They are those of the room of some good table with some demands.
@@ -36,8 +36,8 @@ pub record SomeRoom (parents spare : List ℕ) (cords : List (List ℕ)) (nodes 
 -- Both deals of a room are made: the freed watts, the second wants, what the second deal leaves in its lists, and the caps.
 pub record DealtTwice (r : Room) (demands : List ℕ) (watts : ℕ) (wants left cuts grants caps : List ℕ) : Type 0 where
   pub freed-is : watts ≡ freed r demands
-  pub wants-are : wants ≡ secondWants r demands
-  pub made : DealMade (secondDeal r demands) left cuts grants
+  pub wants-are : wants ≡ second_wants r demands
+  pub made : DealMade (second_deal r demands) left cuts grants
   pub caps-are : caps ≡ second.caps r demands
 
 -- ---- The plan
@@ -47,7 +47,7 @@ pub record PlanGiven (table demands : List ℕ) (r : Room) (counts : Counts) (pa
     (lows wants headroom caps : List ℕ) : Type 0 where
   pub end : ℕ
   pub is : checked table 0 ≡ good r end
-  pub counted : counts ≡ countsOf r
+  pub counted : counts ≡ counts_of r
   pub loaded : RoomLoaded r demands parents spare cords lows wants headroom caps
 
 -- They are those of some good table with some demands.

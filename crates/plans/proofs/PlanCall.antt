@@ -8,24 +8,24 @@ use lib.Dec.{eqb, ltb}
 use lib.ListN.{length, take, drop}
 use lib.Seq.{sets, length-sets, take_all}
 use borrow.Author.Tests.{lt-ltb, le-ltb}
-use Rattle.outcomes.specs.Outcome.{Outcome, accepted, refused, Reason, tooShort, unless}
+use Rattle.outcomes.specs.Outcome.{Outcome, accepted, refused, Reason, too_short, unless}
 use Rattle.outcomes.proofs.Outcomes.{accepted≢refused, accepted-is, unless-stop, unless-pass, unless-back, unless-none, unless-is}
 use Rattle.figures.proofs.Lists.{figures-length}
 use Rattle.figures.proofs.Stores.{sets-front, take-sets, drop-sets}
 use Rattle.rooms.specs.Part.{Step, good, bad}
-use Rattle.rooms.specs.Table.{Room, roomCords}
+use Rattle.rooms.specs.Table.{Room, room_cords}
 use Rattle.rooms.specs.Limits.{checked}
 use Rattle.rooms.proofs.Accepted.{Accepted}
 use Rattle.deals.specs.Wants.{needs}
-use Rattle.deals.specs.Plan.{Plan, plan_of, output, count, entries, Lists, PlanReason, firstTooLarge, countDiffers, demandTooLarge, listReasons, reasons, plan}
+use Rattle.deals.specs.Plan.{Plan, plan_of, output, count, entries, Lists, PlanReason, first_too_large, count_differs, demand_too_large, list_reasons, reasons, plan}
 use Rattle.deals.specs.declared.Lengths.{Lengths}
 use Rattle.deals.specs.declared.PlanList.{PlanList}
 use Rattle.deals.specs.declared.PlanRefusal.{PlanRefusal}
 use Rattle.deals.specs.declared.PlanRefusal.TheVariants.{DemandCount, DemandTooLarge, ListTooShort}
 use Rattle.deals.specs.declared.Planned.TheVariants as planned
 use Rattle.deals.proofs.RoomHeadroom.{ceilings-count}
-use Rattle.deals.proofs.Plans.{lists-long, planRoom-is, plan-bad-table, plan-good-table}
-use Rattle.layout.specs.Outcome.{LoadOutcome, loading, countsOf, loadedOf}
+use Rattle.deals.proofs.Plans.{lists-long, plan_room-is, plan-bad-table, plan-good-table}
+use Rattle.layout.specs.Outcome.{LoadOutcome, loading, counts_of, loaded_of}
 use Rattle.layout.specs.Room.{RoomLoaded}
 use Rattle.layout.specs.declared.room.Counts.{Counts}
 use Rattle.layout.specs.declared.room.Loaded.{Loaded}
@@ -33,8 +33,8 @@ use Rattle.layout.specs.declared.room.Loaded.TheVariants as loads
 use Rattle.layout.specs.declared.room.LoadRefusal.{LoadRefusal}
 use Rattle.layout.proofs.Loads.{loading-good, loading-bad, RoomFound, outcome-found}
 use Rattle.plan_rooms.specs.Planning.{PlanGiven}
-use Rattle.plans.specs.Admission.{refusalOf, admitting, admission}
-use Rattle.plans.specs.Done.{planIn, PlanDone}
+use Rattle.plans.specs.Admission.{refusal_of, admitting, admission}
+use Rattle.plans.specs.Done.{plan_in, PlanDone}
 use Rattle.plans.specs.declared.Admission.TheVariants as admitted
 
 -- ---- The checks behind the loading, in their order
@@ -45,22 +45,22 @@ module _ (loaded : Loaded) (lengths : Lengths) where
     pub is : admitting loaded lengths ≡ unless rest counts
 
   -- A refusal of the loading stands.
-  pub loading-told : {q : LoadRefusal} {p : PlanRefusal} → loaded ≡ loads.Refused q → p ≡ refusalOf q → admitted.Refused p ≡ admission (admitting loaded lengths)
+  pub loading-told : {q : LoadRefusal} {p : PlanRefusal} → loaded ≡ loads.Refused q → p ≡ refusal_of q → admitted.Refused p ≡ admission (admitting loaded lengths)
   unfolding admitting
   loading-told e is = rw (e, is) refl
 
   -- Of a room that is loaded all reasons are left.
-  pub loading-passed : {counts : Counts} → loaded ≡ loads.Good counts → Left counts (listReasons counts.cords counts.servers lengths)
+  pub loading-passed : {counts : Counts} → loaded ≡ loads.Good counts → Left counts (list_reasons counts.cords counts.servers lengths)
   unfolding admitting
   loading-passed e = record { is = ap (λ (l : Loaded). admitting l lengths) e }
 
   -- A list is too short, and that is told; or it is not, and the others are left.
-  module _ {counts : Counts} {list : PlanList} {entries needed : ℕ} {rest : List PlanReason} (left : Left counts (tooShort (ListTooShort list) entries needed ∷ rest)) where
+  module _ {counts : Counts} {list : PlanList} {entries needed : ℕ} {rest : List PlanReason} (left : Left counts (too_short (ListTooShort list) entries needed ∷ rest)) where
     pub short-told : entries < needed → admitted.Refused (ListTooShort list needed) ≡ admission (admitting loaded lengths)
-    short-told h = rw (left.is ∙ unless-stop (tooShort (ListTooShort list) entries needed) rest counts (lt-ltb entries needed h)) refl
+    short-told h = rw (left.is ∙ unless-stop (too_short (ListTooShort list) entries needed) rest counts (lt-ltb entries needed h)) refl
 
     pub list-passed : needed ≤ entries → Left counts rest
-    list-passed h = record { is = left.is ∙ unless-pass (tooShort (ListTooShort list) entries needed) rest counts (le-ltb entries needed h) }
+    list-passed h = record { is = left.is ∙ unless-pass (too_short (ListTooShort list) entries needed) rest counts (le-ltb entries needed h) }
 
   -- No reason is left.
   pub all-passed : {counts : Counts} → Left counts [] → admitted.Good counts ≡ admission (admitting loaded lengths)
@@ -89,38 +89,38 @@ module _ {A B R : Type 0} (a : A) (b : B) where
 
 -- Plan, where a room is loaded: the other reasons decide. Where it is not, its refusal stands.
 module _ (table demands : List ℕ) (lengths : Lengths) where
-  room-planned : {r : Room} → loading table demands ≡ accepted r → plan table demands lengths ≡ unless (listReasons (roomCords r) (length r.servers) lengths) (plan_of r demands)
+  room-planned : {r : Room} → loading table demands ≡ accepted r → plan table demands lengths ≡ unless (list_reasons (room_cords r) (length r.servers) lengths) (plan_of r demands)
   room-planned {r} e =
       let f = outcome-found table demands e in
       let is : checked table 0 ≡ good r f.end = f.is ∙ ap (λ (x : Room). good x f.end) (accepted-is (sym f.accepts ∙ e)) in
       let first = unless-back _ _ r (sym (loading-good table demands is) ∙ e) in
       let second = unless-back _ _ r first.1 in
       plan-good-table table demands lengths r f.end is
-      ∙ planRoom-is r demands lengths
-      ∙ unless-pass (countDiffers DemandCount r demands) _ (plan_of r demands) first.0
-      ∙ unless-pass (demandTooLarge DemandTooLarge demands) _ (plan_of r demands) second.0
+      ∙ plan_room-is r demands lengths
+      ∙ unless-pass (count_differs DemandCount r demands) _ (plan_of r demands) first.0
+      ∙ unless-pass (demand_too_large DemandTooLarge demands) _ (plan_of r demands) second.0
 
-  refusal-planned : {q : LoadRefusal} → loading table demands ≡ refused q → plan table demands lengths ≡ refused (refusalOf q)
+  refusal-planned : {q : LoadRefusal} → loading table demands ≡ refused q → plan table demands lengths ≡ refused (refusal_of q)
   refusal-planned {q} e = go (checked table 0) refl
     where
       same : {p : LoadRefusal} → loading table demands ≡ refused p → p ≡ q
       same d = let h : ◌≡◌ {A = LoadOutcome} (refused _) (refused q) = sym d ∙ e in cc
 
       in-room : (r : Room) (end : ℕ) → checked table 0 ≡ good r end → (count large : Bool) → not (eqb (length demands) (length r.servers)) ≡ count
-          → ltb (firstTooLarge demands) (length demands) ≡ large → unless (reasons r demands lengths) (plan_of r demands) ≡ refused (refusalOf q)
+          → ltb (first_too_large demands) (length demands) ≡ large → unless (reasons r demands lengths) (plan_of r demands) ≡ refused (refusal_of q)
       in-room r end is true large c l =
-          unless-stop (countDiffers DemandCount r demands) _ (plan_of r demands) c ∙ ap (λ (p : LoadRefusal). refused (refusalOf p)) (same (loading-good table demands is ∙ unless-stop _ _ r c))
+          unless-stop (count_differs DemandCount r demands) _ (plan_of r demands) c ∙ ap (λ (p : LoadRefusal). refused (refusal_of p)) (same (loading-good table demands is ∙ unless-stop _ _ r c))
       in-room r end is false true c l =
-          unless-pass (countDiffers DemandCount r demands) _ (plan_of r demands) c
-          ∙ unless-stop (demandTooLarge DemandTooLarge demands) _ (plan_of r demands) l
-          ∙ ap (λ (p : LoadRefusal). refused (refusalOf p)) (same (loading-good table demands is ∙ unless-pass _ _ r c ∙ unless-stop _ _ r l))
+          unless-pass (count_differs DemandCount r demands) _ (plan_of r demands) c
+          ∙ unless-stop (demand_too_large DemandTooLarge demands) _ (plan_of r demands) l
+          ∙ ap (λ (p : LoadRefusal). refused (refusal_of p)) (same (loading-good table demands is ∙ unless-pass _ _ r c ∙ unless-stop _ _ r l))
       in-room r end is false false c l =
           absurd (accepted≢refused (sym (loading-good table demands is ∙ unless-pass _ _ r c ∙ unless-pass _ _ r l ∙ unless-none r) ∙ e))
 
-      go : (s : Step Room) → checked table 0 ≡ s → plan table demands lengths ≡ refused (refusalOf q)
+      go : (s : Step Room) → checked table 0 ≡ s → plan table demands lengths ≡ refused (refusal_of q)
       go (good r end) is =
-          plan-good-table table demands lengths r end is ∙ planRoom-is r demands lengths ∙ in-room r end is _ _ refl refl
-      go (bad p) is = plan-bad-table table demands lengths p is ∙ ap (λ (p : LoadRefusal). refused (refusalOf p)) (same (loading-bad table demands is))
+          plan-good-table table demands lengths r end is ∙ plan_room-is r demands lengths ∙ in-room r end is _ _ refl refl
+      go (bad p) is = plan-bad-table table demands lengths p is ∙ ap (λ (p : LoadRefusal). refused (refusal_of p)) (same (loading-bad table demands is))
 
 -- ---- What is admitted
 
@@ -130,15 +130,15 @@ pub record Admitted (table demands : List ℕ) (lengths : Lengths) (counts : Cou
   pub is : plan table demands lengths ≡ accepted (plan_of room-found.room demands)
   pub long : (list : PlanList) → count counts.cords counts.servers list ≤ entries lengths list
 
-module _ (table demands : List ℕ) (lengths : Lengths) {loaded : Loaded} {answer : admitted.the_data} (l : loaded ≡ loadedOf (loading table demands)) (d : answer ≡ admission (admitting loaded lengths)) where
+module _ (table demands : List ℕ) (lengths : Lengths) {loaded : Loaded} {answer : admitted.the_data} (l : loaded ≡ loaded_of (loading table demands)) (d : answer ≡ admission (admitting loaded lengths)) where
   -- What the checks behind the loading come to.
-  by-room : {r : Room} → loading table demands ≡ accepted r → admitting loaded lengths ≡ unless (listReasons (roomCords r) (length r.servers) lengths) (countsOf r)
+  by-room : {r : Room} → loading table demands ≡ accepted r → admitting loaded lengths ≡ unless (list_reasons (room_cords r) (length r.servers) lengths) (counts_of r)
   unfolding admitting
-  by-room e = ap (λ (x : Loaded). admitting x lengths) (l ∙ ap loadedOf e)
+  by-room e = ap (λ (x : Loaded). admitting x lengths) (l ∙ ap loaded_of e)
 
-  by-refusal : {q : LoadRefusal} → loading table demands ≡ refused q → admitting loaded lengths ≡ refused (refusalOf q)
+  by-refusal : {q : LoadRefusal} → loading table demands ≡ refused q → admitting loaded lengths ≡ refused (refusal_of q)
   unfolding admitting
-  by-refusal e = ap (λ (x : Loaded). admitting x lengths) (l ∙ ap loadedOf e)
+  by-refusal e = ap (λ (x : Loaded). admitting x lengths) (l ∙ ap loaded_of e)
 
   pub admitted-good : {counts : Counts} → answer ≡ admitted.Good counts → Admitted table demands lengths counts
   admitted-good {counts} e = go (loading table demands) refl (admitting loaded lengths) refl (sym e ∙ d)
@@ -149,15 +149,15 @@ module _ (table demands : List ℕ) (lengths : Lengths) {loaded : Loaded} {answe
       go (refused q) is (accepted given) u told = absurd (accepted≢refused (sym u ∙ by-refusal is))
       go (accepted r) is (accepted given) u told =
           let all = sym (by-room is) ∙ u in
-          let counted : counts ≡ countsOf r = (let t : counts ≡ given = cc in t) ∙ unless-is (listReasons (roomCords r) (length r.servers) lengths) (countsOf r) given all in
+          let counted : counts ≡ counts_of r = (let t : counts ≡ given = cc in t) ∙ unless-is (list_reasons (room_cords r) (length r.servers) lengths) (counts_of r) given all in
           let f = outcome-found table demands is in
           rw counted
           (record {
             room-found = f;
             is = room-planned table demands lengths is
-                ∙ other-accepted (countsOf r) (plan_of r demands) (listReasons (roomCords r) (length r.servers) lengths) all
+                ∙ other-accepted (counts_of r) (plan_of r demands) (list_reasons (room_cords r) (length r.servers) lengths) all
                 ∙ ap (λ (x : Room). accepted (plan_of x demands)) (accepted-is (sym is ∙ f.accepts));
-            long = lists-long (countsOf r) (roomCords r) (length r.servers) lengths all;
+            long = lists-long (counts_of r) (room_cords r) (length r.servers) lengths all;
           })
 
   -- What is not admitted, Plan refuses.
@@ -169,9 +169,9 @@ module _ (table demands : List ℕ) (lengths : Lengths) {loaded : Loaded} {answe
       go o is (accepted given) u told = absurd (let z : ◌≡◌ {A = ℕ} 0 1 = cc in omega arith)
       go (accepted r) is (refused p) u told =
           let same : p ≡ q = cc in
-          room-planned table demands lengths is ∙ other-refused (countsOf r) (plan_of r demands) (listReasons (roomCords r) (length r.servers) lengths) (sym (by-room is) ∙ u) ∙ ap refused same
+          room-planned table demands lengths is ∙ other-refused (counts_of r) (plan_of r demands) (list_reasons (room_cords r) (length r.servers) lengths) (sym (by-room is) ∙ u) ∙ ap refused same
       go (refused x) is (refused p) u told =
-          let same : refusalOf x ≡ q = (let h : ◌≡◌ {A = Outcome Counts PlanRefusal} (refused (refusalOf x)) (refused p) = sym (by-refusal is) ∙ u in let t : p ≡ q = cc in cc) in
+          let same : refusal_of x ≡ q = (let h : ◌≡◌ {A = Outcome Counts PlanRefusal} (refused (refusal_of x)) (refused p) = sym (by-refusal is) ∙ u in let t : p ≡ q = cc in cc) in
           refusal-planned table demands lengths is ∙ ap refused same
 
 -- What `plan_loaded` asks of a room's lists.
@@ -185,7 +185,7 @@ plan-given a lists = let f = a.room-found in record { end = f.end; is = f.is; co
 
 module _ {r : Room} {demands : List ℕ} (parents spare : List ℕ) (cords : List (List ℕ)) (lows wants ceilings needed : List ℕ)
     (ok : Accepted r) (lists : RoomLoaded r demands parents spare cords lows wants ceilings needed) where
-  pub ceilings-size : length (take (roomCords r) ceilings) ≡ roomCords r
+  pub ceilings-size : length (take (room_cords r) ceilings) ≡ room_cords r
   ceilings-size = ap length lists.cords-are.ceilings-are ∙ ceilings-count r ok demands
 
   pub needs-size : length (take (length r.servers) needed) ≡ length r.servers
@@ -193,7 +193,7 @@ module _ {r : Room} {demands : List ℕ} (parents spare : List ℕ) (cords : Lis
   needs-size = ap length lists.cords-are.needs-are ∙ figures-length (length r.servers) _
 
   -- The ceilings and the needs stand at the fronts of the lists that they were copied to.
-  pub copied-loaded : {k v : ℕ} (headroom caps headroom' caps' : List ℕ) → k ≡ roomCords r → v ≡ length r.servers → k ≤ length headroom → v ≤ length caps
+  pub copied-loaded : {k v : ℕ} (headroom caps headroom' caps' : List ℕ) → k ≡ room_cords r → v ≡ length r.servers → k ≤ length headroom → v ≤ length caps
       → headroom' ≡ sets headroom 0 (take k ceilings) → caps' ≡ sets caps 0 (take v needed)
       → RoomLoaded r demands parents spare cords lows wants headroom' caps'
   copied-loaded headroom caps headroom' caps' k v hk hv eh ec =
@@ -220,10 +220,10 @@ stored-again list first second {list'} same e f =
 
 module _ (table demands : List ℕ) (lent : Lists) where
   -- Refused, a list is as it was.
-  pub refused-done : {q : PlanRefusal} → planIn table demands lent ≡ refused q → PlanDone table demands lent (planned.Refused q) lent
+  pub refused-done : {q : PlanRefusal} → plan_in table demands lent ≡ refused q → PlanDone table demands lent (planned.Refused q) lent
   refused-done e = record { answer-is = rw e refl; lists-are = λ list. rw e refl }
 
   -- Accepted, it has what the plan has for it at its front.
-  pub accepted-done : {plan : Plan} {watts : ℕ} {left : Lists} → planIn table demands lent ≡ accepted plan → watts ≡ plan.freed
+  pub accepted-done : {plan : Plan} {watts : ℕ} {left : Lists} → plan_in table demands lent ≡ accepted plan → watts ≡ plan.freed
       → ((list : PlanList) → left list ≡ sets (lent list) 0 (output list plan)) → PlanDone table demands lent (planned.Accepted watts) left
   accepted-done e freed stored = record { answer-is = rw (e, freed) refl; lists-are = λ list. rw e (stored list) }

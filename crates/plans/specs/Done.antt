@@ -7,10 +7,10 @@ use Rattle.deals.specs.declared.PlanList.{PlanList}
 use Rattle.deals.specs.declared.Planned.{Planned}
 
 -- What Plan comes to in lists that are lent to it.
-abbrev pub planIn : (table demands : List ℕ) → Lists → PlanOutcome
-planIn table demands given = plan table demands (lent given)
+abbrev pub plan_in : (table demands : List ℕ) → Lists → PlanOutcome
+plan_in table demands given = plan table demands (lent given)
 
 -- The answer is that to the outcome, and every list has what the outcome writes at its front; entries past that are unchanged.
 pub record PlanDone (table demands : List ℕ) (lent : Lists) (answer : Planned) (left : Lists) : Type 0 where
-  pub answer-is : answer ≡ answer_of (planIn table demands lent)
-  pub lists-are : (list : PlanList) → left list ≡ after (output list) (planIn table demands lent) (lent list)
+  pub answer-is : answer ≡ answer_of (plan_in table demands lent)
+  pub lists-are : (list : PlanList) → left list ≡ after (output list) (plan_in table demands lent) (lent list)

@@ -1,7 +1,7 @@
 // Plan: a room is loaded, its lists are checked, and then it is planned.
 ghost use Rattle.std.specs.Prelude.{◌≡◌};
 ghost use Rattle.deals.specs.Plan.{lists};
-ghost use Rattle.plans.specs.Admission.{refusalOf, admitting, admission};
+ghost use Rattle.plans.specs.Admission.{refusal_of, admitting, admission};
 ghost use Rattle.plans.specs.Done.{PlanDone};
 
 use deals::{Lengths, PlanList, PlanRefusal, Planned};
@@ -17,7 +17,7 @@ pub enum Admission {
 
 // A refusal of the loading, as one of Plan's.
 fn refusal_of(refusal: LoadRefusal) -> PlanRefusal
-    ensures same { result ≡ refusalOf refusal }
+    ensures same { result ≡ refusal_of refusal }
 {
     match refusal {
         LoadRefusal::Table(refusal) => PlanRefusal::Table(refusal),

@@ -7,25 +7,25 @@ use native.Mathlib.Omega.{arith}
 use lib.ListN.{length}
 use Rattle.figures.proofs.Columns.{column-length}
 use Rattle.figures.proofs.Lists.{figures-length}
-use Rattle.rooms.specs.Table.{mostServers, roomCords}
+use Rattle.rooms.specs.Table.{most_servers, room_cords}
 use Rattle.rooms.proofs.All.{all-at}
 use Rattle.rooms.proofs.Accepted.{ServerAccepted, accepted}
-use Rattle.rooms.specs.Rows.{rankColumn}
-use Rattle.print.specs.Line.{freedLine}
-use Rattle.print.specs.Print.{planLine, printOf}
-use Rattle.print.specs.Walk.{planPrint}
+use Rattle.rooms.specs.Rows.{rank_column}
+use Rattle.print.specs.Line.{freed_line}
+use Rattle.print.specs.Print.{plan_line, print_of}
+use Rattle.print.specs.Walk.{plan_print}
 use Rattle.print.specs.Promises.{PrintsRoom}
-use Rattle.print.proofs.Room.{serversAt-servers}
+use Rattle.print.proofs.Room.{servers_at-servers}
 
 pub prints-room : PrintsRoom
-unfolding planPrint printOf
+unfolding plan_print print_of
 prints-room table room end freed servers cords caps grants headroom held e sr cr =
     let ok = accepted table room end e in
     let size : length servers ≡ length room.servers
-    = sym (column-length rankColumn servers) ∙ ap length sr.ranks ∙ figures-length (length room.servers) _ in
-    let all : min (length servers) mostServers ≡ length room.servers = omega (arith, ok.fewServers) in
+    = sym (column-length rank_column servers) ∙ ap length sr.ranks ∙ figures-length (length room.servers) _ in
+    let all : min (length servers) most_servers ≡ length room.servers = omega (arith, ok.few_servers) in
     rw all
-    (ap (λ (l : List ℕ). freedLine freed ++ l)
-    (serversAt-servers room servers caps (planLine grants headroom held) sr cr
-    (λ v h. (all-at (ServerAccepted room.scale (length room.nodes)) room.servers ok.servers v _ h).fewCords)
-    (length room.servers) 0 0 room.servers (zero-add (length room.servers)) refl refl refl (zero-add (roomCords room))))
+    (ap (λ (l : List ℕ). freed_line freed ++ l)
+    (servers_at-servers room servers caps (plan_line grants headroom held) sr cr
+    (λ v h. (all-at (ServerAccepted room.scale (length room.nodes)) room.servers ok.servers v _ h).few_cords)
+    (length room.servers) 0 0 room.servers (zero-add (length room.servers)) refl refl refl (zero-add (room_cords room))))

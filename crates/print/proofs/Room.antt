@@ -10,114 +10,114 @@ use Rattle.figures.proofs.Stores.{take-sets}
 use Rattle.figures.specs.Figures.{total, cell}
 use Rattle.figures.proofs.Lists.{figures-at}
 use Rattle.figures.proofs.Columns.{column-at}
-use Rattle.rooms.specs.Table.{Server, Room, mostServerCords, cordCount, roomCords}
-use Rattle.rooms.specs.Cords.{RoomCord, serverCords, cordsFrom, cordsOf, cordAt, serverAt}
-use Rattle.rooms.specs.Lists.{nodesOf}
-use Rattle.rooms.proofs.Cords.{noRoomCord, noServer, serverCords-length}
-use Rattle.rooms.specs.Rows.{cordCountColumn, nodeColumn, ServerRows, CordRows}
-use Rattle.rooms.proofs.Walk.{serverCords-at}
-use Rattle.print.specs.Line.{freedLine, serverLine}
-use Rattle.print.specs.Print.{lines_from, at, nodeAt, serverPrint, serversPrint, planLine, printOf}
-use Rattle.print.specs.Walk.{cordLineAt, cordsAt, serversAt}
+use Rattle.rooms.specs.Table.{Server, Room, most_server_cords, cord_count, room_cords}
+use Rattle.rooms.specs.Cords.{RoomCord, server_cords, cords_from, cords_of, cord_at, server_at}
+use Rattle.rooms.specs.Lists.{nodes_of}
+use Rattle.rooms.proofs.Cords.{no_room_cord, no_server, server_cords-length}
+use Rattle.rooms.specs.Rows.{cord_count_column, node_column, ServerRows, CordRows}
+use Rattle.rooms.proofs.Walk.{server_cords-at}
+use Rattle.print.specs.Line.{freed_line, server_line}
+use Rattle.print.specs.Print.{lines_from, at, node_at, server_print, servers_print, plan_line, print_of}
+use Rattle.print.specs.Walk.{cord_line_at, cords_at, servers_at}
 
 -- Lines that are the same at each place.
-linesFrom-same : (f g : ℕ → List ℕ) (count k : ℕ) → ((m : ℕ) → m < k + count → f m ≡ g m)
+lines_from-same : (f g : ℕ → List ℕ) (count k : ℕ) → ((m : ℕ) → m < k + count → f m ≡ g m)
     → lines_from count k f ≡ lines_from count k g
 unfolding lines_from
-linesFrom-same f g zero k same = refl
-linesFrom-same f g (suc count) k same =
-    rw (same k (omega arith), linesFrom-same f g count (k + 1) (λ m h. same m (omega arith)))
+lines_from-same f g zero k same = refl
+lines_from-same f g (suc count) k same =
+    rw (same k (omega arith), lines_from-same f g count (k + 1) (λ m h. same m (omega arith)))
 
 -- A server with the same lines has the same print.
-serverPrint-same : (number cap count : ℕ) (line line' : ℕ → List ℕ) → ((k : ℕ) → k < count → line k ≡ line' k)
-    → serverPrint number cap count line ≡ serverPrint number cap count line'
-unfolding serverPrint
-serverPrint-same number cap count line line' same =
-    ap (λ (l : List ℕ). serverLine number cap ++ l) (linesFrom-same line line' count 0 (λ k h. same k (omega arith)))
+server_print-same : (number cap count : ℕ) (line line' : ℕ → List ℕ) → ((k : ℕ) → k < count → line k ≡ line' k)
+    → server_print number cap count line ≡ server_print number cap count line'
+unfolding server_print
+server_print-same number cap count line line' same =
+    ap (λ (l : List ℕ). server_line number cap ++ l) (lines_from-same line line' count 0 (λ k h. same k (omega arith)))
 
 -- ---- the servers
 
 -- The nodes of a server's cords, by their places among the room's.
 module _ (r : Room) (servers : List (List ℕ)) {cords : List (List ℕ)} (caps : List ℕ) (line : ℕ → ℕ → ℕ → List ℕ) (sr : ServerRows r servers) (cr : CordRows r cords)
-    (few : (v : ℕ) → v < length r.servers → cordCount (serverAt r v) ≤ mostServerCords) where
-  count_at : (v : ℕ) → v < length r.servers → cordsAt servers v ≡ cordCount (serverAt r v)
+    (few : (v : ℕ) → v < length r.servers → cord_count (server_at r v) ≤ most_server_cords) where
+  count_at : (v : ℕ) → v < length r.servers → cords_at servers v ≡ cord_count (server_at r v)
   count_at v h =
-      let is : cell servers v cordCountColumn ≡ cordCount (serverAt r v)
-      = sym (column-at cordCountColumn servers v) ∙ ap (λ (l : List ℕ). at l v) sr.counts ∙ figures-at (length r.servers) v _ h in
+      let is : cell servers v cord_count_column ≡ cord_count (server_at r v)
+      = sym (column-at cord_count_column servers v) ∙ ap (λ (l : List ℕ). at l v) sr.counts ∙ figures-at (length r.servers) v _ h in
       omega (arith, is, few v h)
 
-  node_at : (c : ℕ) → c < roomCords r → cell cords c nodeColumn ≡ (cordAt r c).node
-  unfolding nodesOf
-  node_at c h = sym (column-at nodeColumn cords c) ∙ ap (λ (l : List ℕ). at l c) cr.nodes ∙ figures-at (roomCords r) c _ h
+  node_stands : (c : ℕ) → c < room_cords r → cell cords c node_column ≡ (cord_at r c).node
+  unfolding nodes_of
+  node_stands c h = sym (column-at node_column cords c) ∙ ap (λ (l : List ℕ). at l c) cr.nodes ∙ figures-at (room_cords r) c _ h
 
   -- One server and its cords, at place c of the room's.
-  module _ (v c : ℕ) (s : Server) (rest : List Server) (split : drop v r.servers ≡ s ∷ rest) (cords-are : drop c (cordsOf r) ≡ cordsFrom v (s ∷ rest))
-      (first : v < length r.servers) (left : c + total cordCount (s ∷ rest) ≡ roomCords r) where
-    here : (serverAt r v ≡ s) × (drop (suc v) r.servers ≡ rest)
+  module _ (v c : ℕ) (s : Server) (rest : List Server) (split : drop v r.servers ≡ s ∷ rest) (cords-are : drop c (cords_of r) ≡ cords_from v (s ∷ rest))
+      (first : v < length r.servers) (left : c + total cord_count (s ∷ rest) ≡ room_cords r) where
+    here : (server_at r v ≡ s) × (drop (suc v) r.servers ≡ rest)
     here =
-        let e : serverAt r v ∷ drop (suc v) r.servers ≡ s ∷ rest = sym (drop-cons r.servers v noServer first) ∙ split in
-        let a : serverAt r v ≡ s = cc in
+        let e : server_at r v ∷ drop (suc v) r.servers ≡ s ∷ rest = sym (drop-cons r.servers v no_server first) ∙ split in
+        let a : server_at r v ≡ s = cc in
         let b : drop (suc v) r.servers ≡ rest = cc in
         (a, b)
 
-    after : drop c (cordsOf r) ≡ serverCords v s.cords ++ cordsFrom (suc v) rest
-    unfolding cordsFrom
+    after : drop c (cords_of r) ≡ server_cords v s.cords ++ cords_from (suc v) rest
+    unfolding cords_from
     after = cords-are
 
-    total-is : c + (cordCount s + total cordCount rest) ≡ roomCords r
+    total-is : c + (cord_count s + total cord_count rest) ≡ room_cords r
     unfolding total
     total-is = left
 
-    node-of : (k : ℕ) → k < cordCount s → cell cords (c + k) nodeColumn ≡ nodeAt s.cords k
+    node-of : (k : ℕ) → k < cord_count s → cell cords (c + k) node_column ≡ node_at s.cords k
     node-of k h =
-        node_at (c + k) (omega (arith, total-is))
+        node_stands (c + k) (omega (arith, total-is))
         ∙ ap (λ (x : RoomCord). x.node)
-        (sym (get_or-drop c (cordsOf r) k noRoomCord)
-        ∙ ap (λ (l : List RoomCord). get_or l k noRoomCord) after
-        ∙ get_or-append (serverCords v s.cords) (cordsFrom (suc v) rest) noRoomCord k (omega (arith, serverCords-length v s.cords))
-        ∙ serverCords-at v s.cords k h)
+        (sym (get_or-drop c (cords_of r) k no_room_cord)
+        ∙ ap (λ (l : List RoomCord). get_or l k no_room_cord) after
+        ∙ get_or-append (server_cords v s.cords) (cords_from (suc v) rest) no_room_cord k (omega (arith, server_cords-length v s.cords))
+        ∙ server_cords-at v s.cords k h)
 
-    cords-next : drop (c + cordCount s) (cordsOf r) ≡ cordsFrom (suc v) rest
+    cords-next : drop (c + cord_count s) (cords_of r) ≡ cords_from (suc v) rest
     cords-next =
-        sym (drop-drop (cordCount s) c (cordsOf r))
-        ∙ ap (drop (cordCount s)) after
-        ∙ drop_at (serverCords v s.cords) (cordsFrom (suc v) rest) (cordCount s) (serverCords-length v s.cords)
+        sym (drop-drop (cord_count s) c (cords_of r))
+        ∙ ap (drop (cord_count s)) after
+        ∙ drop_at (server_cords v s.cords) (cords_from (suc v) rest) (cord_count s) (server_cords-length v s.cords)
 
   -- The servers from place v on, with their cords from place c on.
-  pub serversAt-servers : (left v c : ℕ) (ss : List Server) → v + left ≡ length r.servers → drop v r.servers ≡ ss → length ss ≡ left
-      → drop c (cordsOf r) ≡ cordsFrom v ss → c + total cordCount ss ≡ roomCords r
-      → serversAt servers cords caps line left v c ≡ serversPrint caps line v c ss
-  unfolding serversAt serversPrint
-  serversAt-servers zero v c [] n d l e t = refl
-  serversAt-servers zero v c (s ∷ rest) n d l e t = absurd (omega arith)
-  serversAt-servers (suc left) v c [] n d l e t = absurd (omega arith)
-  serversAt-servers (suc left) v c (s ∷ rest) n d l e t =
+  pub servers_at-servers : (left v c : ℕ) (ss : List Server) → v + left ≡ length r.servers → drop v r.servers ≡ ss → length ss ≡ left
+      → drop c (cords_of r) ≡ cords_from v ss → c + total cord_count ss ≡ room_cords r
+      → servers_at servers cords caps line left v c ≡ servers_print caps line v c ss
+  unfolding servers_at servers_print
+  servers_at-servers zero v c [] n d l e t = refl
+  servers_at-servers zero v c (s ∷ rest) n d l e t = absurd (omega arith)
+  servers_at-servers (suc left) v c [] n d l e t = absurd (omega arith)
+  servers_at-servers (suc left) v c (s ∷ rest) n d l e t =
       let first : v < length r.servers = omega arith in
-      let count : cordsAt servers v ≡ cordCount s = count_at v first ∙ ap cordCount (here v c s rest d e first t).0 in
+      let count : cords_at servers v ≡ cord_count s = count_at v first ∙ ap cord_count (here v c s rest d e first t).0 in
       let next : v + 1 ≡ suc v = add-one v in
       rw (
         count,
-        serverPrint-same (v + 1) (at caps v) (cordCount s) (cordLineAt cords line c) (λ k. line (k + 1) (nodeAt s.cords k) (c + k))
+        server_print-same (v + 1) (at caps v) (cord_count s) (cord_line_at cords line c) (λ k. line (k + 1) (node_at s.cords k) (c + k))
             (λ k h. ap (λ (n : ℕ). line (k + 1) n (c + k)) (node-of v c s rest d e first t k h)),
-        serversAt-servers left (v + 1) (c + cordCount s) rest (omega arith) (rw next (here v c s rest d e first t).1) (omega arith)
+        servers_at-servers left (v + 1) (c + cord_count s) rest (omega arith) (rw next (here v c s rest d e first t).1) (omega arith)
             (rw next (cords-next v c s rest d e first t)) (omega (arith, total-is v c s rest d e first t)),
       )
 
 -- ---- figures past those of the room make no difference
 
 module _ (caps caps' : List ℕ) (line line' : ℕ → ℕ → ℕ → List ℕ) where
-  serversPrint-same : (v c : ℕ) (ss : List Server) → ((k : ℕ) → k < v + length ss → at caps k ≡ at caps' k)
-      → ((number node k : ℕ) → k < c + total cordCount ss → line number node k ≡ line' number node k)
-      → serversPrint caps line v c ss ≡ serversPrint caps' line' v c ss
-  unfolding serversPrint total
-  serversPrint-same v c [] h k = refl
-  serversPrint-same v c (s ∷ ss) h k =
-      let cords = serverPrint-same (v + 1) (at caps' v) (cordCount s) (at-cord line) (at-cord line') (λ m l. k (m + 1) (nodeAt s.cords m) (c + m) (omega arith)) in
-      let rest = serversPrint-same (v + 1) (c + cordCount s) ss (λ m l. h m (omega arith)) (λ a b m l. k a b m (omega arith)) in
+  servers_print-same : (v c : ℕ) (ss : List Server) → ((k : ℕ) → k < v + length ss → at caps k ≡ at caps' k)
+      → ((number node k : ℕ) → k < c + total cord_count ss → line number node k ≡ line' number node k)
+      → servers_print caps line v c ss ≡ servers_print caps' line' v c ss
+  unfolding servers_print total
+  servers_print-same v c [] h k = refl
+  servers_print-same v c (s ∷ ss) h k =
+      let cords = server_print-same (v + 1) (at caps' v) (cord_count s) (at-cord line) (at-cord line') (λ m l. k (m + 1) (node_at s.cords m) (c + m) (omega arith)) in
+      let rest = servers_print-same (v + 1) (c + cord_count s) ss (λ m l. h m (omega arith)) (λ a b m l. k a b m (omega arith)) in
       rw (h v (omega arith), cords, rest)
     where
       at-cord : (ℕ → ℕ → ℕ → List ℕ) → ℕ → List ℕ
-      at-cord by m = by (m + 1) (nodeAt s.cords m) (c + m)
+      at-cord by m = by (m + 1) (node_at s.cords m) (c + m)
 
 -- What stands at the front of a list that has it there.
 at_front : (list output : List ℕ) (k : ℕ) → k < length output → length output ≤ length list
@@ -127,14 +127,14 @@ at_front list output k h l =
 
 -- A plan whose figures stand at the front of longer lists: for each cord the same line, and the same print.
 module _ (r : Room) (freed : ℕ) (caps grants headroom held list list' list'' list''' : List ℕ) (hc : length caps ≡ length r.servers)
-    (hg : length grants ≡ roomCords r) (hh : length headroom ≡ roomCords r) (hd : length held ≡ roomCords r)
+    (hg : length grants ≡ room_cords r) (hh : length headroom ≡ room_cords r) (hd : length held ≡ room_cords r)
     (lc : length caps ≤ length list) (lg : length grants ≤ length list') (lh : length headroom ≤ length list'') (ld : length held ≤ length list''') where
-  line-front : (number node k : ℕ) → k < roomCords r → planLine (sets list' 0 grants) (sets list'' 0 headroom) (sets list''' 0 held) number node k ≡ planLine grants headroom held number node k
+  line-front : (number node k : ℕ) → k < room_cords r → plan_line (sets list' 0 grants) (sets list'' 0 headroom) (sets list''' 0 held) number node k ≡ plan_line grants headroom held number node k
   line-front number node k h = rw (at_front list' grants k (omega arith) lg, at_front list'' headroom k (omega arith) lh, at_front list''' held k (omega arith) ld)
 
-  pub printOf-front : printOf freed r.servers (sets list 0 caps) (sets list' 0 grants) (sets list'' 0 headroom) (sets list''' 0 held) ≡ printOf freed r.servers caps grants headroom held
-  unfolding printOf
-  printOf-front =
-      ap (λ (l : List ℕ). freedLine freed ++ l)
-      (serversPrint-same (sets list 0 caps) caps (planLine (sets list' 0 grants) (sets list'' 0 headroom) (sets list''' 0 held)) (planLine grants headroom held) 0 0 r.servers
+  pub print_of-front : print_of freed r.servers (sets list 0 caps) (sets list' 0 grants) (sets list'' 0 headroom) (sets list''' 0 held) ≡ print_of freed r.servers caps grants headroom held
+  unfolding print_of
+  print_of-front =
+      ap (λ (l : List ℕ). freed_line freed ++ l)
+      (servers_print-same (sets list 0 caps) caps (plan_line (sets list' 0 grants) (sets list'' 0 headroom) (sets list''' 0 held)) (plan_line grants headroom held) 0 0 r.servers
       (λ k h. at_front list caps k (omega arith) lc) (λ number node k h. line-front number node k (omega arith)))

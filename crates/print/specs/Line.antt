@@ -13,35 +13,35 @@ decimal n = numeral 20 n
 
 -- The words of the lines, with their spaces: `freed `, `server `, ` cap `, `cord `, ` node `, ` grant `, ` headroom `, ` held `,
 -- `refused `, ` at `.
-abbrev pub freedWord : List ℕ
-freedWord = 102 ∷ 114 ∷ 101 ∷ 101 ∷ 100 ∷ 32 ∷ []
+abbrev pub freed_word : List ℕ
+freed_word = 102 ∷ 114 ∷ 101 ∷ 101 ∷ 100 ∷ 32 ∷ []
 
-abbrev pub serverWord : List ℕ
-serverWord = 115 ∷ 101 ∷ 114 ∷ 118 ∷ 101 ∷ 114 ∷ 32 ∷ []
+abbrev pub server_word : List ℕ
+server_word = 115 ∷ 101 ∷ 114 ∷ 118 ∷ 101 ∷ 114 ∷ 32 ∷ []
 
-abbrev pub capWord : List ℕ
-capWord = 32 ∷ 99 ∷ 97 ∷ 112 ∷ 32 ∷ []
+abbrev pub cap_word : List ℕ
+cap_word = 32 ∷ 99 ∷ 97 ∷ 112 ∷ 32 ∷ []
 
-abbrev pub cordWord : List ℕ
-cordWord = 99 ∷ 111 ∷ 114 ∷ 100 ∷ 32 ∷ []
+abbrev pub cord_word : List ℕ
+cord_word = 99 ∷ 111 ∷ 114 ∷ 100 ∷ 32 ∷ []
 
-abbrev pub nodeWord : List ℕ
-nodeWord = 32 ∷ 110 ∷ 111 ∷ 100 ∷ 101 ∷ 32 ∷ []
+abbrev pub node_word : List ℕ
+node_word = 32 ∷ 110 ∷ 111 ∷ 100 ∷ 101 ∷ 32 ∷ []
 
-abbrev pub grantWord : List ℕ
-grantWord = 32 ∷ 103 ∷ 114 ∷ 97 ∷ 110 ∷ 116 ∷ 32 ∷ []
+abbrev pub grant_word : List ℕ
+grant_word = 32 ∷ 103 ∷ 114 ∷ 97 ∷ 110 ∷ 116 ∷ 32 ∷ []
 
-abbrev pub headroomWord : List ℕ
-headroomWord = 32 ∷ 104 ∷ 101 ∷ 97 ∷ 100 ∷ 114 ∷ 111 ∷ 111 ∷ 109 ∷ 32 ∷ []
+abbrev pub headroom_word : List ℕ
+headroom_word = 32 ∷ 104 ∷ 101 ∷ 97 ∷ 100 ∷ 114 ∷ 111 ∷ 111 ∷ 109 ∷ 32 ∷ []
 
-abbrev pub heldWord : List ℕ
-heldWord = 32 ∷ 104 ∷ 101 ∷ 108 ∷ 100 ∷ 32 ∷ []
+abbrev pub held_word : List ℕ
+held_word = 32 ∷ 104 ∷ 101 ∷ 108 ∷ 100 ∷ 32 ∷ []
 
-abbrev pub refusedWord : List ℕ
-refusedWord = 114 ∷ 101 ∷ 102 ∷ 117 ∷ 115 ∷ 101 ∷ 100 ∷ 32 ∷ []
+abbrev pub refused_word : List ℕ
+refused_word = 114 ∷ 101 ∷ 102 ∷ 117 ∷ 115 ∷ 101 ∷ 100 ∷ 32 ∷ []
 
-abbrev pub atWord : List ℕ
-atWord = 32 ∷ 97 ∷ 116 ∷ 32 ∷ []
+abbrev pub at_word : List ℕ
+at_word = 32 ∷ 97 ∷ 116 ∷ 32 ∷ []
 
 abbrev pub newline : List ℕ
 newline = 10 ∷ []
@@ -51,26 +51,26 @@ unfoldable pub labelled : List ℕ → ℕ → List ℕ
 labelled word figure = word ++ decimal figure
 
 -- `freed F`.
-unfoldable pub freedLine : ℕ → List ℕ
+unfoldable pub freed_line : ℕ → List ℕ
 unfolding labelled
-freedLine watts = labelled freedWord watts ++ newline
+freed_line watts = labelled freed_word watts ++ newline
 
 -- `server N cap W`.
-unfoldable pub serverLine : ℕ → ℕ → List ℕ
+unfoldable pub server_line : ℕ → ℕ → List ℕ
 unfolding labelled
-serverLine number cap = labelled serverWord number ++ (labelled capWord cap ++ newline)
+server_line number cap = labelled server_word number ++ (labelled cap_word cap ++ newline)
 
 -- `cord K node M grant G headroom W held B`.
-unfoldable pub cordLine : ℕ → ℕ → ℕ → ℕ → ℕ → List ℕ
+unfoldable pub cord_line : ℕ → ℕ → ℕ → ℕ → ℕ → List ℕ
 unfolding labelled
-cordLine number node grant headroom held =
-    labelled cordWord number
-    ++ (labelled nodeWord node ++ (labelled grantWord grant ++ (labelled headroomWord headroom ++ (labelled heldWord held ++ newline))))
+cord_line number node grant headroom held =
+    labelled cord_word number
+    ++ (labelled node_word node ++ (labelled grant_word grant ++ (labelled headroom_word headroom ++ (labelled held_word held ++ newline))))
 
 -- `refused R at P`.
-unfoldable pub refusedLine : ℕ → ℕ → List ℕ
+unfoldable pub refused_line : ℕ → ℕ → List ℕ
 unfolding labelled
-refusedLine number place = labelled refusedWord number ++ (labelled atWord place ++ newline)
+refused_line number place = labelled refused_word number ++ (labelled at_word place ++ newline)
 
 -- A text is put into a buffer from a place on: as much of it as fits stands there, the rest of the buffer is as it was,
 -- and the next place is past what stands there.

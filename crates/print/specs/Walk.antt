@@ -3,30 +3,30 @@
 -- and a server may have.
 use Rattle.std.specs.Prelude.{List, [], ◌++◌, ℕ, zero, suc, ◌+◌, min, length}
 use Rattle.figures.specs.Figures.{cell}
-use Rattle.rooms.specs.Table.{mostServers, mostServerCords}
-use Rattle.rooms.specs.Rows.{cordCountColumn, nodeColumn}
-use Rattle.print.specs.Line.{freedLine}
-use Rattle.print.specs.Print.{at, serverPrint, planLine}
+use Rattle.rooms.specs.Table.{most_servers, most_server_cords}
+use Rattle.rooms.specs.Rows.{cord_count_column, node_column}
+use Rattle.print.specs.Line.{freed_line}
+use Rattle.print.specs.Print.{at, server_print, plan_line}
 
 -- The line of the cord at place k of those whose rows start at place c, by how a cord's line is made of its number, its node and its place.
-abbrev pub cordLineAt : List (List ℕ) → (ℕ → ℕ → ℕ → List ℕ) → ℕ → ℕ → List ℕ
-cordLineAt cords line c k = line (k + 1) (cell cords (c + k) nodeColumn) (c + k)
+abbrev pub cord_line_at : List (List ℕ) → (ℕ → ℕ → ℕ → List ℕ) → ℕ → ℕ → List ℕ
+cord_line_at cords line c k = line (k + 1) (cell cords (c + k) node_column) (c + k)
 
 -- The count of cords of the server at a place.
-abbrev pub cordsAt : List (List ℕ) → ℕ → ℕ
-cordsAt servers v = min (cell servers v cordCountColumn) mostServerCords
+abbrev pub cords_at : List (List ℕ) → ℕ → ℕ
+cords_at servers v = min (cell servers v cord_count_column) most_server_cords
 
 -- So many servers from place v on, whose cords start at place c.
-unfoldable pub serversAt : List (List ℕ) → List (List ℕ) → List ℕ → (ℕ → ℕ → ℕ → List ℕ) → ℕ → ℕ → ℕ → List ℕ
-serversAt servers cords caps line zero v c = []
-serversAt servers cords caps line (suc left) v c =
-    serverPrint (v + 1) (at caps v) (cordsAt servers v) (cordLineAt cords line c)
-    ++ serversAt servers cords caps line left (v + 1) (c + cordsAt servers v)
+unfoldable pub servers_at : List (List ℕ) → List (List ℕ) → List ℕ → (ℕ → ℕ → ℕ → List ℕ) → ℕ → ℕ → ℕ → List ℕ
+servers_at servers cords caps line zero v c = []
+servers_at servers cords caps line (suc left) v c =
+    server_print (v + 1) (at caps v) (cords_at servers v) (cord_line_at cords line c)
+    ++ servers_at servers cords caps line left (v + 1) (c + cords_at servers v)
 
 -- All servers.
-abbrev pub walkPrint : List (List ℕ) → List (List ℕ) → List ℕ → (ℕ → ℕ → ℕ → List ℕ) → List ℕ
-walkPrint servers cords caps line = serversAt servers cords caps line (min (length servers) mostServers) 0 0
+abbrev pub walk_print : List (List ℕ) → List (List ℕ) → List ℕ → (ℕ → ℕ → ℕ → List ℕ) → List ℕ
+walk_print servers cords caps line = servers_at servers cords caps line (min (length servers) most_servers) 0 0
 
 -- The print of a plan.
-unfoldable pub planPrint : ℕ → List (List ℕ) → List (List ℕ) → (caps grants headroom held : List ℕ) → List ℕ
-planPrint freed servers cords caps grants headroom held = freedLine freed ++ walkPrint servers cords caps (planLine grants headroom held)
+unfoldable pub plan_print : ℕ → List (List ℕ) → List (List ℕ) → (caps grants headroom held : List ℕ) → List ℕ
+plan_print freed servers cords caps grants headroom held = freed_line freed ++ walk_print servers cords caps (plan_line grants headroom held)

@@ -1,13 +1,13 @@
 // What `hutplan` prints, in bytes.
 ghost use Rattle.std.specs.Prelude.{◌≡◌, ◌^◌, ◌≤◌, ◌<◌, length};
 ghost use Rattle.io.specs.Counts.{IsPrefixLen};
-ghost use Rattle.print.specs.Line.{decimal, labelled, freedLine, serverLine, cordLine, refusedLine, Put};
-ghost use Rattle.print.specs.Print.{lines_from, at, planLine, printOf};
-ghost use Rattle.print.specs.Walk.{cordLineAt, walkPrint, planPrint};
+ghost use Rattle.print.specs.Line.{decimal, labelled, freed_line, server_line, cord_line, refused_line, Put};
+ghost use Rattle.print.specs.Print.{lines_from, at, plan_line, print_of};
+ghost use Rattle.print.specs.Walk.{cord_line_at, walk_print, plan_print};
 ghost use Rattle.figures.specs.Figures.{cell};
 ghost use Rattle.rooms.specs.Part.{Good};
 ghost use Rattle.rooms.specs.Limits.{checked};
-ghost use Rattle.rooms.specs.Rows.{OfRoom, ServersFit, CordsFit, nodeColumn};
+ghost use Rattle.rooms.specs.Rows.{OfRoom, ServersFit, CordsFit, node_column};
 
 use figures::counts::least;
 use figures::{index, word_index};
@@ -26,7 +26,7 @@ pub fn plan(
 ) -> usize
     requires good { Good (checked table.now 0) }
     ensures put { OfRoom table.now (λ room. Put buffer.old 0 buffer.new result
-        (printOf freed room.servers caps.now grants.now headroom.now held.now)) }
+        (print_of freed room.servers caps.now grants.now headroom.now held.now)) }
     ensures counts { IsPrefixLen result buffer.new }
 {
     let mut servers = [[0u32; 4]; MOST_SERVERS];
@@ -61,7 +61,7 @@ fn plan_by(
     requires good { Good (checked table.now 0) }
     requires sizes { ServersFit table.now (length servers.old) × CordsFit table.now (length cords.old) }
     ensures put { OfRoom table.now (λ room. Put buffer.old 0 buffer.new result
-        (printOf freed room.servers caps.now grants.now headroom.now held.now)) }
+        (print_of freed room.servers caps.now grants.now headroom.now held.now)) }
     ensures counts { IsPrefixLen result buffer.new }
 {
     rooms::lists::lay_out_servers(table, servers, cords);
@@ -80,7 +80,7 @@ fn put_plan(
     buffer: &mut [u8],
 ) -> usize
     ensures put { Put buffer.old 0 buffer.new result
-        (planPrint freed servers.now cords.now caps.now grants.now headroom.now
+        (plan_print freed servers.now cords.now caps.now grants.now headroom.now
         held.now) }
     ensures counts { IsPrefixLen result buffer.new }
 {
@@ -90,7 +90,7 @@ fn put_plan(
 
 // The print of a refusal, at the front of the buffer: as much as fits. The result is how many bytes that is.
 pub fn refusal(number: u64, place: usize, buffer: &mut [u8]) -> usize
-    ensures put { Put buffer.old 0 buffer.new result (refusedLine number place) }
+    ensures put { Put buffer.old 0 buffer.new result (refused_line number place) }
     ensures counts { IsPrefixLen result buffer.new }
 {
     let a = put_figure(b"refused ", number as usize, buffer, 0);
@@ -111,8 +111,8 @@ fn put_servers(
 ) -> usize
     requires start { start ≤ length buffer.old }
     ensures put { Put buffer.old start buffer.new result
-        (walkPrint servers.now cords.now caps.now
-        (planLine grants.now headroom.now held.now)) }
+        (walk_print servers.now cords.now caps.now
+        (plan_line grants.now headroom.now held.now)) }
 {
     let count = least(servers.len(), MOST_SERVERS);
     let mut first = 0usize;
@@ -140,7 +140,7 @@ fn put_cords(
 ) -> usize
     requires in_range { (count ≤ 4) × (first < 2 ^ 34) × (start ≤ length buffer.old) }
     ensures put { Put buffer.old start buffer.new result
-        (lines_from count 0 (cordLineAt cords.now (planLine grants.now headroom.now held.now) first)) }
+        (lines_from count 0 (cord_line_at cords.now (plan_line grants.now headroom.now held.now) first)) }
 {
     let mut next = start;
     for k in 0..count {
@@ -160,7 +160,7 @@ fn put_cords(
 
 // The node of the cord at a place; 0 past the last.
 fn node(cords: &[[u16; 4]], place: usize) -> usize
-    ensures result { result ≡ cell cords.now place nodeColumn }
+    ensures result { result ≡ cell cords.now place node_column }
 {
     if place < cords.len() {
         index(cords[place][NODE])
@@ -172,7 +172,7 @@ fn node(cords: &[[u16; 4]], place: usize) -> usize
 // `freed F`.
 fn put_freed(watts: usize, buffer: &mut [u8], start: usize) -> usize
     requires start { start ≤ length buffer.old }
-    ensures put { Put buffer.old start buffer.new result (freedLine watts) }
+    ensures put { Put buffer.old start buffer.new result (freed_line watts) }
 {
     let a = put_figure(b"freed ", watts, buffer, start);
     put(b"\n", buffer, a)
@@ -181,7 +181,7 @@ fn put_freed(watts: usize, buffer: &mut [u8], start: usize) -> usize
 // `server N cap W`.
 fn put_server(number: usize, cap: usize, buffer: &mut [u8], start: usize) -> usize
     requires start { start ≤ length buffer.old }
-    ensures put { Put buffer.old start buffer.new result (serverLine number cap) }
+    ensures put { Put buffer.old start buffer.new result (server_line number cap) }
 {
     let a = put_figure(b"server ", number, buffer, start);
     let b = put_figure(b" cap ", cap, buffer, a);
@@ -199,7 +199,7 @@ fn put_cord(
     start: usize,
 ) -> usize
     requires start { start ≤ length buffer.old }
-    ensures put { Put buffer.old start buffer.new result (cordLine number node grant headroom held) }
+    ensures put { Put buffer.old start buffer.new result (cord_line number node grant headroom held) }
 {
     let a = put_figure(b"cord ", number, buffer, start);
     let b = put_figure(b" node ", node, buffer, a);

@@ -1,7 +1,7 @@
 -- Which release the code is of, and the C call that tells it.
 use Rattle.std.specs.Prelude.{List, [], ◌∷◌, ℕ, ◌+◌, ◌-◌, ◌*◌, get_or}
 use Rattle.calls.specs.Call.{Call}
-use Rattle.rooms.specs.Table.{newestVersion}
+use Rattle.rooms.specs.Table.{newest_version}
 
 -- The number that four digits are in decimal, each a byte of text ("0" is 48).
 abbrev pub decimal : (a b c d : ℕ) → ℕ
@@ -16,9 +16,9 @@ mark =
     ∷ 32 ∷ 98 ∷ 121 ∷ 32 ∷ 89 ∷ 101 ∷ 114 ∷ 107 ∷ 111 ∷ 122 ∷ 97 ∷ 110 ∷ []
 
 -- The number of the release: the four digits of the mark.
-abbrev pub releaseNumber : ℕ
-releaseNumber = decimal (get_or mark 16 0) (get_or mark 17 0) (get_or mark 18 0) (get_or mark 19 0)
+abbrev pub release_number : ℕ
+release_number = decimal (get_or mark 16 0) (get_or mark 17 0) (get_or mark 18 0) (get_or mark 19 0)
 
 -- Release, called from C: 0, the number of the release, and the newest version of the sheet that is read. No other buffer is lent.
 abbrev pub ReleaseCall : (answer : List ℕ) (r : ℕ) (answer' : List ℕ) → Type 0
-ReleaseCall answer r answer' = Call 3 (0 ∷ releaseNumber ∷ newestVersion ∷ []) answer (λ _. Unit {0}) r answer'
+ReleaseCall answer r answer' = Call 3 (0 ∷ release_number ∷ newest_version ∷ []) answer (λ _. Unit {0}) r answer'

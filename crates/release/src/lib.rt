@@ -2,7 +2,7 @@
 // call, so that it can be found in a unit's image.
 ghost use Rattle.std.specs.Prelude.{◌≡◌, ◌≤◌, ◌<◌, length, take, get_or};
 ghost use Rattle.std.proofs.lemmas.List.Edits.{sets};
-ghost use Rattle.release.specs.Release.{mark, decimal, releaseNumber, ReleaseCall};
+ghost use Rattle.release.specs.Release.{mark, decimal, release_number, ReleaseCall};
 
 use calls::LONG_ANSWER_BYTES;
 
@@ -29,7 +29,7 @@ pub fn release_bytes(answer: &mut [u8]) -> u32
 fn release_number(seen: usize) -> u64
     requires enough { 20 ≤ seen }
     requires within { seen ≤ 32 }
-    ensures result { result ≡ releaseNumber }
+    ensures result { result ≡ release_number }
 {
     let mut text = [0u8; MARK_BYTES];
     show_mark(seen, &mut text);

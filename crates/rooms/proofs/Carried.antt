@@ -3,7 +3,7 @@ use mathlib.Core.Path.{◌≡◌, sym, ◌∙◌}
 use Prim.Native.Nat.{ℕ, suc, ◌+◌, ◌*◌, ◌-◌, ◌/◌, ◌≤◌, ◌<◌}
 use native.Mathlib.Nat.{mul-le-mul, mul-le-mul_left, mul-le-mul_right, div-lt_iff_lt-mul, mul_comm}
 use native.Mathlib.Omega.{arith}
-use Rattle.rooms.specs.Table.{Node, IsScale, mostScale, mostWatts}
+use Rattle.rooms.specs.Table.{Node, IsScale, most_scale, most_watts}
 use Rattle.rooms.specs.Limits.{limit, carried}
 
 -- A cord carries no more than its grant where its share of the load is within the scale's of the grant.
@@ -20,13 +20,13 @@ carried-most scale share load h q = carried-le scale share load load h (mul-le-m
 -- ---- In the code's terms: x, y and z are the share, the load and the scale, in 64 bits
 
 -- A share of a load is far below 2^64.
-pub product-most : {share load scale x y : ℕ} → x ≡ share → y ≡ load → IsScale scale × (share ≤ scale) × (load ≤ mostWatts) → x * y ≤ mostScale * mostWatts
+pub product-most : {share load scale x y : ℕ} → x ≡ share → y ≡ load → IsScale scale × (share ≤ scale) × (load ≤ most_watts) → x * y ≤ most_scale * most_watts
 product-most {share = share} ex ey ok =
-    let most : share ≤ mostScale = omega (arith, ok.0, ok.1) in
+    let most : share ≤ most_scale = omega (arith, ok.0, ok.1) in
     rw (ex, ey) (mul-le-mul most ok.2)
 
-pub quotient-most : {share load scale x y z : ℕ} → x ≡ share → y ≡ load → z ≡ scale → IsScale scale × (share ≤ scale) × (load ≤ mostWatts)
-    → (k : ℕ) → k ≡ scale → (x * y + (z - 1)) / k ≤ mostWatts
+pub quotient-most : {share load scale x y z : ℕ} → x ≡ share → y ≡ load → z ≡ scale → IsScale scale × (share ≤ scale) × (load ≤ most_watts)
+    → (k : ℕ) → k ≡ scale → (x * y + (z - 1)) / k ≤ most_watts
 quotient-most {share} {load} {scale} ex ey ez ok k e = rw (ex, ey, ez, e) (omega (arith, carried-most scale share load ok.0.0 ok.1, ok.2))
 
 -- A quotient by the scale, by whatever name.

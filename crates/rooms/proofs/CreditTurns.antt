@@ -7,10 +7,10 @@ use native.Mathlib.Nat.{suc-ne-zero, mul-suc}
 use lib.ListN.{length, get_or}
 use Rattle.figures.specs.Sums.{sum}
 use Rattle.rooms.specs.Part.{Step, good, bad, Part, follow, many, word, within}
-use Rattle.rooms.specs.Table.{Cord, Server, Range, IsScale, mostWatts, mostServerCords, highestRank, cord, cords, range, load, server, servers, share_of, cordCount}
+use Rattle.rooms.specs.Table.{Cord, Server, Range, IsScale, most_watts, most_server_cords, highest_rank, cord, cords, range, load, server, servers, share_of, cord_count}
 use Rattle.rooms.specs.Limits.{low, carried}
 use Rattle.figures.specs.Credits.{credited}
-use Rattle.rooms.specs.Credits.{creditedCords, creditedServer, creditedServers, LowsCredited}
+use Rattle.rooms.specs.Credits.{credited_cords, credited_server, credited_servers, LowsCredited}
 use Rattle.figures.specs.Figures.{at}
 use Rattle.rooms.specs.Told.{told}
 use Rattle.rooms.specs.declared.SheetRefusal.{SheetRefusal}
@@ -22,20 +22,20 @@ use Rattle.rooms.proofs.Carried.{carried-most}
 use Rattle.figures.proofs.Credits.{credited-length, sum-credited, figure-in-sum}
 
 -- Where a part is refused, nothing is claimed of the sums.
-pub credits-refused : {A : Type 0} (f : A → ℕ) (s : Step A) {credit : A → List ℕ → List ℕ} {nodeCount most : ℕ} {sums sums' : List ℕ} {r : Checked} {q : SheetRefusal}
-    → r ≡ told f s → r ≡ Refused q → LowsCredited s credit nodeCount most sums sums'
+pub credits-refused : {A : Type 0} (f : A → ℕ) (s : Step A) {credit : A → List ℕ → List ℕ} {node_count most : ℕ} {sums sums' : List ℕ} {r : Checked} {q : SheetRefusal}
+    → r ≡ told f s → r ≡ Refused q → LowsCredited s credit node_count most sums sums'
 unfolding told
 credits-refused f (good a j) d e = absurd (suc-ne-zero 0 (cc))
 credits-refused f (bad m) d e = record { are = λ a j is. absurd (suc-ne-zero 0 (cc)); grow = λ a j is. absurd (suc-ne-zero 0 (cc)) }
 
-pub stopped : {A : Type 0} (f : A → ℕ) (s : Step A) {credit : A → List ℕ → List ℕ} {nodeCount most : ℕ} {sums sums' : List ℕ} {r : Checked} {q : SheetRefusal}
-    → r ≡ told f s → r ≡ Refused q → (r ≡ told f s) × LowsCredited s credit nodeCount most sums sums'
+pub stopped : {A : Type 0} (f : A → ℕ) (s : Step A) {credit : A → List ℕ → List ℕ} {node_count most : ℕ} {sums sums' : List ℕ} {r : Checked} {q : SheetRefusal}
+    → r ≡ told f s → r ≡ Refused q → (r ≡ told f s) × LowsCredited s credit node_count most sums sums'
 stopped f s d e = (d, credits-refused f s d e)
 
 -- The sums before are known by another name.
-pub credits-from : {A : Type 0} {s : Step A} {credit : A → List ℕ → List ℕ} {nodeCount most : ℕ} {sums start sums' : List ℕ} → sums ≡ start
-    → LowsCredited s credit nodeCount most sums sums' → LowsCredited s credit nodeCount most start sums'
-credits-from {s = s} {credit = credit} {nodeCount = nodeCount} {most = most} {sums' = sums'} e = subst (λ (l : List ℕ). LowsCredited s credit nodeCount most l sums') e
+pub credits-from : {A : Type 0} {s : Step A} {credit : A → List ℕ → List ℕ} {node_count most : ℕ} {sums start sums' : List ℕ} → sums ≡ start
+    → LowsCredited s credit node_count most sums sums' → LowsCredited s credit node_count most start sums'
+credits-from {s = s} {credit = credit} {node_count = node_count} {most = most} {sums' = sums'} e = subst (λ (l : List ℕ). LowsCredited s credit node_count most l sums') e
 
 -- ---- A row of any parts
 
@@ -46,21 +46,21 @@ row_of (bad refusal) = []
 
 -- Before the next of `left` parts from index j on: the parts that are left, if they are good, credited to the sums as they stand, give
 -- the whole row's credits. Each adds at most `most` to the sum of all figures.
-pub record Crediting {A : Type 0} (part : ℕ → Part A) (next : ℕ → A → ℕ) (credits : List A → List ℕ → List ℕ) (nodeCount most : ℕ) (w goal : List ℕ)
+pub record Crediting {A : Type 0} (part : ℕ → Part A) (next : ℕ → A → ℕ) (credits : List A → List ℕ → List ℕ) (node_count most : ℕ) (w goal : List ℕ)
     (size bound left given j : ℕ) (sums : List ℕ) : Type 0 where
   pub same : (rest : List A) (end : ℕ) → many left part next given w j ≡ good rest end → credits rest sums ≡ goal
   pub length-is : length sums ≡ size
-  pub sum_is : sum nodeCount (at sums) + most * left ≤ bound
+  pub sum_is : sum node_count (at sums) + most * left ≤ bound
 
-pub crediting-start : {A : Type 0} {part : ℕ → Part A} {next : ℕ → A → ℕ} (credits : List A → List ℕ → List ℕ) (nodeCount most : ℕ) {w : List ℕ} {count i : ℕ} (given : ℕ) (sums : List ℕ)
-    → Crediting part next credits nodeCount most w (credits (row_of (many count part next given w i)) sums) (length sums) (sum nodeCount (at sums) + most * count) count given i sums
-crediting-start {A} credits nodeCount most given sums =
+pub crediting-start : {A : Type 0} {part : ℕ → Part A} {next : ℕ → A → ℕ} (credits : List A → List ℕ → List ℕ) (node_count most : ℕ) {w : List ℕ} {count i : ℕ} (given : ℕ) (sums : List ℕ)
+    → Crediting part next credits node_count most w (credits (row_of (many count part next given w i)) sums) (length sums) (sum node_count (at sums) + most * count) count given i sums
+crediting-start {A} credits node_count most given sums =
     record { same = λ rest end e. sym (ap (λ (s : Step (List A)). credits (row_of s) sums) e); length-is = refl; sum_is = omega arith }
 
-module _ {A : Type 0} {part : ℕ → Part A} {next : ℕ → A → ℕ} {credits : List A → List ℕ → List ℕ} {nodeCount most : ℕ} {w : List ℕ} where
+module _ {A : Type 0} {part : ℕ → Part A} {next : ℕ → A → ℕ} {credits : List A → List ℕ → List ℕ} {node_count most : ℕ} {w : List ℕ} where
   crediting-end : ((l : List ℕ) → credits [] l ≡ l) → (count given₀ i : ℕ) (sums₀ : List ℕ) {size left given j : ℕ} {sums : List ℕ}
-      → Crediting part next credits nodeCount most w (credits (row_of (many count part next given₀ w i)) sums₀) size (sum nodeCount (at sums₀) + most * count) left given j sums
-      → left ≤ 0 → LowsCredited (many count part next given₀ w i) credits nodeCount (most * count) sums₀ sums
+      → Crediting part next credits node_count most w (credits (row_of (many count part next given₀ w i)) sums₀) size (sum node_count (at sums₀) + most * count) left given j sums
+      → left ≤ 0 → LowsCredited (many count part next given₀ w i) credits node_count (most * count) sums₀ sums
   unfolding many
   crediting-end none count given₀ i sums₀ {left = zero} {j = j} {sums = sums} c z = record {
     are = λ a k e. sym (none sums) ∙ c.same [] j refl ∙ ap (λ (s : Step (List A)). credits (row_of s) sums₀) e;
@@ -69,10 +69,10 @@ module _ {A : Type 0} {part : ℕ → Part A} {next : ℕ → A → ℕ} {credit
   crediting-end none count given₀ i sums₀ {left = suc l} c z = absurd (omega arith)
 
   crediting-turn : (credit : A → List ℕ → List ℕ) → ((a : A) (rest : List A) (l : List ℕ) → credits (a ∷ rest) l ≡ credits rest (credit a l))
-      → {goal : List ℕ} {size bound left given j : ℕ} {sums : List ℕ} → Crediting part next credits nodeCount most w goal size bound left given j sums → 0 < left
+      → {goal : List ℕ} {size bound left given j : ℕ} {sums : List ℕ} → Crediting part next credits node_count most w goal size bound left given j sums → 0 < left
       → {value : A} {after given' : ℕ} {sums' : List ℕ} → part given w j ≡ good value after → next given value ≡ given'
-      → sums' ≡ credit value sums → length sums' ≡ length sums → sum nodeCount (at sums') ≤ sum nodeCount (at sums) + most
-      → Crediting part next credits nodeCount most w goal size bound (left - 1) given' after sums'
+      → sums' ≡ credit value sums → length sums' ≡ length sums → sum node_count (at sums') ≤ sum node_count (at sums) + most
+      → Crediting part next credits node_count most w goal size bound (left - 1) given' after sums'
   unfolding many follow
   crediting-turn credit some {left = zero} c z is en es el em = absurd (omega arith)
   crediting-turn credit some {left = suc l} {given = given} {j = j} {sums = sums} c z {value} {after} {given'} {sums'} is en es el em =
@@ -90,59 +90,59 @@ module _ {A : Type 0} {part : ℕ → Part A} {next : ℕ → A → ℕ} {credit
 -- ---- The cords of a server
 
 abbrev pub CordsCrediting : ℕ → ℕ → ℕ → List ℕ → List ℕ → ℕ → ℕ → ℕ → ℕ → List ℕ → Type 0
-CordsCrediting scale nodeCount least w goal size bound left j =
-    Crediting (λ _. cord scale nodeCount) (λ given _. given) (creditedCords scale least) nodeCount mostWatts w goal size bound left 0 j
+CordsCrediting scale node_count least w goal size bound left j =
+    Crediting (λ _. cord scale node_count) (λ given _. given) (credited_cords scale least) node_count most_watts w goal size bound left 0 j
 
 -- The cord that is found good, in the terms of the code.
-pub record NextCord (scale nodeCount least : ℕ) (w goal : List ℕ) (size bound left j : ℕ) (sums : List ℕ) (share after : ℕ) : Type 0 where
+pub record NextCord (scale node_count least : ℕ) (w goal : List ℕ) (size bound left j : ℕ) (sums : List ℕ) (share after : ℕ) : Type 0 where
   pub there : j < length w
-  pub node-most : get_or w j 0 ≤ nodeCount
+  pub node-most : get_or w j 0 ≤ node_count
   pub share-most : share ≤ scale
-  pub fits : IsScale scale → least ≤ mostWatts → bound < 2 ^ 63
+  pub fits : IsScale scale → least ≤ most_watts → bound < 2 ^ 63
       → (node figure : ℕ) → node ≡ get_or w j 0 → figure ≡ carried scale share least → get_or sums (node - 1) 0 + figure < 2 ^ 64
-  pub turn : IsScale scale → least ≤ mostWatts → nodeCount ≤ size
+  pub turn : IsScale scale → least ≤ most_watts → node_count ≤ size
       → (node figure : ℕ) (sums' : List ℕ) → node ≡ get_or w j 0 → figure ≡ carried scale share least → sums' ≡ credited node figure sums
-      → CordsCrediting scale nodeCount least w goal size bound (left - 1) after sums'
+      → CordsCrediting scale node_count least w goal size bound (left - 1) after sums'
 
-module _ {nodeCount : ℕ} (scale least : ℕ) {w : List ℕ} where
+module _ {node_count : ℕ} (scale least : ℕ) {w : List ℕ} where
   pub cords-end : (count i : ℕ) (sums₀ : List ℕ) {size left j : ℕ} {sums : List ℕ}
-      → CordsCrediting scale nodeCount least w (creditedCords scale least (row_of (cords scale nodeCount count w i)) sums₀) size (sum nodeCount (at sums₀) + mostWatts * count) left j sums → left ≤ 0
-      → LowsCredited (cords scale nodeCount count w i) (creditedCords scale least) nodeCount (mostWatts * count) sums₀ sums
-  unfolding creditedCords
+      → CordsCrediting scale node_count least w (credited_cords scale least (row_of (cords scale node_count count w i)) sums₀) size (sum node_count (at sums₀) + most_watts * count) left j sums → left ≤ 0
+      → LowsCredited (cords scale node_count count w i) (credited_cords scale least) node_count (most_watts * count) sums₀ sums
+  unfolding credited_cords
   cords-end count i sums₀ = crediting-end (λ l. refl) count 0 i sums₀
 
-  pub next-cord : {goal : List ℕ} {size bound left j : ℕ} {sums : List ℕ} → CordsCrediting scale nodeCount least w goal size bound left j sums → 0 < left
-      → {r : Checked} {share after : ℕ} → r ≡ told share_of (cord scale nodeCount w j) → r ≡ Good share after → NextCord scale nodeCount least w goal size bound left j sums share after
-  unfolding creditedCords
+  pub next-cord : {goal : List ℕ} {size bound left j : ℕ} {sums : List ℕ} → CordsCrediting scale node_count least w goal size bound left j sums → 0 < left
+      → {r : Checked} {share after : ℕ} → r ≡ told share_of (cord scale node_count w j) → r ≡ Good share after → NextCord scale node_count least w goal size bound left j sums share after
+  unfolding credited_cords
   next-cord {j = j} {sums = sums} t z {share = share} {after = after} d e =
-      let a = known share_of (cord scale nodeCount w j) d e in
-      let c = cord-is scale nodeCount w j a.got after a.is in
+      let a = known share_of (cord scale node_count w j) d e in
+      let c = cord-is scale node_count w j a.got after a.is in
       let n : get_or w j 0 ≡ a.got.node = sym (ap (λ (x : Cord). x.node) c.is) in
-      let m : IsScale scale → least ≤ mostWatts → carried scale share least ≤ mostWatts
+      let m : IsScale scale → least ≤ most_watts → carried scale share least ≤ most_watts
       = λ s k. omega (arith, carried-most scale share least s.0 (omega (arith, c.share, a.figure))) in
       record {
         there = omega (arith, c.there);
         node-most = omega (arith, c.last);
         share-most = omega (arith, c.share, a.figure);
-        fits = λ s k b node figure en ef. omega (arith, m s k, figure-in-sum nodeCount (node - 1) sums (omega (arith, c.first, c.last)), t.sum_is);
+        fits = λ s k b node figure en ef. omega (arith, m s k, figure-in-sum node_count (node - 1) sums (omega (arith, c.first, c.last)), t.sum_is);
         turn = λ s k h node figure sums' en ef es. crediting-turn (λ c. credited c.node (low scale least c)) (λ a rest l. refl) t z a.is refl
             (es ∙ ap₂ (λ (x y : ℕ). credited x y sums) (en ∙ n) (ef ∙ ap (λ (x : ℕ). carried scale x least) (sym a.figure)))
             (ap length es ∙ credited-length node figure sums)
             (omega (
               arith,
               m s k,
-              ap (λ (l : List ℕ). sum nodeCount (at l)) es,
-              sum-credited nodeCount node figure sums (omega (arith, c.first)) (omega (arith, c.last)) (omega (arith, t.length-is)),
+              ap (λ (l : List ℕ). sum node_count (at l)) es,
+              sum-credited node_count node figure sums (omega (arith, c.first)) (omega (arith, c.last)) (omega (arith, t.length-is)),
             ));
       }
 
 -- A server's load credits what its cords do.
-pub load-credits : (scale nodeCount before start : ℕ) (w : List ℕ) (i least : ℕ) {count at-cords : ℕ} {sums sums' : List ℕ} → count ≡ get_or w i 0 → at-cords ≡ suc i → count ≤ mostServerCords
-    → LowsCredited (cords scale nodeCount count w at-cords) (creditedCords scale least) nodeCount (mostWatts * count) sums sums'
-    → LowsCredited (load scale nodeCount before start w i) (creditedCords scale least) nodeCount (mostServerCords * mostWatts) sums sums'
-load-credits scale nodeCount before start w i least counted begun few credits =
-    let cords-are : (a : List Cord) (j : ℕ) → load scale nodeCount before start w i ≡ good a j → cords scale nodeCount _ w _ ≡ good a j
-    = λ a j e. ap₂ (λ (k h : ℕ). cords scale nodeCount k w h) counted begun ∙ (load_is scale nodeCount before start w i a j e).are in
+pub load-credits : (scale node_count before start : ℕ) (w : List ℕ) (i least : ℕ) {count at-cords : ℕ} {sums sums' : List ℕ} → count ≡ get_or w i 0 → at-cords ≡ suc i → count ≤ most_server_cords
+    → LowsCredited (cords scale node_count count w at-cords) (credited_cords scale least) node_count (most_watts * count) sums sums'
+    → LowsCredited (load scale node_count before start w i) (credited_cords scale least) node_count (most_server_cords * most_watts) sums sums'
+load-credits scale node_count before start w i least counted begun few credits =
+    let cords-are : (a : List Cord) (j : ℕ) → load scale node_count before start w i ≡ good a j → cords scale node_count _ w _ ≡ good a j
+    = λ a j e. ap₂ (λ (k h : ℕ). cords scale node_count k w h) counted begun ∙ (load_is scale node_count before start w i a j e).are in
     record {
       are = λ a j e. credits.are a j (cords-are a j e);
       grow = λ a j e. omega (arith, credits.grow a j (cords-are a j e));
@@ -151,10 +151,10 @@ load-credits scale nodeCount before start w i least counted begun few credits =
 -- ---- The servers of a room
 
 -- A good server's load, after its rank and its range.
-pub server-load : (scale nodeCount before : ℕ) (w : List ℕ) (i : ℕ) {rank at-range : ℕ} {ends : Range} {at_load : ℕ} → word (within 1 highestRank) w i ≡ good rank at-range → range w at-range ≡ good ends at_load
-    → (s : Server) (j : ℕ) → server scale nodeCount before w i ≡ good s j → (load scale nodeCount before i w at_load ≡ good s.cords j) × (s.least ≡ ends.least)
+pub server-load : (scale node_count before : ℕ) (w : List ℕ) (i : ℕ) {rank at-range : ℕ} {ends : Range} {at_load : ℕ} → word (within 1 highest_rank) w i ≡ good rank at-range → range w at-range ≡ good ends at_load
+    → (s : Server) (j : ℕ) → server scale node_count before w i ≡ good s j → (load scale node_count before i w at_load ≡ good s.cords j) × (s.least ≡ ends.least)
 unfolding server
-server-load scale nodeCount before w i {at-range = at-range} {ends = ends} {at_load = at_load} ranked ranged s j e =
+server-load scale node_count before w i {at-range = at-range} {ends = ends} {at_load = at_load} ranked ranged s j e =
     let a = took _ _ _ _ (said _ _ _ _ _ e) in
     let b = took _ _ _ _ a.rest in
     let c = took _ _ _ _ b.rest in
@@ -164,38 +164,38 @@ server-load scale nodeCount before w i {at-range = at-range} {ends = ends} {at_l
     let h : at_load ≡ b.at = cc in
     let x : record { rank = a.got; least = b.got.least; greatest = b.got.greatest; cords = c.got } ≡ s = cc in
     let y : c.at ≡ j = cc in (
-      ap (load scale nodeCount before i w) h ∙ c.first ∙ ap₂ good (ap (λ (s : Server). s.cords) x) y,
+      ap (load scale node_count before i w) h ∙ c.first ∙ ap₂ good (ap (λ (s : Server). s.cords) x) y,
       sym (ap (λ (s : Server). s.least) x) ∙ ap (λ (g : Range). g.least) g,
     )
 
 -- A server credits what its load does, by its least.
-pub server-credits : (scale nodeCount before : ℕ) (w : List ℕ) (i : ℕ) {rank at-range : ℕ} {ends : Range} {at_load least : ℕ} {sums sums' : List ℕ}
-    → word (within 1 highestRank) w i ≡ good rank at-range → range w at-range ≡ good ends at_load → ends.least ≡ least
-    → LowsCredited (load scale nodeCount before i w at_load) (creditedCords scale least) nodeCount (mostServerCords * mostWatts) sums sums'
-    → LowsCredited (server scale nodeCount before w i) (creditedServer scale) nodeCount (mostServerCords * mostWatts) sums sums'
-server-credits scale nodeCount before w i {sums = sums} ranked ranged lowest credits =
+pub server-credits : (scale node_count before : ℕ) (w : List ℕ) (i : ℕ) {rank at-range : ℕ} {ends : Range} {at_load least : ℕ} {sums sums' : List ℕ}
+    → word (within 1 highest_rank) w i ≡ good rank at-range → range w at-range ≡ good ends at_load → ends.least ≡ least
+    → LowsCredited (load scale node_count before i w at_load) (credited_cords scale least) node_count (most_server_cords * most_watts) sums sums'
+    → LowsCredited (server scale node_count before w i) (credited_server scale) node_count (most_server_cords * most_watts) sums sums'
+server-credits scale node_count before w i {sums = sums} ranked ranged lowest credits =
     record {
       are = λ s j e.
-          let l = server-load scale nodeCount before w i ranked ranged s j e in
-          credits.are s.cords j l.0 ∙ ap (λ (x : ℕ). creditedCords scale x s.cords sums) (sym (l.1 ∙ lowest));
-      grow = λ s j e. credits.grow s.cords j (server-load scale nodeCount before w i ranked ranged s j e).0;
+          let l = server-load scale node_count before w i ranked ranged s j e in
+          credits.are s.cords j l.0 ∙ ap (λ (x : ℕ). credited_cords scale x s.cords sums) (sym (l.1 ∙ lowest));
+      grow = λ s j e. credits.grow s.cords j (server-load scale node_count before w i ranked ranged s j e).0;
     }
 
 abbrev pub ServersCrediting : ℕ → ℕ → List ℕ → List ℕ → ℕ → ℕ → ℕ → ℕ → ℕ → List ℕ → Type 0
-ServersCrediting scale nodeCount = Crediting (server scale nodeCount) (λ before s. before + cordCount s) (creditedServers scale) nodeCount (mostServerCords * mostWatts)
+ServersCrediting scale node_count = Crediting (server scale node_count) (λ before s. before + cord_count s) (credited_servers scale) node_count (most_server_cords * most_watts)
 
-module _ {nodeCount : ℕ} (scale : ℕ) {w : List ℕ} where
+module _ {node_count : ℕ} (scale : ℕ) {w : List ℕ} where
   pub servers-end : (count i : ℕ) (sums₀ : List ℕ) {size left before j : ℕ} {sums : List ℕ}
-      → ServersCrediting scale nodeCount w (creditedServers scale (row_of (servers scale nodeCount count 0 w i)) sums₀) size (sum nodeCount (at sums₀) + mostServerCords * mostWatts * count) left before j sums
-      → left ≤ 0 → LowsCredited (servers scale nodeCount count 0 w i) (creditedServers scale) nodeCount (mostServerCords * mostWatts * count) sums₀ sums
-  unfolding creditedServers
+      → ServersCrediting scale node_count w (credited_servers scale (row_of (servers scale node_count count 0 w i)) sums₀) size (sum node_count (at sums₀) + most_server_cords * most_watts * count) left before j sums
+      → left ≤ 0 → LowsCredited (servers scale node_count count 0 w i) (credited_servers scale) node_count (most_server_cords * most_watts * count) sums₀ sums
+  unfolding credited_servers
   servers-end count i sums₀ = crediting-end (λ l. refl) count 0 i sums₀
 
-  pub servers-turn : {goal : List ℕ} {size bound left before j : ℕ} {sums : List ℕ} → ServersCrediting scale nodeCount w goal size bound left before j sums → 0 < left
-      → {r : Checked} {count after : ℕ} {sums' : List ℕ} → r ≡ told cordCount (server scale nodeCount before w j) → r ≡ Good count after
-      → LowsCredited (server scale nodeCount before w j) (creditedServer scale) nodeCount (mostServerCords * mostWatts) sums sums' → length sums' ≡ length sums
-      → ServersCrediting scale nodeCount w goal size bound (left - 1) (before + count) after sums'
-  unfolding creditedServers
+  pub servers-turn : {goal : List ℕ} {size bound left before j : ℕ} {sums : List ℕ} → ServersCrediting scale node_count w goal size bound left before j sums → 0 < left
+      → {r : Checked} {count after : ℕ} {sums' : List ℕ} → r ≡ told cord_count (server scale node_count before w j) → r ≡ Good count after
+      → LowsCredited (server scale node_count before w j) (credited_server scale) node_count (most_server_cords * most_watts) sums sums' → length sums' ≡ length sums
+      → ServersCrediting scale node_count w goal size bound (left - 1) (before + count) after sums'
+  unfolding credited_servers
   servers-turn {before = before} {j = j} t z d e credits el =
-      let a = known cordCount (server scale nodeCount before w j) d e in
-      crediting-turn (creditedServer scale) (λ a rest l. refl) t z a.is (ap (λ (n : ℕ). before + n) a.figure) (credits.are a.got _ a.is) el (credits.grow a.got _ a.is)
+      let a = known cord_count (server scale node_count before w j) d e in
+      crediting-turn (credited_server scale) (λ a rest l. refl) t z a.is (ap (λ (n : ℕ). before + n) a.figure) (credits.are a.got _ a.is) el (credits.grow a.got _ a.is)

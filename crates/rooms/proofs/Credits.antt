@@ -10,13 +10,13 @@ use borrow.Author.Tests.{eqb-true, eqb-false, eq-eqb, ne_eqb}
 use Rattle.figures.specs.Sums.{on, sum}
 use Rattle.figures.specs.Figures.{total, at}
 use Rattle.rooms.specs.Table.{Cord, Server}
-use Rattle.rooms.specs.Trees.{ParentsFirst, beneath, childSum, sumBeneath}
-use Rattle.rooms.specs.Limits.{low, serverLows, lows}
+use Rattle.rooms.specs.Trees.{ParentsFirst, beneath, child_sum, sum_beneath}
+use Rattle.rooms.specs.Limits.{low, server_lows, lows}
 use Rattle.figures.proofs.Credits.{placed, on-most, credited-length, credited-past}
-use Rattle.rooms.specs.Credits.{treeSum, creditedCords, creditedServers}
+use Rattle.rooms.specs.Credits.{tree_sum, credited_cords, credited_servers}
 use Rattle.figures.specs.Credits.{credited}
 use Rattle.figures.proofs.Sums.{on-no, sum-cong, sum-add, sum-le, sum_one, sum-zero}
-use Rattle.rooms.proofs.Trees.{sumBeneath-step}
+use Rattle.rooms.proofs.Trees.{sum_beneath-step}
 use Rattle.rooms.proofs.All.{All}
 use Rattle.rooms.proofs.Rows.{CordHangs, ServerHangs}
 
@@ -34,28 +34,28 @@ eqb-sym m n = go (eqb m n) refl
 
 -- ---- The sum beneath a node
 
-pub treeSum-most : (count : ℕ) (parent figure : ℕ → ℕ) (n : ℕ) → treeSum parent count figure n ≤ sum count figure
-unfolding sumBeneath
-treeSum-most count parent figure n = sum-le count _ _ (λ m l. on-most (beneath parent count n (suc m)) (figure m))
+pub tree_sum-most : (count : ℕ) (parent figure : ℕ → ℕ) (n : ℕ) → tree_sum parent count figure n ≤ sum count figure
+unfolding sum_beneath
+tree_sum-most count parent figure n = sum-le count _ _ (λ m l. on-most (beneath parent count n (suc m)) (figure m))
 
-pub treeSum-zero : (count : ℕ) (parent figure : ℕ → ℕ) (n : ℕ) → ((i : ℕ) → figure i ≡ 0) → treeSum parent count figure n ≡ 0
-treeSum-zero count parent figure n z =
-    omega (arith, treeSum-most count parent figure n, sum-cong count figure (λ i. 0) (λ i g. z i), sum-zero count)
+pub tree_sum-zero : (count : ℕ) (parent figure : ℕ → ℕ) (n : ℕ) → ((i : ℕ) → figure i ≡ 0) → tree_sum parent count figure n ≡ 0
+tree_sum-zero count parent figure n z =
+    omega (arith, tree_sum-most count parent figure n, sum-cong count figure (λ i. 0) (λ i g. z i), sum-zero count)
 
 -- A node's sum is its own figure and its children's sums.
-pub treeSum-step : (count : ℕ) (parent : ℕ → ℕ) → ParentsFirst count parent → (figure : ℕ → ℕ) (n : ℕ) → n < count
-    → treeSum parent count figure n ≡ figure n + childSum count parent n (treeSum parent count figure)
-treeSum-step count parent rises figure n l =
-    sumBeneath-step count parent rises count suc (λ c h. h) n figure
-    ∙ ap (λ (x : ℕ). x + childSum count parent n (treeSum parent count figure))
+pub tree_sum-step : (count : ℕ) (parent : ℕ → ℕ) → ParentsFirst count parent → (figure : ℕ → ℕ) (n : ℕ) → n < count
+    → tree_sum parent count figure n ≡ figure n + child_sum count parent n (tree_sum parent count figure)
+tree_sum-step count parent rises figure n l =
+    sum_beneath-step count parent rises count suc (λ c h. h) n figure
+    ∙ ap (λ (x : ℕ). x + child_sum count parent n (tree_sum parent count figure))
     (sum-cong count _ _ (λ c h. ap (λ (t : Bool). on t (figure c)) (eqb-suc-suc c n ∙ eqb-sym c n)) ∙ sum_one count n figure l)
 
 -- What is credited to a node counts at every node that it hangs beneath.
-pub treeSum-credited : (count : ℕ) (parent : ℕ → ℕ) (node figure : ℕ) (l : List ℕ) (n : ℕ) → 1 ≤ node → node ≤ count → count ≤ length l
-    → treeSum parent count (at (credited node figure l)) n ≡ treeSum parent count (at l) n + on (beneath parent count n node) figure
-unfolding sumBeneath
-treeSum-credited count parent zero figure l n one h k = absurd (omega arith)
-treeSum-credited count parent (suc m) figure l n one h k =
+pub tree_sum-credited : (count : ℕ) (parent : ℕ → ℕ) (node figure : ℕ) (l : List ℕ) (n : ℕ) → 1 ≤ node → node ≤ count → count ≤ length l
+    → tree_sum parent count (at (credited node figure l)) n ≡ tree_sum parent count (at l) n + on (beneath parent count n node) figure
+unfolding sum_beneath
+tree_sum-credited count parent zero figure l n one h k = absurd (omega arith)
+tree_sum-credited count parent (suc m) figure l n one h k =
     sum-cong count _ _ (λ i r. ap (on (under-n i)) (placed m figure l i (omega arith)) ∙ on-add-on (under-n i) (eqb m i) (get_or l i 0) figure)
     ∙ sum-add count (λ i. on (under-n i) (get_or l i 0)) (λ i. on (eqb m i) (on (under-n i) figure))
     ∙ ap (λ (x : ℕ). sum count (λ i. on (under-n i) (get_or l i 0)) + x) (sum_one count m (λ i. on (under-n i) figure) h)
@@ -74,10 +74,10 @@ beneath-cong count p q e rises (suc steps) n (suc m) h =
     ap (λ (t : Bool). eqb m n || t)
     (beneath-cong count p q e rises steps n (p m) (omega (arith, rises m h)) ∙ ap (beneath q steps n) (e m h))
 
-pub treeSum-cong : (count : ℕ) (p q figure : ℕ → ℕ) → ((m : ℕ) → m < count → p m ≡ q m) → ParentsFirst count p → (n : ℕ)
-    → treeSum p count figure n ≡ treeSum q count figure n
-unfolding sumBeneath
-treeSum-cong count p q figure e rises n =
+pub tree_sum-cong : (count : ℕ) (p q figure : ℕ → ℕ) → ((m : ℕ) → m < count → p m ≡ q m) → ParentsFirst count p → (n : ℕ)
+    → tree_sum p count figure n ≡ tree_sum q count figure n
+unfolding sum_beneath
+tree_sum-cong count p q figure e rises n =
     sum-cong count _ _ (λ m l. ap (λ (t : Bool). on t (figure m)) (beneath-cong count p q e rises count n (suc m) l))
 
 -- No way along the parents meets a place past all nodes, so nothing is beneath it.
@@ -89,53 +89,53 @@ beneath-past count parent rises (suc steps) n zero h l = refl
 beneath-past count parent rises (suc steps) n (suc m) h l =
     ap₂ ◌||◌ (ne_eqb m n (λ e. omega arith)) (beneath-past count parent rises steps n (parent m) (omega (arith, rises m h)) l)
 
-pub treeSum-past : (count : ℕ) (parent figure : ℕ → ℕ) → ParentsFirst count parent → (n : ℕ) → count ≤ n
-    → treeSum parent count figure n ≡ 0
-unfolding sumBeneath
-treeSum-past count parent figure rises n h =
+pub tree_sum-past : (count : ℕ) (parent figure : ℕ → ℕ) → ParentsFirst count parent → (n : ℕ) → count ≤ n
+    → tree_sum parent count figure n ≡ 0
+unfolding sum_beneath
+tree_sum-past count parent figure rises n h =
     sum-cong count _ (λ m. 0) (λ m l. on-no _ (figure m) (beneath-past count parent rises count n (suc m) l h)) ∙ sum-zero count
 
 -- ---- The credits of cords and of servers
 
-pub creditedCords-length : (scale least : ℕ) (cs : List Cord) (l : List ℕ) → length (creditedCords scale least cs l) ≡ length l
-unfolding creditedCords
-creditedCords-length scale least [] l = refl
-creditedCords-length scale least (c ∷ cs) l =
-    creditedCords-length scale least cs (credited c.node (low scale least c) l) ∙ credited-length c.node (low scale least c) l
+pub credited_cords-length : (scale least : ℕ) (cs : List Cord) (l : List ℕ) → length (credited_cords scale least cs l) ≡ length l
+unfolding credited_cords
+credited_cords-length scale least [] l = refl
+credited_cords-length scale least (c ∷ cs) l =
+    credited_cords-length scale least cs (credited c.node (low scale least c) l) ∙ credited-length c.node (low scale least c) l
 
-pub creditedServers-length : (scale : ℕ) (ss : List Server) (l : List ℕ) → length (creditedServers scale ss l) ≡ length l
-unfolding creditedServers
-creditedServers-length scale [] l = refl
-creditedServers-length scale (s ∷ ss) l = creditedServers-length scale ss (creditedCords scale s.least s.cords l) ∙ creditedCords-length scale s.least s.cords l
+pub credited_servers-length : (scale : ℕ) (ss : List Server) (l : List ℕ) → length (credited_servers scale ss l) ≡ length l
+unfolding credited_servers
+credited_servers-length scale [] l = refl
+credited_servers-length scale (s ∷ ss) l = credited_servers-length scale ss (credited_cords scale s.least s.cords l) ∙ credited_cords-length scale s.least s.cords l
 
 -- They leave a place past all nodes as it is.
 module _ (scale count i : ℕ) (h : count ≤ i) where
-  creditedCords-past : (least : ℕ) (cs : List Cord) (l : List ℕ) → All (CordHangs count) cs → get_or (creditedCords scale least cs l) i 0 ≡ get_or l i 0
-  unfolding creditedCords All
-  creditedCords-past least [] l g = refl
-  creditedCords-past least (c ∷ cs) l g =
-      creditedCords-past least cs (credited c.node (low scale least c) l) g.1 ∙ credited-past c.node (low scale least c) l i (omega (arith, g.0.1))
+  credited_cords-past : (least : ℕ) (cs : List Cord) (l : List ℕ) → All (CordHangs count) cs → get_or (credited_cords scale least cs l) i 0 ≡ get_or l i 0
+  unfolding credited_cords All
+  credited_cords-past least [] l g = refl
+  credited_cords-past least (c ∷ cs) l g =
+      credited_cords-past least cs (credited c.node (low scale least c) l) g.1 ∙ credited-past c.node (low scale least c) l i (omega (arith, g.0.1))
 
-  pub creditedServers-past : (ss : List Server) (l : List ℕ) → All (ServerHangs count) ss → get_or (creditedServers scale ss l) i 0 ≡ get_or l i 0
-  unfolding creditedServers All
-  creditedServers-past [] l g = refl
-  creditedServers-past (s ∷ ss) l g =
-      creditedServers-past ss (creditedCords scale s.least s.cords l) g.1 ∙ creditedCords-past s.least s.cords l g.0
+  pub credited_servers-past : (ss : List Server) (l : List ℕ) → All (ServerHangs count) ss → get_or (credited_servers scale ss l) i 0 ≡ get_or l i 0
+  unfolding credited_servers All
+  credited_servers-past [] l g = refl
+  credited_servers-past (s ∷ ss) l g =
+      credited_servers-past ss (credited_cords scale s.least s.cords l) g.1 ∙ credited_cords-past s.least s.cords l g.0
 
 module _ (scale count : ℕ) (parent : ℕ → ℕ) (n : ℕ) where
-  treeSum-cords : (least : ℕ) (cs : List Cord) (l : List ℕ) → count ≤ length l → All (CordHangs count) cs
-      → treeSum parent count (at (creditedCords scale least cs l)) n
-      ≡ treeSum parent count (at l) n + total (λ c. on (beneath parent count n c.node) (low scale least c)) cs
-  unfolding creditedCords All total
-  treeSum-cords least [] l h g = omega arith
-  treeSum-cords least (c ∷ cs) l h g =
-      treeSum-cords least cs (credited c.node (low scale least c) l) (omega (arith, credited-length c.node (low scale least c) l)) g.1
-      ∙ omega (arith, treeSum-credited count parent c.node (low scale least c) l n g.0.0 g.0.1 h)
+  tree_sum-cords : (least : ℕ) (cs : List Cord) (l : List ℕ) → count ≤ length l → All (CordHangs count) cs
+      → tree_sum parent count (at (credited_cords scale least cs l)) n
+      ≡ tree_sum parent count (at l) n + total (λ c. on (beneath parent count n c.node) (low scale least c)) cs
+  unfolding credited_cords All total
+  tree_sum-cords least [] l h g = omega arith
+  tree_sum-cords least (c ∷ cs) l h g =
+      tree_sum-cords least cs (credited c.node (low scale least c) l) (omega (arith, credited-length c.node (low scale least c) l)) g.1
+      ∙ omega (arith, tree_sum-credited count parent c.node (low scale least c) l n g.0.0 g.0.1 h)
 
-  pub treeSum-servers : (ss : List Server) (l : List ℕ) → count ≤ length l → All (ServerHangs count) ss
-      → treeSum parent count (at (creditedServers scale ss l)) n ≡ treeSum parent count (at l) n + lows scale (beneath parent count n) ss
-  unfolding creditedServers All lows serverLows total
-  treeSum-servers [] l h g = omega arith
-  treeSum-servers (s ∷ ss) l h g =
-      treeSum-servers ss (creditedCords scale s.least s.cords l) (omega (arith, creditedCords-length scale s.least s.cords l)) g.1
-      ∙ omega (arith, treeSum-cords s.least s.cords l h g.0)
+  pub tree_sum-servers : (ss : List Server) (l : List ℕ) → count ≤ length l → All (ServerHangs count) ss
+      → tree_sum parent count (at (credited_servers scale ss l)) n ≡ tree_sum parent count (at l) n + lows scale (beneath parent count n) ss
+  unfolding credited_servers All lows server_lows total
+  tree_sum-servers [] l h g = omega arith
+  tree_sum-servers (s ∷ ss) l h g =
+      tree_sum-servers ss (credited_cords scale s.least s.cords l) (omega (arith, credited_cords-length scale s.least s.cords l)) g.1
+      ∙ omega (arith, tree_sum-cords s.least s.cords l h g.0)

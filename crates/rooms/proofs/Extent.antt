@@ -9,9 +9,9 @@ use native.Mathlib.Omega.{arith}
 use lib.ListN.{length}
 use Rattle.rooms.specs.Part.{good, Part, many}
 use Rattle.figures.specs.Figures.{total}
-use Rattle.rooms.specs.Table.{Node, Cord, Server, Room, nodeWords, nodes, cords, server, servers, cordCount, roomCords, table}
+use Rattle.rooms.specs.Table.{Node, Cord, Server, Room, node_words, nodes, cords, server, servers, cord_count, room_cords, table}
 use Rattle.rooms.proofs.Inversion.{node-is, cord-is, server-is, many_is}
-use Rattle.rooms.proofs.Whole.{percentsOf, table_is}
+use Rattle.rooms.proofs.Whole.{percents_of, table_is}
 
 -- A row of parts has the words of all of them, where each part has `size` of them.
 many-next : {A : Type 0} (part : ℕ → Part A) (next : ℕ → A → ℕ) (w : List ℕ) (size : A → ℕ)
@@ -34,32 +34,32 @@ same-words k [] = omega (arith, mul-zero k)
 same-words k (a ∷ l) = omega (arith, same-words k l, mul-suc k (length l))
 
 nodes-next : (percents : Bool) (count own : ℕ) (w : List ℕ) (i : ℕ) (l : List Node) (j : ℕ) → nodes percents count own w i ≡ good l j
-    → j ≡ i + nodeWords percents * length l
+    → j ≡ i + node_words percents * length l
 nodes-next percents count own w i l j e =
-    omega (arith, same-words (nodeWords percents) l, many-next _ _ w (λ _. nodeWords percents) (λ own i n j d. (node-is percents own w i n j d).next) count own i l j e)
+    omega (arith, same-words (node_words percents) l, many-next _ _ w (λ _. node_words percents) (λ own i n j d. (node-is percents own w i n j d).next) count own i l j e)
 
-cords-next : (scale nodeCount count : ℕ) (w : List ℕ) (i : ℕ) (l : List Cord) (j : ℕ) → cords scale nodeCount count w i ≡ good l j → j ≡ i + 2 * length l
-cords-next scale nodeCount count w i l j e =
-    omega (arith, same-words 2 l, many-next _ _ w (λ _. 2) (λ _ i c j d. omega (arith, (cord-is scale nodeCount w i c j d).next)) count 0 i l j e)
+cords-next : (scale node_count count : ℕ) (w : List ℕ) (i : ℕ) (l : List Cord) (j : ℕ) → cords scale node_count count w i ≡ good l j → j ≡ i + 2 * length l
+cords-next scale node_count count w i l j e =
+    omega (arith, same-words 2 l, many-next _ _ w (λ _. 2) (λ _ i c j d. omega (arith, (cord-is scale node_count w i c j d).next)) count 0 i l j e)
 
-pub server-next : (scale nodeCount before : ℕ) (w : List ℕ) (i : ℕ) (s : Server) (j : ℕ) → server scale nodeCount before w i ≡ good s j → j ≡ i + 4 + 2 * cordCount s
-server-next scale nodeCount before w i s j e =
-    omega (arith, cords-next scale nodeCount _ w _ s.cords j (server-is scale nodeCount before w i s j e).load.are)
+pub server-next : (scale node_count before : ℕ) (w : List ℕ) (i : ℕ) (s : Server) (j : ℕ) → server scale node_count before w i ≡ good s j → j ≡ i + 4 + 2 * cord_count s
+server-next scale node_count before w i s j e =
+    omega (arith, cords-next scale node_count _ w _ s.cords j (server-is scale node_count before w i s j e).load.are)
 
 -- Servers have four words each, and two for each cord of them all.
-server-words : (l : List Server) → total (λ s. 4 + 2 * cordCount s) l ≡ 4 * length l + 2 * total cordCount l
+server-words : (l : List Server) → total (λ s. 4 + 2 * cord_count s) l ≡ 4 * length l + 2 * total cord_count l
 unfolding total
 server-words [] = refl
 server-words (s ∷ l) = omega (arith, server-words l)
 
-servers-next : (scale nodeCount count before : ℕ) (w : List ℕ) (i : ℕ) (l : List Server) (j : ℕ) → servers scale nodeCount count before w i ≡ good l j
-    → j ≡ i + 4 * length l + 2 * total cordCount l
-servers-next scale nodeCount count before w i l j e =
-    omega (arith, server-words l, many-next _ _ w (λ s. 4 + 2 * cordCount s) (λ before i s j d. omega (arith, server-next scale nodeCount before w i s j d)) count before i l j e)
+servers-next : (scale node_count count before : ℕ) (w : List ℕ) (i : ℕ) (l : List Server) (j : ℕ) → servers scale node_count count before w i ≡ good l j
+    → j ≡ i + 4 * length l + 2 * total cord_count l
+servers-next scale node_count count before w i l j e =
+    omega (arith, server-words l, many-next _ _ w (λ s. 4 + 2 * cord_count s) (λ before i s j d. omega (arith, server-next scale node_count before w i s j d)) count before i l j e)
 
 -- The index after a good table, by its words 0 and 1, its nodes, their servers' count and its servers.
 pub table-next : (w : List ℕ) (r : Room) (j : ℕ) → table w 0 ≡ good r j
-    → j ≡ 3 + nodeWords (percentsOf w) * length r.nodes + 4 * length r.servers + 2 * roomCords r
+    → j ≡ 3 + node_words (percents_of w) * length r.nodes + 4 * length r.servers + 2 * room_cords r
 table-next w r j e =
     let t = table_is w r j e in
-    omega (arith, nodes-next (percentsOf w) _ 1 w 2 r.nodes t.middle t.nodesRead, servers-next r.scale _ _ 0 w _ r.servers j t.serversRead)
+    omega (arith, nodes-next (percents_of w) _ 1 w 2 r.nodes t.middle t.nodes_read, servers-next r.scale _ _ 0 w _ r.servers j t.servers_read)

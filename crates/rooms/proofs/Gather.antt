@@ -9,14 +9,14 @@ use lib.ListN.{length, get_or}
 use lib.Dec.{eqb, ltb}
 use borrow.Author.Tests.{ne_eqb}
 use Rattle.figures.specs.Sums.{on, sum}
-use Rattle.rooms.specs.Limits.{firstNode}
-use Rattle.rooms.specs.Trees.{ParentsFirst, childSum}
-use Rattle.rooms.specs.Credits.{treeSum, exceeds, SumsGathered}
+use Rattle.rooms.specs.Limits.{first_node}
+use Rattle.rooms.specs.Trees.{ParentsFirst, child_sum}
+use Rattle.rooms.specs.Credits.{tree_sum, exceeds, SumsGathered}
 use Rattle.figures.specs.Credits.{credited}
 use Rattle.figures.specs.Figures.{at}
 use Rattle.figures.proofs.Sums.{on-no, sum-cong, sum-zero, sum-none, up, sum-up}
 use Rattle.figures.proofs.Credits.{credited-at, credited-length, credited-past}
-use Rattle.rooms.proofs.Credits.{treeSum-step, treeSum-most}
+use Rattle.rooms.proofs.Credits.{tree_sum-step, tree_sum-most}
 
 -- ---- What stands on the nodes, where each has its own figure and passes `passed` on to its parent
 
@@ -35,20 +35,20 @@ module _ (count : ℕ) (parent own passed : ℕ → ℕ) where
   holds-turn done m now next h e i l = omega (arith, h i l, e i l)
 
   -- It is never more than with all children.
-  pub holds-most : (done n : ℕ) (now : ℕ → ℕ) → n + done ≡ count → Holds done n now → (i : ℕ) → i < count → now i ≤ own i + childSum count parent i passed
+  pub holds-most : (done n : ℕ) (now : ℕ → ℕ) → n + done ≡ count → Holds done n now → (i : ℕ) → i < count → now i ≤ own i + child_sum count parent i passed
   unfolding Holds
   holds-most done n now e h i l = omega (arith, h i l, sum-up done n count (λ m. on (eqb (parent m) (suc i)) (passed m)) e)
 
   -- When all nodes had their turns, each has what all its children passed to it.
-  pub holds-end : (done : ℕ) (now : ℕ → ℕ) → 0 + done ≡ count → Holds done 0 now → (i : ℕ) → i < count → now i ≡ own i + childSum count parent i passed
+  pub holds-end : (done : ℕ) (now : ℕ → ℕ) → 0 + done ≡ count → Holds done 0 now → (i : ℕ) → i < count → now i ≡ own i + child_sum count parent i passed
   unfolding Holds
   holds-end done now e h i l =
       let f : ℕ → ℕ = λ m. on (eqb (parent m) (suc i)) (passed m) in
       omega (arith, h i l, sum-up done 0 count f e, sum-none f)
 
   module _ (rises : ParentsFirst count parent) where
-    childSum-later : (done m : ℕ) → suc m + done ≡ count → childSum count parent m passed ≡ up done (suc m) (λ h. on (eqb (parent h) (suc m)) (passed h))
-    childSum-later done m e =
+    child_sum-later : (done m : ℕ) → suc m + done ≡ count → child_sum count parent m passed ≡ up done (suc m) (λ h. on (eqb (parent h) (suc m)) (passed h))
+    child_sum-later done m e =
         let f : ℕ → ℕ = λ h. on (eqb (parent h) (suc m)) (passed h) in
         let z : sum (suc m) f ≡ 0
         = sum-cong (suc m) f (λ h. 0)
@@ -57,9 +57,9 @@ module _ (count : ℕ) (parent own passed : ℕ → ℕ) where
         omega (arith, sum-up done (suc m) count f e)
 
     -- When its turn comes, a node has what all its children passed to it.
-    pub holds-whole : (done m : ℕ) (now : ℕ → ℕ) → suc m + done ≡ count → Holds done (suc m) now → now m ≡ own m + childSum count parent m passed
+    pub holds-whole : (done m : ℕ) (now : ℕ → ℕ) → suc m + done ≡ count → Holds done (suc m) now → now m ≡ own m + child_sum count parent m passed
     unfolding Holds
-    holds-whole done m now e h = omega (arith, h m (omega arith), childSum-later done m e)
+    holds-whole done m now e h = omega (arith, h m (omega arith), child_sum-later done m e)
 
 -- ---- The loop over the nodes of a table
 
@@ -67,28 +67,28 @@ module _ (count : ℕ) (parent own passed : ℕ → ℕ) where
 pub record Gathered (parent limit : ℕ → ℕ) (count : ℕ) (start : List ℕ) (found n : ℕ) (sums : List ℕ) : Type 0 where
   pub done : ℕ
   pub all : n + done ≡ count
-  pub held : Holds count parent (at start) (treeSum parent count (at start)) done n (at sums)
+  pub held : Holds count parent (at start) (tree_sum parent count (at start)) done n (at sums)
   pub size : length sums ≡ length start
   pub past : (i : ℕ) → count ≤ i → get_or sums i 0 ≡ get_or start i 0
-  pub first : found ≡ firstNode done n (exceeds parent limit count start)
+  pub first : found ≡ first_node done n (exceeds parent limit count start)
 
 pub gathered-start : (parent limit : ℕ → ℕ) (count : ℕ) (start : List ℕ) → Gathered parent limit count start 0 count start
-unfolding firstNode
+unfolding first_node
 gathered-start parent limit count start =
     record {
       done = 0;
       all = omega arith;
-      held = holds-start count parent (at start) (treeSum parent count (at start));
+      held = holds-start count parent (at start) (tree_sum parent count (at start));
       size = refl;
       past = λ i l. refl;
       first = refl;
     }
 
 module _ {parent limit : ℕ → ℕ} {count : ℕ} {start : List ℕ} where
-  pub gathered-end : {found n : ℕ} {sums : List ℕ} → Gathered parent limit count start found n sums → n ≤ 0 → found ≡ firstNode count 0 (exceeds parent limit count start)
+  pub gathered-end : {found n : ℕ} {sums : List ℕ} → Gathered parent limit count start found n sums → n ≤ 0 → found ≡ first_node count 0 (exceeds parent limit count start)
   gathered-end {n = zero} inv z =
       let e : inv.done ≡ count = omega (arith, inv.all) in
-      inv.first ∙ ap (λ (k : ℕ). firstNode k 0 (exceeds parent limit count start)) e
+      inv.first ∙ ap (λ (k : ℕ). first_node k 0 (exceeds parent limit count start)) e
   gathered-end {n = suc m} inv z = absurd (omega arith)
 
   module _ (rises : ParentsFirst count parent) where
@@ -96,43 +96,43 @@ module _ {parent limit : ℕ → ℕ} {count : ℕ} {start : List ℕ} where
     pub gathered-sums : {found n : ℕ} {sums : List ℕ} → Gathered parent limit count start found n sums → n ≤ 0 → SumsGathered parent count start sums
     gathered-sums {n = zero} {sums = sums} inv z = record {
       size = inv.size;
-      nodes = λ i l. holds-end count parent (at start) (treeSum parent count (at start)) inv.done (at sums) inv.all inv.held i l
-          ∙ sym (treeSum-step count parent rises (at start) i l);
+      nodes = λ i l. holds-end count parent (at start) (tree_sum parent count (at start)) inv.done (at sums) inv.all inv.held i l
+          ∙ sym (tree_sum-step count parent rises (at start) i l);
       past = inv.past;
     }
     gathered-sums {n = suc m} inv z = absurd (omega arith)
 
-    gathered-whole : (found n : ℕ) (sums : List ℕ) → Gathered parent limit count start found n sums → 0 < n → get_or sums (n - 1) 0 ≡ treeSum parent count (at start) (n - 1)
+    gathered-whole : (found n : ℕ) (sums : List ℕ) → Gathered parent limit count start found n sums → 0 < n → get_or sums (n - 1) 0 ≡ tree_sum parent count (at start) (n - 1)
     gathered-whole found zero sums inv p = absurd (omega arith)
     gathered-whole found (suc m) sums inv p =
         let e : suc m - 1 ≡ m = omega arith in
         rw e
-        (holds-whole count parent (at start) (treeSum parent count (at start)) rises inv.done m (at sums) inv.all inv.held
-        ∙ sym (treeSum-step count parent rises (at start) m (omega (arith, inv.all))))
+        (holds-whole count parent (at start) (tree_sum parent count (at start)) rises inv.done m (at sums) inv.all inv.held
+        ∙ sym (tree_sum-step count parent rises (at start) m (omega (arith, inv.all))))
 
     -- No figure ever passes the sum of all, so no credit overflows.
     pub gathered-most : {found n : ℕ} {sums : List ℕ} → Gathered parent limit count start found n sums → (i : ℕ) → i < count → get_or sums i 0 ≤ sum count (at start)
     gathered-most {n = n} {sums = sums} inv i l =
         omega (
           arith,
-          holds-most count parent (at start) (treeSum parent count (at start)) inv.done n (at sums) inv.all inv.held i l,
-          treeSum-step count parent rises (at start) i l,
-          treeSum-most count parent (at start) i,
+          holds-most count parent (at start) (tree_sum parent count (at start)) inv.done n (at sums) inv.all inv.held i l,
+          tree_sum-step count parent rises (at start) i l,
+          tree_sum-most count parent (at start) i,
         )
 
     turned : (found n : ℕ) (sums : List ℕ) → Gathered parent limit count start found n sums → 0 < n → count ≤ length start
-        → Gathered parent limit count start (cond (exceeds parent limit count start (n - 1)) (suc (n - 1)) found) (n - 1) (credited (parent (n - 1)) (treeSum parent count (at start) (n - 1)) sums)
-    unfolding firstNode
+        → Gathered parent limit count start (cond (exceeds parent limit count start (n - 1)) (suc (n - 1)) found) (n - 1) (credited (parent (n - 1)) (tree_sum parent count (at start) (n - 1)) sums)
+    unfolding first_node
     turned found zero sums inv p h = absurd (omega arith)
     turned found (suc m) sums inv p h =
         let e : suc m - 1 ≡ m = omega arith in
         let r = rises m (omega (arith, inv.all)) in
-        let figure : ℕ = treeSum parent count (at start) m in
+        let figure : ℕ = tree_sum parent count (at start) m in
         rw e
         (record {
           done = suc inv.done;
           all = omega (arith, inv.all);
-          held = holds-turn count parent (at start) (treeSum parent count (at start)) inv.done m (at sums) (at (credited (parent m) figure sums)) inv.held
+          held = holds-turn count parent (at start) (tree_sum parent count (at start)) inv.done m (at sums) (at (credited (parent m) figure sums)) inv.held
               (λ i l. credited-at (parent m) figure sums i (omega (arith, inv.all, inv.size)));
           size = credited-length (parent m) figure sums ∙ inv.size;
           past = λ i l. credited-past (parent m) figure sums i (omega (arith, inv.all)) ∙ inv.past i l;

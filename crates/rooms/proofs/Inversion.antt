@@ -11,8 +11,8 @@ use borrow.Author.Tests.{leb-true, leb-false, eqb-true, ltb-false}
 use Rattle.rooms.specs.Part.{Step, good, bad, Part, follow, word, ensure, end, many, within}
 use Rattle.rooms.specs.declared.SheetRefusal.{SheetRefusal}
 use Rattle.rooms.specs.declared.SheetRefusal.TheVariants.{WordMissing, WordOutOfRange, WordsLeftOver}
-use Rattle.rooms.specs.Table.{Node, Cord, Server, Range, mostWatts, mostCords, mostServerCords, highestRank, nodeWords, percent, node, cord, cords, range, load, server, cordCount, shareSum}
-use Rattle.rooms.specs.Credits.{nodeFrom}
+use Rattle.rooms.specs.Table.{Node, Cord, Server, Range, most_watts, most_cords, most_server_cords, highest_rank, node_words, percent, node, cord, cords, range, load, server, cord_count, share_sum}
+use Rattle.rooms.specs.Credits.{node_from}
 use Rattle.rooms.specs.Words.{PercentFits}
 use Rattle.rooms.proofs.NodeWords.{percent-words}
 
@@ -131,11 +131,11 @@ percent-is true w i p j e =
     rw (← x, ← y) (record { there = λ h. a.there; is = refl; next = omega arith; fits = t.0 })
 
 pub record NodeIs (percents : Bool) (own : ℕ) (w : List ℕ) (i : ℕ) (n : Node) (j : ℕ) : Type 0 where
-  pub there : i + nodeWords percents ≤ length w
-  pub is : n ≡ nodeFrom percents w i
-  pub next : j ≡ i + nodeWords percents
+  pub there : i + node_words percents ≤ length w
+  pub is : n ≡ node_from percents w i
+  pub next : j ≡ i + node_words percents
   pub parent : n.parent ≤ own - 1
-  pub rating : n.rating ≤ mostWatts
+  pub rating : n.rating ≤ most_watts
   pub percent : PercentFits percents n.percent
 
 pub node-is : (percents : Bool) (own : ℕ) (w : List ℕ) (i : ℕ) (n : Node) (j : ℕ) → node percents own w i ≡ good n j → NodeIs percents own w i n j
@@ -149,10 +149,10 @@ node-is percents own w i n j e =
     let y : t.at ≡ j = cc in
     placed t.got t.at p b.there a.most b.most x y
   where
-    placed : (q k : ℕ) → PercentIs percents w (suc (suc i)) q k → suc i < length w → get_or w i 0 ≤ own - 1 → get_or w (suc i) 0 ≤ mostWatts
+    placed : (q k : ℕ) → PercentIs percents w (suc (suc i)) q k → suc i < length w → get_or w i 0 ≤ own - 1 → get_or w (suc i) 0 ≤ most_watts
         → record { parent = get_or w i 0; rating = get_or w (suc i) 0; percent = q } ≡ n → k ≡ j → NodeIs percents own w i n j
     placed q k p there parent rating x y =
-        let next : k ≡ i + nodeWords percents = p.next ∙ percent-words percents i in
+        let next : k ≡ i + node_words percents = p.next ∙ percent-words percents i in
         rw (← x, ← y)
         (record {
           there = omega (arith, p.there there);
@@ -164,12 +164,12 @@ node-is percents own w i n j e =
         })
 
 -- The cord of two words.
-abbrev pub cordFrom : List ℕ → ℕ → Cord
-cordFrom w i = record { node = get_or w i 0; share = get_or w (suc i) 0 }
+abbrev pub cord_from : List ℕ → ℕ → Cord
+cord_from w i = record { node = get_or w i 0; share = get_or w (suc i) 0 }
 
 pub record CordIs (scale nodes : ℕ) (w : List ℕ) (i : ℕ) (c : Cord) (j : ℕ) : Type 0 where
   pub there : suc i < length w
-  pub is : c ≡ cordFrom w i
+  pub is : c ≡ cord_from w i
   pub next : j ≡ suc (suc i)
   pub first : 1 ≤ c.node
   pub last : c.node ≤ nodes
@@ -180,7 +180,7 @@ unfolding cord
 cord-is scale nodes w i c j e =
     let a = word-is _ _ _ _ _ _ _ e in
     let b = word-is _ _ _ _ _ _ _ a.rest in
-    let x : cordFrom w i ≡ c = cc in
+    let x : cord_from w i ≡ c = cc in
     let y : suc (suc i) ≡ j = cc in
     record {
       there = b.there;
@@ -193,15 +193,15 @@ cord-is scale nodes w i c j e =
 
 -- ---- A server
 
-abbrev pub rangeFrom : List ℕ → ℕ → Range
-rangeFrom w i = record { least = get_or w i 0; greatest = get_or w (suc i) 0 }
+abbrev pub range_from : List ℕ → ℕ → Range
+range_from w i = record { least = get_or w i 0; greatest = get_or w (suc i) 0 }
 
 pub record RangeIs (w : List ℕ) (i : ℕ) (r : Range) (j : ℕ) : Type 0 where
   pub there : suc i < length w
-  pub is : r ≡ rangeFrom w i
+  pub is : r ≡ range_from w i
   pub next : j ≡ suc (suc i)
   pub ordered : r.least ≤ r.greatest
-  pub greatest : r.greatest ≤ mostWatts
+  pub greatest : r.greatest ≤ most_watts
 
 pub range-is : (w : List ℕ) (i : ℕ) (r : Range) (j : ℕ) → range w i ≡ good r j → RangeIs w i r j
 unfolding range
@@ -209,7 +209,7 @@ range-is w i r j e =
     let a = word-is _ _ _ _ _ _ _ e in
     let b = word-is _ _ _ _ _ _ _ (said _ _ _ _ _ a.rest) in
     let t = passed _ _ _ _ _ _ _ b.rest in
-    let x : rangeFrom w i ≡ r = cc in
+    let x : range_from w i ≡ r = cc in
     let y : suc (suc i) ≡ j = cc in
     rw (← x)
     (record {
@@ -220,18 +220,18 @@ range-is w i r j e =
       greatest = b.most;
     })
 
-pub record LoadIs (scale nodeCount before : ℕ) (w : List ℕ) (i : ℕ) (l : List Cord) (j : ℕ) : Type 0 where
+pub record LoadIs (scale node_count before : ℕ) (w : List ℕ) (i : ℕ) (l : List Cord) (j : ℕ) : Type 0 where
   pub there : i < length w
-  pub are : cords scale nodeCount (get_or w i 0) w (suc i) ≡ good l j
+  pub are : cords scale node_count (get_or w i 0) w (suc i) ≡ good l j
   pub count : length l ≡ get_or w i 0
   pub some : 1 ≤ length l
-  pub few : length l ≤ min mostServerCords (mostCords - before)
-  pub whole : shareSum l ≡ scale
+  pub few : length l ≤ min most_server_cords (most_cords - before)
+  pub whole : share_sum l ≡ scale
 
-pub load_is : (scale nodeCount before start : ℕ) (w : List ℕ) (i : ℕ) (l : List Cord) (j : ℕ) → load scale nodeCount before start w i ≡ good l j
-    → LoadIs scale nodeCount before w i l j
+pub load_is : (scale node_count before start : ℕ) (w : List ℕ) (i : ℕ) (l : List Cord) (j : ℕ) → load scale node_count before start w i ≡ good l j
+    → LoadIs scale node_count before w i l j
 unfolding load
-load_is scale nodeCount before start w i l j e =
+load_is scale node_count before start w i l j e =
     let a = word-is _ _ _ _ _ _ _ e in
     let r = took _ _ _ _ a.rest in
     let t = passed _ _ _ _ _ _ _ r.rest in
@@ -248,31 +248,31 @@ load_is scale nodeCount before start w i l j e =
       whole = eqb-true _ _ t.0;
     })
 
-abbrev pub serverFrom : List ℕ → ℕ → List Cord → Server
-serverFrom w i l = record { rank = get_or w i 0; least = get_or w (suc i) 0; greatest = get_or w (suc (suc i)) 0; cords = l }
+abbrev pub server_from : List ℕ → ℕ → List Cord → Server
+server_from w i l = record { rank = get_or w i 0; least = get_or w (suc i) 0; greatest = get_or w (suc (suc i)) 0; cords = l }
 
-pub record ServerIs (scale nodeCount before : ℕ) (w : List ℕ) (i : ℕ) (s : Server) (j : ℕ) : Type 0 where
-  pub is : s ≡ serverFrom w i s.cords
+pub record ServerIs (scale node_count before : ℕ) (w : List ℕ) (i : ℕ) (s : Server) (j : ℕ) : Type 0 where
+  pub is : s ≡ server_from w i s.cords
   pub lowest : 1 ≤ s.rank
-  pub highest : s.rank ≤ highestRank
+  pub highest : s.rank ≤ highest_rank
   pub ordered : s.least ≤ s.greatest
-  pub greatest : s.greatest ≤ mostWatts
-  pub load : LoadIs scale nodeCount before w (suc (suc (suc i))) s.cords j
+  pub greatest : s.greatest ≤ most_watts
+  pub load : LoadIs scale node_count before w (suc (suc (suc i))) s.cords j
 
-pub server-is : (scale nodeCount before : ℕ) (w : List ℕ) (i : ℕ) (s : Server) (j : ℕ) → server scale nodeCount before w i ≡ good s j → ServerIs scale nodeCount before w i s j
+pub server-is : (scale node_count before : ℕ) (w : List ℕ) (i : ℕ) (s : Server) (j : ℕ) → server scale node_count before w i ≡ good s j → ServerIs scale node_count before w i s j
 unfolding server
-server-is scale nodeCount before w i s j e =
+server-is scale node_count before w i s j e =
     let a = word-is _ _ _ _ _ _ _ (said _ _ _ _ _ e) in
     let b = took _ _ _ _ a.rest in
     let r = range-is w (suc i) b.got b.at b.first in
     let c = took _ _ _ _ b.rest in
-    let d = load_is scale nodeCount before i w b.at c.got c.at c.first in
+    let d = load_is scale node_count before i w b.at c.got c.at c.first in
     let x : record { rank = get_or w i 0; least = b.got.least; greatest = b.got.greatest; cords = c.got } ≡ s = cc in
     let y : c.at ≡ j = cc in
     placed b.got b.at c.got c.at r a.least a.most d x y
   where
-    placed : (g : Range) (k : ℕ) (l : List Cord) (h : ℕ) → RangeIs w (suc i) g k → 1 ≤ get_or w i 0 → get_or w i 0 ≤ highestRank → LoadIs scale nodeCount before w k l h
-        → record { rank = get_or w i 0; least = g.least; greatest = g.greatest; cords = l } ≡ s → h ≡ j → ServerIs scale nodeCount before w i s j
+    placed : (g : Range) (k : ℕ) (l : List Cord) (h : ℕ) → RangeIs w (suc i) g k → 1 ≤ get_or w i 0 → get_or w i 0 ≤ highest_rank → LoadIs scale node_count before w k l h
+        → record { rank = get_or w i 0; least = g.least; greatest = g.greatest; cords = l } ≡ s → h ≡ j → ServerIs scale node_count before w i s j
     placed g k l h r low high d x y =
         let m : g.least ≡ get_or w (suc i) 0 = ap (λ (q : Range). q.least) r.is in
         let n : g.greatest ≡ get_or w (suc (suc i)) 0 = ap (λ (q : Range). q.greatest) r.is in
@@ -287,6 +287,6 @@ server-is scale nodeCount before w i s j e =
         })
 
 -- With a good server the room still has no more than 1,024 cords.
-pub server-few : (scale nodes before : ℕ) (w : List ℕ) (i : ℕ) (s : Server) (j : ℕ) → before ≤ mostCords → server scale nodes before w i ≡ good s j
-    → before + cordCount s ≤ mostCords
+pub server-few : (scale nodes before : ℕ) (w : List ℕ) (i : ℕ) (s : Server) (j : ℕ) → before ≤ most_cords → server scale nodes before w i ≡ good s j
+    → before + cord_count s ≤ most_cords
 server-few scale nodes before w i s j h e = omega (arith, (server-is scale nodes before w i s j e).load.few)

@@ -12,13 +12,13 @@ use Rattle.figures.specs.Figures.{at, column}
 use Rattle.figures.proofs.Columns.{column-length, column-set}
 use Rattle.figures.proofs.Filled.{Filled, filled_none, filled-one, filled-all}
 use Rattle.rooms.specs.Part.{good, Good}
-use Rattle.rooms.specs.Table.{Room, mostServers, mostCords, highestRank, cordCount, roomCords}
+use Rattle.rooms.specs.Table.{Room, most_servers, most_cords, highest_rank, cord_count, room_cords}
 use Rattle.rooms.specs.Limits.{checked}
-use Rattle.rooms.specs.Cords.{RoomCord, cordAt, serverAt, rank_of}
-use Rattle.rooms.specs.Lists.{nodesOf, levelsOf}
+use Rattle.rooms.specs.Cords.{RoomCord, cord_at, server_at, rank_of}
+use Rattle.rooms.specs.Lists.{nodes_of, levels_of}
 use Rattle.rooms.proofs.Accepted.{accepted}
-use Rattle.rooms.specs.Rows.{ServersFit, CordsFit, rankColumn, leastColumn, greatestColumn, cordCountColumn, nodeColumn, serverColumn, levelColumn, shareColumn, rowWidth, ServerRows, CordRows}
-use Rattle.rooms.specs.Walk.{serversIndex}
+use Rattle.rooms.specs.Rows.{ServersFit, CordsFit, rank_column, least_column, greatest_column, cord_count_column, node_column, server_column, level_column, share_column, row_width, ServerRows, CordRows}
+use Rattle.rooms.specs.Walk.{servers_index}
 use Rattle.rooms.proofs.Walk.{begun, Walk, CordHere, ServerHere, walk_start, walk-server, walk_end}
 
 -- A row that is stored, with a figure of one of its columns, fills that column by one more.
@@ -28,13 +28,13 @@ column-filled rows k row f h e = rw (column-set k rows _ row) (filled-one (at ro
 
 -- The rows before place c have their width.
 abbrev Wide : ℕ → List (List ℕ) → Type 0
-Wide c rows = (h : ℕ) → h < c → length (get_or rows h []) ≡ rowWidth
+Wide c rows = (h : ℕ) → h < c → length (get_or rows h []) ≡ row_width
 
 -- One more row of that width.
-wide-one : (rows : List (List ℕ)) (c : ℕ) (row : List ℕ) → Wide c rows → c < length rows → length row ≡ rowWidth → Wide (c + 1) (set rows c row)
+wide-one : (rows : List (List ℕ)) (c : ℕ) (row : List ℕ) → Wide c rows → c < length rows → length row ≡ row_width → Wide (c + 1) (set rows c row)
 wide-one rows c row wide here e h l = go (eqb c h) refl
   where
-    go : (t : Bool) → eqb c h ≡ t → length (get_or (set rows c row) h []) ≡ rowWidth
+    go : (t : Bool) → eqb c h ≡ t → length (get_or (set rows c row) h []) ≡ row_width
     go true q =
         let same : c ≡ h = eqb-true c h q in
         rw (← same) (ap length (get_or-set_same rows c row [] here) ∙ e)
@@ -49,15 +49,15 @@ pub record Laying (table : List ℕ) (v start first c : ℕ) (servers cords : Li
   pub end : ℕ
   pub read : checked table 0 ≡ good room end
   pub walk : Walk table room v start first
-  pub ranks : Filled (λ h. (serverAt room h).rank) (length room.servers) v (column rankColumn servers)
-  pub leasts : Filled (λ h. (serverAt room h).least) (length room.servers) v (column leastColumn servers)
-  pub greatests : Filled (λ h. (serverAt room h).greatest) (length room.servers) v (column greatestColumn servers)
-  pub counts : Filled (λ h. cordCount (serverAt room h)) (length room.servers) v (column cordCountColumn servers)
+  pub ranks : Filled (λ h. (server_at room h).rank) (length room.servers) v (column rank_column servers)
+  pub leasts : Filled (λ h. (server_at room h).least) (length room.servers) v (column least_column servers)
+  pub greatests : Filled (λ h. (server_at room h).greatest) (length room.servers) v (column greatest_column servers)
+  pub counts : Filled (λ h. cord_count (server_at room h)) (length room.servers) v (column cord_count_column servers)
   pub servers-wide : Wide v servers
-  pub nodes : Filled (λ h. (cordAt room h).node) (roomCords room) c (column nodeColumn cords)
-  pub places : Filled (λ h. (cordAt room h).server) (roomCords room) c (column serverColumn cords)
-  pub levels : Filled (λ h. rank_of room h - 1) (roomCords room) c (column levelColumn cords)
-  pub shares : Filled (λ h. (cordAt room h).share) (roomCords room) c (column shareColumn cords)
+  pub nodes : Filled (λ h. (cord_at room h).node) (room_cords room) c (column node_column cords)
+  pub places : Filled (λ h. (cord_at room h).server) (room_cords room) c (column server_column cords)
+  pub levels : Filled (λ h. rank_of room h - 1) (room_cords room) c (column level_column cords)
+  pub shares : Filled (λ h. (cord_at room h).share) (room_cords room) c (column share_column cords)
   pub cords-wide : Wide c cords
 
 -- Within that server: the words of the cord at place c start at index `word`.
@@ -73,7 +73,7 @@ none_filled : {n : ℕ} (g : ℕ → ℕ) (k : ℕ) (rows : List (List ℕ)) →
 none_filled g k rows e = rw (← e, ← column-length k rows) (filled_none g (column k rows))
 
 pub laying-start : {table : List ℕ} {servers cords : List (List ℕ)} → (g : Good (checked table 0)) → ServersFit table (length servers) → CordsFit table (length cords)
-    → {i : ℕ} → i ≡ serversIndex table + 1 → Laying table 0 i 0 0 servers cords
+    → {i : ℕ} → i ≡ servers_index table + 1 → Laying table 0 i 0 0 servers cords
 laying-start {servers = servers} {cords = cords} g sf cf e =
     let s = sf g.value g.next g.is in
     let k = cf g.value g.next g.is in
@@ -83,33 +83,33 @@ laying-start {servers = servers} {cords = cords} g sf cf e =
       end = g.next;
       read = g.is;
       walk = walk_start g.is;
-      ranks = none_filled _ rankColumn servers s;
-      leasts = none_filled _ leastColumn servers s;
-      greatests = none_filled _ greatestColumn servers s;
-      counts = none_filled _ cordCountColumn servers s;
+      ranks = none_filled _ rank_column servers s;
+      leasts = none_filled _ least_column servers s;
+      greatests = none_filled _ greatest_column servers s;
+      counts = none_filled _ cord_count_column servers s;
       servers-wide = λ h l. absurd (omega arith);
-      nodes = none_filled _ nodeColumn cords k;
-      places = none_filled _ serverColumn cords k;
-      levels = none_filled _ levelColumn cords k;
-      shares = none_filled _ shareColumn cords k;
+      nodes = none_filled _ node_column cords k;
+      places = none_filled _ server_column cords k;
+      levels = none_filled _ level_column cords k;
+      shares = none_filled _ share_column cords k;
       cords-wide = λ h l. absurd (omega arith);
     })
 
 module _ {table : List ℕ} {v start first c : ℕ} {servers cords : List (List ℕ)}
     (laying : Laying table v start first c servers cords) where
   pub served : length servers ≡ length laying.room.servers
-  served = sym (column-length rankColumn servers) ∙ laying.ranks.size_is
+  served = sym (column-length rank_column servers) ∙ laying.ranks.size_is
 
-  pub corded : length cords ≡ roomCords laying.room
-  corded = sym (column-length nodeColumn cords) ∙ laying.nodes.size_is
+  pub corded : length cords ≡ room_cords laying.room
+  corded = sym (column-length node_column cords) ∙ laying.nodes.size_is
 
   pub laying-end : length servers ≤ v → first ≤ c → (r : Room) (end : ℕ) → checked table 0 ≡ good r end → ServerRows r servers × CordRows r cords
-  unfolding nodesOf levelsOf
+  unfolding nodes_of levels_of
   laying-end h f r end e =
       let read = laying.read in
       let same : laying.room ≡ r = cc in
       let s : length laying.room.servers ≤ v = omega (arith, served) in
-      let n : roomCords laying.room ≤ c = omega (arith, walk_end laying.walk s) in
+      let n : room_cords laying.room ≤ c = omega (arith, walk_end laying.walk s) in
       rw (← same) (
         record {
           ranks = filled-all _ _ laying.ranks refl s (λ i l. refl);
@@ -134,7 +134,7 @@ module _ {table : List ℕ} {v start first c : ℕ} {servers cords : List (List 
     pub laying-server : ServerHere table laying.room v start first
     laying-server = walk-server laying.walk here
 
-    pub few-cords : first + at table (start + 3) ≤ mostCords
+    pub few-cords : first + at table (start + 3) ≤ most_cords
     few-cords = omega (arith, laying-server.cords-within, (begun laying.read).cords-most)
 
 pub server-begin : {table : List ℕ} {v start first count : ℕ} {servers cords : List (List ℕ)}
@@ -146,7 +146,7 @@ server-begin laying more e =
 -- What code relies on at a cord.
 pub record CordFits (table : List ℕ) (v c word : ℕ) (cords : List (List ℕ)) : Type 0 where
   pub there : word + 1 < length table
-  pub cord-few : c < mostCords
+  pub cord-few : c < most_cords
   pub in-cords : c < length cords
 
 walk-to : {table : List ℕ} {r : Room} {v i j c d : ℕ} → i ≡ j → c ≡ d → Walk table r v j d → Walk table r v i c
@@ -160,8 +160,8 @@ module _ {table : List ℕ} {v start first count c word : ℕ} {servers cords : 
   abbrev r : Room
   r = server.laying.room
 
-  pub few-servers : v < mostServers
-  few-servers = omega (arith, here laying server.more, (accepted table r laying.end laying.read).fewServers)
+  pub few-servers : v < most_servers
+  few-servers = omega (arith, here laying server.more, (accepted table r laying.end laying.read).few_servers)
 
   module _ (short : c < first + count) where
     cord-here : CordHere table r v start first (c - first)
@@ -176,10 +176,10 @@ module _ {table : List ℕ} {v start first count c word : ℕ} {servers cords : 
     at-share : start + 5 + 2 * (c - first) ≡ word + 1
     at-share = omega (arith, server.from, server.next)
 
-    is : record { server = v; node = at table word; share = at table (word + 1) } ≡ cordAt r c
+    is : record { server = v; node = at table word; share = at table (word + 1) } ≡ cord_at r c
     is = sym (rw (at_c, at-word, at-share) at cord-here.is)
 
-    within : c < roomCords r
+    within : c < room_cords r
     within = rw at_c at cord-here.within
 
     pub cord-fits : CordFits table v c word cords
@@ -191,7 +191,7 @@ module _ {table : List ℕ} {v start first count c word : ℕ} {servers cords : 
         }
 
     -- The figures of its row fit their entries.
-    pub row_fits : (at table word < 2 ^ 16) × (v < 2 ^ 16) × (1 ≤ at table start) × (at table start ≤ highestRank) × (at table (word + 1) < 2 ^ 16)
+    pub row_fits : (at table word < 2 ^ 16) × (v < 2 ^ 16) × (1 ≤ at table start) × (at table start ≤ highest_rank) × (at table (word + 1) < 2 ^ 16)
     row_fits =
         let standing = laying-server laying server.more in
         let node : at table word ≤ length r.nodes = rw at-word at cord-here.node-most in
@@ -220,12 +220,12 @@ module _ {table : List ℕ} {v start first count c word : ℕ} {servers cords : 
             greatests = laying.greatests;
             counts = laying.counts;
             servers-wide = laying.servers-wide;
-            nodes = column-filled cords nodeColumn row laying.nodes within (cell nodeColumn ∙ ap (λ (x : RoomCord). x.node) is);
-            places = column-filled cords serverColumn row laying.places within (cell serverColumn ∙ ap (λ (x : RoomCord). x.server) is);
+            nodes = column-filled cords node_column row laying.nodes within (cell node_column ∙ ap (λ (x : RoomCord). x.node) is);
+            places = column-filled cords server_column row laying.places within (cell server_column ∙ ap (λ (x : RoomCord). x.server) is);
             levels =
-                column-filled cords levelColumn row laying.levels within
-                (cell levelColumn ∙ ap (λ (x : ℕ). x - 1) (sym standing.rank) ∙ ap (λ (x : RoomCord). (serverAt r x.server).rank - 1) is);
-            shares = column-filled cords shareColumn row laying.shares within (cell shareColumn ∙ ap (λ (x : RoomCord). x.share) is);
+                column-filled cords level_column row laying.levels within
+                (cell level_column ∙ ap (λ (x : ℕ). x - 1) (sym standing.rank) ∙ ap (λ (x : RoomCord). (server_at r x.server).rank - 1) is);
+            shares = column-filled cords share_column row laying.shares within (cell share_column ∙ ap (λ (x : RoomCord). x.share) is);
             cords-wide = wide-one cords c row laying.cords-wide (omega (arith, within, corded laying)) (ap length e);
           };
           more = server.more;
@@ -251,10 +251,10 @@ module _ {table : List ℕ} {v start first count c word : ℕ} {servers cords : 
           end = laying.end;
           read = laying.read;
           walk = walk-to w (ap (λ (k : ℕ). first + k) server.counted) standing.next;
-          ranks = column-filled servers rankColumn row laying.ranks place (sym standing.rank);
-          leasts = column-filled servers leastColumn row laying.leasts place (sym standing.least);
-          greatests = column-filled servers greatestColumn row laying.greatests place (sym standing.greatest);
-          counts = column-filled servers cordCountColumn row laying.counts place (sym standing.count);
+          ranks = column-filled servers rank_column row laying.ranks place (sym standing.rank);
+          leasts = column-filled servers least_column row laying.leasts place (sym standing.least);
+          greatests = column-filled servers greatest_column row laying.greatests place (sym standing.greatest);
+          counts = column-filled servers cord_count_column row laying.counts place (sym standing.count);
           servers-wide = wide-one servers v row laying.servers-wide server.more refl;
           nodes = rw all laying.nodes;
           places = rw all laying.places;

@@ -1,4 +1,4 @@
--- How long a list must be that is lent to Read or Write: one word more than `mostWords`, which a table may have, decides every
+-- How long a list must be that is lent to Read or Write: one word more than `most_words`, which a table may have, decides every
 -- table. A caller whose own buffers may be of any length may lend such lists in their place.
 use mathlib.Core.Path.{◌≡◌, refl, sym, ap, ◌∙◌}
 use mathlib.Core.List.{List}
@@ -9,24 +9,24 @@ use lib.Seq.{sets, length-sets, length-take-le, take_all}
 use Rattle.outcomes.specs.Outcome.{accepted, fitting}
 use Rattle.outcomes.proofs.Outcomes.{fitting-fits}
 use Rattle.outcomes.proofs.Parts.{accepted-went}
-use Rattle.numbers.specs.Sheet.{SheetEnding, whole, sheetOf, bytes_of}
+use Rattle.numbers.specs.Sheet.{SheetEnding, whole, sheet_of, bytes_of}
 use Rattle.numbers.specs.Sheet as sheet
 use Rattle.rooms.specs.Part.{Step, good, bad}
-use Rattle.rooms.specs.Table.{Room, mostWords}
+use Rattle.rooms.specs.Table.{Room, most_words}
 use Rattle.rooms.specs.Limits.{checked}
 use Rattle.rooms.specs.declared.SheetRefusal.TheVariants.{OutputTooShort}
 use Rattle.rooms.specs.declared.SheetAnswer.{SheetAnswer}
 use Rattle.rooms.specs.declared.SheetAnswer.TheVariants.{Accepted}
-use Rattle.rooms.specs.Outcome.{answer_of, ifGood, readWords, reading, readingFirst, writing}
+use Rattle.rooms.specs.Outcome.{answer_of, if_good, read_words, reading, reading_first, writing}
 use Rattle.rooms.proofs.Reach.{prefix-decides, length-small}
 use Rattle.rooms.proofs.Outcomes.{accepted-told, accepted-is, front-sets, front-size}
 
 -- A table that is cut comes to the same, if it is cut no shorter than decides its check.
-table-cut : (output : List ℕ → List ℕ) (table : List ℕ) (entries k : ℕ) → suc mostWords ≤ k
-    → ifGood (checked (take k table) 0) (output (take k table)) entries ≡ ifGood (checked table 0) (output table) entries
+table-cut : (output : List ℕ → List ℕ) (table : List ℕ) (entries k : ℕ) → suc most_words ≤ k
+    → if_good (checked (take k table) 0) (output (take k table)) entries ≡ if_good (checked table 0) (output table) entries
 table-cut output table entries k h = rw (prefix-decides table k h) (go (checked table 0) refl)
   where
-    go : (s : Step Room) → checked table 0 ≡ s → ifGood s (output (take k table)) entries ≡ ifGood s (output table) entries
+    go : (s : Step Room) → checked table 0 ≡ s → if_good s (output (take k table)) entries ≡ if_good s (output table) entries
     go (good r j) e = rw (take_all k table (omega (arith, length-small table r j e)))
     go (bad q) e = refl
 
@@ -34,23 +34,23 @@ table-cut output table entries k h = rw (prefix-decides table k h) (go (checked 
 
 module _ (bytes : List ℕ) (entries : ℕ) where
   abbrev words : List ℕ
-  words = (sheetOf bytes).words
+  words = (sheet_of bytes).words
 
   -- Read by way of a list is Read, if the list takes what decides.
-  pub reading-first : (taken : ℕ) → suc mostWords ≤ taken → readingFirst taken bytes entries ≡ reading bytes entries
-  unfolding reading readingFirst
-  reading-first taken h = ending (sheetOf bytes).ending
+  pub reading-first : (taken : ℕ) → suc most_words ≤ taken → reading_first taken bytes entries ≡ reading bytes entries
+  unfolding reading reading_first
+  reading-first taken h = ending (sheet_of bytes).ending
     where
-      ending : (e : SheetEnding) → readWords (take taken words) e entries ≡ readWords words e entries
+      ending : (e : SheetEnding) → read_words (take taken words) e entries ≡ read_words words e entries
       ending whole = table-cut (λ l. l) words entries taken h
       ending (sheet.refused fault place) = refl
 
   -- What is read fits the output,
   pub reading-fits : {written : List ℕ} → reading bytes entries ≡ accepted written → length written ≤ entries
   unfolding reading
-  reading-fits {written = written} e = ending (sheetOf bytes).ending e
+  reading-fits {written = written} e = ending (sheet_of bytes).ending e
     where
-      ending : (end : SheetEnding) → readWords words end entries ≡ accepted written → length written ≤ entries
+      ending : (end : SheetEnding) → read_words words end entries ≡ accepted written → length written ≤ entries
       ending whole e =
           let went = accepted-went (λ q. q) (λ room. fitting OutputTooShort words entries) (checked words 0) e in
           fitting-fits OutputTooShort words entries went.is
@@ -60,17 +60,17 @@ module _ (bytes : List ℕ) (entries : ℕ) where
   pub record Stands (list list' : List ℕ) (count : ℕ) : Type 0 where
     pub fits : count ≤ length list'
     pub counted : length (take count list') ≡ count
-    pub is : readingFirst (length list) bytes entries ≡ accepted (take count list')
+    pub is : reading_first (length list) bytes entries ≡ accepted (take count list')
 
-  first-is : (taken : ℕ) {output : List ℕ} → readingFirst taken bytes entries ≡ accepted output → take taken words ≡ output
-  unfolding readingFirst
-  first-is taken {output = output} e = ending (sheetOf bytes).ending e
+  first-is : (taken : ℕ) {output : List ℕ} → reading_first taken bytes entries ≡ accepted output → take taken words ≡ output
+  unfolding reading_first
+  first-is taken {output = output} e = ending (sheet_of bytes).ending e
     where
-      ending : (end : SheetEnding) → readWords (take taken words) end entries ≡ accepted output → take taken words ≡ output
+      ending : (end : SheetEnding) → read_words (take taken words) end entries ≡ accepted output → take taken words ≡ output
       ending whole e = (accepted-is (checked (take taken words) 0) (take taken words) entries e).1
       ending (sheet.refused fault place) e = let z : ◌≡◌ {A = ℕ} 0 1 = cc in absurd (omega arith)
 
-  pub first-stands : (list : List ℕ) {list' : List ℕ} {told : SheetAnswer} {count : ℕ} → told ≡ answer_of (readingFirst (length list) bytes entries) → told ≡ Accepted count
+  pub first-stands : (list : List ℕ) {list' : List ℕ} {told : SheetAnswer} {count : ℕ} → told ≡ answer_of (reading_first (length list) bytes entries) → told ≡ Accepted count
       → list' ≡ sets list 0 words → Stands list list' count
   first-stands list {list' = list'} {count = count} d e s =
       let o = accepted-told _ d e in
@@ -86,6 +86,6 @@ module _ (bytes : List ℕ) (entries : ℕ) where
 -- ---- Write
 
 -- Write comes to the same of a table that is cut, if it is cut no shorter than decides its check.
-pub writing-cut : (table : List ℕ) (entries k : ℕ) → suc mostWords ≤ k → writing (take k table) entries ≡ writing table entries
+pub writing-cut : (table : List ℕ) (entries k : ℕ) → suc most_words ≤ k → writing (take k table) entries ≡ writing table entries
 unfolding writing
 writing-cut table entries k h = table-cut bytes_of table entries k h

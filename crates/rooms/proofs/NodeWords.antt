@@ -10,19 +10,19 @@ use native.Mathlib.Numerals.{add-one}
 use lib.ListN.{length, get_or}
 use lib.Dec.{eqb}
 use borrow.Author.Tests.{eq-eqb, ne_eqb, eqb-true}
-use Rattle.rooms.specs.Table.{nodeWords}
+use Rattle.rooms.specs.Table.{node_words}
 use Rattle.rooms.specs.Limits.{limit}
 use Rattle.rooms.specs.Words.{PercentFits}
-use Rattle.rooms.specs.Credits.{nodeFrom, nodeIndex, NodesRead, parentAt, limitAt}
+use Rattle.rooms.specs.Credits.{node_from, node_index, NodesRead, parent_at, limit_at}
 
 -- ---- One node
 
 -- The words of a node after its first two are those of its percent.
-pub percent-words : (percents : Bool) (i : ℕ) → suc (suc i) + cond percents 1 0 ≡ i + nodeWords percents
+pub percent-words : (percents : Bool) (i : ℕ) → suc (suc i) + cond percents 1 0 ≡ i + node_words percents
 percent-words true i = omega arith
 percent-words false i = omega arith
 
-pub words-two : (percents : Bool) → 2 ≤ nodeWords percents
+pub words-two : (percents : Bool) → 2 ≤ node_words percents
 words-two true = omega arith
 words-two false = omega arith
 
@@ -54,26 +54,26 @@ module _ (percents : Bool) (w : List ℕ) (i : ℕ) where
   third : i + 2 ≡ suc (suc i)
   third = omega arith
 
-  pub percent-most : percents ≡ true → (nodeFrom percents w i).percent ≤ 100 → get_or w (i + 2) 0 ≤ 100
+  pub percent-most : percents ≡ true → (node_from percents w i).percent ≤ 100 → get_or w (i + 2) 0 ≤ 100
   percent-most e h = rw third (rw e at h)
 
-  pub limit-by-word : {x : ℕ} → percents ≡ true → x ≡ get_or w (i + 1) 0 * get_or w (i + 2) 0 / 100 → x ≡ limit (nodeFrom percents w i)
+  pub limit-by-word : {x : ℕ} → percents ≡ true → x ≡ get_or w (i + 1) 0 * get_or w (i + 2) 0 / 100 → x ≡ limit (node_from percents w i)
   limit-by-word e h = rw e (rw (add-one, third) at h)
 
-  pub limit-by-eighty : {x : ℕ} → percents ≡ false → x ≡ get_or w (i + 1) 0 * 80 / 100 → x ≡ limit (nodeFrom percents w i)
+  pub limit-by-eighty : {x : ℕ} → percents ≡ false → x ≡ get_or w (i + 1) 0 * 80 / 100 → x ≡ limit (node_from percents w i)
   limit-by-eighty e h = rw e (rw add-one at h)
 
 -- ---- The node at a place
 
-module _ (percents : Bool) (w : List ℕ) {i : ℕ} (m : ℕ) (here : i ≡ nodeIndex percents m) where
-  pub node-fits : {count : ℕ} → NodesRead percents w count → m < count → (i + nodeWords percents ≤ length w) × ((nodeFrom percents w i).percent ≤ 100)
+module _ (percents : Bool) (w : List ℕ) {i : ℕ} (m : ℕ) (here : i ≡ node_index percents m) where
+  pub node-fits : {count : ℕ} → NodesRead percents w count → m < count → (i + node_words percents ≤ length w) × ((node_from percents w i).percent ≤ 100)
   node-fits {count} read h = (
-    omega (arith, here, read.there, mul-suc (nodeWords percents) m, mul-le-mul_left (nodeWords percents) h),
+    omega (arith, here, read.there, mul-suc (node_words percents) m, mul-le-mul_left (node_words percents) h),
     rw here (read.part m h),
   )
 
-  pub parent-here : {x : ℕ} → x ≡ get_or w i 0 → x ≡ parentAt percents w m
+  pub parent-here : {x : ℕ} → x ≡ get_or w i 0 → x ≡ parent_at percents w m
   parent-here e = e ∙ ap (λ (k : ℕ). get_or w k 0) here
 
-  pub limit-here : {x : ℕ} → x ≡ limit (nodeFrom percents w i) → x ≡ limitAt percents w m
-  limit-here e = e ∙ ap (λ (k : ℕ). limit (nodeFrom percents w k)) here
+  pub limit-here : {x : ℕ} → x ≡ limit (node_from percents w i) → x ≡ limit_at percents w m
+  limit-here e = e ∙ ap (λ (k : ℕ). limit (node_from percents w k)) here

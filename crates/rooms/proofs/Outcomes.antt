@@ -13,7 +13,7 @@ use Rattle.outcomes.specs.Outcome.{accepted, refused, fitting, after}
 use Rattle.outcomes.proofs.Outcomes.{fitting-short, fitting-whole, fitting-is}
 use Rattle.outcomes.proofs.Parts.{accepted-went}
 use Rattle.figures.proofs.Stores.{take-sets, take_min}
-use Rattle.numbers.specs.Sheet.{SheetEnding, whole, sheetOf, judged, answer, bytes_of, written, fitted}
+use Rattle.numbers.specs.Sheet.{SheetEnding, whole, sheet_of, judged, answer, bytes_of, written, fitted}
 use Rattle.numbers.specs.Sheet as sheet
 use Rattle.numbers.specs.declared.Fault.{Fault}
 use Rattle.numbers.specs.declared.JudgedSheet.{JudgedSheet}
@@ -27,7 +27,7 @@ use Rattle.rooms.specs.Part as part
 use Rattle.rooms.specs.Table.{Room}
 use Rattle.rooms.specs.Limits.{checked}
 use Rattle.rooms.specs.Told.{told}
-use Rattle.rooms.specs.Outcome.{SheetOutcome, answer_of, ifGood, readWords, reading, readingFirst, writing}
+use Rattle.rooms.specs.Outcome.{SheetOutcome, answer_of, if_good, read_words, reading, reading_first, writing}
 use Rattle.rooms.proofs.Reach.{words_small}
 use Rattle.rooms.specs.declared.SheetRefusal.{SheetRefusal}
 use Rattle.rooms.specs.declared.SheetRefusal.TheVariants.{BadNumber, OutputTooShort}
@@ -68,7 +68,7 @@ accepted-told (accepted output) d e = record { output = output; is = refl; count
 accepted-told (refused refusal) d e = absurd (suc-ne-zero 0 (cc))
 
 -- What is accepted after the check of a table: the table is good, and the output is what was due.
-pub accepted-is : (step : Step Room) (output : List ℕ) (entries : ℕ) {given : List ℕ} → ifGood step output entries ≡ accepted given → part.Good step × (output ≡ given)
+pub accepted-is : (step : Step Room) (output : List ℕ) (entries : ℕ) {given : List ℕ} → if_good step output entries ≡ accepted given → part.Good step × (output ≡ given)
 accepted-is step output entries e =
     let went = accepted-went (λ q. q) (λ room. fitting OutputTooShort output entries) step e in
     (went.good-step, fitting-is OutputTooShort output entries went.is)
@@ -89,32 +89,32 @@ module _ (list words : List ℕ) {front : ℕ} (e : front ≡ min (length words)
 
 -- A sheet of so many good numbers.
 pub record Whole (bytes : List ℕ) (count : ℕ) : Type 0 where
-  pub ends : (sheetOf bytes).ending ≡ whole
-  pub counted : length (sheetOf bytes).words ≡ count
+  pub ends : (sheet_of bytes).ending ≡ whole
+  pub counted : length (sheet_of bytes).words ≡ count
 
 module _ (bytes : List ℕ) where
   abbrev words : List ℕ
-  words = (sheetOf bytes).words
+  words = (sheet_of bytes).words
 
-  pub whole-so : {r : JudgedSheet} {count : ℕ} → r ≡ judged (sheetOf bytes) → r ≡ Words count → Whole bytes count
-  whole-so {r = r} {count = count} d e = go (sheetOf bytes).ending refl d
+  pub whole-so : {r : JudgedSheet} {count : ℕ} → r ≡ judged (sheet_of bytes) → r ≡ Words count → Whole bytes count
+  whole-so {r = r} {count = count} d e = go (sheet_of bytes).ending refl d
     where
-      go : (ending : SheetEnding) → (sheetOf bytes).ending ≡ ending → r ≡ answer (length words) ending → Whole bytes count
+      go : (ending : SheetEnding) → (sheet_of bytes).ending ≡ ending → r ≡ answer (length words) ending → Whole bytes count
       go whole is d = let n : length words ≡ count = cc in record { ends = is; counted = n }
       go (sheet.refused f p) is d = absurd (suc-ne-zero 0 (cc))
 
   -- What an accepted Read says: the sheet is whole, and its words are a good table.
   pub record Read (table : List ℕ) : Type 0 where
-    pub ends : (sheetOf bytes).ending ≡ whole
+    pub ends : (sheet_of bytes).ending ≡ whole
     pub words_are : words ≡ table
     pub checks : part.Good (checked table 0)
 
   module _ (entries : ℕ) where
     pub reading-is : {table : List ℕ} → reading bytes entries ≡ accepted table → Read table
     unfolding reading
-    reading-is {table = table} e = go (sheetOf bytes).ending refl e
+    reading-is {table = table} e = go (sheet_of bytes).ending refl e
       where
-        go : (ending : SheetEnding) → (sheetOf bytes).ending ≡ ending → readWords words ending entries ≡ accepted table → Read table
+        go : (ending : SheetEnding) → (sheet_of bytes).ending ≡ ending → read_words words ending entries ≡ accepted table → Read table
         go whole is e =
             let a = accepted-is (checked words 0) words entries e in
             record { ends = is; words_are = a.1; checks = rw a.1 at a.0 }
@@ -123,7 +123,7 @@ module _ (bytes : List ℕ) where
 -- The answer on a table whose words are to go to an output of so many.
 module _ (table : List ℕ) (entries : ℕ) where
   abbrev outcome : SheetOutcome
-  outcome = ifGood (checked table 0) table entries
+  outcome = if_good (checked table 0) table entries
 
   pub table-refused : {q : SheetRefusal} → checked table 0 ≡ bad q → answers.Refused q ≡ answer_of outcome
   table-refused c = rw c refl
@@ -136,13 +136,13 @@ module _ (table : List ℕ) (entries : ℕ) where
 
 -- Read by way of a list, which becomes `list'`.
 module _ (bytes list : List ℕ) (entries : ℕ) where
-  pub first-bad-number : {r : JudgedSheet} {f : Fault} {p : ℕ} → r ≡ judged (sheetOf bytes) → r ≡ judge.Refused f p
-      → answers.Refused (BadNumber f p) ≡ answer_of (readingFirst (length list) bytes entries)
-  unfolding readingFirst
-  first-bad-number {r = r} {f = f} {p = p} d e = go (sheetOf bytes).ending d
+  pub first-bad-number : {r : JudgedSheet} {f : Fault} {p : ℕ} → r ≡ judged (sheet_of bytes) → r ≡ judge.Refused f p
+      → answers.Refused (BadNumber f p) ≡ answer_of (reading_first (length list) bytes entries)
+  unfolding reading_first
+  first-bad-number {r = r} {f = f} {p = p} d e = go (sheet_of bytes).ending d
     where
       go : (ending : SheetEnding) → r ≡ answer (length (words bytes)) ending
-          → answers.Refused (BadNumber f p) ≡ answer_of (readWords (take (length list) (words bytes)) ending entries)
+          → answers.Refused (BadNumber f p) ≡ answer_of (read_words (take (length list) (words bytes)) ending entries)
       go whole d = absurd (suc-ne-zero 0 (cc))
       go (sheet.refused g q) d =
           let a : g ≡ f = cc in
@@ -150,8 +150,8 @@ module _ (bytes list : List ℕ) (entries : ℕ) where
           rw (a, b)
 
   pub first-answered : {count front : ℕ} {list' : List ℕ} {told : SheetAnswer} → Whole bytes count → list' ≡ sets list 0 (words bytes) → front ≡ min count (length list')
-      → told ≡ answer_of (outcome (take front list') entries) → told ≡ answer_of (readingFirst (length list) bytes entries)
-  unfolding readingFirst
+      → told ≡ answer_of (outcome (take front list') entries) → told ≡ answer_of (reading_first (length list) bytes entries)
+  unfolding reading_first
   first-answered {front = front} {list' = list'} is e f a =
       let n : front ≡ min (length (words bytes)) (length list) = omega (arith, is.counted, ap length e ∙ length-sets list 0 (words bytes)) in
       let taken : take front list' ≡ take (length list) (words bytes) = rw e (front-sets list (words bytes) n) in

@@ -11,19 +11,19 @@ use native.Mathlib.Omega.{arith}
 use lib.ListN.{length, get_or}
 use lib.Dec.{eqb, ltb, leb}
 use borrow.Author.Tests.{ltb-true, ltb-false, lt-ltb, le-ltb, eqb-false, eq-eqb, ne_eqb}
-use Rattle.numbers.specs.Sheet.{SheetEnding, whole, sheetOf, bytes_of}
+use Rattle.numbers.specs.Sheet.{SheetEnding, whole, sheet_of, bytes_of}
 use Rattle.numbers.specs.Sheet as sheet
 use Rattle.numbers.specs.declared.Fault.TheVariants.{TooLong, NotShortest, CutShort}
 use Rattle.rooms.specs.Part.{Step, good, bad, Good, Part, follow, word, ensure, end, many}
 use Rattle.rooms.specs.Table.{Room, percent, node, cord, range, load, server, table}
-use Rattle.rooms.specs.Limits.{limit, nodeAt, lowsBeneath, firstNode, overloaded, checked}
-use Rattle.rooms.specs.Outcome.{SheetOutcome, sheetRefusalNumber, sheetRefusalPlace, sheetNumber, answer_of, ifGood, readWords, reading, writing}
+use Rattle.rooms.specs.Limits.{limit, node_at, lows_beneath, first_node, overloaded, checked}
+use Rattle.rooms.specs.Outcome.{SheetOutcome, sheet_refusal_number, sheet_refusal_place, sheet_number, answer_of, if_good, read_words, reading, writing}
 use Rattle.outcomes.specs.Outcome.{fitting}
 use Rattle.outcomes.proofs.Outcomes.{fitting-either}
 use Rattle.rooms.specs.Promises.{IsNode, Within, LowestExceeding, Overloaded, IsNine, RefusalNine}
 use Rattle.rooms.specs.declared.SheetRefusal.{SheetRefusal}
 use Rattle.rooms.specs.declared.SheetRefusal.TheVariants.{BadNumber, WordMissing, WordOutOfRange, GreatestBelowLeast, SharesNotWhole, WordsLeftOver, LowsAboveLimit, OutputTooShort}
-use Rattle.rooms.proofs.Search.{firstNode-none, none-firstNode, firstNode-first, first-firstNode}
+use Rattle.rooms.proofs.Search.{first_node-none, none-first_node, first_node-first, first-first_node}
 
 -- ---- The overloaded node of a room
 
@@ -32,7 +32,7 @@ module _ (r : Room) where
   count = length r.nodes
 
   abbrev over : ℕ → Bool
-  over m = ltb (limit (nodeAt r m)) (lowsBeneath r m)
+  over m = ltb (limit (node_at r m)) (lows_beneath r m)
 
   not-over : (m : ℕ) → Within r (suc m) → over m ≡ false
   not-over m h = let q : suc m - 1 ≡ m = omega arith in le-ltb _ _ (rw q at h)
@@ -40,28 +40,28 @@ module _ (r : Room) where
   pub overloaded-none : (overloaded r ≡ 0) ↔ ((n : ℕ) → IsNode r n → Within r n)
   unfolding overloaded
   overloaded-none = (
-    λ e n is. ltb-false _ _ (firstNode-none count 0 over e (n - 1) (omega arith) (omega (arith, is.0, is.1))),
-    λ h. none-firstNode count 0 over (λ m a b. not-over m (h (suc m) (omega arith, omega arith))),
+    λ e n is. ltb-false _ _ (first_node-none count 0 over e (n - 1) (omega arith) (omega (arith, is.0, is.1))),
+    λ h. none-first_node count 0 over (λ m a b. not-over m (h (suc m) (omega arith, omega arith))),
   )
 
   pub overloaded-lowest : (n : ℕ) → ((1 ≤ n) × (overloaded r ≡ n)) ↔ LowestExceeding r n
   unfolding overloaded
   overloaded-lowest n = (λ e. lowest e.0 e.1, λ h. (h.node.0, names h))
     where
-      lowest : 1 ≤ n → firstNode count 0 over ≡ n → LowestExceeding r n
+      lowest : 1 ≤ n → first_node count 0 over ≡ n → LowestExceeding r n
       lowest some e =
           let q : n ≡ suc (n - 1) = omega arith in
-          let f = firstNode-first count 0 over (n - 1) (e ∙ q) in
+          let f = first_node-first count 0 over (n - 1) (e ∙ q) in
           record {
             node = (some, omega (arith, f.within));
             exceeds = ltb-true _ _ f.holds;
             lowest = λ m is l. ltb-false _ _ (f.before (m - 1) (omega arith) (omega (arith, is.0)));
           }
 
-      names : LowestExceeding r n → firstNode count 0 over ≡ n
+      names : LowestExceeding r n → first_node count 0 over ≡ n
       names h =
           let q : suc (n - 1) ≡ n = omega (arith, h.node.0) in
-          first-firstNode count 0 over (n - 1)
+          first-first_node count 0 over (n - 1)
           (record {
             from = omega arith;
             within = omega (arith, h.node.0, h.node.1);
@@ -166,9 +166,9 @@ node-early percents own w i =
     follow-early _ _ (word-early _ w j) (λ b k.
     follow-early _ _ (percent-early percents w k) (λ c l. good-early _ _)))
 
-cord-early : (scale nodeCount : ℕ) (w : List ℕ) (i : ℕ) → Early (cord scale nodeCount w i)
+cord-early : (scale node_count : ℕ) (w : List ℕ) (i : ℕ) → Early (cord scale node_count w i)
 unfolding cord
-cord-early scale nodeCount w i = follow-early _ _ (word-early _ w i) (λ a j. follow-early _ _ (word-early _ w j) (λ b k. good-early _ _))
+cord-early scale node_count w i = follow-early _ _ (word-early _ w i) (λ a j. follow-early _ _ (word-early _ w j) (λ b k. good-early _ _))
 
 range-early : (w : List ℕ) (i : ℕ) → Early (range w i)
 unfolding range
@@ -178,29 +178,29 @@ range-early w i =
     follow-early _ _ (word-early _ w k) (λ greatest l.
     follow-early _ _ (ensure-early _ _ w l (λ n e. suc-ne-zero 0 (cc))) (λ _ m. good-early _ _))))
 
-load-early : (scale nodeCount before start : ℕ) (w : List ℕ) (i : ℕ) → Early (load scale nodeCount before start w i)
+load-early : (scale node_count before start : ℕ) (w : List ℕ) (i : ℕ) → Early (load scale node_count before start w i)
 unfolding load
-load-early scale nodeCount before start w i =
+load-early scale node_count before start w i =
     follow-early _ _ (word-early _ w i) (λ count j.
-    follow-early _ _ (many-early _ _ w (λ _. cord-early scale nodeCount w) count 0 j) (λ cords k.
+    follow-early _ _ (many-early _ _ w (λ _. cord-early scale node_count w) count 0 j) (λ cords k.
     follow-early _ _ (ensure-early _ _ w k (λ n e. suc-ne-zero 0 (cc))) (λ _ l. good-early _ _)))
 
-server-early : (scale nodeCount before : ℕ) (w : List ℕ) (i : ℕ) → Early (server scale nodeCount before w i)
+server-early : (scale node_count before : ℕ) (w : List ℕ) (i : ℕ) → Early (server scale node_count before w i)
 unfolding server
-server-early scale nodeCount before w i =
+server-early scale node_count before w i =
     follow-early _ _ (good-early _ _) (λ start j.
     follow-early _ _ (word-early _ w j) (λ rank k.
     follow-early _ _ (range-early w k) (λ range l.
-    follow-early _ _ (load-early scale nodeCount before start w l) (λ cords m. good-early _ _))))
+    follow-early _ _ (load-early scale node_count before start w l) (λ cords m. good-early _ _))))
 
 table-early : (w : List ℕ) (i : ℕ) → Early (table w i)
 unfolding table
 table-early w i =
     follow-early _ _ (word-early _ w i) (λ version j.
-    follow-early _ _ (word-early _ w j) (λ nodeCount k.
-    follow-early _ _ (many-early _ _ w (λ own. node-early _ own w) nodeCount 1 k) (λ nodes l.
-    follow-early _ _ (word-early _ w l) (λ serverCount m.
-    follow-early _ _ (many-early _ _ w (λ before. server-early _ nodeCount before w) serverCount 0 m) (λ servers o.
+    follow-early _ _ (word-early _ w j) (λ node_count k.
+    follow-early _ _ (many-early _ _ w (λ own. node-early _ own w) node_count 1 k) (λ nodes l.
+    follow-early _ _ (word-early _ w l) (λ server_count m.
+    follow-early _ _ (many-early _ _ w (λ before. server-early _ node_count before w) server_count 0 m) (λ servers o.
     follow-early _ _ (end-early w o) (λ _ p. good-early _ _))))))
 
 -- Where 9 ends what follows an early step, the step is good.
@@ -215,7 +215,7 @@ checked-last w n e = early-good (table w 0) _ n (table-early w 0) e
 
 -- The check of any words.
 pub checked-nine : (w : List ℕ) (n : ℕ) → (checked w 0 ≡ bad (LowsAboveLimit n)) ↔ Overloaded w n
-checked-nine w n = (found, λ o. (lowest o.room o.end o.isTable).1 o.lowest)
+checked-nine w n = (found, λ o. (lowest o.room o.end o.is_table).1 o.lowest)
   where
     lowest : (r : Room) (j : ℕ) → table w 0 ≡ good r j → (checked w 0 ≡ bad (LowsAboveLimit n)) ↔ LowestExceeding r n
     lowest r j e = Iff.trans (checked-bad w r j e n) (overloaded-lowest r n)
@@ -223,12 +223,12 @@ checked-nine w n = (found, λ o. (lowest o.room o.end o.isTable).1 o.lowest)
     found : checked w 0 ≡ bad (LowsAboveLimit n) → Overloaded w n
     found c =
         let t = checked-last w n c in
-        record { room = t.value; end = t.next; isTable = t.is; lowest = (lowest t.value t.next t.is).0 c }
+        record { room = t.value; end = t.next; is_table = t.is; lowest = (lowest t.value t.next t.is).0 c }
 
 -- ---- The answers
 
 -- The refusal with the number 9.
-pub nine-lows : (refusal : SheetRefusal) (n : ℕ) → sheetRefusalNumber refusal ≡ 9 → sheetRefusalPlace refusal ≡ n → refusal ≡ LowsAboveLimit n
+pub nine-lows : (refusal : SheetRefusal) (n : ℕ) → sheet_refusal_number refusal ≡ 9 → sheet_refusal_place refusal ≡ n → refusal ≡ LowsAboveLimit n
 nine-lows (BadNumber TooLong place) n e p = absurd (omega arith)
 nine-lows (BadNumber NotShortest place) n e p = absurd (omega arith)
 nine-lows (BadNumber CutShort place) n e p = absurd (omega arith)
@@ -241,11 +241,11 @@ nine-lows (LowsAboveLimit place) n e p = ap LowsAboveLimit p
 nine-lows (OutputTooShort place) n e p = absurd (omega arith)
 
 -- An output that follows a good table is accepted, or refused by 12.
-fitting-other : (output : List ℕ) (entries : ℕ) → sheetNumber (answer_of (fitting OutputTooShort output entries)) ≡ 9 → ⊥
-fitting-other output entries = fitting-either OutputTooShort output entries (λ (o : SheetOutcome). sheetNumber (answer_of o) ≡ 9 → ⊥) (λ e. omega arith) (λ e. omega arith)
+fitting-other : (output : List ℕ) (entries : ℕ) → sheet_number (answer_of (fitting OutputTooShort output entries)) ≡ 9 → ⊥
+fitting-other output entries = fitting-either OutputTooShort output entries (λ (o : SheetOutcome). sheet_number (answer_of o) ≡ 9 → ⊥) (λ e. omega arith) (λ e. omega arith)
 
 step-nine : (s : Step Room) (output : List ℕ) (entries n : ℕ)
-    → IsNine (answer_of (ifGood s output entries)) n ↔ (s ≡ bad (LowsAboveLimit n))
+    → IsNine (answer_of (if_good s output entries)) n ↔ (s ≡ bad (LowsAboveLimit n))
 step-nine (good r j) output entries n = (λ a. absurd (fitting-other output entries a.0), λ e. absurd (suc-ne-zero 0 (cc)))
 step-nine (bad refusal) output entries n = (
   λ a. ap bad (nine-lows refusal n a.0 a.1),
@@ -253,7 +253,7 @@ step-nine (bad refusal) output entries n = (
 )
 
 output-nine : (w output : List ℕ) (entries n : ℕ)
-    → IsNine (answer_of (ifGood (checked w 0) output entries)) n ↔ Overloaded w n
+    → IsNine (answer_of (if_good (checked w 0) output entries)) n ↔ Overloaded w n
 output-nine w output entries n = Iff.trans (step-nine (checked w 0) output entries n) (checked-nine w n)
 
 write-nine : (w : List ℕ) (bytes n : ℕ) → IsNine (answer_of (writing w bytes)) n ↔ Overloaded w n
@@ -261,14 +261,14 @@ unfolding writing
 write-nine w bytes n = output-nine w (bytes_of w) bytes n
 
 read-nine : (sheet : List ℕ) (words n : ℕ)
-    → IsNine (answer_of (reading sheet words)) n ↔ (((sheetOf sheet).ending ≡ whole) × Overloaded (sheetOf sheet).words n)
+    → IsNine (answer_of (reading sheet words)) n ↔ (((sheet_of sheet).ending ≡ whole) × Overloaded (sheet_of sheet).words n)
 unfolding reading
-read-nine bytes words n = go (sheetOf bytes).ending
+read-nine bytes words n = go (sheet_of bytes).ending
   where
     given : List ℕ
-    given = (sheetOf bytes).words
+    given = (sheet_of bytes).words
 
-    go : (ending : SheetEnding) → IsNine (answer_of (readWords given ending words)) n ↔ ((ending ≡ whole) × Overloaded given n)
+    go : (ending : SheetEnding) → IsNine (answer_of (read_words given ending words)) n ↔ ((ending ≡ whole) × Overloaded given n)
     go whole =
         let o = output-nine given given words n in
         (λ a. (refl, o.0 a), λ h. o.1 h.1)

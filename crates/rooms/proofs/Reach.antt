@@ -12,11 +12,11 @@ use lib.Dec.{leb, ltb}
 use borrow.Author.Tests.{leb-true, leb-false, ltb-true, ltb-false, lt-leb, lt-ltb}
 use Rattle.rooms.specs.Part.{Step, good, bad, Part, ◌>>=◌, give, here, follow, word, ensure, end, many, within}
 use Rattle.rooms.specs.declared.SheetRefusal.{SheetRefusal}
-use Rattle.rooms.specs.Table.{Room, mostWatts, mostNodes, mostServers, mostCords, mostServerCords, highestRank, mostWords, mostNodeWords, mostScale, newestVersion, form_of, nodeWords, percent, node, nodes, cord, cords, range, load, server, servers, cordCount, roomCords, table}
+use Rattle.rooms.specs.Table.{Room, most_watts, most_nodes, most_servers, most_cords, most_server_cords, highest_rank, most_words, most_node_words, most_scale, newest_version, form_of, node_words, percent, node, nodes, cord, cords, range, load, server, servers, cord_count, room_cords, table}
 use Rattle.rooms.specs.Limits.{checked}
 use Rattle.rooms.proofs.NodeWords.{percent-words}
 use Rattle.rooms.proofs.Inversion.{took, word-is, ended, node-is, cord-is, range-is, server-few}
-use Rattle.rooms.proofs.Whole.{form-scale, form-words, percentsOf, table_is, checked-is}
+use Rattle.rooms.proofs.Whole.{form-scale, form-words, percents_of, table_is, checked-is}
 use Rattle.rooms.proofs.Extent.{server-next, table-next}
 
 -- ---- The calculus
@@ -26,7 +26,7 @@ record Taken (last : ℕ) (w : List ℕ) (i j : ℕ) : Type 0 where
   onward : i ≤ j
   near : j ≤ last
   there : i ≤ length w → j ≤ length w
-  small : (k : ℕ) → i ≤ k → k < j → get_or w k 0 ≤ mostWatts
+  small : (k : ℕ) → i ≤ k → k < j → get_or w k 0 ≤ most_watts
 
 -- A part, read from i on, reaches no further than `last`: it answers the same if the table is cut after the word there.
 record Reaches {A : Type 0} (last : ℕ) (p : Part A) (w : List ℕ) (i : ℕ) : Type 0 where
@@ -40,7 +40,7 @@ taken_none last w i h = record { onward = le_refl i; near = h; there = λ l. l; 
 taken-join : (last : ℕ) (w : List ℕ) (i h j : ℕ) → Taken last w i h → Taken last w h j → Taken last w i j
 taken-join last w i h j a b = record { onward = omega arith; near = b.near; there = λ l. b.there (a.there l); small = λ k l m. go k l m (ltb k h) refl }
   where
-    go : (k : ℕ) → i ≤ k → k < j → (t : Bool) → ltb k h ≡ t → get_or w k 0 ≤ mostWatts
+    go : (k : ℕ) → i ≤ k → k < j → (t : Bool) → ltb k h ≡ t → get_or w k 0 ≤ most_watts
     go k l m true e = a.small k l (ltb-true k h e)
     go k l m false e = b.small k (ltb-false k h e) m
 
@@ -83,7 +83,7 @@ module _ (last : ℕ) (w : List ℕ) (i : ℕ) where
       go : (b : B) (j : ℕ) → bad q ≡ good b j → Taken last w i j
       go b j e = absurd (suc-ne-zero 0 (cc))
 
-  word-alone : (low high : ℕ) → high ≤ mostWatts → i < last → Reaches last (word (within low high)) w i
+  word-alone : (low high : ℕ) → high ≤ most_watts → i < last → Reaches last (word (within low high)) w i
   unfolding word follow
   word-alone low high h l = record { same = same; taken = taken }
     where
@@ -99,11 +99,11 @@ module _ (last : ℕ) (w : List ℕ) (i : ℕ) where
           let x : suc i ≡ j = cc in
           rw (← x) (record { onward = omega arith; near = l; there = λ m. v.there; small = λ k m n. only k (omega arith) (omega (arith, v.most)) })
         where
-          only : (k : ℕ) → k ≡ i → get_or w i 0 ≤ mostWatts → get_or w k 0 ≤ mostWatts
+          only : (k : ℕ) → k ≡ i → get_or w i 0 ≤ most_watts → get_or w k 0 ≤ most_watts
           only k e s = rw e s
 
   -- A word: what follows it knows its range.
-  word-reaches : {B : Type 0} {k : ℕ → Part B} (low high : ℕ) → high ≤ mostWatts → i < last
+  word-reaches : {B : Type 0} {k : ℕ → Part B} (low high : ℕ) → high ≤ most_watts → i < last
       → ((v : ℕ) → low ≤ v → v ≤ high → Reaches last (k v) w (suc i)) → Reaches last (◌>>=◌ (word (within low high)) k) w i
   unfolding follow
   word-reaches {B} {k} low high h l rest = then-reaches (word-alone low high h l) next
@@ -151,109 +151,109 @@ module _ (last : ℕ) (w : List ℕ) where
       ensure-reaches last w (suc i) _ _ _
       (give-reaches last w (suc i) _ (omega arith))))
 
-  node-reaches : (percents : Bool) (own i : ℕ) → own ≤ mostWatts → i + nodeWords percents ≤ last → Reaches last (node percents own) w i
+  node-reaches : (percents : Bool) (own i : ℕ) → own ≤ most_watts → i + node_words percents ≤ last → Reaches last (node percents own) w i
   unfolding node
   node-reaches percents own i h l =
       let words = percent-words percents i in
       word-reaches last w i 0 (own - 1) (omega arith) (omega arith) (λ parent _ _.
-      word-reaches last w (suc i) 0 mostWatts (le_refl mostWatts) (omega arith) (λ rating _ _.
+      word-reaches last w (suc i) 0 most_watts (le_refl most_watts) (omega arith) (λ rating _ _.
       then-reaches last w (suc (suc i)) (percent-reaches percents (suc (suc i)) (omega arith)) (λ percent j e t.
       give-reaches last w j _ t.near)))
 
-  nodes-reaches : (percents : Bool) (count own i : ℕ) → own + count ≤ mostWatts → i + nodeWords percents * count ≤ last
+  nodes-reaches : (percents : Bool) (count own i : ℕ) → own + count ≤ most_watts → i + node_words percents * count ≤ last
       → Reaches last (nodes percents count own) w i
   nodes-reaches percents count own i h l =
-      many-reaches last w (node percents) (λ own _. suc own) (λ left own i. (own + left ≤ mostWatts) × (i + nodeWords percents * left ≤ last))
+      many-reaches last w (node percents) (λ own _. suc own) (λ left own i. (own + left ≤ most_watts) × (i + node_words percents * left ≤ last))
       (λ own i f. omega arith)
-      (λ left own i f. node-reaches percents own i (omega arith) (omega (arith, mul-suc (nodeWords percents) left)))
-      (λ left own i f n j e. (omega arith, omega (arith, mul-suc (nodeWords percents) left, (node-is percents own w i n j e).next)))
+      (λ left own i f. node-reaches percents own i (omega arith) (omega (arith, mul-suc (node_words percents) left)))
+      (λ left own i f n j e. (omega arith, omega (arith, mul-suc (node_words percents) left, (node-is percents own w i n j e).next)))
       count own i (h, l)
 
   range-reaches : (i : ℕ) → i + 2 ≤ last → Reaches last range w i
   unfolding range
   range-reaches i l =
-      word-reaches last w i 0 mostWatts (le_refl mostWatts) (omega arith) (λ least _ _.
+      word-reaches last w i 0 most_watts (le_refl most_watts) (omega arith) (λ least _ _.
       here-reaches last w (suc i) _
-      (word-reaches last w (suc i) 0 mostWatts (le_refl mostWatts) (omega arith) (λ greatest _ _.
+      (word-reaches last w (suc i) 0 most_watts (le_refl most_watts) (omega arith) (λ greatest _ _.
       ensure-reaches last w (suc (suc i)) _ _ _
       (give-reaches last w (suc (suc i)) _ (omega arith)))))
 
-module _ (last : ℕ) (w : List ℕ) (scale : ℕ) (small : scale ≤ mostScale) where
-  cord-reaches : (nodeCount i : ℕ) → nodeCount ≤ mostWatts → i + 2 ≤ last → Reaches last (cord scale nodeCount) w i
+module _ (last : ℕ) (w : List ℕ) (scale : ℕ) (small : scale ≤ most_scale) where
+  cord-reaches : (node_count i : ℕ) → node_count ≤ most_watts → i + 2 ≤ last → Reaches last (cord scale node_count) w i
   unfolding cord
-  cord-reaches nodeCount i h l =
-      word-reaches last w i 1 nodeCount h (omega arith) (λ node _ _.
+  cord-reaches node_count i h l =
+      word-reaches last w i 1 node_count h (omega arith) (λ node _ _.
       word-reaches last w (suc i) 0 scale (omega arith) (omega arith) (λ share _ _.
       give-reaches last w (suc (suc i)) _ (omega arith)))
 
-  cords-reaches : (nodeCount count i : ℕ) → nodeCount ≤ mostWatts → i + 2 * count ≤ last → Reaches last (cords scale nodeCount count) w i
-  cords-reaches nodeCount count i h l =
-      many-reaches last w (λ _. cord scale nodeCount) (λ given _. given) (λ left given i. i + 2 * left ≤ last)
+  cords-reaches : (node_count count i : ℕ) → node_count ≤ most_watts → i + 2 * count ≤ last → Reaches last (cords scale node_count count) w i
+  cords-reaches node_count count i h l =
+      many-reaches last w (λ _. cord scale node_count) (λ given _. given) (λ left given i. i + 2 * left ≤ last)
       (λ given i f. omega arith)
-      (λ left given i f. cord-reaches nodeCount i h (omega arith))
-      (λ left given i f c j e. omega (arith, (cord-is scale nodeCount w i c j e).next))
+      (λ left given i f. cord-reaches node_count i h (omega arith))
+      (λ left given i f c j e. omega (arith, (cord-is scale node_count w i c j e).next))
       count 0 i l
 
-  load-reaches : (nodeCount before start i : ℕ) → nodeCount ≤ mostWatts → i + 1 + 2 * min mostServerCords (mostCords - before) ≤ last
-      → Reaches last (load scale nodeCount before start) w i
+  load-reaches : (node_count before start i : ℕ) → node_count ≤ most_watts → i + 1 + 2 * min most_server_cords (most_cords - before) ≤ last
+      → Reaches last (load scale node_count before start) w i
   unfolding load
-  load-reaches nodeCount before start i h l =
-      word-reaches last w i 1 (min mostServerCords (mostCords - before)) (omega arith) (omega arith) (λ count some few.
-      then-reaches last w (suc i) (cords-reaches nodeCount count (suc i) h (omega arith)) (λ cords j e t.
+  load-reaches node_count before start i h l =
+      word-reaches last w i 1 (min most_server_cords (most_cords - before)) (omega arith) (omega arith) (λ count some few.
+      then-reaches last w (suc i) (cords-reaches node_count count (suc i) h (omega arith)) (λ cords j e t.
       ensure-reaches last w j _ _ _
       (give-reaches last w j _ t.near)))
 
-  server-reaches : (nodeCount before i : ℕ) → nodeCount ≤ mostWatts → i + 4 + 2 * min mostServerCords (mostCords - before) ≤ last
-      → Reaches last (server scale nodeCount before) w i
+  server-reaches : (node_count before i : ℕ) → node_count ≤ most_watts → i + 4 + 2 * min most_server_cords (most_cords - before) ≤ last
+      → Reaches last (server scale node_count before) w i
   unfolding server
-  server-reaches nodeCount before i h l =
+  server-reaches node_count before i h l =
       here-reaches last w i _
-      (word-reaches last w i 1 highestRank (omega arith) (omega arith) (λ rank _ _.
+      (word-reaches last w i 1 highest_rank (omega arith) (omega arith) (λ rank _ _.
       then-reaches last w (suc i) (range-reaches last w (suc i) (omega arith)) (λ range j e t.
-      then-reaches last w j (load-reaches nodeCount before i j h (omega (arith, (range-is w (suc i) range j e).next))) (λ cords k d u.
+      then-reaches last w j (load-reaches node_count before i j h (omega (arith, (range-is w (suc i) range j e).next))) (λ cords k d u.
       give-reaches last w k _ u.near))))
 
 -- The servers that are left fit, with as many cords as the room may still have.
 record ServersFit (last left before i : ℕ) : Type 0 where
-  few : before ≤ mostCords
-  fit : i + 4 * left + 2 * mostCords ≤ last + 2 * before
+  few : before ≤ most_cords
+  fit : i + 4 * left + 2 * most_cords ≤ last + 2 * before
 
-servers-reaches : (last : ℕ) (w : List ℕ) (scale : ℕ) → scale ≤ mostScale → (nodeCount count i : ℕ) → nodeCount ≤ mostWatts → i + 4 * count + 2 * mostCords ≤ last
-    → Reaches last (servers scale nodeCount count 0) w i
-servers-reaches last w scale small nodeCount count i h l =
-    many-reaches last w (server scale nodeCount) (λ before s. before + cordCount s) (ServersFit last)
+servers-reaches : (last : ℕ) (w : List ℕ) (scale : ℕ) → scale ≤ most_scale → (node_count count i : ℕ) → node_count ≤ most_watts → i + 4 * count + 2 * most_cords ≤ last
+    → Reaches last (servers scale node_count count 0) w i
+servers-reaches last w scale small node_count count i h l =
+    many-reaches last w (server scale node_count) (λ before s. before + cord_count s) (ServersFit last)
     (λ before i f. omega arith)
-    (λ left before i f. server-reaches last w scale small nodeCount before i h (omega arith))
-    (λ left before i f s j e. record { few = server-few scale nodeCount before w i s j f.few e; fit = omega (arith, server-next scale nodeCount before w i s j e) })
+    (λ left before i f. server-reaches last w scale small node_count before i h (omega arith))
+    (λ left before i f s j e. record { few = server-few scale node_count before w i s j f.few e; fit = omega (arith, server-next scale node_count before w i s j e) })
     count 0 i (record { few = omega arith; fit = omega arith })
 
 -- ---- The table
 
-table-reaches : (w : List ℕ) → Reaches mostWords table w 0
+table-reaches : (w : List ℕ) → Reaches most_words table w 0
 unfolding table
 table-reaches w =
-    word-reaches mostWords w 0 1 newestVersion (omega arith) (omega arith) (λ version _ _.
+    word-reaches most_words w 0 1 newest_version (omega arith) (omega arith) (λ version _ _.
     let percents = (form_of version).percents in
-    word-reaches mostWords w 1 1 mostNodes (omega arith) (omega arith) (λ nodeCount _ n.
-    let few : nodeWords percents * nodeCount ≤ mostNodeWords * mostNodes = mul-le-mul (form-words version) n in
-    then-reaches mostWords w 2 (nodes-reaches mostWords w percents nodeCount 1 2 (omega arith) (omega arith)) (λ nodes j e t.
-    let near : j ≤ 2 + nodeWords percents * nodeCount
-    = ((nodes-reaches (2 + nodeWords percents * nodeCount) w percents nodeCount 1 2 (omega arith) (le_refl (2 + nodeWords percents * nodeCount))).taken nodes j e).near in
-    word-reaches mostWords w j 0 mostServers (omega arith) (omega arith) (λ serverCount _ s.
-    then-reaches mostWords w (suc j)
-    (servers-reaches mostWords w (form_of version).scale (form-scale version).1 nodeCount serverCount (suc j) (omega arith) (omega arith)) (λ servers k d u.
-    end-reaches mostWords w k _ u.near
-    (give-reaches mostWords w k _ u.near))))))
+    word-reaches most_words w 1 1 most_nodes (omega arith) (omega arith) (λ node_count _ n.
+    let few : node_words percents * node_count ≤ most_node_words * most_nodes = mul-le-mul (form-words version) n in
+    then-reaches most_words w 2 (nodes-reaches most_words w percents node_count 1 2 (omega arith) (omega arith)) (λ nodes j e t.
+    let near : j ≤ 2 + node_words percents * node_count
+    = ((nodes-reaches (2 + node_words percents * node_count) w percents node_count 1 2 (omega arith) (le_refl (2 + node_words percents * node_count))).taken nodes j e).near in
+    word-reaches most_words w j 0 most_servers (omega arith) (omega arith) (λ server_count _ s.
+    then-reaches most_words w (suc j)
+    (servers-reaches most_words w (form_of version).scale (form-scale version).1 node_count server_count (suc j) (omega arith) (omega arith)) (λ servers k d u.
+    end-reaches most_words w k _ u.near
+    (give-reaches most_words w k _ u.near))))))
 
-checked-reaches : (w : List ℕ) → Reaches mostWords checked w 0
+checked-reaches : (w : List ℕ) → Reaches most_words checked w 0
 unfolding checked
 checked-reaches w =
-    then-reaches mostWords w 0 (table-reaches w) (λ r j e t.
-    ensure-reaches mostWords w j _ _ _
-    (give-reaches mostWords w j r t.near))
+    then-reaches most_words w 0 (table-reaches w) (λ r j e t.
+    ensure-reaches most_words w j _ _ _
+    (give-reaches most_words w j r t.near))
 
 -- One word more than a table may have decides every answer.
-pub prefix-decides : (w : List ℕ) (n : ℕ) → suc mostWords ≤ n → checked (take n w) 0 ≡ checked w 0
+pub prefix-decides : (w : List ℕ) (n : ℕ) → suc most_words ≤ n → checked (take n w) 0 ≡ checked w 0
 prefix-decides w n h = go (leb n (length w)) refl
   where
     go : (t : Bool) → leb n (length w) ≡ t → checked (take n w) 0 ≡ checked w 0
@@ -269,16 +269,16 @@ module _ (w : List ℕ) (r : Room) (j : ℕ) (e : checked w 0 ≡ good r j) wher
   next-is-length = table-length w r j (checked-is w r j e).0
 
   -- So its length tells the count of its cords.
-  pub length-is : length w ≡ 3 + nodeWords (percentsOf w) * length r.nodes + 4 * length r.servers + 2 * roomCords r
+  pub length-is : length w ≡ 3 + node_words (percents_of w) * length r.nodes + 4 * length r.servers + 2 * room_cords r
   length-is = sym next-is-length ∙ table-next w r j (checked-is w r j e).0
 
-  pub length-small : length w ≤ mostWords
+  pub length-small : length w ≤ most_words
   length-small = omega (arith, next-is-length, ((checked-reaches w).taken r j e).near)
 
   -- Each word of a good table is at most 16,777,215.
-  pub words_small : (i : ℕ) → get_or w i 0 ≤ mostWatts
+  pub words_small : (i : ℕ) → get_or w i 0 ≤ most_watts
   words_small i = go (ltb i j) refl
     where
-      go : (t : Bool) → ltb i j ≡ t → get_or w i 0 ≤ mostWatts
+      go : (t : Bool) → ltb i j ≡ t → get_or w i 0 ≤ most_watts
       go true l = ((checked-reaches w).taken r j e).small i (omega arith) (ltb-true i j l)
       go false l = rw (get_or-eq_default w 0 {n = i} (omega (arith, next-is-length, ltb-false i j l))) (omega arith)

@@ -7,7 +7,7 @@ use native.Mathlib.Nat.{mul-zero, mul-suc}
 use native.Mathlib.Omega.{arith}
 use lib.ListN.{length, get_or}
 use Rattle.rooms.specs.Part.{good, Part, many}
-use Rattle.rooms.specs.Table.{Node, Cord, Server, nodeWords, node, nodes, cord, cords, server, servers, cordCount}
+use Rattle.rooms.specs.Table.{Node, Cord, Server, node_words, node, nodes, cord, cords, server, servers, cord_count}
 use Rattle.rooms.proofs.All.{All, all_none, all_cons}
 use Rattle.rooms.proofs.Inversion.{many_is, NodeIs, node-is, cord-is, server-is}
 
@@ -37,48 +37,48 @@ module _ {A : Type 0} (part : ℕ → Part A) (next : ℕ → A → ℕ) (w : Li
 -- ---- The rows of a table
 
 pub nodes-words : (percents : Bool) (count own : ℕ) (w : List ℕ) (i : ℕ) (l : List Node) (j : ℕ) → i ≤ length w → nodes percents count own w i ≡ good l j
-    → (j ≡ i + nodeWords percents * count) × (j ≤ length w)
+    → (j ≡ i + node_words percents * count) × (j ≤ length w)
 nodes-words percents count own w i l j =
-    many-words (node percents) (λ own _. suc own) w (nodeWords percents)
+    many-words (node percents) (λ own _. suc own) w (node_words percents)
     (λ own i a j e. let n = node-is percents own w i a j e in (n.next, omega (arith, n.next, n.there))) count own i l j
 
-pub cords-words : (scale nodeCount count : ℕ) (w : List ℕ) (i : ℕ) (l : List Cord) (j : ℕ) → i ≤ length w → cords scale nodeCount count w i ≡ good l j
+pub cords-words : (scale node_count count : ℕ) (w : List ℕ) (i : ℕ) (l : List Cord) (j : ℕ) → i ≤ length w → cords scale node_count count w i ≡ good l j
     → (j ≡ i + 2 * count) × (j ≤ length w)
-cords-words scale nodeCount count w i l j =
-    many-words (λ _. cord scale nodeCount) (λ given _. given) w 2
-    (λ given i a j e. let c = cord-is scale nodeCount w i a j e in (omega (arith, c.next), omega (arith, c.next, c.there))) count 0 i l j
+cords-words scale node_count count w i l j =
+    many-words (λ _. cord scale node_count) (λ given _. given) w 2
+    (λ given i a j e. let c = cord-is scale node_count w i a j e in (omega (arith, c.next), omega (arith, c.next, c.there))) count 0 i l j
 
 -- The node at place m of a row stands behind the words of m nodes.
 pub nodes-at : (percents : Bool) (count own : ℕ) (w : List ℕ) (i : ℕ) (l : List Node) (j : ℕ) (d : Node) (m : ℕ) → m < count → nodes percents count own w i ≡ good l j
-    → NodeIs percents (own + m) w (i + nodeWords percents * m) (get_or l m d) (i + nodeWords percents * m + nodeWords percents)
+    → NodeIs percents (own + m) w (i + node_words percents * m) (get_or l m d) (i + node_words percents * m + node_words percents)
 nodes-at percents zero own w i l j d m h e = absurd (omega arith)
 nodes-at percents (suc count) own w i l j d zero h e =
     let a = many_is count (node percents) (λ own _. suc own) own w i l j e in
     let n = node-is percents own w i a.got a.at a.first in
     let o : own + 0 ≡ own = omega arith in
-    let z : i + nodeWords percents * 0 ≡ i = omega (arith, mul-zero (nodeWords percents)) in
+    let z : i + node_words percents * 0 ≡ i = omega (arith, mul-zero (node_words percents)) in
     rw (a.is, o, z, ← n.next) n
 nodes-at percents (suc count) own w i l j d (suc m) h e =
     let a = many_is count (node percents) (λ own _. suc own) own w i l j e in
     let n = node-is percents own w i a.got a.at a.first in
     let o : own + suc m ≡ suc own + m = omega arith in
-    let z : i + nodeWords percents * suc m ≡ a.at + nodeWords percents * m = omega (arith, n.next, mul-suc (nodeWords percents) m) in
+    let z : i + node_words percents * suc m ≡ a.at + node_words percents * m = omega (arith, n.next, mul-suc (node_words percents) m) in
     rw (a.is, o, z) (nodes-at percents count (suc own) w a.at a.rest j d m (omega arith) a.others)
 
 -- A cord, and every cord of a server, hangs on one of so many nodes.
 abbrev pub CordHangs : ℕ → Cord → Type 0
-CordHangs nodeCount c = (1 ≤ c.node) × (c.node ≤ nodeCount)
+CordHangs node_count c = (1 ≤ c.node) × (c.node ≤ node_count)
 
 abbrev pub ServerHangs : ℕ → Server → Type 0
-ServerHangs nodeCount s = All (CordHangs nodeCount) s.cords
+ServerHangs node_count s = All (CordHangs node_count) s.cords
 
-pub cords-hang : (scale nodeCount count : ℕ) (w : List ℕ) (i : ℕ) (l : List Cord) (j : ℕ) → cords scale nodeCount count w i ≡ good l j → All (CordHangs nodeCount) l
-cords-hang scale nodeCount count w i l j =
-    many-all (λ _. cord scale nodeCount) (λ given _. given) w (CordHangs nodeCount)
-    (λ given i a j e. let c = cord-is scale nodeCount w i a j e in (c.first, c.last)) count 0 i l j
+pub cords-hang : (scale node_count count : ℕ) (w : List ℕ) (i : ℕ) (l : List Cord) (j : ℕ) → cords scale node_count count w i ≡ good l j → All (CordHangs node_count) l
+cords-hang scale node_count count w i l j =
+    many-all (λ _. cord scale node_count) (λ given _. given) w (CordHangs node_count)
+    (λ given i a j e. let c = cord-is scale node_count w i a j e in (c.first, c.last)) count 0 i l j
 
-pub servers-hang : (scale nodeCount count before : ℕ) (w : List ℕ) (i : ℕ) (l : List Server) (j : ℕ) → servers scale nodeCount count before w i ≡ good l j
-    → All (ServerHangs nodeCount) l
-servers-hang scale nodeCount count before w i l j =
-    many-all (server scale nodeCount) (λ before s. before + cordCount s) w (ServerHangs nodeCount)
-    (λ before i s j e. cords-hang scale nodeCount _ w _ s.cords j (server-is scale nodeCount before w i s j e).load.are) count before i l j
+pub servers-hang : (scale node_count count before : ℕ) (w : List ℕ) (i : ℕ) (l : List Server) (j : ℕ) → servers scale node_count count before w i ≡ good l j
+    → All (ServerHangs node_count) l
+servers-hang scale node_count count before w i l j =
+    many-all (server scale node_count) (λ before s. before + cord_count s) w (ServerHangs node_count)
+    (λ before i s j e. cords-hang scale node_count _ w _ s.cords j (server-is scale node_count before w i s j e).load.are) count before i l j

@@ -6,7 +6,7 @@ use native.Mathlib.Omega.{arith}
 use lib.ListN.{length, take, replicate, length-replicate}
 use lib.Seq.{length-take-le}
 use Rattle.rooms.specs.Part.{Good}
-use Rattle.rooms.specs.Table.{mostServers, mostCords}
+use Rattle.rooms.specs.Table.{most_servers, most_cords}
 use Rattle.rooms.specs.Limits.{checked}
 use Rattle.rooms.proofs.Accepted.{accepted}
 use Rattle.rooms.specs.Rows.{ServersFit, CordsFit}
@@ -17,21 +17,21 @@ front most n row h = length-take-le n (replicate most row) (omega (arith, length
 
 module _ (table : List ℕ) (g : Good (checked table 0)) {n : ℕ} where
   module _ (fit : ServersFit table n) where
-    pub servers-few : n ≤ mostServers
-    servers-few = omega (arith, fit g.value g.next g.is, (accepted table g.value g.next g.is).fewServers)
+    pub servers-few : n ≤ most_servers
+    servers-few = omega (arith, fit g.value g.next g.is, (accepted table g.value g.next g.is).few_servers)
 
-    pub servers-front : (row : List ℕ) → n ≡ length (take n (replicate mostServers row))
-    servers-front row = sym (front mostServers n row servers-few)
+    pub servers-front : (row : List ℕ) → n ≡ length (take n (replicate most_servers row))
+    servers-front row = sym (front most_servers n row servers-few)
 
-    pub servers-lent : (row : List ℕ) → ServersFit table (length (take n (replicate mostServers row)))
+    pub servers-lent : (row : List ℕ) → ServersFit table (length (take n (replicate most_servers row)))
     servers-lent row r end is = sym (servers-front row) ∙ fit r end is
 
   module _ (fit : CordsFit table n) where
-    pub cords-few : n ≤ mostCords
-    cords-few = omega (arith, fit g.value g.next g.is, (accepted table g.value g.next g.is).fewCords)
+    pub cords-few : n ≤ most_cords
+    cords-few = omega (arith, fit g.value g.next g.is, (accepted table g.value g.next g.is).few_cords)
 
-    pub cords-front : (row : List ℕ) → n ≡ length (take n (replicate mostCords row))
-    cords-front row = sym (front mostCords n row cords-few)
+    pub cords-front : (row : List ℕ) → n ≡ length (take n (replicate most_cords row))
+    cords-front row = sym (front most_cords n row cords-few)
 
-    pub cords-lent : (row : List ℕ) → CordsFit table (length (take n (replicate mostCords row)))
+    pub cords-lent : (row : List ℕ) → CordsFit table (length (take n (replicate most_cords row)))
     cords-lent row r end is = sym (cords-front row) ∙ fit r end is

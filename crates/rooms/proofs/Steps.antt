@@ -10,7 +10,7 @@ use lib.ListN.{length, get_or}
 use borrow.Author.Tests.{le-leb, lt-leb, lt-ltb, le-ltb}
 use Rattle.rooms.specs.Part.{Step, good, bad, Part, follow, word, ensure, end, many, within}
 use Rattle.figures.specs.Figures.{total}
-use Rattle.rooms.specs.Table.{percent, cord, server, share_of, cordCount, mostCords}
+use Rattle.rooms.specs.Table.{percent, cord, server, share_of, cord_count, most_cords}
 use Rattle.rooms.proofs.Inversion.{word-is, cord-is, server-few}
 use Rattle.rooms.specs.Told.{told, nothing, itself}
 use Rattle.rooms.specs.declared.SheetRefusal.{SheetRefusal}
@@ -216,14 +216,14 @@ word-most w i low high {j = j} d e =
     let x : get_or w i 0 ≡ a.got = cc in
     omega (arith, b.most, a.figure)
 
-pub cord-most : (scale nodeCount : ℕ) (w : List ℕ) (i : ℕ) {r : Checked} {v j : ℕ} → r ≡ told share_of (cord scale nodeCount w i) → r ≡ Good v j → v ≤ scale
-cord-most scale nodeCount w i {j = j} d e =
-    let a = known share_of (cord scale nodeCount w i) d e in
-    omega (arith, a.figure, (cord-is scale nodeCount w i a.got j a.is).share)
+pub cord-most : (scale node_count : ℕ) (w : List ℕ) (i : ℕ) {r : Checked} {v j : ℕ} → r ≡ told share_of (cord scale node_count w i) → r ≡ Good v j → v ≤ scale
+cord-most scale node_count w i {j = j} d e =
+    let a = known share_of (cord scale node_count w i) d e in
+    omega (arith, a.figure, (cord-is scale node_count w i a.got j a.is).share)
 
-pub server-most : (scale nodeCount before : ℕ) (w : List ℕ) (i : ℕ) {r : Checked} {v j : ℕ} → before ≤ mostCords
-    → r ≡ told cordCount (server scale nodeCount before w i) → r ≡ Good v j
-    → before + v ≤ mostCords
-server-most scale nodeCount before w i {j = j} h d e =
-    let a = known cordCount (server scale nodeCount before w i) d e in
-    omega (arith, a.figure, server-few scale nodeCount before w i a.got j h a.is)
+pub server-most : (scale node_count before : ℕ) (w : List ℕ) (i : ℕ) {r : Checked} {v j : ℕ} → before ≤ most_cords
+    → r ≡ told cord_count (server scale node_count before w i) → r ≡ Good v j
+    → before + v ≤ most_cords
+server-most scale node_count before w i {j = j} h d e =
+    let a = known cord_count (server scale node_count before w i) d e in
+    omega (arith, a.figure, server-few scale node_count before w i a.got j h a.is)

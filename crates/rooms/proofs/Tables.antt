@@ -10,12 +10,12 @@ use lib.Seq.{drop-cons}
 use borrow.Author.Tests.{eq-eqb, eqb-true, le-leb, lt-leb, le-ltb}
 use Rattle.rooms.specs.Part.{good, Part, ◌>>=◌, give, here, follow, word, ensure, end, many, within}
 use Rattle.rooms.specs.declared.SheetRefusal.{SheetRefusal}
-use Rattle.rooms.specs.Table.{Node, Cord, Server, Room, mostWatts, mostNodes, mostServers, mostCords, highestRank, newestVersion, form_of, percent, node, nodes, cord, cords, range, load, server, servers, cordCount, table}
+use Rattle.rooms.specs.Table.{Node, Cord, Server, Room, most_watts, most_nodes, most_servers, most_cords, highest_rank, newest_version, form_of, percent, node, nodes, cord, cords, range, load, server, servers, cord_count, table}
 use Rattle.rooms.proofs.Fronts.{stands}
-use Rattle.rooms.specs.Words.{rowWords, wordsOfNode, wordsOfCord, wordsOfServer, table_of, PercentFits, NodeInRange}
+use Rattle.rooms.specs.Words.{row_words, words_of_node, words_of_cord, words_of_server, table_of, PercentFits, NodeInRange}
 use Rattle.rooms.proofs.NodeWords.{percent-in}
 use Rattle.rooms.proofs.Inversion.{many_is, NodeIs, node-is, cord-is, server-is, server-few}
-use Rattle.rooms.proofs.Whole.{percentsOf, table_is}
+use Rattle.rooms.proofs.Whole.{percents_of, table_is}
 use Rattle.rooms.proofs.All.{All, all_head, all_tail}
 use Rattle.rooms.proofs.Accepted.{CordAccepted, ServerAccepted, server-accepted}
 
@@ -28,8 +28,8 @@ module _ (w : List ℕ) where
 
   many-written : {A : Type 0} (part : ℕ → Part A) (next : ℕ → A → ℕ) (words : A → List ℕ)
       → ((given i : ℕ) (a : A) (j : ℕ) → part given w i ≡ good a j → drop i w ≡ words a ++ drop j w)
-      → (count given i : ℕ) (l : List A) (j : ℕ) → many count part next given w i ≡ good l j → drop i w ≡ rowWords words l ++ drop j w
-  unfolding many rowWords
+      → (count given i : ℕ) (l : List A) (j : ℕ) → many count part next given w i ≡ good l j → drop i w ≡ row_words words l ++ drop j w
+  unfolding many row_words
   many-written part next words each zero given i l j e =
       let x : [] ≡ l = cc in
       let y : i ≡ j = cc in
@@ -40,12 +40,12 @@ module _ (w : List ℕ) where
       rw a.is
       (each given i a.got a.at a.first
       ∙ ap (λ (z : List ℕ). words a.got ++ z) rest
-      ∙ sym (append_assoc (words a.got) (rowWords words a.rest) (drop j w)))
+      ∙ sym (append_assoc (words a.got) (row_words words a.rest) (drop j w)))
 
-  node-written : (percents : Bool) (own i : ℕ) (n : Node) (j : ℕ) → node percents own w i ≡ good n j → drop i w ≡ wordsOfNode percents n ++ drop j w
+  node-written : (percents : Bool) (own i : ℕ) (n : Node) (j : ℕ) → node percents own w i ≡ good n j → drop i w ≡ words_of_node percents n ++ drop j w
   node-written percents own i n j e = go percents (node-is percents own w i n j e)
     where
-      go : (percents : Bool) → NodeIs percents own w i n j → drop i w ≡ wordsOfNode percents n ++ drop j w
+      go : (percents : Bool) → NodeIs percents own w i n j → drop i w ≡ words_of_node percents n ++ drop j w
       go false a =
           let y : j ≡ suc (suc i) = omega (arith, a.next) in
           rw (a.is, y) (two-words i (omega (arith, a.there)))
@@ -55,16 +55,16 @@ module _ (w : List ℕ) where
           (two-words i (omega (arith, a.there))
           ∙ ap (λ (z : List ℕ). get_or w i 0 ∷ get_or w (suc i) 0 ∷ z) (drop-cons w (suc (suc i)) 0 (omega (arith, a.there))))
 
-  cord-written : (scale nodeCount i : ℕ) (c : Cord) (j : ℕ) → cord scale nodeCount w i ≡ good c j → drop i w ≡ wordsOfCord c ++ drop j w
-  cord-written scale nodeCount i c j e =
-      let a = cord-is scale nodeCount w i c j e in
+  cord-written : (scale node_count i : ℕ) (c : Cord) (j : ℕ) → cord scale node_count w i ≡ good c j → drop i w ≡ words_of_cord c ++ drop j w
+  cord-written scale node_count i c j e =
+      let a = cord-is scale node_count w i c j e in
       rw (a.is, a.next) (two-words i a.there)
 
-  server-written : (scale nodeCount before i : ℕ) (s : Server) (j : ℕ) → server scale nodeCount before w i ≡ good s j → drop i w ≡ wordsOfServer s ++ drop j w
-  server-written scale nodeCount before i s j e =
-      let a = server-is scale nodeCount before w i s j e in
+  server-written : (scale node_count before i : ℕ) (s : Server) (j : ℕ) → server scale node_count before w i ≡ good s j → drop i w ≡ words_of_server s ++ drop j w
+  server-written scale node_count before i s j e =
+      let a = server-is scale node_count before w i s j e in
       let there = a.load.there in
-      let cords = many-written _ _ wordsOfCord (λ _ i c j d. cord-written scale nodeCount i c j d) _ 0 _ s.cords j a.load.are in
+      let cords = many-written _ _ words_of_cord (λ _ i c j d. cord-written scale node_count i c j d) _ 0 _ s.cords j a.load.are in
       let rank : s.rank ≡ get_or w i 0 = ap (λ (q : Server). q.rank) a.is in
       let least : s.least ≡ get_or w (suc i) 0 = ap (λ (q : Server). q.least) a.is in
       let greatest : s.greatest ≡ get_or w (suc (suc i)) 0 = ap (λ (q : Server). q.greatest) a.is in
@@ -77,16 +77,16 @@ module _ (w : List ℕ) where
 pub table-written : (w : List ℕ) (r : Room) (j : ℕ) → table w 0 ≡ good r j → w ≡ table_of (get_or w 0 0) r
 table-written w r j e =
     let t = table_is w r j e in
-    let nodes = many-written w _ _ (wordsOfNode (percentsOf w)) (λ own i n j d. node-written w (percentsOf w) own i n j d) _ 1 2 r.nodes t.middle t.nodesRead in
-    let servers = many-written w _ _ wordsOfServer (λ before i s j d. server-written w r.scale (length r.nodes) before i s j d) _ 0 _ r.servers j t.serversRead in
-    let behind : drop t.middle w ≡ length r.servers ∷ rowWords wordsOfServer r.servers
+    let nodes = many-written w _ _ (words_of_node (percents_of w)) (λ own i n j d. node-written w (percents_of w) own i n j d) _ 1 2 r.nodes t.middle t.nodes_read in
+    let servers = many-written w _ _ words_of_server (λ before i s j d. server-written w r.scale (length r.nodes) before i s j d) _ 0 _ r.servers j t.servers_read in
+    let behind : drop t.middle w ≡ length r.servers ∷ row_words words_of_server r.servers
     = drop-cons w t.middle 0 t.there
-    ∙ ap₂ (λ (x : ℕ) (z : List ℕ). x ∷ z) t.serverCount
-    (servers ∙ ap (λ (z : List ℕ). rowWords wordsOfServer r.servers ++ z) (drop_of_length-le w t.ended) ∙ append-nil _) in
+    ∙ ap₂ (λ (x : ℕ) (z : List ℕ). x ∷ z) t.server_count
+    (servers ∙ ap (λ (z : List ℕ). row_words words_of_server r.servers ++ z) (drop_of_length-le w t.ended) ∙ append-nil _) in
     drop-cons w 0 0 (omega (arith, t.begun))
     ∙ ap (λ (z : List ℕ). get_or w 0 0 ∷ z) (drop-cons w 1 0 t.begun
-    ∙ ap₂ (λ (x : ℕ) (z : List ℕ). x ∷ z) t.nodeCount
-    (nodes ∙ ap (λ (z : List ℕ). rowWords (wordsOfNode (percentsOf w)) r.nodes ++ z) behind))
+    ∙ ap₂ (λ (x : ℕ) (z : List ℕ). x ∷ z) t.node_count
+    (nodes ∙ ap (λ (z : List ℕ). row_words (words_of_node (percents_of w)) r.nodes ++ z) behind))
 
 -- ---- Figures in range
 
@@ -107,19 +107,19 @@ many-chain part next w fact Kept each (suc count) given i l j k e =
     rw a.is (f.0, many-chain part next w fact Kept each count (next given a.got) a.at a.rest j f.1 a.others)
 
 -- A server, by the count of cords before it.
-pub record ServerFits (scale nodeCount before : ℕ) (s : Server) : Type 0 where
-  pub accepted : ServerAccepted scale nodeCount s
-  pub few : before + cordCount s ≤ mostCords
+pub record ServerFits (scale node_count before : ℕ) (s : Server) : Type 0 where
+  pub accepted : ServerAccepted scale node_count s
+  pub few : before + cord_count s ≤ most_cords
 
 pub record RoomFits (version : ℕ) (r : Room) : Type 0 where
   pub first : 1 ≤ version
-  pub newest : version ≤ newestVersion
+  pub newest : version ≤ newest_version
   pub scaled : r.scale ≡ (form_of version).scale
-  pub someNodes : 1 ≤ length r.nodes
-  pub fewNodes : length r.nodes ≤ mostNodes
+  pub some_nodes : 1 ≤ length r.nodes
+  pub few_nodes : length r.nodes ≤ most_nodes
   pub nodes : Chain (NodeInRange (form_of version).percents) (λ own _. suc own) 1 r.nodes
-  pub fewServers : length r.servers ≤ mostServers
-  pub servers : Chain (ServerFits r.scale (length r.nodes)) (λ before s. before + cordCount s) 0 r.servers
+  pub few_servers : length r.servers ≤ most_servers
+  pub servers : Chain (ServerFits r.scale (length r.nodes)) (λ before s. before + cord_count s) 0 r.servers
 
 -- What holds of each of a row, whatever it is given.
 all-chain : {A : Type 0} (fact : A → Type 0) (next : ℕ → A → ℕ) (l : List A) (given : ℕ) → All fact l → Chain (λ _. fact) next given l
@@ -132,10 +132,10 @@ node-fits percents own w i n j e =
     let a = node-is percents own w i n j e in
     record { parent = a.parent; rating = a.rating; percent = a.percent }
 
-server-fits : (scale nodeCount before : ℕ) (w : List ℕ) (i : ℕ) (s : Server) (j : ℕ) → before ≤ mostCords → server scale nodeCount before w i ≡ good s j
-    → ServerFits scale nodeCount before s
-server-fits scale nodeCount before w i s j h e =
-    record { accepted = server-accepted scale nodeCount before w i s j e; few = server-few scale nodeCount before w i s j h e }
+server-fits : (scale node_count before : ℕ) (w : List ℕ) (i : ℕ) (s : Server) (j : ℕ) → before ≤ most_cords → server scale node_count before w i ≡ good s j
+    → ServerFits scale node_count before s
+server-fits scale node_count before w i s j h e =
+    record { accepted = server-accepted scale node_count before w i s j e; few = server-few scale node_count before w i s j h e }
 
 -- The figures of a good table are in range.
 pub table_fits : (w : List ℕ) (r : Room) (j : ℕ) → table w 0 ≡ good r j → RoomFits (get_or w 0 0) r
@@ -145,12 +145,12 @@ table_fits w r j e =
       first = t.first;
       newest = t.newest;
       scaled = t.scale-is;
-      someNodes = t.someNodes;
-      fewNodes = t.fewNodes;
-      nodes = many-chain _ _ w (NodeInRange (percentsOf w)) (λ _. Unit {0}) (λ own i n j _ d. (node-fits (percentsOf w) own w i n j d, tt)) _ 1 2 r.nodes t.middle tt t.nodesRead;
-      fewServers = t.fewServers;
-      servers = many-chain _ _ w (ServerFits r.scale (length r.nodes)) (λ before. before ≤ mostCords)
-          (λ before i s j h d. let f = server-fits r.scale (length r.nodes) before w i s j h d in (f, f.few)) _ 0 _ r.servers j (omega arith) t.serversRead;
+      some_nodes = t.some_nodes;
+      few_nodes = t.few_nodes;
+      nodes = many-chain _ _ w (NodeInRange (percents_of w)) (λ _. Unit {0}) (λ own i n j _ d. (node-fits (percents_of w) own w i n j d, tt)) _ 1 2 r.nodes t.middle tt t.nodes_read;
+      few_servers = t.few_servers;
+      servers = many-chain _ _ w (ServerFits r.scale (length r.nodes)) (λ before. before ≤ most_cords)
+          (λ before i s j h d. let f = server-fits r.scale (length r.nodes) before w i s j h d in (f, f.few)) _ 0 _ r.servers j (omega arith) t.servers_read;
     }
 
 -- ---- The words of a room are read back
@@ -196,11 +196,11 @@ module _ (w : List ℕ) (i : ℕ) where
 
 many-reads : {A : Type 0} (part : ℕ → Part A) (next : ℕ → A → ℕ) (w : List ℕ) (words : A → List ℕ) (fact : ℕ → A → Type 0)
     → ((given : ℕ) (a : A) (i : ℕ) (rest : List ℕ) → fact given a → drop i w ≡ words a ++ rest → Reads (part given) w i a rest)
-    → (l : List A) (given i : ℕ) (rest : List ℕ) → Chain fact next given l → drop i w ≡ rowWords words l ++ rest → Reads (many (length l) part next given) w i l rest
-unfolding many Chain rowWords
+    → (l : List A) (given i : ℕ) (rest : List ℕ) → Chain fact next given l → drop i w ≡ row_words words l ++ rest → Reads (many (length l) part next given) w i l rest
+unfolding many Chain row_words
 many-reads part next w words fact each [] given i rest facts d = give-reads w i [] rest d
 many-reads part next w words fact each (a ∷ l) given i rest facts d =
-    then-reads w i _ (each given a i (rowWords words l ++ rest) facts.0 (d ∙ append_assoc (words a) (rowWords words l) rest)) (λ j b.
+    then-reads w i _ (each given a i (row_words words l ++ rest) facts.0 (d ∙ append_assoc (words a) (row_words words l) rest)) (λ j b.
     then-reads w j _ (many-reads part next w words fact each l (next given a) j rest facts.1 b) (λ k c.
     give-reads w k (a ∷ l) rest c))
 
@@ -214,62 +214,62 @@ module _ (w : List ℕ) where
       ensure-reads w j _ _ _ f
       (give-reads w j p rest b)))
 
-  node-reads : (percents : Bool) (own : ℕ) (n : Node) (i : ℕ) (rest : List ℕ) → NodeInRange percents own n → drop i w ≡ wordsOfNode percents n ++ rest
+  node-reads : (percents : Bool) (own : ℕ) (n : Node) (i : ℕ) (rest : List ℕ) → NodeInRange percents own n → drop i w ≡ words_of_node percents n ++ rest
       → Reads (node percents own) w i n rest
   unfolding node
   node-reads percents own n i rest f d =
       then-reads w i _ (word-reads w i 0 (own - 1) n.parent _ d (omega arith) f.parent) (λ j b.
-      then-reads w j _ (word-reads w j 0 mostWatts n.rating _ b (omega arith) f.rating) (λ k c.
+      then-reads w j _ (word-reads w j 0 most_watts n.rating _ b (omega arith) f.rating) (λ k c.
       then-reads w k _ (percent-reads percents n.percent k rest f.percent c) (λ h e.
       give-reads w h n rest e)))
 
-  cord-reads : (scale nodeCount : ℕ) (c : Cord) (i : ℕ) (rest : List ℕ) → CordAccepted scale nodeCount c → drop i w ≡ wordsOfCord c ++ rest
-      → Reads (cord scale nodeCount) w i c rest
+  cord-reads : (scale node_count : ℕ) (c : Cord) (i : ℕ) (rest : List ℕ) → CordAccepted scale node_count c → drop i w ≡ words_of_cord c ++ rest
+      → Reads (cord scale node_count) w i c rest
   unfolding cord
-  cord-reads scale nodeCount c i rest f d =
-      then-reads w i _ (word-reads w i 1 nodeCount c.node _ d f.nodeFrom f.nodeTo) (λ j b.
-      then-reads w j _ (word-reads w j 0 scale c.share _ b (omega arith) f.shareTo) (λ k e.
+  cord-reads scale node_count c i rest f d =
+      then-reads w i _ (word-reads w i 1 node_count c.node _ d f.node_from f.node_to) (λ j b.
+      then-reads w j _ (word-reads w j 0 scale c.share _ b (omega arith) f.share_to) (λ k e.
       give-reads w k c rest e))
 
-  cords-reads : (scale nodeCount : ℕ) (l : List Cord) (i : ℕ) (rest : List ℕ) → All (CordAccepted scale nodeCount) l → drop i w ≡ rowWords wordsOfCord l ++ rest
-      → Reads (cords scale nodeCount (length l)) w i l rest
-  cords-reads scale nodeCount l i rest f d =
-      many-reads _ _ w wordsOfCord (λ _. CordAccepted scale nodeCount) (λ _ c i rest f d. cord-reads scale nodeCount c i rest f d) l 0 i rest (all-chain _ _ l 0 f) d
+  cords-reads : (scale node_count : ℕ) (l : List Cord) (i : ℕ) (rest : List ℕ) → All (CordAccepted scale node_count) l → drop i w ≡ row_words words_of_cord l ++ rest
+      → Reads (cords scale node_count (length l)) w i l rest
+  cords-reads scale node_count l i rest f d =
+      many-reads _ _ w words_of_cord (λ _. CordAccepted scale node_count) (λ _ c i rest f d. cord-reads scale node_count c i rest f d) l 0 i rest (all-chain _ _ l 0 f) d
 
-  server-reads : (scale nodeCount before : ℕ) (s : Server) (i : ℕ) (rest : List ℕ) → ServerFits scale nodeCount before s → drop i w ≡ wordsOfServer s ++ rest
-      → Reads (server scale nodeCount before) w i s rest
+  server-reads : (scale node_count before : ℕ) (s : Server) (i : ℕ) (rest : List ℕ) → ServerFits scale node_count before s → drop i w ≡ words_of_server s ++ rest
+      → Reads (server scale node_count before) w i s rest
   unfolding server range load
-  server-reads scale nodeCount before s i rest f d =
+  server-reads scale node_count before s i rest f d =
       let a = f.accepted in
       let few = f.few in
       here_reads w i _
-      (then-reads w i _ (word-reads w i 1 highestRank s.rank _ d a.rankFrom a.rankTo) (λ j b.
+      (then-reads w i _ (word-reads w i 1 highest_rank s.rank _ d a.rank_from a.rank_to) (λ j b.
       then-reads w j _
-      (then-reads w j _ (word-reads w j 0 mostWatts s.least _ b (omega arith) (omega (arith, a.ordered, a.greatestTo))) (λ k c.
+      (then-reads w j _ (word-reads w j 0 most_watts s.least _ b (omega arith) (omega (arith, a.ordered, a.greatest_to))) (λ k c.
       here_reads w k _
-      (then-reads w k _ (word-reads w k 0 mostWatts s.greatest _ c (omega arith) a.greatestTo) (λ h e.
+      (then-reads w k _ (word-reads w k 0 most_watts s.greatest _ c (omega arith) a.greatest_to) (λ h e.
       ensure-reads w h _ _ _ (le-leb s.least s.greatest a.ordered)
       (give-reads w h (record { least = s.least; greatest = s.greatest }) _ e))))) (λ h e.
       then-reads w h _
-      (then-reads w h _ (word-reads w h 1 _ (cordCount s) _ e a.someCords (omega (arith, a.fewCords))) (λ m g.
-      then-reads w m _ (cords-reads scale nodeCount s.cords m rest a.cords g) (λ q x.
+      (then-reads w h _ (word-reads w h 1 _ (cord_count s) _ e a.some_cords (omega (arith, a.few_cords))) (λ m g.
+      then-reads w m _ (cords-reads scale node_count s.cords m rest a.cords g) (λ q x.
       ensure-reads w q _ _ _ (eq-eqb _ _ a.shares)
       (give-reads w q s.cords rest x)))) (λ q x.
       give-reads w q s rest x))))
 
 -- The rows of a room in range.
 module _ (version : ℕ) (r : Room) (f : RoomFits version r) (w : List ℕ) (i : ℕ) where
-  nodes-reads : {rest : List ℕ} → drop i w ≡ rowWords (wordsOfNode (form_of version).percents) r.nodes ++ rest
+  nodes-reads : {rest : List ℕ} → drop i w ≡ row_words (words_of_node (form_of version).percents) r.nodes ++ rest
       → Reads (nodes (form_of version).percents (length r.nodes) 1) w i r.nodes rest
   nodes-reads {rest} d =
-      many-reads _ _ w (wordsOfNode (form_of version).percents) (NodeInRange (form_of version).percents)
+      many-reads _ _ w (words_of_node (form_of version).percents) (NodeInRange (form_of version).percents)
       (λ own n i rest f d. node-reads w (form_of version).percents own n i rest f d) r.nodes 1 i rest f.nodes d
 
-  servers-reads : drop i w ≡ rowWords wordsOfServer r.servers
+  servers-reads : drop i w ≡ row_words words_of_server r.servers
       → Reads (servers (form_of version).scale (length r.nodes) (length r.servers) 0) w i r.servers []
   servers-reads d =
       rw (← f.scaled)
-      (many-reads _ _ w wordsOfServer (ServerFits r.scale (length r.nodes))
+      (many-reads _ _ w words_of_server (ServerFits r.scale (length r.nodes))
       (λ before s i rest f d. server-reads w r.scale (length r.nodes) before s i rest f d) r.servers 0 i [] f.servers (d ∙ sym (append-nil _)))
 
 -- The words of a room whose figures are in range are a good table of it.
@@ -277,10 +277,10 @@ pub table-reads : (version : ℕ) (r : Room) → RoomFits version r → Reads ta
 unfolding table
 table-reads version r f =
     let w = table_of version r in
-    then-reads w 0 _ (word-reads w 0 1 newestVersion version _ refl f.first f.newest) (λ i a.
-    then-reads w i _ (word-reads w i 1 mostNodes (length r.nodes) _ a f.someNodes f.fewNodes) (λ j b.
+    then-reads w 0 _ (word-reads w 0 1 newest_version version _ refl f.first f.newest) (λ i a.
+    then-reads w i _ (word-reads w i 1 most_nodes (length r.nodes) _ a f.some_nodes f.few_nodes) (λ j b.
     then-reads w j _ (nodes-reads version r f w j b) (λ k c.
-    then-reads w k _ (word-reads w k 0 mostServers (length r.servers) _ c (omega arith) f.fewServers) (λ h d.
+    then-reads w k _ (word-reads w k 0 most_servers (length r.servers) _ c (omega arith) f.few_servers) (λ h d.
     then-reads w h _ (servers-reads version r f w h d) (λ m e.
     then-reads w m _ (end_reads w m e) (λ n g.
     rw (← f.scaled) (give-reads w n r [] g)))))))

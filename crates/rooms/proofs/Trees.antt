@@ -7,23 +7,23 @@ use native.Mathlib.Omega.{arith}
 use lib.Dec.{eqb, eqb-zero-suc, eqb-suc-suc}
 use borrow.Author.Tests.{eqb-true, ne_eqb}
 use Rattle.figures.specs.Sums.{on, sum}
-use Rattle.rooms.specs.Trees.{ParentsFirst, beneath, childSum, sumBeneath}
+use Rattle.rooms.specs.Trees.{ParentsFirst, beneath, child_sum, sum_beneath}
 use Rattle.figures.proofs.Sums.{on-comm, on-add, on-le, on-cong, on-mul, on-no, sum-cong, sum-le, sum-add, sum-mul, sum-on, sum-zero, sum-swap, sum_one}
 
 -- ---- Sums over children
 
 module _ (count : ℕ) (hangs : ℕ → ℕ) where
-  pub childSum-add : (n : ℕ) (g h : ℕ → ℕ) → childSum count hangs n (λ m. g m + h m) ≡ childSum count hangs n g + childSum count hangs n h
-  childSum-add n g h =
+  pub child_sum-add : (n : ℕ) (g h : ℕ → ℕ) → child_sum count hangs n (λ m. g m + h m) ≡ child_sum count hangs n g + child_sum count hangs n h
+  child_sum-add n g h =
       sum-cong count _ _ (λ m l. on-add (eqb (hangs m) (suc n)) (g m) (h m))
       ∙ sum-add count (λ m. on (eqb (hangs m) (suc n)) (g m)) (λ m. on (eqb (hangs m) (suc n)) (h m))
 
-  pub childSum-cong : (n : ℕ) (g h : ℕ → ℕ) → ((m : ℕ) → m < count → hangs m ≡ suc n → g m ≡ h m) → childSum count hangs n g ≡ childSum count hangs n h
-  childSum-cong n g h e =
+  pub child_sum-cong : (n : ℕ) (g h : ℕ → ℕ) → ((m : ℕ) → m < count → hangs m ≡ suc n → g m ≡ h m) → child_sum count hangs n g ≡ child_sum count hangs n h
+  child_sum-cong n g h e =
       sum-cong count _ _ (λ m l. on-cong (eqb (hangs m) (suc n)) (g m) (h m) (λ t. e m l (eqb-true (hangs m) (suc n) t)))
 
-  pub childSum-le : (n : ℕ) (g h : ℕ → ℕ) → ((m : ℕ) → m < count → hangs m ≡ suc n → g m ≤ h m) → childSum count hangs n g ≤ childSum count hangs n h
-  childSum-le n g h e =
+  pub child_sum-le : (n : ℕ) (g h : ℕ → ℕ) → ((m : ℕ) → m < count → hangs m ≡ suc n → g m ≤ h m) → child_sum count hangs n g ≤ child_sum count hangs n h
+  child_sum-le n g h e =
       sum-le count _ _ (λ m l. on-le (eqb (hangs m) (suc n)) (g m) (h m) (λ t. e m l (eqb-true (hangs m) (suc n) t)))
 
   on-zero : (t : Bool) → on t 0 ≡ 0
@@ -31,12 +31,12 @@ module _ (count : ℕ) (hangs : ℕ → ℕ) where
   on-zero false = refl
 
   -- Children that all have nothing.
-  pub childSum-none : (n : ℕ) (g : ℕ → ℕ) → ((m : ℕ) → m < count → hangs m ≡ suc n → g m ≡ 0) → childSum count hangs n g ≡ 0
-  childSum-none n g z =
-      childSum-cong n g (λ m. 0) z ∙ sum-cong count _ _ (λ m l. on-zero (eqb (hangs m) (suc n))) ∙ sum-zero count
+  pub child_sum-none : (n : ℕ) (g : ℕ → ℕ) → ((m : ℕ) → m < count → hangs m ≡ suc n → g m ≡ 0) → child_sum count hangs n g ≡ 0
+  child_sum-none n g z =
+      child_sum-cong n g (λ m. 0) z ∙ sum-cong count _ _ (λ m l. on-zero (eqb (hangs m) (suc n))) ∙ sum-zero count
 
-  childSum-one : (n x : ℕ) → x < count → childSum count hangs n (λ m. on (eqb x m) 1) ≡ on (eqb (hangs x) (suc n)) 1
-  childSum-one n x h =
+  child_sum-one : (n x : ℕ) → x < count → child_sum count hangs n (λ m. on (eqb x m) 1) ≡ on (eqb (hangs x) (suc n)) 1
+  child_sum-one n x h =
       sum-cong count _ _ (λ m l. on-comm (eqb (hangs m) (suc n)) (eqb x m) 1)
       ∙ sum_one count x (λ m. on (eqb (hangs m) (suc n)) 1) h
 
@@ -68,17 +68,17 @@ meets parent (suc k) n (suc x) = on (eqb x n) 1 + meets parent k n (parent x)
 
 module _ (count : ℕ) (parent : ℕ → ℕ) (rises : ParentsFirst count parent) where
   -- A climb meets n at its foot, or by way of one child of n.
-  meets-children : (k n v : ℕ) → v ≤ k → v ≤ count → meets parent k n v ≡ on (eqb v (suc n)) 1 + childSum count parent n (λ m. meets parent k m v)
+  meets-children : (k n v : ℕ) → v ≤ k → v ≤ count → meets parent k n v ≡ on (eqb v (suc n)) 1 + child_sum count parent n (λ m. meets parent k m v)
   unfolding meets
-  meets-children zero n zero h g = omega (arith, on-no (eqb 0 (suc n)) 1 (eqb-zero-suc n), childSum-none count parent n (λ m. 0) (λ m l e. refl))
+  meets-children zero n zero h g = omega (arith, on-no (eqb 0 (suc n)) 1 (eqb-zero-suc n), child_sum-none count parent n (λ m. 0) (λ m l e. refl))
   meets-children zero n (suc x) h g = absurd (not-suc-le-zero h)
-  meets-children (suc k) n zero h g = omega (arith, on-no (eqb 0 (suc n)) 1 (eqb-zero-suc n), childSum-none count parent n (λ m. 0) (λ m l e. refl))
+  meets-children (suc k) n zero h g = omega (arith, on-no (eqb 0 (suc n)) 1 (eqb-zero-suc n), child_sum-none count parent n (λ m. 0) (λ m l e. refl))
   meets-children (suc k) n (suc x) h g =
       let p : parent x ≤ x = rises x g in
-      let ih : meets parent k n (parent x) ≡ on (eqb (parent x) (suc n)) 1 + childSum count parent n (λ m. meets parent k m (parent x))
+      let ih : meets parent k n (parent x) ≡ on (eqb (parent x) (suc n)) 1 + child_sum count parent n (λ m. meets parent k m (parent x))
       = meets-children k n (parent x) (omega arith) (omega arith) in
       let a : on (eqb (suc x) (suc n)) 1 ≡ on (eqb x n) 1 = ap (λ (t : Bool). on t 1) (eqb-suc-suc x n) in
-      omega (arith, childSum-add count parent n (λ m. on (eqb x m) 1) (λ m. meets parent k m (parent x)), childSum-one count parent n x g)
+      omega (arith, child_sum-add count parent n (λ m. on (eqb x m) 1) (λ m. meets parent k m (parent x)), child_sum-one count parent n x g)
 
   -- A climb from a number no greater than n's place never meets n.
   meets-none : (k n v : ℕ) → v ≤ count → v ≤ n → meets parent k n v ≡ 0
@@ -106,18 +106,18 @@ module _ (count : ℕ) (parent : ℕ → ℕ) (rises : ParentsFirst count parent
 
 -- ---- Sums over what hangs beneath
 
-pub sumBeneath-cong : (nodes : ℕ) (parent : ℕ → ℕ) (count : ℕ) (hangs : ℕ → ℕ) (n : ℕ) (f g : ℕ → ℕ) → ((c : ℕ) → c < count → f c ≡ g c)
-    → sumBeneath nodes parent count hangs n f ≡ sumBeneath nodes parent count hangs n g
-unfolding sumBeneath
-sumBeneath-cong nodes parent count hangs n f g e = sum-cong count _ _ (λ c l. ap (λ (z : ℕ). on (beneath parent nodes n (hangs c)) z) (e c l))
+pub sum_beneath-cong : (nodes : ℕ) (parent : ℕ → ℕ) (count : ℕ) (hangs : ℕ → ℕ) (n : ℕ) (f g : ℕ → ℕ) → ((c : ℕ) → c < count → f c ≡ g c)
+    → sum_beneath nodes parent count hangs n f ≡ sum_beneath nodes parent count hangs n g
+unfolding sum_beneath
+sum_beneath-cong nodes parent count hangs n f g e = sum-cong count _ _ (λ c l. ap (λ (z : ℕ). on (beneath parent nodes n (hangs c)) z) (e c l))
 
 module _ (nodes : ℕ) (parent : ℕ → ℕ) (rises : ParentsFirst nodes parent) (count : ℕ) (hangs : ℕ → ℕ) (here : (c : ℕ) → c < count → hangs c ≤ nodes) where
   -- What hangs beneath a node hangs on it, or beneath one of its children.
-  pub sumBeneath-step : (n : ℕ) (figure : ℕ → ℕ)
-      → sumBeneath nodes parent count hangs n figure
-      ≡ childSum count hangs n figure + childSum nodes parent n (λ m. sumBeneath nodes parent count hangs m figure)
-  unfolding sumBeneath
-  sumBeneath-step n figure =
+  pub sum_beneath-step : (n : ℕ) (figure : ℕ → ℕ)
+      → sum_beneath nodes parent count hangs n figure
+      ≡ child_sum count hangs n figure + child_sum nodes parent n (λ m. sum_beneath nodes parent count hangs m figure)
+  unfolding sum_beneath
+  sum_beneath-step n figure =
       sum-cong count _ _ at
       ∙ sum-add count (λ c. on (eqb (hangs c) (suc n)) (figure c)) (λ c. sum nodes (λ m. on (eqb (parent m) (suc n)) (on (beneath parent nodes m (hangs c)) (figure c))))
       ∙ ap (λ (x : ℕ). sum count (λ c. on (eqb (hangs c) (suc n)) (figure c)) + x)
@@ -130,7 +130,7 @@ module _ (nodes : ℕ) (parent : ℕ → ℕ) (rises : ParentsFirst nodes parent
       at c l =
           beneath-meets nodes parent rises nodes n (hangs c) (figure c) (here c l)
           ∙ ap (λ (x : ℕ). x * figure c) (meets-children nodes parent rises nodes n (hangs c) (here c l) (here c l))
-          ∙ add-mul (on (eqb (hangs c) (suc n)) 1) (childSum nodes parent n (λ m. meets parent nodes m (hangs c))) (figure c)
+          ∙ add-mul (on (eqb (hangs c) (suc n)) 1) (child_sum nodes parent n (λ m. meets parent nodes m (hangs c))) (figure c)
           ∙ ap₂ ◌+◌
           (on-mul (eqb (hangs c) (suc n)) 1 (figure c) ∙ ap (λ (x : ℕ). on (eqb (hangs c) (suc n)) x) (one-mul (figure c)))
           (sum-mul nodes (λ m. on (eqb (parent m) (suc n)) (meets parent nodes m (hangs c))) (figure c)
@@ -139,11 +139,11 @@ module _ (nodes : ℕ) (parent : ℕ → ℕ) (rises : ParentsFirst nodes parent
           ∙ ap (λ (x : ℕ). on (eqb (parent m) (suc n)) x) (sym (beneath-meets nodes parent rises nodes m (hangs c) (figure c) (here c l)))))
 
   -- Whatever adds up like the sums beneath the nodes is these sums.
-  pub sumBeneath-unique : (w g : ℕ → ℕ) → ((n : ℕ) → n < nodes → g n ≡ childSum count hangs n w + childSum nodes parent n g)
-      → (n : ℕ) → n < nodes → g n ≡ sumBeneath nodes parent count hangs n w
-  sumBeneath-unique w g e =
-      down nodes (λ n. g n ≡ sumBeneath nodes parent count hangs n w) (λ n l ih.
+  pub sum_beneath-unique : (w g : ℕ → ℕ) → ((n : ℕ) → n < nodes → g n ≡ child_sum count hangs n w + child_sum nodes parent n g)
+      → (n : ℕ) → n < nodes → g n ≡ sum_beneath nodes parent count hangs n w
+  sum_beneath-unique w g e =
+      down nodes (λ n. g n ≡ sum_beneath nodes parent count hangs n w) (λ n l ih.
       e n l
-      ∙ ap (λ (z : ℕ). childSum count hangs n w + z)
-      (childSum-cong nodes parent n g (λ m. sumBeneath nodes parent count hangs m w) (λ m lm q. ih m lm (subst (λ (z : ℕ). z ≤ m) q (rises m lm))))
-      ∙ sym (sumBeneath-step n w))
+      ∙ ap (λ (z : ℕ). child_sum count hangs n w + z)
+      (child_sum-cong nodes parent n g (λ m. sum_beneath nodes parent count hangs m w) (λ m lm q. ih m lm (subst (λ (z : ℕ). z ≤ m) q (rises m lm))))
+      ∙ sym (sum_beneath-step n w))

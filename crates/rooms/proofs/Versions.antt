@@ -12,25 +12,25 @@ use borrow.Author.Tests.{eqb-true, lt-ltb}
 use Rattle.figures.specs.Figures.{total, figures, at}
 use Rattle.figures.specs.Sums.{on}
 use Rattle.rooms.specs.Part.{good}
-use Rattle.rooms.specs.Table.{Node, Cord, Server, Room, form_of, share_of, cordCount, roomCords, table}
-use Rattle.rooms.specs.Limits.{limit, carried, nodeAt, hangsBeneath, serverLows, lows, overloaded}
-use Rattle.rooms.specs.Cords.{RoomCord, serverCords, cordsFrom, cordsOf, cordAt, serverAt, serverOf}
-use Rattle.rooms.specs.Lists.{carriedBy, lowsOf, nodesOf, levelsOf}
-use Rattle.rooms.specs.Versions.{withEighty, secondVersion, sharesTenfold, tenfoldPast, thirdVersion}
+use Rattle.rooms.specs.Table.{Node, Cord, Server, Room, form_of, share_of, cord_count, room_cords, table}
+use Rattle.rooms.specs.Limits.{limit, carried, node_at, hangs_beneath, server_lows, lows, overloaded}
+use Rattle.rooms.specs.Cords.{RoomCord, server_cords, cords_from, cords_of, cord_at, server_at, server_of}
+use Rattle.rooms.specs.Lists.{carried_by, lows_of, nodes_of, levels_of}
+use Rattle.rooms.specs.Versions.{with_eighty, second_version, shares_tenfold, tenfold_past, third_version}
 use Rattle.rooms.proofs.NodeWords.{is-eighty}
 use Rattle.rooms.proofs.All.{All}
-use Rattle.rooms.proofs.Search.{firstNode-cong}
+use Rattle.rooms.proofs.Search.{first_node-cong}
 use Rattle.rooms.proofs.Accepted.{CordAccepted}
-use Rattle.rooms.proofs.Cords.{noRoomCord, noServer}
-use Rattle.rooms.specs.Words.{rowWords, wordsOfNode, wordsOfCord, wordsOfServer, table_of, NodeInRange}
+use Rattle.rooms.proofs.Cords.{no_room_cord, no_server}
+use Rattle.rooms.specs.Words.{row_words, words_of_node, words_of_cord, words_of_server, table_of, NodeInRange}
 use Rattle.rooms.proofs.Tables.{Chain, ServerFits, RoomFits, Reads, table-written, table_fits, table-reads}
 
 -- ---- Version 2 from version 1
 
 -- Nodes without a word for their percent have 80, so that 80 as a third word is theirs.
 eighty-words : (own : ℕ) (l : List Node) (rest : List ℕ) → Chain (NodeInRange false) (λ own _. suc own) own l
-    → withEighty (length l) (rowWords (wordsOfNode false) l ++ rest) ≡ rowWords (wordsOfNode true) l ++ rest
-unfolding withEighty Chain rowWords
+    → with_eighty (length l) (row_words (words_of_node false) l ++ rest) ≡ row_words (words_of_node true) l ++ rest
+unfolding with_eighty Chain row_words
 eighty-words own [] rest f = refl
 eighty-words own (n ∷ l) rest f =
     let eighty : n.percent ≡ 80 = eqb-true n.percent 80 f.0.percent in
@@ -55,94 +55,94 @@ module _ (w : List ℕ) (r : Room) (j : ℕ) (first : get_or w 0 0 ≡ 1) (e : t
         first = omega arith;
         newest = omega arith;
         scaled = fits-first.scaled;
-        someNodes = fits-first.someNodes;
-        fewNodes = fits-first.fewNodes;
+        some_nodes = fits-first.some_nodes;
+        few_nodes = fits-first.few_nodes;
         nodes = eighty-fits 1 r.nodes fits-first.nodes;
-        fewServers = fits-first.fewServers;
+        few_servers = fits-first.few_servers;
         servers = fits-first.servers;
       }
 
-  second-words : secondVersion w ≡ table_of 2 r
-  unfolding secondVersion form_of
+  second-words : second_version w ≡ table_of 2 r
+  unfolding second_version form_of
   second-words =
-      ap secondVersion (table-written w r j e ∙ ap (λ (v : ℕ). table_of v r) first)
-      ∙ ap (λ (z : List ℕ). 2 ∷ length r.nodes ∷ z) (eighty-words 1 r.nodes (length r.servers ∷ rowWords wordsOfServer r.servers) fits-first.nodes)
+      ap second_version (table-written w r j e ∙ ap (λ (v : ℕ). table_of v r) first)
+      ∙ ap (λ (z : List ℕ). 2 ∷ length r.nodes ∷ z) (eighty-words 1 r.nodes (length r.servers ∷ row_words words_of_server r.servers) fits-first.nodes)
 
-  pub second-version-reads : Reads table (secondVersion w) 0 r []
+  pub second-version-reads : Reads table (second_version w) 0 r []
   second-version-reads = rw second-words (table-reads 2 r fits-second)
 
 -- ---- Version 3 from version 2
 
-abbrev pub tenfoldCord : Cord → Cord
-tenfoldCord c = record { node = c.node; share = 10 * c.share }
+abbrev pub tenfold_cord : Cord → Cord
+tenfold_cord c = record { node = c.node; share = 10 * c.share }
 
-abbrev pub tenfoldServer : Server → Server
-tenfoldServer s = record { rank = s.rank; least = s.least; greatest = s.greatest; cords = map tenfoldCord s.cords }
+abbrev pub tenfold_server : Server → Server
+tenfold_server s = record { rank = s.rank; least = s.least; greatest = s.greatest; cords = map tenfold_cord s.cords }
 
 -- A room with scale and shares tenfold.
-abbrev pub tenfoldRoom : Room → Room
-tenfoldRoom r = record { scale = 10 * r.scale; nodes = r.nodes; servers = map tenfoldServer r.servers }
+abbrev pub tenfold_room : Room → Room
+tenfold_room r = record { scale = 10 * r.scale; nodes = r.nodes; servers = map tenfold_server r.servers }
 
 -- ---- Its words
 
 tenfold-cords : (l : List Cord) (rest : List ℕ)
-    → sharesTenfold (length l) (rowWords wordsOfCord l ++ rest) ≡ rowWords wordsOfCord (map tenfoldCord l) ++ sharesTenfold 0 rest
-unfolding sharesTenfold rowWords
+    → shares_tenfold (length l) (row_words words_of_cord l ++ rest) ≡ row_words words_of_cord (map tenfold_cord l) ++ shares_tenfold 0 rest
+unfolding shares_tenfold row_words
 tenfold-cords [] rest = refl
 tenfold-cords (c ∷ l) rest = ap (λ (z : List ℕ). c.node ∷ 10 * c.share ∷ z) (tenfold-cords l rest)
 
-tenfold-servers : (l : List Server) → sharesTenfold 0 (rowWords wordsOfServer l) ≡ rowWords wordsOfServer (map tenfoldServer l)
-unfolding sharesTenfold rowWords
+tenfold-servers : (l : List Server) → shares_tenfold 0 (row_words words_of_server l) ≡ row_words words_of_server (map tenfold_server l)
+unfolding shares_tenfold row_words
 tenfold-servers [] = refl
 tenfold-servers (s ∷ l) =
-    ap (λ (z : List ℕ). s.rank ∷ s.least ∷ s.greatest ∷ cordCount s ∷ z)
-    (tenfold-cords s.cords (rowWords wordsOfServer l) ∙ ap (λ (z : List ℕ). rowWords wordsOfCord (map tenfoldCord s.cords) ++ z) (tenfold-servers l))
-    ∙ ap (λ (k : ℕ). s.rank ∷ s.least ∷ s.greatest ∷ k ∷ (rowWords wordsOfCord (map tenfoldCord s.cords) ++ rowWords wordsOfServer (map tenfoldServer l)))
-    (sym (length-map s.cords tenfoldCord))
+    ap (λ (z : List ℕ). s.rank ∷ s.least ∷ s.greatest ∷ cord_count s ∷ z)
+    (tenfold-cords s.cords (row_words words_of_server l) ∙ ap (λ (z : List ℕ). row_words words_of_cord (map tenfold_cord s.cords) ++ z) (tenfold-servers l))
+    ∙ ap (λ (k : ℕ). s.rank ∷ s.least ∷ s.greatest ∷ k ∷ (row_words words_of_cord (map tenfold_cord s.cords) ++ row_words words_of_server (map tenfold_server l)))
+    (sym (length-map s.cords tenfold_cord))
 
 tenfold-past : (l : List Node) (count : ℕ) (rest : List ℕ)
-    → tenfoldPast (length l) (rowWords (wordsOfNode true) l ++ (count ∷ rest)) ≡ rowWords (wordsOfNode true) l ++ (count ∷ sharesTenfold 0 rest)
-unfolding tenfoldPast rowWords
+    → tenfold_past (length l) (row_words (words_of_node true) l ++ (count ∷ rest)) ≡ row_words (words_of_node true) l ++ (count ∷ shares_tenfold 0 rest)
+unfolding tenfold_past row_words
 tenfold-past [] count rest = refl
 tenfold-past (n ∷ l) count rest = ap (λ (z : List ℕ). n.parent ∷ n.rating ∷ n.percent ∷ z) (tenfold-past l count rest)
 
 -- ---- Its figures are in range
 
-tenfold-sum : (l : List Cord) → total share_of (map tenfoldCord l) ≡ 10 * total share_of l
+tenfold-sum : (l : List Cord) → total share_of (map tenfold_cord l) ≡ 10 * total share_of l
 unfolding total
 tenfold-sum [] = refl
 tenfold-sum (c ∷ l) = ap (λ (z : ℕ). 10 * c.share + z) (tenfold-sum l) ∙ sym (mul-add 10 c.share (total share_of l))
 
-tenfold-cords-fit : (scale nodeCount : ℕ) (l : List Cord) → All (CordAccepted scale nodeCount) l → All (CordAccepted (10 * scale) nodeCount) (map tenfoldCord l)
+tenfold-cords-fit : (scale node_count : ℕ) (l : List Cord) → All (CordAccepted scale node_count) l → All (CordAccepted (10 * scale) node_count) (map tenfold_cord l)
 unfolding All
-tenfold-cords-fit scale nodeCount [] f = tt
-tenfold-cords-fit scale nodeCount (c ∷ l) f =
-    (record { nodeFrom = f.0.nodeFrom; nodeTo = f.0.nodeTo; shareTo = omega (arith, f.0.shareTo) }, tenfold-cords-fit scale nodeCount l f.1)
+tenfold-cords-fit scale node_count [] f = tt
+tenfold-cords-fit scale node_count (c ∷ l) f =
+    (record { node_from = f.0.node_from; node_to = f.0.node_to; share_to = omega (arith, f.0.share_to) }, tenfold-cords-fit scale node_count l f.1)
 
-tenfold-fits : (scale nodeCount before : ℕ) (s : Server) → ServerFits scale nodeCount before s → ServerFits (10 * scale) nodeCount before (tenfoldServer s)
-tenfold-fits scale nodeCount before s f =
+tenfold-fits : (scale node_count before : ℕ) (s : Server) → ServerFits scale node_count before s → ServerFits (10 * scale) node_count before (tenfold_server s)
+tenfold-fits scale node_count before s f =
     let a = f.accepted in
-    let count : length (map tenfoldCord s.cords) ≡ length s.cords = length-map s.cords tenfoldCord in
+    let count : length (map tenfold_cord s.cords) ≡ length s.cords = length-map s.cords tenfold_cord in
     record {
       accepted = record {
-        rankFrom = a.rankFrom;
-        rankTo = a.rankTo;
+        rank_from = a.rank_from;
+        rank_to = a.rank_to;
         ordered = a.ordered;
-        greatestTo = a.greatestTo;
-        someCords = omega (arith, a.someCords);
-        fewCords = omega (arith, a.fewCords);
+        greatest_to = a.greatest_to;
+        some_cords = omega (arith, a.some_cords);
+        few_cords = omega (arith, a.few_cords);
         shares = tenfold-sum s.cords ∙ ap (λ (z : ℕ). 10 * z) a.shares;
-        cords = tenfold-cords-fit scale nodeCount s.cords a.cords;
+        cords = tenfold-cords-fit scale node_count s.cords a.cords;
       };
       few = omega (arith, f.few);
     }
 
-tenfold-servers-fit : (scale nodeCount before : ℕ) (l : List Server) → Chain (ServerFits scale nodeCount) (λ before s. before + cordCount s) before l
-    → Chain (ServerFits (10 * scale) nodeCount) (λ before s. before + cordCount s) before (map tenfoldServer l)
+tenfold-servers-fit : (scale node_count before : ℕ) (l : List Server) → Chain (ServerFits scale node_count) (λ before s. before + cord_count s) before l
+    → Chain (ServerFits (10 * scale) node_count) (λ before s. before + cord_count s) before (map tenfold_server l)
 unfolding Chain
-tenfold-servers-fit scale nodeCount before [] f = tt
-tenfold-servers-fit scale nodeCount before (s ∷ l) f =
-    (tenfold-fits scale nodeCount before s f.0, rw (length-map s.cords tenfoldCord) (tenfold-servers-fit scale nodeCount (before + cordCount s) l f.1))
+tenfold-servers-fit scale node_count before [] f = tt
+tenfold-servers-fit scale node_count before (s ∷ l) f =
+    (tenfold-fits scale node_count before s f.0, rw (length-map s.cords tenfold_cord) (tenfold-servers-fit scale node_count (before + cord_count s) l f.1))
 
 module _ (w : List ℕ) (r : Room) (j : ℕ) (second : get_or w 0 0 ≡ 2) (e : table w 0 ≡ good r j) where
   fits-from : RoomFits 2 r
@@ -152,30 +152,30 @@ module _ (w : List ℕ) (r : Room) (j : ℕ) (second : get_or w 0 0 ≡ 2) (e : 
   unfolding form_of
   scale-from = fits-from.scaled
 
-  fits-third : RoomFits 3 (tenfoldRoom r)
+  fits-third : RoomFits 3 (tenfold_room r)
   unfolding form_of
   fits-third =
       record {
         first = omega arith;
         newest = omega arith;
         scaled = ap (λ (z : ℕ). 10 * z) scale-from;
-        someNodes = fits-from.someNodes;
-        fewNodes = fits-from.fewNodes;
+        some_nodes = fits-from.some_nodes;
+        few_nodes = fits-from.few_nodes;
         nodes = fits-from.nodes;
-        fewServers = omega (arith, fits-from.fewServers, length-map r.servers tenfoldServer);
+        few_servers = omega (arith, fits-from.few_servers, length-map r.servers tenfold_server);
         servers = tenfold-servers-fit r.scale (length r.nodes) 0 r.servers fits-from.servers;
       }
 
-  third-words : thirdVersion w ≡ table_of 3 (tenfoldRoom r)
-  unfolding thirdVersion form_of
+  third-words : third_version w ≡ table_of 3 (tenfold_room r)
+  unfolding third_version form_of
   third-words =
-      ap thirdVersion (table-written w r j e ∙ ap (λ (v : ℕ). table_of v r) second)
+      ap third_version (table-written w r j e ∙ ap (λ (v : ℕ). table_of v r) second)
       ∙ ap (λ (z : List ℕ). 3 ∷ length r.nodes ∷ z)
-      (tenfold-past r.nodes (length r.servers) (rowWords wordsOfServer r.servers)
-      ∙ ap₂ (λ (k : ℕ) (z : List ℕ). rowWords (wordsOfNode true) r.nodes ++ (k ∷ z)) (sym (length-map r.servers tenfoldServer)) (tenfold-servers r.servers))
+      (tenfold-past r.nodes (length r.servers) (row_words words_of_server r.servers)
+      ∙ ap₂ (λ (k : ℕ) (z : List ℕ). row_words (words_of_node true) r.nodes ++ (k ∷ z)) (sym (length-map r.servers tenfold_server)) (tenfold-servers r.servers))
 
-  pub third-version-reads : Reads table (thirdVersion w) 0 (tenfoldRoom r) []
-  third-version-reads = rw third-words (table-reads 3 (tenfoldRoom r) fits-third)
+  pub third-version-reads : Reads table (third_version w) 0 (tenfold_room r) []
+  third-version-reads = rw third-words (table-reads 3 (tenfold_room r) fits-third)
 
 -- ---- Its servers and cords have the same figures, by its scale
 
@@ -195,35 +195,35 @@ pub some-tenfold : (share : ℕ) → ltb 0 (10 * share) ≡ ltb 0 share
 some-tenfold zero = refl
 some-tenfold (suc k) = lt-ltb 0 (10 * suc k) (omega arith) ∙ sym (lt-ltb 0 (suc k) (omega arith))
 
-abbrev pub tenfoldPlaced : RoomCord → RoomCord
-tenfoldPlaced c = record { server = c.server; node = c.node; share = 10 * c.share }
+abbrev pub tenfold_placed : RoomCord → RoomCord
+tenfold_placed c = record { server = c.server; node = c.node; share = 10 * c.share }
 
 placed-tenfold : (v : ℕ) (l : List Cord) (rest : List RoomCord)
-    → serverCords v (map tenfoldCord l) ++ map tenfoldPlaced rest ≡ map tenfoldPlaced (serverCords v l ++ rest)
-unfolding serverCords
+    → server_cords v (map tenfold_cord l) ++ map tenfold_placed rest ≡ map tenfold_placed (server_cords v l ++ rest)
+unfolding server_cords
 placed-tenfold v [] rest = refl
-placed-tenfold v (c ∷ l) rest = ap (λ (z : List RoomCord). tenfoldPlaced (record { server = v; node = c.node; share = c.share }) ∷ z) (placed-tenfold v l rest)
+placed-tenfold v (c ∷ l) rest = ap (λ (z : List RoomCord). tenfold_placed (record { server = v; node = c.node; share = c.share }) ∷ z) (placed-tenfold v l rest)
 
-cords-tenfold : (v : ℕ) (l : List Server) → cordsFrom v (map tenfoldServer l) ≡ map tenfoldPlaced (cordsFrom v l)
-unfolding cordsFrom
+cords-tenfold : (v : ℕ) (l : List Server) → cords_from v (map tenfold_server l) ≡ map tenfold_placed (cords_from v l)
+unfolding cords_from
 cords-tenfold v [] = refl
 cords-tenfold v (s ∷ l) =
-    ap (λ (z : List RoomCord). serverCords v (map tenfoldCord s.cords) ++ z) (cords-tenfold (suc v) l) ∙ placed-tenfold v s.cords (cordsFrom (suc v) l)
+    ap (λ (z : List RoomCord). server_cords v (map tenfold_cord s.cords) ++ z) (cords-tenfold (suc v) l) ∙ placed-tenfold v s.cords (cords_from (suc v) l)
 
-count-tenfold : (l : List Server) → total cordCount (map tenfoldServer l) ≡ total cordCount l
+count-tenfold : (l : List Server) → total cord_count (map tenfold_server l) ≡ total cord_count l
 unfolding total
 count-tenfold [] = refl
-count-tenfold (s ∷ l) = ap₂ ◌+◌ (length-map s.cords tenfoldCord) (count-tenfold l)
+count-tenfold (s ∷ l) = ap₂ ◌+◌ (length-map s.cords tenfold_cord) (count-tenfold l)
 
 module _ (scale : ℕ) (some : 0 < scale) (test : ℕ → Bool) where
   server-lows-tenfold : (least : ℕ) (l : List Cord)
-      → total (λ c. on (test c.node) (carried (10 * scale) c.share least)) (map tenfoldCord l) ≡ total (λ c. on (test c.node) (carried scale c.share least)) l
+      → total (λ c. on (test c.node) (carried (10 * scale) c.share least)) (map tenfold_cord l) ≡ total (λ c. on (test c.node) (carried scale c.share least)) l
   unfolding total
   server-lows-tenfold least [] = refl
   server-lows-tenfold least (c ∷ l) = ap₂ ◌+◌ (ap (on (test c.node)) (carried-tenfold scale c.share least some)) (server-lows-tenfold least l)
 
-  lows-tenfold : (l : List Server) → lows (10 * scale) test (map tenfoldServer l) ≡ lows scale test l
-  unfolding lows serverLows total
+  lows-tenfold : (l : List Server) → lows (10 * scale) test (map tenfold_server l) ≡ lows scale test l
+  unfolding lows server_lows total
   lows-tenfold [] = refl
   lows-tenfold (s ∷ l) = ap₂ ◌+◌ (server-lows-tenfold s.least s.cords) (lows-tenfold l)
 
@@ -232,45 +232,45 @@ pub figures-same : {k h : ℕ} {f g : ℕ → ℕ} → k ≡ h → ((i : ℕ) �
 figures-same e same = ap₂ figures e (fun_ext same)
 
 module _ (r : Room) where
-  pub servers-tenfold : length (tenfoldRoom r).servers ≡ length r.servers
-  servers-tenfold = length-map r.servers tenfoldServer
+  pub servers-tenfold : length (tenfold_room r).servers ≡ length r.servers
+  servers-tenfold = length-map r.servers tenfold_server
 
-  pub roomCords-tenfold : roomCords (tenfoldRoom r) ≡ roomCords r
-  roomCords-tenfold = count-tenfold r.servers
+  pub room_cords-tenfold : room_cords (tenfold_room r) ≡ room_cords r
+  room_cords-tenfold = count-tenfold r.servers
 
-  pub serverAt-tenfold : (v : ℕ) → serverAt (tenfoldRoom r) v ≡ tenfoldServer (serverAt r v)
-  serverAt-tenfold v = get_or-map tenfoldServer r.servers v noServer
+  pub server_at-tenfold : (v : ℕ) → server_at (tenfold_room r) v ≡ tenfold_server (server_at r v)
+  server_at-tenfold v = get_or-map tenfold_server r.servers v no_server
 
-  pub cordAt-tenfold : (c : ℕ) → cordAt (tenfoldRoom r) c ≡ tenfoldPlaced (cordAt r c)
-  cordAt-tenfold c = ap (λ (l : List RoomCord). get_or l c noRoomCord) (cords-tenfold 0 r.servers) ∙ get_or-map tenfoldPlaced (cordsOf r) c noRoomCord
+  pub cord_at-tenfold : (c : ℕ) → cord_at (tenfold_room r) c ≡ tenfold_placed (cord_at r c)
+  cord_at-tenfold c = ap (λ (l : List RoomCord). get_or l c no_room_cord) (cords-tenfold 0 r.servers) ∙ get_or-map tenfold_placed (cords_of r) c no_room_cord
 
-  pub overloaded-tenfold : 0 < r.scale → overloaded (tenfoldRoom r) ≡ overloaded r
+  pub overloaded-tenfold : 0 < r.scale → overloaded (tenfold_room r) ≡ overloaded r
   unfolding overloaded
   overloaded-tenfold some =
-      firstNode-cong (length r.nodes) 0 _ _ (λ n _. ap (λ (z : ℕ). ltb (limit (nodeAt r n)) z) (lows-tenfold r.scale some (hangsBeneath r n) r.servers))
+      first_node-cong (length r.nodes) 0 _ _ (λ n _. ap (λ (z : ℕ). ltb (limit (node_at r n)) z) (lows-tenfold r.scale some (hangs_beneath r n) r.servers))
 
   -- Its lists: the same nodes and levels, and each cord carries the same of any load.
-  pub nodesOf-tenfold : nodesOf (tenfoldRoom r) ≡ nodesOf r
-  unfolding nodesOf
-  nodesOf-tenfold = figures-same roomCords-tenfold (λ c. ap (λ (x : RoomCord). x.node) (cordAt-tenfold c))
+  pub nodes_of-tenfold : nodes_of (tenfold_room r) ≡ nodes_of r
+  unfolding nodes_of
+  nodes_of-tenfold = figures-same room_cords-tenfold (λ c. ap (λ (x : RoomCord). x.node) (cord_at-tenfold c))
 
-  pub serverOf-tenfold : (c : ℕ) → serverOf (tenfoldRoom r) c ≡ tenfoldServer (serverOf r c)
-  serverOf-tenfold c = ap (λ (x : RoomCord). serverAt (tenfoldRoom r) x.server) (cordAt-tenfold c) ∙ serverAt-tenfold (cordAt r c).server
+  pub server_of-tenfold : (c : ℕ) → server_of (tenfold_room r) c ≡ tenfold_server (server_of r c)
+  server_of-tenfold c = ap (λ (x : RoomCord). server_at (tenfold_room r) x.server) (cord_at-tenfold c) ∙ server_at-tenfold (cord_at r c).server
 
-  pub levelsOf-tenfold : levelsOf (tenfoldRoom r) ≡ levelsOf r
-  unfolding levelsOf
-  levelsOf-tenfold = figures-same roomCords-tenfold (λ c. ap (λ (s : Server). s.rank - 1) (serverOf-tenfold c))
+  pub levels_of-tenfold : levels_of (tenfold_room r) ≡ levels_of r
+  unfolding levels_of
+  levels_of-tenfold = figures-same room_cords-tenfold (λ c. ap (λ (s : Server). s.rank - 1) (server_of-tenfold c))
 
   module _ (some : 0 < r.scale) where
-    pub carriedBy-tenfold : (loads : List ℕ) → carriedBy (tenfoldRoom r) loads ≡ carriedBy r loads
-    unfolding carriedBy
-    carriedBy-tenfold loads =
-        figures-same roomCords-tenfold (λ c.
-        ap (λ (x : RoomCord). carried (10 * r.scale) x.share (at loads x.server)) (cordAt-tenfold c)
-        ∙ carried-tenfold r.scale (cordAt r c).share (at loads (cordAt r c).server) some)
+    pub carried_by-tenfold : (loads : List ℕ) → carried_by (tenfold_room r) loads ≡ carried_by r loads
+    unfolding carried_by
+    carried_by-tenfold loads =
+        figures-same room_cords-tenfold (λ c.
+        ap (λ (x : RoomCord). carried (10 * r.scale) x.share (at loads x.server)) (cord_at-tenfold c)
+        ∙ carried-tenfold r.scale (cord_at r c).share (at loads (cord_at r c).server) some)
 
-    pub lowsOf-tenfold : lowsOf (tenfoldRoom r) ≡ lowsOf r
-    unfolding lowsOf
-    lowsOf-tenfold =
-        carriedBy-tenfold (figures (length (tenfoldRoom r).servers) (λ v. (serverAt (tenfoldRoom r) v).least))
-        ∙ ap (carriedBy r) (figures-same servers-tenfold (λ v. ap (λ (s : Server). s.least) (serverAt-tenfold v)))
+    pub lows_of-tenfold : lows_of (tenfold_room r) ≡ lows_of r
+    unfolding lows_of
+    lows_of-tenfold =
+        carried_by-tenfold (figures (length (tenfold_room r).servers) (λ v. (server_at (tenfold_room r) v).least))
+        ∙ ap (carried_by r) (figures-same servers-tenfold (λ v. ap (λ (s : Server). s.least) (server_at-tenfold v)))

@@ -9,16 +9,16 @@ use lib.ListN.{length, get_or, drop, get_or-append, drop_of_length-le}
 use lib.Seq.{drop-cons, drop-drop, drop_at, get_or-drop}
 use Rattle.rooms.specs.Part.{good}
 use Rattle.figures.specs.Figures.{total}
-use Rattle.rooms.specs.Table.{Cord, Server, Room, mostNodes, mostCords, mostWatts, highestRank, cord, cords, server, servers, cordCount, roomCords}
+use Rattle.rooms.specs.Table.{Cord, Server, Room, most_nodes, most_cords, most_watts, highest_rank, cord, cords, server, servers, cord_count, room_cords}
 use Rattle.rooms.specs.Limits.{checked}
 use Rattle.rooms.proofs.Inversion.{many_is, CordIs, cord-is, server-is}
 use Rattle.rooms.proofs.Rows.{nodes-words, cords-words}
-use Rattle.rooms.proofs.Whole.{percentsOf, table_is, checked-is}
+use Rattle.rooms.proofs.Whole.{percents_of, table_is, checked-is}
 use Rattle.rooms.proofs.Accepted.{accepted}
-use Rattle.rooms.specs.Cords.{RoomCord, serverCords, cordsFrom, cordsOf, cordAt, serverAt}
-use Rattle.rooms.specs.Credits.{nodeIndex}
-use Rattle.rooms.specs.Walk.{serversIndex}
-use Rattle.rooms.proofs.Cords.{noCord, noRoomCord, noServer, placed, serverCords-length}
+use Rattle.rooms.specs.Cords.{RoomCord, server_cords, cords_from, cords_of, cord_at, server_at}
+use Rattle.rooms.specs.Credits.{node_index}
+use Rattle.rooms.specs.Walk.{servers_index}
+use Rattle.rooms.proofs.Cords.{no_cord, no_room_cord, no_server, placed, server_cords-length}
 
 -- ---- The counts
 
@@ -26,38 +26,38 @@ use Rattle.rooms.proofs.Cords.{noCord, noRoomCord, noServer, placed, serverCords
 pub record Begun (table : List ℕ) (r : Room) : Type 0 where
   pub there : 1 < length table
   pub count : get_or table 1 0 ≡ length r.nodes
-  pub most : length r.nodes ≤ mostNodes
-  pub cords-most : roomCords r ≤ mostCords
+  pub most : length r.nodes ≤ most_nodes
+  pub cords-most : room_cords r ≤ most_cords
 
 module _ {table : List ℕ} {r : Room} {end : ℕ} (e : checked table 0 ≡ good r end) where
   pub begun : Begun table r
   begun =
       let t = table_is table r end (checked-is table r end e).0 in
-      record { there = t.begun; count = t.nodeCount; most = t.fewNodes; cords-most = (accepted table r end e).fewCords }
+      record { there = t.begun; count = t.node_count; most = t.few_nodes; cords-most = (accepted table r end e).few_cords }
 
 -- ---- The cords of a server
 
 -- The cords of a good row by place.
-cords-at : (scale nodeCount count : ℕ) (w : List ℕ) (i : ℕ) (l : List Cord) (j : ℕ) (d : Cord) (k : ℕ) → k < count → cords scale nodeCount count w i ≡ good l j
-    → CordIs scale nodeCount w (i + 2 * k) (get_or l k d) (suc (suc (i + 2 * k)))
-cords-at scale nodeCount zero w i l j d k h e = absurd (omega arith)
-cords-at scale nodeCount (suc count) w i l j d zero h e =
-    let a = many_is count (λ _. cord scale nodeCount) (λ given _. given) 0 w i l j e in
-    let n = cord-is scale nodeCount w i a.got a.at a.first in
+cords-at : (scale node_count count : ℕ) (w : List ℕ) (i : ℕ) (l : List Cord) (j : ℕ) (d : Cord) (k : ℕ) → k < count → cords scale node_count count w i ≡ good l j
+    → CordIs scale node_count w (i + 2 * k) (get_or l k d) (suc (suc (i + 2 * k)))
+cords-at scale node_count zero w i l j d k h e = absurd (omega arith)
+cords-at scale node_count (suc count) w i l j d zero h e =
+    let a = many_is count (λ _. cord scale node_count) (λ given _. given) 0 w i l j e in
+    let n = cord-is scale node_count w i a.got a.at a.first in
     let z : i + 2 * 0 ≡ i = omega arith in
     rw (a.is, z, ← n.next) n
-cords-at scale nodeCount (suc count) w i l j d (suc k) h e =
-    let a = many_is count (λ _. cord scale nodeCount) (λ given _. given) 0 w i l j e in
-    let n = cord-is scale nodeCount w i a.got a.at a.first in
+cords-at scale node_count (suc count) w i l j d (suc k) h e =
+    let a = many_is count (λ _. cord scale node_count) (λ given _. given) 0 w i l j e in
+    let n = cord-is scale node_count w i a.got a.at a.first in
     let z : i + 2 * suc k ≡ a.at + 2 * k = omega (arith, n.next) in
-    rw (a.is, z) (cords-at scale nodeCount count w a.at a.rest j d k (omega arith) a.others)
+    rw (a.is, z) (cords-at scale node_count count w a.at a.rest j d k (omega arith) a.others)
 
 -- The k-th of a server's cords among the room's.
-pub serverCords-at : (v : ℕ) (l : List Cord) (k : ℕ) → k < length l → get_or (serverCords v l) k noRoomCord ≡ placed v (get_or l k noCord)
-unfolding serverCords
-serverCords-at v [] k h = absurd (not-suc-le-zero h)
-serverCords-at v (c ∷ rest) zero h = refl
-serverCords-at v (c ∷ rest) (suc k) h = serverCords-at v rest k (le_of_suc-le-suc h)
+pub server_cords-at : (v : ℕ) (l : List Cord) (k : ℕ) → k < length l → get_or (server_cords v l) k no_room_cord ≡ placed v (get_or l k no_cord)
+unfolding server_cords
+server_cords-at v [] k h = absurd (not-suc-le-zero h)
+server_cords-at v (c ∷ rest) zero h = refl
+server_cords-at v (c ∷ rest) (suc k) h = server_cords-at v rest k (le_of_suc-le-suc h)
 
 -- ---- The walk
 
@@ -69,48 +69,48 @@ pub record Walk (table : List ℕ) (r : Room) (v index c : ℕ) : Type 0 where
   pub servers-left : v + left ≡ length r.servers
   pub is : servers r.scale (length r.nodes) left before table index ≡ good (drop v r.servers) end
   pub there : index ≤ length table
-  pub cords-are : drop c (cordsOf r) ≡ cordsFrom v (drop v r.servers)
-  pub cords-left : c + total cordCount (drop v r.servers) ≡ roomCords r
+  pub cords-are : drop c (cords_of r) ≡ cords_from v (drop v r.servers)
+  pub cords-left : c + total cord_count (drop v r.servers) ≡ room_cords r
 
 -- The k-th cord of the server that stands next.
 pub record CordHere (table : List ℕ) (r : Room) (v index c k : ℕ) : Type 0 where
   pub there : index + 5 + 2 * k < length table
-  pub is : cordAt r (c + k) ≡ record { server = v; node = get_or table (index + 4 + 2 * k) 0; share = get_or table (index + 5 + 2 * k) 0 }
+  pub is : cord_at r (c + k) ≡ record { server = v; node = get_or table (index + 4 + 2 * k) 0; share = get_or table (index + 5 + 2 * k) 0 }
   pub node-most : get_or table (index + 4 + 2 * k) 0 ≤ length r.nodes
   pub share-most : get_or table (index + 5 + 2 * k) 0 ≤ r.scale
-  pub within : c + k < roomCords r
+  pub within : c + k < room_cords r
 
 -- The server that stands next, at place v, and the walk after it.
 pub record ServerHere (table : List ℕ) (r : Room) (v index c : ℕ) : Type 0 where
   pub there : index + 3 < length table
-  pub rank : (serverAt r v).rank ≡ get_or table index 0
-  pub least : (serverAt r v).least ≡ get_or table (index + 1) 0
-  pub greatest : (serverAt r v).greatest ≡ get_or table (index + 2) 0
+  pub rank : (server_at r v).rank ≡ get_or table index 0
+  pub least : (server_at r v).least ≡ get_or table (index + 1) 0
+  pub greatest : (server_at r v).greatest ≡ get_or table (index + 2) 0
   pub lowest : 1 ≤ get_or table index 0
-  pub highest : get_or table index 0 ≤ highestRank
+  pub highest : get_or table index 0 ≤ highest_rank
   pub ordered : get_or table (index + 1) 0 ≤ get_or table (index + 2) 0
-  pub most : get_or table (index + 2) 0 ≤ mostWatts
-  pub count : cordCount (serverAt r v) ≡ get_or table (index + 3) 0
-  pub cords-within : c + get_or table (index + 3) 0 ≤ roomCords r
+  pub most : get_or table (index + 2) 0 ≤ most_watts
+  pub count : cord_count (server_at r v) ≡ get_or table (index + 3) 0
+  pub cords-within : c + get_or table (index + 3) 0 ≤ room_cords r
   pub cord : (k : ℕ) → k < get_or table (index + 3) 0 → CordHere table r v index c k
   pub next : Walk table r (v + 1) (index + (4 + 2 * get_or table (index + 3) 0)) (c + get_or table (index + 3) 0)
 
-pub walk_start : {table : List ℕ} {r : Room} {end : ℕ} → checked table 0 ≡ good r end → Walk table r 0 (serversIndex table + 1) 0
+pub walk_start : {table : List ℕ} {r : Room} {end : ℕ} → checked table 0 ≡ good r end → Walk table r 0 (servers_index table + 1) 0
 walk_start {table} {r} {end} e =
     let t = table_is table r end (checked-is table r end e).0 in
-    let m = (nodes-words (percentsOf table) (length r.nodes) 1 table 2 r.nodes t.middle t.begun t.nodesRead).0 in
-    let i : serversIndex table + 1 ≡ suc t.middle
-    = add-one (serversIndex table) ∙ ap (λ (k : ℕ). suc (nodeIndex (percentsOf table) k)) t.nodeCount ∙ ap suc (sym m) in
+    let m = (nodes-words (percents_of table) (length r.nodes) 1 table 2 r.nodes t.middle t.begun t.nodes_read).0 in
+    let i : servers_index table + 1 ≡ suc t.middle
+    = add-one (servers_index table) ∙ ap (λ (k : ℕ). suc (node_index (percents_of table) k)) t.node_count ∙ ap suc (sym m) in
     rw i
     (record {
       before = 0;
       left = length r.servers;
       end = end;
       servers-left = zero-add (length r.servers);
-      is = t.serversRead;
+      is = t.servers_read;
       there = t.there;
       cords-are = refl;
-      cords-left = zero-add (roomCords r);
+      cords-left = zero-add (room_cords r);
     })
 
 -- The server that stands next, as it was read from the table: `rest` are the servers after it.
@@ -118,45 +118,45 @@ module _ (table : List ℕ) (r : Room) (v index c before left end after : ℕ) (
     (counted : v + suc left ≡ length r.servers)
     (split : drop v r.servers ≡ s ∷ rest)
     (first : server r.scale (length r.nodes) before table index ≡ good s after)
-    (others : servers r.scale (length r.nodes) left (before + cordCount s) table after ≡ good rest end)
+    (others : servers r.scale (length r.nodes) left (before + cord_count s) table after ≡ good rest end)
     (walk : Walk table r v index c) where
-  here : (serverAt r v ≡ s) × (drop (suc v) r.servers ≡ rest)
+  here : (server_at r v ≡ s) × (drop (suc v) r.servers ≡ rest)
   here =
-      let e : serverAt r v ∷ drop (suc v) r.servers ≡ s ∷ rest = sym (drop-cons r.servers v noServer (omega arith)) ∙ split in
-      let a : serverAt r v ≡ s = cc in
+      let e : server_at r v ∷ drop (suc v) r.servers ≡ s ∷ rest = sym (drop-cons r.servers v no_server (omega arith)) ∙ split in
+      let a : server_at r v ≡ s = cc in
       let b : drop (suc v) r.servers ≡ rest = cc in
       (a, b)
 
-  words : (index + 3 < length table) × (get_or table (index + 3) 0 ≡ cordCount s) × (after ≡ index + (4 + 2 * cordCount s)) × (after ≤ length table)
+  words : (index + 3 < length table) × (get_or table (index + 3) 0 ≡ cord_count s) × (after ≡ index + (4 + 2 * cord_count s)) × (after ≤ length table)
   words =
       let l = (server-is r.scale (length r.nodes) before table index s after first).load in
       let c = cords-words r.scale (length r.nodes) (get_or table (suc (suc (suc index))) 0) table (suc (suc (suc (suc index)))) s.cords after l.there l.are in
       let e : index + 3 ≡ suc (suc (suc index)) = omega arith in
       (omega (arith, l.there), rw e (sym l.count), omega (arith, c.0, l.count), c.1)
 
-  cords-after : drop c (cordsOf r) ≡ serverCords v s.cords ++ cordsFrom (suc v) rest
-  unfolding cordsFrom
-  cords-after = walk.cords-are ∙ ap (cordsFrom v) split
+  cords-after : drop c (cords_of r) ≡ server_cords v s.cords ++ cords_from (suc v) rest
+  unfolding cords_from
+  cords-after = walk.cords-are ∙ ap (cords_from v) split
 
-  count-after : c + (cordCount s + total cordCount rest) ≡ roomCords r
+  count-after : c + (cord_count s + total cord_count rest) ≡ room_cords r
   unfolding total
-  count-after = ap (λ (l : List Server). c + total cordCount l) (sym split) ∙ walk.cords-left
+  count-after = ap (λ (l : List Server). c + total cord_count l) (sym split) ∙ walk.cords-left
 
-  cord-placed : (k : ℕ) → k < cordCount s → cordAt r (c + k) ≡ placed v (get_or s.cords k noCord)
+  cord-placed : (k : ℕ) → k < cord_count s → cord_at r (c + k) ≡ placed v (get_or s.cords k no_cord)
   cord-placed k h =
-      sym (get_or-drop c (cordsOf r) k noRoomCord)
-      ∙ ap (λ (l : List RoomCord). get_or l k noRoomCord) cords-after
-      ∙ get_or-append (serverCords v s.cords) (cordsFrom (suc v) rest) noRoomCord k (omega (arith, serverCords-length v s.cords))
-      ∙ serverCords-at v s.cords k h
+      sym (get_or-drop c (cords_of r) k no_room_cord)
+      ∙ ap (λ (l : List RoomCord). get_or l k no_room_cord) cords-after
+      ∙ get_or-append (server_cords v s.cords) (cords_from (suc v) rest) no_room_cord k (omega (arith, server_cords-length v s.cords))
+      ∙ server_cords-at v s.cords k h
 
-  cord-here : (k : ℕ) → k < cordCount s → CordHere table r v index c k
+  cord-here : (k : ℕ) → k < cord_count s → CordHere table r v index c k
   cord-here k h =
       let l = (server-is r.scale (length r.nodes) before table index s after first).load in
-      let i = cords-at r.scale (length r.nodes) (get_or table (suc (suc (suc index))) 0) table (suc (suc (suc (suc index)))) s.cords after noCord k (omega (arith, l.count)) l.are in
+      let i = cords-at r.scale (length r.nodes) (get_or table (suc (suc (suc index))) 0) table (suc (suc (suc (suc index)))) s.cords after no_cord k (omega (arith, l.count)) l.are in
       let e4 : index + 4 + 2 * k ≡ suc (suc (suc (suc index))) + 2 * k = omega arith in
       let e5 : index + 5 + 2 * k ≡ suc (suc (suc (suc (suc index))) + 2 * k) = omega arith in
-      let n : (get_or s.cords k noCord).node ≡ get_or table (index + 4 + 2 * k) 0 = rw e4 (ap (λ (x : Cord). x.node) i.is) in
-      let m : (get_or s.cords k noCord).share ≡ get_or table (index + 5 + 2 * k) 0 = rw e5 (ap (λ (x : Cord). x.share) i.is) in
+      let n : (get_or s.cords k no_cord).node ≡ get_or table (index + 4 + 2 * k) 0 = rw e4 (ap (λ (x : Cord). x.node) i.is) in
+      let m : (get_or s.cords k no_cord).share ≡ get_or table (index + 5 + 2 * k) 0 = rw e5 (ap (λ (x : Cord). x.share) i.is) in
       record {
         there = omega (arith, i.there);
         is = cord-placed k h ∙ ap₂ (λ (x y : ℕ). record { server = v; node = x; share = y }) n m;
@@ -165,20 +165,20 @@ module _ (table : List ℕ) (r : Room) (v index c before left end after : ℕ) (
         within = omega (arith, count-after);
       }
 
-  walk-on : Walk table r (suc v) after (c + cordCount s)
+  walk-on : Walk table r (suc v) after (c + cord_count s)
   walk-on =
       record {
-        before = before + cordCount s;
+        before = before + cord_count s;
         left = left;
         end = end;
         servers-left = omega arith;
         is = rw here.1 others;
         there = words.3;
         cords-are =
-            sym (drop-drop (cordCount s) c (cordsOf r))
-            ∙ ap (drop (cordCount s)) cords-after
-            ∙ drop_at (serverCords v s.cords) (cordsFrom (suc v) rest) (cordCount s) (serverCords-length v s.cords)
-            ∙ ap (cordsFrom (suc v)) (sym here.1);
+            sym (drop-drop (cord_count s) c (cords_of r))
+            ∙ ap (drop (cord_count s)) cords-after
+            ∙ drop_at (server_cords v s.cords) (cords_from (suc v) rest) (cord_count s) (server_cords-length v s.cords)
+            ∙ ap (cords_from (suc v)) (sym here.1);
         cords-left = rw here.1 (omega (arith, count-after));
       }
 
@@ -190,7 +190,7 @@ module _ (table : List ℕ) (r : Room) (v index c before left end after : ℕ) (
       let a : s.rank ≡ get_or table index 0 = ap (λ (x : Server). x.rank) i.is in
       let b : s.least ≡ get_or table (index + 1) 0 = rw e1 (ap (λ (x : Server). x.least) i.is) in
       let d : s.greatest ≡ get_or table (index + 2) 0 = rw e2 (ap (λ (x : Server). x.greatest) i.is) in
-      let n : get_or table (index + 3) 0 ≡ cordCount s = words.1 in
+      let n : get_or table (index + 3) 0 ≡ cord_count s = words.1 in
       let w : index + (4 + 2 * get_or table (index + 3) 0) ≡ after = omega (arith, words.2) in
       record {
         there = words.0;
@@ -201,7 +201,7 @@ module _ (table : List ℕ) (r : Room) (v index c before left end after : ℕ) (
         highest = rw (← a) i.highest;
         ordered = rw (← b, ← d) i.ordered;
         most = rw (← d) i.greatest;
-        count = ap cordCount here.0 ∙ sym n;
+        count = ap cord_count here.0 ∙ sym n;
         cords-within = omega (arith, count-after);
         cord = λ k l. cord-here k (rw n at l);
         next = rw (add-one, w, n) walk-on;
@@ -215,11 +215,11 @@ walk-server {table} {r} {v} {index} {c} walk h = go walk.left walk.servers-left 
         → ServerHere table r v index c
     go zero n e = absurd (omega arith)
     go (suc left) n e =
-        let m = many_is left (server r.scale (length r.nodes)) (λ before s. before + cordCount s) walk.before table index (drop v r.servers) walk.end e in
+        let m = many_is left (server r.scale (length r.nodes)) (λ before s. before + cord_count s) walk.before table index (drop v r.servers) walk.end e in
         server-here table r v index c walk.before left walk.end m.at m.got m.rest n m.is m.first m.others walk
 
 -- After the last server every cord is passed.
-pub walk_end : {table : List ℕ} {r : Room} {v index c : ℕ} → Walk table r v index c → length r.servers ≤ v → c ≡ roomCords r
+pub walk_end : {table : List ℕ} {r : Room} {v index c : ℕ} → Walk table r v index c → length r.servers ≤ v → c ≡ room_cords r
 unfolding total
 walk_end {r = r} {v = v} {c = c} walk h =
-    omega (arith, walk.cords-left, ap (total cordCount) (drop_of_length-le r.servers {i = v} h))
+    omega (arith, walk.cords-left, ap (total cord_count) (drop_of_length-le r.servers {i = v} h))

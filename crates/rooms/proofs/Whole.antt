@@ -8,7 +8,7 @@ use lib.ListN.{length, get_or}
 use lib.Dec.{ltb}
 use borrow.Author.Tests.{eqb-true}
 use Rattle.rooms.specs.Part.{good}
-use Rattle.rooms.specs.Table.{Node, Server, Room, mostNodes, mostServers, mostNodeWords, newestVersion, IsScale, form_of, nodeWords, nodes, servers, table}
+use Rattle.rooms.specs.Table.{Node, Server, Room, most_nodes, most_servers, most_node_words, newest_version, IsScale, form_of, node_words, nodes, servers, table}
 use Rattle.rooms.specs.Limits.{overloaded, checked}
 use Rattle.rooms.proofs.Inversion.{took, passed, ended, word-is, many-length}
 
@@ -21,33 +21,33 @@ form-scale version = fits (ltb 2 version)
     fits true = (omega arith, omega arith)
     fits false = (omega arith, omega arith)
 
-pub form-words : (version : ℕ) → nodeWords (form_of version).percents ≤ mostNodeWords
+pub form-words : (version : ℕ) → node_words (form_of version).percents ≤ most_node_words
 unfolding form_of
 form-words version = few (ltb 1 version)
   where
-    few : (percents : Bool) → nodeWords percents ≤ mostNodeWords
+    few : (percents : Bool) → node_words percents ≤ most_node_words
     few true = omega arith
     few false = omega arith
 
 -- Whether the nodes of a table have a word for their percent, by its version.
-abbrev pub percentsOf : List ℕ → Bool
-percentsOf w = (form_of (get_or w 0 0)).percents
+abbrev pub percents_of : List ℕ → Bool
+percents_of w = (form_of (get_or w 0 0)).percents
 
 -- A good table with the room r; `middle` is the index of the count of servers.
 pub record TableIs (w : List ℕ) (r : Room) (j : ℕ) : Type 0 where
   pub begun : 1 < length w
   pub first : 1 ≤ get_or w 0 0
-  pub newest : get_or w 0 0 ≤ newestVersion
+  pub newest : get_or w 0 0 ≤ newest_version
   pub scale-is : r.scale ≡ (form_of (get_or w 0 0)).scale
-  pub nodeCount : get_or w 1 0 ≡ length r.nodes
-  pub someNodes : 1 ≤ length r.nodes
-  pub fewNodes : length r.nodes ≤ mostNodes
+  pub node_count : get_or w 1 0 ≡ length r.nodes
+  pub some_nodes : 1 ≤ length r.nodes
+  pub few_nodes : length r.nodes ≤ most_nodes
   pub middle : ℕ
-  pub nodesRead : nodes (percentsOf w) (length r.nodes) 1 w 2 ≡ good r.nodes middle
+  pub nodes_read : nodes (percents_of w) (length r.nodes) 1 w 2 ≡ good r.nodes middle
   pub there : middle < length w
-  pub serverCount : get_or w middle 0 ≡ length r.servers
-  pub fewServers : length r.servers ≤ mostServers
-  pub serversRead : servers r.scale (length r.nodes) (length r.servers) 0 w (suc middle) ≡ good r.servers j
+  pub server_count : get_or w middle 0 ≡ length r.servers
+  pub few_servers : length r.servers ≤ most_servers
+  pub servers_read : servers r.scale (length r.nodes) (length r.servers) 0 w (suc middle) ≡ good r.servers j
   pub ended : length w ≤ j
 
 pub table_is : (w : List ℕ) (r : Room) (j : ℕ) → table w 0 ≡ good r j → TableIs w r j
@@ -63,28 +63,28 @@ table_is w r j e =
     let y : s.at ≡ j = cc in
     placed (get_or w 1 0) n.got n.at s.got refl b.there a.least a.most b.least b.most n.first c.there c.most (s.first ∙ ap (good s.got) y) (rw y at d.0) x
   where
-    placed : (count : ℕ) (ns : List Node) (middle : ℕ) (ss : List Server) → get_or w 1 0 ≡ count → 1 < length w → 1 ≤ get_or w 0 0 → get_or w 0 0 ≤ newestVersion → 1 ≤ count → count ≤ mostNodes
-        → nodes (percentsOf w) count 1 w 2 ≡ good ns middle
-        → middle < length w → get_or w middle 0 ≤ mostServers → servers (form_of (get_or w 0 0)).scale count (get_or w middle 0) 0 w (suc middle) ≡ good ss j → length w ≤ j
+    placed : (count : ℕ) (ns : List Node) (middle : ℕ) (ss : List Server) → get_or w 1 0 ≡ count → 1 < length w → 1 ≤ get_or w 0 0 → get_or w 0 0 ≤ newest_version → 1 ≤ count → count ≤ most_nodes
+        → nodes (percents_of w) count 1 w 2 ≡ good ns middle
+        → middle < length w → get_or w middle 0 ≤ most_servers → servers (form_of (get_or w 0 0)).scale count (get_or w middle 0) 0 w (suc middle) ≡ good ss j → length w ≤ j
         → record { scale = (form_of (get_or w 0 0)).scale; nodes = ns; servers = ss } ≡ r → TableIs w r j
-    placed count ns middle ss c begun first newest some few readNodes there fewServers readServers end x =
-        let k : length ns ≡ count = many-length _ _ _ _ _ _ _ _ readNodes in
-        let l : length ss ≡ get_or w middle 0 = many-length _ _ _ _ _ _ _ _ readServers in
+    placed count ns middle ss c begun first newest some few read_nodes there few_servers read_servers end x =
+        let k : length ns ≡ count = many-length _ _ _ _ _ _ _ _ read_nodes in
+        let l : length ss ≡ get_or w middle 0 = many-length _ _ _ _ _ _ _ _ read_servers in
         rw (← x)
         (record {
           begun = begun;
           first = first;
           newest = newest;
           scale-is = refl;
-          nodeCount = c ∙ sym k;
-          someNodes = rw k some;
-          fewNodes = rw k few;
+          node_count = c ∙ sym k;
+          some_nodes = rw k some;
+          few_nodes = rw k few;
           middle = middle;
-          nodesRead = rw k readNodes;
+          nodes_read = rw k read_nodes;
           there = there;
-          serverCount = sym l;
-          fewServers = rw l fewServers;
-          serversRead = rw (k, l) readServers;
+          server_count = sym l;
+          few_servers = rw l few_servers;
+          servers_read = rw (k, l) read_servers;
           ended = end;
         })
 

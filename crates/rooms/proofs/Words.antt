@@ -8,8 +8,8 @@ use native.Mathlib.Omega.{arith}
 use lib.ListN.{length, get_or}
 use Rattle.figures.specs.Figures.{total}
 use Rattle.rooms.specs.Part.{good}
-use Rattle.rooms.specs.Table.{Server, Room, form_of, mostCords, cordCount}
-use Rattle.rooms.specs.Limits.{nodeAt}
+use Rattle.rooms.specs.Table.{Server, Room, form_of, most_cords, cord_count}
+use Rattle.rooms.specs.Limits.{node_at}
 use Rattle.rooms.specs.Words.{table_of, NodeInRange, ServerInRange, RoomInRange}
 use Rattle.rooms.specs.Promises.{GoodTableOfRoom, RoomReadsBack}
 use Rattle.rooms.proofs.All.{All, all-at, all_from}
@@ -39,43 +39,43 @@ module _ {A : Type 0} (fact : ℕ → A → Type 0) (none : A) where
 
 module _ (scale k : ℕ) where
   -- No server leaves the room with more cords than it may have, where all together do not.
-  pub servers-fit : (l : List Server) (sofar : ℕ) → sofar + total cordCount l ≤ mostCords → All (ServerAccepted scale k) l
-      → Chain (ServerFits scale k) (λ n s. n + cordCount s) sofar l
+  pub servers-fit : (l : List Server) (sofar : ℕ) → sofar + total cord_count l ≤ most_cords → All (ServerAccepted scale k) l
+      → Chain (ServerFits scale k) (λ n s. n + cord_count s) sofar l
   unfolding Chain All total
   servers-fit [] sofar h f = tt
-  servers-fit (s ∷ l) sofar h f = (record { accepted = f.0; few = omega arith }, servers-fit l (sofar + cordCount s) (omega arith) f.1)
+  servers-fit (s ∷ l) sofar h f = (record { accepted = f.0; few = omega arith }, servers-fit l (sofar + cord_count s) (omega arith) f.1)
 
-  pub servers-all : (l : List Server) (sofar : ℕ) → Chain (ServerFits scale k) (λ n s. n + cordCount s) sofar l → All (ServerAccepted scale k) l
+  pub servers-all : (l : List Server) (sofar : ℕ) → Chain (ServerFits scale k) (λ n s. n + cord_count s) sofar l → All (ServerAccepted scale k) l
   unfolding Chain All
   servers-all [] sofar f = tt
-  servers-all (s ∷ l) sofar f = (f.0.accepted, servers-all l (sofar + cordCount s) f.1)
+  servers-all (s ∷ l) sofar f = (f.0.accepted, servers-all l (sofar + cord_count s) f.1)
 
-  pub servers-total : (l : List Server) (sofar : ℕ) → sofar ≤ mostCords → Chain (ServerFits scale k) (λ n s. n + cordCount s) sofar l
-      → sofar + total cordCount l ≤ mostCords
+  pub servers-total : (l : List Server) (sofar : ℕ) → sofar ≤ most_cords → Chain (ServerFits scale k) (λ n s. n + cord_count s) sofar l
+      → sofar + total cord_count l ≤ most_cords
   unfolding Chain total
   servers-total [] sofar h f = omega arith
-  servers-total (s ∷ l) sofar h f = let r = servers-total l (sofar + cordCount s) f.0.few f.1 in omega arith
+  servers-total (s ∷ l) sofar h f = let r = servers-total l (sofar + cord_count s) f.0.few f.1 in omega arith
 
   server-range : (s : Server) → ServerAccepted scale k s → ServerInRange scale k s
   server-range s f = record {
-    rank = (f.rankFrom, f.rankTo);
+    rank = (f.rank_from, f.rank_to);
     ordered = f.ordered;
-    greatest = f.greatestTo;
-    count = (f.someCords, f.fewCords);
+    greatest = f.greatest_to;
+    count = (f.some_cords, f.few_cords);
     shares = f.shares;
-    cords = λ i h. let c = all-at (CordAccepted scale k) s.cords f.cords i _ h in record { node = (c.nodeFrom, c.nodeTo); share = c.shareTo };
+    cords = λ i h. let c = all-at (CordAccepted scale k) s.cords f.cords i _ h in record { node = (c.node_from, c.node_to); share = c.share_to };
   }
 
   server-accepts : (s : Server) → ServerInRange scale k s → ServerAccepted scale k s
   server-accepts s f = record {
-    rankFrom = f.rank.0;
-    rankTo = f.rank.1;
+    rank_from = f.rank.0;
+    rank_to = f.rank.1;
     ordered = f.ordered;
-    greatestTo = f.greatest;
-    someCords = f.count.0;
-    fewCords = f.count.1;
+    greatest_to = f.greatest;
+    some_cords = f.count.0;
+    few_cords = f.count.1;
     shares = f.shares;
-    cords = all_from (CordAccepted scale k) s.cords _ (λ i h. record { nodeFrom = (f.cords i h).node.0; nodeTo = (f.cords i h).node.1; shareTo = (f.cords i h).share });
+    cords = all_from (CordAccepted scale k) s.cords _ (λ i h. record { node_from = (f.cords i h).node.0; node_to = (f.cords i h).node.1; share_to = (f.cords i h).share });
   }
 
 -- ---- Rooms
@@ -88,11 +88,11 @@ module _ (version : ℕ) (r : Room) where
   fits-range f = record {
     versioned = (f.first, f.newest);
     scaled = f.scaled;
-    nodeCount = (f.someNodes, f.fewNodes);
-    nodes = λ m h. subst (λ (own : ℕ). NodeInRange (form_of version).percents own (nodeAt r m)) (one_more m) (chain-at _ _ r.nodes 1 m f.nodes h);
-    serverCount = f.fewServers;
+    node_count = (f.some_nodes, f.few_nodes);
+    nodes = λ m h. subst (λ (own : ℕ). NodeInRange (form_of version).percents own (node_at r m)) (one_more m) (chain-at _ _ r.nodes 1 m f.nodes h);
+    server_count = f.few_servers;
     servers = λ v h. server-range _ _ _ (all-at (ServerAccepted r.scale (length r.nodes)) r.servers (servers-all _ _ r.servers 0 f.servers) v _ h);
-    fewCords = omega (arith, servers-total _ _ r.servers 0 (omega arith) f.servers);
+    few_cords = omega (arith, servers-total _ _ r.servers 0 (omega arith) f.servers);
   }
 
   pub range-fits : RoomInRange version r → RoomFits version r
@@ -100,12 +100,12 @@ module _ (version : ℕ) (r : Room) where
     first = f.versioned.0;
     newest = f.versioned.1;
     scaled = f.scaled;
-    someNodes = f.nodeCount.0;
-    fewNodes = f.nodeCount.1;
-    nodes = chain-from _ _ r.nodes 1 (λ m h. subst (λ (own : ℕ). NodeInRange (form_of version).percents own (nodeAt r m)) (sym (one_more m)) (f.nodes m h));
-    fewServers = f.serverCount;
+    some_nodes = f.node_count.0;
+    few_nodes = f.node_count.1;
+    nodes = chain-from _ _ r.nodes 1 (λ m h. subst (λ (own : ℕ). NodeInRange (form_of version).percents own (node_at r m)) (sym (one_more m)) (f.nodes m h));
+    few_servers = f.server_count;
     servers =
-        servers-fit r.scale (length r.nodes) r.servers 0 (omega (arith, f.fewCords))
+        servers-fit r.scale (length r.nodes) r.servers 0 (omega (arith, f.few_cords))
         (all_from (ServerAccepted r.scale (length r.nodes)) r.servers _ (λ v h. server-accepts _ _ _ (f.servers v h)));
   }
 

@@ -9,31 +9,31 @@ pub record RoomCord : Type 0 where
   pub share : ℕ
 
 -- The cords of the server at place v.
-unfoldable pub serverCords : ℕ → List Cord → List RoomCord
-serverCords v [] = []
-serverCords v (c ∷ rest) = record { server = v; node = c.node; share = c.share } ∷ serverCords v rest
+unfoldable pub server_cords : ℕ → List Cord → List RoomCord
+server_cords v [] = []
+server_cords v (c ∷ rest) = record { server = v; node = c.node; share = c.share } ∷ server_cords v rest
 
 -- The cords of some servers, whose places start at v.
-unfoldable pub cordsFrom : ℕ → List Server → List RoomCord
-unfolding serverCords
-cordsFrom v [] = []
-cordsFrom v (s ∷ rest) = serverCords v s.cords ++ cordsFrom (suc v) rest
+unfoldable pub cords_from : ℕ → List Server → List RoomCord
+unfolding server_cords
+cords_from v [] = []
+cords_from v (s ∷ rest) = server_cords v s.cords ++ cords_from (suc v) rest
 
 -- The cords of the room, in table order.
-abbrev pub cordsOf : Room → List RoomCord
-cordsOf r = cordsFrom 0 r.servers
+abbrev pub cords_of : Room → List RoomCord
+cords_of r = cords_from 0 r.servers
 
 -- The cord at a place of that order.
-abbrev pub cordAt : Room → ℕ → RoomCord
-cordAt r c = get_or (cordsOf r) c (record { server = 0; node = 0; share = 0 })
+abbrev pub cord_at : Room → ℕ → RoomCord
+cord_at r c = get_or (cords_of r) c (record { server = 0; node = 0; share = 0 })
 
 -- The server at a place.
-abbrev pub serverAt : Room → ℕ → Server
-serverAt r v = get_or r.servers v (record { rank = 0; least = 0; greatest = 0; cords = [] })
+abbrev pub server_at : Room → ℕ → Server
+server_at r v = get_or r.servers v (record { rank = 0; least = 0; greatest = 0; cords = [] })
 
 -- The server of a cord, and the rank that it has from there.
-abbrev pub serverOf : Room → ℕ → Server
-serverOf r c = serverAt r (cordAt r c).server
+abbrev pub server_of : Room → ℕ → Server
+server_of r c = server_at r (cord_at r c).server
 
 abbrev pub rank_of : Room → ℕ → ℕ
-rank_of r c = (serverOf r c).rank
+rank_of r c = (server_of r c).rank

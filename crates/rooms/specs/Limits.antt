@@ -3,7 +3,7 @@ use Rattle.std.specs.Prelude.{Bool, cond, List, [], ◌∷◌, ℕ, zero, suc, �
 use Rattle.rooms.specs.Part.{Step, good, bad, Part, ◌>>=◌, give, ensure}
 use Rattle.figures.specs.Figures.{total}
 use Rattle.figures.specs.Sums.{on}
-use Rattle.rooms.specs.Table.{Node, Cord, Server, Room, mostNodes, table}
+use Rattle.rooms.specs.Table.{Node, Cord, Server, Room, most_nodes, table}
 use Rattle.rooms.specs.Trees.{beneath}
 use Rattle.rooms.specs.declared.SheetRefusal.TheVariants.{LowsAboveLimit}
 
@@ -20,45 +20,45 @@ abbrev pub low : ℕ → ℕ → Cord → ℕ
 low scale least c = carried scale c.share least
 
 -- The node at a place, and its parent's number.
-abbrev pub nodeAt : Room → ℕ → Node
-nodeAt r m = get_or r.nodes m (record { parent = 0; rating = 0; percent = 0 })
+abbrev pub node_at : Room → ℕ → Node
+node_at r m = get_or r.nodes m (record { parent = 0; rating = 0; percent = 0 })
 
 abbrev pub parent_of : Room → ℕ → ℕ
-parent_of r m = (nodeAt r m).parent
+parent_of r m = (node_at r m).parent
 
 -- Whether what hangs on node number v is beneath the node at place n, at any depth.
 -- No way is longer than the count of nodes, since a parent's number is below its child's.
-abbrev pub hangsBeneath : Room → ℕ → ℕ → Bool
-hangsBeneath r n v = beneath (parent_of r) (length r.nodes) n v
+abbrev pub hangs_beneath : Room → ℕ → ℕ → Bool
+hangs_beneath r n v = beneath (parent_of r) (length r.nodes) n v
 
 -- The lows of the cords of some servers that hang on nodes of which a test holds.
-unfoldable pub serverLows : ℕ → (ℕ → Bool) → Server → ℕ
-serverLows scale test s = total (λ c. on (test c.node) (low scale s.least c)) s.cords
+unfoldable pub server_lows : ℕ → (ℕ → Bool) → Server → ℕ
+server_lows scale test s = total (λ c. on (test c.node) (low scale s.least c)) s.cords
 
 unfoldable pub lows : ℕ → (ℕ → Bool) → List Server → ℕ
-lows scale test = total (serverLows scale test)
+lows scale test = total (server_lows scale test)
 
 -- The lows of all cords beneath the node at place n.
-abbrev pub lowsBeneath : Room → ℕ → ℕ
-lowsBeneath r n = lows r.scale (hangsBeneath r n) r.servers
+abbrev pub lows_beneath : Room → ℕ → ℕ
+lows_beneath r n = lows r.scale (hangs_beneath r n) r.servers
 
 -- The lows beneath each of so many places from n on, as a list. A place past the room's nodes has no cord beneath it, and so 0.
-unfoldable pub lowsFrom : ℕ → ℕ → Room → List ℕ
-lowsFrom zero n r = []
-lowsFrom (suc count) n r = lowsBeneath r n ∷ lowsFrom count (suc n) r
+unfoldable pub lows_from : ℕ → ℕ → Room → List ℕ
+lows_from zero n r = []
+lows_from (suc count) n r = lows_beneath r n ∷ lows_from count (suc n) r
 
 -- The lows beneath each place that a room may have a node at.
-abbrev pub nodeLows : Room → List ℕ
-nodeLows r = lowsFrom mostNodes 0 r
+abbrev pub node_lows : Room → List ℕ
+node_lows r = lows_from most_nodes 0 r
 
 -- The number of the first node, of so many from place n on, of which a test holds; 0 if there is none.
-unfoldable pub firstNode : ℕ → ℕ → (ℕ → Bool) → ℕ
-firstNode zero n test = 0
-firstNode (suc count) n test = cond (test n) (suc n) (firstNode count (suc n) test)
+unfoldable pub first_node : ℕ → ℕ → (ℕ → Bool) → ℕ
+first_node zero n test = 0
+first_node (suc count) n test = cond (test n) (suc n) (first_node count (suc n) test)
 
 -- The lowest node whose limit the lows beneath it exceed; 0 if there is none.
 unfoldable pub overloaded : Room → ℕ
-overloaded r = firstNode (length r.nodes) 0 (λ n. ltb (limit (nodeAt r n)) (lowsBeneath r n))
+overloaded r = first_node (length r.nodes) 0 (λ n. ltb (limit (node_at r n)) (lows_beneath r n))
 
 -- The whole check of a table. Refused last: lows beneath a node exceed its limit (9), at the lowest such node.
 unfoldable pub checked : Part Room
@@ -68,6 +68,6 @@ checked = do
   give r
 
 -- The lows that a check hands out: those beneath each place of a good table's room; all 0 if the table is refused.
-unfoldable pub lowsTold : Step Room → List ℕ
-lowsTold (good r end) = nodeLows r
-lowsTold (bad refusal) = replicate mostNodes 0
+unfoldable pub lows_told : Step Room → List ℕ
+lows_told (good r end) = node_lows r
+lows_told (bad refusal) = replicate most_nodes 0

@@ -2,14 +2,14 @@
 -- proofs/Promises.antt proves each: `RefusalNine` as `refusal-nine`, and so on.
 use Rattle.std.specs.Prelude.{◌≡◌, List, ◌↔◌, ℕ, suc, ◌-◌, ◌≤◌, ◌<◌, length}
 use Rattle.figures.specs.Bounds.{AllBelow}
-use Rattle.numbers.specs.Sheet.{whole, sheetOf}
+use Rattle.numbers.specs.Sheet.{whole, sheet_of}
 use Rattle.rooms.specs.Part.{good, Good}
-use Rattle.rooms.specs.Table.{Room, mostWords, table}
-use Rattle.rooms.specs.Limits.{limit, nodeAt, lowsBeneath, checked}
+use Rattle.rooms.specs.Table.{Room, most_words, table}
+use Rattle.rooms.specs.Limits.{limit, node_at, lows_beneath, checked}
 use Rattle.figures.specs.Figures.{at}
 use Rattle.rooms.specs.Words.{table_of, RoomInRange}
 use Rattle.outcomes.specs.Outcome.{accepted}
-use Rattle.rooms.specs.Outcome.{answer_of, sheetNumber, sheetFigure, reading, readingFirst, writing}
+use Rattle.rooms.specs.Outcome.{answer_of, sheet_number, sheet_figure, reading, reading_first, writing}
 use Rattle.rooms.specs.declared.SheetAnswer.{SheetAnswer}
 
 -- ---- The table of a room
@@ -30,10 +30,10 @@ IsNode r n = (1 ≤ n) × (n ≤ length r.nodes)
 
 -- The lows beneath node n exceed its limit, or sum to no more than it.
 abbrev pub Exceeds : Room → ℕ → Type 0
-Exceeds r n = limit (nodeAt r (n - 1)) < lowsBeneath r (n - 1)
+Exceeds r n = limit (node_at r (n - 1)) < lows_beneath r (n - 1)
 
 abbrev pub Within : Room → ℕ → Type 0
-Within r n = lowsBeneath r (n - 1) ≤ limit (nodeAt r (n - 1))
+Within r n = lows_beneath r (n - 1) ≤ limit (node_at r (n - 1))
 
 -- n is the lowest node whose limit the lows beneath it exceed.
 pub record LowestExceeding (r : Room) (n : ℕ) : Type 0 where
@@ -45,19 +45,19 @@ pub record LowestExceeding (r : Room) (n : ℕ) : Type 0 where
 pub record Overloaded (w : List ℕ) (n : ℕ) : Type 0 where
   pub room : Room
   pub end : ℕ
-  pub isTable : table w 0 ≡ good room end
+  pub is_table : table w 0 ≡ good room end
   pub lowest : LowestExceeding room n
 
 -- The answer is refusal 9, at place n.
 abbrev pub IsNine : SheetAnswer → ℕ → Type 0
-IsNine answer n = (sheetNumber answer ≡ 9) × (sheetFigure answer ≡ n)
+IsNine answer n = (sheet_number answer ≡ 9) × (sheet_figure answer ≡ n)
 
 -- Refusal 9 comes exactly when the lows beneath some node exceed its limit, and names the lowest such node: in Write, and in
 -- Read where all bytes of the sheet are good. Where there is no such node, a good table passes the check.
 pub record RefusalNine : Type 0 where
   pub write : (w : List ℕ) (bytes n : ℕ) → IsNine (answer_of (writing w bytes)) n ↔ Overloaded w n
   pub read : (sheet : List ℕ) (words n : ℕ)
-      → IsNine (answer_of (reading sheet words)) n ↔ (((sheetOf sheet).ending ≡ whole) × Overloaded (sheetOf sheet).words n)
+      → IsNine (answer_of (reading sheet words)) n ↔ (((sheet_of sheet).ending ≡ whole) × Overloaded (sheet_of sheet).words n)
   pub passed : (w : List ℕ) (r : Room) (j : ℕ) → table w 0 ≡ good r j
       → ((n : ℕ) → IsNode r n → Within r n) → checked w 0 ≡ good r j
 
@@ -80,4 +80,4 @@ ReadIsChecked = (sheet table : List ℕ) (words : ℕ) → reading sheet words �
 
 -- Read by way of a list of one word more than a table may have, or longer, is Read: no later word of a sheet changes an answer.
 abbrev pub FirstWordsDecide : Type 0
-FirstWordsDecide = (taken : ℕ) (sheet : List ℕ) (words : ℕ) → suc mostWords ≤ taken → readingFirst taken sheet words ≡ reading sheet words
+FirstWordsDecide = (taken : ℕ) (sheet : List ℕ) (words : ℕ) → suc most_words ≤ taken → reading_first taken sheet words ≡ reading sheet words

@@ -16,11 +16,11 @@ beneath parent (suc steps) n (suc m) = eqb m n || beneath parent steps n (parent
 
 -- A figure, summed over the children of the node at place n: of so many nodes or cords, those that hang on it itself. (`hangs` is the number
 -- that each hangs on: a node's parent, a cord's node.)
-abbrev pub childSum : ℕ → (ℕ → ℕ) → ℕ → (ℕ → ℕ) → ℕ
-childSum count hangs n figure = sum count (λ i. on (eqb (hangs i) (suc n)) (figure i))
+abbrev pub child_sum : ℕ → (ℕ → ℕ) → ℕ → (ℕ → ℕ) → ℕ
+child_sum count hangs n figure = sum count (λ i. on (eqb (hangs i) (suc n)) (figure i))
 
 -- Summed over those that hang beneath that node, at any depth, where there are so many nodes.
 -- (No way is longer than the count of nodes, where parents come first.)
-unfoldable pub sumBeneath : ℕ → (ℕ → ℕ) → ℕ → (ℕ → ℕ) → ℕ → (ℕ → ℕ) → ℕ
+unfoldable pub sum_beneath : ℕ → (ℕ → ℕ) → ℕ → (ℕ → ℕ) → ℕ → (ℕ → ℕ) → ℕ
 unfolding beneath
-sumBeneath nodes parent count hangs n figure = sum count (λ i. on (beneath parent nodes n (hangs i)) (figure i))
+sum_beneath nodes parent count hangs n figure = sum count (λ i. on (beneath parent nodes n (hangs i)) (figure i))

@@ -1,8 +1,8 @@
 // The form of a table's words: what its version says, and where a node stands in it.
 ghost use Rattle.std.specs.Prelude.{◌≡◌, ◌+◌, ◌^◌, ◌<◌, ◌≤◌, length};
-ghost use Rattle.rooms.specs.Table.{form_of, nodeWords};
+ghost use Rattle.rooms.specs.Table.{form_of, node_words};
 ghost use Rattle.rooms.specs.Limits.{limit};
-ghost use Rattle.rooms.specs.Credits.{nodeFrom, nodeIndex};
+ghost use Rattle.rooms.specs.Credits.{node_from, node_index};
 
 use crate::limits::limit_of;
 
@@ -25,7 +25,7 @@ pub fn scale_of(version: u32) -> u32
 // The index of the node at a place, or of what follows the last node.
 pub fn node_index(percents: bool, place: usize) -> usize
     requires place { place < 2 ^ 32 }
-    ensures result { result ≡ nodeIndex percents place }
+    ensures result { result ≡ node_index percents place }
 {
     if percents {
         2 + 3 * place
@@ -36,8 +36,8 @@ pub fn node_index(percents: bool, place: usize) -> usize
 
 // The limit of the node whose words start at i.
 pub fn limit_at(w: &[u32], i: usize, percents: bool) -> u32
-    requires there { (i + nodeWords percents ≤ length w.now) × ((nodeFrom percents w.now i).percent ≤ 100) }
-    ensures result { result ≡ limit (nodeFrom percents w.now i) }
+    requires there { (i + node_words percents ≤ length w.now) × ((node_from percents w.now i).percent ≤ 100) }
+    ensures result { result ≡ limit (node_from percents w.now i) }
 {
     if percents {
         limit_of(w[i + 1], w[i + 2])

@@ -1,12 +1,12 @@
 // The room table and its rules: the check of a table, Read and Write.
 ghost use Rattle.std.specs.Prelude.{◌≡◌, ℕ, suc, ◌≤◌, length, replicate};
 ghost use Rattle.outcomes.specs.Outcome.{after};
-ghost use Rattle.numbers.specs.Number.{faultNumber};
+ghost use Rattle.numbers.specs.Number.{fault_number};
 ghost use Rattle.rooms.specs.Part.{good};
-ghost use Rattle.rooms.specs.Limits.{checked, nodeLows};
-ghost use Rattle.rooms.specs.Table.{Room, mostNodes, mostWords, roomCords};
+ghost use Rattle.rooms.specs.Limits.{checked, node_lows};
+ghost use Rattle.rooms.specs.Table.{Room, most_nodes, most_words, room_cords};
 ghost use Rattle.rooms.specs.Told.{told};
-ghost use Rattle.rooms.specs.Outcome.{sheetRefusalNumber, sheetRefusalPlace, sheetNumber, sheetFigure, answer_of, ifGood, reading, writing};
+ghost use Rattle.rooms.specs.Outcome.{sheet_refusal_number, sheet_refusal_place, sheet_number, sheet_figure, answer_of, if_good, reading, writing};
 
 use numbers::{Fault, JudgedSheet, Written};
 
@@ -61,7 +61,7 @@ pub const HIGHEST_RANK: u16 = 16;
 pub const MOST_WATTS: u32 = 16_777_215;
 
 // The most words of a table, of whatever version: version, count of nodes, three words a node, count of servers, four a server and
-// two a cord (`mostWords`, specs/Table.antt).
+// two a cord (`most_words`, specs/Table.antt).
 pub const MOST_WORDS: usize = 2 + 3 * MOST_NODES + 1 + 4 * MOST_SERVERS + 2 * MOST_CORDS;
 
 // One word more than a table may have: so many decide every check.
@@ -69,7 +69,7 @@ pub const DECIDING_WORDS: usize = MOST_WORDS + 1;
 
 // The number of a fault.
 fn fault_number(fault: Fault) -> u64
-    ensures result { result ≡ faultNumber fault }
+    ensures result { result ≡ fault_number fault }
 {
     match fault {
         Fault::TooLong => 1,
@@ -81,7 +81,7 @@ fn fault_number(fault: Fault) -> u64
 impl SheetRefusal {
     // The refusal's number.
     pub fn number(self) -> u64
-        ensures result { result ≡ sheetRefusalNumber self }
+        ensures result { result ≡ sheet_refusal_number self }
     {
         match self {
             SheetRefusal::BadNumber(fault, _) => fault_number(fault),
@@ -97,7 +97,7 @@ impl SheetRefusal {
 
     // The refusal's place.
     pub fn place(self) -> usize
-        ensures result { result ≡ sheetRefusalPlace self }
+        ensures result { result ≡ sheet_refusal_place self }
     {
         match self {
             SheetRefusal::BadNumber(_, place) => place,
@@ -115,7 +115,7 @@ impl SheetRefusal {
 impl SheetAnswer {
     // The refusal's number, or 0.
     pub fn number(self) -> u64
-        ensures result { result ≡ sheetNumber self }
+        ensures result { result ≡ sheet_number self }
     {
         match self {
             SheetAnswer::Accepted(_) => 0,
@@ -125,7 +125,7 @@ impl SheetAnswer {
 
     // The count written, or the refusal's place.
     pub fn figure(self) -> usize
-        ensures result { result ≡ sheetFigure self }
+        ensures result { result ≡ sheet_figure self }
     {
         match self {
             SheetAnswer::Accepted(count) => count,
@@ -136,16 +136,16 @@ impl SheetAnswer {
 
 // Sets all lows to 0.
 fn clear(lows: &mut [u64; 512])
-    ensures zeros { lows.new ≡ replicate mostNodes 0 }
+    ensures zeros { lows.new ≡ replicate most_nodes 0 }
 {
     *lows = [0u64; 512];
 }
 
 // The whole check of a table. `lows` come as zeros; a good table leaves those beneath each node there, a refused one may leave anything.
 fn check_summing(table: &[u32], lows: &mut [u64; 512]) -> Checked
-    requires zeros { lows.old ≡ replicate mostNodes 0 }
-    ensures result { result ≡ told roomCords (checked table.now 0) }
-    ensures lows { (q : Room) (j : ℕ) → checked table.now 0 ≡ good q j → lows.new ≡ nodeLows q }
+    requires zeros { lows.old ≡ replicate most_nodes 0 }
+    ensures result { result ≡ told room_cords (checked table.now 0) }
+    ensures lows { (q : Room) (j : ℕ) → checked table.now 0 ≡ good q j → lows.new ≡ node_lows q }
 {
     let words = table::check_table(table, lows);
     let Checked::Good(cords, length) = words else {
@@ -160,7 +160,7 @@ fn check_summing(table: &[u32], lows: &mut [u64; 512]) -> Checked
 
 // The whole check of a table: the count of its cords and its length, or its refusal.
 pub fn check(table: &[u32]) -> Checked
-    ensures result { result ≡ told roomCords (checked table.now 0) }
+    ensures result { result ≡ told room_cords (checked table.now 0) }
 {
     let mut lows = [0u64; 512];
     parts::check_lows(table, &mut lows)
@@ -168,7 +168,7 @@ pub fn check(table: &[u32]) -> Checked
 
 // The answer on a table whose words are to go to an output of `space` words.
 fn answer_for(table: &[u32], space: usize) -> SheetAnswer
-    ensures result { result ≡ answer_of (ifGood (checked table.now 0) table.now space) }
+    ensures result { result ≡ answer_of (if_good (checked table.now 0) table.now space) }
 {
     let checked = check(table);
     if let Checked::Refused(refusal) = checked {
@@ -183,7 +183,7 @@ fn answer_for(table: &[u32], space: usize) -> SheetAnswer
 
 // Read by way of a list of its own, which takes the words until all is checked.
 fn read_by(sheet: &[u8], words: &mut [u32], table: &mut [u32]) -> SheetAnswer
-    requires space { suc mostWords ≤ length words.old }
+    requires space { suc most_words ≤ length words.old }
     ensures result { result ≡ answer_of (reading sheet.now (length table.old)) }
     ensures table { table.new ≡ after (λ words. words) (reading sheet.now (length table.old))
         table.old }

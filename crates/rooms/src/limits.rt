@@ -1,6 +1,6 @@
 // What a node may carry, and what a share carries of a load.
 ghost use Rattle.std.specs.Prelude.{◌≡◌, ◌*◌, ◌/◌, ◌≤◌};
-ghost use Rattle.rooms.specs.Table.{IsScale, mostWatts};
+ghost use Rattle.rooms.specs.Table.{IsScale, most_watts};
 ghost use Rattle.rooms.specs.Limits.{carried};
 
 use figures::{narrow, wide};
@@ -15,7 +15,7 @@ pub fn limit_of(rating: u32, percent: u32) -> u32
 
 // What a share carries of a load, rounded up: a cord's low is that of its server's least.
 pub fn carried_by(share: u32, load: u32, scale: u32) -> u32
-    requires in_range { IsScale scale × (share ≤ scale) × (load ≤ mostWatts) }
+    requires in_range { IsScale scale × (share ≤ scale) × (load ≤ most_watts) }
     ensures result { result ≡ carried scale share load }
 {
     let parts = wide(share) * wide(load) + (wide(scale) - 1);

@@ -3,11 +3,11 @@
 ghost use Rattle.std.specs.Prelude.{◌≡◌, [], ◌∷◌, ◌+◌, ◌-◌, ◌^◌, ◌≤◌, ◌<◌, length};
 ghost use Rattle.figures.specs.Figures.{at};
 ghost use Rattle.rooms.specs.Part.{Good};
-ghost use Rattle.rooms.specs.Table.{highestRank};
+ghost use Rattle.rooms.specs.Table.{highest_rank};
 ghost use Rattle.rooms.specs.Limits.{checked};
-ghost use Rattle.rooms.specs.Lists.{parentsOf, limitsOf};
+ghost use Rattle.rooms.specs.Lists.{parents_of, limits_of};
 ghost use Rattle.rooms.specs.Rows.{OfRoom, NodesFit, ServersFit, CordsFit, ScaleIs, ServerRows, CordRows};
-ghost use Rattle.rooms.specs.Walk.{serversIndex};
+ghost use Rattle.rooms.specs.Walk.{servers_index};
 
 use crate::form::{has_percents, limit_at, node_index, scale_of};
 use figures::{place, short, word_index};
@@ -52,7 +52,7 @@ pub fn node_count(table: &[u32]) -> usize
 
 // The index of a table's count of servers.
 pub fn servers_index(table: &[u32]) -> usize
-    ensures result { (result ≡ serversIndex table.now) × (result < 2 ^ 34) }
+    ensures result { (result ≡ servers_index table.now) × (result < 2 ^ 34) }
 {
     node_index(has_percents(word(table, 0)), node_count(table))
 }
@@ -67,7 +67,7 @@ pub fn server_count(table: &[u32]) -> usize
 
 // The index of a table's first server, where it has one.
 pub fn first_server(table: &[u32]) -> usize
-    ensures result { (result ≡ serversIndex table.now + 1) × (result < 2 ^ 35) }
+    ensures result { (result ≡ servers_index table.now + 1) × (result < 2 ^ 35) }
 {
     servers_index(table) + 1
 }
@@ -87,7 +87,7 @@ pub fn cord_count(table: &[u32]) -> usize
 pub fn lay_out_nodes(table: &[u32], parents: &mut [u16], limits: &mut [u32])
     requires good { Good (checked table.now 0) }
     requires sizes { NodesFit table.now (length parents.old) × NodesFit table.now (length limits.old) }
-    ensures laid_out { OfRoom table.now (λ r. (parents.new ≡ parentsOf r) × (limits.new ≡ limitsOf r)) }
+    ensures laid_out { OfRoom table.now (λ r. (parents.new ≡ parents_of r) × (limits.new ≡ limits_of r)) }
 {
     let percents = has_percents(word(table, 0));
     for m in 0..parents.len() {
@@ -99,7 +99,7 @@ pub fn lay_out_nodes(table: &[u32], parents: &mut [u16], limits: &mut [u32])
 
 // A cord's row, by its columns.
 fn cord_row(node: u32, server: usize, rank: u32, share: u32) -> [u16; 4]
-    requires in_range { (node < 2 ^ 16) × (server < 2 ^ 16) × (1 ≤ rank) × (rank ≤ highestRank) × (share < 2 ^ 16) }
+    requires in_range { (node < 2 ^ 16) × (server < 2 ^ 16) × (1 ≤ rank) × (rank ≤ highest_rank) × (share < 2 ^ 16) }
     ensures result { result ≡ node ∷ server ∷ (rank - 1) ∷ share ∷ [] }
 {
     [short(node), place(server), short(rank - 1), short(share)]

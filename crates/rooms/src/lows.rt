@@ -2,9 +2,9 @@
 ghost use Rattle.std.specs.Prelude.{◌≡◌, cond, ℕ, suc, ◌+◌, ◌*◌, ◌^◌, ◌<◌, ◌≤◌, length, get_or, replicate, ltb};
 ghost use Rattle.figures.specs.Sums.{sum};
 ghost use Rattle.rooms.specs.Part.{good, Good};
-ghost use Rattle.rooms.specs.Table.{Room, mostNodes, mostServers, mostServerCords, mostWatts, table};
-ghost use Rattle.rooms.specs.Limits.{nodeLows, firstNode, overloaded};
-ghost use Rattle.rooms.specs.Credits.{NodesRead, parentAt, limitAt, exceeds, creditedRoom, LowsCredited, SumsGathered};
+ghost use Rattle.rooms.specs.Table.{Room, most_nodes, most_servers, most_server_cords, most_watts, table};
+ghost use Rattle.rooms.specs.Limits.{node_lows, first_node, overloaded};
+ghost use Rattle.rooms.specs.Credits.{NodesRead, parent_at, limit_at, exceeds, credited_room, LowsCredited, SumsGathered};
 ghost use Rattle.figures.specs.Credits.{credited};
 ghost use Rattle.figures.specs.Figures.{at};
 
@@ -13,7 +13,7 @@ use figures::{credit, wide, word_index};
 
 // The node's number where its sum exceeds its limit, else what was found before.
 pub fn noted(limit: u64, sum: u64, place: usize, found: usize) -> usize
-    requires place { place < mostNodes }
+    requires place { place < most_nodes }
     ensures result { result ≡ cond (ltb limit sum) (suc place) found }
 {
     if limit < sum { place + 1 } else { found }
@@ -24,9 +24,9 @@ pub fn noted(limit: u64, sum: u64, place: usize, found: usize) -> usize
 fn lowest_over(w: &[u32], percents: bool, node_count: usize, sums: &mut [u64]) -> usize
     requires nodes { NodesRead percents w.now node_count × (node_count ≤ length sums.old) }
     requires sums_fit { sum node_count (at sums.old) < 2 ^ 63 }
-    ensures result { result ≡ firstNode node_count 0 (exceeds (parentAt percents w.now) (limitAt percents w.now)
+    ensures result { result ≡ first_node node_count 0 (exceeds (parent_at percents w.now) (limit_at percents w.now)
         node_count sums.old) }
-    ensures gathered { SumsGathered (parentAt percents w.now) node_count sums.old sums.new }
+    ensures gathered { SumsGathered (parent_at percents w.now) node_count sums.old sums.new }
 {
     let mut found = 0;
     let mut n = node_count;
@@ -43,11 +43,11 @@ fn lowest_over(w: &[u32], percents: bool, node_count: usize, sums: &mut [u64]) -
 // The lowest node of a good table whose limit the lows beneath it exceed; 0 if there is none. The sums come with the lows on each
 // node and leave with those beneath it.
 pub(crate) fn overloaded(w: &[u32], sums: &mut [u64]) -> usize
-    requires good { Good (table w.now 0) × (mostNodes ≤ length sums.old) }
-    requires credited { LowsCredited (table w.now 0) creditedRoom (get_or w.now 1 0) (mostServerCords * mostWatts * mostServers)
-        (replicate mostNodes 0) sums.old }
+    requires good { Good (table w.now 0) × (most_nodes ≤ length sums.old) }
+    requires credited { LowsCredited (table w.now 0) credited_room (get_or w.now 1 0) (most_server_cords * most_watts * most_servers)
+        (replicate most_nodes 0) sums.old }
     ensures result { (q : Room) (j : ℕ) → table w.now 0 ≡ good q j → result ≡ overloaded q }
-    ensures sums { (q : Room) (j : ℕ) → table w.now 0 ≡ good q j → sums.new ≡ nodeLows q }
+    ensures sums { (q : Room) (j : ℕ) → table w.now 0 ≡ good q j → sums.new ≡ node_lows q }
 {
     let percents = has_percents(w[0]);
     let n = word_index(w[1]);

@@ -2,11 +2,11 @@
 // refused, they write to the list that is lent.
 ghost use Rattle.std.specs.Prelude.{◌≡◌, length};
 ghost use Rattle.std.proofs.lemmas.List.Edits.{sets};
-ghost use Rattle.numbers.specs.Sheet.{sheetOf};
-ghost use Rattle.rooms.specs.Limits.{checked, lowsTold};
-ghost use Rattle.rooms.specs.Table.{roomCords};
+ghost use Rattle.numbers.specs.Sheet.{sheet_of};
+ghost use Rattle.rooms.specs.Limits.{checked, lows_told};
+ghost use Rattle.rooms.specs.Table.{room_cords};
 ghost use Rattle.rooms.specs.Told.{told};
-ghost use Rattle.rooms.specs.Outcome.{answer_of, readingFirst};
+ghost use Rattle.rooms.specs.Outcome.{answer_of, reading_first};
 
 use crate::{Checked, SheetAnswer, SheetRefusal};
 use numbers::JudgedSheet;
@@ -14,8 +14,8 @@ use numbers::JudgedSheet;
 // The whole check of a table, as `check`, with the lows of all cords beneath each node, at any depth, by the nodes' places: a caller that
 // goes on with a good table need not sum them again. Past the nodes, and where the table is refused, the lows are 0.
 pub fn check_lows(table: &[u32], lows: &mut [u64; 512]) -> Checked
-    ensures result { result ≡ told roomCords (checked table.now 0) }
-    ensures lows { lows.new ≡ lowsTold (checked table.now 0) }
+    ensures result { result ≡ told room_cords (checked table.now 0) }
+    ensures lows { lows.new ≡ lows_told (checked table.now 0) }
 {
     crate::clear(lows);
     let checked = crate::check_summing(table, lows);
@@ -30,8 +30,8 @@ pub fn check_lows(table: &[u32], lows: &mut [u64; 512]) -> Checked
 // where the sheet is refused, and these are answered for. A list of DECIDING_WORDS words takes enough for the answer to be that of
 // Read (`FirstWordsDecide`). A shorter one may accept, by the words that it takes, a sheet that Read refuses.
 pub fn read_words(sheet: &[u8], words: &mut [u32], space: usize) -> SheetAnswer
-    ensures result { result ≡ answer_of (readingFirst (length words.old) sheet.now space) }
-    ensures words { words.new ≡ sets words.old 0 (sheetOf sheet.now).words }
+    ensures result { result ≡ answer_of (reading_first (length words.old) sheet.now space) }
+    ensures words { words.new ≡ sets words.old 0 (sheet_of sheet.now).words }
 {
     let judged = numbers::parts::decode_sheet(sheet, words);
     let count = match judged {

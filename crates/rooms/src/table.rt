@@ -4,9 +4,9 @@ ghost use Rattle.std.specs.Prelude.{◌≡◌, true, ℕ, ◌+◌, ◌*◌, ◌^
 ghost use Rattle.figures.specs.Sums.{sum};
 ghost use Rattle.rooms.specs.Part.{word, within};
 ghost use Rattle.figures.specs.Figures.{total, at};
-ghost use Rattle.rooms.specs.Table.{mostNodes, mostServers, mostServerCords, mostCords, mostWatts, IsScale, percent, node, nodes, cord, cords};
-ghost use Rattle.rooms.specs.Table.{share_of, shareSum, leastOf, range, load, server, servers, cordCount, table, roomCords};
-ghost use Rattle.rooms.specs.Credits.{creditedCords, creditedServer, creditedServers, creditedRoom, LowsCredited};
+ghost use Rattle.rooms.specs.Table.{most_nodes, most_servers, most_server_cords, most_cords, most_watts, IsScale, percent, node, nodes, cord, cords};
+ghost use Rattle.rooms.specs.Table.{share_of, share_sum, least_of, range, load, server, servers, cord_count, table, room_cords};
+ghost use Rattle.rooms.specs.Credits.{credited_cords, credited_server, credited_servers, credited_room, LowsCredited};
 ghost use Rattle.rooms.specs.Told.{told, itself, nothing};
 
 use crate::form::{has_percents, scale_of};
@@ -80,7 +80,7 @@ fn check_node(w: &[u32], i: usize, percents: bool, own: u32) -> Checked
 
 // So many nodes from i on, numbered from 1.
 fn check_nodes(w: &[u32], i: usize, percents: bool, count: u32) -> Checked
-    requires count { count ≤ mostNodes }
+    requires count { count ≤ most_nodes }
     ensures result { result ≡ told nothing (nodes percents count 1 w.now i) }
 {
     let mut left = count;
@@ -119,11 +119,11 @@ fn check_cords(
     least: u32,
     sums: &mut [u64],
 ) -> Checked
-    requires in_range { IsScale scale × (count ≤ mostServerCords) × (least ≤ mostWatts) }
-    requires sums_fit { (node_count ≤ length sums.old) × (sum node_count (at sums.old) + mostWatts * count < 2 ^ 63) }
-    ensures result { result ≡ told shareSum (cords scale node_count count w.now i) }
-    ensures credited { LowsCredited (cords scale node_count count w.now i) (creditedCords scale least) node_count
-        (mostWatts * count) sums.old sums.new }
+    requires in_range { IsScale scale × (count ≤ most_server_cords) × (least ≤ most_watts) }
+    requires sums_fit { (node_count ≤ length sums.old) × (sum node_count (at sums.old) + most_watts * count < 2 ^ 63) }
+    ensures result { result ≡ told share_sum (cords scale node_count count w.now i) }
+    ensures credited { LowsCredited (cords scale node_count count w.now i) (credited_cords scale least) node_count
+        (most_watts * count) sums.old sums.new }
 {
     let mut left = count;
     let mut sum: u32 = 0;
@@ -144,7 +144,7 @@ fn check_cords(
 
 // The least and the greatest of a server, from i on; the least is told.
 fn check_range(w: &[u32], i: usize) -> Checked
-    ensures result { result ≡ told leastOf (range w.now i) }
+    ensures result { result ≡ told least_of (range w.now i) }
 {
     let first = check_word(w, i, 0, MOST_WATTS);
     let Checked::Good(least, at_greatest) = first else {
@@ -178,11 +178,11 @@ fn check_load(
     least: u32,
     sums: &mut [u64],
 ) -> Checked
-    requires in_range { IsScale scale × (before ≤ mostCords) × (least ≤ mostWatts) }
-    requires sums_fit { (node_count ≤ length sums.old) × (sum node_count (at sums.old) + mostServerCords * mostWatts < 2 ^ 63) }
+    requires in_range { IsScale scale × (before ≤ most_cords) × (least ≤ most_watts) }
+    requires sums_fit { (node_count ≤ length sums.old) × (sum node_count (at sums.old) + most_server_cords * most_watts < 2 ^ 63) }
     ensures result { result ≡ told length (load scale node_count before start w.now i) }
-    ensures credited { LowsCredited (load scale node_count before start w.now i) (creditedCords scale least) node_count
-        (mostServerCords * mostWatts) sums.old sums.new }
+    ensures credited { LowsCredited (load scale node_count before start w.now i) (credited_cords scale least) node_count
+        (most_server_cords * most_watts) sums.old sums.new }
 {
     let first = check_word(w, i, 1, lesser(MOST_SERVER_CORDS, MOST_CORDS - before));
     let Checked::Good(count, at_cords) = first else {
@@ -207,11 +207,11 @@ fn check_server(
     before: u32,
     sums: &mut [u64],
 ) -> Checked
-    requires in_range { IsScale scale × (before ≤ mostCords) × (node_count ≤ length sums.old)
-        × (sum node_count (at sums.old) + mostServerCords * mostWatts < 2 ^ 63) }
-    ensures result { result ≡ told cordCount (server scale node_count before w.now i) }
-    ensures credited { LowsCredited (server scale node_count before w.now i) (creditedServer scale) node_count
-        (mostServerCords * mostWatts) sums.old sums.new }
+    requires in_range { IsScale scale × (before ≤ most_cords) × (node_count ≤ length sums.old)
+        × (sum node_count (at sums.old) + most_server_cords * most_watts < 2 ^ 63) }
+    ensures result { result ≡ told cord_count (server scale node_count before w.now i) }
+    ensures credited { LowsCredited (server scale node_count before w.now i) (credited_server scale) node_count
+        (most_server_cords * most_watts) sums.old sums.new }
 {
     let rank = check_word(w, i, 1, HIGHEST_RANK);
     let Checked::Good(_, at_range) = rank else {
@@ -234,10 +234,10 @@ fn check_servers(
     sums: &mut [u64],
 ) -> Checked
     requires in_range { IsScale scale × (node_count ≤ length sums.old)
-        × (sum node_count (at sums.old) + mostServerCords * mostWatts * count < 2 ^ 63) }
-    ensures result { result ≡ told (total cordCount) (servers scale node_count count 0 w.now i) }
-    ensures credited { LowsCredited (servers scale node_count count 0 w.now i) (creditedServers scale) node_count
-        (mostServerCords * mostWatts * count) sums.old sums.new }
+        × (sum node_count (at sums.old) + most_server_cords * most_watts * count < 2 ^ 63) }
+    ensures result { result ≡ told (total cord_count) (servers scale node_count count 0 w.now i) }
+    ensures credited { LowsCredited (servers scale node_count count 0 w.now i) (credited_servers scale) node_count
+        (most_server_cords * most_watts * count) sums.old sums.new }
 {
     let mut left = count;
     let mut before: u32 = 0;
@@ -256,10 +256,10 @@ fn check_servers(
 
 // The whole table, and the count of its cords. The sums, 0 at first, get the lows of the cords on each node.
 pub(crate) fn check_table(w: &[u32], sums: &mut [u64]) -> Checked
-    requires zeros { (mostNodes ≤ length sums.old) × ((i : ℕ) → get_or sums.old i 0 ≡ 0) }
-    ensures result { result ≡ told roomCords (table w.now 0) }
-    ensures credited { LowsCredited (table w.now 0) creditedRoom (get_or w.now 1 0)
-        (mostServerCords * mostWatts * mostServers) sums.old sums.new }
+    requires zeros { (most_nodes ≤ length sums.old) × ((i : ℕ) → get_or sums.old i 0 ≡ 0) }
+    ensures result { result ≡ told room_cords (table w.now 0) }
+    ensures credited { LowsCredited (table w.now 0) credited_room (get_or w.now 1 0)
+        (most_server_cords * most_watts * most_servers) sums.old sums.new }
 {
     let first = check_word(w, 0, 1, NEWEST_VERSION);
     let Checked::Good(version, at_nodes) = first else {

@@ -9,17 +9,17 @@ use native.Mathlib.Omega.{arith}
 use lib.ListN.{length, drop, length-drop, length-append}
 use lib.Dec.{leb, eqb}
 use borrow.Author.Tests.{leb-true, leb-false, ne_eqb, eqb-true, eqb-false}
-use Rattle.rooms.specs.Table.{mostNodes}
-use Rattle.schedules.specs.Sizes.{isSize}
+use Rattle.rooms.specs.Table.{most_nodes}
+use Rattle.schedules.specs.Sizes.{is_size}
 use Rattle.outcomes.specs.Outcome.{accepted, refused, unless, fitting}
 use Rattle.outcomes.proofs.Outcomes.{unless-stop, unless-pass, fitting-short, fitting-whole}
 use Rattle.schedules.specs.Text.{Step, good, bad, malformed, line}
-use Rattle.schedules.specs.Schedule.{in_range, Judgement, judged, ScheduleEnding, whole, stopped, onto, lines_from, lines_of, table_of, ScheduleOutcome, noLines, scheduledLines, scheduling, answer_of, scheduleNumber, scheduleFigure}
+use Rattle.schedules.specs.Schedule.{in_range, Judgement, judged, ScheduleEnding, whole, stopped, onto, lines_from, lines_of, table_of, ScheduleOutcome, no_lines, scheduled_lines, scheduling, answer_of, schedule_number, schedule_figure}
 use Rattle.schedules.specs.Written.{Written, LineFirst, LinesFirst}
 use Rattle.schedules.specs.Written as written
 use Rattle.schedules.specs.Promises.{Tells, AllLines, NoLineAt, NoSizeAt, OutOfRangeAt}
 use Rattle.schedules.proofs.LineLaws.{passed_is}
-use Rattle.schedules.proofs.LineLoop.{linesFrom-some}
+use Rattle.schedules.proofs.LineLoop.{lines_from-some}
 use Rattle.schedules.proofs.RoomTable.{entries-pass}
 use Rattle.schedules.proofs.ReadsText.{line_read, lines-read}
 use Rattle.schedules.proofs.WritesText.{line-written, line-size, ahead, front-written, lines-written}
@@ -39,9 +39,9 @@ module _ (text : List ℕ) (at : ℕ) where
         behind = drop next text;
         is = r.bytes;
         line = r.is;
-        parentMost = r.parentMost;
-        amperesMost = r.amperesMost;
-        voltsMost = r.voltsMost;
+        parent_most = r.parent_most;
+        amperes_most = r.amperes_most;
+        volts_most = r.volts_most;
       }
 
   -- The rest of the text begins with a line: it is read.
@@ -51,7 +51,7 @@ module _ (text : List ℕ) (at : ℕ) where
 
   found : {e : Entry} {rest : List ℕ} → drop at text ≡ rest → LineFirst e rest → Found e
   found {e} d l =
-      let r = line-written e l.own l.line l.parentMost l.amperesMost l.voltsMost text at l.behind (d ∙ l.is) in
+      let r = line-written e l.own l.line l.parent_most l.amperes_most l.volts_most text at l.behind (d ∙ l.is) in
       record { next = r.next; is = r.good-so }
 
   -- No line was read: the rest begins with none.
@@ -73,20 +73,20 @@ line-some {e} l = omega (arith, ap length l.is, length-append l.own l.behind, li
 
 pub data Why (place : ℕ) (s : Step Entry) (q : ScheduleRefusal) : Type 0 where
   no_line : s ≡ (bad malformed) → q ≡ NotALine place → Why place s q
-  no_size : (e : Entry) (next : ℕ) → s ≡ good e next → isSize e.amperes ≡ false → q ≡ NotASize place → Why place s q
-  out : (e : Entry) (next : ℕ) → s ≡ good e next → isSize e.amperes ≡ true → in_range place e ≡ false → q ≡ OutOfRange place → Why place s q
+  no_size : (e : Entry) (next : ℕ) → s ≡ good e next → is_size e.amperes ≡ false → q ≡ NotASize place → Why place s q
+  out : (e : Entry) (next : ℕ) → s ≡ good e next → is_size e.amperes ≡ true → in_range place e ≡ false → q ≡ OutOfRange place → Why place s q
 
 why : (place : ℕ) (s : Step Entry) (q : ScheduleRefusal) → judged place s ≡ bad q → Why place s q
 unfolding judged
 why place (bad malformed) q j = no_line refl (cc)
-why place (good e next) q j = size (isSize e.amperes) refl j
+why place (good e next) q j = size (is_size e.amperes) refl j
   where
-    range : (t : Bool) → isSize e.amperes ≡ true → in_range place e ≡ t → cond t (good e next) (bad (OutOfRange place)) ≡ bad q
+    range : (t : Bool) → is_size e.amperes ≡ true → in_range place e ≡ t → cond t (good e next) (bad (OutOfRange place)) ≡ bad q
         → Why place (good e next) q
     range true a b j = absurd (suc-ne-zero 0 (cc))
     range false a b j = out e next refl a b (cc)
 
-    size : (t : Bool) → isSize e.amperes ≡ t
+    size : (t : Bool) → is_size e.amperes ≡ t
         → cond t (cond (in_range place e) (good e next) (bad (OutOfRange place))) (bad (NotASize place)) ≡ bad q
         → Why place (good e next) q
     size true a j = range (in_range place e) a refl j
@@ -98,11 +98,11 @@ module _ (place : ℕ) (s : Step Entry) where
   fails-line b = rw b
 
   module _ {e : Entry} {next : ℕ} (g : s ≡ good e next) where
-    fails-size : isSize e.amperes ≡ false → judged place s ≡ bad (NotASize place)
+    fails-size : is_size e.amperes ≡ false → judged place s ≡ bad (NotASize place)
     unfolding judged
     fails-size a = rw (g, a)
 
-    fails-range : isSize e.amperes ≡ true → in_range place e ≡ false → judged place s ≡ bad (OutOfRange place)
+    fails-range : is_size e.amperes ≡ true → in_range place e ≡ false → judged place s ≡ bad (OutOfRange place)
     unfolding judged
     fails-range a b = rw (g, a, b)
 
@@ -162,7 +162,7 @@ stopped-is (suc most) text place at q e =
 ends_so : (text rest : List ℕ) (place : ℕ) (q : ScheduleRefusal) → LinesFirst place text rest → 1 ≤ length rest
     → ((next : ℕ) → drop next text ≡ rest → judged place (line text next) ≡ bad q) → (lines_of text).ending ≡ stopped q
 ends_so text rest place q f more fails =
-    let r = front-written f.lines 0 f.pass (suc mostNodes) text 0 rest f.is (omega arith) (omega arith) in
+    let r = front-written f.lines 0 f.pass (suc most_nodes) text 0 rest f.is (omega arith) (omega arith) in
     go r.left r.next r.bytes r.place' (omega (arith, r.further, f.counted)) (omega (arith, r.few, r.enough)) r.is
   where
     go : (left next : ℕ) → drop next text ≡ rest → (place' : ℕ) → place' ≡ place → 1 ≤ left
@@ -171,7 +171,7 @@ ends_so text rest place q f more fails =
     go (suc left) next d place' same some is =
         let there : next < length text = omega (arith, length-drop next text, ap length d) in
         let j : judged place' (line text next) ≡ bad q = rw same (fails next d) in
-        rw (is, linesFrom-some left text place' next there, j)
+        rw (is, lines_from-some left text place' next there, j)
 
 -- ---- Outcomes
 
@@ -195,10 +195,10 @@ module _ (text : List ℕ) (words : ℕ) where
   -- The lines end with the text.
   module _ (w : (lines_of text).ending ≡ whole) where
     lines : Written entries text
-    lines = lines-read (suc mostNodes) text 0 0 (omega arith) (omega arith) w
+    lines = lines-read (suc most_nodes) text 0 0 (omega arith) (omega arith) w
 
     all_lines : 1 ≤ length entries → AllLines text (length table)
-    all_lines some = record { entries = entries; lines = lines; pass = entries-pass (suc mostNodes) text 0 0; some = some; needs = refl }
+    all_lines some = record { entries = entries; lines = lines; pass = entries-pass (suc most_nodes) text 0 0; some = some; needs = refl }
 
     fitted : (t : Bool) → leb (length table) words ≡ t → 1 ≤ length entries → outcome ≡ fitting TableTooShort table words → Reason text words
     fitted true q some is =
@@ -208,14 +208,14 @@ module _ (text : List ℕ) (words : ℕ) where
         let less = leb-false (length table) words q in
         short (length table) (is ∙ fitting-short TableTooShort table words less) (all_lines some) less
 
-    counted : (t : Bool) → eqb (length entries) 0 ≡ t → outcome ≡ scheduledLines entries whole words → Reason text words
-    counted true q is = empty (is ∙ unless-stop (noLines entries) _ table q) (nothing (eqb-true (length entries) 0 q) lines)
+    counted : (t : Bool) → eqb (length entries) 0 ≡ t → outcome ≡ scheduled_lines entries whole words → Reason text words
+    counted true q is = empty (is ∙ unless-stop (no_lines entries) _ table q) (nothing (eqb-true (length entries) 0 q) lines)
       where
         nothing : {some : List Entry} {t : List ℕ} → length some ≡ 0 → Written some t → t ≡ []
         nothing z written.none = refl
         nothing z (written.line e rest s t l r) = absurd (omega arith)
     counted false q is =
-        fitted (leb (length table) words) refl (omega (arith, eqb-false (length entries) 0 q)) (is ∙ unless-pass (noLines entries) _ table q)
+        fitted (leb (length table) words) refl (omega (arith, eqb-false (length entries) 0 q)) (is ∙ unless-pass (no_lines entries) _ table q)
 
   reason : Reason text words
   unfolding scheduling
@@ -223,7 +223,7 @@ module _ (text : List ℕ) (words : ℕ) where
     where
       ended : (ending : ScheduleEnding) → (lines_of text).ending ≡ ending → Reason text words
       ended whole w = counted w (eqb (length entries) 0) refl (rw w)
-      ended (stopped q) w = stops q (rw w) (stopped-is (suc mostNodes) text 0 0 q w)
+      ended (stopped q) w = stops q (rw w) (stopped-is (suc most_nodes) text 0 0 q w)
 
   -- ---- From the text to the outcome
 
@@ -238,7 +238,7 @@ module _ (text : List ℕ) (words : ℕ) where
     unfolding scheduling
     fitting-so =
         rw (lines-written a.lines a.pass)
-        (unless-pass (noLines a.entries) _ (table_of a.entries) (ne_eqb (length a.entries) 0 (λ z. omega (arith, a.some))))
+        (unless-pass (no_lines a.entries) _ (table_of a.entries) (ne_eqb (length a.entries) 0 (λ z. omega (arith, a.some))))
 
     short-so : words < needed → outcome ≡ refused (TableTooShort needed)
     short-so h =
@@ -254,8 +254,8 @@ module _ (text : List ℕ) (words : ℕ) where
   -- ---- The answers, one by one
 
   -- The outcome's number and figure, where it is known.
-  tells : {o : ScheduleOutcome} → outcome ≡ o → Tells outcome (scheduleNumber (answer_of o)) (scheduleFigure (answer_of o))
-  tells is = (ap (λ (x : ScheduleOutcome). scheduleNumber (answer_of x)) is, ap (λ (x : ScheduleOutcome). scheduleFigure (answer_of x)) is)
+  tells : {o : ScheduleOutcome} → outcome ≡ o → Tells outcome (schedule_number (answer_of o)) (schedule_figure (answer_of o))
+  tells is = (ap (λ (x : ScheduleOutcome). schedule_number (answer_of x)) is, ap (λ (x : ScheduleOutcome). schedule_figure (answer_of x)) is)
 
   -- What stands in front of the line that fails.
   front : {q : ScheduleRefusal} {place : ℕ} (s : Stopped text 0 0 entries q) → s.place' ≡ place → LinesFirst place text (drop s.next text)
@@ -265,7 +265,7 @@ module _ (text : List ℕ) (words : ℕ) where
         own = s.own;
         is = s.bytes;
         lines = s.lines;
-        pass = entries-pass (suc mostNodes) text 0 0;
+        pass = entries-pass (suc most_nodes) text 0 0;
         counted = omega (arith, s.further, same);
       }
 
@@ -274,7 +274,7 @@ module _ (text : List ℕ) (words : ℕ) where
     where
       stop : {q : ScheduleRefusal} → Tells outcome 24 place → outcome ≡ refused q → (s : Stopped text 0 0 entries q) → Why s.place' (line text s.next) q → NoLineAt text place
       stop t is s (no_line b r) =
-          let same : s.place' ≡ place = sym (ap scheduleFigure (ap answer_of (is ∙ ap refused r))) ∙ t.1 in
+          let same : s.place' ≡ place = sym (ap schedule_figure (ap answer_of (is ∙ ap refused r))) ∙ t.1 in
           record { rest = drop s.next text; front = front s same; more = omega (arith, s.there, length-drop s.next text); none = none_first text s.next b }
       stop t is s (no_size e next g a r) = absurd (omega (arith, t.0, (tells (is ∙ ap refused r)).0))
       stop t is s (out e next g a b r) = absurd (omega (arith, t.0, (tells (is ∙ ap refused r)).0))
@@ -294,7 +294,7 @@ module _ (text : List ℕ) (words : ℕ) where
       stop : {q : ScheduleRefusal} → Tells outcome 25 place → outcome ≡ refused q → (s : Stopped text 0 0 entries q) → Why s.place' (line text s.next) q → NoSizeAt text place
       stop t is s (no_line b r) = absurd (omega (arith, t.0, (tells (is ∙ ap refused r)).0))
       stop t is s (no_size e next g a r) =
-          let same : s.place' ≡ place = sym (ap scheduleFigure (ap answer_of (is ∙ ap refused r))) ∙ t.1 in
+          let same : s.place' ≡ place = sym (ap schedule_figure (ap answer_of (is ∙ ap refused r))) ∙ t.1 in
           record { rest = drop s.next text; front = front s same; entry = e; line = line_first text s.next g; other = a }
       stop t is s (out e next g a b r) = absurd (omega (arith, t.0, (tells (is ∙ ap refused r)).0))
 
@@ -315,7 +315,7 @@ module _ (text : List ℕ) (words : ℕ) where
       stop t is s (no_line b r) = absurd (omega (arith, t.0, (tells (is ∙ ap refused r)).0))
       stop t is s (no_size e next g a r) = absurd (omega (arith, t.0, (tells (is ∙ ap refused r)).0))
       stop t is s (out e next g a b r) =
-          let same : s.place' ≡ place = sym (ap scheduleFigure (ap answer_of (is ∙ ap refused r))) ∙ t.1 in
+          let same : s.place' ≡ place = sym (ap schedule_figure (ap answer_of (is ∙ ap refused r))) ∙ t.1 in
           record { rest = drop s.next text; front = front s same; entry = e; line = line_first text s.next g; size = a; out = rw (← same) b }
 
       go : Tells outcome 26 place → Reason text words → OutOfRangeAt text place ⊎ ((text ≡ []) × (place ≡ 0))
@@ -325,7 +325,7 @@ module _ (text : List ℕ) (words : ℕ) where
       go t (fits table is a h) = absurd (omega (arith, t.0, (tells is).0))
 
   -- A refusal of a line is none of the table's, and is no acceptance.
-  stops-over : {q : ScheduleRefusal} {place : ℕ} {s : Step Entry} → outcome ≡ refused q → Why place s q → 24 ≤ scheduleNumber (answer_of outcome)
+  stops-over : {q : ScheduleRefusal} {place : ℕ} {s : Step Entry} → outcome ≡ refused q → Why place s q → 24 ≤ schedule_number (answer_of outcome)
   stops-over is (no_line b r) = omega (arith, (tells (is ∙ ap refused r)).0)
   stops-over is (no_size e next g a r) = omega (arith, (tells (is ∙ ap refused r)).0)
   stops-over is (out e next g a b r) = omega (arith, (tells (is ∙ ap refused r)).0)

@@ -9,7 +9,7 @@ use lib.Dec.{eqb, leb}
 use lib.ListN.{length, take, length-take}
 use lib.Seq.{get_or-take}
 use borrow.Author.Tests.{le-leb, lt-leb, leb-true, leb-false}
-use Rattle.schedules.specs.Text.{byte_at, digitZero, isDigit, Step, good, bad, malformed, Part, follow, ◌>>=◌, give, byte, digits, number, field, line, space, newline}
+use Rattle.schedules.specs.Text.{byte_at, digit_zero, is_digit, Step, good, bad, malformed, Part, follow, ◌>>=◌, give, byte, digits, number, field, line, space, newline}
 use Rattle.schedules.specs.Schedule.{Judgement, judged, whole, onto, lines_from, scheduling}
 use Rattle.schedules.proofs.LineLaws.{passed_is}
 
@@ -66,8 +66,8 @@ unfolding digits
 digits-takes zero value = give-takes value
 digits-takes (suc most) value =
     record {
-      same = λ s t at h. rw (h at (omega arith)) (same s t at h (isDigit (byte_at t at)) _ (digits-takes most (value * 10 + (byte_at t at - digitZero))));
-      next = λ s at v n e. reach s at v n (isDigit (byte_at s at)) _ e (digits-takes most (value * 10 + (byte_at s at - digitZero)));
+      same = λ s t at h. rw (h at (omega arith)) (same s t at h (is_digit (byte_at t at)) _ (digits-takes most (value * 10 + (byte_at t at - digit_zero))));
+      next = λ s at v n e. reach s at v n (is_digit (byte_at s at)) _ e (digits-takes most (value * 10 + (byte_at s at - digit_zero)));
     }
   where
     same : (s t : List ℕ) (at : ℕ) → Agree s t (at + suc most) → (test : Bool) (v : ℕ) → Takes (digits most v) most
@@ -83,8 +83,8 @@ number-takes : Takes number 4
 unfolding number
 number-takes =
     record {
-      same = λ s t at h. rw (h at (omega arith)) (same s t at h (eqb (byte_at t at) digitZero) (isDigit (byte_at t at)));
-      next = λ s at v n e. reach s at v n (eqb (byte_at s at) digitZero) (isDigit (byte_at s at)) e;
+      same = λ s t at h. rw (h at (omega arith)) (same s t at h (eqb (byte_at t at) digit_zero) (is_digit (byte_at t at)));
+      next = λ s at v n e. reach s at v n (eqb (byte_at s at) digit_zero) (is_digit (byte_at s at)) e;
     }
   where
     same : (s t : List ℕ) (at : ℕ) → Agree s t (at + 4) → (z d : Bool)
@@ -112,15 +112,15 @@ line-takes =
 -- ---- All lines
 
 -- So many lines are decided by 15 bytes each.
-pub linesFrom-cut : (taken : ℕ) (text : List ℕ) (most place at : ℕ) → at + 15 * most ≤ taken
+pub lines_from-cut : (taken : ℕ) (text : List ℕ) (most place at : ℕ) → at + 15 * most ≤ taken
     → lines_from most (take taken text) place at ≡ lines_from most text place at
 unfolding lines_from
-linesFrom-cut taken text zero place at h = refl
-linesFrom-cut taken text (suc most) place at h =
+lines_from-cut taken text zero place at h = refl
+lines_from-cut taken text (suc most) place at h =
     let same : line (take taken text) at ≡ line text at = line-takes.same (take taken text) text at (λ j l. get_or-take taken text j 0 (omega arith)) in
     rw (shorter (leb (length text) at) refl, same)
     (ap (cond (leb (length text) at) (record { entries = []; ending = whole }))
-    (go (judged place (line text at)) refl (λ next l. linesFrom-cut taken text most (suc place) next l)))
+    (go (judged place (line text at)) refl (λ next l. lines_from-cut taken text most (suc place) next l)))
   where
     shorter : (t : Bool) → leb (length text) at ≡ t → leb (length (take taken text)) at ≡ leb (length text) at
     shorter true e = le-leb (length (take taken text)) at (omega (arith, length-take taken text, leb-true (length text) at e)) ∙ sym e
@@ -137,4 +137,4 @@ linesFrom-cut taken text (suc most) place at h =
 -- The bytes of 513 lines decide the answer: a 513th is refused.
 pub scheduling-cut : (taken : ℕ) (text : List ℕ) (words : ℕ) → 7695 ≤ taken → scheduling (take taken text) words ≡ scheduling text words
 unfolding scheduling
-scheduling-cut taken text words h = rw (linesFrom-cut taken text 513 0 0 (omega arith))
+scheduling-cut taken text words h = rw (lines_from-cut taken text 513 0 0 (omega arith))

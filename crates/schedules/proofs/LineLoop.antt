@@ -7,12 +7,12 @@ use native.Mathlib.Numerals.{add-one}
 use lib.ListN.{length, set, length-set}
 use lib.Seq.{sets}
 use borrow.Author.Tests.{le-leb, lt-leb}
-use Rattle.rooms.specs.Table.{mostNodes}
+use Rattle.rooms.specs.Table.{most_nodes}
 use Rattle.schedules.specs.Text.{line}
 use Rattle.schedules.specs.Text.{good, bad}
 use Rattle.schedules.specs.Schedule.{rating, Judgement, judged, whole, onto, lines_from, lines_of}
-use Rattle.schedules.specs.Nodes.{entryWords}
-use Rattle.schedules.specs.Told.{toldNode, counted, toldLines}
+use Rattle.schedules.specs.Nodes.{entry_words}
+use Rattle.schedules.specs.Told.{told_node, counted, told_lines}
 use Rattle.schedules.proofs.LineLaws.{passed_is, range-is, node-told, refusal-told}
 use Rattle.schedules.specs.declared.Entry.{Entry}
 use Rattle.schedules.specs.declared.ScheduleRefusal.{ScheduleRefusal}
@@ -21,29 +21,29 @@ use Rattle.schedules.specs.declared.lines.JudgedLine.TheVariants.{Node, Refused}
 use Rattle.schedules.specs.declared.lines.Counted.TheVariants as counts
 
 -- The lines of a text from a place on, one by one.
-pub linesFrom-end : (most : ℕ) (text : List ℕ) (place at : ℕ) → length text ≤ at → lines_from most text place at ≡ record { entries = []; ending = whole }
+pub lines_from-end : (most : ℕ) (text : List ℕ) (place at : ℕ) → length text ≤ at → lines_from most text place at ≡ record { entries = []; ending = whole }
 unfolding lines_from
-linesFrom-end zero text place at h = refl
-linesFrom-end (suc most) text place at h = rw (le-leb (length text) at h)
+lines_from-end zero text place at h = refl
+lines_from-end (suc most) text place at h = rw (le-leb (length text) at h)
 
-pub linesFrom-some : (most : ℕ) (text : List ℕ) (place at : ℕ) → at < length text
+pub lines_from-some : (most : ℕ) (text : List ℕ) (place at : ℕ) → at < length text
     → lines_from (suc most) text place at ≡ onto (judged place (line text at)) (λ next. lines_from most text (suc place) next)
 unfolding lines_from
-linesFrom-some most text place at h = rw (lt-leb (length text) at h)
+lines_from-some most text place at h = rw (lt-leb (length text) at h)
 
 -- A node's two words, stored one after the other, and then those of the nodes after it.
 node-stored : (words : List ℕ) (index next parent watts : ℕ) (e : Entry) (rest : List Entry) → e.parent ≡ parent → rating e ≡ watts → next ≡ suc index
-    → sets (set (set words index parent) next watts) (suc (suc index)) (entryWords rest) ≡ sets words index (entryWords (e ∷ rest))
-unfolding entryWords
+    → sets (set (set words index parent) next watts) (suc (suc index)) (entry_words rest) ≡ sets words index (entry_words (e ∷ rest))
+unfolding entry_words
 node-stored words index next parent watts e rest p w n = rw (n, ← p, ← w)
 
 pub record ReadingLines (text words₀ words : List ℕ) (at count : ℕ) : Type 0 where
-  pub few : count ≤ mostNodes
+  pub few : count ≤ most_nodes
   pub size : length words ≡ length words₀
-  pub answered : counted (count + length (lines_from (suc mostNodes - count) text count at).entries) (lines_from (suc mostNodes - count) text count at).ending
-      ≡ toldLines (lines_of text)
-  pub stored : sets words (2 + 2 * count) (entryWords (lines_from (suc mostNodes - count) text count at).entries)
-      ≡ sets words₀ 2 (entryWords (lines_of text).entries)
+  pub answered : counted (count + length (lines_from (suc most_nodes - count) text count at).entries) (lines_from (suc most_nodes - count) text count at).ending
+      ≡ told_lines (lines_of text)
+  pub stored : sets words (2 + 2 * count) (entry_words (lines_from (suc most_nodes - count) text count at).entries)
+      ≡ sets words₀ 2 (entry_words (lines_of text).entries)
 
 pub begin : (text words : List ℕ) → ReadingLines text words words 0 0
 begin text words =
@@ -56,41 +56,41 @@ begin text words =
 
 module _ (text words₀ words : List ℕ) (at count : ℕ) (inv : ReadingLines text words₀ words at count) where
   pub end : length text ≤ at
-      → (counts.Lines count ≡ toldLines (lines_of text)) × (words ≡ sets words₀ 2 (entryWords (lines_of text).entries))
-  unfolding entryWords
+      → (counts.Lines count ≡ told_lines (lines_of text)) × (words ≡ sets words₀ 2 (entry_words (lines_of text).entries))
+  unfolding entry_words
   end h =
-      let e = linesFrom-end (suc mostNodes - count) text count at h in
+      let e = lines_from-end (suc most_nodes - count) text count at h in
       (ap counts.Lines (omega arith) ∙ (rw e at inv.answered), rw e at inv.stored)
 
   module _ (h : at < length text) where
     -- The next line, followed by those after it.
     rest : (j : Judgement) → judged count (line text at) ≡ j
-        → lines_from (suc mostNodes - count) text count at ≡ onto j (λ next. lines_from (mostNodes - count) text (suc count) next)
+        → lines_from (suc most_nodes - count) text count at ≡ onto j (λ next. lines_from (most_nodes - count) text (suc count) next)
     rest j e =
-        let l : suc mostNodes - count ≡ suc (mostNodes - count) = omega (arith, inv.few) in
-        rw (l, ← e) (linesFrom-some (mostNodes - count) text count at h)
+        let l : suc most_nodes - count ≡ suc (most_nodes - count) = omega (arith, inv.few) in
+        rw (l, ← e) (lines_from-some (most_nodes - count) text count at h)
 
-    pub stop : {r : JudgedLine} {refusal : ScheduleRefusal} → r ≡ toldNode (judged count (line text at)) → r ≡ Refused refusal
-        → (counts.Refused refusal ≡ toldLines (lines_of text)) × (words ≡ sets words₀ 2 (entryWords (lines_of text).entries))
-    unfolding entryWords
+    pub stop : {r : JudgedLine} {refusal : ScheduleRefusal} → r ≡ told_node (judged count (line text at)) → r ≡ Refused refusal
+        → (counts.Refused refusal ≡ told_lines (lines_of text)) × (words ≡ sets words₀ 2 (entry_words (lines_of text).entries))
+    unfolding entry_words
     stop {refusal = refusal} d q =
         let e = rest (bad refusal) (refusal-told (judged count (line text at)) d q) in
         (rw e at inv.answered, rw e at inv.stored)
 
-    module _ {r : JudgedLine} {parent watts next : ℕ} (d : r ≡ toldNode (judged count (line text at))) (q : r ≡ Node parent watts next) where
+    module _ {r : JudgedLine} {parent watts next : ℕ} (d : r ≡ told_node (judged count (line text at))) (q : r ≡ Node parent watts next) where
       -- A line that passes is none past the 512th.
-      pub few-lines : count < mostNodes
+      pub few-lines : count < most_nodes
       few-lines =
           let told = node-told (judged count (line text at)) d q in
           (range-is count told.entry (passed_is count (line text at) told.entry next told.is).range).few
 
       pub again : ReadingLines text words₀ (set (set words (2 + 2 * count) parent) (2 + 2 * count + 1) watts) next (count + 1)
-      unfolding entryWords
+      unfolding entry_words
       again =
           let told = node-told (judged count (line text at)) d q in
           let e = rest (good told.entry next) told.is in
-          let after = lines_from (mostNodes - count) text (suc count) next in
-          let left : suc mostNodes - suc count ≡ mostNodes - count = omega (arith, few-lines) in
+          let after = lines_from (most_nodes - count) text (suc count) next in
+          let left : suc most_nodes - suc count ≡ most_nodes - count = omega (arith, few-lines) in
           let k : suc count + length after.entries ≡ count + suc (length after.entries) = omega arith in
           let i : 2 + 2 * suc count ≡ suc (suc (2 + 2 * count)) = omega arith in
           let j : 2 + 2 * count + 1 ≡ suc (2 + 2 * count) = omega arith in

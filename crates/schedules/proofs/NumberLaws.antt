@@ -8,12 +8,12 @@ use native.Mathlib.Omega.{arith}
 use native.Mathlib.Numerals.{add-one}
 use lib.Dec.{leb}
 use borrow.Author.Tests.{leb-true, eq-eqb, ne_eqb}
-use Rattle.schedules.specs.Text.{byte_at, mostDigits, isDigit, digits, number}
-use Rattle.schedules.specs.Told.{toldNumber}
+use Rattle.schedules.specs.Text.{byte_at, most_digits, is_digit, digits, number}
+use Rattle.schedules.specs.Told.{told_number}
 use Rattle.schedules.specs.declared.text.Number.TheVariants.{Value, Nothing}
 
 -- A digit is a byte from `0` to `9`.
-pub digit-range : (byte : ℕ) → isDigit byte ≡ true → (48 ≤ byte) × (byte ≤ 57)
+pub digit-range : (byte : ℕ) → is_digit byte ≡ true → (48 ≤ byte) × (byte ≤ 57)
 digit-range byte e = go (leb 48 byte) refl e
   where
     go : (test : Bool) → leb 48 byte ≡ test → test && leb byte 57 ≡ true → (48 ≤ byte) × (byte ≤ 57)
@@ -21,25 +21,25 @@ digit-range byte e = go (leb 48 byte) refl e
     go false q e = absurd (let z : ◌≡◌ {A = ℕ} 0 1 = cc in omega arith)
 
 module _ (text : List ℕ) (at : ℕ) where
-  pub zero-read : (byte : ℕ) → byte ≡ byte_at text at → byte ≡ 48 → Value 0 (at + 1) ≡ toldNumber (number text at)
-  unfolding number toldNumber
+  pub zero-read : (byte : ℕ) → byte ≡ byte_at text at → byte ≡ 48 → Value 0 (at + 1) ≡ told_number (number text at)
+  unfolding number told_number
   zero-read byte e z = rw (← e, eq-eqb byte 48 z, add-one)
 
-  pub no_number : (byte : ℕ) → byte ≡ byte_at text at → (byte ≡ 48 → ⊥) → isDigit byte ≡ false → Nothing ≡ toldNumber (number text at)
-  unfolding number toldNumber
+  pub no_number : (byte : ℕ) → byte ≡ byte_at text at → (byte ≡ 48 → ⊥) → is_digit byte ≡ false → Nothing ≡ told_number (number text at)
+  unfolding number told_number
   no_number byte e z d = rw (← e, ne_eqb byte 48 z, d)
 
   pub record Inv (value next left : ℕ) : Type 0 where
     pub small : (value + 1) * 10 ^ left ≤ 10000
-    pub same : toldNumber (digits left value text next) ≡ toldNumber (number text at)
+    pub same : told_number (digits left value text next) ≡ told_number (number text at)
 
-  pub begin : (byte : ℕ) → byte ≡ byte_at text at → (byte ≡ 48 → ⊥) → isDigit byte ≡ true → Inv 0 at mostDigits
+  pub begin : (byte : ℕ) → byte ≡ byte_at text at → (byte ≡ 48 → ⊥) → is_digit byte ≡ true → Inv 0 at most_digits
   unfolding number
   begin byte e z d = record { small = omega arith; same = rw (← e, ne_eqb byte 48 z, d) }
 
 module _ (text : List ℕ) (at value next : ℕ) where
-  pub exhausted : (left : ℕ) → left ≤ 0 → Inv text at value next left → Value value next ≡ toldNumber (number text at)
-  unfolding digits toldNumber
+  pub exhausted : (left : ℕ) → left ≤ 0 → Inv text at value next left → Value value next ≡ told_number (number text at)
+  unfolding digits told_number
   exhausted zero z inv = inv.same
   exhausted (suc left) z inv = absurd (omega arith)
 
@@ -52,12 +52,12 @@ module _ (text : List ℕ) (at value next : ℕ) where
   fits (suc left) p inv = omega (arith, shifted left inv, le-mul_of_pos_right ((value + 1) * 10) (pow-le-pow_right {n = 10} (omega arith) {i = 0} {j = left} (omega arith)))
 
   module _ (byte : ℕ) (e : byte ≡ byte_at text next) where
-    pub stop : (left : ℕ) → 0 < left → Inv text at value next left → isDigit byte ≡ false → Value value next ≡ toldNumber (number text at)
-    unfolding digits toldNumber
+    pub stop : (left : ℕ) → 0 < left → Inv text at value next left → is_digit byte ≡ false → Value value next ≡ told_number (number text at)
+    unfolding digits told_number
     stop zero p inv d = absurd (omega arith)
     stop (suc left) p inv d = rw (← e, d) at inv.same
 
-    pub again : (left : ℕ) → 0 < left → Inv text at value next left → isDigit byte ≡ true
+    pub again : (left : ℕ) → 0 < left → Inv text at value next left → is_digit byte ≡ true
         → Inv text at (value * 10 + (byte - 48)) (next + 1) (left - 1)
     unfolding digits
     again zero p inv d = absurd (omega arith)

@@ -8,10 +8,10 @@ use native.Mathlib.Omega.{arith}
 use lib.ListN.{length, get_or, length-map}
 use lib.Dec.{eqb}
 use borrow.Author.Tests.{eqb-true, eq-eqb, eqb-false}
-use Rattle.schedules.specs.Sizes.{sizes, isIn, isSize}
+use Rattle.schedules.specs.Sizes.{sizes, is_in, is_size}
 use Rattle.outcomes.specs.Outcome.{accepted}
 use Rattle.outcomes.proofs.Outcomes.{unless-back, unless-is}
-use Rattle.schedules.specs.Schedule.{ScheduleEnding, whole, stopped, lines_of, roomOf, table_of, noLines, scheduledLines, scheduling}
+use Rattle.schedules.specs.Schedule.{ScheduleEnding, whole, stopped, lines_of, room_of, table_of, no_lines, scheduled_lines, scheduling}
 use Rattle.schedules.specs.Promises.{SizesRise, SizesAreTheTable, AcceptedIsWritten, WrittenIsRead, AnsweredExactly, ScheduleGivesRoom, FirstBytesDecide}
 use Rattle.schedules.proofs.SizeLaws as sizes
 use Rattle.schedules.proofs.TableLaws.{few-entries}
@@ -34,17 +34,17 @@ record At (n : ℕ) (l : List ℕ) : Type 0 where
   within : place < length l
   is : get_or l place 0 ≡ n
 
-is_at : (n : ℕ) (l : List ℕ) → isIn n l ≡ true → At n l
-unfolding isIn
+is_at : (n : ℕ) (l : List ℕ) → is_in n l ≡ true → At n l
+unfolding is_in
 is_at n [] e = absurd (suc-ne-zero 0 (cc))
 is_at n (m ∷ rest) e = go (eqb n m) refl e (is_at n rest)
   where
-    go : (t : Bool) → eqb n m ≡ t → t || isIn n rest ≡ true → (isIn n rest ≡ true → At n rest) → At n (m ∷ rest)
+    go : (t : Bool) → eqb n m ≡ t → t || is_in n rest ≡ true → (is_in n rest ≡ true → At n rest) → At n (m ∷ rest)
     go true q e further = record { place = 0; within = omega arith; is = sym (eqb-true n m q) }
     go false q e further = let a = further e in record { place = suc a.place; within = omega (arith, a.within); is = a.is }
 
-at-is : (l : List ℕ) (place : ℕ) → place < length l → isIn (get_or l place 0) l ≡ true
-unfolding isIn
+at-is : (l : List ℕ) (place : ℕ) → place < length l → is_in (get_or l place 0) l ≡ true
+unfolding is_in
 at-is [] place h = absurd (omega arith)
 at-is (m ∷ rest) zero h = rw (eq-eqb m m refl)
 at-is (m ∷ rest) (suc place) h = rw (at-is rest place (omega arith)) (or-true (eqb (get_or rest place 0) m))
@@ -54,7 +54,7 @@ at-is (m ∷ rest) (suc place) h = rw (at-is rest place (omega arith)) (or-true 
     or-true false = refl
 
 pub sizes-are-the-table : SizesAreTheTable
-unfolding isSize
+unfolding is_size
 sizes-are-the-table amperes = (
   λ e. let a = is_at amperes sizes e in record { place = a.place; within = a.within; is = a.is },
   λ a. rw (← a.is) (at-is sizes a.place a.within),
@@ -72,10 +72,10 @@ accepted-is : (text table : List ℕ) (words : ℕ) → scheduling text words �
 unfolding scheduling
 accepted-is text table words e = ended (lines_of text).ending refl e
   where
-    ended : (ending : ScheduleEnding) → (lines_of text).ending ≡ ending → scheduledLines (lines_of text).entries ending words ≡ accepted table → AllLines text table
+    ended : (ending : ScheduleEnding) → (lines_of text).ending ≡ ending → scheduled_lines (lines_of text).entries ending words ≡ accepted table → AllLines text table
     ended whole w e =
         let entries = (lines_of text).entries in
-        let some = (unless-back (noLines entries) _ (table_of entries) e).0 in
+        let some = (unless-back (no_lines entries) _ (table_of entries) e).0 in
         record { ends = w; is = sym (unless-is _ (table_of entries) table e); some = omega (arith, eqb-false (length entries) 0 some) }
     ended (stopped q) w e = absurd (suc-ne-zero 0 (cc))
 
@@ -96,7 +96,7 @@ schedule-gives-room text table words e =
     let p : LinesPass 0 entries = entries-pass 513 text 0 0 in
     rw (← a.is)
     (record {
-      room = roomOf entries;
+      room = room_of entries;
       end = length (table_of entries);
       checks = table-checked entries p a.some (few-entries text);
       writes = table-written entries p a.some (few-entries text);

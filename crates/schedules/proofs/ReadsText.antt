@@ -9,8 +9,8 @@ use lib.Dec.{eqb, leb, ltb}
 use lib.ListN.{length, drop, get_or-eq_default, drop_of_length-le}
 use lib.Seq.{drop-cons, append_snoc}
 use borrow.Author.Tests.{leb-true, leb-false, ltb-true, ltb-false, eqb-true, eqb-false}
-use Rattle.rooms.specs.Table.{mostNodes}
-use Rattle.schedules.specs.Text.{byte_at, digitZero, space, newline, isDigit, Step, good, bad, malformed, follow, byte, digits, number, field, line}
+use Rattle.rooms.specs.Table.{most_nodes}
+use Rattle.schedules.specs.Text.{byte_at, digit_zero, space, newline, is_digit, Step, good, bad, malformed, follow, byte, digits, number, field, line}
 use Rattle.schedules.specs.Schedule.{Judgement, judged, whole, onto, lines_from}
 use Rattle.schedules.specs.Written.{Decimal, digit, more, LineText, Written}
 use Rattle.schedules.specs.Written as written
@@ -57,14 +57,14 @@ digits-read zero value text at v next front d h fits e =
     let b : at ≡ next = cc in
     record { s = []; is = rw (append-nil, ← a) d; small = rw (← a) (small-so value zero fits); bytes = rw b }
 digits-read (suc most) value text at v next front d h fits e =
-    go (isDigit (byte_at text at)) refl e
-    (λ k fits f. digits-read most (value * 10 + (byte_at text at - digitZero)) text (suc at) v next (front ++ (byte_at text at ∷ [])) k (omega arith) fits f)
+    go (is_digit (byte_at text at)) refl e
+    (λ k fits f. digits-read most (value * 10 + (byte_at text at - digit_zero)) text (suc at) v next (front ++ (byte_at text at ∷ [])) k (omega arith) fits f)
   where
-    go : (t : Bool) → isDigit (byte_at text at) ≡ t
-        → cond t (digits most (value * 10 + (byte_at text at - digitZero)) text (suc at)) (good value at) ≡ good v next
-        → (Decimal (value * 10 + (byte_at text at - digitZero)) (front ++ (byte_at text at ∷ []))
-        → (value * 10 + (byte_at text at - digitZero) + 1) * 10 ^ most ≤ 10000
-        → digits most (value * 10 + (byte_at text at - digitZero)) text (suc at) ≡ good v next
+    go : (t : Bool) → is_digit (byte_at text at) ≡ t
+        → cond t (digits most (value * 10 + (byte_at text at - digit_zero)) text (suc at)) (good value at) ≡ good v next
+        → (Decimal (value * 10 + (byte_at text at - digit_zero)) (front ++ (byte_at text at ∷ []))
+        → (value * 10 + (byte_at text at - digit_zero) + 1) * 10 ^ most ≤ 10000
+        → digits most (value * 10 + (byte_at text at - digit_zero)) text (suc at) ≡ good v next
         → Further text (suc at) next v (front ++ (byte_at text at ∷ [])))
         → Further text at next v front
     go true q e further =
@@ -87,9 +87,9 @@ digits-read (suc most) value text at v next front d h fits e =
 
 number_read : (text : List ℕ) (at v next : ℕ) → number text at ≡ good v next → Digits text at v next
 unfolding number digits
-number_read text at v next e = go (eqb (byte_at text at) digitZero) (isDigit (byte_at text at)) refl refl e
+number_read text at v next e = go (eqb (byte_at text at) digit_zero) (is_digit (byte_at text at)) refl refl e
   where
-    first : (b : ℕ) → byte_at text at ≡ b → (b ≡ 48 → ⊥) → isDigit b ≡ true → digits 3 (0 * 10 + (b - 48)) text (suc at) ≡ good v next → Digits text at v next
+    first : (b : ℕ) → byte_at text at ≡ b → (b ≡ 48 → ⊥) → is_digit b ≡ true → digits 3 (0 * 10 + (b - 48)) text (suc at) ≡ good v next → Digits text at v next
     first b is z d e =
         let r = digit-range b d in
         let same : 48 + (b - 48) ≡ b = omega arith in
@@ -106,8 +106,8 @@ number_read text at v next e = go (eqb (byte_at text at) digitZero) (isDigit (by
             go true q = leb-true 1 (b - 48) q
             go false q = absurd (z (omega (arith, leb-false 1 (b - 48) q)))
 
-    go : (z d : Bool) → eqb (byte_at text at) digitZero ≡ z → isDigit (byte_at text at) ≡ d
-        → cond z (good 0 (suc at)) (cond d (cond d (digits 3 (0 * 10 + (byte_at text at - digitZero)) text (suc at)) (good 0 at)) (bad malformed)) ≡ good v next
+    go : (z d : Bool) → eqb (byte_at text at) digit_zero ≡ z → is_digit (byte_at text at) ≡ d
+        → cond z (good 0 (suc at)) (cond d (cond d (digits 3 (0 * 10 + (byte_at text at - digit_zero)) text (suc at)) (good 0 at)) (bad malformed)) ≡ good v next
         → Digits text at v next
     go true d p q e =
         let a : 0 ≡ v = cc in
@@ -161,9 +161,9 @@ field-read end text at v next h e =
 pub record LineRead (text : List ℕ) (at : ℕ) (e : Entry) (next : ℕ) : Type 0 where
   pub s : List ℕ
   pub is : LineText e s
-  pub parentMost : e.parent ≤ 9999
-  pub amperesMost : e.amperes ≤ 9999
-  pub voltsMost : e.volts ≤ 9999
+  pub parent_most : e.parent ≤ 9999
+  pub amperes_most : e.amperes ≤ 9999
+  pub volts_most : e.volts ≤ 9999
   pub bytes : drop at text ≡ s ++ drop next text
 
 pub line_read : (text : List ℕ) (at : ℕ) (e : Entry) (next : ℕ) → line text at ≡ good e next → LineRead text at e next
@@ -190,19 +190,19 @@ line_read text at e next l =
             parent = p.s;
             amperes = a.s;
             volts = v.s;
-            parentIs = p.is;
-            amperesIs = a.is;
-            voltsIs = v.is;
+            parent_is = p.is;
+            amperes_is = a.is;
+            volts_is = v.is;
             is = refl;
           };
-          parentMost = p.small;
-          amperesMost = a.small;
-          voltsMost = v.small;
+          parent_most = p.small;
+          amperes_most = a.small;
+          volts_most = v.small;
           bytes = p.bytes ∙ rw (a.bytes, v.bytes) (sym (simp append_assoc));
         })
 
 -- All lines, where they end with the text.
-pub lines-read : (most : ℕ) (text : List ℕ) (place at : ℕ) → place ≤ mostNodes → mostNodes < place + most → (lines_from most text place at).ending ≡ whole
+pub lines-read : (most : ℕ) (text : List ℕ) (place at : ℕ) → place ≤ most_nodes → most_nodes < place + most → (lines_from most text place at).ending ≡ whole
     → Written (lines_from most text place at).entries (drop at text)
 unfolding lines_from
 lines-read zero text place at h k e = absurd (omega arith)
@@ -211,7 +211,7 @@ lines-read (suc most) text place at h k e =
   where
     go : (t : Bool) → leb (length text) at ≡ t → (j : Judgement) → judged place (line text at) ≡ j
         → (cond t (record { entries = []; ending = whole }) (onto j (λ next. lines_from most text (suc place) next))).ending ≡ whole
-        → ((next : ℕ) → suc place ≤ mostNodes → (lines_from most text (suc place) next).ending ≡ whole
+        → ((next : ℕ) → suc place ≤ most_nodes → (lines_from most text (suc place) next).ending ≡ whole
         → Written (lines_from most text (suc place) next).entries (drop next text))
         → Written (cond t (record { entries = []; ending = whole }) (onto j (λ next. lines_from most text (suc place) next))).entries (drop at text)
     go true q j r e further = rw (drop_of_length-le text (leb-true (length text) at q)) written.none

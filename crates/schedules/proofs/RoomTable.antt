@@ -8,8 +8,8 @@ use lib.ListN.{length, get_or, length-map}
 use lib.Dec.{leb}
 use Rattle.numbers.specs.Sheet.{bytes_of}
 use Rattle.figures.specs.Figures.{total}
-use Rattle.rooms.specs.Table.{mostNodes, form_of, table}
-use Rattle.rooms.specs.Limits.{lows, nodeAt, checked}
+use Rattle.rooms.specs.Table.{most_nodes, form_of, table}
+use Rattle.rooms.specs.Limits.{lows, node_at, checked}
 use Rattle.rooms.specs.Outcome.{writing}
 use Rattle.rooms.proofs.Reach.{next-is-length}
 use Rattle.rooms.specs.Words.{NodeInRange}
@@ -20,7 +20,7 @@ use Rattle.rooms.specs.declared.SheetRefusal.TheVariants.{OutputTooShort}
 use Rattle.rooms.proofs.Outcomes.{writing-good}
 use Rattle.rooms.proofs.Promises.{refusal-nine}
 use Rattle.schedules.specs.Text.{line, good, bad}
-use Rattle.schedules.specs.Schedule.{rating, Judgement, judged, whole, onto, lines_from, node_of, roomOf, table_of}
+use Rattle.schedules.specs.Schedule.{rating, Judgement, judged, whole, onto, lines_from, node_of, room_of, table_of}
 use Rattle.schedules.specs.Written.{LinesPass, none, more}
 use Rattle.schedules.proofs.LineLaws.{range-is, rating-most, passed_is}
 use Rattle.schedules.specs.declared.Entry.{Entry}
@@ -50,8 +50,8 @@ nodes-fit (more {place} {e} s t p) =
 
 -- ---- The table
 
-module _ (entries : List Entry) (p : LinesPass 0 entries) (some : 1 ≤ length entries) (few : length entries ≤ mostNodes) where
-  room_fits : RoomFits 1 (roomOf entries)
+module _ (entries : List Entry) (p : LinesPass 0 entries) (some : 1 ≤ length entries) (few : length entries ≤ most_nodes) where
+  room_fits : RoomFits 1 (room_of entries)
   unfolding form_of Chain
   room_fits =
       let count : length (map node_of entries) ≡ length entries = length-map entries node_of in
@@ -59,29 +59,29 @@ module _ (entries : List Entry) (p : LinesPass 0 entries) (some : 1 ≤ length e
         first = omega arith;
         newest = omega arith;
         scaled = refl;
-        someNodes = omega arith;
-        fewNodes = omega arith;
+        some_nodes = omega arith;
+        few_nodes = omega arith;
         nodes = nodes-fit p;
-        fewServers = omega arith;
+        few_servers = omega arith;
         servers = tt;
       }
 
   -- No cord hangs anywhere, so no limit is passed.
-  pub table-checked : checked (table_of entries) 0 ≡ good (roomOf entries) (length (table_of entries))
+  pub table-checked : checked (table_of entries) 0 ≡ good (room_of entries) (length (table_of entries))
   unfolding lows total
   table-checked =
       let w = table_of entries in
-      let read : Reads table w 0 (roomOf entries) [] = table-reads 1 (roomOf entries) room_fits in
-      let e = refusal-nine.passed w (roomOf entries) read.next read.is (λ n h. omega arith) in
-      e ∙ ap (good (roomOf entries)) (next-is-length w (roomOf entries) read.next e)
+      let read : Reads table w 0 (room_of entries) [] = table-reads 1 (room_of entries) room_fits in
+      let e = refusal-nine.passed w (room_of entries) read.next read.is (λ n h. omega arith) in
+      e ∙ ap (good (room_of entries)) (next-is-length w (room_of entries) read.next e)
 
   pub table-written : (bytes : ℕ) → length (bytes_of (table_of entries)) ≤ bytes → writing (table_of entries) bytes ≡ accepted (bytes_of (table_of entries))
   table-written bytes h = writing-good (table_of entries) bytes table-checked ∙ fitting-whole OutputTooShort (bytes_of (table_of entries)) bytes h
 
 -- The parent and the rating of the node at a place are those of the entry there.
 pub node-of : (entries : List Entry) (place : ℕ)
-    → ((nodeAt (roomOf entries) place).parent ≡ (get_or entries place (record { parent = 0; amperes = 0; volts = 0 })).parent)
-    × ((nodeAt (roomOf entries) place).rating ≡ rating (get_or entries place (record { parent = 0; amperes = 0; volts = 0 })))
+    → ((node_at (room_of entries) place).parent ≡ (get_or entries place (record { parent = 0; amperes = 0; volts = 0 })).parent)
+    × ((node_at (room_of entries) place).rating ≡ rating (get_or entries place (record { parent = 0; amperes = 0; volts = 0 })))
 node-of [] place = (refl, refl)
 node-of (e ∷ rest) zero = (refl, refl)
 node-of (e ∷ rest) (suc place) = node-of rest place

@@ -14,16 +14,16 @@ use Rattle.figures.proofs.Stores.{take-sets, sets-append}
 use Rattle.calls.specs.Call.{answered, OutcomeCall}
 use Rattle.calls.proofs.Calls.{answer-told, call-done}
 use Rattle.calls.proofs.Fronts.{bytes_after}
-use Rattle.rooms.specs.Table.{mostNodes, form_of}
-use Rattle.rooms.specs.Words.{rowWords, wordsOfNode}
+use Rattle.rooms.specs.Table.{most_nodes, form_of}
+use Rattle.rooms.specs.Words.{row_words, words_of_node}
 use Rattle.schedules.specs.Text.{line}
-use Rattle.outcomes.specs.Outcome.{accepted, refused, tooShort, fitting, after}
+use Rattle.outcomes.specs.Outcome.{accepted, refused, too_short, fitting, after}
 use Rattle.outcomes.proofs.Outcomes.{unless-stop, unless-pass, unless-either, unless-none, fitting-short, fitting-whole}
 use Rattle.schedules.specs.Text.{good, bad}
-use Rattle.schedules.specs.Schedule.{Judgement, judged, ScheduleEnding, whole, stopped, onto, lines_from, lines_of, rating, node_of, table_of, ScheduleOutcome, noLines, scheduledLines, scheduling, answer_of, scheduleNumber, scheduleFigure, mostScheduleWords}
-use Rattle.schedules.specs.Nodes.{entryWords}
-use Rattle.schedules.specs.Call.{numbersOf}
-use Rattle.schedules.specs.Told.{counted, toldLines, written, InFront, writtenCount}
+use Rattle.schedules.specs.Schedule.{Judgement, judged, ScheduleEnding, whole, stopped, onto, lines_from, lines_of, rating, node_of, table_of, ScheduleOutcome, no_lines, scheduled_lines, scheduling, answer_of, schedule_number, schedule_figure, most_schedule_words}
+use Rattle.schedules.specs.Nodes.{entry_words}
+use Rattle.schedules.specs.Call.{numbers_of}
+use Rattle.schedules.specs.Told.{counted, told_lines, written, InFront, written_count}
 use Rattle.schedules.proofs.LineLaws.{passed_is, range-is}
 use Rattle.schedules.specs.declared.Entry.{Entry}
 use Rattle.schedules.specs.declared.ScheduleRefusal.{ScheduleRefusal}
@@ -35,43 +35,43 @@ use Rattle.schedules.specs.declared.lines.Counted.TheVariants as counts
 
 -- ---- Lengths
 
-pub length-entryWords : (entries : List Entry) → length (entryWords entries) ≡ 2 * length entries
-unfolding entryWords
-length-entryWords [] = refl
-length-entryWords (e ∷ rest) = omega (arith, length-entryWords rest)
+pub length-entry_words : (entries : List Entry) → length (entry_words entries) ≡ 2 * length entries
+unfolding entry_words
+length-entry_words [] = refl
+length-entry_words (e ∷ rest) = omega (arith, length-entry_words rest)
 
 -- The words of the entries are those of their nodes.
-nodes-words : (entries : List Entry) → entryWords entries ≡ rowWords (wordsOfNode false) (map node_of entries)
-unfolding entryWords rowWords
+nodes-words : (entries : List Entry) → entry_words entries ≡ row_words (words_of_node false) (map node_of entries)
+unfolding entry_words row_words
 nodes-words [] = refl
 nodes-words (e ∷ rest) = ap (λ (z : List ℕ). e.parent ∷ rating e ∷ z) (nodes-words rest)
 
 -- The table has its nodes' words, with version and counts around them.
-table-words : (entries : List Entry) → table_of entries ≡ 1 ∷ length entries ∷ (entryWords entries ++ (0 ∷ []))
-unfolding form_of rowWords
+table-words : (entries : List Entry) → table_of entries ≡ 1 ∷ length entries ∷ (entry_words entries ++ (0 ∷ []))
+unfolding form_of row_words
 table-words entries = rw (nodes-words entries, length-map entries node_of)
 
-pub length-tableOf : (entries : List Entry) → length (table_of entries) ≡ 3 + 2 * length entries
-length-tableOf entries =
-    ap length (table-words entries) ∙ omega (arith, length-append (entryWords entries) (0 ∷ []), length-entryWords entries)
+pub length-table_of : (entries : List Entry) → length (table_of entries) ≡ 3 + 2 * length entries
+length-table_of entries =
+    ap length (table-words entries) ∙ omega (arith, length-append (entry_words entries) (0 ∷ []), length-entry_words entries)
 
 -- No more than 512 lines pass.
-few-from : (most : ℕ) (text : List ℕ) (place at : ℕ) → place ≤ mostNodes → place + length (lines_from most text place at).entries ≤ mostNodes
+few-from : (most : ℕ) (text : List ℕ) (place at : ℕ) → place ≤ most_nodes → place + length (lines_from most text place at).entries ≤ most_nodes
 unfolding lines_from
 few-from zero text place at h = omega arith
 few-from (suc most) text place at h = go (leb (length text) at) (judged place (line text at)) refl (λ next k. few-from most text (suc place) next k)
   where
     go : (t : Bool) (j : Judgement) → judged place (line text at) ≡ j
-        → ((next : ℕ) → suc place ≤ mostNodes → suc place + length (lines_from most text (suc place) next).entries ≤ mostNodes)
-        → place + length (cond t (record { entries = []; ending = whole }) (onto j (λ next. lines_from most text (suc place) next))).entries ≤ mostNodes
+        → ((next : ℕ) → suc place ≤ most_nodes → suc place + length (lines_from most text (suc place) next).entries ≤ most_nodes)
+        → place + length (cond t (record { entries = []; ending = whole }) (onto j (λ next. lines_from most text (suc place) next))).entries ≤ most_nodes
     go true j e further = omega arith
     go false (good x next) e further =
         let few = (range-is place x (passed_is place (line text at) x next e).range).few in
         omega (arith, further next few)
     go false (bad q) e further = omega arith
 
-pub few-entries : (text : List ℕ) → length (lines_of text).entries ≤ mostNodes
-few-entries text = omega (arith, few-from (suc mostNodes) text 0 0 (omega arith))
+pub few-entries : (text : List ℕ) → length (lines_of text).entries ≤ most_nodes
+few-entries text = omega (arith, few-from (suc most_nodes) text 0 0 (omega arith))
 
 -- ---- The table, stored
 
@@ -82,10 +82,10 @@ set_before l i (a ∷ t) j v h = set_before (set l i a) (suc i) t j v (omega ari
 
 -- The words of the nodes, then version and counts around them, are the table.
 table-sets : (words : List ℕ) (entries : List Entry) (count : ℕ) → length entries ≡ count
-    → set (set (set (sets words 2 (entryWords entries)) 0 1) 1 count) (2 + 2 * count) 0 ≡ sets words 0 (table_of entries)
+    → set (set (set (sets words 2 (entry_words entries)) 0 1) 1 count) (2 + 2 * count) 0 ≡ sets words 0 (table_of entries)
 table-sets words entries count n =
-    let ns = entryWords entries in
-    let place : 2 + length ns ≡ 2 + 2 * count = omega (arith, length-entryWords entries) in
+    let ns = entry_words entries in
+    let place : 2 + length ns ≡ 2 + 2 * count = omega (arith, length-entry_words entries) in
     let front : set (set (sets words 2 ns) 0 1) 1 count ≡ sets (set (set words 0 1) 1 count) 2 ns =
     ap (λ (x : List ℕ). set x 1 count) (set_before words 2 ns 0 1 (omega arith)) ∙ set_before (set words 0 1) 2 ns 1 count (omega arith) in
     ap (λ (x : List ℕ). set x (2 + 2 * count) 0) front
@@ -97,14 +97,14 @@ pub record Whole (text : List ℕ) (count : ℕ) : Type 0 where
   pub ends : (lines_of text).ending ≡ whole
   pub counts : length (lines_of text).entries ≡ count
 
-pub whole-so : (text : List ℕ) {r : Counted} {count : ℕ} → r ≡ toldLines (lines_of text) → r ≡ counts.Lines count → Whole text count
+pub whole-so : (text : List ℕ) {r : Counted} {count : ℕ} → r ≡ told_lines (lines_of text) → r ≡ counts.Lines count → Whole text count
 whole-so text {r = r} {count = count} d e = go (lines_of text).ending refl d
   where
     go : (ending : ScheduleEnding) → (lines_of text).ending ≡ ending → r ≡ counted (length (lines_of text).entries) ending → Whole text count
     go whole is d = let n : length (lines_of text).entries ≡ count = cc in record { ends = is; counts = n }
     go (stopped q) is d = absurd (suc-ne-zero 0 (cc))
 
-pub whole-few : {text : List ℕ} {count : ℕ} → Whole text count → count ≤ mostNodes
+pub whole-few : {text : List ℕ} {count : ℕ} → Whole text count → count ≤ most_nodes
 whole-few {text = text} w = omega (arith, few-entries text, w.counts)
 
 module _ (text : List ℕ) (space : ℕ) where
@@ -118,36 +118,36 @@ module _ (text : List ℕ) (space : ℕ) where
   refused-done : (words : List ℕ) {q : ScheduleRefusal} → outcome ≡ refused q → (Refused q ≡ answer_of outcome) × InFront outcome words
   refused-done words e = rw e (refl, record { is = refl })
 
-  pub line_refused : (words : List ℕ) {r : Counted} {q : ScheduleRefusal} → r ≡ toldLines (lines_of text) → r ≡ counts.Refused q
+  pub line_refused : (words : List ℕ) {r : Counted} {q : ScheduleRefusal} → r ≡ told_lines (lines_of text) → r ≡ counts.Refused q
       → (Refused q ≡ answer_of outcome) × InFront outcome words
   unfolding scheduling
   line_refused words {r = r} {q = q} d e = refused-done words (go (lines_of text).ending d)
     where
-      go : (ending : ScheduleEnding) → r ≡ counted (length (lines_of text).entries) ending → scheduledLines (lines_of text).entries ending space ≡ refused q
+      go : (ending : ScheduleEnding) → r ≡ counted (length (lines_of text).entries) ending → scheduled_lines (lines_of text).entries ending space ≡ refused q
       go whole d = absurd (suc-ne-zero 0 (cc))
       go (stopped p) d = let a : p ≡ q = cc in rw a
 
   module _ {count : ℕ} (w : Whole text count) where
-    pub no_lines : (words : List ℕ) → count ≡ 0 → (Refused (OutOfRange 0) ≡ answer_of outcome) × InFront outcome words
+    pub lines_none : (words : List ℕ) → count ≡ 0 → (Refused (OutOfRange 0) ≡ answer_of outcome) × InFront outcome words
     unfolding scheduling
-    no_lines words z = refused-done words (rw w.ends (unless-stop (noLines entries) _ (table_of entries) (eq-eqb (length entries) 0 (w.counts ∙ z))))
+    lines_none words z = refused-done words (rw w.ends (unless-stop (no_lines entries) _ (table_of entries) (eq-eqb (length entries) 0 (w.counts ∙ z))))
 
     module _ (some : count ≡ 0 → ⊥) where
       fitted : outcome ≡ fitting TableTooShort (table_of entries) space
       unfolding scheduling
-      fitted = rw w.ends (unless-pass (noLines entries) _ (table_of entries) (ne_eqb (length entries) 0 (λ z. some (sym w.counts ∙ z))))
+      fitted = rw w.ends (unless-pass (no_lines entries) _ (table_of entries) (ne_eqb (length entries) 0 (λ z. some (sym w.counts ∙ z))))
 
-      pub too_short : (words : List ℕ) → space ≤ 2 + 2 * count → (Refused (TableTooShort (2 + 2 * count + 1)) ≡ answer_of outcome) × InFront outcome words
-      too_short words h =
-          let n : length (table_of (lines_of text).entries) ≡ 2 + 2 * count + 1 = omega (arith, length-tableOf (lines_of text).entries, w.counts) in
+      pub list_short : (words : List ℕ) → space ≤ 2 + 2 * count → (Refused (TableTooShort (2 + 2 * count + 1)) ≡ answer_of outcome) × InFront outcome words
+      list_short words h =
+          let n : length (table_of (lines_of text).entries) ≡ 2 + 2 * count + 1 = omega (arith, length-table_of (lines_of text).entries, w.counts) in
           refused-done words (fitted ∙ fitting-short TableTooShort (table_of entries) space (omega arith) ∙ ap (λ (k : ℕ). refused (TableTooShort k)) n)
 
       -- The words of an accepted table, stored around those of the nodes.
-      pub stands : (words words₁ : List ℕ) → mostScheduleWords ≤ length words → words₁ ≡ sets words 2 (entryWords (lines_of text).entries) → 2 + 2 * count < space
+      pub stands : (words words₁ : List ℕ) → most_schedule_words ≤ length words → words₁ ≡ sets words 2 (entry_words (lines_of text).entries) → 2 + 2 * count < space
           → (Accepted (2 + 2 * count + 1) ≡ answer_of outcome) × InFront outcome (set (set (set words₁ 0 1) 1 count) (2 + 2 * count) 0)
       stands words words₁ long s h =
           let table = table_of (lines_of text).entries in
-          let n : length table ≡ 2 + 2 * count + 1 = omega (arith, length-tableOf (lines_of text).entries, w.counts) in
+          let n : length table ≡ 2 + 2 * count + 1 = omega (arith, length-table_of (lines_of text).entries, w.counts) in
           let is : outcome ≡ accepted table = fitted ∙ fitting-whole TableTooShort table space (omega arith) in
           let front : take (length table) (sets words 0 table) ≡ table =
           take-sets (length table) words table (omega (arith, whole-few w)) (omega arith) ∙ take-length table in
@@ -163,19 +163,19 @@ pub written-fits : (text : List ℕ) (space : ℕ) → length (written (scheduli
 unfolding scheduling
 written-fits text space = go (lines_of text).ending
   where
-    go : (ending : ScheduleEnding) → length (written (scheduledLines (lines_of text).entries ending space)) ≤ space
+    go : (ending : ScheduleEnding) → length (written (scheduled_lines (lines_of text).entries ending space)) ≤ space
     go whole =
         let table = table_of (lines_of text).entries in
-        unless-either (noLines (lines_of text).entries) _ table (Fits space) (λ _. omega arith) (λ _.
-        unless-either (tooShort TableTooShort space (length table)) [] table (Fits space) (λ _. omega arith) (λ h.
+        unless-either (no_lines (lines_of text).entries) _ table (Fits space) (λ _. omega arith) (λ _.
+        unless-either (too_short TableTooShort space (length table)) [] table (Fits space) (λ _. omega arith) (λ h.
         subst (Fits space) (sym (unless-none table)) (ltb-false space (length table) h)))
     go (stopped q) = omega arith
 
-module _ (outcome : ScheduleOutcome) {told : Scheduled} {count : ℕ} (is : told ≡ answer_of outcome) (n : count ≡ writtenCount told) where
+module _ (outcome : ScheduleOutcome) {told : Scheduled} {count : ℕ} (is : told ≡ answer_of outcome) (n : count ≡ written_count told) where
   pub count-is : count ≡ length (written outcome)
-  count-is = n ∙ ap writtenCount is ∙ go outcome
+  count-is = n ∙ ap written_count is ∙ go outcome
     where
-      go : (o : ScheduleOutcome) → writtenCount (answer_of o) ≡ length (written o)
+      go : (o : ScheduleOutcome) → written_count (answer_of o) ≡ length (written o)
       go (accepted table) = refl
       go (refused q) = refl
 
@@ -193,9 +193,9 @@ module _ (outcome : ScheduleOutcome) {told : Scheduled} {count : ℕ} (is : told
     -- Stored in bytes, with the answer.
     pub stored : (table answer : List ℕ) {table' answer' : List ℕ} {number figure : ℕ} → length (written outcome) ≤ length table / 4 → 16 ≤ length answer
         → table' ≡ sets table 0 (bytes_of (take (length table / 4) (take count words)))
-        → number ≡ scheduleNumber told → figure ≡ scheduleFigure told → answer' ≡ answered 2 (number ∷ figure ∷ []) answer
-        → OutcomeCall 2 numbersOf bytes_of outcome table answer 1 table' answer'
+        → number ≡ schedule_number told → figure ≡ schedule_figure told → answer' ≡ answered 2 (number ∷ figure ∷ []) answer
+        → OutcomeCall 2 numbers_of bytes_of outcome table answer 1 table' answer'
     stored table answer fits long s k v a =
         let all : take (length table / 4) (take count words) ≡ written outcome = ap (take (length table / 4)) taken ∙ take_all (length table / 4) (written outcome) fits in
         call-done _ answer _ (omega arith) (s ∙ ap (λ (l : List ℕ). sets table 0 (bytes_of l)) all ∙ bytes_after (λ words. words) outcome table)
-        (answer-told answer (k ∙ ap scheduleNumber is) (v ∙ ap scheduleFigure is) a)
+        (answer-told answer (k ∙ ap schedule_number is) (v ∙ ap schedule_figure is) a)

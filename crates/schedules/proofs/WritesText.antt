@@ -10,16 +10,16 @@ use lib.Dec.{leb, eqb}
 use lib.ListN.{length, drop, length-append, length-drop}
 use lib.Seq.{drop-drop, drop-append_seam, append_snoc}
 use borrow.Author.Tests.{leb-true, leb-false, le-leb, eq-eqb, ne_eqb}
-use Rattle.rooms.specs.Table.{mostNodes}
-use Rattle.schedules.specs.Sizes.{isSize}
-use Rattle.schedules.specs.Text.{byte_at, space, newline, isDigit, Step, good, bad, malformed, follow, byte, digits, number, field, line}
+use Rattle.rooms.specs.Table.{most_nodes}
+use Rattle.schedules.specs.Sizes.{is_size}
+use Rattle.schedules.specs.Text.{byte_at, space, newline, is_digit, Step, good, bad, malformed, follow, byte, digits, number, field, line}
 use Rattle.schedules.specs.Schedule.{in_range, judged, whole, Lines, lines_from, lines_of}
 use Rattle.schedules.specs.Written.{Decimal, digit, LineText, Written, LinesPass}
 use Rattle.schedules.specs.Written as written
 use Rattle.rooms.proofs.Fronts.{stands}
 use Rattle.schedules.proofs.SizeLaws.{size-most}
 use Rattle.schedules.proofs.LineLaws.{range-is}
-use Rattle.schedules.proofs.LineLoop.{linesFrom-end, linesFrom-some}
+use Rattle.schedules.proofs.LineLoop.{lines_from-end, lines_from-some}
 use Rattle.schedules.specs.declared.Entry.{Entry}
 
 -- ---- Digits
@@ -28,7 +28,7 @@ use Rattle.schedules.specs.declared.Entry.{Entry}
 behind : (text : List ℕ) (at : ℕ) (s rest : List ℕ) → drop at text ≡ s ++ rest → drop (at + length s) text ≡ rest
 behind text at s rest d = sym (drop-drop (length s) at text) ∙ ap (drop (length s)) d ∙ drop-append_seam s rest
 
-digit-is : (d : ℕ) → d < 10 → isDigit (48 + d) ≡ true
+digit-is : (d : ℕ) → d < 10 → is_digit (48 + d) ≡ true
 digit-is d h = rw (le-leb 48 (48 + d) (omega arith), le-leb (48 + d) 57 (omega arith))
 
 -- One digit more is read, and none where the next byte is no digit.
@@ -40,7 +40,7 @@ digits-next most value d text at rest h e =
     let v : 48 + d - 48 ≡ d = omega arith in
     rw (s.is, digit-is d h, v, add-one)
 
-digits-end : (most value : ℕ) (text : List ℕ) (at : ℕ) → isDigit (byte_at text at) ≡ false → digits most value text at ≡ good value at
+digits-end : (most value : ℕ) (text : List ℕ) (at : ℕ) → is_digit (byte_at text at) ≡ false → digits most value text at ≡ good value at
 unfolding digits
 digits-end zero value text at e = refl
 digits-end (suc most) value text at e = rw e
@@ -100,15 +100,15 @@ four {v} {s} k some h = go (leb (length s) 4) refl
 
 -- ---- Numbers, fields and lines
 
-number-written : {v : ℕ} {s : List ℕ} → Decimal v s → v ≤ 9999 → (text : List ℕ) (at c : ℕ) (rest : List ℕ) → drop at text ≡ s ++ (c ∷ rest) → isDigit c ≡ false
+number-written : {v : ℕ} {s : List ℕ} → Decimal v s → v ≤ 9999 → (text : List ℕ) (at c : ℕ) (rest : List ℕ) → drop at text ≡ s ++ (c ∷ rest) → is_digit c ≡ false
     → number text at ≡ good v (at + length s)
 unfolding number
 number-written {v} {s} k h text at c rest e n = go (leb 1 v) refl
   where
-    ends : isDigit (byte_at text (at + length s)) ≡ false
+    ends : is_digit (byte_at text (at + length s)) ≡ false
     ends = rw (stands text (at + length s) c rest (behind text at s (c ∷ rest) e)).is n
 
-    go : (t : Bool) → leb 1 v ≡ t → cond (eqb (byte_at text at) 48) (good 0 (suc at)) (cond (isDigit (byte_at text at)) (digits 4 0 text at) (bad malformed)) ≡ good v (at + length s)
+    go : (t : Bool) → leb 1 v ≡ t → cond (eqb (byte_at text at) 48) (good 0 (suc at)) (cond (is_digit (byte_at text at)) (digits 4 0 text at) (bad malformed)) ≡ good v (at + length s)
     go true q =
         let some = leb-true 1 v q in
         let f = head k in
@@ -129,7 +129,7 @@ record Reached (text : List ℕ) (next : ℕ) (rest : List ℕ) {A : Type 0} (st
   good-so : step ≡ good value next
   bytes : drop next text ≡ rest
 
-field-written : (end : ℕ) {v : ℕ} {s : List ℕ} → Decimal v s → v ≤ 9999 → isDigit end ≡ false → (text : List ℕ) (at : ℕ) (rest : List ℕ) → drop at text ≡ s ++ (end ∷ rest)
+field-written : (end : ℕ) {v : ℕ} {s : List ℕ} → Decimal v s → v ≤ 9999 → is_digit end ≡ false → (text : List ℕ) (at : ℕ) (rest : List ℕ) → drop at text ≡ s ++ (end ∷ rest)
     → Reached text (suc (at + length s)) rest (field end text at) v
 unfolding field follow byte
 field-written end {v} {s} k h n text at rest e =
@@ -148,9 +148,9 @@ unfolding line follow
 line-written e s l hp ha hv text at rest d =
     let first : drop at text ≡ l.parent ++ (space ∷ (l.amperes ++ (space ∷ (l.volts ++ (newline ∷ rest))))) =
     d ∙ ap (λ (x : List ℕ). x ++ rest) l.is ∙ simp append_assoc in
-    let p = field-written space l.parentIs hp refl text at _ first in
-    let a = field-written space l.amperesIs ha refl text (suc (at + length l.parent)) _ p.bytes in
-    let v = field-written newline l.voltsIs hv refl text (suc (suc (at + length l.parent) + length l.amperes)) _ a.bytes in
+    let p = field-written space l.parent_is hp refl text at _ first in
+    let a = field-written space l.amperes_is ha refl text (suc (at + length l.parent)) _ p.bytes in
+    let v = field-written newline l.volts_is hv refl text (suc (suc (at + length l.parent) + length l.amperes)) _ a.bytes in
     record {
       next = suc (suc (suc (at + length l.parent) + length l.amperes) + length l.volts);
       good-so = rw (p.good-so, a.good-so, v.good-so);
@@ -161,7 +161,7 @@ line-written e s l hp ha hv text at rest d =
 pub line-size : (e : Entry) (s : List ℕ) → LineText e s → 1 ≤ length s
 line-size e s l = omega (arith, ap length l.is, length-append l.parent (space ∷ (l.amperes ++ (space ∷ (l.volts ++ (newline ∷ []))))))
 
-judged-passed : (place : ℕ) (s : Step Entry) (e : Entry) (next : ℕ) → s ≡ good e next → isSize e.amperes ≡ true → in_range place e ≡ true → judged place s ≡ good e next
+judged-passed : (place : ℕ) (s : Step Entry) (e : Entry) (next : ℕ) → s ≡ good e next → is_size e.amperes ≡ true → in_range place e ≡ true → judged place s ≡ good e next
 unfolding judged
 judged-passed place s e next g a b = rw (g, a, b)
 
@@ -178,12 +178,12 @@ pub record FrontRead (entries : List Entry) (most : ℕ) (text : List ℕ) (plac
   pub left : ℕ
   pub place' : ℕ
   pub further : place' ≡ place + length entries
-  pub few : place' ≤ mostNodes
-  pub enough : mostNodes < place' + left
+  pub few : place' ≤ most_nodes
+  pub enough : most_nodes < place' + left
   pub is : lines_from most text place at ≡ ahead entries (lines_from left text place' next)
 
 pub front-written : {entries : List Entry} {own : List ℕ} → Written entries own → (place : ℕ) → LinesPass place entries → (most : ℕ) (text : List ℕ) (at : ℕ) (rest : List ℕ)
-    → drop at text ≡ own ++ rest → place ≤ mostNodes → mostNodes < place + most → FrontRead entries most text place at rest
+    → drop at text ≡ own ++ rest → place ≤ most_nodes → most_nodes < place + most → FrontRead entries most text place at rest
 front-written written.none place p most text at rest d h k =
     record { next = at; bytes = d; left = most; place' = place; further = omega arith; few = h; enough = k; is = refl }
 front-written (written.line e others s t l w) place (written.more a b p) zero text at rest d h k = absurd (omega arith)
@@ -201,12 +201,12 @@ front-written (written.line e others s t l w) place (written.more a b p) (suc mo
       further = omega (arith, behind-it.further);
       few = behind-it.few;
       enough = behind-it.enough;
-      is = linesFrom-some most text place at there ∙ rw (judged-passed place (line text at) e one.next one.good-so a b, behind-it.is);
+      is = lines_from-some most text place at there ∙ rw (judged-passed place (line text at) e one.next one.good-so a b, behind-it.is);
     }
 
 -- A text that is lines that pass, and nothing else.
 pub lines-written : {entries : List Entry} {text : List ℕ} → Written entries text → LinesPass 0 entries → lines_of text ≡ record { entries = entries; ending = whole }
 lines-written {entries} {text} w p =
-    let f = front-written w 0 p (suc mostNodes) text 0 [] (sym (append-nil text)) (omega arith) (omega arith) in
+    let f = front-written w 0 p (suc most_nodes) text 0 [] (sym (append-nil text)) (omega arith) (omega arith) in
     let ended : length text ≤ f.next = omega (arith, length-drop f.next text, ap length f.bytes) in
-    f.is ∙ ap (ahead entries) (linesFrom-end f.left text f.place' f.next ended) ∙ rw append-nil
+    f.is ∙ ap (ahead entries) (lines_from-end f.left text f.place' f.next ended) ∙ rw append-nil

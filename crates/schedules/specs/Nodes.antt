@@ -4,6 +4,6 @@ use Rattle.schedules.specs.Schedule.{rating}
 use Rattle.schedules.specs.declared.Entry.{Entry}
 
 -- Parent and rating of each.
-unfoldable pub entryWords : List Entry → List ℕ
-entryWords [] = []
-entryWords (e ∷ rest) = e.parent ∷ rating e ∷ entryWords rest
+unfoldable pub entry_words : List Entry → List ℕ
+entry_words [] = []
+entry_words (e ∷ rest) = e.parent ∷ rating e ∷ entry_words rest

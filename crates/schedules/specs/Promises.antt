@@ -4,12 +4,12 @@ use Rattle.std.specs.Prelude.{◌≡◌, true, false, List, [], ◌↔◌, ◌�
 use Rattle.numbers.specs.Sheet.{bytes_of}
 use Rattle.rooms.specs.Part.{good}
 use Rattle.rooms.specs.Table.{Room}
-use Rattle.rooms.specs.Limits.{nodeAt, checked}
+use Rattle.rooms.specs.Limits.{node_at, checked}
 use Rattle.outcomes.specs.Outcome.{accepted}
 use Rattle.rooms.specs.Outcome.{writing}
-use Rattle.schedules.specs.Sizes.{sizes, isSize}
-use Rattle.schedules.specs.Schedule.{rating, in_range, whole, lines_of, table_of, ScheduleOutcome, scheduling, answer_of, scheduleNumber}
-use Rattle.schedules.specs.Schedule.{scheduleFigure}
+use Rattle.schedules.specs.Sizes.{sizes, is_size}
+use Rattle.schedules.specs.Schedule.{rating, in_range, whole, lines_of, table_of, ScheduleOutcome, scheduling, answer_of, schedule_number}
+use Rattle.schedules.specs.Schedule.{schedule_figure}
 use Rattle.schedules.specs.Written.{Written, LinesPass, LineFirst, LinesFirst}
 use Rattle.schedules.specs.declared.Entry.{Entry}
 
@@ -28,7 +28,7 @@ pub record InTable (amperes : ℕ) : Type 0 where
 
 -- Amperes are a size exactly when they stand in the table.
 abbrev pub SizesAreTheTable : Type 0
-SizesAreTheTable = (amperes : ℕ) → (isSize amperes ≡ true) ↔ InTable amperes
+SizesAreTheTable = (amperes : ℕ) → (is_size amperes ≡ true) ↔ InTable amperes
 
 -- ---- The text
 
@@ -49,7 +49,7 @@ WrittenIsRead = (entries : List Entry) (text : List ℕ) → Written entries tex
 
 -- An outcome's answer has this number and this figure.
 abbrev pub Tells : ScheduleOutcome → ℕ → ℕ → Type 0
-Tells outcome number figure = (scheduleNumber (answer_of outcome) ≡ number) × (scheduleFigure (answer_of outcome) ≡ figure)
+Tells outcome number figure = (schedule_number (answer_of outcome) ≡ number) × (schedule_figure (answer_of outcome) ≡ figure)
 
 -- All of the text is lines that pass, at least one, whose table has so many words.
 pub record AllLines (text : List ℕ) (needed : ℕ) : Type 0 where
@@ -72,7 +72,7 @@ pub record NoSizeAt (text : List ℕ) (place : ℕ) : Type 0 where
   pub front : LinesFirst place text rest
   pub entry : Entry
   pub line : LineFirst entry rest
-  pub other : isSize entry.amperes ≡ false
+  pub other : is_size entry.amperes ≡ false
 
 -- Behind so many lines that pass comes a line with a size, whose volts or parent are out of range there, or which is a 513th.
 pub record OutOfRangeAt (text : List ℕ) (place : ℕ) : Type 0 where
@@ -80,7 +80,7 @@ pub record OutOfRangeAt (text : List ℕ) (place : ℕ) : Type 0 where
   pub front : LinesFirst place text rest
   pub entry : Entry
   pub line : LineFirst entry rest
-  pub size : isSize entry.amperes ≡ true
+  pub size : is_size entry.amperes ≡ true
   pub out : in_range place entry ≡ false
 
 -- Each answer comes exactly where it is due: 24, 25 or 26 at the first line that does not pass, by what it is; 26 at 0 of a text without
@@ -109,8 +109,8 @@ pub record ScheduledRoom (text table : List ℕ) : Type 0 where
   pub writes : (bytes : ℕ) → length (bytes_of table) ≤ bytes → writing table bytes ≡ accepted (bytes_of table)
   pub servers : room.servers ≡ []
   pub nodes : length room.nodes ≡ length (lines_of text).entries
-  pub parent : (n : ℕ) → 1 ≤ n → n ≤ length room.nodes → (nodeAt room (n - 1)).parent ≡ (entry_at text (n - 1)).parent
-  pub rated : (n : ℕ) → 1 ≤ n → n ≤ length room.nodes → (nodeAt room (n - 1)).rating ≡ rating (entry_at text (n - 1))
+  pub parent : (n : ℕ) → 1 ≤ n → n ≤ length room.nodes → (node_at room (n - 1)).parent ≡ (entry_at text (n - 1)).parent
+  pub rated : (n : ℕ) → 1 ≤ n → n ≤ length room.nodes → (node_at room (n - 1)).rating ≡ rating (entry_at text (n - 1))
 
 abbrev pub ScheduleGivesRoom : Type 0
 ScheduleGivesRoom = (text table : List ℕ) (words : ℕ) → scheduling text words ≡ accepted table → ScheduledRoom text table
@@ -118,8 +118,8 @@ ScheduleGivesRoom = (text table : List ℕ) (words : ℕ) → scheduling text wo
 -- ---- How much of a text decides
 
 -- The longest line has 15 bytes, and a 513th line is refused: the bytes of 513 such lines decide every answer.
-abbrev pub decidingBytes : ℕ
-decidingBytes = 7695
+abbrev pub deciding_bytes : ℕ
+deciding_bytes = 7695
 
 abbrev pub FirstBytesDecide : Type 0
-FirstBytesDecide = (taken : ℕ) (text : List ℕ) (words : ℕ) → decidingBytes ≤ taken → scheduling (take taken text) words ≡ scheduling text words
+FirstBytesDecide = (taken : ℕ) (text : List ℕ) (words : ℕ) → deciding_bytes ≤ taken → scheduling (take taken text) words ≡ scheduling text words

@@ -8,10 +8,10 @@ sizes =
     ∷ 300 ∷ 350 ∷ 400 ∷ 450 ∷ 500 ∷ 600 ∷ 700 ∷ 800 ∷ 1000 ∷ 1200 ∷ 1600 ∷ 2000 ∷ 2500 ∷ 3000 ∷ 4000 ∷ 5000 ∷ 6000 ∷ []
 
 -- Whether a number is one of some numbers.
-unfoldable pub isIn : ℕ → List ℕ → Bool
-isIn n [] = false
-isIn n (m ∷ rest) = eqb n m || isIn n rest
+unfoldable pub is_in : ℕ → List ℕ → Bool
+is_in n [] = false
+is_in n (m ∷ rest) = eqb n m || is_in n rest
 
 -- Whether amperes are a size.
-unfoldable pub isSize : ℕ → Bool
-isSize amperes = isIn amperes sizes
+unfoldable pub is_size : ℕ → Bool
+is_size amperes = is_in amperes sizes

@@ -30,12 +30,12 @@ space = 32
 abbrev pub newline : ℕ
 newline = 10
 
-abbrev pub digitZero : ℕ
-digitZero = 48
+abbrev pub digit_zero : ℕ
+digit_zero = 48
 
 -- Whether a byte is one of the digits `0` to `9`.
-abbrev pub isDigit : ℕ → Bool
-isDigit byte = leb digitZero byte && leb byte 57
+abbrev pub is_digit : ℕ → Bool
+is_digit byte = leb digit_zero byte && leb byte 57
 
 -- The next byte, which must be this one.
 unfoldable pub byte : ℕ → Part ℕ
@@ -45,18 +45,18 @@ byte b text at = cond (eqb (byte_at text at) b) (good b (suc at)) (bad malformed
 unfoldable pub digits : ℕ → ℕ → Part ℕ
 digits zero value text at = good value at
 digits (suc most) value text at =
-    cond (isDigit (byte_at text at)) (digits most (value * 10 + (byte_at text at - digitZero)) text (suc at)) (good value at)
+    cond (is_digit (byte_at text at)) (digits most (value * 10 + (byte_at text at - digit_zero)) text (suc at)) (good value at)
 
 -- The most digits of a number: none is above 9,999.
-abbrev pub mostDigits : ℕ
-mostDigits = 4
+abbrev pub most_digits : ℕ
+most_digits = 4
 
 -- A number: `0`, or at most four digits of which the first is another. A digit that stands after these is part of no number,
 -- and the line is not of the form.
 unfoldable pub number : Part ℕ
 number text at =
-    cond (eqb (byte_at text at) digitZero) (good 0 (suc at))
-    (cond (isDigit (byte_at text at)) (digits mostDigits 0 text at) (bad malformed))
+    cond (eqb (byte_at text at) digit_zero) (good 0 (suc at))
+    (cond (is_digit (byte_at text at)) (digits most_digits 0 text at) (bad malformed))
 
 -- A number and the byte behind it.
 unfoldable pub field : ℕ → Part ℕ

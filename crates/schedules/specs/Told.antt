@@ -16,27 +16,27 @@ use Rattle.schedules.specs.declared.lines.Counted.{Counted}
 use Rattle.schedules.specs.declared.lines.Counted.TheVariants as counts
 
 -- A number and the place after it.
-unfoldable pub toldNumber : Step ℕ → Number
-toldNumber (good value next) = numbers.Value value next
-toldNumber (bad malformed) = numbers.Nothing
+unfoldable pub told_number : Step ℕ → Number
+told_number (good value next) = numbers.Value value next
+told_number (bad malformed) = numbers.Nothing
 
 -- An entry and the place after its line.
-unfoldable pub toldLine : Step Entry → ScheduleLine
-toldLine (good e next) = lines.Of e next
-toldLine (bad malformed) = lines.Nothing
+unfoldable pub told_line : Step Entry → ScheduleLine
+told_line (good e next) = lines.Of e next
+told_line (bad malformed) = lines.Nothing
 
 -- A line's node and the place after the line, or its refusal.
-unfoldable pub toldNode : Judgement → JudgedLine
-toldNode (good e next) = judges.Node e.parent (rating e) next
-toldNode (bad refusal) = judges.Refused refusal
+unfoldable pub told_node : Judgement → JudgedLine
+told_node (good e next) = judges.Node e.parent (rating e) next
+told_node (bad refusal) = judges.Refused refusal
 
 -- The count of lines, or the first refusal.
 abbrev pub counted : ℕ → ScheduleEnding → Counted
 counted count whole = counts.Lines count
 counted count (stopped refusal) = counts.Refused refusal
 
-abbrev pub toldLines : Lines → Counted
-toldLines l = counted (length l.entries) l.ending
+abbrev pub told_lines : Lines → Counted
+told_lines l = counted (length l.entries) l.ending
 
 -- What is written to the list: the table, or nothing.
 abbrev pub written : ScheduleOutcome → List ℕ
@@ -47,6 +47,6 @@ pub record InFront (outcome : ScheduleOutcome) (list : List ℕ) : Type 0 where
   pub is : take (length (written outcome)) list ≡ written outcome
 
 -- How many words an answer says are written.
-abbrev pub writtenCount : Scheduled → ℕ
-writtenCount (Accepted count) = count
-writtenCount (Refused refusal) = 0
+abbrev pub written_count : Scheduled → ℕ
+written_count (Accepted count) = count
+written_count (Refused refusal) = 0

@@ -1,10 +1,10 @@
 // Breaker schedules: a text of lines, each with the parent, the amperes and the volts of a breaker, turned into a room table.
 ghost use Rattle.std.specs.Prelude.{◌≡◌, ◌≤◌, length};
 ghost use Rattle.outcomes.specs.Outcome.{after};
-ghost use Rattle.schedules.specs.Schedule.{scheduleRefusalNumber, scheduleRefusalPlace, scheduleNumber, scheduleFigure};
-ghost use Rattle.schedules.specs.Schedule.{mostScheduleWords, scheduling, answer_of};
+ghost use Rattle.schedules.specs.Schedule.{schedule_refusal_number, schedule_refusal_place, schedule_number, schedule_figure};
+ghost use Rattle.schedules.specs.Schedule.{most_schedule_words, scheduling, answer_of};
 ghost use Rattle.schedules.specs.Call.{ScheduleCall};
-ghost use Rattle.schedules.specs.Told.{InFront, writtenCount};
+ghost use Rattle.schedules.specs.Told.{InFront, written_count};
 
 use crate::lines::Counted;
 use calls::ANSWER_BYTES;
@@ -40,7 +40,7 @@ pub enum Scheduled {
 impl ScheduleRefusal {
     // The refusal's number.
     pub fn number(self) -> u64
-        ensures result { result ≡ scheduleRefusalNumber self }
+        ensures result { result ≡ schedule_refusal_number self }
     {
         match self {
             ScheduleRefusal::NotALine(_) => 24,
@@ -52,7 +52,7 @@ impl ScheduleRefusal {
 
     // The refusal's place.
     pub fn place(self) -> usize
-        ensures result { result ≡ scheduleRefusalPlace self }
+        ensures result { result ≡ schedule_refusal_place self }
     {
         match self {
             ScheduleRefusal::NotALine(place) => place,
@@ -66,7 +66,7 @@ impl ScheduleRefusal {
 impl Scheduled {
     // The refusal's number, or 0.
     pub fn number(self) -> u64
-        ensures result { result ≡ scheduleNumber self }
+        ensures result { result ≡ schedule_number self }
     {
         match self {
             Scheduled::Accepted(_) => 0,
@@ -76,7 +76,7 @@ impl Scheduled {
 
     // The count of words, or the refusal's place.
     pub fn figure(self) -> usize
-        ensures result { result ≡ scheduleFigure self }
+        ensures result { result ≡ schedule_figure self }
     {
         match self {
             Scheduled::Accepted(count) => count,
@@ -108,7 +108,7 @@ pub fn schedule_bytes(text: &[u8], table: &mut [u8], answer: &mut [u8]) -> u32
 
 // A schedule by way of a list of its own, which takes the words until all is checked.
 fn schedule_by(text: &[u8], words: &mut [u32], table: &mut [u32]) -> Scheduled
-    requires words_long { mostScheduleWords ≤ length words.old }
+    requires words_long { most_schedule_words ≤ length words.old }
     ensures answer { result ≡ answer_of (scheduling text.now (length table.old)) }
     ensures table { table.new ≡ after (λ words. words) (scheduling text.now (length table.old))
         table.old }
@@ -121,7 +121,7 @@ fn schedule_by(text: &[u8], words: &mut [u32], table: &mut [u32]) -> Scheduled
 
 // The C call by way of a list of words, of which those of an accepted table are stored.
 fn schedule_bytes_by(text: &[u8], words: &mut [u32], table: &mut [u8], answer: &mut [u8]) -> u32
-    requires words_long { mostScheduleWords ≤ length words.old }
+    requires words_long { most_schedule_words ≤ length words.old }
     ensures called { ScheduleCall text.now table.old answer.old result table.new answer.new }
 {
     if answer.len() < ANSWER_BYTES {
@@ -136,7 +136,7 @@ fn schedule_bytes_by(text: &[u8], words: &mut [u32], table: &mut [u8], answer: &
 
 // The answer on a text whose table is to go to a list of `space` words. An accepted table stands at the front of `words`.
 fn schedule_words(text: &[u8], words: &mut [u32], space: usize) -> Scheduled
-    requires words_long { mostScheduleWords ≤ length words.old }
+    requires words_long { most_schedule_words ≤ length words.old }
     ensures answer { result ≡ answer_of (scheduling text.now space) }
     ensures words { InFront (scheduling text.now space) words.new }
 {
@@ -162,7 +162,7 @@ fn schedule_words(text: &[u8], words: &mut [u32], space: usize) -> Scheduled
 
 // How many words an answer says are written: none where refused.
 fn written_count(told: Scheduled) -> usize
-    ensures result { result ≡ writtenCount told }
+    ensures result { result ≡ written_count told }
 {
     match told {
         Scheduled::Accepted(count) => count,

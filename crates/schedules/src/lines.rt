@@ -2,9 +2,9 @@
 ghost use Rattle.std.specs.Prelude.{◌≡◌, ◌≤◌, length};
 ghost use Rattle.std.proofs.lemmas.List.Edits.{sets};
 ghost use Rattle.schedules.specs.Text.{line};
-ghost use Rattle.schedules.specs.Schedule.{in_range, judged, lines_of, mostScheduleWords};
-ghost use Rattle.schedules.specs.Nodes.{entryWords};
-ghost use Rattle.schedules.specs.Told.{toldNode, toldLines};
+ghost use Rattle.schedules.specs.Schedule.{in_range, judged, lines_of, most_schedule_words};
+ghost use Rattle.schedules.specs.Nodes.{entry_words};
+ghost use Rattle.schedules.specs.Told.{told_node, told_lines};
 
 use crate::sizes::is_size;
 use crate::text::{ScheduleLine, read_line};
@@ -50,7 +50,7 @@ fn in_range(entry: Entry, place: usize) -> bool
 
 // The line that starts at `at`, judged as the one at a place.
 fn judge_line(text: &[u8], at: usize, place: usize) -> JudgedLine
-    ensures result { result ≡ toldNode (judged place (line text.now at)) }
+    ensures result { result ≡ told_node (judged place (line text.now at)) }
 {
     let read = read_line(text, at);
     let ScheduleLine::Of(entry, next) = read else {
@@ -67,9 +67,9 @@ fn judge_line(text: &[u8], at: usize, place: usize) -> JudgedLine
 
 // Judges all lines. The words of their nodes go to the list from index 2 on.
 pub fn read_lines(text: &[u8], words: &mut [u32]) -> Counted
-    requires words_long { mostScheduleWords ≤ length words.old }
-    ensures result { result ≡ toldLines (lines_of text.now) }
-    ensures words { words.new ≡ sets words.old 2 (entryWords (lines_of text.now).entries) }
+    requires words_long { most_schedule_words ≤ length words.old }
+    ensures result { result ≡ told_lines (lines_of text.now) }
+    ensures words { words.new ≡ sets words.old 2 (entry_words (lines_of text.now).entries) }
 {
     let mut at = 0;
     let mut count = 0;

@@ -1,6 +1,6 @@
 // The standard ampere sizes of breakers.
 ghost use Rattle.std.specs.Prelude.{◌≡◌};
-ghost use Rattle.schedules.specs.Sizes.{isSize};
+ghost use Rattle.schedules.specs.Sizes.{is_size};
 
 const SIZE_COUNT: usize = 37;
 
@@ -11,7 +11,7 @@ const SIZES: [u32; SIZE_COUNT] = [
 
 // Whether amperes are a size. The sizes rise, so the first that is not below the amperes decides.
 pub fn is_size(amperes: u32) -> bool
-    ensures result { result ≡ isSize amperes }
+    ensures result { result ≡ is_size amperes }
 {
     for i in 0..SIZE_COUNT {
         let size = SIZES[i];

@@ -1,7 +1,7 @@
 // The text of a schedule: bytes, numbers and single lines.
 ghost use Rattle.std.specs.Prelude.{◌≡◌, ◌<◌, length};
-ghost use Rattle.schedules.specs.Text.{byte_at, isDigit, number, field, line};
-ghost use Rattle.schedules.specs.Told.{toldNumber, toldLine};
+ghost use Rattle.schedules.specs.Text.{byte_at, is_digit, number, field, line};
+ghost use Rattle.schedules.specs.Told.{told_number, told_line};
 
 use crate::Entry;
 
@@ -31,14 +31,14 @@ fn byte_at(text: &[u8], at: usize) -> u8
 
 // Whether a byte is a digit.
 fn is_digit(byte: u8) -> bool
-    ensures result { result ≡ isDigit byte }
+    ensures result { result ≡ is_digit byte }
 {
     b'0' <= byte && byte <= b'9'
 }
 
 // The number that starts at a place.
 fn read_number(text: &[u8], at: usize) -> Number
-    ensures result { result ≡ toldNumber (number text.now at) }
+    ensures result { result ≡ told_number (number text.now at) }
 {
     let first = byte_at(text, at);
     if first == b'0' {
@@ -65,7 +65,7 @@ fn read_number(text: &[u8], at: usize) -> Number
 // The number that starts at a place, with the byte that must stand behind it.
 fn read_field(text: &[u8], at: usize, end: u8) -> Number
     requires end_given { 0 < end }
-    ensures result { result ≡ toldNumber (field end text.now at) }
+    ensures result { result ≡ told_number (field end text.now at) }
 {
     let read = read_number(text, at);
     let Number::Value(value, next) = read else {
@@ -79,7 +79,7 @@ fn read_field(text: &[u8], at: usize, end: u8) -> Number
 
 // The line that starts at a place.
 pub fn read_line(text: &[u8], at: usize) -> ScheduleLine
-    ensures result { result ≡ toldLine (line text.now at) }
+    ensures result { result ≡ told_line (line text.now at) }
 {
     let first = read_field(text, at, b' ');
     let Number::Value(parent, at_amperes) = first else {

@@ -1,25 +1,25 @@
 -- The definitions computed at small counts.
 use mathlib.Core.Path.{◌≡◌, refl}
 use mathlib.Core.List.{[], ◌∷◌}
-use Rattle.sender.specs.Period.{serversFrom, positionAfter, period}
+use Rattle.sender.specs.Period.{servers_from, position_after, period}
 use Rattle.outcomes.specs.Outcome.{refused, unless}
 use Rattle.sender.specs.Outcome.{sending}
-use Rattle.sender.specs.Promises.{run, ceilDiv}
+use Rattle.sender.specs.Promises.{run, ceil_div}
 use Rattle.sender.specs.declared.SendRefusal.TheVariants.{NoMessages, PositionOutOfRange, ListTooShort}
 
 -- Four of five servers from the one numbered 3 on: the first follows the last.
 pub four-of-five : period 5 3 4 ≡ record { named = 3 ∷ 4 ∷ 0 ∷ 1 ∷ []; next = 2 }
-unfolding serversFrom positionAfter
+unfolding servers_from position_after
 four-of-five = refl
 
 -- With more messages than servers each is named once, and the position stays.
 pub more-than-five : period 5 3 9 ≡ record { named = 3 ∷ 4 ∷ 0 ∷ 1 ∷ 2 ∷ []; next = 3 }
-unfolding serversFrom positionAfter
+unfolding servers_from position_after
 more-than-five = refl
 
 -- Two a period: five servers take ceil(5 / 2) = 3 periods.
-pub three-periods : run 5 2 3 (ceilDiv 5 2) ≡ (3 ∷ 4 ∷ []) ∷ (0 ∷ 1 ∷ []) ∷ (2 ∷ 3 ∷ []) ∷ []
-unfolding run serversFrom positionAfter
+pub three-periods : run 5 2 3 (ceil_div 5 2) ≡ (3 ∷ 4 ∷ []) ∷ (0 ∷ 1 ∷ []) ∷ (2 ∷ 3 ∷ []) ∷ []
+unfolding run servers_from position_after
 three-periods = refl
 
 -- 27 comes before 28, and 28 before 12.

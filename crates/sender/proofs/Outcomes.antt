@@ -11,27 +11,27 @@ use lib.ListN.{length, take, drop}
 use lib.Seq.{length-take-le, take_all}
 use Rattle.outcomes.specs.Outcome.{accepted, refused, unless, after}
 use Rattle.figures.proofs.Stores.{sets-front}
-use Rattle.sender.specs.Period.{serversFrom, positionAfter, period, namedCount}
-use Rattle.sender.specs.Outcome.{mostServers, SendOutcome, in_range, sending, answer_of}
+use Rattle.sender.specs.Period.{servers_from, position_after, period, named_count}
+use Rattle.sender.specs.Outcome.{most_servers, SendOutcome, in_range, sending, answer_of}
 use Rattle.sender.specs.Promises.{InRange}
 use Rattle.sender.specs.declared.Sent.{Sent}
 use Rattle.sender.specs.declared.Sent.TheVariants.{Accepted, Refused}
 use Rattle.sender.specs.declared.SendRefusal.{SendRefusal}
 use Rattle.sender.specs.declared.SendRefusal.TheVariants.{NoMessages, PositionOutOfRange, ListTooShort}
-use Rattle.sender.proofs.Periods.{length-serversFrom}
+use Rattle.sender.proofs.Periods.{length-servers_from}
 
 -- ---- position and count
 
 module _ (count position : ℕ) where
   -- The test that is computed is true exactly in range.
   pub in_range-true : InRange count position → in_range count position ≡ true
-  in_range-true h = rw (lt-ltb position count h.below, le-leb 1 count h.some, le-leb count mostServers h.most)
+  in_range-true h = rw (lt-ltb position count h.below, le-leb 1 count h.some, le-leb count most_servers h.most)
 
   pub in_range-is : in_range count position ≡ true → InRange count position
-  in_range-is e = go (ltb position count) (leb 1 count) (leb count mostServers) refl refl refl e
+  in_range-is e = go (ltb position count) (leb 1 count) (leb count most_servers) refl refl refl e
     where
-      go : (a b c : Bool) → ltb position count ≡ a → leb 1 count ≡ b → leb count mostServers ≡ c → (a && (b && c)) ≡ true → InRange count position
-      go true true true p q r e = record { below = ltb-true position count p; some = leb-true 1 count q; most = leb-true count mostServers r }
+      go : (a b c : Bool) → ltb position count ≡ a → leb 1 count ≡ b → leb count most_servers ≡ c → (a && (b && c)) ≡ true → InRange count position
+      go true true true p q r e = record { below = ltb-true position count p; some = leb-true 1 count q; most = leb-true count most_servers r }
       go true true false p q r e = absurd (false≢true e)
       go true false c p q r e = absurd (false≢true e)
       go false b c p q r e = absurd (false≢true e)
@@ -40,12 +40,12 @@ module _ (count position : ℕ) where
   pub position-outside : count ≤ position → leb count position ≡ not (in_range count position)
   position-outside h = rw (le-leb count position h, le-ltb position count h)
 
-  pub count-outside : position < count → ltb mostServers count ≡ not (in_range count position)
-  count-outside h = go (ltb mostServers count) refl
+  pub count-outside : position < count → ltb most_servers count ≡ not (in_range count position)
+  count-outside h = go (ltb most_servers count) refl
     where
-      go : (t : Bool) → ltb mostServers count ≡ t → t ≡ not (in_range count position)
-      go true e = rw (lt-ltb position count h, le-leb 1 count (omega arith), lt-leb count mostServers (ltb-true mostServers count e))
-      go false e = rw (in_range-true (record { below = h; some = omega arith; most = ltb-false mostServers count e }))
+      go : (t : Bool) → ltb most_servers count ≡ t → t ≡ not (in_range count position)
+      go true e = rw (lt-ltb position count h, le-leb 1 count (omega arith), lt-leb count most_servers (ltb-true most_servers count e))
+      go false e = rw (in_range-true (record { below = h; some = omega arith; most = ltb-false most_servers count e }))
 
   pub inside_is : not (in_range count position) ≡ false → InRange count position
   inside_is e = in_range-is (go (in_range count position) e)
@@ -61,7 +61,7 @@ module _ (count position m space : ℕ) where
   outcome = sending count position m space
 
   abbrev many : ℕ
-  many = namedCount count m
+  many = named_count count m
 
   pub sending-no-messages : m ≡ 0 → outcome ≡ refused NoMessages
   unfolding sending unless
@@ -89,10 +89,10 @@ module _ (count position m space : ℕ) where
         pub answer-short : space < named → Refused (ListTooShort named) ≡ answer_of outcome
         answer-short h = ap (λ (n : ℕ). Refused (ListTooShort n)) is ∙ sym (ap answer_of (sending-short (omega arith)))
 
-        pub answer-whole : {next : ℕ} → named ≤ space → next ≡ positionAfter count position named → Accepted named next ≡ answer_of outcome
+        pub answer-whole : {next : ℕ} → named ≤ space → next ≡ position_after count position named → Accepted named next ≡ answer_of outcome
         answer-whole h e =
-            let size = length-serversFrom count position many in
-            let after = e ∙ ap (positionAfter count position) is in
+            let size = length-servers_from count position many in
+            let after = e ∙ ap (position_after count position) is in
             cc (ap answer_of (sending-whole (omega arith)))
 
   -- ---- what an outcome says of the input
@@ -150,16 +150,16 @@ module _ (count position m space : ℕ) where
       go (out_of_range is h k) = never is
       go (short is h k l) = never is
       go (whole is h k l) =
-          let size : length (serversFrom count position many) ≡ named = cc (ap answer_of is) in
-          let counted : named ≡ many = sym size ∙ length-serversFrom count position many in
+          let size : length (servers_from count position many) ≡ named = cc (ap answer_of is) in
+          let counted : named ≡ many = sym size ∙ length-servers_from count position many in
           record { inside = k; counted = counted; fits = omega arith; is = is }
 
   -- Servers named at the front of a list that has space for them are what the outcome leaves there.
-  pub named-done : (list : List ℕ) {named : ℕ} {front : List ℕ} → space ≡ length list → Told named → front ≡ serversFrom count position (length (take named list))
+  pub named-done : (list : List ℕ) {named : ℕ} {front : List ℕ} → space ≡ length list → Told named → front ≡ servers_from count position (length (take named list))
       → front ++ drop named list ≡ after (λ p. p.named) outcome list
   named-done list {named = named} {front = front} e told f =
-      let names = serversFrom count position many in
-      let size : length names ≡ named = length-serversFrom count position many ∙ sym told.counted in
-      let same : front ≡ names = f ∙ ap (serversFrom count position) (length-take-le named list (omega (arith, told.fits)) ∙ told.counted) in
+      let names = servers_from count position many in
+      let size : length names ≡ named = length-servers_from count position many ∙ sym told.counted in
+      let same : front ≡ names = f ∙ ap (servers_from count position) (length-take-le named list (omega (arith, told.fits)) ∙ told.counted) in
       let all : take (length list) names ≡ names = take_all (length list) names (omega (arith, told.fits)) in
       rw (told.is, sets-front, all, size, same) refl

@@ -10,7 +10,7 @@ use lib.Dec.{ltb}
 use lib.ListN.{length, get_or, set, take}
 use lib.Seq.{sets, take_all}
 use Rattle.figures.proofs.Stores.{sets-turn, sets-all}
-use Rattle.sender.specs.Period.{following, serversFrom, positionAfter}
+use Rattle.sender.specs.Period.{following, servers_from, position_after}
 
 module _ (count : ℕ) where
   -- ---- the server that follows
@@ -23,32 +23,32 @@ module _ (count : ℕ) where
 
   -- ---- the position after so many servers
 
-  pub positionAfter-add : (position a b : ℕ) → positionAfter count position (a + b) ≡ positionAfter count (positionAfter count position a) b
-  unfolding positionAfter
-  positionAfter-add position zero b = rw zero-add
-  positionAfter-add position (suc a) b = rw suc-add (positionAfter-add (following count position) a b)
+  pub position_after-add : (position a b : ℕ) → position_after count position (a + b) ≡ position_after count (position_after count position a) b
+  unfolding position_after
+  position_after-add position zero b = rw zero-add
+  position_after-add position (suc a) b = rw suc-add (position_after-add (following count position) a b)
 
   -- One server more moves it to the one that follows.
-  pub positionAfter-suc : (position n : ℕ) → positionAfter count position (n + 1) ≡ following count (positionAfter count position n)
-  unfolding positionAfter
-  positionAfter-suc position n = positionAfter-add position n 1
+  pub position_after-suc : (position n : ℕ) → position_after count position (n + 1) ≡ following count (position_after count position n)
+  unfolding position_after
+  position_after-suc position n = position_after-add position n 1
 
   -- Up to the last server it counts on.
-  pub positionAfter-on : (n position : ℕ) → position + n < count → positionAfter count position n ≡ position + n
-  unfolding positionAfter
-  positionAfter-on zero position h = omega arith
-  positionAfter-on (suc n) position h =
-      ap (λ (p : ℕ). positionAfter count p n) (following-next position (omega arith)) ∙ (positionAfter-on n (suc position) (omega arith) ∙ omega arith)
+  pub position_after-on : (n position : ℕ) → position + n < count → position_after count position n ≡ position + n
+  unfolding position_after
+  position_after-on zero position h = omega arith
+  position_after-on (suc n) position h =
+      ap (λ (p : ℕ). position_after count p n) (following-next position (omega arith)) ∙ (position_after-on n (suc position) (omega arith) ∙ omega arith)
 
   -- Past the last it goes on from the first.
-  pub positionAfter-round : (position n : ℕ) → position < count → count ≤ position + n → n ≤ count → positionAfter count position n ≡ n - (count - position)
-  positionAfter-round position n h k m =
+  pub position_after-round : (position n : ℕ) → position < count → count ≤ position + n → n ≤ count → position_after count position n ≡ n - (count - position)
+  position_after-round position n h k m =
       let last = count - position - 1 in
       let parts : n ≡ last + 1 + (n - (count - position)) = omega arith in
-      let back : positionAfter count position (last + 1) ≡ 0 =
-      positionAfter-suc position last ∙ ap (following count) (positionAfter-on last position (omega arith)) ∙ following-last (position + last) (omega arith) in
-      ap (positionAfter count position) parts ∙ positionAfter-add position (last + 1) (n - (count - position))
-      ∙ ap (λ (p : ℕ). positionAfter count p (n - (count - position))) back ∙ (positionAfter-on (n - (count - position)) 0 (omega arith) ∙ omega arith)
+      let back : position_after count position (last + 1) ≡ 0 =
+      position_after-suc position last ∙ ap (following count) (position_after-on last position (omega arith)) ∙ following-last (position + last) (omega arith) in
+      ap (position_after count position) parts ∙ position_after-add position (last + 1) (n - (count - position))
+      ∙ ap (λ (p : ℕ). position_after count p (n - (count - position))) back ∙ (position_after-on (n - (count - position)) 0 (omega arith) ∙ omega arith)
 
   -- It is always a server's.
   pub following-below : (server : ℕ) → 0 < count → following count server < count
@@ -58,20 +58,20 @@ module _ (count : ℕ) where
       go true e = ltb-true (suc server) count e
       go false e = h
 
-  pub positionAfter-below : (n position : ℕ) → position < count → positionAfter count position n < count
-  unfolding positionAfter
-  positionAfter-below zero position h = h
-  positionAfter-below (suc n) position h = positionAfter-below n (following count position) (following-below position (omega arith))
+  pub position_after-below : (n position : ℕ) → position < count → position_after count position n < count
+  unfolding position_after
+  position_after-below zero position h = h
+  position_after-below (suc n) position h = position_after-below n (following count position) (following-below position (omega arith))
 
   -- Less than a whole round apart, it is not the same.
-  pub positionAfter-once : (position i j : ℕ) → position < count → i < j → j < count → positionAfter count position i ≡ positionAfter count position j → ⊥
-  positionAfter-once position i j h k l e = go (ltb (position + i) count) (ltb (position + j) count) refl refl
+  pub position_after-once : (position i j : ℕ) → position < count → i < j → j < count → position_after count position i ≡ position_after count position j → ⊥
+  position_after-once position i j h k l e = go (ltb (position + i) count) (ltb (position + j) count) refl refl
     where
-      on : (n : ℕ) → ltb (position + n) count ≡ true → positionAfter count position n ≡ position + n
-      on n t = positionAfter-on n position (ltb-true (position + n) count t)
+      on : (n : ℕ) → ltb (position + n) count ≡ true → position_after count position n ≡ position + n
+      on n t = position_after-on n position (ltb-true (position + n) count t)
 
-      round : (n : ℕ) → n < count → ltb (position + n) count ≡ false → positionAfter count position n ≡ n - (count - position)
-      round n m t = positionAfter-round position n h (ltb-false (position + n) count t) (omega arith)
+      round : (n : ℕ) → n < count → ltb (position + n) count ≡ false → position_after count position n ≡ n - (count - position)
+      round n m t = position_after-round position n h (ltb-false (position + n) count t) (omega arith)
 
       go : (s t : Bool) → ltb (position + i) count ≡ s → ltb (position + j) count ≡ t → ⊥
       go true true s t = omega (arith, on i s, on j t)
@@ -83,7 +83,7 @@ module _ (count : ℕ) where
   pub record Reached (position server : ℕ) : Type 0 where
     pub distance : ℕ
     pub short : distance < count
-    pub is : positionAfter count position distance ≡ server
+    pub is : position_after count position distance ≡ server
 
   pub reached : (position server : ℕ) → position < count → server < count → Reached position server
   reached position server h k = go (ltb server position) refl
@@ -91,45 +91,45 @@ module _ (count : ℕ) where
       go : (t : Bool) → ltb server position ≡ t → Reached position server
       go true t =
           let less = ltb-true server position t in
-          record { distance = count - position + server; short = omega arith; is = positionAfter-round position (count - position + server) h (omega arith) (omega arith) ∙ omega arith }
+          record { distance = count - position + server; short = omega arith; is = position_after-round position (count - position + server) h (omega arith) (omega arith) ∙ omega arith }
       go false t =
           let more = ltb-false server position t in
-          record { distance = server - position; short = omega arith; is = positionAfter-on (server - position) position (omega arith) ∙ omega arith }
+          record { distance = server - position; short = omega arith; is = position_after-on (server - position) position (omega arith) ∙ omega arith }
 
   -- ---- servers from a position on
 
-  pub length-serversFrom : (position many : ℕ) → length (serversFrom count position many) ≡ many
-  unfolding serversFrom
-  length-serversFrom position zero = refl
-  length-serversFrom position (suc many) = ap suc (length-serversFrom (following count position) many)
+  pub length-servers_from : (position many : ℕ) → length (servers_from count position many) ≡ many
+  unfolding servers_from
+  length-servers_from position zero = refl
+  length-servers_from position (suc many) = ap suc (length-servers_from (following count position) many)
 
   -- The server named after i others is the one that they lead to.
-  pub getD-serversFrom : (position many i : ℕ) → i < many → get_or (serversFrom count position many) i 0 ≡ positionAfter count position i
-  unfolding serversFrom positionAfter
-  getD-serversFrom position zero i h = absurd (omega arith)
-  getD-serversFrom position (suc many) zero h = refl
-  getD-serversFrom position (suc many) (suc i) h = getD-serversFrom (following count position) many i (omega arith)
+  pub get_or-servers_from : (position many i : ℕ) → i < many → get_or (servers_from count position many) i 0 ≡ position_after count position i
+  unfolding servers_from position_after
+  get_or-servers_from position zero i h = absurd (omega arith)
+  get_or-servers_from position (suc many) zero h = refl
+  get_or-servers_from position (suc many) (suc i) h = get_or-servers_from (following count position) many i (omega arith)
 
-  pub mem-serversFrom : (many d position : ℕ) → d < many → Memᴰ (positionAfter count position d) (serversFrom count position many)
-  unfolding serversFrom positionAfter
-  mem-serversFrom zero d position h = absurd (omega arith)
-  mem-serversFrom (suc many) zero position h = Memᴰ.head refl
-  mem-serversFrom (suc many) (suc d) position h = Memᴰ.tail (mem-serversFrom many d (following count position) (omega arith))
+  pub mem-servers_from : (many d position : ℕ) → d < many → Memᴰ (position_after count position d) (servers_from count position many)
+  unfolding servers_from position_after
+  mem-servers_from zero d position h = absurd (omega arith)
+  mem-servers_from (suc many) zero position h = Memᴰ.head refl
+  mem-servers_from (suc many) (suc d) position h = Memᴰ.tail (mem-servers_from many d (following count position) (omega arith))
 
   -- ---- a loop that names servers
 
   module _ (position : ℕ) (list : List ℕ) where
     abbrev servers : List ℕ
-    servers = serversFrom count position (length list)
+    servers = servers_from count position (length list)
 
     -- A turn: the server at hand is stored behind those that are there.
     pub name-turn : (i : ℕ) → i < length list
-        → set (sets list 0 (take i servers)) i (positionAfter count position i) ≡ sets list 0 (take (i + 1) servers)
+        → set (sets list 0 (take i servers)) i (position_after count position i) ≡ sets list 0 (take (i + 1) servers)
     name-turn i h =
-        rw (getD-serversFrom position (length list) i h) at (sets-turn list servers i 0 (omega (arith, length-serversFrom position (length list))))
+        rw (get_or-servers_from position (length list) i h) at (sets-turn list servers i 0 (omega (arith, length-servers_from position (length list))))
 
     -- The end: the list has nothing else.
     pub name-end : sets list 0 (take (length list) servers) ≡ servers
     name-end =
-        let size = length-serversFrom position (length list) in
+        let size = length-servers_from position (length list) in
         ap (sets list 0) (take_all (length list) servers (omega arith)) ∙ sets-all list servers (sym size)

@@ -10,12 +10,12 @@ use native.Mathlib.Omega.{arith}
 use borrow.Author.Tests.{ltb-true, ltb-false}
 use lib.Dec.{ltb}
 use lib.ListN.{length, get_or}
-use Rattle.sender.specs.Period.{following, serversFrom, positionAfter, namedCount, period}
+use Rattle.sender.specs.Period.{following, servers_from, position_after, named_count, period}
 use Rattle.outcomes.specs.Outcome.{accepted, refused}
-use Rattle.sender.specs.Outcome.{SendOutcome, in_range, sending, answer_of, sentNumber, sentFigure, sentPosition}
-use Rattle.sender.specs.Promises.{InRange, Tells, AnsweredExactly, Kept, PeriodKept, run, ceilDiv, EachWithin}
+use Rattle.sender.specs.Outcome.{SendOutcome, in_range, sending, answer_of, sent_number, sent_figure, sent_position}
+use Rattle.sender.specs.Promises.{InRange, Tells, AnsweredExactly, Kept, PeriodKept, run, ceil_div, EachWithin}
 use Rattle.sender.specs.declared.SendRefusal.{SendRefusal}
-use Rattle.sender.proofs.Periods.{positionAfter-add, positionAfter-suc, positionAfter-below, positionAfter-once, reached, length-serversFrom, getD-serversFrom, mem-serversFrom}
+use Rattle.sender.proofs.Periods.{position_after-add, position_after-suc, position_after-below, position_after-once, reached, length-servers_from, get_or-servers_from, mem-servers_from}
 use Rattle.sender.proofs.Outcomes.{in_range-true, in_range-is, sending-no-messages, sending-out-of-range, sending-short, sending-whole, Reason, no-messages, out_of_range, short, whole, reason}
 
 -- ---- Answers
@@ -25,14 +25,14 @@ module _ (count position m space : ℕ) where
   outcome = sending count position m space
 
   abbrev many : ℕ
-  many = namedCount count m
+  many = named_count count m
 
   -- The outcome's number and figure, where it is known.
-  numbered : {o : SendOutcome} → outcome ≡ o → sentNumber (answer_of outcome) ≡ sentNumber (answer_of o)
-  numbered is = ap (λ (x : SendOutcome). sentNumber (answer_of x)) is
+  numbered : {o : SendOutcome} → outcome ≡ o → sent_number (answer_of outcome) ≡ sent_number (answer_of o)
+  numbered is = ap (λ (x : SendOutcome). sent_number (answer_of x)) is
 
-  tells : {o : SendOutcome} → outcome ≡ o → Tells outcome (sentNumber (answer_of o)) (sentFigure (answer_of o))
-  tells is = (numbered is, ap (λ (x : SendOutcome). sentFigure (answer_of x)) is)
+  tells : {o : SendOutcome} → outcome ≡ o → Tells outcome (sent_number (answer_of o)) (sent_figure (answer_of o))
+  tells is = (numbered is, ap (λ (x : SendOutcome). sent_figure (answer_of x)) is)
 
   -- What is in range is not out of range.
   inside : InRange count position → not (in_range count position) ≡ false
@@ -71,27 +71,27 @@ module _ (count position m space : ℕ) where
           (h, k, same, omega arith)
       go t (whole is h k l) = absurd (omega (arith, numbered is))
 
-  tells-0 : (named next : ℕ) → (Tells outcome 0 named × (sentPosition (answer_of outcome) ≡ next))
-      ↔ ((1 ≤ m) × InRange count position × (many ≡ named) × (named ≤ space) × (positionAfter count position named ≡ next))
+  tells-0 : (named next : ℕ) → (Tells outcome 0 named × (sent_position (answer_of outcome) ≡ next))
+      ↔ ((1 ≤ m) × InRange count position × (many ≡ named) × (named ≤ space) × (position_after count position named ≡ next))
   tells-0 named next = (
     λ t. go t (reason count position m space),
     λ h.
         let is = sending-whole count position m space h.0 (inside h.1) (omega (arith, h.2, h.3)) in
         let t = tells is in
-        ((t.0, t.1 ∙ length-serversFrom count position many ∙ h.2), positioned is ∙ ap (positionAfter count position) h.2 ∙ h.4),
+        ((t.0, t.1 ∙ length-servers_from count position many ∙ h.2), positioned is ∙ ap (position_after count position) h.2 ∙ h.4),
   )
     where
-      positioned : {o : SendOutcome} → outcome ≡ o → sentPosition (answer_of outcome) ≡ sentPosition (answer_of o)
-      positioned is = ap (λ (x : SendOutcome). sentPosition (answer_of x)) is
+      positioned : {o : SendOutcome} → outcome ≡ o → sent_position (answer_of outcome) ≡ sent_position (answer_of o)
+      positioned is = ap (λ (x : SendOutcome). sent_position (answer_of x)) is
 
-      go : Tells outcome 0 named × (sentPosition (answer_of outcome) ≡ next) → Reason count position m space
-          → (1 ≤ m) × InRange count position × (many ≡ named) × (named ≤ space) × (positionAfter count position named ≡ next)
+      go : Tells outcome 0 named × (sent_position (answer_of outcome) ≡ next) → Reason count position m space
+          → (1 ≤ m) × InRange count position × (many ≡ named) × (named ≤ space) × (position_after count position named ≡ next)
       go t (no-messages is h) = absurd (omega (arith, numbered is))
       go t (out_of_range is h k) = absurd (omega (arith, numbered is))
       go t (short is h k l) = absurd (omega (arith, numbered is))
       go t (whole is h k l) =
-          let same : many ≡ named = sym (length-serversFrom count position many) ∙ sym (tells is).1 ∙ t.0.1 in
-          (h, k, same, omega arith, ap (positionAfter count position) (sym same) ∙ sym (positioned is) ∙ t.1)
+          let same : many ≡ named = sym (length-servers_from count position many) ∙ sym (tells is).1 ∙ t.0.1 in
+          (h, k, same, omega arith, ap (position_after count position) (sym same) ∙ sym (positioned is) ∙ t.1)
 
 pub answered-exactly : AnsweredExactly
 answered-exactly = record { no-messages = tells-27; out_of_range = tells-28; list-short = tells-12; accepted = tells-0 }
@@ -100,38 +100,38 @@ answered-exactly = record { no-messages = tells-27; out_of_range = tells-28; lis
 
 module _ (count position m : ℕ) (some : 1 ≤ m) (below : position < count) where
   abbrev named : List ℕ
-  named = serversFrom count position (namedCount count m)
+  named = servers_from count position (named_count count m)
 
-  size : length named ≡ namedCount count m
-  size = length-serversFrom count position (namedCount count m)
+  size : length named ≡ named_count count m
+  size = length-servers_from count position (named_count count m)
 
-  at : (i : ℕ) → i < length named → get_or named i 0 ≡ positionAfter count position i
-  at i h = getD-serversFrom count position (namedCount count m) i (omega (arith, size))
+  at : (i : ℕ) → i < length named → get_or named i 0 ≡ position_after count position i
+  at i h = get_or-servers_from count position (named_count count m) i (omega (arith, size))
 
   first-at : get_or named 0 0 ≡ position
-  unfolding positionAfter
+  unfolding position_after
   first-at = at 0 (omega (arith, size))
 
   further-at : (i : ℕ) → suc i < length named → get_or named (suc i) 0 ≡ following count (get_or named i 0)
   further-at i h =
       let one : suc i ≡ i + 1 = omega arith in
-      at (suc i) h ∙ ap (positionAfter count position) one ∙ positionAfter-suc count position i ∙ ap (following count) (sym (at i (omega arith)))
+      at (suc i) h ∙ ap (position_after count position) one ∙ position_after-suc count position i ∙ ap (following count) (sym (at i (omega arith)))
 
-  next-is : positionAfter count position (namedCount count m) ≡ following count (get_or named (length named - 1) 0)
+  next-is : position_after count position (named_count count m) ≡ following count (get_or named (length named - 1) 0)
   next-is =
-      let last : namedCount count m ≡ length named - 1 + 1 = omega (arith, size) in
-      ap (positionAfter count position) last ∙ positionAfter-suc count position (length named - 1) ∙ ap (following count) (sym (at (length named - 1) (omega (arith, size))))
+      let last : named_count count m ≡ length named - 1 + 1 = omega (arith, size) in
+      ap (position_after count position) last ∙ position_after-suc count position (length named - 1) ∙ ap (following count) (sym (at (length named - 1) (omega (arith, size))))
 
   named-below : (i : ℕ) → i < length named → get_or named i 0 < count
-  named-below i h = rw (at i h) (positionAfter-below count i position below)
+  named-below i h = rw (at i h) (position_after-below count i position below)
 
   never-twice : (i j : ℕ) → i < j → j < length named → get_or named i 0 ≡ get_or named j 0 → ⊥
-  never-twice i j h k e = positionAfter-once count position i j below h (omega (arith, size)) (sym (at i (omega arith)) ∙ e ∙ at j k)
+  never-twice i j h k e = position_after-once count position i j below h (omega (arith, size)) (sym (at i (omega arith)) ∙ e ∙ at j k)
 
   each-named : count ≤ m → (server : ℕ) → server < count → Memᴰ server named
   each-named h server k =
       let r = reached count position server below k in
-      Memᴰ.cast (sym r.is) (mem-serversFrom count (namedCount count m) r.distance position (omega (arith, r.short)))
+      Memᴰ.cast (sym r.is) (mem-servers_from count (named_count count m) r.distance position (omega (arith, r.short)))
 
 pub period-kept : PeriodKept
 period-kept count position m space p e = go (reason count position m space)
@@ -139,10 +139,10 @@ period-kept count position m space p e = go (reason count position m space)
     never : {q : SendRefusal} → sending count position m space ≡ refused q → Kept count position m space p
     never is = absurd (suc-ne-zero 0 (cc))
 
-    kept : 1 ≤ m → InRange count position → namedCount count m ≤ space → Kept count position m space (period count position m)
+    kept : 1 ≤ m → InRange count position → named_count count m ≤ space → Kept count position m space (period count position m)
     kept some h enough =
         let after : InRange count (period count position m).next =
-        record { below = positionAfter-below count (namedCount count m) position h.below; some = h.some; most = h.most } in
+        record { below = position_after-below count (named_count count m) position h.below; some = h.some; most = h.most } in
         record {
           first = first-at count position m some h.below;
           further = further-at count position m some h.below;
@@ -164,47 +164,47 @@ period-kept count position m space p e = go (reason count position m space)
 -- ---- A run of periods
 
 -- So many periods reach what is less than so many times what one names away.
-run-reaches : (count m periods position distance : ℕ) → distance < periods * namedCount count m
-    → Memᴰ (positionAfter count position distance) (flatten (run count m position periods))
+run-reaches : (count m periods position distance : ℕ) → distance < periods * named_count count m
+    → Memᴰ (position_after count position distance) (flatten (run count m position periods))
 unfolding run flatten
-run-reaches count m zero position distance h = absurd (omega (arith, zero-mul (namedCount count m)))
+run-reaches count m zero position distance h = absurd (omega (arith, zero-mul (named_count count m)))
 run-reaches count m (suc periods) position distance h =
-    go (ltb distance many) refl (λ d k. run-reaches count m periods (positionAfter count position (namedCount count m)) d k)
+    go (ltb distance many) refl (λ d k. run-reaches count m periods (position_after count position (named_count count m)) d k)
   where
     many : ℕ
-    many = namedCount count m
+    many = named_count count m
 
     next : ℕ
-    next = positionAfter count position many
+    next = position_after count position many
 
     rest : List ℕ
     rest = flatten (run count m next periods)
 
-    go : (t : Bool) → ltb distance many ≡ t → ((d : ℕ) → d < periods * many → Memᴰ (positionAfter count next d) rest)
-        → Memᴰ (positionAfter count position distance) (serversFrom count position many ++ rest)
-    go true t later = Memᴰ.append_left rest (mem-serversFrom count many distance position (ltb-true distance many t))
+    go : (t : Bool) → ltb distance many ≡ t → ((d : ℕ) → d < periods * many → Memᴰ (position_after count next d) rest)
+        → Memᴰ (position_after count position distance) (servers_from count position many ++ rest)
+    go true t later = Memᴰ.append_left rest (mem-servers_from count many distance position (ltb-true distance many t))
     go false t later =
         let over = ltb-false distance many t in
         let parts : distance ≡ many + (distance - many) = omega arith in
-        let same : positionAfter count position distance ≡ positionAfter count next (distance - many) = ap (positionAfter count position) parts ∙ positionAfter-add count position many (distance - many) in
-        Memᴰ.append_right (serversFrom count position many) (Memᴰ.cast same (later (distance - many) (omega (arith, suc-mul periods many))))
+        let same : position_after count position distance ≡ position_after count next (distance - many) = ap (position_after count position) parts ∙ position_after-add count position many (distance - many) in
+        Memᴰ.append_right (servers_from count position many) (Memᴰ.cast same (later (distance - many) (omega (arith, suc-mul periods many))))
 
 -- ceil(count / m) periods name as many as there are servers.
-enough-periods : (count m : ℕ) → 1 ≤ m → 1 ≤ count → count ≤ ceilDiv count m * namedCount count m
+enough-periods : (count m : ℕ) → 1 ≤ m → 1 ≤ count → count ≤ ceil_div count m * named_count count m
 enough-periods count m some servers = go (ltb count m) refl
   where
-    go : (t : Bool) → ltb count m ≡ t → count ≤ ceilDiv count m * namedCount count m
+    go : (t : Bool) → ltb count m ≡ t → count ≤ ceil_div count m * named_count count m
     go true t =
         let less = ltb-true count m t in
-        let all : namedCount count m ≡ count = omega arith in
-        let one : 1 ≤ ceilDiv count m = (le-div_iff_mul-le some).1 (omega (arith, one-mul m)) in
+        let all : named_count count m ≡ count = omega arith in
+        let one : 1 ≤ ceil_div count m = (le-div_iff_mul-le some).1 (omega (arith, one-mul m)) in
         rw all (omega (arith, mul-le-mul_right count one, one-mul count))
     go false t =
         let more = ltb-false count m t in
-        let all : namedCount count m ≡ m = omega arith in
+        let all : named_count count m ≡ m = omega arith in
         rw all (omega (arith, lt-div-mul-add {a = count + (m - 1)} {b = m} some))
 
 pub each_within : EachWithin
 each_within count m position server some below h =
     let r = reached count position server below h in
-    Memᴰ.cast (sym r.is) (run-reaches count m (ceilDiv count m) position r.distance (omega (arith, r.short, enough-periods count m some (omega arith))))
+    Memᴰ.cast (sym r.is) (run-reaches count m (ceil_div count m) position r.distance (omega (arith, r.short, enough-periods count m some (omega arith))))

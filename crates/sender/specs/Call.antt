@@ -4,17 +4,17 @@
 use Rattle.std.specs.Prelude.{List, [], ◌∷◌, ℕ, ◌/◌, length}
 use Rattle.words.specs.Bytes.{bytes_of}
 use Rattle.calls.specs.Call.{OutcomeCall}
-use Rattle.sender.specs.Outcome.{sending, answer_of, sendRefusalNumber, sendRefusalPlace}
+use Rattle.sender.specs.Outcome.{sending, answer_of, send_refusal_number, send_refusal_place}
 use Rattle.sender.specs.declared.Sent.{Sent}
 use Rattle.sender.specs.declared.Sent.TheVariants.{Accepted, Refused}
 
 -- The numbers of an answer. Accepted: 0, how many servers were named, the new position. Refused: the number and the place.
-abbrev pub sentNumbers : Sent → List ℕ
-sentNumbers (Accepted named next) = 0 ∷ named ∷ next ∷ []
-sentNumbers (Refused refusal) = sendRefusalNumber refusal ∷ sendRefusalPlace refusal ∷ []
+abbrev pub sent_numbers : Sent → List ℕ
+sent_numbers (Accepted named next) = 0 ∷ named ∷ next ∷ []
+sent_numbers (Refused refusal) = send_refusal_number refusal ∷ send_refusal_place refusal ∷ []
 
 -- Send, called from C, with an answer of three numbers: the list holds a word for every four of its bytes.
 abbrev pub SendCall : (count position m : ℕ) (list answer : List ℕ) (r : ℕ) (list' answer' : List ℕ) → Type 0
 SendCall count position m list answer r list' answer' =
-    OutcomeCall 3 (λ outcome. sentNumbers (answer_of outcome)) (λ p. bytes_of p.named) (sending count position m (length list / 4))
+    OutcomeCall 3 (λ outcome. sent_numbers (answer_of outcome)) (λ p. bytes_of p.named) (sending count position m (length list / 4))
     list answer r list' answer'

@@ -1,15 +1,15 @@
 -- Send: what it comes to, as an answer and in the list lent.
 use Rattle.std.specs.Prelude.{Bool, not, ◌&&◌, List, [], ◌∷◌, ℕ, eqb, leb, ltb, length}
-use Rattle.outcomes.specs.Outcome.{Outcome, accepted, refused, Reason, unless, tooShort}
-use Rattle.sender.specs.Period.{Period, period, namedCount}
+use Rattle.outcomes.specs.Outcome.{Outcome, accepted, refused, Reason, unless, too_short}
+use Rattle.sender.specs.Period.{Period, period, named_count}
 use Rattle.sender.specs.declared.SendRefusal.{SendRefusal}
 use Rattle.sender.specs.declared.SendRefusal.TheVariants.{NoMessages, PositionOutOfRange, ListTooShort}
 use Rattle.sender.specs.declared.Sent.{Sent}
 use Rattle.sender.specs.declared.Sent.TheVariants.{Accepted, Refused}
 
 -- The most servers of a room.
-abbrev pub mostServers : ℕ
-mostServers = 512
+abbrev pub most_servers : ℕ
+most_servers = 512
 
 -- What Send comes to: accepted with its period, or refused.
 abbrev pub SendOutcome : Type 0
@@ -17,7 +17,7 @@ SendOutcome = Outcome Period SendRefusal
 
 -- Whether the position is below the count, and the count from 1 to 512.
 abbrev pub in_range : (count position : ℕ) → Bool
-in_range count position = ltb position count && (leb 1 count && leb count mostServers)
+in_range count position = ltb position count && (leb 1 count && leb count most_servers)
 
 -- The reasons to refuse, in their order: m is 0 (27); a position that is no server's, or a count out of its range (28); the list
 -- too short (12).
@@ -25,7 +25,7 @@ abbrev pub reasons : (count position m space : ℕ) → List (Reason SendRefusal
 reasons count position m space =
     record { holds = eqb m 0; refusal = NoMessages }
     ∷ record { holds = not (in_range count position); refusal = PositionOutOfRange }
-    ∷ tooShort ListTooShort space (namedCount count m)
+    ∷ too_short ListTooShort space (named_count count m)
     ∷ []
 
 -- Send, to a list of so many words.
@@ -42,27 +42,27 @@ answer_of (refused refusal) = Refused refusal
 -- ---- Numbers and places
 
 -- A refusal's number.
-abbrev pub sendRefusalNumber : SendRefusal → ℕ
-sendRefusalNumber NoMessages = 27
-sendRefusalNumber PositionOutOfRange = 28
-sendRefusalNumber (ListTooShort needed) = 12
+abbrev pub send_refusal_number : SendRefusal → ℕ
+send_refusal_number NoMessages = 27
+send_refusal_number PositionOutOfRange = 28
+send_refusal_number (ListTooShort needed) = 12
 
 -- A refusal's place. That of a short list is how many servers would be named.
-abbrev pub sendRefusalPlace : SendRefusal → ℕ
-sendRefusalPlace NoMessages = 0
-sendRefusalPlace PositionOutOfRange = 1
-sendRefusalPlace (ListTooShort needed) = needed
+abbrev pub send_refusal_place : SendRefusal → ℕ
+send_refusal_place NoMessages = 0
+send_refusal_place PositionOutOfRange = 1
+send_refusal_place (ListTooShort needed) = needed
 
 -- An answer's number, 0 if accepted, and its figure: how many servers were named, or the refusal's place.
-abbrev pub sentNumber : Sent → ℕ
-sentNumber (Accepted named next) = 0
-sentNumber (Refused refusal) = sendRefusalNumber refusal
+abbrev pub sent_number : Sent → ℕ
+sent_number (Accepted named next) = 0
+sent_number (Refused refusal) = send_refusal_number refusal
 
-abbrev pub sentFigure : Sent → ℕ
-sentFigure (Accepted named next) = named
-sentFigure (Refused refusal) = sendRefusalPlace refusal
+abbrev pub sent_figure : Sent → ℕ
+sent_figure (Accepted named next) = named
+sent_figure (Refused refusal) = send_refusal_place refusal
 
 -- An answer's second value: the new position. A refusal has none, for which 0 stands here; the call writes none.
-abbrev pub sentPosition : Sent → ℕ
-sentPosition (Accepted named next) = next
-sentPosition (Refused refusal) = 0
+abbrev pub sent_position : Sent → ℕ
+sent_position (Accepted named next) = next
+sent_position (Refused refusal) = 0

@@ -8,14 +8,14 @@ abbrev pub following : ℕ → ℕ → ℕ
 following count server = cond (ltb (suc server) count) (suc server) 0
 
 -- So many servers from a position on, each followed by the next.
-unfoldable pub serversFrom : (count position many : ℕ) → List ℕ
-serversFrom count position zero = []
-serversFrom count position (suc many) = position ∷ serversFrom count (following count position) many
+unfoldable pub servers_from : (count position many : ℕ) → List ℕ
+servers_from count position zero = []
+servers_from count position (suc many) = position ∷ servers_from count (following count position) many
 
 -- The position after so many servers from a position on.
-unfoldable pub positionAfter : (count position many : ℕ) → ℕ
-positionAfter count position zero = position
-positionAfter count position (suc many) = positionAfter count (following count position) many
+unfoldable pub position_after : (count position many : ℕ) → ℕ
+position_after count position zero = position
+position_after count position (suc many) = position_after count (following count position) many
 
 -- What a period comes to: the servers that it names, in order, and the new position.
 pub record Period : Type 0 where
@@ -23,10 +23,10 @@ pub record Period : Type 0 where
   pub next : ℕ
 
 -- How many servers a period names: m, or all, if those are fewer.
-abbrev pub namedCount : ℕ → ℕ → ℕ
-namedCount count m = min m count
+abbrev pub named_count : ℕ → ℕ → ℕ
+named_count count m = min m count
 
 -- The period that begins at a position.
 abbrev pub period : (count position m : ℕ) → Period
 period count position m =
-    record { named = serversFrom count position (namedCount count m); next = positionAfter count position (namedCount count m) }
+    record { named = servers_from count position (named_count count m); next = position_after count position (named_count count m) }

@@ -2,9 +2,9 @@
 -- proofs/Promises.antt proves each: `AnsweredExactly` as `answered-exactly`, and so on.
 use Rattle.std.specs.Prelude.{◌≡◌, ◌↔◌, ℕ, zero, suc, ◌+◌, ◌-◌, ◌/◌, ◌≤◌, ◌<◌, length, get_or}
 use mathlib.Core.List.{List, [], ◌∷◌, Memᴰ, flatten}
-use Rattle.sender.specs.Period.{following, positionAfter, namedCount, Period, period}
+use Rattle.sender.specs.Period.{following, position_after, named_count, Period, period}
 use Rattle.outcomes.specs.Outcome.{accepted}
-use Rattle.sender.specs.Outcome.{mostServers, SendOutcome, sending, answer_of, sentNumber, sentFigure, sentPosition}
+use Rattle.sender.specs.Outcome.{most_servers, SendOutcome, sending, answer_of, sent_number, sent_figure, sent_position}
 
 -- ---- Answers
 
@@ -12,11 +12,11 @@ use Rattle.sender.specs.Outcome.{mostServers, SendOutcome, sending, answer_of, s
 pub record InRange (count position : ℕ) : Type 0 where
   pub below : position < count
   pub some : 1 ≤ count
-  pub most : count ≤ mostServers
+  pub most : count ≤ most_servers
 
 -- An outcome's answer has this number and this figure.
 abbrev pub Tells : SendOutcome → ℕ → ℕ → Type 0
-Tells outcome number figure = (sentNumber (answer_of outcome) ≡ number) × (sentFigure (answer_of outcome) ≡ figure)
+Tells outcome number figure = (sent_number (answer_of outcome) ≡ number) × (sent_figure (answer_of outcome) ≡ figure)
 
 -- Each answer comes exactly where it is due: 27 where m is 0; else 28 where position or count is out of range; else 12 where the list
 -- is too short for the servers to be named, at their count; else acceptance, which tells their count and the position after
@@ -25,10 +25,10 @@ pub record AnsweredExactly : Type 0 where
   pub no-messages : (count position m space : ℕ) → Tells (sending count position m space) 27 0 ↔ (m ≡ 0)
   pub out_of_range : (count position m space : ℕ) → Tells (sending count position m space) 28 1 ↔ ((1 ≤ m) × (InRange count position → ⊥))
   pub list-short : (count position m space needed : ℕ) → Tells (sending count position m space) 12 needed
-      ↔ ((1 ≤ m) × InRange count position × (namedCount count m ≡ needed) × (space < needed))
+      ↔ ((1 ≤ m) × InRange count position × (named_count count m ≡ needed) × (space < needed))
   pub accepted : (count position m space named next : ℕ)
-      → (Tells (sending count position m space) 0 named × (sentPosition (answer_of (sending count position m space)) ≡ next))
-      ↔ ((1 ≤ m) × InRange count position × (namedCount count m ≡ named) × (named ≤ space) × (positionAfter count position named ≡ next))
+      → (Tells (sending count position m space) 0 named × (sent_position (answer_of (sending count position m space)) ≡ next))
+      ↔ ((1 ≤ m) × InRange count position × (named_count count m ≡ named) × (named ≤ space) × (position_after count position named ≡ next))
 
 -- ---- A period
 
@@ -58,10 +58,10 @@ run count m position zero = []
 run count m position (suc periods) = (period count position m).named ∷ run count m (period count position m).next periods
 
 -- ceil(count / m).
-abbrev pub ceilDiv : ℕ → ℕ → ℕ
-ceilDiv count m = (count + (m - 1)) / m
+abbrev pub ceil_div : ℕ → ℕ → ℕ
+ceil_div count m = (count + (m - 1)) / m
 
 -- From every position, every server is named within ceil(count / m) periods: it is in one of the run's lists.
 abbrev pub EachWithin : Type 0
 EachWithin = (count m position server : ℕ) → 1 ≤ m → position < count → server < count
-    → Memᴰ server (flatten (run count m position (ceilDiv count m)))
+    → Memᴰ server (flatten (run count m position (ceil_div count m)))

@@ -1,10 +1,10 @@
 // Caps over a slow bus: which servers the messages of a period go to, and where the next period begins.
 ghost use Rattle.std.specs.Prelude.{◌≡◌, not, ◌≤◌, ◌<◌, min, length};
 ghost use Rattle.outcomes.specs.Outcome.{after};
-ghost use Rattle.sender.specs.Period.{following, serversFrom, positionAfter};
-ghost use Rattle.sender.specs.Outcome.{mostServers, in_range, sending, answer_of, sendRefusalNumber, sendRefusalPlace, sentNumber, sentFigure};
+ghost use Rattle.sender.specs.Period.{following, servers_from, position_after};
+ghost use Rattle.sender.specs.Outcome.{most_servers, in_range, sending, answer_of, send_refusal_number, send_refusal_place, sent_number, sent_figure};
 ghost use Rattle.calls.specs.Call.{answered};
-ghost use Rattle.sender.specs.Call.{sentNumbers, SendCall};
+ghost use Rattle.sender.specs.Call.{sent_numbers, SendCall};
 
 use calls::LONG_ANSWER_BYTES;
 
@@ -30,7 +30,7 @@ pub enum Sent {
 impl SendRefusal {
     // The refusal's number.
     pub fn number(self) -> u64
-        ensures result { result ≡ sendRefusalNumber self }
+        ensures result { result ≡ send_refusal_number self }
     {
         match self {
             SendRefusal::NoMessages => 27,
@@ -41,7 +41,7 @@ impl SendRefusal {
 
     // The refusal's place.
     pub fn place(self) -> u64
-        ensures result { result ≡ sendRefusalPlace self }
+        ensures result { result ≡ send_refusal_place self }
     {
         match self {
             SendRefusal::NoMessages => 0,
@@ -54,7 +54,7 @@ impl SendRefusal {
 impl Sent {
     // The refusal's number, or 0.
     pub fn number(self) -> u64
-        ensures result { result ≡ sentNumber self }
+        ensures result { result ≡ sent_number self }
     {
         match self {
             Sent::Accepted(_, _) => 0,
@@ -64,7 +64,7 @@ impl Sent {
 
     // How many servers were named, or the refusal's place.
     pub fn figure(self) -> u64
-        ensures result { result ≡ sentFigure self }
+        ensures result { result ≡ sent_figure self }
     {
         match self {
             Sent::Accepted(named, _) => named,
@@ -105,7 +105,7 @@ fn send_by(
     list: &mut [u8],
     answer: &mut [u8],
 ) -> u32
-    requires servers_long { mostServers ≤ length servers.old }
+    requires servers_long { most_servers ≤ length servers.old }
     ensures called { SendCall count position m list.old answer.old result list.new answer.new }
 {
     if answer.len() < LONG_ANSWER_BYTES {
@@ -125,7 +125,7 @@ fn send_by(
 // The answer, at the front of its buffer, which has space for it.
 fn tell(sent: Sent, answer: &mut [u8])
     requires long { 24 ≤ length answer.old }
-    ensures told { answer.new ≡ answered 3 (sentNumbers sent) answer.old }
+    ensures told { answer.new ≡ answered 3 (sent_numbers sent) answer.old }
 {
     match sent {
         Sent::Accepted(named, next) => {
@@ -166,7 +166,7 @@ fn out_of_range(count: u64, position: u64) -> bool
 fn position_after(count: u64, position: u64, named: u64) -> u64
     requires position_bounded { position < count }
     requires named_bounded { named ≤ count }
-    ensures result { result ≡ positionAfter count position named }
+    ensures result { result ≡ position_after count position named }
 {
     // So many servers are left up to the last; then the first follows.
     let left = count - position;
@@ -180,8 +180,8 @@ fn position_after(count: u64, position: u64, named: u64) -> u64
 // Fills the list with servers, from the position on.
 fn name_servers(count: u64, position: u64, list: &mut [u32])
     requires position_bounded { position < count }
-    requires count_bounded { count ≤ mostServers }
-    ensures list { list.new ≡ serversFrom count position (length list.old) }
+    requires count_bounded { count ≤ most_servers }
+    ensures list { list.new ≡ servers_from count position (length list.old) }
 {
     let mut server = position;
     for i in 0..list.len() {

@@ -10,42 +10,42 @@ use Rattle.words.specs.Bytes.{words_of, bytes_of}
 use Rattle.words.proofs.Bytes.{take-loaded}
 use Rattle.calls.specs.Call.{answered, OutcomeCall}
 use Rattle.calls.proofs.Calls.{answer-told, call-done}
-use Rattle.rooms.specs.Outcome.{SheetOutcome, answer_of, sheetNumber, sheetFigure, reading, readingFirst, writing}
+use Rattle.rooms.specs.Outcome.{SheetOutcome, answer_of, sheet_number, sheet_figure, reading, reading_first, writing}
 use Rattle.rooms.specs.declared.SheetAnswer.{SheetAnswer}
 use Rattle.rooms.specs.declared.SheetAnswer.TheVariants.{Accepted, Refused}
-use Rattle.rooms.specs.Table.{mostWords}
+use Rattle.rooms.specs.Table.{most_words}
 use Rattle.rooms.proofs.Outcomes.{refused-told}
 use Rattle.rooms.proofs.Lent.{reading-first, reading-fits, Stands, writing-cut}
-use Rattle.sheet_bytes.specs.Call.{numbersOf, ReadCall, WriteCall}
-use Rattle.sheet_bytes.specs.Counts.{writtenCount}
+use Rattle.sheet_bytes.specs.Call.{numbers_of, ReadCall, WriteCall}
+use Rattle.sheet_bytes.specs.Counts.{written_count}
 
 -- ---- Both calls
 
 -- An operation by way of lists of its own comes to the same outcome.
 pub outcome-done : (output : List ℕ → List ℕ) (buffer answer : List ℕ) {outcome own : SheetOutcome} {told : SheetAnswer} {buffer' answer' : List ℕ} {number figure : ℕ}
     → own ≡ outcome → 16 ≤ length answer → told ≡ answer_of own → buffer' ≡ after output own buffer
-    → number ≡ sheetNumber told → figure ≡ sheetFigure told → answer' ≡ answered 2 (number ∷ figure ∷ []) answer
-    → OutcomeCall 2 numbersOf output outcome buffer answer 1 buffer' answer'
+    → number ≡ sheet_number told → figure ≡ sheet_figure told → answer' ≡ answered 2 (number ∷ figure ∷ []) answer
+    → OutcomeCall 2 numbers_of output outcome buffer answer 1 buffer' answer'
 outcome-done output buffer answer {outcome = outcome} {told = told} same long is o n f a =
     let is' : told ≡ answer_of outcome = is ∙ ap answer_of same in
-    call-done (numbersOf outcome) answer _ (omega arith) (o ∙ ap (λ (x : SheetOutcome). after output x buffer) same)
-    (answer-told answer (n ∙ ap sheetNumber is') (f ∙ ap sheetFigure is') a)
+    call-done (numbers_of outcome) answer _ (omega arith) (o ∙ ap (λ (x : SheetOutcome). after output x buffer) same)
+    (answer-told answer (n ∙ ap sheet_number is') (f ∙ ap sheet_figure is') a)
 
 -- ---- Read
 
 -- Read by way of a list of words, which becomes `words'`: those that are accepted stand at its front.
-module _ (sheet words table : List ℕ) {words' : List ℕ} {told : SheetAnswer} {count : ℕ} (is : told ≡ answer_of (readingFirst (length words) sheet (length table / 4)))
-    (stands : (n : ℕ) → told ≡ Accepted n → Stands sheet (length table / 4) words words' n) (n : count ≡ writtenCount told) where
+module _ (sheet words table : List ℕ) {words' : List ℕ} {told : SheetAnswer} {count : ℕ} (is : told ≡ answer_of (reading_first (length words) sheet (length table / 4)))
+    (stands : (n : ℕ) → told ≡ Accepted n → Stands sheet (length table / 4) words words' n) (n : count ≡ written_count told) where
   pub read_fits : count ≤ length words'
   read_fits = go told refl
     where
       go : (t : SheetAnswer) → told ≡ t → count ≤ length words'
-      go (Accepted k) e = let c : count ≡ k = n ∙ ap writtenCount e in omega (arith, (stands k e).fits)
-      go (Refused q) e = let c : count ≡ 0 = n ∙ ap writtenCount e in omega arith
+      go (Accepted k) e = let c : count ≡ k = n ∙ ap written_count e in omega (arith, (stands k e).fits)
+      go (Refused q) e = let c : count ≡ 0 = n ∙ ap written_count e in omega arith
 
-  module _ (h : suc mostWords ≤ length words) where
+  module _ (h : suc most_words ≤ length words) where
     abbrev own : SheetOutcome
-    own = readingFirst (length words) sheet (length table / 4)
+    own = reading_first (length words) sheet (length table / 4)
 
     same-reading : own ≡ reading sheet (length table / 4)
     same-reading = reading-first sheet (length table / 4) (length words) h
@@ -57,26 +57,26 @@ module _ (sheet words table : List ℕ) {words' : List ℕ} {told : SheetAnswer}
       where
         go : (a : SheetAnswer) → told ≡ a → table' ≡ after bytes_of own table
         go (Accepted k) e =
-            let c : count ≡ k = n ∙ ap writtenCount e in
+            let c : count ≡ k = n ∙ ap written_count e in
             let all = take_all (length table / 4) (take k words') (reading-fits sheet (length table / 4) (sym same-reading ∙ (stands k e).is)) in
             t ∙ rw (c, (stands k e).is, all) refl
         go (Refused q) e =
-            let c : count ≡ 0 = n ∙ ap writtenCount e in
+            let c : count ≡ 0 = n ∙ ap written_count e in
             t ∙ rw (c, refused-told own is e, take-nil {A = ℕ} (length table / 4)) refl
 
     pub read_done : (answer : List ℕ) {table' answer' : List ℕ} {number figure : ℕ} → 16 ≤ length answer
         → table' ≡ sets table 0 (bytes_of (take (length table / 4) (take count words')))
-        → number ≡ sheetNumber told → figure ≡ sheetFigure told → answer' ≡ answered 2 (number ∷ figure ∷ []) answer → ReadCall sheet table answer 1 table' answer'
+        → number ≡ sheet_number told → figure ≡ sheet_figure told → answer' ≡ answered 2 (number ∷ figure ∷ []) answer → ReadCall sheet table answer 1 table' answer'
     read_done answer long t = outcome-done bytes_of table answer same-reading long is (read-stored t)
 
 -- ---- Write
 
 -- Write by way of a list of words, which `load` makes `words'`.
 module _ (table words : List ℕ) {count : ℕ} {words' : List ℕ} (n : count ≡ min (length table / 4) (length words)) (w : words' ≡ sets words 0 (words_of table)) where
-  same-writing : (entries : ℕ) → suc mostWords ≤ length words → writing (take count words') entries ≡ writing (words_of table) entries
+  same-writing : (entries : ℕ) → suc most_words ≤ length words → writing (take count words') entries ≡ writing (words_of table) entries
   same-writing entries h = rw (take-loaded (length words) count table words words' refl n w) (writing-cut (words_of table) entries (length words) h)
 
-  pub write_done : (sheet answer : List ℕ) {told : SheetAnswer} {sheet' answer' : List ℕ} {number figure : ℕ} → suc mostWords ≤ length words → 16 ≤ length answer
+  pub write_done : (sheet answer : List ℕ) {told : SheetAnswer} {sheet' answer' : List ℕ} {number figure : ℕ} → suc most_words ≤ length words → 16 ≤ length answer
       → told ≡ answer_of (writing (take count words') (length sheet)) → sheet' ≡ after (λ bytes. bytes) (writing (take count words') (length sheet)) sheet
-      → number ≡ sheetNumber told → figure ≡ sheetFigure told → answer' ≡ answered 2 (number ∷ figure ∷ []) answer → WriteCall table sheet answer 1 sheet' answer'
+      → number ≡ sheet_number told → figure ≡ sheet_figure told → answer' ≡ answered 2 (number ∷ figure ∷ []) answer → WriteCall table sheet answer 1 sheet' answer'
   write_done sheet answer h = outcome-done (λ bytes. bytes) sheet answer (same-writing (length sheet) h)

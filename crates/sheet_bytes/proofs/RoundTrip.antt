@@ -9,17 +9,17 @@ use lib.Dec.{leb}
 use lib.ListN.{length, take, drop, length-append}
 use lib.Seq.{sets, take_all, take_at, drop_at, take-append-le, drop-append-le}
 use Rattle.figures.specs.Bounds.{AllBelow}
-use Rattle.words.specs.Bytes.{littleEndian, word, words_of, bytes_of}
+use Rattle.words.specs.Bytes.{little_endian, word, words_of, bytes_of}
 use Rattle.figures.proofs.Stores.{sets-front}
-use Rattle.words.proofs.Bytes.{length-littleEndian}
-use Rattle.calls.specs.Call.{answerBytes, holdsAnswer, answered, OutcomeCall}
-use Rattle.calls.proofs.Calls.{answered-long, holdsAnswer-short, holdsAnswer-long}
+use Rattle.words.proofs.Bytes.{length-little_endian}
+use Rattle.calls.specs.Call.{answer_bytes, holds_answer, answered, OutcomeCall}
+use Rattle.calls.proofs.Calls.{answered-long, holds_answer-short, holds_answer-long}
 use Rattle.numbers.specs.declared.Fault.TheVariants.{TooLong, NotShortest, CutShort}
 use Rattle.rooms.specs.declared.SheetRefusal.{SheetRefusal}
 use Rattle.rooms.specs.declared.SheetRefusal.TheVariants.{BadNumber, WordMissing, WordOutOfRange, GreatestBelowLeast, SharesNotWhole, WordsLeftOver, LowsAboveLimit, OutputTooShort}
 use Rattle.outcomes.specs.Outcome.{accepted, refused}
-use Rattle.rooms.specs.Outcome.{SheetOutcome, sheetRefusalNumber}
-use Rattle.sheet_bytes.specs.Call.{numbersOf}
+use Rattle.rooms.specs.Outcome.{SheetOutcome, sheet_refusal_number}
+use Rattle.sheet_bytes.specs.Call.{numbers_of}
 use Rattle.sheet_bytes.specs.Promises.{number_of, Accepted}
 
 -- ---- Numbers as bytes
@@ -30,10 +30,10 @@ Carry zero v = v ≡ 0
 Carry (suc k) v = Carry k (v / 256)
 
 -- They give it back.
-numberOf-littleEndian : (k v : ℕ) → Carry k v → number_of (littleEndian k v) ≡ v
-unfolding Carry number_of littleEndian
-numberOf-littleEndian zero v h = sym h
-numberOf-littleEndian (suc k) v h = rw (numberOf-littleEndian k (v / 256) h) (omega arith)
+number_of-little_endian : (k v : ℕ) → Carry k v → number_of (little_endian k v) ≡ v
+unfolding Carry number_of little_endian
+number_of-little_endian zero v h = sym h
+number_of-little_endian (suc k) v h = rw (number_of-little_endian k (v / 256) h) (omega arith)
 
 -- Eight bytes carry any count of a room.
 eight-carry : (v : ℕ) → v < 2 ^ 32 → Carry 8 v
@@ -41,69 +41,69 @@ unfolding Carry
 eight-carry v h = omega arith
 
 -- One byte, and the bytes of what is above it.
-littleEndian-above : (k b v : ℕ) → b < 256 → littleEndian (suc k) (b + 256 * v) ≡ b ∷ littleEndian k v
-unfolding littleEndian
-littleEndian-above k b v h =
+little_endian-above : (k b v : ℕ) → b < 256 → little_endian (suc k) (b + 256 * v) ≡ b ∷ little_endian k v
+unfolding little_endian
+little_endian-above k b v h =
     let low : (b + 256 * v) % 256 ≡ b = omega arith in
     let above : (b + 256 * v) / 256 ≡ v = omega arith in
     rw (low, above)
 
 -- The four bytes of a word are those that it was made of.
-littleEndian-word : (a b c d : ℕ) → a < 256 → b < 256 → c < 256 → d < 256 → littleEndian 4 (word a b c d) ≡ a ∷ b ∷ c ∷ d ∷ []
-unfolding littleEndian
-littleEndian-word a b c d ha hb hc hd =
+little_endian-word : (a b c d : ℕ) → a < 256 → b < 256 → c < 256 → d < 256 → little_endian 4 (word a b c d) ≡ a ∷ b ∷ c ∷ d ∷ []
+unfolding little_endian
+little_endian-word a b c d ha hb hc hd =
     let e : word a b c d ≡ a + 256 * (b + 256 * (c + 256 * (d + 256 * 0))) = omega arith in
-    rw (e, littleEndian-above 3 a (b + 256 * (c + 256 * (d + 256 * 0))) ha, littleEndian-above 2 b (c + 256 * (d + 256 * 0)) hb, littleEndian-above 1 c (d + 256 * 0) hc)
-    (ap (λ (l : List ℕ). a ∷ b ∷ c ∷ l) (littleEndian-above 0 d 0 hd))
+    rw (e, little_endian-above 3 a (b + 256 * (c + 256 * (d + 256 * 0))) ha, little_endian-above 2 b (c + 256 * (d + 256 * 0)) hb, little_endian-above 1 c (d + 256 * 0) hc)
+    (ap (λ (l : List ℕ). a ∷ b ∷ c ∷ l) (little_endian-above 0 d 0 hd))
 
 -- The words of some bytes have all of the bytes but those over.
-pub bytesOf-wordsOf : (bytes : List ℕ) → AllBelow 256 bytes → bytes_of (words_of bytes) ≡ take (4 * (length bytes / 4)) bytes
+pub bytes_of-words_of : (bytes : List ℕ) → AllBelow 256 bytes → bytes_of (words_of bytes) ≡ take (4 * (length bytes / 4)) bytes
 unfolding bytes_of words_of
-bytesOf-wordsOf [] h = refl
-bytesOf-wordsOf (a ∷ []) h = refl
-bytesOf-wordsOf (a ∷ b ∷ []) h = refl
-bytesOf-wordsOf (a ∷ b ∷ c ∷ []) h = refl
-bytesOf-wordsOf (a ∷ b ∷ c ∷ d ∷ bytes) h =
+bytes_of-words_of [] h = refl
+bytes_of-words_of (a ∷ []) h = refl
+bytes_of-words_of (a ∷ b ∷ []) h = refl
+bytes_of-words_of (a ∷ b ∷ c ∷ []) h = refl
+bytes_of-words_of (a ∷ b ∷ c ∷ d ∷ bytes) h =
     let e : 4 * (length (a ∷ b ∷ c ∷ d ∷ bytes) / 4) ≡ suc (suc (suc (suc (4 * (length bytes / 4))))) = omega arith in
-    rw (e, littleEndian-word a b c d (h 0) (h 1) (h 2) (h 3), bytesOf-wordsOf bytes (λ i. h (suc (suc (suc (suc i))))))
+    rw (e, little_endian-word a b c d (h 0) (h 1) (h 2) (h 3), bytes_of-words_of bytes (λ i. h (suc (suc (suc (suc i))))))
 
 -- ---- What an answer tells
 
 module _ (number figure : ℕ) (answer : List ℕ) (h : 16 ≤ length answer) where
   both : List ℕ
-  both = littleEndian 8 number ++ littleEndian 8 figure
+  both = little_endian 8 number ++ little_endian 8 figure
 
   sixteen : length both ≡ 16
   unfolding both
-  sixteen = omega (arith, length-append (littleEndian 8 number) (littleEndian 8 figure), length-littleEndian 8 number, length-littleEndian 8 figure)
+  sixteen = omega (arith, length-append (little_endian 8 number) (little_endian 8 figure), length-little_endian 8 number, length-little_endian 8 figure)
 
   laid_out : answered 2 (number ∷ figure ∷ []) answer ≡ both ++ drop 16 answer
-  unfolding both answerBytes
+  unfolding both answer_bytes
   laid_out =
       answered-long 2 answer (number ∷ figure ∷ []) (omega arith)
-      ∙ ap (λ (l : List ℕ). sets answer 0 (littleEndian 8 number ++ l)) (append-nil (littleEndian 8 figure))
+      ∙ ap (λ (l : List ℕ). sets answer 0 (little_endian 8 number ++ l)) (append-nil (little_endian 8 figure))
       ∙ sets-front answer both ∙ rw (take_all (length answer) both (omega (arith, sixteen)), sixteen)
 
-  pub number-told : take 8 (answered 2 (number ∷ figure ∷ []) answer) ≡ littleEndian 8 number
+  pub number-told : take 8 (answered 2 (number ∷ figure ∷ []) answer) ≡ little_endian 8 number
   unfolding both
   number-told =
-      rw laid_out (take-append-le 8 both (drop 16 answer) (omega (arith, sixteen)) ∙ take_at (littleEndian 8 number) (littleEndian 8 figure) 8 (length-littleEndian 8 number))
+      rw laid_out (take-append-le 8 both (drop 16 answer) (omega (arith, sixteen)) ∙ take_at (little_endian 8 number) (little_endian 8 figure) 8 (length-little_endian 8 number))
 
-  pub figure-told : take 8 (drop 8 (answered 2 (number ∷ figure ∷ []) answer)) ≡ littleEndian 8 figure
+  pub figure-told : take 8 (drop 8 (answered 2 (number ∷ figure ∷ []) answer)) ≡ little_endian 8 figure
   unfolding both
   figure-told =
-      rw laid_out (rw (drop-append-le 8 both (drop 16 answer) (omega (arith, sixteen)), drop_at (littleEndian 8 number) (littleEndian 8 figure) 8 (length-littleEndian 8 number))
-      (take_at (littleEndian 8 figure) (drop 16 answer) 8 (length-littleEndian 8 figure)))
+      rw laid_out (rw (drop-append-le 8 both (drop 16 answer) (omega (arith, sixteen)), drop_at (little_endian 8 number) (little_endian 8 figure) 8 (length-little_endian 8 number))
+      (take_at (little_endian 8 figure) (drop 16 answer) 8 (length-little_endian 8 figure)))
 
   -- The numbers that a caller reads from there.
   pub number-of-told : number < 2 ^ 32 → number_of (take 8 (answered 2 (number ∷ figure ∷ []) answer)) ≡ number
-  number-of-told small = rw number-told (numberOf-littleEndian 8 number (eight-carry number small))
+  number-of-told small = rw number-told (number_of-little_endian 8 number (eight-carry number small))
 
   pub figure-of-told : figure < 2 ^ 32 → number_of (take 8 (drop 8 (answered 2 (number ∷ figure ∷ []) answer))) ≡ figure
-  figure-of-told small = rw figure-told (numberOf-littleEndian 8 figure (eight-carry figure small))
+  figure-of-told small = rw figure-told (number_of-little_endian 8 figure (eight-carry figure small))
 
 -- A refusal's number is none of an accepted call.
-refusal-number : (q : SheetRefusal) → (0 < sheetRefusalNumber q) × (sheetRefusalNumber q ≤ 12)
+refusal-number : (q : SheetRefusal) → (0 < sheet_refusal_number q) × (sheet_refusal_number q ≤ 12)
 refusal-number (BadNumber TooLong p) = omega arith
 refusal-number (BadNumber NotShortest p) = omega arith
 refusal-number (BadNumber CutShort p) = omega arith
@@ -118,12 +118,12 @@ refusal-number (OutputTooShort p) = omega arith
 -- ---- Calls that are accepted
 
 -- A call that returned 1 had space for its answer.
-returned-one : (answer : List ℕ) {r : ℕ} → r ≡ cond (holdsAnswer 2 answer) 1 0 → r ≡ 1 → 16 ≤ length answer
+returned-one : (answer : List ℕ) {r : ℕ} → r ≡ cond (holds_answer 2 answer) 1 0 → r ≡ 1 → 16 ≤ length answer
 returned-one answer c e = go (leb 16 (length answer)) refl
   where
     go : (t : Bool) → leb 16 (length answer) ≡ t → 16 ≤ length answer
     go true l = leb-true 16 (length answer) l
-    go false l = let z : ◌≡◌ {A = ℕ} 1 0 = sym e ∙ c ∙ rw (holdsAnswer-short 2 answer (omega (arith, leb-false 16 (length answer) l))) in absurd (omega arith)
+    go false l = let z : ◌≡◌ {A = ℕ} 1 0 = sym e ∙ c ∙ rw (holds_answer-short 2 answer (omega (arith, leb-false 16 (length answer) l))) in absurd (omega arith)
 
 -- What a call wrote, by its figure, and what it left of its output.
 pub record Wrote (output : List ℕ → List ℕ) (buffer buffer' : List ℕ) (outcome : SheetOutcome) (figure : ℕ) : Type 0 where
@@ -133,7 +133,7 @@ pub record Wrote (output : List ℕ → List ℕ) (buffer buffer' : List ℕ) (o
   pub left : buffer' ≡ sets buffer 0 (output written)
 
 module _ (output : List ℕ → List ℕ) (buffer answer : List ℕ) {r : ℕ} {buffer' answer' : List ℕ} where
-  pub wrote : (outcome : SheetOutcome) {figure : ℕ} → OutcomeCall 2 numbersOf output outcome buffer answer r buffer' answer' → Accepted r answer' figure
+  pub wrote : (outcome : SheetOutcome) {figure : ℕ} → OutcomeCall 2 numbers_of output outcome buffer answer r buffer' answer' → Accepted r answer' figure
       → Wrote output buffer buffer' outcome figure
   wrote (accepted written) call a =
       let long = returned-one answer call.returned a.returned in
@@ -141,27 +141,27 @@ module _ (output : List ℕ → List ℕ) (buffer answer : List ℕ) {r : ℕ} {
         written = written;
         is = refl;
         counted = λ h. sym a.figure-is ∙ ap (λ (l : List ℕ). number_of (take 8 (drop 8 l))) call.answer-after ∙ figure-of-told 0 (length written) answer long h;
-        left = call.buffers-after ∙ rw (holdsAnswer-long 2 answer (omega arith)) refl;
+        left = call.buffers-after ∙ rw (holds_answer-long 2 answer (omega arith)) refl;
       }
   wrote (refused q) call a =
       let long = returned-one answer call.returned a.returned in
       let n = refusal-number q in
-      let z : sheetRefusalNumber q ≡ 0 =
-      sym (number-of-told (sheetRefusalNumber q) _ answer long (omega arith)) ∙ ap (λ (l : List ℕ). number_of (take 8 l)) (sym call.answer-after) ∙ a.number in
+      let z : sheet_refusal_number q ≡ 0 =
+      sym (number-of-told (sheet_refusal_number q) _ answer long (omega arith)) ∙ ap (λ (l : List ℕ). number_of (take 8 l)) (sym call.answer-after) ∙ a.number in
       absurd (omega arith)
 
   -- And the other way round: of an outcome that is accepted, a call with space for its answer tells so.
   pub accepted-so : {outcome : SheetOutcome} (written : List ℕ) → outcome ≡ accepted written → length written < 2 ^ 32 → 16 ≤ length answer
-      → OutcomeCall 2 numbersOf output outcome buffer answer r buffer' answer'
+      → OutcomeCall 2 numbers_of output outcome buffer answer r buffer' answer'
       → Accepted r answer' (length written) × (buffer' ≡ sets buffer 0 (output written))
   accepted-so written e h long call = go (rw e at call)
     where
-      go : OutcomeCall 2 numbersOf output (accepted written) buffer answer r buffer' answer' → Accepted r answer' (length written) × (buffer' ≡ sets buffer 0 (output written))
+      go : OutcomeCall 2 numbers_of output (accepted written) buffer answer r buffer' answer' → Accepted r answer' (length written) × (buffer' ≡ sets buffer 0 (output written))
       go call = (
         record {
-          returned = call.returned ∙ rw (holdsAnswer-long 2 answer (omega arith)) refl;
+          returned = call.returned ∙ rw (holds_answer-long 2 answer (omega arith)) refl;
           number = rw call.answer-after (number-of-told 0 (length written) answer long (omega arith));
           figure-is = rw call.answer-after (figure-of-told 0 (length written) answer long h);
         },
-        call.buffers-after ∙ rw (holdsAnswer-long 2 answer (omega arith)) refl,
+        call.buffers-after ∙ rw (holds_answer-long 2 answer (omega arith)) refl,
       )

@@ -4,6 +4,6 @@ use Rattle.rooms.specs.declared.SheetAnswer.{SheetAnswer}
 use Rattle.rooms.specs.declared.SheetAnswer.TheVariants.{Accepted, Refused}
 
 -- How many entries an answer says were written: none where refused.
-abbrev pub writtenCount : SheetAnswer → ℕ
-writtenCount (Accepted count) = count
-writtenCount (Refused refusal) = 0
+abbrev pub written_count : SheetAnswer → ℕ
+written_count (Accepted count) = count
+written_count (Refused refusal) = 0

@@ -1,8 +1,8 @@
 // Read and Write called from C: bytes to words, the operation, words and the answer to bytes.
 ghost use Rattle.std.specs.Prelude.{◌≡◌, suc, ◌≤◌, length};
-ghost use Rattle.rooms.specs.Table.{mostWords};
+ghost use Rattle.rooms.specs.Table.{most_words};
 ghost use Rattle.sheet_bytes.specs.Call.{ReadCall, WriteCall};
-ghost use Rattle.sheet_bytes.specs.Counts.{writtenCount};
+ghost use Rattle.sheet_bytes.specs.Counts.{written_count};
 
 use calls::ANSWER_BYTES;
 use rooms::{DECIDING_WORDS, SheetAnswer};
@@ -26,7 +26,7 @@ pub fn write_bytes(table: &[u8], sheet: &mut [u8], answer: &mut [u8]) -> u32
 
 // Read by way of a list of words, of which those of an accepted table are stored.
 fn read_by(sheet: &[u8], words: &mut [u32], table: &mut [u8], answer: &mut [u8]) -> u32
-    requires deciding { suc mostWords ≤ length words.old }
+    requires deciding { suc most_words ≤ length words.old }
     ensures called { ReadCall sheet.now table.old answer.old result table.new answer.new }
 {
     if answer.len() < ANSWER_BYTES {
@@ -41,7 +41,7 @@ fn read_by(sheet: &[u8], words: &mut [u32], table: &mut [u8], answer: &mut [u8])
 
 // Write by way of a list of words, which takes the first of the table.
 fn write_by(table: &[u8], words: &mut [u32], sheet: &mut [u8], answer: &mut [u8]) -> u32
-    requires deciding { suc mostWords ≤ length words.old }
+    requires deciding { suc most_words ≤ length words.old }
     ensures called { WriteCall table.now sheet.old answer.old result sheet.new answer.new }
 {
     if answer.len() < ANSWER_BYTES {
@@ -55,7 +55,7 @@ fn write_by(table: &[u8], words: &mut [u32], sheet: &mut [u8], answer: &mut [u8]
 
 // How many entries an answer says were written: none where refused.
 fn written_count(told: SheetAnswer) -> usize
-    ensures counted { result ≡ writtenCount told }
+    ensures counted { result ≡ written_count told }
 {
     match told {
         SheetAnswer::Accepted(count) => count,

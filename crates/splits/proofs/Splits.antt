@@ -9,7 +9,7 @@ use native.Mathlib.Omega.{arith}
 use Rattle.figures.specs.Figures.{total, at, sum_of}
 use Rattle.figures.specs.Sums.{on, sum}
 use Rattle.figures.proofs.Sums.{sum-cong}
-use Rattle.splits.specs.Split.{part, partsAfter, split}
+use Rattle.splits.specs.Split.{part, parts_after, split}
 
 pub div_mono : (a b e : ℕ) → a ≤ b → a / e ≤ b / e
 div_mono a b e h = go (eq-zero-or-pos e)
@@ -99,13 +99,13 @@ quotient_by x u e h = go (eq-zero-or-pos e)
 
 -- ---- The split over any list of weights
 
-partsAfter-sum : (x e c : ℕ) (weights : List ℕ) → x * c / e + sum_of (partsAfter x e c weights) ≡ x * (c + sum_of weights) / e
-unfolding partsAfter total part
-partsAfter-sum x e c [] = omega (arith, ap (λ (y : ℕ). x * y / e) (add-zero c))
-partsAfter-sum x e c (w ∷ rest) =
+parts_after-sum : (x e c : ℕ) (weights : List ℕ) → x * c / e + sum_of (parts_after x e c weights) ≡ x * (c + sum_of weights) / e
+unfolding parts_after total part
+parts_after-sum x e c [] = omega (arith, ap (λ (y : ℕ). x * y / e) (add-zero c))
+parts_after-sum x e c (w ∷ rest) =
     omega (
       arith,
-      partsAfter-sum x e (c + w) rest,
+      parts_after-sum x e (c + w) rest,
       div_mono (x * c) (x * (c + w)) e (omega arith),
       ap (λ (y : ℕ). x * y / e) (add_assoc c w (sum_of rest)),
     )
@@ -116,20 +116,20 @@ unfolding split
 split-sum amount weights h =
     omega (
       arith,
-      partsAfter-sum amount (sum_of weights) 0 weights,
+      parts_after-sum amount (sum_of weights) 0 weights,
       ap (λ (z : ℕ). z / sum_of weights) (mul-zero amount),
       zero-div (sum_of weights),
       ap (λ (z : ℕ). amount * z / sum_of weights) (zero-add (sum_of weights)),
       mul-div_cancel amount h,
     )
 
-partsAfter-le : (x e c : ℕ) (weights : List ℕ) → x ≤ e → (k : ℕ) → at (partsAfter x e c weights) k ≤ at weights k
-unfolding partsAfter
-partsAfter-le x e c [] h k = omega arith
-partsAfter-le x e c (w ∷ rest) h zero = part-le x e c w h
-partsAfter-le x e c (w ∷ rest) h (suc k) = partsAfter-le x e (c + w) rest h k
+parts_after-le : (x e c : ℕ) (weights : List ℕ) → x ≤ e → (k : ℕ) → at (parts_after x e c weights) k ≤ at weights k
+unfolding parts_after
+parts_after-le x e c [] h k = omega arith
+parts_after-le x e c (w ∷ rest) h zero = part-le x e c w h
+parts_after-le x e c (w ∷ rest) h (suc k) = parts_after-le x e (c + w) rest h k
 
 -- No child gets more than its weight where the amount is at most their sum.
 pub split-le : (amount : ℕ) (weights : List ℕ) → amount ≤ sum_of weights → (k : ℕ) → at (split amount weights) k ≤ at weights k
 unfolding split
-split-le amount weights h k = partsAfter-le amount (sum_of weights) 0 weights h k
+split-le amount weights h k = parts_after-le amount (sum_of weights) 0 weights h k

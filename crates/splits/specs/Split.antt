@@ -8,12 +8,12 @@ unfoldable pub part : ℕ → ℕ → ℕ → ℕ → ℕ
 part amount whole before weight = amount * (before + weight) / whole - amount * before / whole
 
 -- The parts of children by their weights, where those before them sum to `before`.
-unfoldable pub partsAfter : ℕ → ℕ → ℕ → List ℕ → List ℕ
+unfoldable pub parts_after : ℕ → ℕ → ℕ → List ℕ → List ℕ
 unfolding part
-partsAfter amount whole before [] = []
-partsAfter amount whole before (weight ∷ rest) = part amount whole before weight ∷ partsAfter amount whole (before + weight) rest
+parts_after amount whole before [] = []
+parts_after amount whole before (weight ∷ rest) = part amount whole before weight ∷ parts_after amount whole (before + weight) rest
 
 -- The split of an amount among children of given weights.
 unfoldable pub split : ℕ → List ℕ → List ℕ
-unfolding partsAfter total
-split amount weights = partsAfter amount (sum_of weights) 0 weights
+unfolding parts_after total
+split amount weights = parts_after amount (sum_of weights) 0 weights

@@ -2,7 +2,7 @@
 // bits where the amount and the total weight are small, and of 64 else. Where no child has weight, none gets anything. Private to
 // Plan: no operation stands here.
 ghost use Rattle.std.specs.Prelude.{◌≡◌, ◌&&◌, ◌*◌, ◌/◌, ◌^◌, ◌≤◌, ◌<◌, max, eqb};
-ghost use Rattle.splits.specs.Ways.{quotientIn};
+ghost use Rattle.splits.specs.Ways.{quotient_in};
 ghost use Rattle.splits.specs.Serving.{MayServe, HasServed};
 
 use figures::{narrow, wide};
@@ -26,7 +26,7 @@ fn short_greater(a: u32, b: u32) -> u32
 // is 0, so is the running sum: 0 is divided by 1.
 fn short_quotient(amount: u32, upto: u32, whole: u32) -> u32
     requires short { (amount < 65536) × (whole < 65536) × (upto ≤ whole) }
-    ensures result { result ≡ quotientIn 32 amount upto whole }
+    ensures result { result ≡ quotient_in 32 amount upto whole }
 {
     amount * upto / short_greater(whole, 1)
 }
@@ -34,7 +34,7 @@ fn short_quotient(amount: u32, upto: u32, whole: u32) -> u32
 // The long way: the same wherever the product fits in 64 bits.
 fn long_quotient(amount: u32, upto: u64, whole: u64) -> u32
     requires in_range { (upto ≤ whole) × (amount * whole < 2 ^ 64) }
-    ensures result { result ≡ quotientIn 64 amount upto whole }
+    ensures result { result ≡ quotient_in 64 amount upto whole }
 {
     narrow(wide(amount) * upto / greater(whole, 1))
 }

@@ -1,7 +1,7 @@
 -- The definitions computed at written-out bytes.
 use mathlib.Core.Path.{◌≡◌, refl}
 use mathlib.Core.List.{[], ◌∷◌}
-use Rattle.words.specs.Bytes.{littleEndian, word, words_of, bytes_of}
+use Rattle.words.specs.Bytes.{little_endian, word, words_of, bytes_of}
 
 -- The low byte comes first.
 pub low-byte-first : word 0x78 0x56 0x34 0x12 ≡ 0x12345678
@@ -14,5 +14,5 @@ seven-bytes = refl
 
 -- Two words are eight bytes.
 pub two-words : bytes_of (0x12345678 ∷ 21 ∷ []) ≡ 0x78 ∷ 0x56 ∷ 0x34 ∷ 0x12 ∷ 21 ∷ 0 ∷ 0 ∷ 0 ∷ []
-unfolding bytes_of littleEndian
+unfolding bytes_of little_endian
 two-words = refl

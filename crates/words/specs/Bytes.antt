@@ -6,9 +6,9 @@ use Rattle.std.specs.Prelude.{cond, List, [], ◌∷◌, ◌++◌, ℕ, zero, su
 use Rattle.std.proofs.lemmas.List.Edits.{sets}
 
 -- The low k bytes of a number, low byte first.
-unfoldable pub littleEndian : ℕ → ℕ → List ℕ
-littleEndian zero v = []
-littleEndian (suc k) v = v % 256 ∷ littleEndian k (v / 256)
+unfoldable pub little_endian : ℕ → ℕ → List ℕ
+little_endian zero v = []
+little_endian (suc k) v = v % 256 ∷ little_endian k (v / 256)
 
 -- The word of four bytes, low byte first.
 abbrev pub word : ℕ → ℕ → ℕ → ℕ → ℕ
@@ -29,8 +29,8 @@ words_of (a ∷ b ∷ c ∷ d ∷ bytes) = word a b c d ∷ words_of bytes
 -- The bytes of some words, four bytes a word.
 unfoldable pub bytes_of : List ℕ → List ℕ
 bytes_of [] = []
-bytes_of (w ∷ words) = littleEndian 4 w ++ bytes_of words
+bytes_of (w ∷ words) = little_endian 4 w ++ bytes_of words
 
 -- Some bytes after a number is stored in eight of them, from a place on; or as they were where they do not reach so far.
-unfoldable pub numberStored : ℕ → List ℕ → ℕ → List ℕ
-numberStored number bytes at = cond (leb (at + 8) (length bytes)) (sets bytes at (littleEndian 8 number)) bytes
+unfoldable pub number_stored : ℕ → List ℕ → ℕ → List ℕ
+number_stored number bytes at = cond (leb (at + 8) (length bytes)) (sets bytes at (little_endian 8 number)) bytes

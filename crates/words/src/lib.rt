@@ -3,7 +3,7 @@
 
 ghost use Rattle.std.specs.Prelude.{◌≡◌, ◌+◌, ◌/◌, ◌≤◌, ◌<◌, min, length, take};
 ghost use Rattle.std.proofs.lemmas.List.Edits.{sets};
-ghost use Rattle.words.specs.Bytes.{littleEndian, word_at, words_of, bytes_of, numberStored};
+ghost use Rattle.words.specs.Bytes.{little_endian, word_at, words_of, bytes_of, number_stored};
 
 use figures::counts::least;
 
@@ -33,7 +33,7 @@ pub fn store(list: &[u32], bytes: &mut [u8])
 
 // A number in eight bytes, low byte first, from `at` on; the rest is untouched. Bytes that do not reach so far are left alone.
 pub fn store_number(number: u64, bytes: &mut [u8], at: usize)
-    ensures stored { bytes.new ≡ numberStored number bytes.old at }
+    ensures stored { bytes.new ≡ number_stored number bytes.old at }
 {
     if bytes.len() < 8 {
         return;
@@ -58,7 +58,7 @@ fn word_at(bytes: &[u8], at: usize) -> u32
 // The low `count` bytes of the number, low byte first, from `at` on.
 fn put(number: u64, count: usize, bytes: &mut [u8], at: usize)
     requires there { at + count ≤ length bytes.old }
-    ensures stored { bytes.new ≡ sets bytes.old at (littleEndian count number) }
+    ensures stored { bytes.new ≡ sets bytes.old at (little_endian count number) }
 {
     let mut rest = number;
     for i in 0..count {

@@ -2,7 +2,7 @@
 use borrow.Author.Rules.{rules}
 use mathlib.Core.Path.{◌≡◌, refl, ap}
 use lib.ListN.{length}
-use Rattle.demands.specs.Reading.{heldReading, with, emptyLine}
+use Rattle.demands.specs.Reading.{held_reading, with, empty_line}
 use Rattle.demands.specs.declared.DemandReading.{DemandReading}
 use Rattle.hutplan.specs.Input.{FedPiece}
 use Rattle.hutplan.proofs.Inputs.{fed-none, fed-more, read-text}
@@ -11,13 +11,13 @@ use Rattle.hutplan.proofs.read_demands.Tie as tie
 
 abbrev invariant-loop : tie.invariant-loop
 invariant-loop list₀ reading₀ turns₀ list reading turns =
-    FedPiece (heldReading (with 0 emptyLine) list₀) (heldReading reading list) × (length list ≡ length list₀)
+    FedPiece (held_reading (with 0 empty_line) list₀) (held_reading reading list) × (length list ≡ length list₀)
 
 abbrev decreases-loop : tie.decreases-loop
 decreases-loop list₀ reading₀ turns₀ list reading turns = turns
 
 loop-holds : tie.Need-loop-init invariant-loop decreases-loop
-loop-holds c = (fed-none (ap (λ (r : DemandReading). heldReading r c.before.before.args.list.now) c.start.ensures), refl)
+loop-holds c = (fed-none (ap (λ (r : DemandReading). held_reading r c.before.before.args.list.now) c.start.ensures), refl)
 
 loop-again : tie.Need-loop-preserved invariant-loop decreases-loop
 loop-again c =

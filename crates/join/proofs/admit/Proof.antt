@@ -3,7 +3,7 @@ use mathlib.Core.Path.{◌≡◌, sym, ap, ◌∙◌}
 use native.Mathlib.Omega.{arith}
 use Rattle.join.specs.Outcome.{answer_of}
 use Rattle.join.specs.declared.JoinAnswer.TheVariants.{Accepted}
-use Rattle.join.proofs.HutLaws.{versions-differ, too-many-nodes, too-many-servers, too-many-cords, table-long, too_short, fits}
+use Rattle.join.proofs.HutLaws.{versions-differ, too-many-nodes, too-many-servers, too-many-cords, table-long, list_short, fits}
 use borrow.Author.Rules.{rules}
 use Rattle.join.proofs.admit.Statement.{statement}
 use Rattle.join.proofs.admit.Tie as tie
@@ -48,7 +48,7 @@ returns-5 c =
     let servers = cords.before in
     let nodes = servers.before in
     let version = nodes.before in
-    λ f s a b. sym (ap answer_of (too_short f s _ a b (omega (arith, version.if1.false)) (omega (arith, nodes.if2.false)) (omega (arith, servers.if3.false)) (omega (arith, cords.if4.false)) (omega (arith, c.if5.true))))
+    λ f s a b. sym (ap answer_of (list_short f s _ a b (omega (arith, version.if1.false)) (omega (arith, nodes.if2.false)) (omega (arith, servers.if3.false)) (omega (arith, cords.if4.false)) (omega (arith, c.if5.true))))
 
 returns-6 : tie.Need-returns-6
 returns-6 c =

@@ -1,7 +1,7 @@
 -- `join_words` meets its contract: one law for each of its answers.
 use Prim.Native.Nat.{suc, ◌≤◌}
 use lib.ListN.{length}
-use Rattle.rooms.specs.Table.{mostWords}
+use Rattle.rooms.specs.Table.{most_words}
 use Rattle.join.proofs.HutLaws.{checked-good, checked-bad, good-hut, hut-small, first-bad, second-bad}
 use Rattle.join.proofs.Together.{done_refused, done-told, tabled, may-together, done-accepted}
 use borrow.Author.Rules.{rules}
@@ -29,7 +29,7 @@ returns-3 : tie.Need-returns-3
 returns-3 c = done-told _ _ (c.before.before.admit.ensures _ _ c.before.before.before.before.hut-in.ensures c.before.before.before.hut-in2.ensures) c.enum-told4.given.1
 
 -- The list is as long as it came.
-long : (c : tie.After-check-bytes2) → suc mostWords ≤ length c.check-bytes2.new.1.0
+long : (c : tie.After-check-bytes2) → suc most_words ≤ length c.check-bytes2.new.1.0
 long c = search rules
 
 put-together-requires : tie.Need-put-together-requires

@@ -2,7 +2,7 @@
 use mathlib.Core.Path.{◌∙◌}
 use native.Mathlib.Omega.{arith}
 use Rattle.words.specs.Bytes.{words_of}
-use Rattle.words.proofs.Bytes.{length-wordsOf}
+use Rattle.words.proofs.Bytes.{length-words_of}
 use Rattle.rooms.proofs.Counts.{index-told}
 use Rattle.join.proofs.HutLaws.{counts-in, middle-there}
 use borrow.Author.Rules.{rules}
@@ -25,7 +25,7 @@ returns c =
     let bytes = start.args.bytes.now in
     let is = index-told (words_of bytes) c.before.before.before.before.word_in.ensures c.before.before.before.has-percents.ensures
     (c.before.word-index.ensures.0 ∙ c.before.before.word-in2.ensures) c.before.word-index.ensures.1 c.node-index.ensures in
-    (is.0, omega (arith, is.0, length-wordsOf bytes, middle-there (words_of bytes) start.requires))
+    (is.0, omega (arith, is.0, length-words_of bytes, middle-there (words_of bytes) start.requires))
 
 pub middle-in-spec : {M : Type 1} → statement M
 middle-in-spec = tie.close (tie.spec

@@ -6,13 +6,13 @@ use native.Mathlib.Omega.{arith}
 use lib.ListN.{length, take, replicate}
 use lib.Seq.{get_or-take}
 use Rattle.rooms.specs.Part.{good}
-use Rattle.rooms.specs.Table.{Room, mostNodes}
+use Rattle.rooms.specs.Table.{Room, most_nodes}
 use Rattle.rooms.specs.Limits.{checked}
-use Rattle.rooms.specs.Lists.{nodesOf, levelsOf, lowsOf}
+use Rattle.rooms.specs.Lists.{nodes_of, levels_of, lows_of}
 use Rattle.rooms.proofs.Accepted.{accepted}
 use Rattle.figures.proofs.Cells.{zeros-front}
 use Rattle.figures.proofs.Fronts.{equal-length, front_length, Lent, lent-zeros, rejoined, lent_again, lent-few, lent-front}
-use Rattle.deals.specs.Wants.{firstWants}
+use Rattle.deals.specs.Wants.{first_wants}
 use Rattle.judge_totals.specs.Totals.{Compared}
 use Rattle.judge_totals.proofs.Noting.{given-few, compared}
 use Rattle.judge.specs.Lists.{NodesGiven, CordsPass}
@@ -43,10 +43,10 @@ within z = z.before.before.before
 abbrev given-a : (a : tie.After-load-nodes-arg) → NodesGiven (start-a a).args.table.now (start-a a).args.nodes (start-a a).args.beneath.now
 given-a a = (start-a a).requires.0
 
-nodes-fit : (a : tie.After-load-nodes-arg) → (start-a a).args.nodes ≤ mostNodes
+nodes-fit : (a : tie.After-load-nodes-arg) → (start-a a).args.nodes ≤ most_nodes
 nodes-fit a =
     let g = (given-a a).good-table in
-    omega (arith, (given-a a).nodes-fit g.value g.next g.is, (accepted (start-a a).args.table.now g.value g.next g.is).fewNodes)
+    omega (arith, (given-a a).nodes-fit g.value g.next g.is, (accepted (start-a a).args.table.now g.value g.next g.is).few_nodes)
 
 beneath-long : (a : tie.After-load-nodes-arg) → (start-a a).args.nodes ≤ length (start-a a).args.beneath.now
 beneath-long a = omega (arith, nodes-fit a, (given-a a).beneath-long)
@@ -54,17 +54,17 @@ beneath-long a = omega (arith, nodes-fit a, (given-a a).beneath-long)
 abbrev start-x : tie.After-load-nodes → tie.Start
 start-x x = start-a (asked x)
 
-parents-lent : (x : tie.After-load-nodes) → Lent (start-x x).args.nodes (replicate mostNodes 0) x.load-nodes.new.1.1.0
-parents-lent x = lent-zeros mostNodes (nodes-fit (asked x)) x.load-nodes.auto.1.1.0
+parents-lent : (x : tie.After-load-nodes) → Lent (start-x x).args.nodes (replicate most_nodes 0) x.load-nodes.new.1.1.0
+parents-lent x = lent-zeros most_nodes (nodes-fit (asked x)) x.load-nodes.auto.1.1.0
 
-spare-lent : (x : tie.After-load-nodes) → Lent (start-x x).args.nodes (replicate mostNodes 0) x.load-nodes.new.1.1.1.0
-spare-lent x = lent-zeros mostNodes (nodes-fit (asked x)) x.load-nodes.auto.1.1.1.0
+spare-lent : (x : tie.After-load-nodes) → Lent (start-x x).args.nodes (replicate most_nodes 0) x.load-nodes.new.1.1.1.0
+spare-lent x = lent-zeros most_nodes (nodes-fit (asked x)) x.load-nodes.auto.1.1.1.0
 
 abbrev parents-at : tie.After-load-nodes → List ℕ
-parents-at x = take (start-x x).args.nodes (rejoined (start-x x).args.nodes (replicate mostNodes 0) x.load-nodes.new.1.1.0)
+parents-at x = take (start-x x).args.nodes (rejoined (start-x x).args.nodes (replicate most_nodes 0) x.load-nodes.new.1.1.0)
 
 abbrev spare-at : tie.After-load-nodes → List ℕ
-spare-at x = take (start-x x).args.nodes (rejoined (start-x x).args.nodes (replicate mostNodes 0) x.load-nodes.new.1.1.1.0)
+spare-at x = take (start-x x).args.nodes (rejoined (start-x x).args.nodes (replicate most_nodes 0) x.load-nodes.new.1.1.1.0)
 
 -- The room's nodes, as they are lent to be noted.
 nodes-at : (x : tie.After-load-nodes) (r : Room) (end : ℕ) → checked (start-x x).args.table.now 0 ≡ good r end → RoomNodes r (parents-at x) (spare-at x)
@@ -73,7 +73,7 @@ nodes-at x r end is =
     rw (lent_again (parents-lent x), lent_again (spare-lent x))
     (record { parents-are = of-nodes.0; spare-size = (spare-lent x).size ∙ sym (parents-lent x).size; spare-is = of-nodes.1 })
 
-nodes-few : (x : tie.After-load-nodes) → length (parents-at x) ≤ mostNodes
+nodes-few : (x : tie.After-load-nodes) → length (parents-at x) ≤ most_nodes
 nodes-few x =
     let g = (given-a (asked x)).good-table in
     (node_lists g.value (accepted _ g.value g.next g.is) (nodes-at x g.value g.next g.is)).few
@@ -85,7 +85,7 @@ Passes x r demands grants =
     CordsPass r demands grants (length (start-x x).args.given.now) (start-x x).args.given.now (start-x x).args.raised.now (start-x x).args.wanting.now
 
 compared_at : (y : tie.After-note-nodes) (r : Room) (end : ℕ) → checked (start-x (loaded y)).args.table.now 0 ≡ good r end → {demands grants : List ℕ} → Passes (loaded y) r demands grants
-    → Compared (parents-at (loaded y)) (spare-at (loaded y)) (nodesOf r) (levelsOf r) (lowsOf r) (firstWants r demands) grants y.note-nodes.result y.note-nodes.new.1.1.1.1.0
+    → Compared (parents-at (loaded y)) (spare-at (loaded y)) (nodes_of r) (levels_of r) (lows_of r) (first_wants r demands) grants y.note-nodes.result y.note-nodes.new.1.1.1.1.0
 compared_at y r end is pass =
     let x = loaded y in
     let args = (start-x x).args in
@@ -107,16 +107,16 @@ slice-aggregate-load-nodes : tie.Need-slice-aggregate-load-nodes
 slice-aggregate-load-nodes c = front_length _ _ (beneath-long c)
 
 array-borrow-prefix-parents : tie.Need-array-borrow-prefix-parents
-array-borrow-prefix-parents c = omega (arith, nodes-fit c, equal-length {A = ℕ} mostNodes 0)
+array-borrow-prefix-parents c = omega (arith, nodes-fit c, equal-length {A = ℕ} most_nodes 0)
 
 slice-aggregate-load-nodes-2 : tie.Need-slice-aggregate-load-nodes-2
-slice-aggregate-load-nodes-2 c = sym (zeros-front mostNodes _ (nodes-fit c.before))
+slice-aggregate-load-nodes-2 c = sym (zeros-front most_nodes _ (nodes-fit c.before))
 
 array-borrow-prefix-spare : tie.Need-array-borrow-prefix-spare
-array-borrow-prefix-spare c = omega (arith, nodes-fit c.before, equal-length {A = ℕ} mostNodes 0)
+array-borrow-prefix-spare c = omega (arith, nodes-fit c.before, equal-length {A = ℕ} most_nodes 0)
 
 slice-aggregate-load-nodes-3 : tie.Need-slice-aggregate-load-nodes-3
-slice-aggregate-load-nodes-3 c = sym (zeros-front mostNodes _ (nodes-fit c.before.before))
+slice-aggregate-load-nodes-3 c = sym (zeros-front most_nodes _ (nodes-fit c.before.before))
 
 load-nodes-requires : tie.Need-load-nodes-requires
 load-nodes-requires c κs =
@@ -127,8 +127,8 @@ load-nodes-requires c κs =
       (given-a a).good-table,
       (
         λ r end is. sym (front_length _ _ (beneath-long a)) ∙ fit r end is,
-        λ r end is. zeros-front mostNodes _ few ∙ fit r end is,
-        λ r end is. zeros-front mostNodes _ few ∙ fit r end is,
+        λ r end is. zeros-front most_nodes _ few ∙ fit r end is,
+        λ r end is. zeros-front most_nodes _ few ∙ fit r end is,
         λ r end is i l. get_or-take args.nodes args.beneath.now i 0 (omega (arith, fit r end is)) ∙ (given-a a).beneath-is r end is i l,
       ),
     )

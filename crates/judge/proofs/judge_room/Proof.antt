@@ -5,7 +5,7 @@ use native.Mathlib.Nat.{le_of_eq}
 use native.Mathlib.Omega.{arith}
 use lib.ListN.{length, replicate, length-replicate}
 use Rattle.rooms.specs.Part.{good}
-use Rattle.rooms.specs.Table.{Room, mostNodes, highestRank}
+use Rattle.rooms.specs.Table.{Room, most_nodes, highest_rank}
 use Rattle.rooms.specs.Limits.{checked}
 use Rattle.figures.proofs.Filled.{zeros-at}
 use Rattle.judge_totals.proofs.Noting.{unnoted}
@@ -31,14 +31,14 @@ passed e = noted e.before
 
 -- ---- The lists keep their lengths
 
-given-size : (n : tie.After-note-cords) → length n.note-cords.new.1.1.1.1.0 ≡ mostNodes
-given-size n = n.note-cords.auto.1.1.1.1.0 ∙ length-replicate {A = ℕ} mostNodes 0
+given-size : (n : tie.After-note-cords) → length n.note-cords.new.1.1.1.1.0 ≡ most_nodes
+given-size n = n.note-cords.auto.1.1.1.1.0 ∙ length-replicate {A = ℕ} most_nodes 0
 
-raised-size : (n : tie.After-note-cords) → length n.note-cords.new.1.1.1.1.1.0 ≡ mostNodes
-raised-size n = n.note-cords.auto.1.1.1.1.1.0 ∙ length-replicate {A = ℕ} mostNodes highestRank
+raised-size : (n : tie.After-note-cords) → length n.note-cords.new.1.1.1.1.1.0 ≡ most_nodes
+raised-size n = n.note-cords.auto.1.1.1.1.1.0 ∙ length-replicate {A = ℕ} most_nodes highest_rank
 
-wanting-size : (n : tie.After-note-cords) → length n.note-cords.new.1.1.1.1.1.1.0 ≡ mostNodes
-wanting-size n = n.note-cords.auto.1.1.1.1.1.1.0 ∙ length-replicate {A = ℕ} mostNodes 0
+wanting-size : (n : tie.After-note-cords) → length n.note-cords.new.1.1.1.1.1.1.0 ≡ most_nodes
+wanting-size n = n.note-cords.auto.1.1.1.1.1.1.0 ∙ length-replicate {A = ℕ} most_nodes 0
 
 -- The cords pass.
 passes : (e : tie.Else2) (r : Room) (end : ℕ) → checked (start (passed e)).args.table.now 0 ≡ good r end
@@ -64,7 +64,7 @@ note-cords-requires c κs =
       (s.pre.0.0.good-table, s.pre.0.1),
       (
         (s.pre.1.0, s.pre.1.1),
-        ((le_of_eq refl, le_of_eq refl, le_of_eq refl), (zeros-at mostNodes, unnoted mostNodes (replicate mostNodes 0) (zeros-at mostNodes) mostNodes (le_of_eq refl))),
+        ((le_of_eq refl, le_of_eq refl, le_of_eq refl), (zeros-at most_nodes, unnoted most_nodes (replicate most_nodes 0) (zeros-at most_nodes) most_nodes (le_of_eq refl))),
       ),
     )
 

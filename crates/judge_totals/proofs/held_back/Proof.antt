@@ -1,4 +1,4 @@
--- `held_back` meets its contract: its branches are the tests of `heldBack`.
+-- `held_back` meets its contract: its branches are the tests of `held_back`.
 use borrow.Author.Tests.{lt-ltb, le-ltb}
 use Rattle.judge_totals.proofs.held_back.Statement.{statement}
 use Rattle.judge_totals.proofs.held_back.Tie as tie

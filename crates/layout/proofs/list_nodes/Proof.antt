@@ -7,13 +7,13 @@ use lib.Seq.{ext_get_or}
 use Rattle.figures.specs.Figures.{cell, column}
 use Rattle.figures.proofs.Columns.{column-length, column-at}
 use Rattle.figures.proofs.Filled.{Filled, filled_none, filled-one}
-use Rattle.rooms.specs.Rows.{nodeColumn}
+use Rattle.rooms.specs.Rows.{node_column}
 use borrow.Author.Rules.{rules}
 use Rattle.layout.proofs.list_nodes.Statement.{statement}
 use Rattle.layout.proofs.list_nodes.Tie as tie
 
 abbrev invariant-loop : tie.invariant-loop
-invariant-loop cords nodes₀ c₀ c-end nodes c = (c ≤ length cords) × Filled (λ h. cell cords h nodeColumn) (length cords) c nodes
+invariant-loop cords nodes₀ c₀ c-end nodes c = (c ≤ length cords) × Filled (λ h. cell cords h node_column) (length cords) c nodes
 
 abbrev decreases-loop : tie.decreases-loop
 decreases-loop cords nodes₀ c₀ c-end nodes c = c-end - c
@@ -42,8 +42,8 @@ returns : tie.Need-returns invariant-loop decreases-loop
 returns c =
     let done = c.before.loop.invariant.1 in
     let cords = c.before.before.args.cords.now in
-    ext_get_or 0 _ (column nodeColumn cords) (done.size_is ∙ sym (column-length nodeColumn cords))
-    (λ i q. done.done i (omega (arith, done.size_is, c.loop-test.false)) ∙ sym (column-at nodeColumn cords i))
+    ext_get_or 0 _ (column node_column cords) (done.size_is ∙ sym (column-length node_column cords))
+    (λ i q. done.done i (omega (arith, done.size_is, c.loop-test.false)) ∙ sym (column-at node_column cords i))
 
 pub list-nodes-spec : {M : Type 1} → statement M
 list-nodes-spec = tie.close (tie.spec

@@ -4,7 +4,7 @@ use mathlib.Core.Path.{refl, ap, ◌∙◌}
 use mathlib.Core.Logic.{⊎_elim}
 use native.Mathlib.Omega.{arith}
 use Rattle.numbers.specs.declared.Written.TheVariants.{Bytes, TooLarge, TooShort}
-use Rattle.numbers.proofs.SheetLaws.{length-bytesOf≤, forms-below, written-large, written-short, written-whole}
+use Rattle.numbers.proofs.SheetLaws.{length-bytes_of≤, forms-below, written-large, written-short, written-whole}
 use Rattle.numbers.proofs.encode_sheet.Statement.{statement}
 use Rattle.numbers.proofs.encode_sheet.Tie as tie
 
@@ -23,7 +23,7 @@ put-all-requires c κs =
     let checked = c.before.before.before in
     let words = checked.before.before.before.args.words.now in (
       forms-below words (omega (arith, checked.first-not-below.ensures)),
-      ⊎_elim (λ w. omega (arith, w.1.ensures)) (λ w. omega (arith, length-bytesOf≤ words)) c.before.if2.branch,
+      ⊎_elim (λ w. omega (arith, w.1.ensures)) (λ w. omega (arith, length-bytes_of≤ words)) c.before.if2.branch,
     )
 
 returns-3 : tie.Need-returns-3
@@ -33,7 +33,7 @@ returns-3 c =
     let checked = join.before.before in
     let words = checked.before.before.before.args.words.now in (
       ap Bytes put.0 ∙ written-whole words _ (omega (arith, checked.first-not-below.ensures))
-          (⊎_elim (λ w. omega (arith, w.1.ensures)) (λ w. omega (arith, length-bytesOf≤ words)) join.if2.branch),
+          (⊎_elim (λ w. omega (arith, w.1.ensures)) (λ w. omega (arith, length-bytes_of≤ words)) join.if2.branch),
       put.1,
     )
 

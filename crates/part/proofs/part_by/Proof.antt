@@ -5,7 +5,7 @@ use native.Mathlib.Omega.{arith}
 use lib.ListN.{length}
 use lib.Seq.{length-sets}
 use Rattle.words.specs.Bytes.{words_of}
-use Rattle.rooms.specs.Table.{mostWords}
+use Rattle.rooms.specs.Table.{most_words}
 use Rattle.calls.proofs.Calls.{call-short}
 use Rattle.calls.proofs.Fronts.{loaded-length}
 use Rattle.part.specs.Outcome.{parting}
@@ -47,7 +47,7 @@ store-side-requires : tie.Need-store-side-requires
 store-side-requires c κs =
     let known = c.before.before.before in
     let load = loaded known in
-    let long : suc mostWords ≤ length load.load.last.1.0 = omega (arith, ap length load.load.ensures.1 ∙ length-sets (start load).args.words.now 0 (words_of (start load).args.table.now), (start load).pre) in
+    let long : suc most_words ≤ length load.load.last.1.0 = omega (arith, ap length load.load.ensures.1 ∙ length-sets (start load).args.words.now 0 (words_of (start load).args.table.now), (start load).pre) in
     ((sides known).first_fits, (omega (arith, (sides known).first-space.0), (sides known).first-space.1))
 
 store-side-requires-2 : tie.Need-store-side-requires-2
@@ -56,7 +56,7 @@ store-side-requires-2 c κs =
     let known = one.before.before.before.before in
     let load = loaded known in
     let size : length load.load.last.1.0 ≡ length (start load).args.words.now = ap length load.load.ensures.1 ∙ length-sets (start load).args.words.now 0 (words_of (start load).args.table.now) in
-    let long : suc mostWords ≤ length one.store-side.new.1.1.0 = omega (arith, one.store-side.auto, size, (start load).pre) in
+    let long : suc most_words ≤ length one.store-side.new.1.1.0 = omega (arith, one.store-side.auto, size, (start load).pre) in
     ((sides known).second_fits, (omega (arith, (sides known).second-space.0), (sides known).second-space.1))
 
 returns-2 : tie.Need-returns-2

@@ -12,7 +12,7 @@ use Rattle.deals.specs.declared.Lengths.{Lengths}
 use Rattle.deals.specs.declared.PlanList.{PlanList}
 use Rattle.deals.specs.declared.PlanList.TheVariants.{Grants, Caps, Headroom, Held}
 use Rattle.deals.proofs.Plans.{each}
-use Rattle.plan_bytes.specs.Call.{lentBytes}
+use Rattle.plan_bytes.specs.Call.{lent_bytes}
 use Rattle.plan_bytes.specs.Figures.{FiguresLeft}
 use Rattle.plan_bytes.proofs.PlanLaws.{output-fitting, list-stored, plan-short, plan-done}
 use borrow.Author.Rules.{rules}
@@ -37,7 +37,7 @@ abbrev lent : tie.After-plan-figures → Lists
 lent f = lists (start f).args.grants.now (start f).args.caps.now (start f).args.headroom.now (start f).args.held.now
 
 abbrev lengths : tie.After-plan-figures → Lengths
-lengths f = lentBytes (lent f)
+lengths f = lent_bytes (lent f)
 
 abbrev outcome : tie.After-plan-figures → PlanOutcome
 outcome f = plan (table f) (demands f) (lengths f)

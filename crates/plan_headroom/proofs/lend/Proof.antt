@@ -74,18 +74,18 @@ amounts-back w = w.weigh.last.1.1.1.1.1.0
 -- ---- What they are then
 
 -- The length of the lists with a figure of each node.
-abbrev figuresLength : ℕ
-figuresLength = 520
+abbrev figures_length : ℕ
+figures_length = 520
 
-new-list : length {A = ℕ} (replicate figuresLength 0) ≡ figuresLength
-new-list = equal-length {A = ℕ} figuresLength 0
+new-list : length {A = ℕ} (replicate figures_length 0) ≡ figures_length
+new-list = equal-length {A = ℕ} figures_length 0
 
 -- What it is given.
 abbrev lists : (s : Start) → LendLists s.args.parents.now s.args.nodes.now s.args.wants.now s.args.headroom.now
 lists s = lend-lists s.requires.0.given
 
 -- A node has its place in each list of figures.
-enough : (s : Start) {size : ℕ} → size ≡ figuresLength → length s.args.parents.now ≤ size
+enough : (s : Start) {size : ℕ} → size ≡ figures_length → length s.args.parents.now ≤ size
 enough s e = omega (arith, (lists s).few-nodes)
 
 abbrev places : (s : Sums) → AllPlaces (all_listed (listed-s s))
@@ -101,13 +101,13 @@ weights-at w =
 
 -- ---- How long they are
 
-sums-sized : (s : Sums) → length (sums-back s) ≡ figuresLength
+sums-sized : (s : Sums) → length (sums-back s) ≡ figures_length
 sums-sized s = s.sum-weights.auto.1.1.1.1.1.0 ∙ new-list
 
-wholes-sized : (w : Weights) → length (wholes-back w) ≡ figuresLength
+wholes-sized : (w : Weights) → length (wholes-back w) ≡ figures_length
 wholes-sized w = w.weigh.auto.1.1.1.1.0 ∙ sums-sized (sums-w w)
 
-amounts-sized : (w : Weights) → length (amounts-back w) ≡ figuresLength
+amounts-sized : (w : Weights) → length (amounts-back w) ≡ figures_length
 amounts-sized w = w.weigh.auto.1.1.1.1.1.0 ∙ new-list
 
 headroom-kept : (d : Dealt) → length d.deal-out.new.1.1.1.1.1.1.1.1.1.0 ≡ length (start-w (weights-d d)).args.headroom.now

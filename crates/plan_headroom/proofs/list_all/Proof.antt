@@ -4,7 +4,7 @@ use Prim.Native.Nat.{◌-◌}
 use native.Mathlib.Omega.{arith}
 use lib.ListN.{length}
 use borrow.Author.Rules.{rules}
-use Rattle.rooms.specs.Table.{mostCords}
+use Rattle.rooms.specs.Table.{most_cords}
 use Rattle.figures.proofs.Filled.{Filled, filled_none, filled-one}
 use Rattle.plan_headroom.proofs.list_all.Statement.{statement}
 use Rattle.plan_headroom.proofs.list_all.Tie as tie
@@ -32,7 +32,7 @@ same_length c = c.before.loop.invariant.size_is
 
 returns : tie.Need-returns invariant-loop decreases-loop
 returns c =
-    let size : length c.before.loop.all ≡ mostCords = c.before.loop.invariant.size_is ∙ c.before.before.before.requires in
+    let size : length c.before.loop.all ≡ most_cords = c.before.loop.invariant.size_is ∙ c.before.before.before.requires in
     record { size = size; own = λ i h. c.before.loop.invariant.done i (omega (arith, c.loop-test.false, c.before.before.before.requires)) }
 
 pub list-all-spec : {M : Type 1} → statement M

@@ -5,7 +5,7 @@ use Prim.Native.Nat.{ℕ, ◌-◌, ◌<◌}
 use native.Mathlib.Omega.{arith}
 use lib.ListN.{length, get_or}
 use borrow.Author.Rules.{rules}
-use Rattle.rooms.specs.Table.{mostNodes}
+use Rattle.rooms.specs.Table.{most_nodes}
 use Rattle.plan_holders.specs.Holding.{CutNodes}
 use Rattle.plan_holders.proofs.Rows.{Filling, filling-start, filling-next, filling-end}
 use Rattle.plan_holders.proofs.fill_rows.Statement.{statement}
@@ -24,7 +24,7 @@ Turn = tie.In-loop invariant-loop decreases-loop
 nodes : (c : Turn) → CutNodes c.before.before.before.before.args.parents.now c.before.before.before.before.args.cuts.now
 nodes c = c.before.before.before.before.requires.0
 
-few : (c : Turn) → c.before.loop.n < mostNodes
+few : (c : Turn) → c.before.loop.n < most_nodes
 few c = omega (arith, (nodes c).few, c.loop-test.true)
 
 loop-holds : tie.Need-loop-init invariant-loop decreases-loop

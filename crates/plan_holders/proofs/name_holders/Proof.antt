@@ -4,10 +4,10 @@ use Prim.Native.Nat.{◌-◌, ◌≤◌, ◌<◌}
 use native.Mathlib.Omega.{arith}
 use lib.ListN.{length}
 use borrow.Author.Rules.{rules}
-use Rattle.rooms.specs.Table.{mostNodes, mostCords, highestRank}
+use Rattle.rooms.specs.Table.{most_nodes, most_cords, highest_rank}
 use Rattle.plan_holders.specs.Holding.{HeldLists}
 use Rattle.figures.proofs.Filled.{Filled, filled_none, filled-one, filled-all}
-use Rattle.figures.proofs.Cells.{zeroRows}
+use Rattle.figures.proofs.Cells.{zero_rows}
 use Rattle.plan_holders.proofs.Rows.{held_at, held-is}
 use Rattle.plan_holders.proofs.name_holders.Statement.{statement}
 use Rattle.plan_holders.proofs.name_holders.Tie as tie
@@ -32,7 +32,7 @@ start t = entered t.before.before.before
 lists : (t : Turn) → let args = (start t).args in HeldLists args.parents.now args.cuts.now args.cords.now args.wants.now args.grants.now
 lists t = (start t).pre.0
 
-few : (c : Turn) → c.before.loop.c < mostCords
+few : (c : Turn) → c.before.loop.c < most_cords
 few c = omega (arith, (lists c).few, c.loop-test.true)
 
 -- The rows have a place for the cord's node and its level.
@@ -42,14 +42,14 @@ Read = tie.After-index2 invariant-loop decreases-loop
 abbrev turn : Read → Turn
 turn r = r.before.before.before.before
 
-node-fits : (r : Read) → r.before.before.index.result ≤ mostNodes
+node-fits : (r : Read) → r.before.before.index.result ≤ most_nodes
 node-fits r = omega (arith, r.before.before.index.ensures.0, (lists (turn r)).within (turn r).before.loop.c (turn r).loop-test.taken, (lists (turn r)).of-nodes.few)
 
-level-fits : (r : Read) → r.index2.result < highestRank
+level-fits : (r : Read) → r.index2.result < highest_rank
 level-fits r = omega (arith, r.index2.ensures.0, (lists (turn r)).ranked (turn r).before.loop.c (turn r).loop-test.taken)
 
 fill-rows-requires : tie.Need-fill-rows-requires invariant-loop decreases-loop
-fill-rows-requires c κs = ((entered c).requires.0.of-nodes, zeroRows 513 16)
+fill-rows-requires c κs = ((entered c).requires.0.of-nodes, zero_rows 513 16)
 
 loop-holds : tie.Need-loop-init invariant-loop decreases-loop
 loop-holds c = filled_none _ _

@@ -6,15 +6,15 @@ use native.Mathlib.Omega.{arith}
 use lib.ListN.{length, take, replicate}
 use Rattle.figures.specs.Figures.{column}
 use Rattle.figures.proofs.Stores.{sets-all}
-use Rattle.rooms.specs.Table.{Room, mostNodes, mostCords, mostServers, highestRank}
+use Rattle.rooms.specs.Table.{Room, most_nodes, most_cords, most_servers, highest_rank}
 use Rattle.rooms.proofs.Accepted.{Accepted, accepted}
-use Rattle.rooms.specs.Lists.{limitsOf, levelsOf}
-use Rattle.rooms.specs.Rows.{nodeColumn, levelColumn, serverColumn, shareColumn}
-use Rattle.deals.specs.SecondDeal.{firstGrants, firstUsed, secondDeal, secondWants}
+use Rattle.rooms.specs.Lists.{limits_of, levels_of}
+use Rattle.rooms.specs.Rows.{node_column, level_column, server_column, share_column}
+use Rattle.deals.specs.SecondDeal.{first_grants, first_used, second_deal, second_wants}
 use Rattle.deals.specs.SecondDeal as second
-use Rattle.deals.specs.Levels.{LevelLists, toColumn}
+use Rattle.deals.specs.Levels.{LevelLists, to_column}
 use Rattle.deals.specs.Ranks.{DealGiven, DealMade}
-use Rattle.plan_reclaim.specs.Reclaimed.{usableFrom}
+use Rattle.plan_reclaim.specs.Reclaimed.{usable_from}
 use Rattle.figures.proofs.Cells.{zeros-front, zeros-rows, zeros-cells}
 use Rattle.figures.proofs.Fronts.{equal-length, Lent, lent, lent-zeros, rejoined, lent_again, lent-few, lent-front}
 use Rattle.plan_rooms.specs.Planning.{RoomToDeal}
@@ -164,28 +164,28 @@ cords-s s = length s.args.nodes.now
 abbrev servers-s : Start → ℕ
 servers-s s = length s.args.caps.now
 
-nodes-few : (s : Start) → nodes-s s ≤ mostNodes
+nodes-few : (s : Start) → nodes-s s ≤ most_nodes
 nodes-few s = (levels-nodes (room s) (lists s)).0
 
-cords-few : (s : Start) → cords-s s ≤ mostCords
+cords-few : (s : Start) → cords-s s ≤ most_cords
 cords-few s = omega (arith, (levels-cords (room s) (lists s)).few, cord-count (room s) (lists s))
 
-servers-few : (s : Start) → servers-s s ≤ mostServers
-servers-few s = omega (arith, needs-size (room s) (lists s), (room s).fewServers)
+servers-few : (s : Start) → servers-s s ≤ most_servers
+servers-few s = omega (arith, needs-size (room s) (lists s), (room s).few_servers)
 
 -- ---- What each call leaves in its lists, and how long that is
 
 abbrev first-left-back : Spared → List ℕ
 first-left-back p = p.copy.last.1.0
 
-first-left-lent : (p : Spared) → Lent (nodes-s (start-p p)) (replicate mostNodes 0) (first-left-back p)
-first-left-lent p = lent-zeros mostNodes (nodes-few (start-p p)) p.copy.auto.1.0
+first-left-lent : (p : Spared) → Lent (nodes-s (start-p p)) (replicate most_nodes 0) (first-left-back p)
+first-left-lent p = lent-zeros most_nodes (nodes-few (start-p p)) p.copy.auto.1.0
 
 abbrev needs-back : Copied → List ℕ
 needs-back k = k.copy2.last.1.0
 
-needs-lent : (k : Copied) → Lent (servers-s (start-k k)) (replicate mostServers 0) (needs-back k)
-needs-lent k = lent-zeros mostServers (servers-few (start-k k)) k.copy2.auto.1.0
+needs-lent : (k : Copied) → Lent (servers-s (start-k k)) (replicate most_servers 0) (needs-back k)
+needs-lent k = lent-zeros most_servers (servers-few (start-k k)) k.copy2.auto.1.0
 
 abbrev levels-back : Listed → List (List ℕ)
 levels-back l = l.list-levels.last.1.1.0
@@ -193,8 +193,8 @@ levels-back l = l.list-levels.last.1.1.0
 abbrev order-back : Listed → List ℕ
 order-back l = l.list-levels.last.1.1.1.0
 
-order-lent : (l : Listed) → Lent (cords-s (start-l l)) (replicate mostCords 0) (order-back l)
-order-lent l = lent-zeros mostCords (cords-few (start-l l)) l.list-levels.auto.1.1.1.0
+order-lent : (l : Listed) → Lent (cords-s (start-l l)) (replicate most_cords 0) (order-back l)
+order-lent l = lent-zeros most_cords (cords-few (start-l l)) l.list-levels.auto.1.1.1.0
 
 abbrev actives-back : Listed → List (List ℕ)
 actives-back l = l.list-levels.last.1.1.1.1.0
@@ -206,7 +206,7 @@ grants-size : (f : First) → length (grants-f f) ≡ cords-s (start-f f)
 grants-size f = f.deal.auto.1.1.1.1.1.1.1.1.1.0 ∙ (start-f f).requires.1.1
 
 abbrev needs-after : Copied → List ℕ
-needs-after k = rejoined (servers-s (start-k k)) (replicate mostServers 0) (needs-back k)
+needs-after k = rejoined (servers-s (start-k k)) (replicate most_servers 0) (needs-back k)
 
 abbrev usable-back : Used → List ℕ
 usable-back u = u.usable-of.last.1.1.0
@@ -217,8 +217,8 @@ usable-lent u = lent (lent-few (needs-lent (copied-u u))) u.usable-of.auto.1.1.0
 abbrev starts-back : Reclaimed → List ℕ
 starts-back q = q.reclaim.last.1.1.1.0
 
-starts-lent : (q : Reclaimed) → Lent (cords-s (start-r q)) (replicate mostCords 0) (starts-back q)
-starts-lent q = lent-zeros mostCords (cords-few (start-r q)) q.reclaim.auto.1.1.1.0
+starts-lent : (q : Reclaimed) → Lent (cords-s (start-r q)) (replicate most_cords 0) (starts-back q)
+starts-lent q = lent-zeros most_cords (cords-few (start-r q)) q.reclaim.auto.1.1.1.0
 
 abbrev wants-back : Reclaimed → List ℕ
 wants-back q = q.reclaim.last.1.1.1.1.0
@@ -251,51 +251,51 @@ grants-size-d d = d.deal2.auto.1.1.1.1.1.1.1.1.1.0 ∙ grants-size (first-e (rai
 
 -- The copies are what was copied: `first_left` what the limits have over the lows, `usable` the servers' needs.
 abbrev first-left-after : Spared → List ℕ
-first-left-after p = rejoined (nodes-s (start-p p)) (replicate mostNodes 0) (first-left-back p)
+first-left-after p = rejoined (nodes-s (start-p p)) (replicate most_nodes 0) (first-left-back p)
 
 first-left-is : (p : Spared) → take (nodes-s (start-p p)) (first-left-after p) ≡ (start-p p).args.left.now
-first-left-is p = lent_again (first-left-lent p) ∙ p.copy.ensures ∙ sets-all _ _ (zeros-front mostNodes _ (nodes-few (start-p p)) ∙ sym (lists (start-p p)).lists.spare-size)
+first-left-is p = lent_again (first-left-lent p) ∙ p.copy.ensures ∙ sets-all _ _ (zeros-front most_nodes _ (nodes-few (start-p p)) ∙ sym (lists (start-p p)).lists.spare-size)
 
 needs-are : (k : Copied) → take (servers-s (start-k k)) (needs-after k) ≡ (start-k k).args.caps.now
-needs-are k = lent_again (needs-lent k) ∙ k.copy2.ensures ∙ sets-all _ _ (zeros-front mostServers _ (servers-few (start-k k)))
+needs-are k = lent_again (needs-lent k) ∙ k.copy2.ensures ∙ sets-all _ _ (zeros-front most_servers _ (servers-few (start-k k)))
 
 -- The order by level came back, and stands before the rest of its list.
 abbrev order-after : Listed → List ℕ
-order-after l = rejoined (cords-s (start-l l)) (replicate mostCords 0) (order-back l)
+order-after l = rejoined (cords-s (start-l l)) (replicate most_cords 0) (order-back l)
 
-listed_at : (l : Listed) → LevelLists (start-l l).args.parents.now (column nodeColumn (start-l l).args.cords.now) (column levelColumn (start-l l).args.cords.now) (levels-back l) (take (cords-s (start-l l)) (order-after l)) (actives-back l)
+listed_at : (l : Listed) → LevelLists (start-l l).args.parents.now (column node_column (start-l l).args.cords.now) (column level_column (start-l l).args.cords.now) (levels-back l) (take (cords-s (start-l l)) (order-after l)) (actives-back l)
 listed_at l = rw (lent_again (order-lent l)) l.list-levels.ensures
 
 -- The first deal is lent the copy of `left`.
 first-lent : (l : Listed) {r : Room} → Accepted r → {demands : List ℕ} → RoomOf (start-l l) r demands
     → DealGiven (start-l l).args.parents.now (levels-back l) (take (cords-s (start-l l)) (order-after l)) (actives-back l)
-    (start-l l).args.nodes.now (start-l l).args.lows.now (start-l l).args.wants.now (take (nodes-s (start-l l)) (first-left-after (spared-k (copied-l l)))) (limitsOf r) (levelsOf r) (start-l l).args.lows.now
+    (start-l l).args.nodes.now (start-l l).args.lows.now (start-l l).args.wants.now (take (nodes-s (start-l l)) (first-left-after (spared-k (copied-l l)))) (limits_of r) (levels_of r) (start-l l).args.lows.now
 first-lent l ok of = first-given ok of (listed_at l) (first-left-is (spared-k (copied-l l)))
 
-first-grants : (f : First) {r : Room} → Accepted r → {demands : List ℕ} → RoomOf (start-f f) r demands → grants-f f ≡ firstGrants r demands
-first-grants f {r} ok of = first_made ok of (f.deal.ensures (limitsOf r) (levelsOf r) (start-f f).args.lows.now (first-lent (listed-f f) ok of))
+first-grants : (f : First) {r : Room} → Accepted r → {demands : List ℕ} → RoomOf (start-f f) r demands → grants-f f ≡ first_grants r demands
+first-grants f {r} ok of = first_made ok of (f.deal.ensures (limits_of r) (levels_of r) (start-f f).args.lows.now (first-lent (listed-f f) ok of))
 
 -- What the servers can use of it stands in the place of their needs.
 abbrev usable_after : Used → List ℕ
 usable_after u = rejoined (servers-s (start-u u)) (needs-after (copied-u u)) (usable-back u)
 
-usable-is : (u : Used) → take (servers-s (start-u u)) (usable_after u) ≡ usableFrom (start-u u).args.scale (column shareColumn (start-u u).args.cords.now) (column serverColumn (start-u u).args.cords.now) (start-u u).args.caps.now (grants-f (first-u u))
+usable-is : (u : Used) → take (servers-s (start-u u)) (usable_after u) ≡ usable_from (start-u u).args.scale (column share_column (start-u u).args.cords.now) (column server_column (start-u u).args.cords.now) (start-u u).args.caps.now (grants-f (first-u u))
 usable-is u =
     lent_again (usable-lent u)
     ∙ u.usable-of.ensures
-    ∙ ap (λ (needed : List ℕ). usableFrom (start-u u).args.scale (column shareColumn (start-u u).args.cords.now) (column serverColumn (start-u u).args.cords.now) needed (grants-f (first-u u))) (needs-are (copied-u u))
+    ∙ ap (λ (needed : List ℕ). usable_from (start-u u).args.scale (column share_column (start-u u).args.cords.now) (column server_column (start-u u).args.cords.now) needed (grants-f (first-u u))) (needs-are (copied-u u))
 
 abbrev starts-after : Reclaimed → List ℕ
-starts-after q = rejoined (cords-s (start-r q)) (replicate mostCords 0) (starts-back q)
+starts-after q = rejoined (cords-s (start-r q)) (replicate most_cords 0) (starts-back q)
 
 module _ (q : Reclaimed) {r : Room} (ok : Accepted r) {demands : List ℕ} (of : RoomOf (start-r q) r demands) where
-  first_q : grants-f (first-u (used-r q)) ≡ firstGrants r demands
+  first_q : grants-f (first-u (used-r q)) ≡ first_grants r demands
   first_q = first-grants (first-u (used-r q)) ok of
 
-  starts-are : take (cords-s (start-r q)) (starts-after q) ≡ firstUsed r demands
+  starts-are : take (cords-s (start-r q)) (starts-after q) ≡ first_used r demands
   starts-are = lent_again (starts-lent q) ∙ first-used ok of first_q (usable-is (used-r q)) q.reclaim.ensures.1.0
 
-  wants-are : wants-back q ≡ secondWants r demands
+  wants-are : wants-back q ≡ second_wants r demands
   wants-are = second-wants ok of first_q (usable-is (used-r q)) q.reclaim.ensures.1.1
 
   freed-q : q.reclaim.result ≡ second.freed r demands
@@ -303,15 +303,15 @@ module _ (q : Reclaimed) {r : Room} (ok : Accepted r) {demands : List ℕ} (of :
 
 second-lent : (e : Raised) {r : Room} → Accepted r → {demands : List ℕ} → RoomOf (start-e e) r demands
     → DealGiven (start-e e).args.parents.now (levels-back (listed-e e)) (take (cords-s (start-e e)) (order-after (listed-e e))) (actives-back (listed-e e))
-    (start-e e).args.nodes.now (take (cords-s (start-e e)) (starts-after (reclaimed-e e))) (wants-back (reclaimed-e e)) (left_back e) (limitsOf r) (levelsOf r) (start-e e).args.lows.now
+    (start-e e).args.nodes.now (take (cords-s (start-e e)) (starts-after (reclaimed-e e))) (wants-back (reclaimed-e e)) (left_back e) (limits_of r) (levels_of r) (start-e e).args.lows.now
 second-lent e ok of =
     second-given ok of (listed_at (listed-e e)) (starts-are (reclaimed-e e) ok of) (wants-are (reclaimed-e e) ok of)
     (raised ok of (starts-are (reclaimed-e e) ok of) (left-size e) e.raise-starts.ensures)
 
-second-deal : (d : Second) {r : Room} → Accepted r → {demands : List ℕ} → RoomOf (start-d d) r demands → DealMade (secondDeal r demands) (left-d d) (cuts-d d) (grants-d d)
+second-deal : (d : Second) {r : Room} → Accepted r → {demands : List ℕ} → RoomOf (start-d d) r demands → DealMade (second_deal r demands) (left-d d) (cuts-d d) (grants-d d)
 second-deal d {r} ok of =
     second-made ok of (starts-are (reclaimed-e (raised-d d)) ok of) (wants-are (reclaimed-e (raised-d d)) ok of)
-    (d.deal2.ensures (limitsOf r) (levelsOf r) (start-d d).args.lows.now (second-lent (raised-d d) ok of))
+    (d.deal2.ensures (limits_of r) (levels_of r) (start-d d).args.lows.now (second-lent (raised-d d) ok of))
 
 -- ---- The needs
 
@@ -323,27 +323,27 @@ abbrev raised-b : tie.After-used4 → Raised
 raised-b c = raised-a c.before
 
 array-borrow-prefix-first-left : tie.Need-array-borrow-prefix-first-left
-array-borrow-prefix-first-left c = omega (arith, nodes-few (start-a c), equal-length {A = ℕ} mostNodes 0)
+array-borrow-prefix-first-left c = omega (arith, nodes-few (start-a c), equal-length {A = ℕ} most_nodes 0)
 
 slice-aggregate-copy : tie.Need-slice-aggregate-copy
-slice-aggregate-copy c = sym (zeros-front mostNodes _ (nodes-few (start-a c.before)))
+slice-aggregate-copy c = sym (zeros-front most_nodes _ (nodes-few (start-a c.before)))
 
 array-borrow-prefix-usable : tie.Need-array-borrow-prefix-usable
-array-borrow-prefix-usable c = omega (arith, servers-few (start-p c.before.before), equal-length {A = ℕ} mostServers 0)
+array-borrow-prefix-usable c = omega (arith, servers-few (start-p c.before.before), equal-length {A = ℕ} most_servers 0)
 
 slice-aggregate-copy-2 : tie.Need-slice-aggregate-copy-2
-slice-aggregate-copy-2 c = sym (zeros-front mostServers _ (servers-few (start-p c.before.before.before)))
+slice-aggregate-copy-2 c = sym (zeros-front most_servers _ (servers-few (start-p c.before.before.before)))
 
 array-borrow-prefix-order : tie.Need-array-borrow-prefix-order
-array-borrow-prefix-order c = omega (arith, cords-few (start-k c.before.before), equal-length {A = ℕ} mostCords 0)
+array-borrow-prefix-order c = omega (arith, cords-few (start-k c.before.before), equal-length {A = ℕ} most_cords 0)
 
 slice-aggregate-list-levels : tie.Need-slice-aggregate-list-levels
-slice-aggregate-list-levels c = sym (zeros-front mostCords _ (cords-few (start-k c.before.before.before)))
+slice-aggregate-list-levels c = sym (zeros-front most_cords _ (cords-few (start-k c.before.before.before)))
 
 list-levels-requires : tie.Need-list-levels-requires
 list-levels-requires c κs =
     let s : Start = start-k c.before.before.before.before in
-    (levels-nodes (room s) (lists s), ((levels-cords (room s) (lists s), zeros-front mostCords _ (cords-few s) ∙ sym (cord-count (room s) (lists s)), zeros-rows highestRank mostNodes), (zeros-rows highestRank 4, λ j. zeros-cells highestRank 4 j toColumn)))
+    (levels-nodes (room s) (lists s), ((levels-cords (room s) (lists s), zeros-front most_cords _ (cords-few s) ∙ sym (cord-count (room s) (lists s)), zeros-rows highest_rank most_nodes), (zeros-rows highest_rank 4, λ j. zeros-cells highest_rank 4 j to_column)))
 
 array-share-prefix-order : tie.Need-array-share-prefix-order
 array-share-prefix-order c = lent-few (order-lent c.before.before)
@@ -358,16 +358,16 @@ slice-aggregate-deal-2 : tie.Need-slice-aggregate-deal-2
 slice-aggregate-deal-2 c = lent-front (first-left-lent (spared-k (copied-l (listed-a c.before))))
 
 array-borrow-prefix-first-cuts : tie.Need-array-borrow-prefix-first-cuts
-array-borrow-prefix-first-cuts c = omega (arith, nodes-few (start-l (listed-a c.before)), equal-length {A = ℕ} mostNodes 0)
+array-borrow-prefix-first-cuts c = omega (arith, nodes-few (start-l (listed-a c.before)), equal-length {A = ℕ} most_nodes 0)
 
 slice-aggregate-deal-3 : tie.Need-slice-aggregate-deal-3
-slice-aggregate-deal-3 c = sym (zeros-front mostNodes _ (nodes-few (start-l (listed-a c.before.before))))
+slice-aggregate-deal-3 c = sym (zeros-front most_nodes _ (nodes-few (start-l (listed-a c.before.before))))
 
 deal-requires : tie.Need-deal-requires
 deal-requires c κs =
     let l : Listed = listed-a c.before.before.before in
     let s : Start = start-l l in
-    (record { limits = limitsOf s.pre.0.room; levels = levelsOf s.pre.0.room; lows = s.args.lows.now; given = first-lent l (room s) (lists s) }, blank-marks (nodes-few s) refl, s.pre.1.1)
+    (record { limits = limits_of s.pre.0.room; levels = levels_of s.pre.0.room; lows = s.args.lows.now; given = first-lent l (room s) (lists s) }, blank-marks (nodes-few s) refl, s.pre.1.1)
 
 array-borrow-prefix-usable-2 : tie.Need-array-borrow-prefix-usable-2
 array-borrow-prefix-usable-2 c = lent-few (needs-lent (copied-l (listed-f (first-a c))))
@@ -387,16 +387,16 @@ slice-aggregate-reclaim : tie.Need-slice-aggregate-reclaim
 slice-aggregate-reclaim c = lent-front (usable-lent c.before.before)
 
 array-borrow-prefix-used : tie.Need-array-borrow-prefix-used
-array-borrow-prefix-used c = omega (arith, cords-few (start-u (used-a c)), equal-length {A = ℕ} mostCords 0)
+array-borrow-prefix-used c = omega (arith, cords-few (start-u (used-a c)), equal-length {A = ℕ} most_cords 0)
 
 slice-aggregate-reclaim-2 : tie.Need-slice-aggregate-reclaim-2
-slice-aggregate-reclaim-2 c = sym (zeros-front mostCords _ (cords-few (start-u (used-a c.before))))
+slice-aggregate-reclaim-2 c = sym (zeros-front most_cords _ (cords-few (start-u (used-a c.before))))
 
 reclaim-requires : tie.Need-reclaim-requires
 reclaim-requires c κs =
     let u : Used = used-a c.before.before in
     let s : Start = start-u u in
-    (reclaim-asks (room s) (lists s) (first-grants (first-u u) (room s) (lists s)) (usable-is u) (grants-size (first-u u)), zeros-front mostCords _ (cords-few s) ∙ sym (cord-count (room s) (lists s)), wants-count (room s) (lists s) ∙ sym (cord-count (room s) (lists s)))
+    (reclaim-asks (room s) (lists s) (first-grants (first-u u) (room s) (lists s)) (usable-is u) (grants-size (first-u u)), zeros-front most_cords _ (cords-few s) ∙ sym (cord-count (room s) (lists s)), wants-count (room s) (lists s) ∙ sym (cord-count (room s) (lists s)))
 
 array-share-prefix-used : tie.Need-array-share-prefix-used
 array-share-prefix-used c = lent-few (starts-lent (reclaimed-a c))
@@ -426,7 +426,7 @@ deal-requires-2 : tie.Need-deal-requires-2
 deal-requires-2 c κs =
     let e : Raised = raised-b c.before.before.before.before in
     let s : Start = start-e e in
-    (record { limits = limitsOf s.pre.0.room; levels = levelsOf s.pre.0.room; lows = s.args.lows.now; given = second-lent e (room s) (lists s) }, s.pre.1.0, grants-size (first-e e))
+    (record { limits = limits_of s.pre.0.room; levels = levels_of s.pre.0.room; lows = s.args.lows.now; given = second-lent e (room s) (lists s) }, s.pre.1.0, grants-size (first-e e))
 
 usable-of-requires-2 : tie.Need-usable-of-requires-2
 usable-of-requires-2 c κs =

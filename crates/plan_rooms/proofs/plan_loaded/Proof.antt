@@ -5,10 +5,10 @@ use Prim.Native.Nat.{ℕ, ◌≤◌}
 use native.Mathlib.Omega.{arith}
 use lib.ListN.{length, take, replicate}
 use Rattle.figures.specs.Figures.{column}
-use Rattle.rooms.specs.Table.{Room, mostNodes, mostCords}
-use Rattle.rooms.specs.Lists.{limitsOf, levelsOf, lowsOf}
-use Rattle.rooms.specs.Rows.{nodeColumn}
-use Rattle.deals.specs.SecondDeal.{firstUsed}
+use Rattle.rooms.specs.Table.{Room, most_nodes, most_cords}
+use Rattle.rooms.specs.Lists.{limits_of, levels_of, lows_of}
+use Rattle.rooms.specs.Rows.{node_column}
+use Rattle.deals.specs.SecondDeal.{first_used}
 use Rattle.figures.proofs.Cells.{zeros-front}
 use Rattle.figures.proofs.Fronts.{equal-length, front_length, Lent, lent, lent-zeros, rejoined, lent_length, lent_again, lent-few, lent-front}
 use Rattle.plan_headroom.specs.Lending.{LendGiven}
@@ -64,12 +64,12 @@ abbrev nodes-back : Listed → List ℕ
 nodes-back l = l.list-nodes.last.1.0
 
 abbrev nodes-after : Listed → List ℕ
-nodes-after l = rejoined (count-cords (start-l l)) (replicate mostCords 0) (nodes-back l)
+nodes-after l = rejoined (count-cords (start-l l)) (replicate most_cords 0) (nodes-back l)
 
-nodes-lent : (l : Listed) → Lent (count-cords (start-l l)) (replicate mostCords 0) (nodes-back l)
-nodes-lent l = lent-zeros mostCords (cords-few (some (start-l l))) l.list-nodes.auto.1.0
+nodes-lent : (l : Listed) → Lent (count-cords (start-l l)) (replicate most_cords 0) (nodes-back l)
+nodes-lent l = lent-zeros most_cords (cords-few (some (start-l l))) l.list-nodes.auto.1.0
 
-nodes-listed : (l : Listed) → take (count-cords (start-l l)) (nodes-after l) ≡ column nodeColumn (take (count-cords (start-l l)) (start-l l).args.cords.now)
+nodes-listed : (l : Listed) → take (count-cords (start-l l)) (nodes-after l) ≡ column node_column (take (count-cords (start-l l)) (start-l l).args.cords.now)
 nodes-listed l = lent_again (nodes-lent l) ∙ l.list-nodes.ensures
 
 -- ---- After both deals
@@ -130,10 +130,10 @@ abbrev cuts_back : Dealt → List ℕ
 cuts_back z = z.deal-twice.last.1.1.1.1.1.1.0
 
 abbrev cuts-after : Dealt → List ℕ
-cuts-after z = rejoined (count-nodes (start-z z)) (replicate mostNodes 0) (cuts_back z)
+cuts-after z = rejoined (count-nodes (start-z z)) (replicate most_nodes 0) (cuts_back z)
 
-cuts-lent : (z : Dealt) → Lent (count-nodes (start-z z)) (replicate mostNodes 0) (cuts_back z)
-cuts-lent z = lent-zeros mostNodes (nodes-few (some (start-z z))) z.deal-twice.auto.1.1.1.1.1.1.0
+cuts-lent : (z : Dealt) → Lent (count-nodes (start-z z)) (replicate most_nodes 0) (cuts_back z)
+cuts-lent z = lent-zeros most_nodes (nodes-few (some (start-z z))) z.deal-twice.auto.1.1.1.1.1.1.0
 
 -- What they leave, and what `name_holders` and `lend` ask, for every room that the lists are those of.
 module _ (z : Dealt) {table demands : List ℕ} {r : Room} (g : GivenAt (start-z z) table demands r) where
@@ -153,7 +153,7 @@ module _ (z : Dealt) {table demands : List ℕ} {r : Room} (g : GivenAt (start-z
   held-z = held-lists (given-ok g) lists-z dealt-z (sym (lent-front (cuts-lent z)) ∙ front_length _ _ (parents-long g))
 
   lend-z : LendGiven (take (count-nodes (start-z z)) (start-z z).args.parents.now) (take (count-cords (start-z z)) (nodes-after (listed-z z))) (take (count-cords (start-z z)) (wants-after z))
-      (take (count-nodes (start-z z)) (left_after z)) (take (count-cords (start-z z)) (start-z z).args.headroom.now) (limitsOf r) (levelsOf r) (lowsOf r) (firstUsed r demands)
+      (take (count-nodes (start-z z)) (left_after z)) (take (count-cords (start-z z)) (start-z z).args.headroom.now) (limits_of r) (levels_of r) (lows_of r) (first_used r demands)
   lend-z = lend-given (given-ok g) lists-z dealt-z (ceilings-given g) (sym (lent-front (left-lent z)) ∙ front_length _ _ (parents-long g))
 
 -- ---- After `name_holders`, and after `lend`
@@ -188,10 +188,10 @@ array-borrow-prefix-nodes : tie.Need-array-borrow-prefix-nodes
 array-borrow-prefix-nodes c = blank-long (cords-few (some (start-a c)))
 
 slice-aggregate-list-nodes-2 : tie.Need-slice-aggregate-list-nodes-2
-slice-aggregate-list-nodes-2 c = sym (zeros-front mostCords _ (cords-few (some (start-a c.before))))
+slice-aggregate-list-nodes-2 c = sym (zeros-front most_cords _ (cords-few (some (start-a c.before))))
 
 list-nodes-requires : tie.Need-list-nodes-requires
-list-nodes-requires c κs = let s = start-a c.before in zeros-front mostCords _ (cords-few (some s)) ∙ front_length _ _ (cords-long (some s))
+list-nodes-requires c κs = let s = start-a c.before in zeros-front most_cords _ (cords-few (some s)) ∙ front_length _ _ (cords-long (some s))
 
 slice-aggregate-deal-twice : tie.Need-slice-aggregate-deal-twice
 slice-aggregate-deal-twice c = front_length _ _ (parents-long (some (start-l c.before.before)))
@@ -227,7 +227,7 @@ array-borrow-prefix-cuts : tie.Need-array-borrow-prefix-cuts
 array-borrow-prefix-cuts c = blank-long (nodes-few (some (start-l (listed-3 c.before.before))))
 
 slice-aggregate-deal-twice-7 : tie.Need-slice-aggregate-deal-twice-7
-slice-aggregate-deal-twice-7 c = sym (zeros-front mostNodes _ (nodes-few (some (start-l (listed-3 c.before.before.before)))))
+slice-aggregate-deal-twice-7 c = sym (zeros-front most_nodes _ (nodes-few (some (start-l (listed-3 c.before.before.before)))))
 
 slice-relend-prefix-deal-twice-3 : tie.Need-slice-relend-prefix-deal-twice-3
 slice-relend-prefix-deal-twice-3 c = (start-l (listed-3 c.before.before.before)).pre.1.0
@@ -327,7 +327,7 @@ lend-requires c κs =
     let z = dealt-h (named-2 c.before.before.before) in
     let s = start-z z in
     let room = s.pre.0.room in (
-      record { limits = limitsOf room; levels = levelsOf room; lows = lowsOf room; starts = firstUsed room s.pre.0.demands; given = lend-z z (some s) },
+      record { limits = limits_of room; levels = levels_of room; lows = lows_of room; starts = first_used room s.pre.0.demands; given = lend-z z (some s) },
       sym (front_length _ _ (lows-long (some s))) ∙ lent-front (nodes-lent (listed-z z)),
     )
 
@@ -346,7 +346,7 @@ returns c = λ table demands r g.
     let ok = given-ok g in
     let of = lists-z z g in
     let dealt = dealt-z z g in
-    let lent_out = l.lend.ensures (limitsOf r) (levelsOf r) (lowsOf r) (firstUsed r demands) (lend-z z g) in
+    let lent_out = l.lend.ensures (limits_of r) (levels_of r) (lows_of r) (first_used r demands) (lend-z z g) in
     record {
       freed-is = dealt.freed-is;
       lists-are = each _ (stands (grants-lent z) _ (sym (lent_again (grants-lent z)) ∙ second-dealt ok of dealt.made))

@@ -4,7 +4,7 @@ use Rattle.deals.specs.declared.Lengths.{Lengths}
 use Rattle.layout.specs.declared.room.Counts.{Counts}
 use Rattle.layout.specs.declared.room.Loaded.{Loaded}
 use Prim.Native.Nat.{ℕ}
-use Rattle.deals.specs.Plan.{listReasons}
+use Rattle.deals.specs.Plan.{list_reasons}
 use Rattle.plans.proofs.PlanCall.{Left, loading-told, loading-passed, short-told, list-passed, all-passed}
 use borrow.Author.Rules.{rules}
 use Rattle.plans.proofs.admit.Statement.{statement}
@@ -25,7 +25,7 @@ counts k = k.before.loaded.given.0.0
 
 -- So many of the reasons to refuse are passed.
 abbrev Passed : Known → ℕ → Type 0
-Passed k n = Left (loaded k) (lengths k) (counts k) (drop n (listReasons (counts k).cords (counts k).servers (lengths k)))
+Passed k n = Left (loaded k) (lengths k) (counts k) (drop n (list_reasons (counts k).cords (counts k).servers (lengths k)))
 
 abbrev room : (k : Known) → Passed k 0
 room k = loading-passed (loaded k) (lengths k) k.before.loaded.given.1

@@ -5,8 +5,8 @@ use Prim.Native.Nat.{ℕ, ◌≤◌}
 use native.Mathlib.Omega.{arith}
 use lib.ListN.{length, take, length-replicate}
 use lib.Seq.{length-take-le}
-use Rattle.rooms.specs.Table.{mostServers, mostCords, roomCords}
-use Rattle.deals.specs.Plan.{plan_of, output, Lists, lists, lengthsOf}
+use Rattle.rooms.specs.Table.{most_servers, most_cords, room_cords}
+use Rattle.deals.specs.Plan.{plan_of, output, Lists, lists, lengths_of}
 use Rattle.deals.specs.declared.Lengths.{Lengths}
 use Rattle.deals.specs.declared.PlanList.TheVariants.{Grants, Caps, Headroom, Held}
 use Rattle.layout.specs.Room.{RoomLoaded}
@@ -53,7 +53,7 @@ abbrev lent : Known → Lists
 lent k = lent-s (start k)
 
 abbrev lengths : Known → Lengths
-lengths k = lengthsOf (λ list. length (lent k list))
+lengths k = lengths_of (λ list. length (lent k list))
 
 abbrev counts : Known → Counts
 counts k = k.before.admission.given.0.0
@@ -86,13 +86,13 @@ loaded : (k : Known) → RoomLoaded (admitted k).room-found.room (demands k) (pa
 loaded k = (load-k k).load-room.ensures.1 (admitted k).room-found.room (admitted k).room-found.accepts
 
 ceilings-few : (k : Known) → (counts k).cords ≤ length (ceilings-after k)
-ceilings-few k = omega (arith, cords-few (admitted k).room-found, (load-k k).load-room.auto.1.1.1.1.1.1.1.0, length-replicate {A = ℕ} mostCords 0)
+ceilings-few k = omega (arith, cords-few (admitted k).room-found, (load-k k).load-room.auto.1.1.1.1.1.1.1.0, length-replicate {A = ℕ} most_cords 0)
 
 needs-few : (k : Known) → (counts k).servers ≤ length (needs-after k)
-needs-few k = omega (arith, servers-few (admitted k).room-found, (load-k k).load-room.auto.1.1.1.1.1.1.1.1.0, length-replicate {A = ℕ} mostServers 0)
+needs-few k = omega (arith, servers-few (admitted k).room-found, (load-k k).load-room.auto.1.1.1.1.1.1.1.1.0, length-replicate {A = ℕ} most_servers 0)
 
 -- As much is copied as the plan writes.
-ceilings-copied : (k : Known) → length (take (counts k).cords (ceilings-after k)) ≡ roomCords (admitted k).room-found.room
+ceilings-copied : (k : Known) → length (take (counts k).cords (ceilings-after k)) ≡ room_cords (admitted k).room-found.room
 ceilings-copied k = length-take-le (counts k).cords (ceilings-after k) (ceilings-few k) ∙ cords-count (admitted k).room-found
 
 needs-copied : (k : Known) → length (take (counts k).servers (needs-after k)) ≡ length (admitted k).room-found.room.servers

@@ -1,12 +1,12 @@
 -- `put_cord` meets its contract: each figure is put where the one before it ends.
-use Rattle.print.specs.Line.{cordLine}
+use Rattle.print.specs.Line.{cord_line}
 use Rattle.print.proofs.Putting.{then}
 use borrow.Author.Rules.{rules}
 use Rattle.print.proofs.put_cord.Statement.{statement}
 use Rattle.print.proofs.put_cord.Tie as tie
 
 returns : tie.Need-returns
-unfolding cordLine
+unfolding cord_line
 returns c =
     let last = c.before.before in
     let held = last.before.before.before.before.before in

@@ -4,8 +4,8 @@ use native.Mathlib.Omega.{arith}
 use mathlib.Core.Path.{◌≡◌, refl}
 use Prim.Native.Nat.{◌-◌, ◌≤◌}
 use lib.ListN.{length}
-use Rattle.print.specs.Print.{lines_from, planLine}
-use Rattle.print.specs.Walk.{cordLineAt}
+use Rattle.print.specs.Print.{lines_from, plan_line}
+use Rattle.print.specs.Walk.{cord_line_at}
 use Rattle.print.proofs.Putting.{Putting, putting-first, putting-within}
 use Rattle.print.proofs.Turns.{lines_next, lines-last}
 use Rattle.print.proofs.put_cords.Statement.{statement}
@@ -13,7 +13,7 @@ use Rattle.print.proofs.put_cords.Tie as tie
 
 abbrev invariant-loop : tie.invariant-loop
 invariant-loop count cords grants headroom held first buffer₀ start next₀ k₀ buffer next k =
-    let line = cordLineAt cords (planLine grants headroom held) first in
+    let line = cord_line_at cords (plan_line grants headroom held) first in
     (k ≤ count)
     × Putting buffer₀ start buffer next (lines_from (count - k) k line) (lines_from count 0 line)
     × (length buffer ≡ length buffer₀)
@@ -37,7 +37,7 @@ loop-again c =
     let at = node.before.before in
     let lent = at.before.before in
     let args = lent.before.before.before.args in
-    let line = cordLineAt args.cords.now (planLine args.grants.now args.headroom.now args.held.now) args.first in
+    let line = cord_line_at args.cords.now (plan_line args.grants.now args.headroom.now args.held.now) args.first in
     let headroom = put.before.before.before.word2.ensures.0 in
     let held = put.before.before.word3.ensures.0 in
     let cord = rw (node.node.ensures, grant.word.ensures.0, headroom, held) at put.put-cord.ensures in

@@ -1,12 +1,12 @@
 -- `put_freed` meets its contract: the line ends where the figure does.
-use Rattle.print.specs.Line.{freedLine}
+use Rattle.print.specs.Line.{freed_line}
 use Rattle.print.proofs.Putting.{then}
 use borrow.Author.Rules.{rules}
 use Rattle.print.proofs.put_freed.Statement.{statement}
 use Rattle.print.proofs.put_freed.Tie as tie
 
 returns : tie.Need-returns
-unfolding freedLine
+unfolding freed_line
 returns c =
     let last = c.before.before in
     let watts = last.before.before.before.before.before in

@@ -1,12 +1,12 @@
 -- `put_plan` meets its contract: the servers are put where the line of the freed watts ends.
-use Rattle.print.specs.Walk.{planPrint}
+use Rattle.print.specs.Walk.{plan_print}
 use Rattle.print.proofs.Putting.{then, counts}
 use borrow.Author.Rules.{rules}
 use Rattle.print.proofs.put_plan.Statement.{statement}
 use Rattle.print.proofs.put_plan.Tie as tie
 
 returns : tie.Need-returns
-unfolding planPrint
+unfolding plan_print
 returns c =
     let servers = c.before.before in
     let freed = servers.before.before.before.before in

@@ -1,12 +1,12 @@
 -- `put_server` meets its contract: each figure is put where the one before it ends.
-use Rattle.print.specs.Line.{serverLine}
+use Rattle.print.specs.Line.{server_line}
 use Rattle.print.proofs.Putting.{then}
 use borrow.Author.Rules.{rules}
 use Rattle.print.proofs.put_server.Statement.{statement}
 use Rattle.print.proofs.put_server.Tie as tie
 
 returns : tie.Need-returns
-unfolding serverLine
+unfolding server_line
 returns c =
     let last = c.before.before in
     let cap = last.before.before.before.before.before in

@@ -3,7 +3,7 @@ use borrow.Author.Rules.{rules}
 use native.Mathlib.Omega.{arith}
 use mathlib.Core.Path.{ap, ◌∙◌}
 use Prim.Native.Nat.{ℕ, ◌-◌, min}
-use Rattle.print.specs.Print.{planLine}
+use Rattle.print.specs.Print.{plan_line}
 use Rattle.print.proofs.Putting.{putting-within}
 use Rattle.print.proofs.Turns.{Walking, walking-first, walking-next, walked}
 use Rattle.print.proofs.put_servers.Statement.{statement}
@@ -11,7 +11,7 @@ use Rattle.print.proofs.put_servers.Tie as tie
 
 abbrev invariant-loop : tie.invariant-loop
 invariant-loop servers cords caps grants headroom held buffer₀ start count first₀ next₀ v₀ buffer first next v =
-    Walking servers cords caps (planLine grants headroom held) buffer₀ start count buffer first next v
+    Walking servers cords caps (plan_line grants headroom held) buffer₀ start count buffer first next v
 
 abbrev decreases-loop : tie.decreases-loop
 decreases-loop servers cords caps grants headroom held buffer₀ start count first₀ next₀ v₀ buffer first next v = count - v

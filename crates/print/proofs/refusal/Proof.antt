@@ -1,12 +1,12 @@
 -- `refusal` meets its contract: each figure is put where the one before it ends.
-use Rattle.print.specs.Line.{refusedLine}
+use Rattle.print.specs.Line.{refused_line}
 use Rattle.print.proofs.Putting.{then, counts}
 use borrow.Author.Rules.{rules}
 use Rattle.print.proofs.refusal.Statement.{statement}
 use Rattle.print.proofs.refusal.Tie as tie
 
 returns : tie.Need-returns
-unfolding refusedLine
+unfolding refused_line
 returns c =
     let last = c.before.before in
     let place = last.before.before.before.before.before in

@@ -1,5 +1,5 @@
 -- `write` meets its contract: the table is checked, and only the sheet's length is left to decide.
-use Rattle.rooms.specs.Table.{roomCords}
+use Rattle.rooms.specs.Table.{room_cords}
 use Rattle.rooms.specs.Limits.{checked}
 use Rattle.rooms.proofs.Steps.{Known, known}
 use Rattle.rooms.proofs.Outcomes.{refused-so, refused-done, accepted-done, writing-refused, writing-bytes, writing-short, writing-large}
@@ -13,7 +13,7 @@ returns c = refused-done _ _ (writing-refused _ _ (refused-so _ _ c.before.befor
 
 -- The table that is written was found good.
 abbrev good : (c : tie.After-enum-told)
-    → let call = c.before.before in Known roomCords (checked call.before.before.before.args.table.now 0) c.enum_told.given.0.0 c.enum_told.given.0.1.0
+    → let call = c.before.before in Known room_cords (checked call.before.before.before.args.table.now 0) c.enum_told.given.0.0 c.enum_told.given.0.1.0
 good c = known _ _ c.before.before.check.ensures c.enum_told.given.1
 
 returns-2 : tie.Need-returns-2

@@ -2,7 +2,7 @@
 use native.Mathlib.Omega.{arith}
 use lib.ListN.{length-set}
 use borrow.Author.Rules.{rules}
-use Rattle.schedules.proofs.TableLaws.{Whole, whole-so, whole-few, line_refused, no_lines, too_short, stands}
+use Rattle.schedules.proofs.TableLaws.{Whole, whole-so, whole-few, line_refused, lines_none, list_short, stands}
 use Rattle.schedules.proofs.schedule_words.Statement.{statement}
 use Rattle.schedules.proofs.schedule_words.Tie as tie
 
@@ -18,7 +18,7 @@ lines-whole : (c : tie.After-known-told) → Whole (read c.before.before.before)
 lines-whole c = whole-so _ (read c.before.before.before).read-lines.ensures.0 c.before.counted.given.1
 
 returns-2 : tie.Need-returns-2
-returns-2 c = no_lines _ _ (lines-whole c.before) _ (search rules)
+returns-2 c = lines_none _ _ (lines-whole c.before) _ (search rules)
 
 mul-servers : tie.Need-overflow-mul-servers
 mul-servers c = omega (arith, whole-few (lines-whole c.before))
@@ -30,7 +30,7 @@ add-t15 : tie.Need-overflow-add-t15
 add-t15 c = omega (arith, whole-few (lines-whole c.before.before))
 
 returns-3 : tie.Need-returns-3
-returns-3 c = too_short _ _ (lines-whole c.before.before) c.before.if1.false _ c.if2.true
+returns-3 c = list_short _ _ (lines-whole c.before.before) c.before.if1.false _ c.if2.true
 
 cast-words : tie.Need-overflow-cast-words
 cast-words c = omega (arith, whole-few (lines-whole c.before.before))

@@ -5,8 +5,8 @@ use mathlib.Core.Path.{◌≡◌, refl}
 use Prim.Native.Nat.{◌-◌, ◌≤◌, ◌<◌}
 use lib.ListN.{length, take, length-set}
 use lib.Seq.{sets}
-use Rattle.sender.specs.Period.{serversFrom, positionAfter}
-use Rattle.sender.proofs.Periods.{positionAfter-suc, name-turn, name-end}
+use Rattle.sender.specs.Period.{servers_from, position_after}
+use Rattle.sender.proofs.Periods.{position_after-suc, name-turn, name-end}
 use Rattle.sender.proofs.name_servers.Statement.{statement}
 use Rattle.sender.proofs.name_servers.Tie as tie
 
@@ -16,14 +16,14 @@ invariant-loop count position list₀ server₀ i₀ i-end list server i =
     × (i-end ≡ length list₀)
     × (length list ≡ length list₀)
     × (server < count)
-    × (server ≡ positionAfter count position i)
-    × (list ≡ sets list₀ 0 (take i (serversFrom count position (length list₀))))
+    × (server ≡ position_after count position i)
+    × (list ≡ sets list₀ 0 (take i (servers_from count position (length list₀))))
 
 abbrev decreases-loop : tie.decreases-loop
 decreases-loop count position list₀ server₀ i₀ i-end list server i = i-end - i
 
 loop-holds : tie.Need-loop-init invariant-loop decreases-loop
-unfolding positionAfter
+unfolding position_after
 loop-holds c = (omega arith, refl, refl, omega arith, refl, refl)
 
 loop-again : tie.Need-loop-preserved invariant-loop decreases-loop
@@ -31,7 +31,7 @@ loop-again c =
     let at = c.before.before in
     let args = at.before.before.args in
     let turn = name-turn args.count args.position args.list.now at.loop.i (omega arith) in
-    let moved = positionAfter-suc args.count args.position at.loop.i in
+    let moved = position_after-suc args.count args.position at.loop.i in
     (omega arith, refl, simp length-set (omega arith), c.follow.ensures.1, (cc), (cc))
 
 returns : tie.Need-returns invariant-loop decreases-loop

@@ -4,7 +4,7 @@ use Prim.Native.Nat.{ℕ, ◌*◌, ◌/◌, ◌≤◌}
 use native.Mathlib.Nat.{mul-le-mul_left, lt_of_le_of_lt}
 use borrow.Author.Rules.{rules}
 use Rattle.splits.proofs.Splits.{quotient_by, quotient-most}
-use Rattle.splits.proofs.Ways.{quotientIn-is}
+use Rattle.splits.proofs.Ways.{quotient_in-is}
 use Rattle.splits.proofs.long_quotient.Statement.{statement}
 use Rattle.splits.proofs.long_quotient.Tie as tie
 
@@ -27,7 +27,7 @@ returns c =
     c.narrow.ensures
     ∙ ap₂ (λ (x d : ℕ). x * args.upto / d) c.before.before.wide.ensures.0 c.before.greater.ensures
     ∙ quotient_by args.amount args.upto args.whole pre.0
-    ∙ sym (quotientIn-is 64 args.amount args.upto args.whole pre.0 pre.1)
+    ∙ sym (quotient_in-is 64 args.amount args.upto args.whole pre.0 pre.1)
 
 pub long-quotient-spec : {M : Type 1} → statement M
 long-quotient-spec = tie.close (tie.spec (λ c κs. search rules) mul-narrow (λ c κs. search rules) (λ c. search rules) narrow-requires returns)

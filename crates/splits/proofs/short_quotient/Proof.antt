@@ -4,7 +4,7 @@ use Prim.Native.Nat.{ℕ, ◌*◌, ◌/◌}
 use native.Mathlib.Nat.{mul-le-mul_left, lt_of_le_of_lt}
 use borrow.Author.Rules.{rules}
 use Rattle.splits.proofs.Splits.{quotient_by}
-use Rattle.splits.proofs.Ways.{quotientIn-is, short-fits}
+use Rattle.splits.proofs.Ways.{quotient_in-is, short-fits}
 use Rattle.splits.proofs.short_quotient.Statement.{statement}
 use Rattle.splits.proofs.short_quotient.Tie as tie
 
@@ -20,7 +20,7 @@ returns c =
     let pre = c.before.requires in
     ap (λ (d : ℕ). amount * upto / d) c.short-greater.ensures
     ∙ quotient_by amount upto whole pre.2
-    ∙ sym (quotientIn-is 32 amount upto whole pre.2 (short-fits amount whole pre.0 pre.1))
+    ∙ sym (quotient_in-is 32 amount upto whole pre.2 (short-fits amount whole pre.0 pre.1))
 
 pub short-quotient-spec : {M : Type 1} → statement M
 short-quotient-spec = tie.close (tie.spec mul-result (λ c κs. search rules) (λ c. search rules) returns)

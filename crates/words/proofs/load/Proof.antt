@@ -7,7 +7,7 @@ use lib.ListN.{length, take, length-set}
 use lib.Seq.{sets}
 use Rattle.words.specs.Bytes.{words_of}
 use Rattle.figures.proofs.Stores.{sets-turn, sets-take}
-use Rattle.words.proofs.Bytes.{length-wordsOf, getD-wordsOf}
+use Rattle.words.proofs.Bytes.{length-words_of, get_or-words_of}
 use Rattle.words.proofs.load.Statement.{statement}
 use Rattle.words.proofs.load.Tie as tie
 
@@ -24,15 +24,15 @@ loop-again : tie.Need-loop-preserved invariant-loop decreases-loop
 loop-again c =
     let at = c.before.before in
     let args = at.before.before.before.before.args in
-    let read = getD-wordsOf args.bytes.now at.loop.i (omega arith) in
-    let turn = sets-turn args.list.now (words_of args.bytes.now) at.loop.i 0 (omega (arith, length-wordsOf args.bytes.now)) in
+    let read = get_or-words_of args.bytes.now at.loop.i (omega arith) in
+    let turn = sets-turn args.list.now (words_of args.bytes.now) at.loop.i 0 (omega (arith, length-words_of args.bytes.now)) in
     (omega arith, (cc), simp length-set (omega arith))
 
 returns : tie.Need-returns invariant-loop decreases-loop
 returns c =
     let at = c.before in
     let args = at.before.before.before.before.args in
-    let all = sets-take at.loop.i args.list.now (words_of args.bytes.now) (omega (arith, length-wordsOf args.bytes.now)) in
+    let all = sets-take at.loop.i args.list.now (words_of args.bytes.now) (omega (arith, length-words_of args.bytes.now)) in
     (search rules, (cc))
 
 pub load_spec : {M : Type 1} → statement M

@@ -5,15 +5,15 @@ use Prim.Native.Nat.{◌+◌, ◌-◌, ◌≤◌}
 use mathlib.Core.Path.{◌≡◌, refl}
 use lib.ListN.{length, length-set}
 use lib.Seq.{sets}
-use Rattle.words.specs.Bytes.{littleEndian}
-use Rattle.words.proofs.Bytes.{sets-littleEndian-turn}
+use Rattle.words.specs.Bytes.{little_endian}
+use Rattle.words.proofs.Bytes.{sets-little_endian-turn}
 use Rattle.words.proofs.put.Statement.{statement}
 use Rattle.words.proofs.put.Tie as tie
 
 abbrev invariant-loop : tie.invariant-loop
 invariant-loop number count bytes₀ at rest₀ i₀ bytes rest i =
     (i ≤ count)
-    × (sets bytes (at + i) (littleEndian (count - i) rest) ≡ sets bytes₀ at (littleEndian count number))
+    × (sets bytes (at + i) (little_endian (count - i) rest) ≡ sets bytes₀ at (little_endian count number))
     × (length bytes ≡ length bytes₀)
 
 abbrev decreases-loop : tie.decreases-loop
@@ -29,11 +29,11 @@ loop-again : tie.Need-loop-preserved invariant-loop decreases-loop
 loop-again c =
     let at = c.before in
     let args = at.before.args in
-    let turn = sets-littleEndian-turn at.loop.bytes args.at at.loop.i args.count at.loop.rest (omega arith) in
+    let turn = sets-little_endian-turn at.loop.bytes args.at at.loop.i args.count at.loop.rest (omega arith) in
     (omega arith, (cc), simp length-set (omega arith))
 
 returns : tie.Need-returns invariant-loop decreases-loop
-unfolding littleEndian
+unfolding little_endian
 returns c =
     let at = c.before in
     let none : at.before.args.count - at.loop.i ≡ 0 = omega arith in

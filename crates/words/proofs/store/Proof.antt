@@ -7,7 +7,7 @@ use lib.ListN.{length, take}
 use lib.Seq.{sets}
 use Rattle.words.specs.Bytes.{bytes_of}
 use Rattle.figures.proofs.Stores.{take_min}
-use Rattle.words.proofs.Bytes.{sets-bytesOf-turn}
+use Rattle.words.proofs.Bytes.{sets-bytes_of-turn}
 use Rattle.words.proofs.store.Statement.{statement}
 use Rattle.words.proofs.store.Tie as tie
 
@@ -28,7 +28,7 @@ loop-again c =
     let more = call.before.before.before.before in
     let at = more.before in
     let args = at.before.before.before.before.args in
-    let turn = sets-bytesOf-turn args.bytes.now args.list.now at.loop.i (omega (arith, at)) in
+    let turn = sets-bytes_of-turn args.bytes.now args.list.now at.loop.i (omega (arith, at)) in
     let size : length put.new.1.1.0 ≡ length at.loop.bytes = put.auto.1.1.0 in
     (omega (arith, at), (cc), (cc))
 

@@ -4,19 +4,19 @@ use native.Mathlib.Omega.{arith}
 use mathlib.Core.Path.{sym, ◌∙◌}
 use Prim.Native.Nat.{◌+◌, ◌≤◌}
 use lib.ListN.{length}
-use Rattle.words.proofs.Bytes.{numberStored-short, numberStored-whole}
+use Rattle.words.proofs.Bytes.{number_stored-short, number_stored-whole}
 use Rattle.words.proofs.store_number.Statement.{statement}
 use Rattle.words.proofs.store_number.Tie as tie
 
 returns : tie.Need-returns
 returns c =
     let args = c.before.before.args in
-    sym (numberStored-short args.number args.bytes.now args.at (omega arith))
+    sym (number_stored-short args.number args.bytes.now args.at (omega arith))
 
 returns-2 : tie.Need-returns-2
 returns-2 c =
     let args = c.before.before.before.args in
-    sym (numberStored-short args.number args.bytes.now args.at (omega arith))
+    sym (number_stored-short args.number args.bytes.now args.at (omega arith))
 
 returns-3 : tie.Need-returns-3
 returns-3 c =
@@ -24,7 +24,7 @@ returns-3 c =
     let fits = put.before.before in
     let args = fits.before.before.before.args in
     let whole : args.at + 8 ≤ length args.bytes.now = omega (arith, fits) in
-    put.put.ensures ∙ sym (numberStored-whole args.number args.bytes.now args.at whole)
+    put.put.ensures ∙ sym (number_stored-whole args.number args.bytes.now args.at whole)
 
 pub store-number-spec : {M : Type 1} → statement M
 store-number-spec =

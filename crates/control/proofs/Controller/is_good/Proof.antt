@@ -2,24 +2,24 @@
 use borrow.Author.Rules.{rules}
 use mathlib.Core.Path.{sym, ◌∙◌}
 use lib.Ieee.{of_bits}
-use Rattle.control.specs.Step.{goodController}
+use Rattle.control.specs.Step.{good_controller}
 use Rattle.control.proofs.Tests.{and-true, false-and, was-true, was-false}
 use Rattle.control.proofs.Controller.is_good.Statement.{statement}
 use Rattle.control.proofs.Controller.is_good.Tie as tie
 
 returns : tie.Need-returns
-unfolding goodController
+unfolding good_controller
 returns c = false-and _ (was-false c.before.is-efficiency.ensures c.if1.true)
 
 returns-2 : tie.Need-returns-2
-unfolding goodController of_bits
+unfolding good_controller of_bits
 returns-2 c =
     let left = c.before.before in
     and-true (was-true left.before.before.is-efficiency.ensures left.before.if1.false)
     (and-true (sym left.ordered.ensures ∙ c.before.if2.true) c.ordered2.ensures)
 
 returns-3 : tie.Need-returns-3
-unfolding goodController of_bits
+unfolding good_controller of_bits
 returns-3 c =
     let left = c.before in
     and-true (was-true left.before.before.is-efficiency.ensures left.before.if1.false)

@@ -2,7 +2,7 @@
 use borrow.Author.Rules.{rules}
 use mathlib.Core.Path.{ap, ◌∙◌}
 use Rattle.control.specs.declared.DcWatts.{DcWatts}
-use Rattle.control.specs.Step.{sum, cut, withCap}
+use Rattle.control.specs.Step.{sum, cut, with_cap}
 use Rattle.control.proofs.Controller.moved.Statement.{statement}
 use Rattle.control.proofs.Controller.moved.Tie as tie
 
@@ -10,7 +10,7 @@ returns : tie.Need-returns
 returns c =
     let change = c.before in
     let controller = change.before.before.before.before.args.self in
-    ap (withCap controller)
+    ap (with_cap controller)
     (c.moved.ensures
     ∙ ap (λ (d : DcWatts). cut (sum controller.cap d) controller.low controller.high) change.dc-change.ensures)
 

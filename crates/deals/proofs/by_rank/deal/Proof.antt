@@ -6,12 +6,12 @@ use native.Mathlib.Omega.{arith}
 use lib.ListN.{length, replicate}
 use borrow.Author.Rules.{rules}
 use borrow.Author.Count.{falls_down}
-use Rattle.rooms.specs.Table.{mostNodes, highestRank}
+use Rattle.rooms.specs.Table.{most_nodes, highest_rank}
 use Rattle.figures.proofs.Cells.{zeros-rows, zeros-cells}
 use Rattle.figures.proofs.Filled.{zeros-at}
 use Rattle.figures.proofs.Fronts.{equal-length}
 use Rattle.deals.specs.Ranks.{SomeDeal}
-use Rattle.deals.proofs.RankLoop.{figuresLength, RankLoop, LevelRow, loop-start, loop-end, level-fits, loop-skip, part_end, add-cords-asks, Summed, summed, request-asks, deal-nodes-asks, deal-cords-asks, loop-turn}
+use Rattle.deals.proofs.RankLoop.{figures_length, RankLoop, LevelRow, loop-start, loop-end, level-fits, loop-skip, part_end, add-cords-asks, Summed, summed, request-asks, deal-nodes-asks, deal-cords-asks, loop-turn}
 use Rattle.deals.proofs.by_rank.deal.Statement.{statement}
 use Rattle.deals.proofs.by_rank.deal.Tie as tie
 
@@ -108,7 +108,7 @@ nodes k = nodes-of k.before.before.before.before.before
 abbrev some-deal : (s : Start) → SomeDeal s.args.parents.now s.args.levels.now s.args.order.now s.args.actives.now s.args.nodes.now s.args.starts.now s.args.wants.now s.args.left.now
 some-deal s = s.requires.0
 
-abbrev fits : (t : In) → t.before.loop.level - 1 < highestRank
+abbrev fits : (t : In) → t.before.loop.level - 1 < highest_rank
 fits t = level-fits (some-deal (start t.before)) t.before.loop.invariant t.loop-test.true
 
 -- The row of the level, as it is read.
@@ -144,22 +144,22 @@ sums_at s =
     summed (some-deal (start (loop (turn-s s)))) (loop (turn-s s)).loop.inv (more (turn-s s)) (row (turn-s s))
     s.add-cords.kept.1.1.1.1.1.0 s.add-cords.kept.1.1.1.1.1.1.0 s.add-cords.ensures
 
-wholes-sized : (a : Asked) → length a.request.last.1.1.1.1.1.0 ≡ figuresLength
+wholes-sized : (a : Asked) → length a.request.last.1.1.1.1.1.0 ≡ figures_length
 wholes-sized a = a.request.kept.1.1.1.1.1.0 ∙ (sums_at (sums a)).wholes-size
 
-weights-sized : (a : Asked) → length a.request.last.1.1.1.1.1.1.0 ≡ figuresLength
+weights-sized : (a : Asked) → length a.request.last.1.1.1.1.1.1.0 ≡ figures_length
 weights-sized a = a.request.kept.1.1.1.1.1.1.0 ∙ (loop (turn-a a)).loop.inv.amounts-size
 
-bases-sized : (a : Asked) → length a.request.last.1.1.1.1.1.1.1.1.0 ≡ figuresLength
+bases-sized : (a : Asked) → length a.request.last.1.1.1.1.1.1.1.1.0 ≡ figures_length
 bases-sized a = a.request.kept.1.1.1.1.1.1.1.1.0 ∙ (sums_at (sums a)).bases-size
 
-amounts-sized : (n : Nodes) → length n.deal-nodes.last.1.1.1.1.0 ≡ figuresLength
+amounts-sized : (n : Nodes) → length n.deal-nodes.last.1.1.1.1.0 ≡ figures_length
 amounts-sized n = n.deal-nodes.kept.1.1.1.1.0 ∙ weights-sized (asked n)
 
-before-sized : (n : Nodes) → length n.deal-nodes.last.1.1.1.1.1.0 ≡ figuresLength
+before-sized : (n : Nodes) → length n.deal-nodes.last.1.1.1.1.1.0 ≡ figures_length
 before-sized n = n.deal-nodes.kept.1.1.1.1.1.0 ∙ (loop (turn-n n)).loop.inv.before-size
 
-dealt-sized : (n : Nodes) → length n.deal-nodes.last.1.1.1.1.1.1.0 ≡ figuresLength
+dealt-sized : (n : Nodes) → length n.deal-nodes.last.1.1.1.1.1.1.0 ≡ figures_length
 dealt-sized n = n.deal-nodes.kept.1.1.1.1.1.1.0 ∙ (loop (turn-n n)).loop.inv.dealt-size
 
 left-kept : (k : Cords) → length (asked (nodes k)).request.last.1.1.1.1.0 ≡ length (loop (turn-n (nodes k))).loop.left
@@ -171,22 +171,22 @@ cuts-kept k = (asked (nodes k)).request.kept.1.1.1.1.1.1.1.0
 grants-kept : (k : Cords) → length k.deal-cords.last.1.1.1.1.1.1.1.1.0 ≡ length (loop (turn-n (nodes k))).loop.grants
 grants-kept k = k.deal-cords.kept.1.1.1.1.1.1.1.1.0
 
-before-left : (k : Cords) → length k.deal-cords.last.1.1.1.1.1.1.0 ≡ figuresLength
+before-left : (k : Cords) → length k.deal-cords.last.1.1.1.1.1.1.0 ≡ figures_length
 before-left k = k.deal-cords.kept.1.1.1.1.1.1.0 ∙ before-sized (nodes k)
 
-dealt-left : (k : Cords) → length k.deal-cords.last.1.1.1.1.1.1.1.0 ≡ figuresLength
+dealt-left : (k : Cords) → length k.deal-cords.last.1.1.1.1.1.1.1.0 ≡ figures_length
 dealt-left k = k.deal-cords.kept.1.1.1.1.1.1.1.0 ∙ dealt-sized (nodes k)
 
-list-sized : length {A = ℕ} (replicate figuresLength 0) ≡ figuresLength
-list-sized = equal-length {A = ℕ} figuresLength 0
+list-sized : length {A = ℕ} (replicate figures_length 0) ≡ figures_length
+list-sized = equal-length {A = ℕ} figures_length 0
 
 -- ---- The needs
 
 loop-holds : tie.Need-loop-init invariant-loop decreases-loop
 loop-holds c =
     let given = (entry c).requires in
-    loop-start given.0 given.1 given.2 (record { full = zeros-rows mostNodes highestRank; blank = λ m j _ _ _. zeros-cells mostNodes highestRank m j })
-    list-sized (λ n _. zeros-at figuresLength n) list-sized list-sized list-sized list-sized
+    loop-start given.0 given.1 given.2 (record { full = zeros-rows most_nodes highest_rank; blank = λ m j _ _ _. zeros-cells most_nodes highest_rank m j })
+    list-sized (λ n _. zeros-at figures_length n) list-sized list-sized list-sized list-sized
 
 mul-index : tie.Need-overflow-mul-index invariant-loop decreases-loop
 mul-index c = omega (arith, fits c)

@@ -5,7 +5,7 @@ use native.Mathlib.Omega.{arith}
 use borrow.Author.Rules.{rules}
 use lib.ListN.{length}
 use Rattle.figures.specs.Figures.{at}
-use Rattle.rooms.specs.Table.{mostWatts}
+use Rattle.rooms.specs.Table.{most_watts}
 use Rattle.deals.proofs.CordSums.{cord-within, cord-bounds, SumTurn, sums-start, sums-end, start_fits, weight-fits, sums_next}
 use Rattle.deals.proofs.metrics.add_cords.Statement.{statement}
 use Rattle.deals.proofs.metrics.add_cords.Tie as tie
@@ -56,7 +56,7 @@ cord-there c =
 -- Its start and want stand in order.
 bounds : (c : tie.After-index invariant-loop decreases-loop)
     → (at (start (turn c).before).args.starts.now c.index.result ≤ at (start (turn c).before).args.wants.now c.index.result)
-    × (at (start (turn c).before).args.wants.now c.index.result ≤ mostWatts)
+    × (at (start (turn c).before).args.wants.now c.index.result ≤ most_watts)
 bounds c = cord-bounds (start (turn c).before).pre.0 (turn c).loop-test.true c.index.ensures.0
 
 loop-holds : tie.Need-loop-init invariant-loop decreases-loop

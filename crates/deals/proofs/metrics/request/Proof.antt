@@ -5,10 +5,10 @@ use Prim.Native.Nat.{ℕ, ◌+◌, ◌-◌, ◌≤◌, ◌<◌}
 use native.Mathlib.Omega.{arith}
 use lib.ListN.{length}
 use borrow.Author.Rules.{rules}
-use Rattle.rooms.specs.Table.{mostNodes, mostWatts, highestRank}
+use Rattle.rooms.specs.Table.{most_nodes, most_watts, highest_rank}
 use Rattle.figures.specs.Figures.{at, cell}
 use Rattle.figures.proofs.Cells.{stored}
-use Rattle.deals.specs.Passes.{cutMark}
+use Rattle.deals.specs.Passes.{cut_mark}
 use Rattle.deals.proofs.Weighing.{in-parents, in_left, in-wholes, in-weights, credit-fits}
 use Rattle.deals.proofs.Requesting.{RequestTurn, request-start, request-end, in-bases, in-cuts, in_rows, request-fits, base-fits, row_here, request-turn}
 use Rattle.deals.proofs.metrics.request.Statement.{statement}
@@ -59,17 +59,17 @@ level c = (entry (head c).before).args.level
 abbrev asked : tie.After-marked invariant-loop decreases-loop → ℕ
 asked c = (begun c).narrow.result + (taken c).take.result
 
-fits : (c : tie.After-marked invariant-loop decreases-loop) → asked c ≤ mostWatts
+fits : (c : tie.After-marked invariant-loop decreases-loop) → asked c ≤ most_watts
 fits c = omega (
   arith,
   request-fits (head c).loop.invariant (turn (place c)).loop-test.taken (place c).index.ensures.0 (taken c).take.ensures.0,
   (begun c).narrow.ensures,
 )
 
-row : (c : tie.After-marked invariant-loop decreases-loop) → (place c).index.result < mostNodes
+row : (c : tie.After-marked invariant-loop decreases-loop) → (place c).index.result < most_nodes
 row c = in_rows (head c).loop.invariant (turn (place c)).loop-test.taken (place c).index.ensures.0
 
-column : (c : tie.After-marked invariant-loop decreases-loop) → level c < highestRank
+column : (c : tie.After-marked invariant-loop decreases-loop) → level c < highest_rank
 column c = (head c).loop.invariant.requesting.given.ranked
 
 row_read : (c : tie.After-marked invariant-loop decreases-loop)
@@ -192,7 +192,7 @@ loop-again c =
     request-turn loop.inv (turn at-node).loop-test.taken at-node.index.ensures.0
     weighed.take.ensures.0 weighed.take.ensures.1 whole.before.wide.ensures.0 (read_again _ _ _ (row_read marked))
     (parent weighed).index2.ensures.0 whole.credit.ensures
-    (marked.marked.ensures ∙ ap (λ (x : ℕ). cutMark (at loop.cuts n) (level marked) x (at loop.wholes n)) marked.before.wide2.ensures.0)
+    (marked.marked.ensures ∙ ap (λ (x : ℕ). cut_mark (at loop.cuts n) (level marked) x (at loop.wholes n)) marked.before.wide2.ensures.0)
     (ap (λ (x : ℕ). x + weighed.take.result) (begun marked).narrow.ensures)
     (credited.before.wide3.ensures.0 ∙ (begun marked).narrow.ensures) credited.credit2.ensures
 

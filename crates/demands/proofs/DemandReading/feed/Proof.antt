@@ -4,14 +4,14 @@ use native.Mathlib.Omega.{arith}
 use mathlib.Core.Path.{◌≡◌, refl}
 use Prim.Native.Nat.{◌-◌}
 use lib.ListN.{length}
-use Rattle.demands.specs.Reading.{heldReading}
+use Rattle.demands.specs.Reading.{held_reading}
 use Rattle.demands.proofs.Bytes.{Going, going-first, going_next, going-last}
 use Rattle.demands.proofs.DemandReading.feed.Statement.{statement}
 use Rattle.demands.proofs.DemandReading.feed.Tie as tie
 
 abbrev invariant-loop : tie.invariant-loop
 invariant-loop piece list₀ reading₀ i₀ i-end list reading i =
-    Going (heldReading reading₀ list₀) piece (heldReading reading list) i × (length list ≡ length list₀)
+    Going (held_reading reading₀ list₀) piece (held_reading reading list) i × (length list ≡ length list₀)
 
 abbrev decreases-loop : tie.decreases-loop
 decreases-loop piece list₀ reading₀ i₀ i-end list reading i = length piece - i

@@ -2,7 +2,7 @@
 use mathlib.Core.Path.{refl}
 use Rattle.words.specs.Bytes.{words_of}
 use Prim.Native.Nat.{◌-◌}
-use Rattle.join.specs.Pieces.{renumberedEvery}
+use Rattle.join.specs.Pieces.{renumbered_every}
 use native.Mathlib.Omega.{arith}
 use Rattle.join.proofs.PieceLaws.{every-length, piece-below, put-changed}
 use borrow.Author.Rules.{rules}
@@ -28,7 +28,7 @@ renumber-every-requires c κs =
 
 returns : tie.Need-returns
 returns c =
-    put-changed (put-words-from-renumber-every-arg c.before.before.before).put-words.ensures (renumberedEvery ((put-words-arg-from-renumber-every-arg c.before.before.before).before.before.before.args.width - 1) (put-words-arg-from-renumber-every-arg c.before.before.before).before.before.before.args.up (put-words-arg-from-renumber-every-arg c.before.before.before).before.before.before.args.down 0)
+    put-changed (put-words-from-renumber-every-arg c.before.before.before).put-words.ensures (renumbered_every ((put-words-arg-from-renumber-every-arg c.before.before.before).before.before.before.args.width - 1) (put-words-arg-from-renumber-every-arg c.before.before.before).before.before.before.args.up (put-words-arg-from-renumber-every-arg c.before.before.before).before.before.before.args.down 0)
     (every-length ((put-words-arg-from-renumber-every-arg c.before.before.before).before.before.before.args.width - 1) (put-words-arg-from-renumber-every-arg c.before.before.before).before.before.before.args.up (put-words-arg-from-renumber-every-arg c.before.before.before).before.before.before.args.down 0 _) c.before.before.renumber-every.ensures refl
 
 pub put-nodes-spec : {M : Type 1} → statement M

@@ -1,7 +1,7 @@
 -- `put_servers` meets its contract: what was put is changed in its place.
 use mathlib.Core.Path.{refl}
 use Rattle.words.specs.Bytes.{words_of}
-use Rattle.join.specs.Pieces.{renumberedCords}
+use Rattle.join.specs.Pieces.{renumbered_cords}
 use native.Mathlib.Omega.{arith}
 use Rattle.join.proofs.PieceLaws.{cords-length, piece-below, put-changed}
 use borrow.Author.Rules.{rules}
@@ -26,7 +26,7 @@ renumber-cords-requires c κs =
     (pre.1.0, piece-below 2147483648 (put-words-arg-from-renumber-cords-arg c).before.before.before.args.from (put-words-arg-from-renumber-cords-arg c).before.before.before.args.to (words_of (put-words-arg-from-renumber-cords-arg c).before.before.before.args.bytes.now) c.before.before.before.put-words.ensures pre.1.1)
 
 returns : tie.Need-returns
-returns c = put-changed (put-words-from-renumber-cords-arg c.before.before.before).put-words.ensures (renumberedCords (put-words-arg-from-renumber-cords-arg c.before.before.before).before.before.before.args.up (put-words-arg-from-renumber-cords-arg c.before.before.before).before.before.before.args.down 0) (cords-length (put-words-arg-from-renumber-cords-arg c.before.before.before).before.before.before.args.up (put-words-arg-from-renumber-cords-arg c.before.before.before).before.before.before.args.down 0 _) c.before.before.renumber-cords.ensures refl
+returns c = put-changed (put-words-from-renumber-cords-arg c.before.before.before).put-words.ensures (renumbered_cords (put-words-arg-from-renumber-cords-arg c.before.before.before).before.before.before.args.up (put-words-arg-from-renumber-cords-arg c.before.before.before).before.before.before.args.down 0) (cords-length (put-words-arg-from-renumber-cords-arg c.before.before.before).before.before.before.args.up (put-words-arg-from-renumber-cords-arg c.before.before.before).before.before.before.args.down 0 _) c.before.before.renumber-cords.ensures refl
 
 pub put-servers-spec : {M : Type 1} → statement M
 put-servers-spec = tie.close (tie.spec

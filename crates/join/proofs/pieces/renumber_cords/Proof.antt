@@ -4,13 +4,13 @@ use Prim.Native.Nat.{ℕ, ◌-◌, ◌<◌}
 use native.Mathlib.Omega.{arith}
 use lib.ListN.{length, length-set}
 use borrow.Author.Rules.{rules}
-use Rattle.join.specs.Pieces.{renumberedCords}
+use Rattle.join.specs.Pieces.{renumbered_cords}
 use Rattle.join.proofs.PieceLaws.{Turning, turning-begin, turning-end, turning-at, cords-none, server-again, cord-again}
 use Rattle.join.proofs.pieces.renumber_cords.Statement.{statement}
 use Rattle.join.proofs.pieces.renumber_cords.Tie as tie
 
 abbrev invariant-loop : tie.invariant-loop
-invariant-loop words₀ up down i₀ left₀ words i left = Turning (renumberedCords up down left) (renumberedCords up down 0 words₀) words₀ words i
+invariant-loop words₀ up down i₀ left₀ words i left = Turning (renumbered_cords up down left) (renumbered_cords up down 0 words₀) words₀ words i
 
 abbrev decreases-loop : tie.decreases-loop
 decreases-loop words₀ up down i₀ left₀ words i left = length words - i

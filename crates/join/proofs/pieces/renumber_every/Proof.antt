@@ -4,13 +4,13 @@ use Prim.Native.Nat.{ℕ, ◌-◌, ◌<◌}
 use native.Mathlib.Omega.{arith}
 use lib.ListN.{length, length-set}
 use borrow.Author.Rules.{rules}
-use Rattle.join.specs.Pieces.{renumberedEvery}
+use Rattle.join.specs.Pieces.{renumbered_every}
 use Rattle.join.proofs.PieceLaws.{Turning, turning-begin, turning-end, turning-at, every-none, every-again}
 use Rattle.join.proofs.pieces.renumber_every.Statement.{statement}
 use Rattle.join.proofs.pieces.renumber_every.Tie as tie
 
 abbrev invariant-loop : tie.invariant-loop
-invariant-loop words₀ width up down i₀ words i = Turning (renumberedEvery (width - 1) up down 0) (renumberedEvery (width - 1) up down 0 words₀) words₀ words i
+invariant-loop words₀ width up down i₀ words i = Turning (renumbered_every (width - 1) up down 0) (renumbered_every (width - 1) up down 0 words₀) words₀ words i
 
 abbrev decreases-loop : tie.decreases-loop
 decreases-loop words₀ width up down i₀ words i = length words - i

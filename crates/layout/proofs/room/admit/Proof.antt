@@ -4,8 +4,8 @@ use mathlib.Core.List.{List}
 use Prim.Native.Nat.{ℕ}
 use lib.ListN.{length, drop}
 use Rattle.rooms.specs.Part.{Good}
-use Rattle.rooms.specs.Limits.{checked, lowsTold}
-use Rattle.layout.specs.Outcome.{loadReasons}
+use Rattle.rooms.specs.Limits.{checked, lows_told}
+use Rattle.layout.specs.Outcome.{load_reasons}
 use Rattle.layout.proofs.Loads.{table-good, cords-told, Left, table-told, count-told, count-passed, large-told, all-passed, room-told}
 use borrow.Author.Rules.{rules}
 use Rattle.layout.proofs.room.admit.Statement.{statement}
@@ -31,14 +31,14 @@ check k = k.before.before.before
 abbrev room : (k : Known) → Good (checked (table k) 0)
 room k = table-good (table k) (check k).check-lows.ensures.0 k.before.checked.given.1
 
-abbrev lows : (k : Known) → (check k).check-lows.new.1.0 ≡ lowsTold (checked (table k) 0)
+abbrev lows : (k : Known) → (check k).check-lows.new.1.0 ≡ lows_told (checked (table k) 0)
 lows k = (check k).check-lows.ensures.1
 
 abbrev server-count : (c : tie.After-server-count) → c.server-count.result ≡ length (room c.before).value.servers
 server-count c = c.server-count.ensures.0 (room c.before).value (room c.before).next (room c.before).is
 
 -- Past the count of demands.
-abbrev counted : (c : tie.Else1) → Left (table c.before.before) (demands c.before.before) (room c.before.before).value (drop 1 (loadReasons (room c.before.before).value (demands c.before.before)))
+abbrev counted : (c : tie.Else1) → Left (table c.before.before) (demands c.before.before) (room c.before.before).value (drop 1 (load_reasons (room c.before.before).value (demands c.before.before)))
 counted c = count-passed (table c.before.before) (demands c.before.before) (room c.before.before) _ (server-count c.before) c.if1.false
 
 returns : tie.Need-returns

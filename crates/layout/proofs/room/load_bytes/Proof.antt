@@ -4,25 +4,25 @@ use Prim.Native.Nat.{ℕ, suc, ◌≤◌}
 use native.Mathlib.Omega.{arith}
 use lib.ListN.{length, replicate, length-replicate}
 use lib.Seq.{length-take-le}
-use Rattle.rooms.specs.Table.{mostServers, mostWords}
-use Rattle.layout.specs.Outcome.{loadedOf}
+use Rattle.rooms.specs.Table.{most_servers, most_words}
+use Rattle.layout.specs.Outcome.{loaded_of}
 use Rattle.layout.proofs.Loads.{bytes-loading, bytes-demands}
 use borrow.Author.Rules.{rules}
 use Rattle.layout.proofs.room.load_bytes.Statement.{statement}
 use Rattle.layout.proofs.room.load_bytes.Tie as tie
 
 -- How many words the lists take, which is enough.
-abbrev decidingWords : ℕ
-decidingWords = suc mostWords
+abbrev deciding_words : ℕ
+deciding_words = suc most_words
 
-abbrev decidingDemands : ℕ
-decidingDemands = suc mostServers
+abbrev deciding_demands : ℕ
+deciding_demands = suc most_servers
 
-words_long : decidingWords ≤ length {A = ℕ} (replicate decidingWords 0)
-words_long = omega (arith, length-replicate {A = ℕ} decidingWords 0)
+words_long : deciding_words ≤ length {A = ℕ} (replicate deciding_words 0)
+words_long = omega (arith, length-replicate {A = ℕ} deciding_words 0)
 
-figures-long : decidingDemands ≤ length {A = ℕ} (replicate decidingDemands 0)
-figures-long = omega (arith, length-replicate {A = ℕ} decidingDemands 0)
+figures-long : deciding_demands ≤ length {A = ℕ} (replicate deciding_demands 0)
+figures-long = omega (arith, length-replicate {A = ℕ} deciding_demands 0)
 
 -- Earlier places, each from a later one.
 abbrev start : tie.After-load → tie.Start
@@ -61,11 +61,11 @@ returns c =
     let f = figures-z z in
     let w = words-f f in
     let args = (start w).args in
-    let cut = bytes-loading args.table.now args.demands.now (replicate decidingWords 0) (replicate decidingDemands 0) words_long figures-long
+    let cut = bytes-loading args.table.now args.demands.now (replicate deciding_words 0) (replicate deciding_demands 0) words_long figures-long
     w.load.ensures.0 w.load.ensures.1 f.load2.ensures.0 f.load2.ensures.1 in
-    let all = bytes-demands args.table.now args.demands.now (replicate decidingWords 0) (replicate decidingDemands 0) words_long figures-long
+    let all = bytes-demands args.table.now args.demands.now (replicate deciding_words 0) (replicate deciding_demands 0) words_long figures-long
     w.load.ensures.0 w.load.ensures.1 f.load2.ensures.0 f.load2.ensures.1 in
-    (z.load-room.ensures.0 ∙ ap loadedOf cut, λ r e. rw (← all r e) (z.load-room.ensures.1 r (cut ∙ e)))
+    (z.load-room.ensures.0 ∙ ap loaded_of cut, λ r e. rw (← all r e) (z.load-room.ensures.1 r (cut ∙ e)))
 
 pub load-bytes-spec : {M : Type 1} → statement M
 load-bytes-spec = tie.close (tie.spec

@@ -3,12 +3,12 @@ use mathlib.Core.Path.{◌≡◌, refl, ◌∙◌}
 use Prim.Native.Nat.{◌-◌}
 use native.Mathlib.Omega.{arith}
 use borrow.Author.Rules.{rules}
-use Rattle.part.proofs.AcrossLaws.{cordsLeft, cords-end, cord-found, server-again, cord-again}
+use Rattle.part.proofs.AcrossLaws.{cords_left, cords-end, cord-found, server-again, cord-again}
 use Rattle.part.proofs.sides.cord_across.Statement.{statement}
 use Rattle.part.proofs.sides.cord_across.Tie as tie
 
 abbrev invariant-loop : tie.invariant-loop
-invariant-loop table nodes before from to i₀ left₀ i left = cordsLeft table nodes before left i to ≡ cordsLeft table nodes before 0 from to
+invariant-loop table nodes before from to i₀ left₀ i left = cords_left table nodes before left i to ≡ cords_left table nodes before 0 from to
 
 abbrev decreases-loop : tie.decreases-loop
 decreases-loop table nodes before from to i₀ left₀ i left = to - i

@@ -3,12 +3,12 @@ use mathlib.Core.Path.{◌≡◌, refl, ◌∙◌}
 use Prim.Native.Nat.{◌-◌}
 use native.Mathlib.Omega.{arith}
 use borrow.Author.Rules.{rules}
-use Rattle.part.proofs.AcrossLaws.{parentsLeft, parent-found, parents-end, parents-again}
+use Rattle.part.proofs.AcrossLaws.{parents_left, parent-found, parents-end, parents-again}
 use Rattle.part.proofs.sides.parent_across.Statement.{statement}
 use Rattle.part.proofs.sides.parent_across.Tie as tie
 
 abbrev invariant-loop : tie.invariant-loop
-invariant-loop table width nodes from to i₀ i = parentsLeft table nodes width i to ≡ parentsLeft table nodes width from to
+invariant-loop table width nodes from to i₀ i = parents_left table nodes width i to ≡ parents_left table nodes width from to
 
 abbrev decreases-loop : tie.decreases-loop
 decreases-loop table width nodes from to i₀ i = to - i

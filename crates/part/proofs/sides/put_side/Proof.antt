@@ -46,7 +46,7 @@ put-nodes-requires c κs =
 mul_words : tie.Need-overflow-mul-words
 mul_words c =
     let put = c.before.before.before in
-    omega (arith, ends put, (start put).requires.0.long, (start put).requires.0.nodeWords-there.1)
+    omega (arith, ends put, (start put).requires.0.long, (start put).requires.0.node_words-there.1)
 
 slice-write-words-3 : tie.Need-slice-write-words-3
 slice-write-words-3 c =
@@ -56,7 +56,7 @@ slice-write-words-3 c =
 add-put-servers : tie.Need-overflow-add-put-servers
 add-put-servers c =
     let put = c.before.before.before.before in
-    omega (arith, ends put, (start put).requires.0.long, (start put).requires.0.nodeWords-there.1)
+    omega (arith, ends put, (start put).requires.0.long, (start put).requires.0.node_words-there.1)
 
 put-servers-requires : tie.Need-put-servers-requires
 put-servers-requires c κs =

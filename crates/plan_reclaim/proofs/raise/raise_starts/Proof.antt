@@ -4,7 +4,7 @@ use mathlib.Core.List.{List}
 use Prim.Native.Nat.{ℕ}
 use lib.ListN.{length, take, replicate}
 use borrow.Author.Rules.{rules}
-use Rattle.rooms.specs.Table.{mostNodes}
+use Rattle.rooms.specs.Table.{most_nodes}
 use Rattle.figures.proofs.Cells.{zeros-front}
 use Rattle.figures.proofs.Fronts.{Lent, lent-zeros, rejoined, lent_again, lent-few, lent-front}
 use Rattle.plan_reclaim.proofs.Raising.{zeros-front-at, Raised, credit-asks, raised-again, take-asks, raised-end}
@@ -13,10 +13,10 @@ use Rattle.plan_reclaim.proofs.raise.raise_starts.Tie as tie
 
 -- The front of the zeros, a figure for each node.
 abbrev zeros : tie.Start → List ℕ
-zeros s = take (length s.args.parents.now) (replicate mostNodes 0)
+zeros s = take (length s.args.parents.now) (replicate most_nodes 0)
 
 zeros-size : (s : tie.Start) → length (zeros s) ≡ length s.args.parents.now
-zeros-size s = zeros-front mostNodes (length s.args.parents.now) s.requires.few-nodes
+zeros-size s = zeros-front most_nodes (length s.args.parents.now) s.requires.few-nodes
 
 -- ---- After `credit_rises`: what came back for that front, which is lent again
 
@@ -32,11 +32,11 @@ start k = entered k.before.before.before
 abbrev back : Credited → List ℕ
 back k = k.credit-rises.last.1.1.1.0
 
-zeros-lent : (k : Credited) → Lent (length (start k).args.parents.now) (replicate mostNodes 0) (back k)
-zeros-lent k = lent-zeros mostNodes (start k).requires.few-nodes k.credit-rises.auto.1.1.1.0
+zeros-lent : (k : Credited) → Lent (length (start k).args.parents.now) (replicate most_nodes 0) (back k)
+zeros-lent k = lent-zeros most_nodes (start k).requires.few-nodes k.credit-rises.auto.1.1.1.0
 
 abbrev again : Credited → List ℕ
-again k = let n = length (start k).args.parents.now in take n (rejoined n (replicate mostNodes 0) (back k))
+again k = let n = length (start k).args.parents.now in take n (rejoined n (replicate most_nodes 0) (back k))
 
 raised : (k : Credited) → Raised (start k).args.parents.now (start k).args.nodes.now (start k).args.lows.now (start k).args.starts.now (again k)
 raised k =
@@ -56,7 +56,7 @@ slice-aggregate-credit-rises c = sym (zeros-size (entered c.before.before))
 credit-rises-requires : tie.Need-credit-rises-requires
 credit-rises-requires c κs =
     let s = entered c.before.before in
-    credit-asks s.pre (zeros s) (zeros-size s) (zeros-front-at mostNodes (length s.args.parents.now))
+    credit-asks s.pre (zeros s) (zeros-size s) (zeros-front-at most_nodes (length s.args.parents.now))
 
 array-borrow-prefix-raised-2 : tie.Need-array-borrow-prefix-raised-2
 array-borrow-prefix-raised-2 c = lent-few (zeros-lent c.before)

@@ -1,7 +1,7 @@
 -- `limit_at` meets its contract: the words are there, and the percent is in range.
 use native.Mathlib.Omega.{arith}
 use mathlib.Core.Path.{ap}
-use Rattle.rooms.specs.Table.{nodeWords}
+use Rattle.rooms.specs.Table.{node_words}
 use Rattle.rooms.proofs.NodeWords.{words-two, percent-most, limit-by-word, limit-by-eighty}
 use borrow.Author.Rules.{rules}
 use Rattle.rooms.proofs.form.limit_at.Statement.{statement}
@@ -20,7 +20,7 @@ mul-limit-of-2 : tie.Need-overflow-mul-limit-of-2
 mul-limit-of-2 c = omega (arith, c.before.before.before.requires.0, words-two c.before.before.before.args.percents)
 
 shared-slice-read-limit-of-2 : tie.Need-shared-slice-read-limit-of-2
-shared-slice-read-limit-of-2 c = omega (arith, c.before.before.before.before.requires.0, ap nodeWords c.before.before.if1.true)
+shared-slice-read-limit-of-2 c = omega (arith, c.before.before.before.before.requires.0, ap node_words c.before.before.if1.true)
 
 limit-of-requires : tie.Need-limit-of-requires
 limit-of-requires c κs = percent-most c.before.before.before.before.args.percents c.before.before.before.before.args.w.now c.before.before.before.before.args.i c.before.before.if1.true c.before.before.before.before.requires.1

@@ -7,10 +7,10 @@ use native.Mathlib.Omega.{arith}
 use lib.ListN.{length}
 use borrow.Author.Rules.{rules}
 use Rattle.figures.proofs.Filled.{Filled, filled_none, filled-one, filled-all}
-use Rattle.rooms.specs.Limits.{limit, nodeAt, parent_of}
-use Rattle.rooms.specs.Lists.{parentsOf, limitsOf}
-use Rattle.rooms.specs.Table.{mostNodes, nodeWords}
-use Rattle.rooms.specs.Credits.{nodeFrom, NodesRead, parentAt, limitAt}
+use Rattle.rooms.specs.Limits.{limit, node_at, parent_of}
+use Rattle.rooms.specs.Lists.{parents_of, limits_of}
+use Rattle.rooms.specs.Table.{most_nodes, node_words}
+use Rattle.rooms.specs.Credits.{node_from, NodesRead, parent_at, limit_at}
 use Rattle.rooms.proofs.NodeWords.{words-two, node-fits, parent-here, limit-here}
 use Rattle.rooms.proofs.Counts.{nodes-there, parents-are, limits-are, alike}
 use Rattle.rooms.proofs.lists.lay_out_nodes.Statement.{statement}
@@ -18,7 +18,7 @@ use Rattle.rooms.proofs.lists.lay_out_nodes.Tie as tie
 
 abbrev invariant-loop : tie.invariant-loop
 invariant-loop table parents₀ limits₀ percents m₀ m-end parents limits m =
-    (m ≤ length parents₀) × Filled (parentAt percents table) (length parents₀) m parents × Filled (limitAt percents table) (length limits₀) m limits
+    (m ≤ length parents₀) × Filled (parent_at percents table) (length parents₀) m parents × Filled (limit_at percents table) (length limits₀) m limits
 
 abbrev decreases-loop : tie.decreases-loop
 decreases-loop table parents₀ limits₀ percents m₀ m-end parents limits m = m-end - m
@@ -50,7 +50,7 @@ Turn = tie.In-loop invariant-loop decreases-loop
 abbrev begun : Turn → Begun
 begun t = t.before.before
 
-few : (t : Turn) → t.before.loop.m < mostNodes
+few : (t : Turn) → t.before.loop.m < most_nodes
 few t = omega (arith, (nodes (begun t)).few, t.loop-test.taken)
 
 abbrev Here : Type 0
@@ -59,8 +59,8 @@ Here = tie.After-node-index invariant-loop decreases-loop
 abbrev of_node : Here → Begun
 of_node h = begun h.before
 
-fits : (h : Here) → (h.node-index.result + nodeWords (percents (of_node h)) ≤ length (table (of_node h)))
-    × ((nodeFrom (percents (of_node h)) (table (of_node h)) h.node-index.result).percent ≤ 100)
+fits : (h : Here) → (h.node-index.result + node_words (percents (of_node h)) ≤ length (table (of_node h)))
+    × ((node_from (percents (of_node h)) (table (of_node h)) h.node-index.result).percent ≤ 100)
 fits h = node-fits _ _ _ h.node-index.ensures (nodes (of_node h)) h.before.loop-test.taken
 
 -- ---- The needs
@@ -122,7 +122,7 @@ same-length-2 : tie.Need-same-length-2 invariant-loop decreases-loop
 same-length-2 c = c.before.loop.invariant.2.size_is
 
 returns : tie.Need-returns invariant-loop decreases-loop
-unfolding parentsOf limitsOf
+unfolding parents_of limits_of
 returns c r end e =
     let inv = c.before.loop.invariant in
     let b = c.before.before in
@@ -130,7 +130,7 @@ returns c r end e =
     let fit = (start b).requires.1 in (
       filled-all (length r.nodes) (parent_of r) inv.1 (fit.0 r end e) (omega (arith, fit.0 r end e))
           (λ i h. parents-are (table b) version b.has-percents.ensures fit.0 r end e i (omega (arith, fit.0 r end e))),
-      filled-all (length r.nodes) (λ m. limit (nodeAt r m)) inv.2 (fit.1 r end e) (omega (arith, fit.0 r end e))
+      filled-all (length r.nodes) (λ m. limit (node_at r m)) inv.2 (fit.1 r end e) (omega (arith, fit.0 r end e))
           (λ i h. limits-are (table b) version b.has-percents.ensures fit.0 r end e i (omega (arith, fit.0 r end e))),
     )
 

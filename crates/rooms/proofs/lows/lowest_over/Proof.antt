@@ -3,17 +3,17 @@ use Prim.Native.Nat.{◌-◌, ◌<◌}
 use mathlib.Core.Path.{refl, ◌∙◌}
 use native.Mathlib.Omega.{arith}
 use borrow.Author.Rules.{rules}
-use Rattle.rooms.specs.Credits.{parentAt, limitAt}
+use Rattle.rooms.specs.Credits.{parent_at, limit_at}
 use Rattle.rooms.proofs.NodeWords.{words-two, node-fits, parent-here, limit-here}
 use Rattle.rooms.proofs.Gather.{Gathered, gathered-start, gathered-end, gathered-sums, gathered-most, gathered-turn}
 use Rattle.rooms.proofs.lows.lowest_over.Statement.{statement}
 use Rattle.rooms.proofs.lows.lowest_over.Tie as tie
 
 abbrev invariant-loop : tie.invariant-loop
-invariant-loop w percents nodeCount sums₀ found₀ n₀ sums found n = Gathered (parentAt percents w) (limitAt percents w) nodeCount sums₀ found n sums
+invariant-loop w percents node_count sums₀ found₀ n₀ sums found n = Gathered (parent_at percents w) (limit_at percents w) node_count sums₀ found n sums
 
 abbrev decreases-loop : tie.decreases-loop
-decreases-loop w percents nodeCount sums₀ found₀ n₀ sums found n = n
+decreases-loop w percents node_count sums₀ found₀ n₀ sums found n = n
 
 loop-holds : tie.Need-loop-init invariant-loop decreases-loop
 loop-holds c = gathered-start _ _ _ _

@@ -3,7 +3,7 @@ use mathlib.Core.Path.{refl}
 use native.Mathlib.Omega.{arith}
 use lib.ListN.{get_or, replicate}
 use borrow.Author.Rules.{rules}
-use Rattle.rooms.specs.Table.{mostNodes}
+use Rattle.rooms.specs.Table.{most_nodes}
 use Rattle.figures.proofs.Filled.{zeros-at}
 use Rattle.figures.proofs.Credits.{sum_zeros}
 use Rattle.rooms.proofs.Places.{layout, nodes-read}
@@ -27,7 +27,7 @@ lowest-over-requires c κs =
     let good = begun.pre.0.0 in
     let count = c.before.word-index.ensures.0 in
     let is = layout _ _ _ _ count good.is in
-    let zero = sum_zeros (get_or begun.args.w.now 1 0) (replicate mostNodes 0) (zeros-at mostNodes) in (
+    let zero = sum_zeros (get_or begun.args.w.now 1 0) (replicate most_nodes 0) (zeros-at most_nodes) in (
       (nodes-read _ _ _ _ _ is formed.has-percents.ensures refl, omega (arith, is.most, begun.pre.0.1)),
       rw count (omega (arith, begun.pre.1.grow good.value _ good.is)),
     )

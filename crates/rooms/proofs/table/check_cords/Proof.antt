@@ -4,8 +4,8 @@ use native.Mathlib.Omega.{arith}
 use mathlib.Core.Path.{refl, ◌∙◌}
 use lib.ListN.{length}
 use Rattle.figures.specs.Sums.{sum}
-use Rattle.rooms.specs.Table.{cord, cords, share_of, mostWatts, mostScale, mostServerCords}
-use Rattle.rooms.specs.Credits.{creditedCords}
+use Rattle.rooms.specs.Table.{cord, cords, share_of, most_watts, most_scale, most_server_cords}
+use Rattle.rooms.specs.Credits.{credited_cords}
 use Rattle.figures.specs.Figures.{at}
 use Rattle.rooms.proofs.Steps.{Row, row-start, row-end, row-stop, row-turn, cord-most}
 use Rattle.rooms.proofs.CreditTurns.{stopped, row_of, crediting-start, CordsCrediting, cords-end, next-cord}
@@ -15,9 +15,9 @@ use Rattle.rooms.proofs.table.check_cords.Tie as tie
 
 abbrev invariant-loop : tie.invariant-loop
 invariant-loop w i scale node-count count least sums₀ left₀ shares₀ j₀ sums left shares j =
-    (shares + mostScale * left ≤ mostScale * mostServerCords)
+    (shares + most_scale * left ≤ most_scale * most_server_cords)
     × Row share_of (λ _. cord scale node-count) (λ given _. given) w count 0 i shares left 0 j
-    × CordsCrediting scale node-count least w (creditedCords scale least (row_of (cords scale node-count count w i)) sums₀) (length sums₀) (sum node-count (at sums₀) + mostWatts * count) left j sums
+    × CordsCrediting scale node-count least w (credited_cords scale least (row_of (cords scale node-count count w i)) sums₀) (length sums₀) (sum node-count (at sums₀) + most_watts * count) left j sums
 
 abbrev decreases-loop : tie.decreases-loop
 decreases-loop w i scale node-count count least sums₀ left₀ shares₀ j₀ sums left shares j = left

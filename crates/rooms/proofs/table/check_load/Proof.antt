@@ -4,7 +4,7 @@ use Prim.Native.Nat.{◌≤◌}
 use native.Mathlib.Omega.{arith}
 use lib.ListN.{length}
 use borrow.Author.Tests.{eq-eqb, ne_eqb}
-use Rattle.rooms.specs.Table.{Cord, mostServerCords, load}
+use Rattle.rooms.specs.Table.{Cord, most_server_cords, load}
 use Rattle.rooms.specs.Told.{told}
 use Rattle.rooms.specs.declared.Checked.{Checked}
 use Rattle.rooms.proofs.Inversion.{many-length}
@@ -36,7 +36,7 @@ count-passed c = record {
   decides = λ h. pass-word _ _ _ (rw c.before.before.before.before.lesser.ensures at c.before.before.before.check-word.ensures) c.before.first.given.1 h;
 }
 
-count-few : (c : tie.After-known-told) → c.before.first.given.0.0 ≤ mostServerCords
+count-few : (c : tie.After-known-told) → c.before.first.given.0.0 ≤ most_server_cords
 count-few c = omega (arith, word-most _ _ _ _ c.before.before.before.check-word.ensures c.before.first.given.1, (lesser c).lesser.ensures)
 
 check-cords-requires : tie.Need-check-cords-requires

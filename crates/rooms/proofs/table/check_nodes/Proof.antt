@@ -2,7 +2,7 @@
 use Prim.Native.Nat.{suc, ◌+◌, ◌≤◌}
 use native.Mathlib.Numerals.{add-one}
 use mathlib.Core.Path.{sym, ◌∙◌}
-use Rattle.rooms.specs.Table.{mostNodes, node}
+use Rattle.rooms.specs.Table.{most_nodes, node}
 use Rattle.rooms.specs.Told.{nothing}
 use Rattle.rooms.proofs.Steps.{Row, row-start, row-end, row-stop, row_next, nothing-told}
 use borrow.Author.Rules.{rules}
@@ -10,7 +10,7 @@ use Rattle.rooms.proofs.table.check_nodes.Statement.{statement}
 use Rattle.rooms.proofs.table.check_nodes.Tie as tie
 
 abbrev invariant-loop : tie.invariant-loop
-invariant-loop w i percents count left₀ own₀ j₀ left own j = (own + left ≤ suc mostNodes) × (1 ≤ own) × Row nothing (node percents) (λ own _. suc own) w count 1 i 0 left own j
+invariant-loop w i percents count left₀ own₀ j₀ left own j = (own + left ≤ suc most_nodes) × (1 ≤ own) × Row nothing (node percents) (λ own _. suc own) w count 1 i 0 left own j
 
 abbrev decreases-loop : tie.decreases-loop
 decreases-loop w i percents count left₀ own₀ j₀ left own j = left

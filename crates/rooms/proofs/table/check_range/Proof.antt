@@ -1,5 +1,5 @@
 -- `check_range` tells least and greatest, and that they are in order.
-use Rattle.rooms.specs.Table.{leastOf, range}
+use Rattle.rooms.specs.Table.{least_of, range}
 use Rattle.rooms.specs.Told.{told}
 use Rattle.rooms.specs.declared.Checked.{Checked}
 use Rattle.rooms.proofs.Steps.{Reached, stop, pass-word, pass-value, ensured, denied, gives}
@@ -14,10 +14,10 @@ abbrev goal : tie.After-known-told → Checked
 goal c =
     let call = c.before.before.before in
     let given = call.before.before.args in
-    told leastOf (range given.w.now given.i)
+    told least_of (range given.w.now given.i)
 
 -- The least is passed.
-abbrev least-passed : (c : tie.After-known-told) → Reached leastOf (goal c)
+abbrev least-passed : (c : tie.After-known-told) → Reached least_of (goal c)
 unfolding range
 least-passed c = record {
   left = _;
@@ -25,7 +25,7 @@ least-passed c = record {
 }
 
 -- The greatest is passed.
-abbrev greatest-passed : (c : tie.After-known-told2) → Reached leastOf (goal c.before.before.before.before)
+abbrev greatest-passed : (c : tie.After-known-told2) → Reached least_of (goal c.before.before.before.before)
 unfolding range
 greatest-passed c = record {
   left = _;

@@ -4,8 +4,8 @@ use Prim.Native.Nat.{ℕ, ◌+◌, ◌*◌, ◌≤◌}
 use lib.ListN.{length}
 use Rattle.figures.specs.Sums.{sum}
 use native.Mathlib.Omega.{arith}
-use Rattle.rooms.specs.Table.{server, servers, cordCount, mostServerCords, mostCords, mostWatts}
-use Rattle.rooms.specs.Credits.{creditedServers}
+use Rattle.rooms.specs.Table.{server, servers, cord_count, most_server_cords, most_cords, most_watts}
+use Rattle.rooms.specs.Credits.{credited_servers}
 use Rattle.figures.specs.Figures.{at}
 use Rattle.rooms.proofs.Steps.{Row, row-start, row-end, row-stop, row-turn, server-most}
 use Rattle.rooms.proofs.CreditTurns.{stopped, row_of, crediting-start, ServersCrediting, servers-end, servers-turn}
@@ -15,9 +15,9 @@ use Rattle.rooms.proofs.table.check_servers.Tie as tie
 
 abbrev invariant-loop : tie.invariant-loop
 invariant-loop w i scale node-count count sums₀ left₀ before₀ j₀ sums left before j =
-    (before ≤ mostCords)
-    × Row cordCount (server scale node-count) (λ before s. before + cordCount s) w count 0 i before left before j
-    × ServersCrediting scale node-count w (creditedServers scale (row_of (servers scale node-count count 0 w i)) sums₀) (length sums₀) (sum node-count (at sums₀) + mostServerCords * mostWatts * count) left before j sums
+    (before ≤ most_cords)
+    × Row cord_count (server scale node-count) (λ before s. before + cord_count s) w count 0 i before left before j
+    × ServersCrediting scale node-count w (credited_servers scale (row_of (servers scale node-count count 0 w i)) sums₀) (length sums₀) (sum node-count (at sums₀) + most_server_cords * most_watts * count) left before j sums
 
 abbrev decreases-loop : tie.decreases-loop
 decreases-loop w i scale node-count count sums₀ left₀ before₀ j₀ sums left before j = left

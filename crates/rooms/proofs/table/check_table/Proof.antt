@@ -4,7 +4,7 @@ use Prim.Native.Nat.{ℕ, ◌≤◌}
 use native.Mathlib.Omega.{arith}
 use lib.ListN.{get_or}
 use Rattle.figures.specs.Figures.{total}
-use Rattle.rooms.specs.Table.{mostNodes, mostServers, form_of, servers, cordCount, table, roomCords}
+use Rattle.rooms.specs.Table.{most_nodes, most_servers, form_of, servers, cord_count, table, room_cords}
 use Rattle.rooms.specs.Told.{told}
 use Rattle.rooms.specs.declared.Checked.{Checked}
 use Rattle.rooms.proofs.Steps.{Reached, known, stop, pass, pass-known, pass-word, left_over, ended, gives, word-told, word-most}
@@ -35,10 +35,10 @@ server-count c = c.before.before.before
 
 -- What is to be told, seen from the version.
 abbrev goal : tie.After-known-told → Checked
-goal c = told roomCords (table (start c.before.before.before).args.w.now 0)
+goal c = told room_cords (table (start c.before.before.before).args.w.now 0)
 
 -- The version is passed.
-abbrev version-passed : (c : tie.After-known-told) → Reached roomCords (goal c)
+abbrev version-passed : (c : tie.After-known-told) → Reached room_cords (goal c)
 unfolding table
 version-passed c = record {
   left = _;
@@ -46,7 +46,7 @@ version-passed c = record {
 }
 
 -- The count of nodes is passed.
-abbrev node-count-passed : (c : tie.After-known-told2) → Reached roomCords (goal (version c))
+abbrev node-count-passed : (c : tie.After-known-told2) → Reached room_cords (goal (version c))
 unfolding table
 node-count-passed c = record {
   left = _;
@@ -54,7 +54,7 @@ node-count-passed c = record {
 }
 
 -- The nodes are passed.
-abbrev nodes-passed : (c : tie.After-known-told3) → Reached roomCords (goal (version (node-count c.before.before.before)))
+abbrev nodes-passed : (c : tie.After-known-told3) → Reached room_cords (goal (version (node-count c.before.before.before)))
 unfolding table
 nodes-passed c = record {
   left = _;
@@ -63,7 +63,7 @@ nodes-passed c = record {
 }
 
 -- The count of servers is passed.
-abbrev server-count-passed : (c : tie.After-known-told4) → Reached roomCords (goal (version (node-count (nodes c).before.before.before)))
+abbrev server-count-passed : (c : tie.After-known-told4) → Reached room_cords (goal (version (node-count (nodes c).before.before.before)))
 unfolding table
 server-count-passed c = record {
   left = _;
@@ -71,17 +71,17 @@ server-count-passed c = record {
 }
 
 -- The two counts are in their ranges.
-abbrev node-count-most : (c : tie.After-known-told2) → c.before.second.given.0.0 ≤ mostNodes
+abbrev node-count-most : (c : tie.After-known-told2) → c.before.second.given.0.0 ≤ most_nodes
 node-count-most c = word-most _ _ _ _ c.before.before.before.check-word2.ensures c.before.second.given.1
 
-abbrev server-count-most : (c : tie.After-known-told4) → c.before.third.given.0.0 ≤ mostServers
+abbrev server-count-most : (c : tie.After-known-told4) → c.before.third.given.0.0 ≤ most_servers
 server-count-most c = word-most _ _ _ _ c.before.before.before.check-word3.ensures c.before.third.given.1
 
 -- The servers, as the scale of the version tells them.
 abbrev servers-told : (s : tie.After-check-servers)
     → let counted = server-count s in
     let before-nodes = node-count (nodes counted).before.before.before in
-    s.check-servers.result ≡ told (total cordCount) (servers (form_of (version before-nodes).before.first.given.0.0).scale before-nodes.before.second.given.0.0
+    s.check-servers.result ≡ told (total cord_count) (servers (form_of (version before-nodes).before.first.given.0.0).scale before-nodes.before.second.given.0.0
     counted.before.third.given.0.0 0 (start (version before-nodes).before.before.before).args.w.now counted.before.third.given.0.1.0)
 servers-told s = rw s.before.before.scale_of.ensures at s.check-servers.ensures.0
 

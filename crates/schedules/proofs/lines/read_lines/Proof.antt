@@ -3,7 +3,7 @@ use Prim.Native.Nat.{◌+◌, ◌-◌, ◌*◌, ◌<◌}
 use native.Mathlib.Omega.{arith}
 use lib.ListN.{length, length-set}
 use borrow.Author.Rules.{rules}
-use Rattle.rooms.specs.Table.{mostNodes}
+use Rattle.rooms.specs.Table.{most_nodes}
 use Rattle.schedules.proofs.LineLoop.{ReadingLines, begin, end, stop, few-lines, again}
 use Rattle.schedules.proofs.lines.read_lines.Statement.{statement}
 use Rattle.schedules.proofs.lines.read_lines.Tie as tie
@@ -22,7 +22,7 @@ abbrev turn : tie.After-known-told invariant-loop decreases-loop → tie.At-loop
 turn c = let judge = c.before.before.before in judge.before.before
 
 -- Such a line is none past the 512th, so that the list has its node's words.
-few : (c : tie.After-known-told invariant-loop decreases-loop) → (turn c).loop.count < mostNodes
+few : (c : tie.After-known-told invariant-loop decreases-loop) → (turn c).loop.count < most_nodes
 few c =
     let judge = c.before.before.before in
     few-lines _ _ _ _ _ judge.before.before.loop.invariant judge.before.loop-test.true judge.judge-line.ensures c.before.parent.given.1

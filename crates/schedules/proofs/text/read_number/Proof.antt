@@ -5,7 +5,7 @@ use Prim.Native.Nat.{◌+◌, ◌*◌, ◌≤◌}
 use native.Mathlib.Omega.{arith}
 use borrow.Author.Rules.{rules}
 use borrow.Author.Tests.{not-true, not-false}
-use Rattle.schedules.specs.Text.{isDigit}
+use Rattle.schedules.specs.Text.{is_digit}
 use Rattle.schedules.proofs.NumberLaws.{Inv, digit-range, zero-read, no_number, begin, exhausted, fits, stop, again}
 use Rattle.schedules.proofs.text.read_number.Statement.{statement}
 use Rattle.schedules.proofs.text.read_number.Tie as tie
@@ -38,7 +38,7 @@ returns-3 c =
     (sym c.before.is-digit2.ensures ∙ not-true _ c.if3.true)
 
 -- The next byte is a digit.
-digit : (c : tie.Else3 invariant-loop decreases-loop) → isDigit c.before.before.byte-at2.result ≡ true
+digit : (c : tie.Else3 invariant-loop decreases-loop) → is_digit c.before.before.byte-at2.result ≡ true
 digit c = sym c.before.is-digit2.ensures ∙ not-false _ c.if3.false
 
 -- There is space for it.

@@ -1,4 +1,6 @@
 // The answer of a C call: numbers of eight bytes each, low byte first, at the front of its buffer.
+#![tactic(auto)]
+
 ghost use Rattle.std.specs.Prelude.{◌≡◌, [], ◌∷◌};
 ghost use Rattle.calls.specs.Call.{answered};
 

@@ -14,6 +14,8 @@
 //                           uint8_t *headroom, uint64_t headroom_len,
 //                           uint8_t *held, uint64_t held_len,
 //                           uint8_t *answer, uint64_t answer_len);
+#![tactic(auto)]
+
 ghost use Rattle.words.specs.Bytes.{words_of};
 ghost use Rattle.sheet_bytes.specs.Call.{ReadCall, WriteCall};
 ghost use Rattle.deals.specs.Plan.{lists};

@@ -1,6 +1,8 @@
 // The DC cap loop: a server's controller holds the cap on its DC power, and each step moves that cap by what the server's cords read.
 //
 // This is A.6 of document 02, after section IV.B of the report. Figures are 64-bit floats; each operation is rounded once.
+#![tactic(auto)]
+
 ghost use Rattle.std.specs.Prelude.{◌≡◌, ◌&&◌, ◌+◌, min};
 ghost use Rattle.control.specs.Step.{float0, most_watts, ordered, is_efficiency, difference, lesser_figure, lesser, dc_change, sum, cut_figure};
 ghost use Rattle.control.specs.Step.{cut, good_reading, good_controller, moved, stepped, refusal, step_number, step_place, controller_after};
@@ -18,22 +20,22 @@ const BAD_CONTROLLER: u64 = 16;
 const BAD_READING: u64 = 17;
 
 // AC watts: what a cord draws, or may draw, from its feed.
-#[derive(Drop)]
+#[derive(Clone, Copy)]
 pub struct AcWatts(pub f64);
 
 // DC watts: what a server's supplies give to the rest of it.
-#[derive(Drop)]
+#[derive(Clone, Copy)]
 pub struct DcWatts(pub f64);
 
 // What a cord reads: working, with its budget and its measured watts; or failed, which one that is not fitted is too.
-#[derive(Drop)]
+#[derive(Clone, Copy)]
 pub enum Reading {
     Working(AcWatts, AcWatts),
     Failed,
 }
 
 // A server's controller: its DC cap, the efficiency of its supplies, and the low and high ends of the cap's range.
-#[derive(Drop)]
+#[derive(Clone, Copy)]
 pub struct Controller {
     pub cap: DcWatts,
     pub k: f64,
@@ -42,28 +44,28 @@ pub struct Controller {
 }
 
 // Why a step is turned back: document 02's number, and the place.
-#[derive(Drop)]
+#[derive(Clone, Copy)]
 pub struct StepRefusal {
     pub number: u64,
     pub place: u64,
 }
 
 // What a step gives: the controller's successor; or the refusal, beside the controller as it was.
-#[derive(Drop)]
+#[derive(Clone, Copy)]
 pub enum Stepped {
     Next(Controller),
     Refused(StepRefusal, Controller),
 }
 
 // What good cords come to: how many of them work, and the least error of those.
-#[derive(Drop)]
+#[derive(Clone, Copy)]
 pub struct Tally {
     pub least: AcWatts,
     pub working: u32,
 }
 
 // A controller and some of its cords, judged in order: all are good, and the cords come to a tally; or the refusal of the first that is not.
-#[derive(Drop)]
+#[derive(Clone, Copy)]
 pub enum JudgedCords {
     Good(Tally),
     Bad(StepRefusal),

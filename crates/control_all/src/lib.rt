@@ -1,4 +1,6 @@
 // Every server's DC cap loop in one pass: A.7 of document 02. Each controller ends as a step of its own would leave it.
+#![tactic(auto)]
+
 ghost use Rattle.std.specs.Prelude.{◌≡◌, cond, ◌+◌, ◌%◌, ◌≤◌, eqb, length};
 ghost use Rattle.outcomes.specs.Outcome.{after};
 ghost use Rattle.control.specs.Step.{step_number};
@@ -14,7 +16,7 @@ pub mod call;
 const MOST_CONTROLLERS: usize = 512;
 
 // The answer of a pass: how many controllers were stepped, or refused, with the number of controllers.
-#[derive(Drop)]
+#[derive(Clone, Copy)]
 pub enum PassAnswer {
     Accepted(usize),
     Refused(usize),

@@ -1,5 +1,7 @@
 // Metrics and dealing, and what Plan answers. The definitions of both deals and of the whole plan, and its promises, stand in specs/,
 // their proofs in proofs/; the operation itself is `plans::plan`. The modules are private to Plan: no operation stands there.
+#![tactic(auto)]
+
 ghost use Rattle.std.specs.Prelude.{◌≡◌};
 ghost use Rattle.deals.specs.Plan.{plan_list_number, plan_refusal_number, plan_refusal_place, plan_number, plan_figure};
 ghost use Rattle.deals.specs.Judge.{verdict_number, verdict_names, verdict_rank};
@@ -11,7 +13,7 @@ pub mod levels;
 pub mod metrics;
 
 // The lists that a plan is written to.
-#[derive(Drop)]
+#[derive(Clone, Copy)]
 pub enum PlanList {
     Grants,
     Caps,
@@ -20,7 +22,7 @@ pub enum PlanList {
 }
 
 // How many entries each of the lists has that are lent to Plan.
-#[derive(Drop)]
+#[derive(Clone, Copy)]
 pub struct Lengths {
     pub grants: usize,
     pub caps: usize,
@@ -30,7 +32,7 @@ pub struct Lengths {
 
 // Why a plan is turned back, and where: the table's refusal, the count of servers, a demand's index, or a list and the length that it
 // needs.
-#[derive(Drop)]
+#[derive(Clone, Copy)]
 pub enum PlanRefusal {
     Table(rooms::SheetRefusal),
     DemandCount(usize),
@@ -39,7 +41,7 @@ pub enum PlanRefusal {
 }
 
 // What a plan comes to: the freed watts, or why it is turned back.
-#[derive(Drop)]
+#[derive(Clone, Copy)]
 pub enum Planned {
     Accepted(u64),
     Refused(PlanRefusal),
@@ -109,7 +111,7 @@ impl Planned {
 
 // What is wrong with a list of grants: nothing; a cord, by its place, that has less than its low or more than its want; a node, by its
 // number, whose limit is passed; or a root, by its number, whose tree is short, and the highest rank at which it is.
-#[derive(Drop)]
+#[derive(Clone, Copy)]
 pub enum Verdict {
     Passes,
     BelowLow(usize),

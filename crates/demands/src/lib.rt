@@ -1,4 +1,6 @@
 // Demands in decimal, one a line: a text, read in pieces of any size, turned into words.
+#![tactic(auto)]
+
 ghost use Rattle.std.specs.Prelude.{◌≡◌};
 ghost use Prim.Native.Nat.{};
 ghost use Rattle.demands.specs.Reading.{empty_line, extended, has_byte, line_demand, held_reading, with};
@@ -16,7 +18,7 @@ const MOST_DIGITS: u32 = 8;
 const NO_DEMAND: u32 = 16_777_216;
 
 // What a line has come to so far.
-#[derive(Drop)]
+#[derive(Clone, Copy)]
 pub enum DemandLine {
     // Digits alone: how many, and their number.
     Digits(u32, u32),
@@ -25,7 +27,7 @@ pub enum DemandLine {
 }
 
 // How many lines have ended, their demands being at the front of the list, and the line that is open.
-#[derive(Drop)]
+#[derive(Clone, Copy)]
 pub struct DemandReading {
     pub count: usize,
     pub line: DemandLine,

@@ -1,5 +1,7 @@
 // Numbers from one width to another, the lesser of two, what one has over another, and what is done with lists of them whatever they
 // mean.
+#![tactic(auto)]
+
 ghost use Rattle.std.specs.Prelude.{◌≡◌, ◌+◌, ◌-◌, ◌^◌, ◌≤◌, ◌<◌, min, length, get_or};
 ghost use Rattle.std.proofs.lemmas.List.Edits.{sets};
 ghost use Rattle.figures.specs.Bounds.{first_not_below};

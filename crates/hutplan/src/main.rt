@@ -1,4 +1,6 @@
 // `hutplan`: reads a room from the file `room.bin` and its servers' demands from standard input, plans, and prints.
+#![tactic(auto)]
+
 ghost use Rattle.std.specs.Prelude.{◌≡◌, ◌≤◌, length, take};
 ghost use Rattle.io.specs.Counts.{IsPrefixLen};
 ghost use Rattle.deals.specs.Plan.{lists, lent, most_lent};
@@ -18,7 +20,7 @@ use rooms::{MOST_WORDS, SheetAnswer};
 const MOST_TEXT: usize = 83_995;
 
 // What one read of standard input leaves: the reading, and whether there may be more to read.
-#[derive(Drop)]
+#[derive(Clone, Copy)]
 struct Turn {
     reading: DemandReading,
     more: bool,

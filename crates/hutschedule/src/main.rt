@@ -1,4 +1,6 @@
 // `hutschedule`: reads a breaker schedule from standard input, and writes the sheet of its room to standard output.
+#![tactic(auto)]
+
 ghost use Rattle.std.specs.Prelude.{◌≡◌, ◌≤◌, length, take};
 ghost use Rattle.io.specs.Counts.{IsPrefixLen};
 ghost use Rattle.schedules.specs.Schedule.{most_schedule_words};
@@ -8,7 +10,7 @@ use libc::{STDERR_FILENO, STDIN_FILENO, STDOUT_FILENO};
 use schedules::Scheduled;
 
 // What is written: so many bytes from the front of the buffer, to standard error if refused, else to standard output.
-#[derive(Drop)]
+#[derive(Clone, Copy)]
 struct Output {
     refused: bool,
     length: usize,

@@ -2,6 +2,8 @@
 //
 // The tables come in bytes, as C hands them over. They pass through one list of words, one after the other, and the joined table is put
 // together there last: so the call needs hardly more stack than Read, and not that of three tables.
+#![tactic(auto)]
+
 ghost use Rattle.std.specs.Prelude.{◌≡◌, ℕ, suc, ◌/◌, ◌≤◌, ◌<◌, length, List, [], ◌∷◌};
 ghost use Rattle.words.specs.Bytes.{words_of};
 ghost use Rattle.calls.specs.Call.{answered};
@@ -25,7 +27,7 @@ use rooms::{Checked, DECIDING_WORDS, SheetRefusal};
 pub mod pieces;
 
 // Why two tables are turned back: the refusal of either, or of both together. A table that is too short is told with the length needed.
-#[derive(Drop)]
+#[derive(Clone, Copy)]
 pub enum JoinRefusal {
     First(SheetRefusal),
     Second(SheetRefusal),
@@ -37,14 +39,14 @@ pub enum JoinRefusal {
 }
 
 // The answer of Join: accepted with the count of words, or refused.
-#[derive(Drop)]
+#[derive(Clone, Copy)]
 pub enum JoinAnswer {
     Accepted(usize),
     Refused(JoinRefusal),
 }
 
 // What is kept of a good table: its version, its counts of nodes, servers and cords, the index of its count of servers, and its length.
-#[derive(Drop)]
+#[derive(Clone, Copy)]
 pub struct Hut {
     pub version: u32,
     pub nodes: usize,
@@ -55,7 +57,7 @@ pub struct Hut {
 }
 
 // A table that was checked: what is kept of it, or its refusal.
-#[derive(Drop)]
+#[derive(Clone, Copy)]
 pub enum Examined {
     Good(Hut),
     Refused(SheetRefusal),

@@ -1,4 +1,6 @@
 // Judge: what is wrong with a list of grants that somebody else made, by the first deal's wants. It writes to no list.
+#![tactic(auto)]
+
 ghost use Rattle.std.specs.Prelude.{◌≡◌, List, ℕ, suc, ◌≤◌, length};
 ghost use Rattle.rooms.specs.Table.{most_nodes, most_servers, most_cords, most_words};
 ghost use Rattle.rooms.specs.Rows.{OfRoom, ServersFit, CordsFit, ScaleIs};
@@ -23,14 +25,14 @@ const DECIDING_GRANTS: usize = MOST_CORDS + 1;
 const JUDGE_ANSWER_BYTES: usize = 32;
 
 // Why a list is turned back, and where: the refusal of the table or of its servers' demands, or the count of cords.
-#[derive(Drop)]
+#[derive(Clone, Copy)]
 pub enum JudgeRefusal {
     Load(LoadRefusal),
     GrantCount(usize),
 }
 
 // What judging comes to: a verdict, or why the list is turned back.
-#[derive(Drop)]
+#[derive(Clone, Copy)]
 pub enum Judged {
     Accepted(Verdict),
     Refused(JudgeRefusal),

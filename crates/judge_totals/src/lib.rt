@@ -4,6 +4,8 @@
 // All is said of the watts that cords have over their lows. A cord that wants more can have more, at the cost of lower ranks alone, exactly if
 // every node above it has watts to spare or, being full, carries such watts of a lower rank. So no rank needs a pass of its own: each node
 // has the watts that stand on and beneath it, the lowest rank that these are of, and the highest rank that could have more.
+#![tactic(auto)]
+
 ghost use Rattle.std.specs.Prelude.{◌≡◌, cond, ◌&&◌, ℕ, suc, ◌-◌, ◌+◌, ◌^◌, ◌≤◌, ◌<◌, min, max, eqb, ltb, length};
 ghost use Rattle.figures.specs.Figures.{at};
 ghost use Rattle.figures.specs.Sums.{sum};
@@ -25,7 +27,7 @@ use rooms::lows::noted;
 
 // What the pass over the cords finds: the number, from 1, of the first cord that has less than its low, and of the first that has more than
 // its want, of those before it; 0 if there is none.
-#[derive(Drop)]
+#[derive(Clone, Copy)]
 pub struct Faults {
     pub below: usize,
     pub above: usize,

@@ -1,5 +1,7 @@
 // A room's lists, laid out from its table: figures a node, a row and figures a cord in table order, and a figure a server.
 // Private to Plan: no operation stands here.
+#![tactic(auto)]
+
 ghost use Rattle.std.specs.Prelude.{◌≡◌, ℕ, ◌+◌, ◌≤◌, ◌<◌, min, max, length, set};
 ghost use Rattle.figures.specs.Figures.{at, column};
 ghost use Rattle.rooms.specs.Part.{Good};

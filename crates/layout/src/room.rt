@@ -18,7 +18,7 @@ use rooms::{Checked, DECIDING_WORDS, MOST_WATTS};
 const TOO_MANY_WATTS: u32 = MOST_WATTS + 1;
 
 // A room's counts, and its scale.
-#[derive(Drop)]
+#[derive(Clone, Copy)]
 pub struct Counts {
     pub nodes: usize,
     pub servers: usize,
@@ -27,7 +27,7 @@ pub struct Counts {
 }
 
 // Why a table or its servers' demands are turned back, and where: the table's refusal, the count of servers, or a demand's index.
-#[derive(Drop)]
+#[derive(Clone, Copy)]
 pub enum LoadRefusal {
     Table(rooms::SheetRefusal),
     DemandCount(usize),
@@ -59,7 +59,7 @@ impl LoadRefusal {
 }
 
 // What loading comes to: the room's counts, or why it is turned back.
-#[derive(Drop)]
+#[derive(Clone, Copy)]
 pub enum Loaded {
     Good(Counts),
     Refused(LoadRefusal),

@@ -1,5 +1,7 @@
 // The number form of the sheet: whole numbers below 2^28 in one to four bytes of seven bits each.
 // The definitions that the contracts cite stand in specs/Number.antt and specs/Sheet.antt.
+#![tactic(auto)]
+
 ghost use Rattle.std.specs.Prelude.{◌≡◌, ◌+◌, ◌^◌, ◌<◌, ◌≤◌, length, drop, set};
 ghost use Rattle.std.proofs.lemmas.List.Edits.{sets};
 ghost use Rattle.numbers.specs.Number.{number, decoded, form};
@@ -12,7 +14,7 @@ use figures::first_not_below;
 pub mod parts;
 
 // Why bytes are no number: four bytes that all say another follows; a last byte of 0 after others; the bytes end inside.
-#[derive(Drop)]
+#[derive(Clone, Copy)]
 pub enum Fault {
     TooLong,
     NotShortest,
@@ -20,14 +22,14 @@ pub enum Fault {
 }
 
 // A number and the place after it, or its fault and the place where it starts.
-#[derive(Drop)]
+#[derive(Clone, Copy)]
 pub enum Decoded {
     Number(u32, usize),
     Refused(Fault, usize),
 }
 
 // How many numbers a sheet has, or the first fault in it and the place where that number starts.
-#[derive(Drop)]
+#[derive(Clone, Copy)]
 pub enum JudgedSheet {
     Words(usize),
     Refused(Fault, usize),
@@ -35,7 +37,7 @@ pub enum JudgedSheet {
 
 // What became of words to be written: the count of bytes written, the index of the first word that has no form, or the
 // count of bytes needed.
-#[derive(Drop)]
+#[derive(Clone, Copy)]
 pub enum Written {
     Bytes(usize),
     TooLarge(usize),

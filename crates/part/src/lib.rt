@@ -2,6 +2,8 @@
 //
 // The table comes in bytes, as C hands it over. It passes through one list of words, in which it is checked, and each part is put together
 // there in its turn: so the call needs hardly more stack than Read, and not that of three tables.
+#![tactic(auto)]
+
 ghost use Rattle.std.specs.Prelude.{◌≡◌, suc, ◌≤◌, ◌<◌, length};
 ghost use Rattle.rooms.specs.Table.{most_words};
 ghost use Rattle.join.specs.Huts.{HutOf};
@@ -18,7 +20,7 @@ pub mod sides;
 
 // Why a table is not parted: its own refusal; a count that is out of range; a link that goes across the cut, at the index of its word; or an
 // output that is too short, told with the length needed.
-#[derive(Drop)]
+#[derive(Clone, Copy)]
 pub enum PartRefusal {
     Table(SheetRefusal),
     NodesOutOfRange,
@@ -30,7 +32,7 @@ pub enum PartRefusal {
 
 // One side of a cut: its version and its counts of nodes and servers; where its nodes start and end in the table, and its servers; and by
 // how much its numbers of nodes are lowered.
-#[derive(Drop)]
+#[derive(Clone, Copy)]
 pub struct Side {
     pub version: u32,
     pub nodes: usize,
@@ -43,7 +45,7 @@ pub struct Side {
 }
 
 // A cut that may be made, with both its sides; or why not.
-#[derive(Drop)]
+#[derive(Clone, Copy)]
 pub enum Admitted {
     Good(Side, Side),
     Refused(PartRefusal),

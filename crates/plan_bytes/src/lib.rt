@@ -1,4 +1,6 @@
 // Plan called from C: bytes to words, the operation, words and the answer to bytes.
+#![tactic(auto)]
+
 ghost use Rattle.std.specs.Prelude.{◌≤◌, length};
 ghost use Rattle.words.specs.Bytes.{words_of};
 ghost use Rattle.rooms.specs.Table.{most_servers, most_cords};
@@ -62,7 +64,7 @@ pub fn plan_bytes(
 }
 
 // What a plan in lists of words comes to: its answer, and how many cords and servers these have figures of, none where refused.
-#[derive(Drop)]
+#[derive(Clone, Copy)]
 struct PlannedFigures {
     answer: Planned,
     cords: usize,

@@ -1,5 +1,7 @@
 // Headroom: what the second deal's Requests leave of the limits, lent out up to the cords' ceilings.
 // Private to Plan: no operation stands here.
+#![tactic(auto)]
+
 ghost use Rattle.std.specs.Prelude.{◌≡◌, List, ℕ, ◌-◌, ◌≤◌, ◌<◌, length};
 ghost use Rattle.figures.specs.Figures.{at};
 ghost use Rattle.rooms.specs.Table.{most_cords};

@@ -1,5 +1,7 @@
 // The nodes that hold cords down, named from the marks of the nodes' cuts.
 // Private to Plan: no operation stands here.
+#![tactic(auto)]
+
 ghost use Rattle.std.specs.Prelude.{◌≡◌, cond, suc, eqb, leb, length};
 ghost use Rattle.figures.specs.Places.{ZeroRows};
 ghost use Rattle.figures.specs.Sums.{on};

@@ -1,5 +1,7 @@
 // What servers can use of their cords' grants, and the wants of the second deal.
 // Private to Plan: no operation stands here.
+#![tactic(auto)]
+
 ghost use Rattle.std.specs.Prelude.{◌≡◌, cond, ◌^◌, ◌<◌, ltb, length};
 ghost use Rattle.figures.specs.Figures.{column};
 ghost use Rattle.rooms.specs.Rows.{server_column, share_column};

@@ -1,5 +1,7 @@
 // Both deals of a room that is loaded, and what follows them.
 // Private to Plan: no operation stands here.
+#![tactic(auto)]
+
 ghost use Rattle.std.specs.Prelude.{◌≡◌, List, ℕ, ◌≤◌, length};
 ghost use Rattle.rooms.specs.Part.{good};
 ghost use Rattle.rooms.specs.Table.{Room};

@@ -1,4 +1,6 @@
 // Plan: a room is loaded, its lists are checked, and then it is planned.
+#![tactic(auto)]
+
 ghost use Rattle.std.specs.Prelude.{◌≡◌};
 ghost use Rattle.deals.specs.Plan.{lists};
 ghost use Rattle.plans.specs.Admission.{refusal_of, admitting, admission};
@@ -9,7 +11,7 @@ use layout::room::{Counts, LoadRefusal, Loaded, load_room};
 use plan_rooms::plan_loaded;
 
 // What the checks come to: the room's counts, or why a plan is turned back.
-#[derive(Drop)]
+#[derive(Clone, Copy)]
 pub enum Admission {
     Good(Counts),
     Refused(PlanRefusal),

@@ -1,4 +1,6 @@
 // What `hutplan` prints, in bytes.
+#![tactic(auto)]
+
 ghost use Rattle.std.specs.Prelude.{◌≡◌, ◌^◌, ◌≤◌, ◌<◌, length};
 ghost use Rattle.io.specs.Counts.{IsPrefixLen};
 ghost use Rattle.print.specs.Line.{decimal, labelled, freed_line, server_line, cord_line, refused_line, Put};

@@ -1,5 +1,7 @@
 // Which release the code is of. The number is read from a mark: a line of text that stays, byte by byte, in whatever is linked with the
 // call, so that it can be found in a unit's image.
+#![tactic(auto)]
+
 ghost use Rattle.std.specs.Prelude.{◌≡◌, ◌≤◌, ◌<◌, length, take, get_or};
 ghost use Rattle.std.proofs.lemmas.List.Edits.{sets};
 ghost use Rattle.release.specs.Release.{mark, decimal, release_number, ReleaseCall};

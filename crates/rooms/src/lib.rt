@@ -1,4 +1,6 @@
 // The room table and its rules: the check of a table, Read and Write.
+#![tactic(auto)]
+
 ghost use Rattle.std.specs.Prelude.{◌≡◌, ℕ, suc, ◌≤◌, length, replicate};
 ghost use Rattle.outcomes.specs.Outcome.{after};
 ghost use Rattle.numbers.specs.Number.{fault_number};
@@ -18,7 +20,7 @@ pub mod parts;
 mod table;
 
 // Why an input is turned back, and where: a byte or a word by its place, a node by its number, or a length.
-#[derive(Drop)]
+#[derive(Clone, Copy)]
 pub enum SheetRefusal {
     BadNumber(Fault, usize),
     WordMissing(usize),
@@ -31,14 +33,14 @@ pub enum SheetRefusal {
 }
 
 // What a check tells of a part of a table: a figure of it and the index of the next word, or its refusal.
-#[derive(Drop)]
+#[derive(Clone, Copy)]
 pub enum Checked {
     Good(u32, usize),
     Refused(SheetRefusal),
 }
 
 // The answer of Read and Write: accepted with the count written, or refused.
-#[derive(Drop)]
+#[derive(Clone, Copy)]
 pub enum SheetAnswer {
     Accepted(usize),
     Refused(SheetRefusal),

@@ -1,4 +1,6 @@
 // Breaker schedules: a text of lines, each with the parent, the amperes and the volts of a breaker, turned into a room table.
+#![tactic(auto)]
+
 ghost use Rattle.std.specs.Prelude.{◌≡◌, ◌≤◌, length};
 ghost use Rattle.outcomes.specs.Outcome.{after};
 ghost use Rattle.schedules.specs.Schedule.{schedule_refusal_number, schedule_refusal_place, schedule_number, schedule_figure};
@@ -14,7 +16,7 @@ mod sizes;
 mod text;
 
 // What a line says.
-#[derive(Drop)]
+#[derive(Clone, Copy)]
 pub struct Entry {
     pub parent: u32,
     pub amperes: u32,
@@ -22,7 +24,7 @@ pub struct Entry {
 }
 
 // Why a schedule is turned back, and where: a line by its place, counted from 0, or the length that the table needs.
-#[derive(Drop)]
+#[derive(Clone, Copy)]
 pub enum ScheduleRefusal {
     NotALine(usize),
     NotASize(usize),
@@ -31,7 +33,7 @@ pub enum ScheduleRefusal {
 }
 
 // The answer on a schedule: accepted with the count of words, or refused.
-#[derive(Drop)]
+#[derive(Clone, Copy)]
 pub enum Scheduled {
     Accepted(usize),
     Refused(ScheduleRefusal),

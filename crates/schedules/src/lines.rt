@@ -12,14 +12,14 @@ use crate::{Entry, ScheduleRefusal};
 use rooms::MOST_NODES;
 
 // The node of a line and the place after the line, or its refusal.
-#[derive(Drop)]
+#[derive(Clone, Copy)]
 pub enum JudgedLine {
     Node(u32, u32, usize),
     Refused(ScheduleRefusal),
 }
 
 // How many lines there are, or the first refusal.
-#[derive(Drop)]
+#[derive(Clone, Copy)]
 pub enum Counted {
     Lines(usize),
     Refused(ScheduleRefusal),

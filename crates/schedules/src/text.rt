@@ -6,14 +6,14 @@ ghost use Rattle.schedules.specs.Told.{told_number, told_line};
 use crate::Entry;
 
 // A number and the place after it, or nothing of the form.
-#[derive(Drop)]
+#[derive(Clone, Copy)]
 pub enum Number {
     Value(u32, usize),
     Nothing,
 }
 
 // The entry of a line and the place after it, or nothing of the form.
-#[derive(Drop)]
+#[derive(Clone, Copy)]
 pub enum ScheduleLine {
     Of(Entry, usize),
     Nothing,

@@ -1,4 +1,6 @@
 // Caps over a slow bus: which servers the messages of a period go to, and where the next period begins.
+#![tactic(auto)]
+
 ghost use Rattle.std.specs.Prelude.{◌≡◌, not, ◌≤◌, ◌<◌, min, length};
 ghost use Rattle.outcomes.specs.Outcome.{after};
 ghost use Rattle.sender.specs.Period.{following, servers_from, position_after};
@@ -13,7 +15,7 @@ const MOST_SERVERS: u64 = 512;
 
 // Why a period is turned back: m is 0; the position or the count is out of range; or the list is too short for as many servers as would
 // be named.
-#[derive(Drop)]
+#[derive(Clone, Copy)]
 pub enum SendRefusal {
     NoMessages,
     PositionOutOfRange,
@@ -21,7 +23,7 @@ pub enum SendRefusal {
 }
 
 // What a period comes to: how many servers were named and the new position, or why it is turned back.
-#[derive(Drop)]
+#[derive(Clone, Copy)]
 pub enum Sent {
     Accepted(u64, u64),
     Refused(SendRefusal),

@@ -1,4 +1,6 @@
 // Read and Write called from C: bytes to words, the operation, words and the answer to bytes.
+#![tactic(auto)]
+
 ghost use Rattle.std.specs.Prelude.{◌≡◌, suc, ◌≤◌, length};
 ghost use Rattle.rooms.specs.Table.{most_words};
 ghost use Rattle.sheet_bytes.specs.Call.{ReadCall, WriteCall};

@@ -2,6 +2,8 @@
 // the operation and the case, the answer's number and figure, and all that the list or buffer holds after it.
 // An entry that was not written holds 7 (Read) or ee (Write).
 // The expected output, the file `stdout`, is written from the document.
+#![tactic(auto)]
+
 ghost use Rattle.std.specs.Prelude.{◌≤◌};
 
 use rooms::SheetAnswer;

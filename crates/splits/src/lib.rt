@@ -1,6 +1,8 @@
 // The split of an amount among children by their weights, child by child. Every split goes by these functions: in numbers of 32
 // bits where the amount and the total weight are small, and of 64 else. Where no child has weight, none gets anything. Private to
 // Plan: no operation stands here.
+#![tactic(auto)]
+
 ghost use Rattle.std.specs.Prelude.{◌≡◌, ◌&&◌, ◌*◌, ◌/◌, ◌^◌, ◌≤◌, ◌<◌, max, eqb};
 ghost use Rattle.splits.specs.Ways.{quotient_in};
 ghost use Rattle.splits.specs.Serving.{MayServe, HasServed};

@@ -1,5 +1,6 @@
 // Words in bytes: lists of 32-bit words as bytes, four bytes a word, and numbers of 64 bits in eight
 // bytes, low byte first. Nothing here knows what a word means.
+#![tactic(auto)]
 
 ghost use Rattle.std.specs.Prelude.{◌≡◌, ◌+◌, ◌/◌, ◌≤◌, ◌<◌, min, length, take};
 ghost use Rattle.std.proofs.lemmas.List.Edits.{sets};

@@ -1,0 +1,21 @@
+-- `DemandReading::close` meets its contract: the line's demand is stored where there is space.
+use mathlib.Core.Path.{sym}
+use Rattle.demands.proofs.Bytes.{closed-stores, closed-full}
+use borrow.Author.Rules.{rules}
+use Rattle.demands.proofs.DemandReading.close.Goals as goal
+
+pub returns-then-count-least : goal.returns-then-count-least
+returns-then-count-least c =
+    record {
+      closed =
+        let args = c.args in
+        rw c.demand.ensures.result (sym (closed-stores args.self args.list.now (search rules)))
+    }
+
+pub returns : goal.returns
+returns c =
+    record {
+      closed =
+        let args = c.args in
+        sym (closed-full args.self args.list.now (search rules))
+    }

@@ -1,0 +1,18 @@
+-- `DemandReading::feed` meets its contract: what is left of the piece always takes the reading where the whole piece does.
+use borrow.Author.Rules.{rules}
+use native.Mathlib.Omega.{arith}
+use mathlib.Core.Path.{◌≡◌, refl}
+use Prim.Native.Nat.{◌-◌}
+use lib.ListN.{length}
+use Rattle.demands.specs.Reading.{held_reading}
+use Rattle.demands.proofs.Bytes.{Going, going-first, going_next, going-last}
+use Rattle.demands.proofs.DemandReading.feed.Goals as goal
+
+pub loop-i-init : goal.loop-i-init
+loop-i-init c = (going-first _ _, refl)
+
+pub loop-i-preserved : goal.loop-i-preserved
+loop-i-preserved c = (going_next _ _ _ _ _ c.loop-i.invariant.0 (omega arith) c.feed_byte-next.ensures.fed, search rules)
+
+pub returns : goal.returns
+returns c = record { fed = going-last _ _ _ _ c.loop-i.invariant.0 (omega arith) }

@@ -1,0 +1,39 @@
+-- `encode_sheet` meets its contract: nothing is written before all words have forms and fit, by their count or by their sizes.
+use borrow.Author.Rules.{rules}
+use mathlib.Core.Path.{refl, ap, ◌∙◌}
+use native.Mathlib.Omega.{arith}
+use Rattle.std.proofs.Common.{length, ◌≤◌}
+use Rattle.numbers.specs.Sheet.{bytes_of}
+use Rattle.numbers.specs.declared.Written.TheVariants.{Bytes, TooLarge, TooShort}
+use Rattle.numbers.proofs.SheetLaws.{length-bytes_of≤, forms-below, written-large, written-short, written-whole}
+use Rattle.numbers.proofs.encode_sheet.Goals as goal
+use Rattle.numbers.proofs.encode_sheet.Goals.{then-sheet-words+else-sheet-needed, else-sheet-words}
+
+pub returns-then-large-words : goal.returns-then-large-words
+returns-then-large-words c =
+    record {
+      result = ap TooLarge c.first_not_below-large.ensures.result ∙ written-large _ _ (omega arith);
+      sheet = refl;
+    }
+
+pub returns-then-sheet-needed : goal.returns-then-sheet-needed
+returns-then-sheet-needed c =
+    record {
+      result = ap TooShort c.total_size-needed.ensures.result ∙ written-short _ _ (omega (arith, c.first_not_below-large.ensures.result)) (omega arith);
+      sheet = refl;
+    }
+
+pub put_all-requires-clause-values : goal.put_all-requires-clause-values
+put_all-requires-clause-values c = forms-below c.args.words.now (omega (arith, c.first_not_below-large.ensures.result))
+
+pub put_all-requires-clause-space : goal.put_all-requires-clause-space
+put_all-requires-clause-space c = elim c.if-sheet-words.branch [
+    then-sheet-words+else-sheet-needed w ↦ omega (arith, w.total_size-needed.ensures.result)
+  | else-sheet-words w ↦ omega (arith, length-bytes_of≤ c.args.words.now) ]
+
+pub returns-clause-result : goal.returns-clause-result
+returns-clause-result c =
+    let fits : length (bytes_of c.args.words.now) ≤ length c.args.sheet.now = elim c.if-sheet-words.branch [
+        then-sheet-words+else-sheet-needed w ↦ omega (arith, w.total_size-needed.ensures.result)
+      | else-sheet-words w ↦ omega (arith, length-bytes_of≤ c.args.words.now) ] in
+    ap Bytes c.put_all.ensures.count ∙ written-whole c.args.words.now _ (omega (arith, c.first_not_below-large.ensures.result)) fits

@@ -1,0 +1,7 @@
+-- `table_scale` meets its contract: the version says the scale.
+use borrow.Author.Rules.{rules}
+use Rattle.rooms.proofs.Counts.{scale-told}
+use Rattle.rooms.proofs.lists.table_scale.Goals as goal
+
+pub returns : goal.returns
+returns c = record { scale = scale-told _ c.word.ensures.result c.scale_of.ensures.result }

@@ -1,0 +1,30 @@
+-- `words::load` meets its contract: it copies the words of the bytes as `copy` does those of a list, each read where its four bytes stand.
+use borrow.Author.Rules.{rules}
+use native.Mathlib.Omega.{arith}
+use Prim.Native.Nat.{◌-◌, ◌≤◌}
+use mathlib.Core.Path.{◌≡◌, refl}
+use lib.ListN.{length, take, length-set}
+use lib.Seq.{sets}
+use Rattle.words.specs.Bytes.{words_of}
+use Rattle.figures.proofs.Stores.{sets-turn, sets-take}
+use Rattle.words.proofs.Bytes.{length-words_of, get_or-words_of}
+use Rattle.words.proofs.load.Goals as goal
+
+pub loop-i-init : goal.loop-i-init
+loop-i-init c = (omega arith, refl, refl)
+
+pub loop-i-preserved : goal.loop-i-preserved
+loop-i-preserved c =
+    let args = c.args in
+    let read = get_or-words_of args.bytes.now c.loop-i.i (omega arith) in
+    let turn = sets-turn args.list.now (words_of args.bytes.now) c.loop-i.i 0 (omega (arith, length-words_of args.bytes.now)) in
+    (omega arith, (cc), simp length-set (omega arith))
+
+pub returns : goal.returns
+returns c =
+    let args = c.args in
+    let all = sets-take c.loop-i.i args.list.now (words_of args.bytes.now) (omega (arith, length-words_of args.bytes.now)) in
+    record {
+      count = search rules;
+      loaded = (cc);
+    }

@@ -1,0 +1,31 @@
+-- `words::put` meets its contract: the bytes still to come, stored where they go, always make up the whole number.
+use borrow.Author.Rules.{rules}
+use native.Mathlib.Omega.{arith}
+use Prim.Native.Nat.{◌+◌, ◌-◌, ◌≤◌}
+use mathlib.Core.Path.{◌≡◌, refl}
+use lib.ListN.{length, length-set}
+use lib.Seq.{sets}
+use Rattle.words.specs.Bytes.{little_endian}
+use Rattle.words.proofs.Bytes.{sets-little_endian-turn}
+use Rattle.words.proofs.put.Goals as goal
+
+pub loop-i-init : goal.loop-i-init
+loop-i-init c =
+    let start : c.args.at + 0 ≡ c.args.at = omega arith in
+    let left : c.args.count - 0 ≡ c.args.count = omega arith in
+    (omega arith, rw (start, left), refl)
+
+pub loop-i-preserved : goal.loop-i-preserved
+loop-i-preserved c =
+    let args = c.args in
+    let turn = sets-little_endian-turn c.loop-i.bytes args.at c.loop-i.i args.count c.loop-i.rest (omega arith) in
+    (omega arith, (cc), simp length-set (omega arith))
+
+pub returns : goal.returns
+unfolding little_endian
+returns c =
+    record {
+      stored =
+        let none : c.args.count - c.loop-i.i ≡ 0 = omega arith in
+        rw none at c.loop-i.invariant.1
+    }

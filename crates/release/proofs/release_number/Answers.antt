@@ -14,4 +14,6 @@ decimal_of-requires c =
     record { digits = (rw (digit 16 (omega arith)) (omega arith), rw (digit 17 (omega arith)) (omega arith), rw (digit 18 (omega arith)) (omega arith), rw (digit 19 (omega arith)) (omega arith)) }
 
 pub returns : goal.returns
-returns c = record { result = c.decimal_of.ensures.result ∙ rw (digit at 16 (omega arith), digit at 17 (omega arith), digit at 18 (omega arith), digit at 19 (omega arith)) refl }
+returns c =
+    let digit : (i : ℕ) → i < 20 → get_or c.show_mark.new.text i 0 ≡ get_or mark i 0 = λ i h. shown-at (replicate 32 0) mark c.args.seen i (omega arith) (omega arith) (omega arith) c.show_mark.ensures.shown in
+    record { result = c.decimal_of.ensures.result ∙ rw (digit 16 (omega arith), digit 17 (omega arith), digit 18 (omega arith), digit 19 (omega arith)) refl }

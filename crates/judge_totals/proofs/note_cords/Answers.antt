@@ -12,18 +12,6 @@ use Rattle.rooms.proofs.Walk.{ServerHere}
 use Rattle.judge_totals.proofs.Walking.{Walking, WalkingServer, CordFits, walking-sized, server-sized, walking_start, walking-server, few-cords, few-servers, server-begin, judged-all, server-end, cord-fits, judged-below, server-cord}
 use Rattle.judge_totals.proofs.note_cords.Goals as goal
 
-shared-slice-read-need-of-2 :
-    tie.Need-shared-slice-read-need-of-2 invariant-loop2 decreases-loop2 invariant-loop decreases-loop
-shared-slice-read-need-of-2 c = omega (arith, (standing (turn c.before.before.before)).there)
-
-shared-slice-read-word-index :
-    tie.Need-shared-slice-read-word-index invariant-loop2 decreases-loop2 invariant-loop decreases-loop
-shared-slice-read-word-index c = omega (arith, (standing (turn (ranked c.before))).there)
-
-shared-slice-read-word-index-2 :
-    tie.Need-shared-slice-read-word-index-2 invariant-loop2 decreases-loop2 invariant-loop decreases-loop
-shared-slice-read-word-index-2 c = omega (arith, (fits (cord-low (cord-grant (cord-found c.before)))).there)
-
 pub loop-v-init : goal.loop-v-init
 loop-v-init c =
     walking_start c.requires.good.0 c.requires.good.1 c.requires.sizes.0 c.requires.sizes.1 c.requires.lengths.0 c.requires.lengths.1 c.requires.lengths.2 c.requires.unnoted.0 c.requires.unnoted.1
@@ -83,6 +71,12 @@ offset_bounds-table-start-in-loop-v-2 c =
     let standing : ServerHere table c.loop-v.invariant.room c.loop-v.v c.loop-v.start c.loop-v.first = walking-server c.loop-v.invariant c.loop-v-test.true in
     omega (arith, standing.there)
 
+pub bounds-table-start-in-loop-v-2 : goal.bounds-table-start-in-loop-v-2
+bounds-table-start-in-loop-v-2 c =
+    let table : List ℕ = c.args.table.now in
+    let standing : ServerHere table c.loop-v.invariant.room c.loop-v.v c.loop-v.start c.loop-v.first = walking-server c.loop-v.invariant c.loop-v-test.true in
+    omega (arith, standing.there)
+
 pub overflow_add-start-in-loop-v : goal.overflow_add-start-in-loop-v
 overflow_add-start-in-loop-v c =
     let table : List ℕ = c.args.table.now in
@@ -91,6 +85,12 @@ overflow_add-start-in-loop-v c =
 
 pub offset_bounds-table-start-in-loop-v-3 : goal.offset_bounds-table-start-in-loop-v-3
 offset_bounds-table-start-in-loop-v-3 c =
+    let table : List ℕ = c.args.table.now in
+    let standing : ServerHere table c.loop-v.invariant.room c.loop-v.v c.loop-v.start c.loop-v.first = walking-server c.loop-v.invariant c.loop-v-test.true in
+    omega (arith, standing.there)
+
+pub bounds-table-start-in-loop-v-3 : goal.bounds-table-start-in-loop-v-3
+bounds-table-start-in-loop-v-3 c =
     let table : List ℕ = c.args.table.now in
     let standing : ServerHere table c.loop-v.invariant.room c.loop-v.v c.loop-v.start c.loop-v.first = walking-server c.loop-v.invariant c.loop-v-test.true in
     omega (arith, standing.there)
@@ -184,6 +184,13 @@ first_above-above-requires c =
 
 pub offset_bounds-table-word-in-loop-c : goal.offset_bounds-table-word-in-loop-c
 offset_bounds-table-word-in-loop-c c =
+    let FitsAt : Type 0 = CordFits c.args.table.now c.args.grants.now c.args.scale (get_or c.args.table.now (c.loop-v.start + 1) 0) c.need_of-need.result c.loop-c.c c.loop-c.word
+        c.loop-c.given c.loop-c.raised c.loop-c.wanting in
+    let fits : FitsAt = cord-fits c.loop-c.invariant c.loop-c-test.true in
+    omega (arith, fits.there)
+
+pub bounds-table-word-in-loop-c : goal.bounds-table-word-in-loop-c
+bounds-table-word-in-loop-c c =
     let FitsAt : Type 0 = CordFits c.args.table.now c.args.grants.now c.args.scale (get_or c.args.table.now (c.loop-v.start + 1) 0) c.need_of-need.result c.loop-c.c c.loop-c.word
         c.loop-c.given c.loop-c.raised c.loop-c.wanting in
     let fits : FitsAt = cord-fits c.loop-c.invariant c.loop-c-test.true in

@@ -1,13 +1,9 @@
 -- `step_at` meets its contract: the controller at its place is judged, and then the cords at theirs.
-use borrow.Author.Rules.{rules}
 use Prim.Native.Nat.{ℕ, ◌+◌}
 use Rattle.control.specs.declared.Reading.{Reading}
 use Rattle.control.specs.Call.{controller_at, reading_at}
 use Rattle.control.proofs.Cords.{stepped_by-four}
 use Rattle.control_all.proofs.step_at.Goals as goal
-
-pub overflow_add-at-3 : goal.overflow_add-at-3
-overflow_add-at-3 c = search (rules, c.shared_slice_known-4-1)
 
 pub returns : goal.returns
 returns c =

@@ -1,5 +1,5 @@
 use mathlib.Core.Path.{◌≡◌}
-use Prim.Native.Nat.{◌-◌, ◌≤◌, ◌<◌}
+use Prim.Native.Nat.{◌≤◌, ◌<◌}
 use lib.ListN.{length, take}
 use lib.Seq.{sets}
 use Rattle.sender.specs.Period.{servers_from, position_after}
@@ -12,6 +12,3 @@ invariant-loop-i l = (l.i ≤ l.i-end)
     × (l.server < l.count)
     × (l.server ≡ position_after l.count l.position l.i)
     × (l.list ≡ sets l.initial.list 0 (take l.i (servers_from l.count l.position (length l.initial.list))))
-
-abbrev pub decreases-loop-i : goal.decreases-loop-i
-decreases-loop-i l = l.i-end - l.i

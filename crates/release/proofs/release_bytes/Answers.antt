@@ -1,6 +1,5 @@
 -- `release_bytes` meets its contract: every buffer that holds the answer holds the digits' part of the mark.
 use native.Mathlib.Omega.{arith}
-use borrow.Author.Rules.{rules}
 use Rattle.calls.proofs.Calls.{call-short, call-done}
 use Rattle.release.proofs.release_bytes.Goals as goal
 

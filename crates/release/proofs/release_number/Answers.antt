@@ -3,7 +3,6 @@ use mathlib.Core.Path.{◌≡◌, refl, ◌∙◌}
 use Prim.Native.Nat.{ℕ, ◌<◌}
 use native.Mathlib.Omega.{arith}
 use lib.ListN.{get_or, replicate}
-use borrow.Author.Rules.{rules}
 use Rattle.release.specs.Release.{mark}
 use Rattle.release.proofs.Marks.{shown-at}
 use Rattle.release.proofs.release_number.Goals as goal

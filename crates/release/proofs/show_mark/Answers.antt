@@ -1,10 +1,7 @@
 -- `show_mark` meets its contract: at every turn the bytes so far stand at the front of the text.
 use mathlib.Core.Path.{◌≡◌, refl}
-use Prim.Native.Nat.{◌-◌, ◌≤◌}
 use native.Mathlib.Omega.{arith}
-use lib.ListN.{length, take, length-set}
-use lib.Seq.{sets}
-use borrow.Author.Rules.{rules}
+use lib.ListN.{length-set}
 use Rattle.figures.proofs.Stores.{sets-turn}
 use Rattle.release.specs.Release.{mark}
 use Rattle.release.proofs.show_mark.Goals as goal
@@ -21,6 +18,6 @@ pub returns : goal.returns
 returns c =
     record {
       shown =
-        let all : c.loop-i.i ≡ c.args.seen = omega arith in
-        rw (← all) c.loop-i.invariant.1
+          let all : c.loop-i.i ≡ c.args.seen = omega arith in
+          rw (← all) c.loop-i.invariant.1;
     }

@@ -1,7 +1,6 @@
 -- `schedule_by` meets its contract: just what is accepted is copied.
 use mathlib.Core.Path.{sym}
 use lib.Seq.{length-take-le}
-use borrow.Author.Rules.{rules}
 use Rattle.schedules.proofs.TableLaws.{count_fits, copied}
 use Rattle.schedules.proofs.schedule_by.Goals as goal
 

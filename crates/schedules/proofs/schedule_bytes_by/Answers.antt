@@ -2,7 +2,6 @@
 use mathlib.Core.Path.{refl, sym}
 use native.Mathlib.Omega.{arith}
 use lib.Seq.{length-take-le}
-use borrow.Author.Rules.{rules}
 use Rattle.calls.proofs.Calls.{call-short}
 use Rattle.schedules.proofs.TableLaws.{written-fits, count_fits, stored}
 use Rattle.schedules.proofs.schedule_bytes_by.Goals as goal
@@ -20,6 +19,6 @@ pub returns : goal.returns
 returns c =
     record {
       called =
-        stored _ c.schedule_words-told.ensures.answer c.written_count-count.ensures.result c.schedule_words-told.ensures.words _ _ (written-fits _ _) (omega (arith, c.if-answer-lt-ANSWER_BYTES.false)) c.store.ensures.stored
-        c.number.ensures.result c.figure.ensures.result c.store_answer.ensures.stored
+          stored _ c.schedule_words-told.ensures.answer c.written_count-count.ensures.result c.schedule_words-told.ensures.words _ _ (written-fits _ _) (omega (arith, c.if-answer-lt-ANSWER_BYTES.false)) c.store.ensures.stored
+          c.number.ensures.result c.figure.ensures.result c.store_answer.ensures.stored;
     }

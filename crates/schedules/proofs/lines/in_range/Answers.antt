@@ -1,5 +1,4 @@
 -- `in_range` meets its contract: each test that fails decides.
-use borrow.Author.Rules.{rules}
 use native.Mathlib.Numerals.{add-one}
 use borrow.Author.Tests.{le-leb, lt-leb, le-ltb, lt-ltb}
 use Rattle.schedules.specs.Schedule.{in_range}

@@ -1,8 +1,6 @@
 -- `judge_line` meets its contract: the refusals of a line in their order.
 use mathlib.Core.Path.{sym, ◌∙◌}
 use native.Mathlib.Omega.{arith}
-use borrow.Author.Rules.{rules}
-use borrow.Author.Tests.{not-true, not-false}
 use Rattle.schedules.proofs.LineLaws.{line-good, line-bad, rating-most, not-a-line, not-a-size, out_of_range, a-node}
 use Rattle.schedules.proofs.lines.judge_line.Goals as goal
 
@@ -16,8 +14,8 @@ pub returns-then-not-in_range : goal.returns-then-not-in_range
 returns-then-not-in_range c =
     record {
       result =
-        out_of_range _ _ (line-good _ c.read_line-read.ensures.result c.in-Of.is) (sym c.is_size.ensures.result ∙ c.if-not-is_size.false)
-        (sym c.in_range.ensures.result ∙ c.if-not-in_range.true)
+          out_of_range _ _ (line-good _ c.read_line-read.ensures.result c.in-Of.is) (sym c.is_size.ensures.result ∙ c.if-not-is_size.false)
+          (sym c.in_range.ensures.result ∙ c.if-not-in_range.true);
     }
 
 pub overflow_mul-result : goal.overflow_mul-result
@@ -32,6 +30,6 @@ pub returns : goal.returns
 returns c =
     record {
       result =
-        a-node _ _ (line-good _ c.read_line-read.ensures.result c.in-Of.is) (sym c.is_size.ensures.result ∙ c.if-not-is_size.false)
-        (sym c.in_range.ensures.result ∙ c.if-not-in_range.false)
+          a-node _ _ (line-good _ c.read_line-read.ensures.result c.in-Of.is) (sym c.is_size.ensures.result ∙ c.if-not-is_size.false)
+          (sym c.in_range.ensures.result ∙ c.if-not-in_range.false);
     }

@@ -1,10 +1,10 @@
 -- `read_lines` meets its contract: the lines that are still to be read complete the answer and the list at every turn (`ReadingLines`).
-use Prim.Native.Nat.{◌+◌, ◌-◌, ◌*◌, ◌<◌}
+use Prim.Native.Nat.{◌+◌, ◌*◌, ◌<◌}
 use native.Mathlib.Omega.{arith}
 use lib.ListN.{length, length-set}
 use borrow.Author.Rules.{rules}
 use Rattle.rooms.specs.Table.{most_nodes}
-use Rattle.schedules.proofs.LineLoop.{ReadingLines, begin, end, stop, few-lines, again}
+use Rattle.schedules.proofs.LineLoop.{begin, end, stop, few-lines, again}
 use Rattle.schedules.proofs.lines.read_lines.Goals as goal
 
 pub loop-at-init : goal.loop-at-init

@@ -1,9 +1,5 @@
-use Prim.Native.Nat.{◌+◌, ◌-◌, ◌*◌, ◌<◌}
-use native.Mathlib.Omega.{arith}
-use lib.ListN.{length, length-set}
-use borrow.Author.Rules.{rules}
-use Rattle.rooms.specs.Table.{most_nodes}
-use Rattle.schedules.proofs.LineLoop.{ReadingLines, begin, end, stop, few-lines, again}
+use Prim.Native.Nat.{◌-◌}
+use Rattle.schedules.proofs.LineLoop.{ReadingLines}
 use Rattle.schedules.proofs.lines.read_lines.Given as goal
 
 abbrev pub invariant-loop-at : goal.invariant-loop-at

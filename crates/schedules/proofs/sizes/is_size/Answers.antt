@@ -1,8 +1,7 @@
 -- `is_size` meets its contract: the sizes from a place on decide, at every turn (`Searching`).
-use Prim.Native.Nat.{◌-◌}
 use borrow.Author.Rules.{rules}
 use Rattle.schedules.specs.Sizes.{sizes}
-use Rattle.schedules.proofs.SizeLaws.{Searching, begin, again, stop, end}
+use Rattle.schedules.proofs.SizeLaws.{begin, again, stop, end}
 use Rattle.schedules.proofs.sizes.is_size.Goals as goal
 
 pub loop-i-init : goal.loop-i-init

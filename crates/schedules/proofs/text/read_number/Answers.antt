@@ -4,9 +4,8 @@ use mathlib.Core.Bool.{true}
 use Prim.Native.Nat.{◌+◌, ◌*◌, ◌≤◌}
 use native.Mathlib.Omega.{arith}
 use borrow.Author.Rules.{rules}
-use borrow.Author.Tests.{not-true, not-false}
 use Rattle.schedules.specs.Text.{is_digit}
-use Rattle.schedules.proofs.NumberLaws.{Inv, digit-range, zero-read, no_number, begin, exhausted, fits, stop, again}
+use Rattle.schedules.proofs.NumberLaws.{digit-range, zero-read, no_number, begin, exhausted, fits, stop, again}
 use Rattle.schedules.proofs.text.read_number.Goals as goal
 
 pub overflow_add-result : goal.overflow_add-result
@@ -25,8 +24,8 @@ pub returns-then-not-is_digit-2 : goal.returns-then-not-is_digit-2
 returns-then-not-is_digit-2 c =
     record {
       result =
-        stop _ _ _ _ _ c.byte_at-byte.ensures.result _ (search rules) c.loop-left.invariant
-        (sym c.is_digit-in-loop-left.ensures.result ∙ c.if-not-is_digit-2.true)
+          stop _ _ _ _ _ c.byte_at-byte.ensures.result _ (search rules) c.loop-left.invariant
+          (sym c.is_digit-in-loop-left.ensures.result ∙ c.if-not-is_digit-2.true);
     }
 
 pub overflow_mul-value : goal.overflow_mul-value

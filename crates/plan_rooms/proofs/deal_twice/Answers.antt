@@ -27,19 +27,6 @@ use Rattle.plan_rooms.proofs.Planning.{blank-marks, needs-size, cord-count, want
 use borrow.Author.Rules.{rules}
 use Rattle.plan_rooms.proofs.deal_twice.Goals as goal
 
-module _ (q : Reclaimed) {r : Room} (ok : Accepted r) {demands : List ℕ} (of : RoomOf (start-r q) r demands) where
-  first_q : grants-f (first-u (used-r q)) ≡ first_grants r demands
-  first_q = first-grants (first-u (used-r q)) ok of
-
-  starts-are : take (cords-s (start-r q)) (starts-after q) ≡ first_used r demands
-  starts-are = lent_again (starts-lent q) ∙ first-used ok of first_q (usable-is (used-r q)) q.reclaim.ensures.1.0
-
-  wants-are : wants-back q ≡ second_wants r demands
-  wants-are = second-wants ok of first_q (usable-is (used-r q)) q.reclaim.ensures.1.1
-
-  freed-q : q.reclaim.result ≡ second.freed r demands
-  freed-q = freed-is ok of first_q (usable-is (used-r q)) q.reclaim.ensures.0
-
 pub slice_bounds-first_left-end : goal.slice_bounds-first_left-end
 slice_bounds-first_left-end c =
     let RoomOf : Room → List ℕ → Type 0 = λ r demands. RoomToDeal r demands c.args.parents.now c.args.left.now c.args.cords.now c.args.nodes.now c.args.lows.now c.args.wants.now c.args.caps.now c.args.scale in
@@ -188,8 +175,8 @@ deal-requires c =
     let first-left-is : take nodes-s first-left-after ≡ c.args.left.now = lent_again first-left-lent ∙ c.copy.ensures.copied ∙ sets-all _ _ (zeros-front most_nodes _ nodes-few ∙ sym lists.lists.spare-size) in
     let order-after : List ℕ = rejoined cords-s (replicate most_cords 0) order-back in
     let listed_at : LevelLists c.args.parents.now (column node_column c.args.cords.now) (column level_column c.args.cords.now) levels-back (take cords-s order-after) actives-back = rw (lent_again order-lent) c.list_levels.ensures.listed in
-    let first-lent : {r : Room} → Accepted r → {demands : List ℕ} → RoomOf r demands → DealGiven c.args.parents.now levels-back (take cords-s order-after) actives-back c.args.nodes.now c.args.lows.now c.args.wants.now (take nodes-s first-left-after) (limits_of r) (levels_of r) c.args.lows.now = λ ok of. first-given ok of listed_at first-left-is in
-    record { lists = (record { limits = limits_of c.requires.room.room; levels = levels_of c.requires.room.room; lows = c.args.lows.now; given = first-lent room lists }, blank-marks nodes-few refl, c.requires.blank.1) }
+    let first-lent : (r : Room) → Accepted r → (demands : List ℕ) → RoomOf r demands → DealGiven c.args.parents.now levels-back (take cords-s order-after) actives-back c.args.nodes.now c.args.lows.now c.args.wants.now (take nodes-s first-left-after) (limits_of r) (levels_of r) c.args.lows.now = λ r ok demands of. first-given ok of listed_at first-left-is in
+    record { lists = (record { limits = limits_of c.requires.room.room; levels = levels_of c.requires.room.room; lows = c.args.lows.now; given = first-lent _ room _ lists }, blank-marks nodes-few refl, c.requires.blank.1) }
 
 pub slice_bounds-usable-end-2 : goal.slice_bounds-usable-end-2
 slice_bounds-usable-end-2 c =
@@ -304,13 +291,13 @@ reclaim-freed-requires c =
     let needs-are : take servers-s needs-after ≡ c.args.caps.now = lent_again needs-lent ∙ c.copy-2.ensures.copied ∙ sets-all _ _ (zeros-front most_servers _ servers-few) in
     let order-after : List ℕ = rejoined cords-s (replicate most_cords 0) order-back in
     let listed_at : LevelLists c.args.parents.now (column node_column c.args.cords.now) (column level_column c.args.cords.now) levels-back (take cords-s order-after) actives-back = rw (lent_again order-lent) c.list_levels.ensures.listed in
-    let first-lent : {r : Room} → Accepted r → {demands : List ℕ} → RoomOf r demands → DealGiven c.args.parents.now levels-back (take cords-s order-after) actives-back c.args.nodes.now c.args.lows.now c.args.wants.now (take nodes-s first-left-after) (limits_of r) (levels_of r) c.args.lows.now = λ ok of. first-given ok of listed_at first-left-is in
-    let first-grants : {r : Room} → Accepted r → {demands : List ℕ} → RoomOf r demands → grants-f ≡ first_grants r demands = λ {r} ok of. first_made ok of (c.deal.ensures.dealt (limits_of r) (levels_of r) c.args.lows.now (first-lent ok of)) in
+    let first-lent : (r : Room) → Accepted r → (demands : List ℕ) → RoomOf r demands → DealGiven c.args.parents.now levels-back (take cords-s order-after) actives-back c.args.nodes.now c.args.lows.now c.args.wants.now (take nodes-s first-left-after) (limits_of r) (levels_of r) c.args.lows.now = λ r ok demands of. first-given ok of listed_at first-left-is in
+    let first-grants : (r : Room) → Accepted r → (demands : List ℕ) → RoomOf r demands → grants-f ≡ first_grants r demands = λ r ok demands of. first_made ok of (c.deal.ensures.dealt (limits_of r) (levels_of r) c.args.lows.now (first-lent _ ok _ of)) in
     let usable_after : List ℕ = rejoined servers-s needs-after usable-back in
     let usable-is : take servers-s usable_after ≡ usable_from c.args.scale (column share_column c.args.cords.now) (column server_column c.args.cords.now) c.args.caps.now grants-f = lent_again usable-lent
         ∙ c.usable_of.ensures.usable
         ∙ ap (λ (needed : List ℕ). usable_from c.args.scale (column share_column c.args.cords.now) (column server_column c.args.cords.now) needed grants-f) needs-are in
-    record { lists = (reclaim-asks room lists (first-grants room lists) usable-is grants-size, zeros-front most_cords _ cords-few ∙ sym (cord-count room lists), wants-count room lists ∙ sym (cord-count room lists)) }
+    record { lists = (reclaim-asks room lists (first-grants _ room _ lists) usable-is grants-size, zeros-front most_cords _ cords-few ∙ sym (cord-count room lists), wants-count room lists ∙ sym (cord-count room lists)) }
 
 pub slice_bounds-used-end-2 : goal.slice_bounds-used-end-2
 slice_bounds-used-end-2 c =
@@ -339,7 +326,41 @@ raise_starts-requires c =
     let RoomOf : Room → List ℕ → Type 0 = λ r demands. RoomToDeal r demands c.args.parents.now c.args.left.now c.args.cords.now c.args.nodes.now c.args.lows.now c.args.wants.now c.args.caps.now c.args.scale in
     let room : Accepted c.requires.room.room = accepted c.requires.room.table c.requires.room.room c.requires.room.end c.requires.room.is in
     let lists : RoomOf c.requires.room.room c.requires.room.demands = c.requires.room.lists in
-    record { raisable = raisable room lists (starts-are c room lists) }
+    let nodes-s : ℕ = length c.args.parents.now in
+    let cords-s : ℕ = length c.args.nodes.now in
+    let servers-s : ℕ = length c.args.caps.now in
+    let nodes-few : nodes-s ≤ most_nodes = (levels-nodes room lists).0 in
+    let cords-few : cords-s ≤ most_cords = omega (arith, (levels-cords room lists).few, cord-count room lists) in
+    let servers-few : servers-s ≤ most_servers = omega (arith, needs-size room lists, room.few_servers) in
+    let first-left-back : List ℕ = c.copy.new.to in
+    let first-left-lent : Lent nodes-s (replicate most_nodes 0) first-left-back = lent-zeros most_nodes nodes-few c.copy.auto.to in
+    let needs-back : List ℕ = c.copy-2.new.to in
+    let needs-lent : Lent servers-s (replicate most_servers 0) needs-back = lent-zeros most_servers servers-few c.copy-2.auto.to in
+    let levels-back : List (List ℕ) = c.list_levels.new.levels in
+    let order-back : List ℕ = c.list_levels.new.order in
+    let order-lent : Lent cords-s (replicate most_cords 0) order-back = lent-zeros most_cords cords-few c.list_levels.auto.order in
+    let actives-back : List (List ℕ) = c.list_levels.new.actives in
+    let grants-f : List ℕ = c.deal.new.grants in
+    let needs-after : List ℕ = rejoined servers-s (replicate most_servers 0) needs-back in
+    let usable-back : List ℕ = c.usable_of.new.usable in
+    let usable-lent : Lent servers-s needs-after usable-back = lent (lent-few needs-lent) c.usable_of.auto.usable in
+    let starts-back : List ℕ = c.reclaim-freed.new.starts in
+    let starts-lent : Lent cords-s (replicate most_cords 0) starts-back = lent-zeros most_cords cords-few c.reclaim-freed.auto.starts in
+    let first-left-after : List ℕ = rejoined nodes-s (replicate most_nodes 0) first-left-back in
+    let first-left-is : take nodes-s first-left-after ≡ c.args.left.now = lent_again first-left-lent ∙ c.copy.ensures.copied ∙ sets-all _ _ (zeros-front most_nodes _ nodes-few ∙ sym lists.lists.spare-size) in
+    let needs-are : take servers-s needs-after ≡ c.args.caps.now = lent_again needs-lent ∙ c.copy-2.ensures.copied ∙ sets-all _ _ (zeros-front most_servers _ servers-few) in
+    let order-after : List ℕ = rejoined cords-s (replicate most_cords 0) order-back in
+    let listed_at : LevelLists c.args.parents.now (column node_column c.args.cords.now) (column level_column c.args.cords.now) levels-back (take cords-s order-after) actives-back = rw (lent_again order-lent) c.list_levels.ensures.listed in
+    let first-lent : (r : Room) → Accepted r → (demands : List ℕ) → RoomOf r demands → DealGiven c.args.parents.now levels-back (take cords-s order-after) actives-back c.args.nodes.now c.args.lows.now c.args.wants.now (take nodes-s first-left-after) (limits_of r) (levels_of r) c.args.lows.now = λ r ok demands of. first-given ok of listed_at first-left-is in
+    let first-grants : (r : Room) → Accepted r → (demands : List ℕ) → RoomOf r demands → grants-f ≡ first_grants r demands = λ r ok demands of. first_made ok of (c.deal.ensures.dealt (limits_of r) (levels_of r) c.args.lows.now (first-lent _ ok _ of)) in
+    let usable_after : List ℕ = rejoined servers-s needs-after usable-back in
+    let usable-is : take servers-s usable_after ≡ usable_from c.args.scale (column share_column c.args.cords.now) (column server_column c.args.cords.now) c.args.caps.now grants-f = lent_again usable-lent
+        ∙ c.usable_of.ensures.usable
+        ∙ ap (λ (needed : List ℕ). usable_from c.args.scale (column share_column c.args.cords.now) (column server_column c.args.cords.now) needed grants-f) needs-are in
+    let starts-after : List ℕ = rejoined cords-s (replicate most_cords 0) starts-back in
+    let first_q : (r : Room) → Accepted r → (demands : List ℕ) → RoomOf r demands → grants-f ≡ first_grants r demands = λ r ok demands of. first-grants _ ok _ of in
+    let starts-are : (r : Room) → Accepted r → (demands : List ℕ) → RoomOf r demands → take cords-s starts-after ≡ first_used r demands = λ r ok demands of. lent_again starts-lent ∙ first-used ok of (first_q _ ok _ of) usable-is c.reclaim-freed.ensures.starts in
+    record { raisable = raisable room lists (starts-are _ room _ lists) }
 
 pub slice_bounds-order-end-3 : goal.slice_bounds-order-end-3
 slice_bounds-order-end-3 c =
@@ -390,24 +411,48 @@ deal-requires-2 c =
     let RoomOf : Room → List ℕ → Type 0 = λ r demands. RoomToDeal r demands c.args.parents.now c.args.left.now c.args.cords.now c.args.nodes.now c.args.lows.now c.args.wants.now c.args.caps.now c.args.scale in
     let room : Accepted c.requires.room.room = accepted c.requires.room.table c.requires.room.room c.requires.room.end c.requires.room.is in
     let lists : RoomOf c.requires.room.room c.requires.room.demands = c.requires.room.lists in
+    let nodes-s : ℕ = length c.args.parents.now in
     let cords-s : ℕ = length c.args.nodes.now in
+    let servers-s : ℕ = length c.args.caps.now in
+    let nodes-few : nodes-s ≤ most_nodes = (levels-nodes room lists).0 in
     let cords-few : cords-s ≤ most_cords = omega (arith, (levels-cords room lists).few, cord-count room lists) in
+    let servers-few : servers-s ≤ most_servers = omega (arith, needs-size room lists, room.few_servers) in
+    let first-left-back : List ℕ = c.copy.new.to in
+    let first-left-lent : Lent nodes-s (replicate most_nodes 0) first-left-back = lent-zeros most_nodes nodes-few c.copy.auto.to in
+    let needs-back : List ℕ = c.copy-2.new.to in
+    let needs-lent : Lent servers-s (replicate most_servers 0) needs-back = lent-zeros most_servers servers-few c.copy-2.auto.to in
     let levels-back : List (List ℕ) = c.list_levels.new.levels in
     let order-back : List ℕ = c.list_levels.new.order in
     let order-lent : Lent cords-s (replicate most_cords 0) order-back = lent-zeros most_cords cords-few c.list_levels.auto.order in
     let actives-back : List (List ℕ) = c.list_levels.new.actives in
     let grants-f : List ℕ = c.deal.new.grants in
     let grants-size : length grants-f ≡ cords-s = c.deal.auto.grants ∙ c.requires.blank.1 in
+    let needs-after : List ℕ = rejoined servers-s (replicate most_servers 0) needs-back in
+    let usable-back : List ℕ = c.usable_of.new.usable in
+    let usable-lent : Lent servers-s needs-after usable-back = lent (lent-few needs-lent) c.usable_of.auto.usable in
     let starts-back : List ℕ = c.reclaim-freed.new.starts in
+    let starts-lent : Lent cords-s (replicate most_cords 0) starts-back = lent-zeros most_cords cords-few c.reclaim-freed.auto.starts in
     let wants-back : List ℕ = c.reclaim-freed.new.wants in
     let left_back : List ℕ = c.raise_starts.new.left in
     let left-size : length left_back ≡ length c.args.left.now = c.raise_starts.auto.left in
+    let first-left-after : List ℕ = rejoined nodes-s (replicate most_nodes 0) first-left-back in
+    let first-left-is : take nodes-s first-left-after ≡ c.args.left.now = lent_again first-left-lent ∙ c.copy.ensures.copied ∙ sets-all _ _ (zeros-front most_nodes _ nodes-few ∙ sym lists.lists.spare-size) in
+    let needs-are : take servers-s needs-after ≡ c.args.caps.now = lent_again needs-lent ∙ c.copy-2.ensures.copied ∙ sets-all _ _ (zeros-front most_servers _ servers-few) in
     let order-after : List ℕ = rejoined cords-s (replicate most_cords 0) order-back in
     let listed_at : LevelLists c.args.parents.now (column node_column c.args.cords.now) (column level_column c.args.cords.now) levels-back (take cords-s order-after) actives-back = rw (lent_again order-lent) c.list_levels.ensures.listed in
+    let first-lent : (r : Room) → Accepted r → (demands : List ℕ) → RoomOf r demands → DealGiven c.args.parents.now levels-back (take cords-s order-after) actives-back c.args.nodes.now c.args.lows.now c.args.wants.now (take nodes-s first-left-after) (limits_of r) (levels_of r) c.args.lows.now = λ r ok demands of. first-given ok of listed_at first-left-is in
+    let first-grants : (r : Room) → Accepted r → (demands : List ℕ) → RoomOf r demands → grants-f ≡ first_grants r demands = λ r ok demands of. first_made ok of (c.deal.ensures.dealt (limits_of r) (levels_of r) c.args.lows.now (first-lent _ ok _ of)) in
+    let usable_after : List ℕ = rejoined servers-s needs-after usable-back in
+    let usable-is : take servers-s usable_after ≡ usable_from c.args.scale (column share_column c.args.cords.now) (column server_column c.args.cords.now) c.args.caps.now grants-f = lent_again usable-lent
+        ∙ c.usable_of.ensures.usable
+        ∙ ap (λ (needed : List ℕ). usable_from c.args.scale (column share_column c.args.cords.now) (column server_column c.args.cords.now) needed grants-f) needs-are in
     let starts-after : List ℕ = rejoined cords-s (replicate most_cords 0) starts-back in
-    let second-lent : {r : Room} → Accepted r → {demands : List ℕ} → RoomOf r demands → DealGiven c.args.parents.now levels-back (take cords-s order-after) actives-back c.args.nodes.now (take cords-s starts-after) wants-back left_back (limits_of r) (levels_of r) c.args.lows.now = λ ok of. second-given ok of listed_at (starts-are c ok of) (wants-are c ok of)
-        (raised ok of (starts-are c ok of) left-size c.raise_starts.ensures.raised) in
-    record { lists = (record { limits = limits_of c.requires.room.room; levels = levels_of c.requires.room.room; lows = c.args.lows.now; given = second-lent room lists }, c.requires.blank.0, grants-size) }
+    let first_q : (r : Room) → Accepted r → (demands : List ℕ) → RoomOf r demands → grants-f ≡ first_grants r demands = λ r ok demands of. first-grants _ ok _ of in
+    let starts-are : (r : Room) → Accepted r → (demands : List ℕ) → RoomOf r demands → take cords-s starts-after ≡ first_used r demands = λ r ok demands of. lent_again starts-lent ∙ first-used ok of (first_q _ ok _ of) usable-is c.reclaim-freed.ensures.starts in
+    let wants-are : (r : Room) → Accepted r → (demands : List ℕ) → RoomOf r demands → wants-back ≡ second_wants r demands = λ r ok demands of. second-wants ok of (first_q _ ok _ of) usable-is c.reclaim-freed.ensures.wants in
+    let second-lent : (r : Room) → Accepted r → (demands : List ℕ) → RoomOf r demands → DealGiven c.args.parents.now levels-back (take cords-s order-after) actives-back c.args.nodes.now (take cords-s starts-after) wants-back left_back (limits_of r) (levels_of r) c.args.lows.now = λ r ok demands of. second-given ok of listed_at (starts-are _ ok _ of) (wants-are _ ok _ of)
+        (raised ok of (starts-are _ ok _ of) left-size c.raise_starts.ensures.raised) in
+    record { lists = (record { limits = limits_of c.requires.room.room; levels = levels_of c.requires.room.room; lows = c.args.lows.now; given = second-lent _ room _ lists }, c.requires.blank.0, grants-size) }
 
 pub usable_of-requires-2 : goal.usable_of-requires-2
 usable_of-requires-2 c =
@@ -449,34 +494,60 @@ returns c =
     let RoomOf : Room → List ℕ → Type 0 = λ r demands. RoomToDeal r demands c.args.parents.now c.args.left.now c.args.cords.now c.args.nodes.now c.args.lows.now c.args.wants.now c.args.caps.now c.args.scale in
     let room : Accepted c.requires.room.room = accepted c.requires.room.table c.requires.room.room c.requires.room.end c.requires.room.is in
     let lists : RoomOf c.requires.room.room c.requires.room.demands = c.requires.room.lists in
+    let nodes-s : ℕ = length c.args.parents.now in
     let cords-s : ℕ = length c.args.nodes.now in
+    let servers-s : ℕ = length c.args.caps.now in
+    let nodes-few : nodes-s ≤ most_nodes = (levels-nodes room lists).0 in
     let cords-few : cords-s ≤ most_cords = omega (arith, (levels-cords room lists).few, cord-count room lists) in
+    let servers-few : servers-s ≤ most_servers = omega (arith, needs-size room lists, room.few_servers) in
+    let first-left-back : List ℕ = c.copy.new.to in
+    let first-left-lent : Lent nodes-s (replicate most_nodes 0) first-left-back = lent-zeros most_nodes nodes-few c.copy.auto.to in
+    let needs-back : List ℕ = c.copy-2.new.to in
+    let needs-lent : Lent servers-s (replicate most_servers 0) needs-back = lent-zeros most_servers servers-few c.copy-2.auto.to in
     let levels-back : List (List ℕ) = c.list_levels.new.levels in
     let order-back : List ℕ = c.list_levels.new.order in
     let order-lent : Lent cords-s (replicate most_cords 0) order-back = lent-zeros most_cords cords-few c.list_levels.auto.order in
     let actives-back : List (List ℕ) = c.list_levels.new.actives in
+    let grants-f : List ℕ = c.deal.new.grants in
+    let needs-after : List ℕ = rejoined servers-s (replicate most_servers 0) needs-back in
+    let usable-back : List ℕ = c.usable_of.new.usable in
+    let usable-lent : Lent servers-s needs-after usable-back = lent (lent-few needs-lent) c.usable_of.auto.usable in
     let starts-back : List ℕ = c.reclaim-freed.new.starts in
+    let starts-lent : Lent cords-s (replicate most_cords 0) starts-back = lent-zeros most_cords cords-few c.reclaim-freed.auto.starts in
     let wants-back : List ℕ = c.reclaim-freed.new.wants in
     let left_back : List ℕ = c.raise_starts.new.left in
     let left-size : length left_back ≡ length c.args.left.now = c.raise_starts.auto.left in
     let left-d : List ℕ = c.deal-2.new.left in
     let cuts-d : List ℕ = c.deal-2.new.cuts in
     let grants-d : List ℕ = c.deal-2.new.grants in
+    let first-left-after : List ℕ = rejoined nodes-s (replicate most_nodes 0) first-left-back in
+    let first-left-is : take nodes-s first-left-after ≡ c.args.left.now = lent_again first-left-lent ∙ c.copy.ensures.copied ∙ sets-all _ _ (zeros-front most_nodes _ nodes-few ∙ sym lists.lists.spare-size) in
+    let needs-are : take servers-s needs-after ≡ c.args.caps.now = lent_again needs-lent ∙ c.copy-2.ensures.copied ∙ sets-all _ _ (zeros-front most_servers _ servers-few) in
     let order-after : List ℕ = rejoined cords-s (replicate most_cords 0) order-back in
     let listed_at : LevelLists c.args.parents.now (column node_column c.args.cords.now) (column level_column c.args.cords.now) levels-back (take cords-s order-after) actives-back = rw (lent_again order-lent) c.list_levels.ensures.listed in
+    let first-lent : (r : Room) → Accepted r → (demands : List ℕ) → RoomOf r demands → DealGiven c.args.parents.now levels-back (take cords-s order-after) actives-back c.args.nodes.now c.args.lows.now c.args.wants.now (take nodes-s first-left-after) (limits_of r) (levels_of r) c.args.lows.now = λ r ok demands of. first-given ok of listed_at first-left-is in
+    let first-grants : (r : Room) → Accepted r → (demands : List ℕ) → RoomOf r demands → grants-f ≡ first_grants r demands = λ r ok demands of. first_made ok of (c.deal.ensures.dealt (limits_of r) (levels_of r) c.args.lows.now (first-lent _ ok _ of)) in
+    let usable_after : List ℕ = rejoined servers-s needs-after usable-back in
+    let usable-is : take servers-s usable_after ≡ usable_from c.args.scale (column share_column c.args.cords.now) (column server_column c.args.cords.now) c.args.caps.now grants-f = lent_again usable-lent
+        ∙ c.usable_of.ensures.usable
+        ∙ ap (λ (needed : List ℕ). usable_from c.args.scale (column share_column c.args.cords.now) (column server_column c.args.cords.now) needed grants-f) needs-are in
     let starts-after : List ℕ = rejoined cords-s (replicate most_cords 0) starts-back in
-    let second-lent : {r : Room} → Accepted r → {demands : List ℕ} → RoomOf r demands → DealGiven c.args.parents.now levels-back (take cords-s order-after) actives-back c.args.nodes.now (take cords-s starts-after) wants-back left_back (limits_of r) (levels_of r) c.args.lows.now = λ ok of. second-given ok of listed_at (starts-are c ok of) (wants-are c ok of)
-        (raised ok of (starts-are c ok of) left-size c.raise_starts.ensures.raised) in
-    let second-deal : {r : Room} → Accepted r → {demands : List ℕ} → RoomOf r demands → DealMade (second_deal r demands) left-d cuts-d grants-d = λ {r} ok of. second-made ok of (starts-are c ok of) (wants-are c ok of)
-        (c.deal-2.ensures.dealt (limits_of r) (levels_of r) c.args.lows.now (second-lent ok of)) in
+    let first_q : (r : Room) → Accepted r → (demands : List ℕ) → RoomOf r demands → grants-f ≡ first_grants r demands = λ r ok demands of. first-grants _ ok _ of in
+    let starts-are : (r : Room) → Accepted r → (demands : List ℕ) → RoomOf r demands → take cords-s starts-after ≡ first_used r demands = λ r ok demands of. lent_again starts-lent ∙ first-used ok of (first_q _ ok _ of) usable-is c.reclaim-freed.ensures.starts in
+    let wants-are : (r : Room) → Accepted r → (demands : List ℕ) → RoomOf r demands → wants-back ≡ second_wants r demands = λ r ok demands of. second-wants ok of (first_q _ ok _ of) usable-is c.reclaim-freed.ensures.wants in
+    let freed-q : (r : Room) → Accepted r → (demands : List ℕ) → RoomOf r demands → c.reclaim-freed.result ≡ second.freed r demands = λ r ok demands of. freed-is ok of (first_q _ ok _ of) usable-is c.reclaim-freed.ensures.freed in
+    let second-lent : (r : Room) → Accepted r → (demands : List ℕ) → RoomOf r demands → DealGiven c.args.parents.now levels-back (take cords-s order-after) actives-back c.args.nodes.now (take cords-s starts-after) wants-back left_back (limits_of r) (levels_of r) c.args.lows.now = λ r ok demands of. second-given ok of listed_at (starts-are _ ok _ of) (wants-are _ ok _ of)
+        (raised ok of (starts-are _ ok _ of) left-size c.raise_starts.ensures.raised) in
+    let second-deal : (r : Room) → Accepted r → (demands : List ℕ) → RoomOf r demands → DealMade (second_deal r demands) left-d cuts-d grants-d = λ r ok demands of. second-made ok of (starts-are _ ok _ of) (wants-are _ ok _ of)
+        (c.deal-2.ensures.dealt (limits_of r) (levels_of r) c.args.lows.now (second-lent _ ok _ of)) in
     record {
       dealt =
         λ table demands r end is of.
         let ok : Accepted r = accepted table r end is in
         record {
-          freed-is = freed-q c ok of;
-          wants-are = wants-are c ok of;
-          made = second-deal ok of;
-          caps-are = caps-are ok of (second-dealt ok of (second-deal ok of)) c.usable_of-2.ensures.usable;
+          freed-is = freed-q _ ok _ of;
+          wants-are = wants-are _ ok _ of;
+          made = second-deal _ ok _ of;
+          caps-are = caps-are ok of (second-dealt ok of (second-deal _ ok _ of)) c.usable_of-2.ensures.usable;
         }
     }

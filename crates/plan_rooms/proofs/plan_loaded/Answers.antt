@@ -30,26 +30,6 @@ use Rattle.plan_rooms.proofs.plan_loaded.Goals as goal
 blank-long : {n most : ℕ} → n ≤ most → n ≤ length {A = ℕ} (replicate most 0)
 blank-long {most = most} few = omega (arith, equal-length {A = ℕ} most 0)
 
-module _ (z : Dealt) {table demands : List ℕ} {r : Room} (g : GivenAt (start-z z) table demands r) where
-  lists-z : RoomToDeal r demands (take (count-nodes (start-z z)) (start-z z).args.parents.now) (take (count-nodes (start-z z)) (start-z z).args.left.now)
-      (take (count-cords (start-z z)) (start-z z).args.cords.now) (take (count-cords (start-z z)) (nodes-after (listed-z z))) (take (count-cords (start-z z)) (start-z z).args.lows.now)
-      (take (count-cords (start-z z)) (start-z z).args.wants.now) (take (count-servers (start-z z)) (start-z z).args.caps.now) (start-z z).args.counts.scale
-  lists-z = to-deal g (nodes-listed (listed-z z))
-
-  dealt-z : DealtTwice r demands z.deal-twice.result (take (count-cords (start-z z)) (wants-after z)) (take (count-nodes (start-z z)) (left_after z))
-      (take (count-nodes (start-z z)) (cuts-after z)) (take (count-cords (start-z z)) (grants-after z)) (take (count-servers (start-z z)) (caps-after z))
-  dealt-z =
-      rw (lent_again (wants-lent z), lent_again (left-lent z), lent_again (cuts-lent z), lent_again (grants-lent z), lent_again (caps-lent z))
-      (z.deal-twice.ensures table demands r g.end g.is lists-z)
-
-  held-z : HeldLists (take (count-nodes (start-z z)) (start-z z).args.parents.now) (take (count-nodes (start-z z)) (cuts-after z)) (take (count-cords (start-z z)) (start-z z).args.cords.now)
-      (take (count-cords (start-z z)) (wants-after z)) (take (count-cords (start-z z)) (grants-after z))
-  held-z = held-lists (given-ok g) lists-z dealt-z (sym (lent-front (cuts-lent z)) ∙ front_length _ _ (parents-long g))
-
-  lend-z : LendGiven (take (count-nodes (start-z z)) (start-z z).args.parents.now) (take (count-cords (start-z z)) (nodes-after (listed-z z))) (take (count-cords (start-z z)) (wants-after z))
-      (take (count-nodes (start-z z)) (left_after z)) (take (count-cords (start-z z)) (start-z z).args.headroom.now) (limits_of r) (levels_of r) (lows_of r) (first_used r demands)
-  lend-z = lend-given (given-ok g) lists-z dealt-z (ceilings-given g) (sym (lent-front (left-lent z)) ∙ front_length _ _ (parents-long g))
-
 pub slice_bounds-list_nodes-end : goal.slice_bounds-list_nodes-end
 slice_bounds-list_nodes-end c =
     let GivenAt : (table demands : List ℕ) → Room → Type 0 = λ table demands r. PlanGiven table demands r c.args.counts c.args.parents.now c.args.left.now c.args.cords.now c.args.lows.now c.args.wants.now
@@ -283,10 +263,36 @@ slice_bounds-name_holders-end-9 c = front_length _ _ c.requires.space.1
 
 pub name_holders-requires : goal.name_holders-requires
 name_holders-requires c =
+    let count-nodes : ℕ = c.args.counts.nodes in
+    let count-cords : ℕ = c.args.counts.cords in
+    let count-servers : ℕ = c.args.counts.servers in
     let GivenAt : (table demands : List ℕ) → Room → Type 0 = λ table demands r. PlanGiven table demands r c.args.counts c.args.parents.now c.args.left.now c.args.cords.now c.args.lows.now c.args.wants.now
         c.args.headroom.now c.args.caps.now in
     let some : GivenAt c.requires.room.table c.requires.room.demands c.requires.room.room = c.requires.room.given in
-    record { lists = (held-z c some, sym (front_length _ _ c.requires.space.1) ∙ front_length _ _ (cords-long some)) }
+    let nodes-back : List ℕ = c.list_nodes.new.nodes in
+    let nodes-after : List ℕ = rejoined count-cords (replicate most_cords 0) nodes-back in
+    let nodes-lent : Lent count-cords (replicate most_cords 0) nodes-back = lent-zeros most_cords (cords-few some) c.list_nodes.auto.nodes in
+    let nodes-listed : take count-cords nodes-after ≡ column node_column (take count-cords c.args.cords.now) = lent_again nodes-lent ∙ c.list_nodes.ensures.listed in
+    let wants-back : List ℕ = c.deal_twice-freed.new.wants in
+    let wants-after : List ℕ = rejoined count-cords c.args.wants.now wants-back in
+    let wants-lent : Lent count-cords c.args.wants.now wants-back = lent (wants-long some) c.deal_twice-freed.auto.wants in
+    let left_back : List ℕ = c.deal_twice-freed.new.left in
+    let left_after : List ℕ = rejoined count-nodes c.args.left.now left_back in
+    let left-lent : Lent count-nodes c.args.left.now left_back = lent (spare-long some) c.deal_twice-freed.auto.left in
+    let grants-back : List ℕ = c.deal_twice-freed.new.grants in
+    let grants-after : List ℕ = rejoined count-cords c.args.grants.now grants-back in
+    let grants-lent : Lent count-cords c.args.grants.now grants-back = lent c.requires.space.0 c.deal_twice-freed.auto.grants in
+    let caps-back : List ℕ = c.deal_twice-freed.new.caps in
+    let caps-after : List ℕ = rejoined count-servers c.args.caps.now caps-back in
+    let caps-lent : Lent count-servers c.args.caps.now caps-back = lent (caps-long some) c.deal_twice-freed.auto.caps in
+    let cuts_back : List ℕ = c.deal_twice-freed.new.cuts in
+    let cuts-after : List ℕ = rejoined count-nodes (replicate most_nodes 0) cuts_back in
+    let cuts-lent : Lent count-nodes (replicate most_nodes 0) cuts_back = lent-zeros most_nodes (nodes-few some) c.deal_twice-freed.auto.cuts in
+    let lists-z : (table demands : List ℕ) (r : Room) → GivenAt table demands r → RoomToDeal r demands (take count-nodes c.args.parents.now) (take count-nodes c.args.left.now) (take count-cords c.args.cords.now) (take count-cords nodes-after) (take count-cords c.args.lows.now) (take count-cords c.args.wants.now) (take count-servers c.args.caps.now) c.args.counts.scale = λ table demands r g. to-deal g nodes-listed in
+    let dealt-z : (table demands : List ℕ) (r : Room) → GivenAt table demands r → DealtTwice r demands c.deal_twice-freed.result (take count-cords wants-after) (take count-nodes left_after) (take count-nodes cuts-after) (take count-cords grants-after) (take count-servers caps-after) = λ table demands r g. rw (lent_again wants-lent, lent_again left-lent, lent_again cuts-lent, lent_again grants-lent, lent_again caps-lent)
+        (c.deal_twice-freed.ensures.dealt table demands r g.end g.is (lists-z table demands r g)) in
+    let held-z : (table demands : List ℕ) (r : Room) → GivenAt table demands r → HeldLists (take count-nodes c.args.parents.now) (take count-nodes cuts-after) (take count-cords c.args.cords.now) (take count-cords wants-after) (take count-cords grants-after) = λ table demands r g. held-lists (given-ok g) (lists-z table demands r g) (dealt-z table demands r g) (sym (lent-front cuts-lent) ∙ front_length _ _ (parents-long g)) in
+    record { lists = (held-z _ _ _ some, sym (front_length _ _ c.requires.space.1) ∙ front_length _ _ (cords-long some)) }
 
 pub slice_bounds-lend-end : goal.slice_bounds-lend-end
 slice_bounds-lend-end c =
@@ -385,16 +391,39 @@ slice_bounds-lend-end-10 c =
 
 pub lend-requires : goal.lend-requires
 lend-requires c =
+    let count-nodes : ℕ = c.args.counts.nodes in
     let count-cords : ℕ = c.args.counts.cords in
+    let count-servers : ℕ = c.args.counts.servers in
     let GivenAt : (table demands : List ℕ) → Room → Type 0 = λ table demands r. PlanGiven table demands r c.args.counts c.args.parents.now c.args.left.now c.args.cords.now c.args.lows.now c.args.wants.now
         c.args.headroom.now c.args.caps.now in
     let some : GivenAt c.requires.room.table c.requires.room.demands c.requires.room.room = c.requires.room.given in
     let nodes-back : List ℕ = c.list_nodes.new.nodes in
+    let nodes-after : List ℕ = rejoined count-cords (replicate most_cords 0) nodes-back in
     let nodes-lent : Lent count-cords (replicate most_cords 0) nodes-back = lent-zeros most_cords (cords-few some) c.list_nodes.auto.nodes in
+    let nodes-listed : take count-cords nodes-after ≡ column node_column (take count-cords c.args.cords.now) = lent_again nodes-lent ∙ c.list_nodes.ensures.listed in
+    let wants-back : List ℕ = c.deal_twice-freed.new.wants in
+    let wants-after : List ℕ = rejoined count-cords c.args.wants.now wants-back in
+    let wants-lent : Lent count-cords c.args.wants.now wants-back = lent (wants-long some) c.deal_twice-freed.auto.wants in
+    let left_back : List ℕ = c.deal_twice-freed.new.left in
+    let left_after : List ℕ = rejoined count-nodes c.args.left.now left_back in
+    let left-lent : Lent count-nodes c.args.left.now left_back = lent (spare-long some) c.deal_twice-freed.auto.left in
+    let grants-back : List ℕ = c.deal_twice-freed.new.grants in
+    let grants-after : List ℕ = rejoined count-cords c.args.grants.now grants-back in
+    let grants-lent : Lent count-cords c.args.grants.now grants-back = lent c.requires.space.0 c.deal_twice-freed.auto.grants in
+    let caps-back : List ℕ = c.deal_twice-freed.new.caps in
+    let caps-after : List ℕ = rejoined count-servers c.args.caps.now caps-back in
+    let caps-lent : Lent count-servers c.args.caps.now caps-back = lent (caps-long some) c.deal_twice-freed.auto.caps in
+    let cuts_back : List ℕ = c.deal_twice-freed.new.cuts in
+    let cuts-after : List ℕ = rejoined count-nodes (replicate most_nodes 0) cuts_back in
+    let cuts-lent : Lent count-nodes (replicate most_nodes 0) cuts_back = lent-zeros most_nodes (nodes-few some) c.deal_twice-freed.auto.cuts in
+    let lists-z : (table demands : List ℕ) (r : Room) → GivenAt table demands r → RoomToDeal r demands (take count-nodes c.args.parents.now) (take count-nodes c.args.left.now) (take count-cords c.args.cords.now) (take count-cords nodes-after) (take count-cords c.args.lows.now) (take count-cords c.args.wants.now) (take count-servers c.args.caps.now) c.args.counts.scale = λ table demands r g. to-deal g nodes-listed in
+    let dealt-z : (table demands : List ℕ) (r : Room) → GivenAt table demands r → DealtTwice r demands c.deal_twice-freed.result (take count-cords wants-after) (take count-nodes left_after) (take count-nodes cuts-after) (take count-cords grants-after) (take count-servers caps-after) = λ table demands r g. rw (lent_again wants-lent, lent_again left-lent, lent_again cuts-lent, lent_again grants-lent, lent_again caps-lent)
+        (c.deal_twice-freed.ensures.dealt table demands r g.end g.is (lists-z table demands r g)) in
+    let lend-z : (table demands : List ℕ) (r : Room) → GivenAt table demands r → LendGiven (take count-nodes c.args.parents.now) (take count-cords nodes-after) (take count-cords wants-after) (take count-nodes left_after) (take count-cords c.args.headroom.now) (limits_of r) (levels_of r) (lows_of r) (first_used r demands) = λ table demands r g. lend-given (given-ok g) (lists-z table demands r g) (dealt-z table demands r g) (ceilings-given g) (sym (lent-front left-lent) ∙ front_length _ _ (parents-long g)) in
     record {
       lists =
         (
-          record { limits = limits_of c.requires.room.room; levels = levels_of c.requires.room.room; lows = lows_of c.requires.room.room; starts = first_used c.requires.room.room c.requires.room.demands; given = lend-z c some },
+          record { limits = limits_of c.requires.room.room; levels = levels_of c.requires.room.room; lows = lows_of c.requires.room.room; starts = first_used c.requires.room.room c.requires.room.demands; given = lend-z _ _ _ some },
           sym (front_length _ _ (lows-long some)) ∙ lent-front nodes-lent,
         )
     }
@@ -411,27 +440,48 @@ shape_of-left c =
 
 pub returns : goal.returns
 returns c =
+    let count-nodes : ℕ = c.args.counts.nodes in
     let count-cords : ℕ = c.args.counts.cords in
     let count-servers : ℕ = c.args.counts.servers in
     let GivenAt : (table demands : List ℕ) → Room → Type 0 = λ table demands r. PlanGiven table demands r c.args.counts c.args.parents.now c.args.left.now c.args.cords.now c.args.lows.now c.args.wants.now
         c.args.headroom.now c.args.caps.now in
     let some : GivenAt c.requires.room.table c.requires.room.demands c.requires.room.room = c.requires.room.given in
+    let nodes-back : List ℕ = c.list_nodes.new.nodes in
+    let nodes-after : List ℕ = rejoined count-cords (replicate most_cords 0) nodes-back in
+    let nodes-lent : Lent count-cords (replicate most_cords 0) nodes-back = lent-zeros most_cords (cords-few some) c.list_nodes.auto.nodes in
+    let nodes-listed : take count-cords nodes-after ≡ column node_column (take count-cords c.args.cords.now) = lent_again nodes-lent ∙ c.list_nodes.ensures.listed in
+    let wants-back : List ℕ = c.deal_twice-freed.new.wants in
+    let wants-after : List ℕ = rejoined count-cords c.args.wants.now wants-back in
+    let wants-lent : Lent count-cords c.args.wants.now wants-back = lent (wants-long some) c.deal_twice-freed.auto.wants in
+    let left_back : List ℕ = c.deal_twice-freed.new.left in
+    let left_after : List ℕ = rejoined count-nodes c.args.left.now left_back in
+    let left-lent : Lent count-nodes c.args.left.now left_back = lent (spare-long some) c.deal_twice-freed.auto.left in
     let grants-back : List ℕ = c.deal_twice-freed.new.grants in
+    let grants-after : List ℕ = rejoined count-cords c.args.grants.now grants-back in
     let grants-lent : Lent count-cords c.args.grants.now grants-back = lent c.requires.space.0 c.deal_twice-freed.auto.grants in
     let caps-back : List ℕ = c.deal_twice-freed.new.caps in
+    let caps-after : List ℕ = rejoined count-servers c.args.caps.now caps-back in
     let caps-lent : Lent count-servers c.args.caps.now caps-back = lent (caps-long some) c.deal_twice-freed.auto.caps in
+    let cuts_back : List ℕ = c.deal_twice-freed.new.cuts in
+    let cuts-after : List ℕ = rejoined count-nodes (replicate most_nodes 0) cuts_back in
+    let cuts-lent : Lent count-nodes (replicate most_nodes 0) cuts_back = lent-zeros most_nodes (nodes-few some) c.deal_twice-freed.auto.cuts in
+    let lists-z : (table demands : List ℕ) (r : Room) → GivenAt table demands r → RoomToDeal r demands (take count-nodes c.args.parents.now) (take count-nodes c.args.left.now) (take count-cords c.args.cords.now) (take count-cords nodes-after) (take count-cords c.args.lows.now) (take count-cords c.args.wants.now) (take count-servers c.args.caps.now) c.args.counts.scale = λ table demands r g. to-deal g nodes-listed in
+    let dealt-z : (table demands : List ℕ) (r : Room) → GivenAt table demands r → DealtTwice r demands c.deal_twice-freed.result (take count-cords wants-after) (take count-nodes left_after) (take count-nodes cuts-after) (take count-cords grants-after) (take count-servers caps-after) = λ table demands r g. rw (lent_again wants-lent, lent_again left-lent, lent_again cuts-lent, lent_again grants-lent, lent_again caps-lent)
+        (c.deal_twice-freed.ensures.dealt table demands r g.end g.is (lists-z table demands r g)) in
+    let held-z : (table demands : List ℕ) (r : Room) → GivenAt table demands r → HeldLists (take count-nodes c.args.parents.now) (take count-nodes cuts-after) (take count-cords c.args.cords.now) (take count-cords wants-after) (take count-cords grants-after) = λ table demands r g. held-lists (given-ok g) (lists-z table demands r g) (dealt-z table demands r g) (sym (lent-front cuts-lent) ∙ front_length _ _ (parents-long g)) in
+    let lend-z : (table demands : List ℕ) (r : Room) → GivenAt table demands r → LendGiven (take count-nodes c.args.parents.now) (take count-cords nodes-after) (take count-cords wants-after) (take count-nodes left_after) (take count-cords c.args.headroom.now) (limits_of r) (levels_of r) (lows_of r) (first_used r demands) = λ table demands r g. lend-given (given-ok g) (lists-z table demands r g) (dealt-z table demands r g) (ceilings-given g) (sym (lent-front left-lent) ∙ front_length _ _ (parents-long g)) in
     record {
       planned =
         λ table demands r g.
         let ok = given-ok g in
-        let of = lists-z c g in
-        let dealt = dealt-z c g in
-        let lent_out = c.lend.ensures.lent (limits_of r) (levels_of r) (lows_of r) (first_used r demands) (lend-z c g) in
+        let of = lists-z _ _ _ g in
+        let dealt = dealt-z _ _ _ g in
+        let lent_out = c.lend.ensures.lent (limits_of r) (levels_of r) (lows_of r) (first_used r demands) (lend-z _ _ _ g) in
         record {
           freed-is = dealt.freed-is;
           lists-are = each _ (stands grants-lent _ (sym (lent_again grants-lent) ∙ second-dealt ok of dealt.made))
               (stands caps-lent _ (sym (lent_again caps-lent) ∙ dealt.caps-are))
               (stands (lent (headroom-long some) c.lend.auto.headroom) _ (headroom-made ok of dealt (ceilings-given g) lent_out))
-              (stands (lent c.requires.space.1 c.name_holders.auto.held) _ (held-made ok of dealt (held-z c g) c.name_holders.ensures.named));
+              (stands (lent c.requires.space.1 c.name_holders.auto.held) _ (held-made ok of dealt (held-z _ _ _ g) c.name_holders.ensures.named));
         }
     }

@@ -148,14 +148,14 @@ returns-then-over-ne0 c =
         rw (lent_again parents-lent, lent_again spare-lent)
         (record { parents-are = of-nodes.0; spare-size = spare-lent.size ∙ sym parents-lent.size; spare-is = of-nodes.1 }) in
     let Passes : Room → List ℕ → List ℕ → Type 0 = λ r demands grants. CordsPass r demands grants (length c.args.given.now) c.args.given.now c.args.raised.now c.args.wanting.now in
-    let compared_at : (r : Room) (end : ℕ) → checked c.args.table.now 0 ≡ good r end → {demands grants : List ℕ} → Passes r demands grants → Compared parents-at spare-at (nodes_of r) (levels_of r) (lows_of r) (first_wants r demands) grants c.note_nodes-over.result c.note_nodes-over.new.wanting = λ r end is pass. let ok = accepted c.args.table.now r end is in
+    let compared_at : (r : Room) (end : ℕ) → checked c.args.table.now 0 ≡ good r end → (demands grants : List ℕ) → Passes r demands grants → Compared parents-at spare-at (nodes_of r) (levels_of r) (lows_of r) (first_wants r demands) grants c.note_nodes-over.result c.note_nodes-over.new.wanting = λ r end is demands grants pass. let ok = accepted c.args.table.now r end is in
         let lists = nodes-at r end is in
         compared (node_lists r ok lists) (cord-lists r ok lists pass) c.args.given.now c.args.raised.now c.args.wanting.now pass.noted c.requires.lengths.0
         c.note_nodes-over.new.given c.note_nodes-over.new.raised c.note_nodes-over.new.wanting c.note_nodes-over.ensures.result c.note_nodes-over.ensures.noted in
     record {
       result =
         λ r end is demands grants pass.
-        is-over r (accepted _ r end is) (nodes-at r end is) pass (compared_at r end is pass) c.if-over-ne0.true
+        is-over r (accepted _ r end is) (nodes-at r end is) pass (compared_at r end is _ _ pass) c.if-over-ne0.true
     }
 
 pub slice_bounds-parents-end-3 : goal.slice_bounds-parents-end-3
@@ -239,14 +239,14 @@ returns-then-root-ne0 c =
         rw (lent_again parents-lent, lent_again spare-lent)
         (record { parents-are = of-nodes.0; spare-size = spare-lent.size ∙ sym parents-lent.size; spare-is = of-nodes.1 }) in
     let Passes : Room → List ℕ → List ℕ → Type 0 = λ r demands grants. CordsPass r demands grants (length c.args.given.now) c.args.given.now c.args.raised.now c.args.wanting.now in
-    let compared_at : (r : Room) (end : ℕ) → checked c.args.table.now 0 ≡ good r end → {demands grants : List ℕ} → Passes r demands grants → Compared parents-at spare-at (nodes_of r) (levels_of r) (lows_of r) (first_wants r demands) grants c.note_nodes-over.result c.note_nodes-over.new.wanting = λ r end is pass. let ok = accepted c.args.table.now r end is in
+    let compared_at : (r : Room) (end : ℕ) → checked c.args.table.now 0 ≡ good r end → (demands grants : List ℕ) → Passes r demands grants → Compared parents-at spare-at (nodes_of r) (levels_of r) (lows_of r) (first_wants r demands) grants c.note_nodes-over.result c.note_nodes-over.new.wanting = λ r end is demands grants pass. let ok = accepted c.args.table.now r end is in
         let lists = nodes-at r end is in
         compared (node_lists r ok lists) (cord-lists r ok lists pass) c.args.given.now c.args.raised.now c.args.wanting.now pass.noted c.requires.lengths.0
         c.note_nodes-over.new.given c.note_nodes-over.new.raised c.note_nodes-over.new.wanting c.note_nodes-over.ensures.result c.note_nodes-over.ensures.noted in
     record {
       result =
         λ r end is demands grants pass.
-        is-short r (accepted _ r end is) (nodes-at r end is) pass (compared_at r end is pass) c.if-over-ne0.false c.lowest_marked-root.ensures.result c.if-root-ne0.true c.index.ensures.result.0
+        is-short r (accepted _ r end is) (nodes-at r end is) pass (compared_at r end is _ _ pass) c.if-over-ne0.false c.lowest_marked-root.ensures.result c.if-root-ne0.true c.index.ensures.result.0
     }
 
 pub returns : goal.returns
@@ -262,12 +262,12 @@ returns c =
         rw (lent_again parents-lent, lent_again spare-lent)
         (record { parents-are = of-nodes.0; spare-size = spare-lent.size ∙ sym parents-lent.size; spare-is = of-nodes.1 }) in
     let Passes : Room → List ℕ → List ℕ → Type 0 = λ r demands grants. CordsPass r demands grants (length c.args.given.now) c.args.given.now c.args.raised.now c.args.wanting.now in
-    let compared_at : (r : Room) (end : ℕ) → checked c.args.table.now 0 ≡ good r end → {demands grants : List ℕ} → Passes r demands grants → Compared parents-at spare-at (nodes_of r) (levels_of r) (lows_of r) (first_wants r demands) grants c.note_nodes-over.result c.note_nodes-over.new.wanting = λ r end is pass. let ok = accepted c.args.table.now r end is in
+    let compared_at : (r : Room) (end : ℕ) → checked c.args.table.now 0 ≡ good r end → (demands grants : List ℕ) → Passes r demands grants → Compared parents-at spare-at (nodes_of r) (levels_of r) (lows_of r) (first_wants r demands) grants c.note_nodes-over.result c.note_nodes-over.new.wanting = λ r end is demands grants pass. let ok = accepted c.args.table.now r end is in
         let lists = nodes-at r end is in
         compared (node_lists r ok lists) (cord-lists r ok lists pass) c.args.given.now c.args.raised.now c.args.wanting.now pass.noted c.requires.lengths.0
         c.note_nodes-over.new.given c.note_nodes-over.new.raised c.note_nodes-over.new.wanting c.note_nodes-over.ensures.result c.note_nodes-over.ensures.noted in
     record {
       result =
         λ r end is demands grants pass.
-        is-passes r (accepted _ r end is) (nodes-at r end is) pass (compared_at r end is pass) c.if-over-ne0.false c.lowest_marked-root.ensures.result c.if-root-ne0.false
+        is-passes r (accepted _ r end is) (nodes-at r end is) pass (compared_at r end is _ _ pass) c.if-over-ne0.false c.lowest_marked-root.ensures.result c.if-root-ne0.false
     }

@@ -51,8 +51,8 @@ judge_nodes-requires c =
     let passes : (r : Room) (end : ℕ) → checked c.args.table.now 0 ≡ good r end → CordsPass r c.args.demands.now c.args.grants.now (length c.note_cords-faults.new.given) c.note_cords-faults.new.given c.note_cords-faults.new.raised c.note_cords-faults.new.wanting = λ r end is. let judged = c.note_cords-faults.ensures.judged r end is in
         record {
           grants-size = c.requires.sizes.1 r end is;
-          c.if-below-ne0.false = sym judged.below-is ∙ c.if-below-ne0.false;
-          c.if-above-ne0.false = sym (judged.above-is c.if-below-ne0.false) ∙ c.if-above-ne0.false;
+          none_below = sym judged.below-is ∙ c.if-below-ne0.false;
+          none_above = sym (judged.above-is c.if-below-ne0.false) ∙ c.if-above-ne0.false;
           noted = λ m l. judged.noted c.if-below-ne0.false c.if-above-ne0.false m (omega (arith, l, c.note_cords-faults.auto.given));
         } in
     record {
@@ -70,8 +70,8 @@ returns c =
     let passes : (r : Room) (end : ℕ) → checked c.args.table.now 0 ≡ good r end → CordsPass r c.args.demands.now c.args.grants.now (length c.note_cords-faults.new.given) c.note_cords-faults.new.given c.note_cords-faults.new.raised c.note_cords-faults.new.wanting = λ r end is. let judged = c.note_cords-faults.ensures.judged r end is in
         record {
           grants-size = c.requires.sizes.1 r end is;
-          c.if-below-ne0.false = sym judged.below-is ∙ c.if-below-ne0.false;
-          c.if-above-ne0.false = sym (judged.above-is c.if-below-ne0.false) ∙ c.if-above-ne0.false;
+          none_below = sym judged.below-is ∙ c.if-below-ne0.false;
+          none_above = sym (judged.above-is c.if-below-ne0.false) ∙ c.if-above-ne0.false;
           noted = λ m l. judged.noted c.if-below-ne0.false c.if-above-ne0.false m (omega (arith, l, c.note_cords-faults.auto.given));
         } in
     record {

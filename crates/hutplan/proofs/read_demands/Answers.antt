@@ -1,5 +1,5 @@
 -- `read_demands` meets its contract: the pieces read so far always make up one text.
-use Rattle.std.proofs.Common.{◌≡◌, refl, ap, length, rules}
+use Rattle.std.proofs.Common.{refl, ap, rules}
 use Rattle.demands.specs.Reading.{held_reading, with, empty_line}
 use Rattle.demands.specs.declared.DemandReading.{DemandReading}
 use Rattle.hutplan.specs.Input.{FedPiece}
@@ -16,9 +16,9 @@ loop-preserved g c = (fed-more c.loop.invariant.0 c.read_piece-turn.ensures.fed,
 pub returns-clause-text : goal.returns-clause-text
 returns-clause-text g c =
     let one : FedPiece (held_reading (with 0 empty_line) c.args.list.now) (held_reading c.loop-test.reading c.loop-test.list) =
-        elim c.loop-test.branch [
-            else-loop-test w ↦ rw (w.list-is, w.reading-is) c.loop.invariant.0
-            | then-loop-test+then-not-turn w ↦ rw (w.list-is, w.reading-is) (fed-more c.loop.invariant.0 w.read_piece-turn.ensures.fed)
-        ]
+    elim c.loop-test.branch [
+      | else-loop-test w ↦ rw (w.list-is, w.reading-is) c.loop.invariant.0
+      | then-loop-test+then-not-turn w ↦ rw (w.list-is, w.reading-is) (fed-more c.loop.invariant.0 w.read_piece-turn.ensures.fed)
+    ]
     in
     (read-text _ _ (search rules) one c.finish.ensures.list c.finish.ensures.count).0

@@ -13,8 +13,10 @@ ghost use Rattle.hutplan.specs.Printed.{most_text, table_text, sheet_text, input
 
 use deals::Planned;
 use demands::{DECIDING_DEMANDS, DemandReading};
-use libc::{STDIN_FILENO, STDOUT_FILENO};
 use rooms::{MOST_WORDS, SheetAnswer};
+use std::io::{Read, Write};
+use std::rt::Files;
+use std::{fs, io};
 
 // The most bytes of a print: 27 of the first line, 26 of each server's and 69 of each cord's.
 const MOST_TEXT: usize = 83_995;
@@ -26,33 +28,48 @@ struct Turn {
     more: bool,
 }
 
+// Reads until the buffer is full, the input ends or a read fails; how many bytes that put at its front.
+fn read_full<R: Read>(input: &mut R, buffer: &mut [u8]) -> usize
+    ensures counts { IsPrefixLen result buffer.new }
+{
+    let mut done = 0usize;
+    while done < buffer.len() {
+        match input.read(&mut buffer[done..]) {
+            Ok(0) => break,
+            Ok(count) => done += count,
+            Err(_) => break,
+        }
+    }
+    done
+}
+
 // The file's bytes, at most 32,768, at the front of the buffer; how many. A missing file is empty.
-fn read_sheet(sheet: &mut [u8]) -> usize
+fn read_sheet<R: Files>(rt: &R, sheet: &mut [u8]) -> usize
     requires size { length sheet.old ≡ most_bytes }
     ensures counts { IsPrefixLen result sheet.new }
 {
-    let file = os::open_read(b"room.bin");
-    if file < 0 {
+    let Ok(mut file) = fs::open(rt, "room.bin") else {
         return 0;
-    }
-    let count = io::read_full(file, sheet);
-    libc::close(file);
-    count
+    };
+    read_full(&mut file, sheet)
 }
 
 // One piece of standard input. No more is asked for once the last line that counts is read.
-fn read_piece(reading: DemandReading, list: &mut [u32]) -> Turn
+fn read_piece<R: Read>(input: &mut R, reading: DemandReading, list: &mut [u32]) -> Turn
     ensures fed { FedPiece (held_reading reading list.old) (held_reading result.reading list.new) }
 {
-    let mut piece = io::buffer();
-    let got = libc::read(STDIN_FILENO, &mut piece);
-    if got <= 0 {
+    let mut piece = [0u8; 4096];
+    // A read that fails is the end of the input.
+    let count = match input.read(&mut piece) {
+        Ok(count) => count,
+        Err(_) => 0,
+    };
+    if count == 0 {
         return Turn {
             reading,
             more: false,
         };
     }
-    let count = io::count(got, &piece);
     let next = reading.feed(&piece[..count], list);
     Turn {
         reading: next,
@@ -61,22 +78,18 @@ fn read_piece(reading: DemandReading, list: &mut [u32]) -> Turn
 }
 
 // The demands of standard input, at the front of the list; how many.
-fn read_demands(list: &mut [u32]) -> usize
+fn read_demands<R: Read>(input: &mut R, list: &mut [u32]) -> usize
     requires size { length list.old ≡ most_lines }
     ensures text { ReadText list.new result }
     ensures counts { IsPrefixLen result list.new }
 {
     let mut reading = DemandReading::start();
     // A loop has to end, and nothing says that the input does: no run uses up so many turns.
-    let mut turns = u64::MAX;
-    while turns > 0 {
-        let turn = read_piece(reading, list);
-        let next = turn.reading;
-        reading = next;
-        if turn.more {
-            turns -= 1;
-        } else {
-            turns = 0;
+    for _ in 0..u64::MAX {
+        let turn = read_piece(input, reading, list);
+        reading = turn.reading;
+        if !turn.more {
+            break;
         }
     }
     reading.finish(list)
@@ -149,13 +162,13 @@ fn print_input(
     print_sheet(&sheet[..bytes], &demands[..count], table, buffer)
 }
 
-fn main() {
+fn main(rt: HostRuntime) -> io::Result<()> {
     let mut sheet = [0u8; 32768];
     let mut demands = [0u32; DECIDING_DEMANDS];
     let mut table = [0u32; MOST_WORDS];
     let mut buffer = [0u8; MOST_TEXT];
-    let bytes = read_sheet(&mut sheet);
-    let count = read_demands(&mut demands);
+    let bytes = read_sheet(&rt, &mut sheet);
+    let count = read_demands(&mut rt.stdin(), &mut demands);
     let length = print_input(&sheet, bytes, &demands, count, &mut table, &mut buffer);
-    io::write_all(STDOUT_FILENO, &buffer[..length]);
+    rt.stdout().write_all(&buffer[..length])
 }

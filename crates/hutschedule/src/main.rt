@@ -6,14 +6,30 @@ ghost use Rattle.io.specs.Counts.{IsPrefixLen};
 ghost use Rattle.schedules.specs.Schedule.{most_schedule_words};
 ghost use Rattle.hutschedule.specs.Printed.{most_output, printed, at, Lent};
 
-use libc::{STDERR_FILENO, STDIN_FILENO, STDOUT_FILENO};
 use schedules::Scheduled;
+use std::io;
+use std::io::{Read, Write};
 
 // What is written: so many bytes from the front of the buffer, to standard error if refused, else to standard output.
 #[derive(Clone, Copy)]
 struct Output {
     refused: bool,
     length: usize,
+}
+
+// Reads until the buffer is full, the input ends or a read fails; how many bytes that put at its front.
+fn read_full<R: Read>(input: &mut R, buffer: &mut [u8]) -> usize
+    ensures counts { IsPrefixLen result buffer.new }
+{
+    let mut done = 0usize;
+    while done < buffer.len() {
+        match input.read(&mut buffer[done..]) {
+            Ok(0) => break,
+            Ok(count) => done += count,
+            Err(_) => break,
+        }
+    }
+    done
 }
 
 // What is written of a text, by way of a list for the words of any table without servers.
@@ -50,16 +66,16 @@ fn print_input(text: &[u8], count: usize, table: &mut [u32], buffer: &mut [u8]) 
     print_text(&text[..count], table, buffer)
 }
 
-fn main() {
+fn main(rt: HostRuntime) -> io::Result<()> {
     let mut text = [0u8; 7710];
     let mut table = [0u32; 1027];
     let mut buffer = [0u8; 4108];
-    let count = io::read_full(STDIN_FILENO, &mut text);
+    let count = read_full(&mut rt.stdin(), &mut text);
     let output = print_input(&text, count, &mut table, &mut buffer);
     let length = output.length;
     if output.refused {
-        io::write_all(STDERR_FILENO, &buffer[..length]);
+        rt.stderr().write_all(&buffer[..length])
     } else {
-        io::write_all(STDOUT_FILENO, &buffer[..length]);
+        rt.stdout().write_all(&buffer[..length])
     }
 }

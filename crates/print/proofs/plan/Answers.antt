@@ -1,0 +1,33 @@
+-- `plan` meets its contract: it lends as many rows as the room has servers and cords.
+use lib.ListN.{replicate}
+use Rattle.rooms.proofs.RowsLent.{servers-few, servers-front, servers-lent, cords-few, cords-front, cords-lent}
+use Rattle.print.proofs.plan.Goals as goal
+
+pub slice_bounds-servers-end : goal.slice_bounds-servers-end
+slice_bounds-servers-end c = servers-few _ c.requires.good c.server_count-server_count.ensures.count
+
+pub slice_bounds-plan_by-end : goal.slice_bounds-plan_by-end
+slice_bounds-plan_by-end c = servers-front _ c.requires.good c.server_count-server_count.ensures.count (replicate 4 0)
+
+pub slice_bounds-cords-end : goal.slice_bounds-cords-end
+slice_bounds-cords-end c = cords-few _ c.requires.good c.cord_count-cord_count.ensures.count
+
+pub slice_bounds-plan_by-end-2 : goal.slice_bounds-plan_by-end-2
+slice_bounds-plan_by-end-2 c = cords-front _ c.requires.good c.cord_count-cord_count.ensures.count (replicate 4 0)
+
+pub plan_by-requires : goal.plan_by-requires
+plan_by-requires c =
+    record {
+      good = c.requires.good;
+      sizes = (servers-lent _ c.requires.good c.server_count-server_count.ensures.count (replicate 4 0), cords-lent _ c.requires.good c.cord_count-cord_count.ensures.count (replicate 4 0));
+    }
+
+pub shape_of-buffer : goal.shape_of-buffer
+shape_of-buffer c = c.plan_by.auto.buffer
+
+pub returns : goal.returns
+returns c =
+    record {
+      put = c.plan_by.ensures.put;
+      counts = c.plan_by.ensures.counts;
+    }

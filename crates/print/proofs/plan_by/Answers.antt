@@ -1,0 +1,20 @@
+-- `plan_by` meets its contract: the rows are the room's, and so the print of the rows is the room's.
+use Rattle.print.proofs.Putting.{put_as}
+use Rattle.print.proofs.Promises.{prints-room}
+use Rattle.print.proofs.plan_by.Goals as goal
+
+pub lay_out_servers-requires : goal.lay_out_servers-requires
+lay_out_servers-requires c =
+    record {
+      good = c.requires.good;
+      sizes = c.requires.sizes;
+    }
+
+pub returns : goal.returns
+returns c =
+    record {
+      put = λ room end is.
+          let rows = c.lay_out_servers.ensures.laid_out room end is in
+          put_as (prints-room _ room end _ _ _ _ _ _ _ is rows.0 rows.1) c.put_plan.ensures.put;
+      counts = c.put_plan.ensures.counts;
+    }

@@ -13,7 +13,6 @@ use Rattle.figures.proofs.Sums.{on-yes, on-add, sum-cong, sum-add}
 use Rattle.rooms.specs.Table.{Room, most_watts, highest_rank, room_cords}
 use Rattle.rooms.specs.Limits.{limit, node_at, parent_of, lows_beneath, first_node}
 use Rattle.rooms.specs.Lists.{parents_of, limits_of, nodes_of, levels_of, lows_of}
-use Rattle.rooms.specs.Credits as credits
 use Rattle.rooms.proofs.Accepted.{Accepted}
 use Rattle.rooms.proofs.Credits.{tree_sum-step}
 use Rattle.rooms.proofs.Search.{first_node-cong, first_node-none, first_node-first}

@@ -5,7 +5,6 @@ use native.Mathlib.Omega.{arith}
 use Rattle.layout.specs.declared.room.Counts.{Counts}
 use Rattle.layout.proofs.Loads.{RoomFound, found, lows-long}
 use Rattle.judge.proofs.Admitting.{load_told, count-told, scale-fits, servers-fit, nodes-given, grants-fit, verdict-told}
-use borrow.Author.Rules.{rules}
 use Rattle.judge.proofs.judge.Goals as goal
 
 pub returns-then-grants-cords : goal.returns-then-grants-cords

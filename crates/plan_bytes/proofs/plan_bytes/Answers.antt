@@ -18,7 +18,6 @@ use Rattle.deals.proofs.Plans.{each}
 use Rattle.plan_bytes.specs.Call.{lent_bytes}
 use Rattle.plan_bytes.specs.Figures.{FiguresLeft}
 use Rattle.plan_bytes.proofs.PlanLaws.{output-fitting, list-stored, plan-short, plan-done}
-use borrow.Author.Rules.{rules}
 use Rattle.plan_bytes.proofs.plan_bytes.Goals as goal
 
 pub returns-then-answer-lt-ANSWER_BYTES : goal.returns-then-answer-lt-ANSWER_BYTES
@@ -123,11 +122,11 @@ returns c =
     let left : FiguresLeft outcome c.plan_figures-figures.result words = c.plan_figures-figures.ensures.planned in
     let entries-are : (list : PlanList) → entries lengths list ≡ length (lent list) / 4 = each _ refl refl refl refl in
     let stored : (list : PlanList) (bytes' : List ℕ) → bytes' ≡ sets (lent list) 0 (bytes_of (take (length (lent list) / 4) (take (count c.plan_figures-figures.result.cords c.plan_figures-figures.result.servers list) (words list)))) → bytes' ≡ after (λ p. bytes_of (output list p)) outcome (lent list) = λ list bytes'. list-stored (output list) outcome (lent list) (left.lists-are list)
-        (omega (arith, output-fitting table demands lengths list, entries-are list)) in
+    (omega (arith, output-fitting table demands lengths list, entries-are list)) in
     record {
       called =
-        plan-done outcome lent _ c.args.answer.now
-        (omega (arith, c.if-answer-lt-ANSWER_BYTES.false)) left.answer-is
-        (each _ (stored Grants _ c.store.ensures.stored) (stored Caps _ c.store-2.ensures.stored) (stored Headroom _ c.store-3.ensures.stored) (stored Held _ c.store-4.ensures.stored))
-        c.number.ensures.result c.figure.ensures.result c.store_answer.ensures.stored
+          plan-done outcome lent _ c.args.answer.now
+          (omega (arith, c.if-answer-lt-ANSWER_BYTES.false)) left.answer-is
+          (each _ (stored Grants _ c.store.ensures.stored) (stored Caps _ c.store-2.ensures.stored) (stored Headroom _ c.store-3.ensures.stored) (stored Held _ c.store-4.ensures.stored))
+          c.number.ensures.result c.figure.ensures.result c.store_answer.ensures.stored;
     }

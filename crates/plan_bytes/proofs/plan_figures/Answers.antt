@@ -13,7 +13,6 @@ use Rattle.plan_rooms.specs.Planning.{PlanGiven}
 use Rattle.deals.proofs.Plans.{each}
 use Rattle.plans.proofs.PlanCall.{Admitted, admitted-good, admitted-refused, plan-given}
 use Rattle.plan_bytes.proofs.PlanLaws.{figures-accepted, figures-refused}
-use borrow.Author.Rules.{rules}
 use Rattle.plan_bytes.proofs.plan_figures.Goals as goal
 
 pub plan_loaded-freed-requires : goal.plan_loaded-freed-requires
@@ -60,8 +59,8 @@ returns-in-Good c =
     let capped-long : counts.servers ≤ length capped-after = omega (arith, servers-few admitted.room-found, c.requires.servers, c.load_bytes-loaded.auto.needs) in
     record {
       planned =
-        let a = admitted in
-        figures-accepted a _ _ (c.plan_loaded-freed.ensures.planned table demands a.room-found.room given) (each _ granted-long capped-long lent-long holders-long)
+          let a = admitted in
+          figures-accepted a _ _ (c.plan_loaded-freed.ensures.planned table demands a.room-found.room given) (each _ granted-long capped-long lent-long holders-long);
     }
 
 pub returns-in-Refused : goal.returns-in-Refused

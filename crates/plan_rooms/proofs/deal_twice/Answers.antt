@@ -24,7 +24,6 @@ use Rattle.figures.proofs.Cells.{zeros-front, zeros-rows, zeros-cells}
 use Rattle.figures.proofs.Fronts.{equal-length, Lent, lent, lent-zeros, rejoined, lent_again, lent-few, lent-front}
 use Rattle.plan_rooms.specs.Planning.{RoomToDeal}
 use Rattle.plan_rooms.proofs.Planning.{blank-marks, needs-size, cord-count, wants-count, levels-nodes, levels-cords, first-given, first_made, raisable, raised, second-given, second-made, second-dealt, server-lists, reclaim-asks, first-used, freed-is, second-wants, caps-are}
-use borrow.Author.Rules.{rules}
 use Rattle.plan_rooms.proofs.deal_twice.Goals as goal
 
 pub slice_bounds-first_left-end : goal.slice_bounds-first_left-end
@@ -295,8 +294,8 @@ reclaim-freed-requires c =
     let first-grants : (r : Room) → Accepted r → (demands : List ℕ) → RoomOf r demands → grants-f ≡ first_grants r demands = λ r ok demands of. first_made ok of (c.deal.ensures.dealt (limits_of r) (levels_of r) c.args.lows.now (first-lent _ ok _ of)) in
     let usable_after : List ℕ = rejoined servers-s needs-after usable-back in
     let usable-is : take servers-s usable_after ≡ usable_from c.args.scale (column share_column c.args.cords.now) (column server_column c.args.cords.now) c.args.caps.now grants-f = lent_again usable-lent
-        ∙ c.usable_of.ensures.usable
-        ∙ ap (λ (needed : List ℕ). usable_from c.args.scale (column share_column c.args.cords.now) (column server_column c.args.cords.now) needed grants-f) needs-are in
+    ∙ c.usable_of.ensures.usable
+    ∙ ap (λ (needed : List ℕ). usable_from c.args.scale (column share_column c.args.cords.now) (column server_column c.args.cords.now) needed grants-f) needs-are in
     record { lists = (reclaim-asks room lists (first-grants _ room _ lists) usable-is grants-size, zeros-front most_cords _ cords-few ∙ sym (cord-count room lists), wants-count room lists ∙ sym (cord-count room lists)) }
 
 pub slice_bounds-used-end-2 : goal.slice_bounds-used-end-2
@@ -355,8 +354,8 @@ raise_starts-requires c =
     let first-grants : (r : Room) → Accepted r → (demands : List ℕ) → RoomOf r demands → grants-f ≡ first_grants r demands = λ r ok demands of. first_made ok of (c.deal.ensures.dealt (limits_of r) (levels_of r) c.args.lows.now (first-lent _ ok _ of)) in
     let usable_after : List ℕ = rejoined servers-s needs-after usable-back in
     let usable-is : take servers-s usable_after ≡ usable_from c.args.scale (column share_column c.args.cords.now) (column server_column c.args.cords.now) c.args.caps.now grants-f = lent_again usable-lent
-        ∙ c.usable_of.ensures.usable
-        ∙ ap (λ (needed : List ℕ). usable_from c.args.scale (column share_column c.args.cords.now) (column server_column c.args.cords.now) needed grants-f) needs-are in
+    ∙ c.usable_of.ensures.usable
+    ∙ ap (λ (needed : List ℕ). usable_from c.args.scale (column share_column c.args.cords.now) (column server_column c.args.cords.now) needed grants-f) needs-are in
     let starts-after : List ℕ = rejoined cords-s (replicate most_cords 0) starts-back in
     let first_q : (r : Room) → Accepted r → (demands : List ℕ) → RoomOf r demands → grants-f ≡ first_grants r demands = λ r ok demands of. first-grants _ ok _ of in
     let starts-are : (r : Room) → Accepted r → (demands : List ℕ) → RoomOf r demands → take cords-s starts-after ≡ first_used r demands = λ r ok demands of. lent_again starts-lent ∙ first-used ok of (first_q _ ok _ of) usable-is c.reclaim-freed.ensures.starts in
@@ -444,14 +443,14 @@ deal-requires-2 c =
     let first-grants : (r : Room) → Accepted r → (demands : List ℕ) → RoomOf r demands → grants-f ≡ first_grants r demands = λ r ok demands of. first_made ok of (c.deal.ensures.dealt (limits_of r) (levels_of r) c.args.lows.now (first-lent _ ok _ of)) in
     let usable_after : List ℕ = rejoined servers-s needs-after usable-back in
     let usable-is : take servers-s usable_after ≡ usable_from c.args.scale (column share_column c.args.cords.now) (column server_column c.args.cords.now) c.args.caps.now grants-f = lent_again usable-lent
-        ∙ c.usable_of.ensures.usable
-        ∙ ap (λ (needed : List ℕ). usable_from c.args.scale (column share_column c.args.cords.now) (column server_column c.args.cords.now) needed grants-f) needs-are in
+    ∙ c.usable_of.ensures.usable
+    ∙ ap (λ (needed : List ℕ). usable_from c.args.scale (column share_column c.args.cords.now) (column server_column c.args.cords.now) needed grants-f) needs-are in
     let starts-after : List ℕ = rejoined cords-s (replicate most_cords 0) starts-back in
     let first_q : (r : Room) → Accepted r → (demands : List ℕ) → RoomOf r demands → grants-f ≡ first_grants r demands = λ r ok demands of. first-grants _ ok _ of in
     let starts-are : (r : Room) → Accepted r → (demands : List ℕ) → RoomOf r demands → take cords-s starts-after ≡ first_used r demands = λ r ok demands of. lent_again starts-lent ∙ first-used ok of (first_q _ ok _ of) usable-is c.reclaim-freed.ensures.starts in
     let wants-are : (r : Room) → Accepted r → (demands : List ℕ) → RoomOf r demands → wants-back ≡ second_wants r demands = λ r ok demands of. second-wants ok of (first_q _ ok _ of) usable-is c.reclaim-freed.ensures.wants in
     let second-lent : (r : Room) → Accepted r → (demands : List ℕ) → RoomOf r demands → DealGiven c.args.parents.now levels-back (take cords-s order-after) actives-back c.args.nodes.now (take cords-s starts-after) wants-back left_back (limits_of r) (levels_of r) c.args.lows.now = λ r ok demands of. second-given ok of listed_at (starts-are _ ok _ of) (wants-are _ ok _ of)
-        (raised ok of (starts-are _ ok _ of) left-size c.raise_starts.ensures.raised) in
+    (raised ok of (starts-are _ ok _ of) left-size c.raise_starts.ensures.raised) in
     record { lists = (record { limits = limits_of c.requires.room.room; levels = levels_of c.requires.room.room; lows = c.args.lows.now; given = second-lent _ room _ lists }, c.requires.blank.0, grants-size) }
 
 pub usable_of-requires-2 : goal.usable_of-requires-2
@@ -529,25 +528,25 @@ returns c =
     let first-grants : (r : Room) → Accepted r → (demands : List ℕ) → RoomOf r demands → grants-f ≡ first_grants r demands = λ r ok demands of. first_made ok of (c.deal.ensures.dealt (limits_of r) (levels_of r) c.args.lows.now (first-lent _ ok _ of)) in
     let usable_after : List ℕ = rejoined servers-s needs-after usable-back in
     let usable-is : take servers-s usable_after ≡ usable_from c.args.scale (column share_column c.args.cords.now) (column server_column c.args.cords.now) c.args.caps.now grants-f = lent_again usable-lent
-        ∙ c.usable_of.ensures.usable
-        ∙ ap (λ (needed : List ℕ). usable_from c.args.scale (column share_column c.args.cords.now) (column server_column c.args.cords.now) needed grants-f) needs-are in
+    ∙ c.usable_of.ensures.usable
+    ∙ ap (λ (needed : List ℕ). usable_from c.args.scale (column share_column c.args.cords.now) (column server_column c.args.cords.now) needed grants-f) needs-are in
     let starts-after : List ℕ = rejoined cords-s (replicate most_cords 0) starts-back in
     let first_q : (r : Room) → Accepted r → (demands : List ℕ) → RoomOf r demands → grants-f ≡ first_grants r demands = λ r ok demands of. first-grants _ ok _ of in
     let starts-are : (r : Room) → Accepted r → (demands : List ℕ) → RoomOf r demands → take cords-s starts-after ≡ first_used r demands = λ r ok demands of. lent_again starts-lent ∙ first-used ok of (first_q _ ok _ of) usable-is c.reclaim-freed.ensures.starts in
     let wants-are : (r : Room) → Accepted r → (demands : List ℕ) → RoomOf r demands → wants-back ≡ second_wants r demands = λ r ok demands of. second-wants ok of (first_q _ ok _ of) usable-is c.reclaim-freed.ensures.wants in
     let freed-q : (r : Room) → Accepted r → (demands : List ℕ) → RoomOf r demands → c.reclaim-freed.result ≡ second.freed r demands = λ r ok demands of. freed-is ok of (first_q _ ok _ of) usable-is c.reclaim-freed.ensures.freed in
     let second-lent : (r : Room) → Accepted r → (demands : List ℕ) → RoomOf r demands → DealGiven c.args.parents.now levels-back (take cords-s order-after) actives-back c.args.nodes.now (take cords-s starts-after) wants-back left_back (limits_of r) (levels_of r) c.args.lows.now = λ r ok demands of. second-given ok of listed_at (starts-are _ ok _ of) (wants-are _ ok _ of)
-        (raised ok of (starts-are _ ok _ of) left-size c.raise_starts.ensures.raised) in
+    (raised ok of (starts-are _ ok _ of) left-size c.raise_starts.ensures.raised) in
     let second-deal : (r : Room) → Accepted r → (demands : List ℕ) → RoomOf r demands → DealMade (second_deal r demands) left-d cuts-d grants-d = λ r ok demands of. second-made ok of (starts-are _ ok _ of) (wants-are _ ok _ of)
-        (c.deal-2.ensures.dealt (limits_of r) (levels_of r) c.args.lows.now (second-lent _ ok _ of)) in
+    (c.deal-2.ensures.dealt (limits_of r) (levels_of r) c.args.lows.now (second-lent _ ok _ of)) in
     record {
       dealt =
-        λ table demands r end is of.
-        let ok : Accepted r = accepted table r end is in
-        record {
-          freed-is = freed-q _ ok _ of;
-          wants-are = wants-are _ ok _ of;
-          made = second-deal _ ok _ of;
-          caps-are = caps-are ok of (second-dealt ok of (second-deal _ ok _ of)) c.usable_of-2.ensures.usable;
-        }
+          λ table demands r end is of.
+          let ok : Accepted r = accepted table r end is in
+          record {
+            freed-is = freed-q _ ok _ of;
+            wants-are = wants-are _ ok _ of;
+            made = second-deal _ ok _ of;
+            caps-are = caps-are ok of (second-dealt ok of (second-deal _ ok _ of)) c.usable_of-2.ensures.usable;
+          };
     }

@@ -23,7 +23,6 @@ use Rattle.deals.proofs.Plans.{each}
 use Rattle.plan_rooms.proofs.Planning.{blank-marks, second-dealt}
 use Rattle.plan_rooms.proofs.Following.{held-lists, lend-given, held-made, headroom-made}
 use Rattle.plan_rooms.proofs.Given.{given-ok, nodes-few, cords-few, parents-long, spare-long, cords-long, lows-long, wants-long, headroom-long, caps-long, to-deal, ceilings-given, stands}
-use borrow.Author.Rules.{rules}
 use Rattle.plan_rooms.proofs.plan_loaded.Goals as goal
 
 -- A list of zeros is long enough.
@@ -33,42 +32,42 @@ blank-long {most = most} few = omega (arith, equal-length {A = ℕ} most 0)
 pub slice_bounds-list_nodes-end : goal.slice_bounds-list_nodes-end
 slice_bounds-list_nodes-end c =
     let GivenAt : (table demands : List ℕ) → Room → Type 0 = λ table demands r. PlanGiven table demands r c.args.counts c.args.parents.now c.args.left.now c.args.cords.now c.args.lows.now c.args.wants.now
-        c.args.headroom.now c.args.caps.now in
+    c.args.headroom.now c.args.caps.now in
     let some : GivenAt c.requires.room.table c.requires.room.demands c.requires.room.room = c.requires.room.given in
     front_length _ _ (cords-long some)
 
 pub slice_bounds-nodes-end : goal.slice_bounds-nodes-end
 slice_bounds-nodes-end c =
     let GivenAt : (table demands : List ℕ) → Room → Type 0 = λ table demands r. PlanGiven table demands r c.args.counts c.args.parents.now c.args.left.now c.args.cords.now c.args.lows.now c.args.wants.now
-        c.args.headroom.now c.args.caps.now in
+    c.args.headroom.now c.args.caps.now in
     let some : GivenAt c.requires.room.table c.requires.room.demands c.requires.room.room = c.requires.room.given in
     blank-long (cords-few some)
 
 pub slice_bounds-list_nodes-end-2 : goal.slice_bounds-list_nodes-end-2
 slice_bounds-list_nodes-end-2 c =
     let GivenAt : (table demands : List ℕ) → Room → Type 0 = λ table demands r. PlanGiven table demands r c.args.counts c.args.parents.now c.args.left.now c.args.cords.now c.args.lows.now c.args.wants.now
-        c.args.headroom.now c.args.caps.now in
+    c.args.headroom.now c.args.caps.now in
     let some : GivenAt c.requires.room.table c.requires.room.demands c.requires.room.room = c.requires.room.given in
     sym (zeros-front most_cords _ (cords-few some))
 
 pub list_nodes-requires : goal.list_nodes-requires
 list_nodes-requires c =
     let GivenAt : (table demands : List ℕ) → Room → Type 0 = λ table demands r. PlanGiven table demands r c.args.counts c.args.parents.now c.args.left.now c.args.cords.now c.args.lows.now c.args.wants.now
-        c.args.headroom.now c.args.caps.now in
+    c.args.headroom.now c.args.caps.now in
     let some : GivenAt c.requires.room.table c.requires.room.demands c.requires.room.room = c.requires.room.given in
     record { size = zeros-front most_cords _ (cords-few some) ∙ front_length _ _ (cords-long some) }
 
 pub slice_bounds-deal_twice-end : goal.slice_bounds-deal_twice-end
 slice_bounds-deal_twice-end c =
     let GivenAt : (table demands : List ℕ) → Room → Type 0 = λ table demands r. PlanGiven table demands r c.args.counts c.args.parents.now c.args.left.now c.args.cords.now c.args.lows.now c.args.wants.now
-        c.args.headroom.now c.args.caps.now in
+    c.args.headroom.now c.args.caps.now in
     let some : GivenAt c.requires.room.table c.requires.room.demands c.requires.room.room = c.requires.room.given in
     front_length _ _ (parents-long some)
 
 pub slice_bounds-deal_twice-end-2 : goal.slice_bounds-deal_twice-end-2
 slice_bounds-deal_twice-end-2 c =
     let GivenAt : (table demands : List ℕ) → Room → Type 0 = λ table demands r. PlanGiven table demands r c.args.counts c.args.parents.now c.args.left.now c.args.cords.now c.args.lows.now c.args.wants.now
-        c.args.headroom.now c.args.caps.now in
+    c.args.headroom.now c.args.caps.now in
     let some : GivenAt c.requires.room.table c.requires.room.demands c.requires.room.room = c.requires.room.given in
     front_length _ _ (cords-long some)
 
@@ -76,7 +75,7 @@ pub slice_bounds-nodes-end-2 : goal.slice_bounds-nodes-end-2
 slice_bounds-nodes-end-2 c =
     let count-cords : ℕ = c.args.counts.cords in
     let GivenAt : (table demands : List ℕ) → Room → Type 0 = λ table demands r. PlanGiven table demands r c.args.counts c.args.parents.now c.args.left.now c.args.cords.now c.args.lows.now c.args.wants.now
-        c.args.headroom.now c.args.caps.now in
+    c.args.headroom.now c.args.caps.now in
     let some : GivenAt c.requires.room.table c.requires.room.demands c.requires.room.room = c.requires.room.given in
     let nodes-back : List ℕ = c.list_nodes.new.nodes in
     let nodes-lent : Lent count-cords (replicate most_cords 0) nodes-back = lent-zeros most_cords (cords-few some) c.list_nodes.auto.nodes in
@@ -86,7 +85,7 @@ pub slice_bounds-deal_twice-end-3 : goal.slice_bounds-deal_twice-end-3
 slice_bounds-deal_twice-end-3 c =
     let count-cords : ℕ = c.args.counts.cords in
     let GivenAt : (table demands : List ℕ) → Room → Type 0 = λ table demands r. PlanGiven table demands r c.args.counts c.args.parents.now c.args.left.now c.args.cords.now c.args.lows.now c.args.wants.now
-        c.args.headroom.now c.args.caps.now in
+    c.args.headroom.now c.args.caps.now in
     let some : GivenAt c.requires.room.table c.requires.room.demands c.requires.room.room = c.requires.room.given in
     let nodes-back : List ℕ = c.list_nodes.new.nodes in
     let nodes-lent : Lent count-cords (replicate most_cords 0) nodes-back = lent-zeros most_cords (cords-few some) c.list_nodes.auto.nodes in
@@ -95,56 +94,56 @@ slice_bounds-deal_twice-end-3 c =
 pub slice_bounds-deal_twice-end-4 : goal.slice_bounds-deal_twice-end-4
 slice_bounds-deal_twice-end-4 c =
     let GivenAt : (table demands : List ℕ) → Room → Type 0 = λ table demands r. PlanGiven table demands r c.args.counts c.args.parents.now c.args.left.now c.args.cords.now c.args.lows.now c.args.wants.now
-        c.args.headroom.now c.args.caps.now in
+    c.args.headroom.now c.args.caps.now in
     let some : GivenAt c.requires.room.table c.requires.room.demands c.requires.room.room = c.requires.room.given in
     lows-long some
 
 pub slice_bounds-deal_twice-end-5 : goal.slice_bounds-deal_twice-end-5
 slice_bounds-deal_twice-end-5 c =
     let GivenAt : (table demands : List ℕ) → Room → Type 0 = λ table demands r. PlanGiven table demands r c.args.counts c.args.parents.now c.args.left.now c.args.cords.now c.args.lows.now c.args.wants.now
-        c.args.headroom.now c.args.caps.now in
+    c.args.headroom.now c.args.caps.now in
     let some : GivenAt c.requires.room.table c.requires.room.demands c.requires.room.room = c.requires.room.given in
     front_length _ _ (lows-long some)
 
 pub slice_bounds-deal_twice-end-6 : goal.slice_bounds-deal_twice-end-6
 slice_bounds-deal_twice-end-6 c =
     let GivenAt : (table demands : List ℕ) → Room → Type 0 = λ table demands r. PlanGiven table demands r c.args.counts c.args.parents.now c.args.left.now c.args.cords.now c.args.lows.now c.args.wants.now
-        c.args.headroom.now c.args.caps.now in
+    c.args.headroom.now c.args.caps.now in
     let some : GivenAt c.requires.room.table c.requires.room.demands c.requires.room.room = c.requires.room.given in
     wants-long some
 
 pub slice_bounds-deal_twice-end-7 : goal.slice_bounds-deal_twice-end-7
 slice_bounds-deal_twice-end-7 c =
     let GivenAt : (table demands : List ℕ) → Room → Type 0 = λ table demands r. PlanGiven table demands r c.args.counts c.args.parents.now c.args.left.now c.args.cords.now c.args.lows.now c.args.wants.now
-        c.args.headroom.now c.args.caps.now in
+    c.args.headroom.now c.args.caps.now in
     let some : GivenAt c.requires.room.table c.requires.room.demands c.requires.room.room = c.requires.room.given in
     front_length _ _ (wants-long some)
 
 pub slice_bounds-deal_twice-end-8 : goal.slice_bounds-deal_twice-end-8
 slice_bounds-deal_twice-end-8 c =
     let GivenAt : (table demands : List ℕ) → Room → Type 0 = λ table demands r. PlanGiven table demands r c.args.counts c.args.parents.now c.args.left.now c.args.cords.now c.args.lows.now c.args.wants.now
-        c.args.headroom.now c.args.caps.now in
+    c.args.headroom.now c.args.caps.now in
     let some : GivenAt c.requires.room.table c.requires.room.demands c.requires.room.room = c.requires.room.given in
     spare-long some
 
 pub slice_bounds-deal_twice-end-9 : goal.slice_bounds-deal_twice-end-9
 slice_bounds-deal_twice-end-9 c =
     let GivenAt : (table demands : List ℕ) → Room → Type 0 = λ table demands r. PlanGiven table demands r c.args.counts c.args.parents.now c.args.left.now c.args.cords.now c.args.lows.now c.args.wants.now
-        c.args.headroom.now c.args.caps.now in
+    c.args.headroom.now c.args.caps.now in
     let some : GivenAt c.requires.room.table c.requires.room.demands c.requires.room.room = c.requires.room.given in
     front_length _ _ (spare-long some)
 
 pub slice_bounds-cuts-end : goal.slice_bounds-cuts-end
 slice_bounds-cuts-end c =
     let GivenAt : (table demands : List ℕ) → Room → Type 0 = λ table demands r. PlanGiven table demands r c.args.counts c.args.parents.now c.args.left.now c.args.cords.now c.args.lows.now c.args.wants.now
-        c.args.headroom.now c.args.caps.now in
+    c.args.headroom.now c.args.caps.now in
     let some : GivenAt c.requires.room.table c.requires.room.demands c.requires.room.room = c.requires.room.given in
     blank-long (nodes-few some)
 
 pub slice_bounds-deal_twice-end-10 : goal.slice_bounds-deal_twice-end-10
 slice_bounds-deal_twice-end-10 c =
     let GivenAt : (table demands : List ℕ) → Room → Type 0 = λ table demands r. PlanGiven table demands r c.args.counts c.args.parents.now c.args.left.now c.args.cords.now c.args.lows.now c.args.wants.now
-        c.args.headroom.now c.args.caps.now in
+    c.args.headroom.now c.args.caps.now in
     let some : GivenAt c.requires.room.table c.requires.room.demands c.requires.room.room = c.requires.room.given in
     sym (zeros-front most_nodes _ (nodes-few some))
 
@@ -157,14 +156,14 @@ slice_bounds-deal_twice-end-12 c = front_length _ _ c.requires.space.0
 pub slice_bounds-deal_twice-end-13 : goal.slice_bounds-deal_twice-end-13
 slice_bounds-deal_twice-end-13 c =
     let GivenAt : (table demands : List ℕ) → Room → Type 0 = λ table demands r. PlanGiven table demands r c.args.counts c.args.parents.now c.args.left.now c.args.cords.now c.args.lows.now c.args.wants.now
-        c.args.headroom.now c.args.caps.now in
+    c.args.headroom.now c.args.caps.now in
     let some : GivenAt c.requires.room.table c.requires.room.demands c.requires.room.room = c.requires.room.given in
     caps-long some
 
 pub slice_bounds-deal_twice-end-14 : goal.slice_bounds-deal_twice-end-14
 slice_bounds-deal_twice-end-14 c =
     let GivenAt : (table demands : List ℕ) → Room → Type 0 = λ table demands r. PlanGiven table demands r c.args.counts c.args.parents.now c.args.left.now c.args.cords.now c.args.lows.now c.args.wants.now
-        c.args.headroom.now c.args.caps.now in
+    c.args.headroom.now c.args.caps.now in
     let some : GivenAt c.requires.room.table c.requires.room.demands c.requires.room.room = c.requires.room.given in
     front_length _ _ (caps-long some)
 
@@ -172,7 +171,7 @@ pub deal_twice-freed-requires : goal.deal_twice-freed-requires
 deal_twice-freed-requires c =
     let count-cords : ℕ = c.args.counts.cords in
     let GivenAt : (table demands : List ℕ) → Room → Type 0 = λ table demands r. PlanGiven table demands r c.args.counts c.args.parents.now c.args.left.now c.args.cords.now c.args.lows.now c.args.wants.now
-        c.args.headroom.now c.args.caps.now in
+    c.args.headroom.now c.args.caps.now in
     let some : GivenAt c.requires.room.table c.requires.room.demands c.requires.room.room = c.requires.room.given in
     let nodes-back : List ℕ = c.list_nodes.new.nodes in
     let nodes-after : List ℕ = rejoined count-cords (replicate most_cords 0) nodes-back in
@@ -190,7 +189,7 @@ deal_twice-freed-requires c =
 pub slice_bounds-name_holders-end : goal.slice_bounds-name_holders-end
 slice_bounds-name_holders-end c =
     let GivenAt : (table demands : List ℕ) → Room → Type 0 = λ table demands r. PlanGiven table demands r c.args.counts c.args.parents.now c.args.left.now c.args.cords.now c.args.lows.now c.args.wants.now
-        c.args.headroom.now c.args.caps.now in
+    c.args.headroom.now c.args.caps.now in
     let some : GivenAt c.requires.room.table c.requires.room.demands c.requires.room.room = c.requires.room.given in
     front_length _ _ (parents-long some)
 
@@ -198,7 +197,7 @@ pub slice_bounds-cuts-end-2 : goal.slice_bounds-cuts-end-2
 slice_bounds-cuts-end-2 c =
     let count-nodes : ℕ = c.args.counts.nodes in
     let GivenAt : (table demands : List ℕ) → Room → Type 0 = λ table demands r. PlanGiven table demands r c.args.counts c.args.parents.now c.args.left.now c.args.cords.now c.args.lows.now c.args.wants.now
-        c.args.headroom.now c.args.caps.now in
+    c.args.headroom.now c.args.caps.now in
     let some : GivenAt c.requires.room.table c.requires.room.demands c.requires.room.room = c.requires.room.given in
     let cuts_back : List ℕ = c.deal_twice-freed.new.cuts in
     let cuts-lent : Lent count-nodes (replicate most_nodes 0) cuts_back = lent-zeros most_nodes (nodes-few some) c.deal_twice-freed.auto.cuts in
@@ -208,7 +207,7 @@ pub slice_bounds-name_holders-end-2 : goal.slice_bounds-name_holders-end-2
 slice_bounds-name_holders-end-2 c =
     let count-nodes : ℕ = c.args.counts.nodes in
     let GivenAt : (table demands : List ℕ) → Room → Type 0 = λ table demands r. PlanGiven table demands r c.args.counts c.args.parents.now c.args.left.now c.args.cords.now c.args.lows.now c.args.wants.now
-        c.args.headroom.now c.args.caps.now in
+    c.args.headroom.now c.args.caps.now in
     let some : GivenAt c.requires.room.table c.requires.room.demands c.requires.room.room = c.requires.room.given in
     let cuts_back : List ℕ = c.deal_twice-freed.new.cuts in
     let cuts-lent : Lent count-nodes (replicate most_nodes 0) cuts_back = lent-zeros most_nodes (nodes-few some) c.deal_twice-freed.auto.cuts in
@@ -217,7 +216,7 @@ slice_bounds-name_holders-end-2 c =
 pub slice_bounds-name_holders-end-3 : goal.slice_bounds-name_holders-end-3
 slice_bounds-name_holders-end-3 c =
     let GivenAt : (table demands : List ℕ) → Room → Type 0 = λ table demands r. PlanGiven table demands r c.args.counts c.args.parents.now c.args.left.now c.args.cords.now c.args.lows.now c.args.wants.now
-        c.args.headroom.now c.args.caps.now in
+    c.args.headroom.now c.args.caps.now in
     let some : GivenAt c.requires.room.table c.requires.room.demands c.requires.room.room = c.requires.room.given in
     front_length _ _ (cords-long some)
 
@@ -225,7 +224,7 @@ pub slice_bounds-name_holders-end-4 : goal.slice_bounds-name_holders-end-4
 slice_bounds-name_holders-end-4 c =
     let count-cords : ℕ = c.args.counts.cords in
     let GivenAt : (table demands : List ℕ) → Room → Type 0 = λ table demands r. PlanGiven table demands r c.args.counts c.args.parents.now c.args.left.now c.args.cords.now c.args.lows.now c.args.wants.now
-        c.args.headroom.now c.args.caps.now in
+    c.args.headroom.now c.args.caps.now in
     let some : GivenAt c.requires.room.table c.requires.room.demands c.requires.room.room = c.requires.room.given in
     let wants-back : List ℕ = c.deal_twice-freed.new.wants in
     let wants-lent : Lent count-cords c.args.wants.now wants-back = lent (wants-long some) c.deal_twice-freed.auto.wants in
@@ -235,7 +234,7 @@ pub slice_bounds-name_holders-end-5 : goal.slice_bounds-name_holders-end-5
 slice_bounds-name_holders-end-5 c =
     let count-cords : ℕ = c.args.counts.cords in
     let GivenAt : (table demands : List ℕ) → Room → Type 0 = λ table demands r. PlanGiven table demands r c.args.counts c.args.parents.now c.args.left.now c.args.cords.now c.args.lows.now c.args.wants.now
-        c.args.headroom.now c.args.caps.now in
+    c.args.headroom.now c.args.caps.now in
     let some : GivenAt c.requires.room.table c.requires.room.demands c.requires.room.room = c.requires.room.given in
     let wants-back : List ℕ = c.deal_twice-freed.new.wants in
     let wants-lent : Lent count-cords c.args.wants.now wants-back = lent (wants-long some) c.deal_twice-freed.auto.wants in
@@ -267,7 +266,7 @@ name_holders-requires c =
     let count-cords : ℕ = c.args.counts.cords in
     let count-servers : ℕ = c.args.counts.servers in
     let GivenAt : (table demands : List ℕ) → Room → Type 0 = λ table demands r. PlanGiven table demands r c.args.counts c.args.parents.now c.args.left.now c.args.cords.now c.args.lows.now c.args.wants.now
-        c.args.headroom.now c.args.caps.now in
+    c.args.headroom.now c.args.caps.now in
     let some : GivenAt c.requires.room.table c.requires.room.demands c.requires.room.room = c.requires.room.given in
     let nodes-back : List ℕ = c.list_nodes.new.nodes in
     let nodes-after : List ℕ = rejoined count-cords (replicate most_cords 0) nodes-back in
@@ -290,14 +289,14 @@ name_holders-requires c =
     let cuts-lent : Lent count-nodes (replicate most_nodes 0) cuts_back = lent-zeros most_nodes (nodes-few some) c.deal_twice-freed.auto.cuts in
     let lists-z : (table demands : List ℕ) (r : Room) → GivenAt table demands r → RoomToDeal r demands (take count-nodes c.args.parents.now) (take count-nodes c.args.left.now) (take count-cords c.args.cords.now) (take count-cords nodes-after) (take count-cords c.args.lows.now) (take count-cords c.args.wants.now) (take count-servers c.args.caps.now) c.args.counts.scale = λ table demands r g. to-deal g nodes-listed in
     let dealt-z : (table demands : List ℕ) (r : Room) → GivenAt table demands r → DealtTwice r demands c.deal_twice-freed.result (take count-cords wants-after) (take count-nodes left_after) (take count-nodes cuts-after) (take count-cords grants-after) (take count-servers caps-after) = λ table demands r g. rw (lent_again wants-lent, lent_again left-lent, lent_again cuts-lent, lent_again grants-lent, lent_again caps-lent)
-        (c.deal_twice-freed.ensures.dealt table demands r g.end g.is (lists-z table demands r g)) in
+    (c.deal_twice-freed.ensures.dealt table demands r g.end g.is (lists-z table demands r g)) in
     let held-z : (table demands : List ℕ) (r : Room) → GivenAt table demands r → HeldLists (take count-nodes c.args.parents.now) (take count-nodes cuts-after) (take count-cords c.args.cords.now) (take count-cords wants-after) (take count-cords grants-after) = λ table demands r g. held-lists (given-ok g) (lists-z table demands r g) (dealt-z table demands r g) (sym (lent-front cuts-lent) ∙ front_length _ _ (parents-long g)) in
     record { lists = (held-z _ _ _ some, sym (front_length _ _ c.requires.space.1) ∙ front_length _ _ (cords-long some)) }
 
 pub slice_bounds-lend-end : goal.slice_bounds-lend-end
 slice_bounds-lend-end c =
     let GivenAt : (table demands : List ℕ) → Room → Type 0 = λ table demands r. PlanGiven table demands r c.args.counts c.args.parents.now c.args.left.now c.args.cords.now c.args.lows.now c.args.wants.now
-        c.args.headroom.now c.args.caps.now in
+    c.args.headroom.now c.args.caps.now in
     let some : GivenAt c.requires.room.table c.requires.room.demands c.requires.room.room = c.requires.room.given in
     front_length _ _ (parents-long some)
 
@@ -305,7 +304,7 @@ pub slice_bounds-nodes-end-3 : goal.slice_bounds-nodes-end-3
 slice_bounds-nodes-end-3 c =
     let count-cords : ℕ = c.args.counts.cords in
     let GivenAt : (table demands : List ℕ) → Room → Type 0 = λ table demands r. PlanGiven table demands r c.args.counts c.args.parents.now c.args.left.now c.args.cords.now c.args.lows.now c.args.wants.now
-        c.args.headroom.now c.args.caps.now in
+    c.args.headroom.now c.args.caps.now in
     let some : GivenAt c.requires.room.table c.requires.room.demands c.requires.room.room = c.requires.room.given in
     let nodes-back : List ℕ = c.list_nodes.new.nodes in
     let nodes-lent : Lent count-cords (replicate most_cords 0) nodes-back = lent-zeros most_cords (cords-few some) c.list_nodes.auto.nodes in
@@ -315,7 +314,7 @@ pub slice_bounds-lend-end-2 : goal.slice_bounds-lend-end-2
 slice_bounds-lend-end-2 c =
     let count-cords : ℕ = c.args.counts.cords in
     let GivenAt : (table demands : List ℕ) → Room → Type 0 = λ table demands r. PlanGiven table demands r c.args.counts c.args.parents.now c.args.left.now c.args.cords.now c.args.lows.now c.args.wants.now
-        c.args.headroom.now c.args.caps.now in
+    c.args.headroom.now c.args.caps.now in
     let some : GivenAt c.requires.room.table c.requires.room.demands c.requires.room.room = c.requires.room.given in
     let nodes-back : List ℕ = c.list_nodes.new.nodes in
     let nodes-lent : Lent count-cords (replicate most_cords 0) nodes-back = lent-zeros most_cords (cords-few some) c.list_nodes.auto.nodes in
@@ -325,7 +324,7 @@ pub slice_bounds-lend-end-3 : goal.slice_bounds-lend-end-3
 slice_bounds-lend-end-3 c =
     let count-cords : ℕ = c.args.counts.cords in
     let GivenAt : (table demands : List ℕ) → Room → Type 0 = λ table demands r. PlanGiven table demands r c.args.counts c.args.parents.now c.args.left.now c.args.cords.now c.args.lows.now c.args.wants.now
-        c.args.headroom.now c.args.caps.now in
+    c.args.headroom.now c.args.caps.now in
     let some : GivenAt c.requires.room.table c.requires.room.demands c.requires.room.room = c.requires.room.given in
     let wants-back : List ℕ = c.deal_twice-freed.new.wants in
     let wants-lent : Lent count-cords c.args.wants.now wants-back = lent (wants-long some) c.deal_twice-freed.auto.wants in
@@ -335,7 +334,7 @@ pub slice_bounds-lend-end-4 : goal.slice_bounds-lend-end-4
 slice_bounds-lend-end-4 c =
     let count-cords : ℕ = c.args.counts.cords in
     let GivenAt : (table demands : List ℕ) → Room → Type 0 = λ table demands r. PlanGiven table demands r c.args.counts c.args.parents.now c.args.left.now c.args.cords.now c.args.lows.now c.args.wants.now
-        c.args.headroom.now c.args.caps.now in
+    c.args.headroom.now c.args.caps.now in
     let some : GivenAt c.requires.room.table c.requires.room.demands c.requires.room.room = c.requires.room.given in
     let wants-back : List ℕ = c.deal_twice-freed.new.wants in
     let wants-lent : Lent count-cords c.args.wants.now wants-back = lent (wants-long some) c.deal_twice-freed.auto.wants in
@@ -345,7 +344,7 @@ pub slice_bounds-lend-end-5 : goal.slice_bounds-lend-end-5
 slice_bounds-lend-end-5 c =
     let count-nodes : ℕ = c.args.counts.nodes in
     let GivenAt : (table demands : List ℕ) → Room → Type 0 = λ table demands r. PlanGiven table demands r c.args.counts c.args.parents.now c.args.left.now c.args.cords.now c.args.lows.now c.args.wants.now
-        c.args.headroom.now c.args.caps.now in
+    c.args.headroom.now c.args.caps.now in
     let some : GivenAt c.requires.room.table c.requires.room.demands c.requires.room.room = c.requires.room.given in
     let left_back : List ℕ = c.deal_twice-freed.new.left in
     let left-lent : Lent count-nodes c.args.left.now left_back = lent (spare-long some) c.deal_twice-freed.auto.left in
@@ -355,7 +354,7 @@ pub slice_bounds-lend-end-6 : goal.slice_bounds-lend-end-6
 slice_bounds-lend-end-6 c =
     let count-nodes : ℕ = c.args.counts.nodes in
     let GivenAt : (table demands : List ℕ) → Room → Type 0 = λ table demands r. PlanGiven table demands r c.args.counts c.args.parents.now c.args.left.now c.args.cords.now c.args.lows.now c.args.wants.now
-        c.args.headroom.now c.args.caps.now in
+    c.args.headroom.now c.args.caps.now in
     let some : GivenAt c.requires.room.table c.requires.room.demands c.requires.room.room = c.requires.room.given in
     let left_back : List ℕ = c.deal_twice-freed.new.left in
     let left-lent : Lent count-nodes c.args.left.now left_back = lent (spare-long some) c.deal_twice-freed.auto.left in
@@ -364,28 +363,28 @@ slice_bounds-lend-end-6 c =
 pub slice_bounds-lend-end-7 : goal.slice_bounds-lend-end-7
 slice_bounds-lend-end-7 c =
     let GivenAt : (table demands : List ℕ) → Room → Type 0 = λ table demands r. PlanGiven table demands r c.args.counts c.args.parents.now c.args.left.now c.args.cords.now c.args.lows.now c.args.wants.now
-        c.args.headroom.now c.args.caps.now in
+    c.args.headroom.now c.args.caps.now in
     let some : GivenAt c.requires.room.table c.requires.room.demands c.requires.room.room = c.requires.room.given in
     lows-long some
 
 pub slice_bounds-lend-end-8 : goal.slice_bounds-lend-end-8
 slice_bounds-lend-end-8 c =
     let GivenAt : (table demands : List ℕ) → Room → Type 0 = λ table demands r. PlanGiven table demands r c.args.counts c.args.parents.now c.args.left.now c.args.cords.now c.args.lows.now c.args.wants.now
-        c.args.headroom.now c.args.caps.now in
+    c.args.headroom.now c.args.caps.now in
     let some : GivenAt c.requires.room.table c.requires.room.demands c.requires.room.room = c.requires.room.given in
     front_length _ _ (lows-long some)
 
 pub slice_bounds-lend-end-9 : goal.slice_bounds-lend-end-9
 slice_bounds-lend-end-9 c =
     let GivenAt : (table demands : List ℕ) → Room → Type 0 = λ table demands r. PlanGiven table demands r c.args.counts c.args.parents.now c.args.left.now c.args.cords.now c.args.lows.now c.args.wants.now
-        c.args.headroom.now c.args.caps.now in
+    c.args.headroom.now c.args.caps.now in
     let some : GivenAt c.requires.room.table c.requires.room.demands c.requires.room.room = c.requires.room.given in
     headroom-long some
 
 pub slice_bounds-lend-end-10 : goal.slice_bounds-lend-end-10
 slice_bounds-lend-end-10 c =
     let GivenAt : (table demands : List ℕ) → Room → Type 0 = λ table demands r. PlanGiven table demands r c.args.counts c.args.parents.now c.args.left.now c.args.cords.now c.args.lows.now c.args.wants.now
-        c.args.headroom.now c.args.caps.now in
+    c.args.headroom.now c.args.caps.now in
     let some : GivenAt c.requires.room.table c.requires.room.demands c.requires.room.room = c.requires.room.given in
     front_length _ _ (headroom-long some)
 
@@ -395,7 +394,7 @@ lend-requires c =
     let count-cords : ℕ = c.args.counts.cords in
     let count-servers : ℕ = c.args.counts.servers in
     let GivenAt : (table demands : List ℕ) → Room → Type 0 = λ table demands r. PlanGiven table demands r c.args.counts c.args.parents.now c.args.left.now c.args.cords.now c.args.lows.now c.args.wants.now
-        c.args.headroom.now c.args.caps.now in
+    c.args.headroom.now c.args.caps.now in
     let some : GivenAt c.requires.room.table c.requires.room.demands c.requires.room.room = c.requires.room.given in
     let nodes-back : List ℕ = c.list_nodes.new.nodes in
     let nodes-after : List ℕ = rejoined count-cords (replicate most_cords 0) nodes-back in
@@ -418,21 +417,20 @@ lend-requires c =
     let cuts-lent : Lent count-nodes (replicate most_nodes 0) cuts_back = lent-zeros most_nodes (nodes-few some) c.deal_twice-freed.auto.cuts in
     let lists-z : (table demands : List ℕ) (r : Room) → GivenAt table demands r → RoomToDeal r demands (take count-nodes c.args.parents.now) (take count-nodes c.args.left.now) (take count-cords c.args.cords.now) (take count-cords nodes-after) (take count-cords c.args.lows.now) (take count-cords c.args.wants.now) (take count-servers c.args.caps.now) c.args.counts.scale = λ table demands r g. to-deal g nodes-listed in
     let dealt-z : (table demands : List ℕ) (r : Room) → GivenAt table demands r → DealtTwice r demands c.deal_twice-freed.result (take count-cords wants-after) (take count-nodes left_after) (take count-nodes cuts-after) (take count-cords grants-after) (take count-servers caps-after) = λ table demands r g. rw (lent_again wants-lent, lent_again left-lent, lent_again cuts-lent, lent_again grants-lent, lent_again caps-lent)
-        (c.deal_twice-freed.ensures.dealt table demands r g.end g.is (lists-z table demands r g)) in
+    (c.deal_twice-freed.ensures.dealt table demands r g.end g.is (lists-z table demands r g)) in
     let lend-z : (table demands : List ℕ) (r : Room) → GivenAt table demands r → LendGiven (take count-nodes c.args.parents.now) (take count-cords nodes-after) (take count-cords wants-after) (take count-nodes left_after) (take count-cords c.args.headroom.now) (limits_of r) (levels_of r) (lows_of r) (first_used r demands) = λ table demands r g. lend-given (given-ok g) (lists-z table demands r g) (dealt-z table demands r g) (ceilings-given g) (sym (lent-front left-lent) ∙ front_length _ _ (parents-long g)) in
     record {
-      lists =
-        (
-          record { limits = limits_of c.requires.room.room; levels = levels_of c.requires.room.room; lows = lows_of c.requires.room.room; starts = first_used c.requires.room.room c.requires.room.demands; given = lend-z _ _ _ some },
-          sym (front_length _ _ (lows-long some)) ∙ lent-front nodes-lent,
-        )
+      lists = (
+        record { limits = limits_of c.requires.room.room; levels = levels_of c.requires.room.room; lows = lows_of c.requires.room.room; starts = first_used c.requires.room.room c.requires.room.demands; given = lend-z _ _ _ some },
+        sym (front_length _ _ (lows-long some)) ∙ lent-front nodes-lent,
+      );
     }
 
 pub shape_of-left : goal.shape_of-left
 shape_of-left c =
     let count-nodes : ℕ = c.args.counts.nodes in
     let GivenAt : (table demands : List ℕ) → Room → Type 0 = λ table demands r. PlanGiven table demands r c.args.counts c.args.parents.now c.args.left.now c.args.cords.now c.args.lows.now c.args.wants.now
-        c.args.headroom.now c.args.caps.now in
+    c.args.headroom.now c.args.caps.now in
     let some : GivenAt c.requires.room.table c.requires.room.demands c.requires.room.room = c.requires.room.given in
     let left_back : List ℕ = c.deal_twice-freed.new.left in
     let left-lent : Lent count-nodes c.args.left.now left_back = lent (spare-long some) c.deal_twice-freed.auto.left in
@@ -444,7 +442,7 @@ returns c =
     let count-cords : ℕ = c.args.counts.cords in
     let count-servers : ℕ = c.args.counts.servers in
     let GivenAt : (table demands : List ℕ) → Room → Type 0 = λ table demands r. PlanGiven table demands r c.args.counts c.args.parents.now c.args.left.now c.args.cords.now c.args.lows.now c.args.wants.now
-        c.args.headroom.now c.args.caps.now in
+    c.args.headroom.now c.args.caps.now in
     let some : GivenAt c.requires.room.table c.requires.room.demands c.requires.room.room = c.requires.room.given in
     let nodes-back : List ℕ = c.list_nodes.new.nodes in
     let nodes-after : List ℕ = rejoined count-cords (replicate most_cords 0) nodes-back in
@@ -467,21 +465,21 @@ returns c =
     let cuts-lent : Lent count-nodes (replicate most_nodes 0) cuts_back = lent-zeros most_nodes (nodes-few some) c.deal_twice-freed.auto.cuts in
     let lists-z : (table demands : List ℕ) (r : Room) → GivenAt table demands r → RoomToDeal r demands (take count-nodes c.args.parents.now) (take count-nodes c.args.left.now) (take count-cords c.args.cords.now) (take count-cords nodes-after) (take count-cords c.args.lows.now) (take count-cords c.args.wants.now) (take count-servers c.args.caps.now) c.args.counts.scale = λ table demands r g. to-deal g nodes-listed in
     let dealt-z : (table demands : List ℕ) (r : Room) → GivenAt table demands r → DealtTwice r demands c.deal_twice-freed.result (take count-cords wants-after) (take count-nodes left_after) (take count-nodes cuts-after) (take count-cords grants-after) (take count-servers caps-after) = λ table demands r g. rw (lent_again wants-lent, lent_again left-lent, lent_again cuts-lent, lent_again grants-lent, lent_again caps-lent)
-        (c.deal_twice-freed.ensures.dealt table demands r g.end g.is (lists-z table demands r g)) in
+    (c.deal_twice-freed.ensures.dealt table demands r g.end g.is (lists-z table demands r g)) in
     let held-z : (table demands : List ℕ) (r : Room) → GivenAt table demands r → HeldLists (take count-nodes c.args.parents.now) (take count-nodes cuts-after) (take count-cords c.args.cords.now) (take count-cords wants-after) (take count-cords grants-after) = λ table demands r g. held-lists (given-ok g) (lists-z table demands r g) (dealt-z table demands r g) (sym (lent-front cuts-lent) ∙ front_length _ _ (parents-long g)) in
     let lend-z : (table demands : List ℕ) (r : Room) → GivenAt table demands r → LendGiven (take count-nodes c.args.parents.now) (take count-cords nodes-after) (take count-cords wants-after) (take count-nodes left_after) (take count-cords c.args.headroom.now) (limits_of r) (levels_of r) (lows_of r) (first_used r demands) = λ table demands r g. lend-given (given-ok g) (lists-z table demands r g) (dealt-z table demands r g) (ceilings-given g) (sym (lent-front left-lent) ∙ front_length _ _ (parents-long g)) in
     record {
       planned =
-        λ table demands r g.
-        let ok = given-ok g in
-        let of = lists-z _ _ _ g in
-        let dealt = dealt-z _ _ _ g in
-        let lent_out = c.lend.ensures.lent (limits_of r) (levels_of r) (lows_of r) (first_used r demands) (lend-z _ _ _ g) in
-        record {
-          freed-is = dealt.freed-is;
-          lists-are = each _ (stands grants-lent _ (sym (lent_again grants-lent) ∙ second-dealt ok of dealt.made))
-              (stands caps-lent _ (sym (lent_again caps-lent) ∙ dealt.caps-are))
-              (stands (lent (headroom-long some) c.lend.auto.headroom) _ (headroom-made ok of dealt (ceilings-given g) lent_out))
-              (stands (lent c.requires.space.1 c.name_holders.auto.held) _ (held-made ok of dealt (held-z _ _ _ g) c.name_holders.ensures.named));
-        }
+          λ table demands r g.
+          let ok = given-ok g in
+          let of = lists-z _ _ _ g in
+          let dealt = dealt-z _ _ _ g in
+          let lent_out = c.lend.ensures.lent (limits_of r) (levels_of r) (lows_of r) (first_used r demands) (lend-z _ _ _ g) in
+          record {
+            freed-is = dealt.freed-is;
+            lists-are = each _ (stands grants-lent _ (sym (lent_again grants-lent) ∙ second-dealt ok of dealt.made))
+                (stands caps-lent _ (sym (lent_again caps-lent) ∙ dealt.caps-are))
+                (stands (lent (headroom-long some) c.lend.auto.headroom) _ (headroom-made ok of dealt (ceilings-given g) lent_out))
+                (stands (lent c.requires.space.1 c.name_holders.auto.held) _ (held-made ok of dealt (held-z _ _ _ g) c.name_holders.ensures.named));
+          };
     }

@@ -6,7 +6,6 @@ use Rattle.layout.specs.declared.room.Loaded.{Loaded}
 use Prim.Native.Nat.{ℕ}
 use Rattle.deals.specs.Plan.{list_reasons}
 use Rattle.plans.proofs.PlanCall.{Left, loading-told, loading-passed, short-told, list-passed, all-passed}
-use borrow.Author.Rules.{rules}
 use Rattle.plans.proofs.admit.Goals as goal
 
 pub returns-in-Refused : goal.returns-in-Refused

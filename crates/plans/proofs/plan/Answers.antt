@@ -18,7 +18,6 @@ use Rattle.layout.proofs.Loads.{found-accepted, servers-count, cords-count, serv
 use Rattle.plan_rooms.specs.Planning.{PlanGiven}
 use Rattle.deals.proofs.Plans.{each, output-length}
 use Rattle.plans.proofs.PlanCall.{Admitted, admitted-good, admitted-refused, plan-given, copied-loaded, stored-again, refused-done, accepted-done}
-use borrow.Author.Rules.{rules}
 use Rattle.plans.proofs.plan.Goals as goal
 
 pub slice_bounds-ceilings-end : goal.slice_bounds-ceilings-end
@@ -91,10 +90,10 @@ plan_loaded-freed-requires c =
     let needs-after : List ℕ = c.load_room-loaded.new.needs in
     let loaded : RoomLoaded admitted.room-found.room demands parents-after left_after cords-after lows-after wants-after ceilings-after needs-after = c.load_room-loaded.ensures.lists admitted.room-found.room admitted.room-found.accepts in
     let given-2 : PlanGiven table demands admitted.room-found.room counts parents-after left_after cords-after lows-after wants-after c.copy.new.to c.copy-in-Good.new.to = let a = admitted in
-        plan-given a
-        (copied-loaded parents-after left_after cords-after lows-after wants-after ceilings-after needs-after (found-accepted a.room-found) loaded
-        c.args.headroom.now c.args.caps.now c.copy.new.to c.copy-in-Good.new.to
-        (cords-count a.room-found) (servers-count a.room-found) (a.long Headroom) (a.long Caps) c.copy.ensures.copied c.copy-in-Good.ensures.copied) in
+    plan-given a
+    (copied-loaded parents-after left_after cords-after lows-after wants-after ceilings-after needs-after (found-accepted a.room-found) loaded
+    c.args.headroom.now c.args.caps.now c.copy.new.to c.copy-in-Good.new.to
+    (cords-count a.room-found) (servers-count a.room-found) (a.long Headroom) (a.long Caps) c.copy.ensures.copied c.copy-in-Good.ensures.copied) in
     let a = admitted in
     record {
       room = record { table = table; demands = demands; room = a.room-found.room; given = given-2 };
@@ -123,20 +122,20 @@ returns-in-Good c =
     let ceilings-copied : length (take counts.cords ceilings-after) ≡ room_cords admitted.room-found.room = length-take-le counts.cords ceilings-after ceilings-few ∙ cords-count admitted.room-found in
     let needs-copied : length (take counts.servers needs-after) ≡ length admitted.room-found.room.servers = length-take-le counts.servers needs-after needs-few ∙ servers-count admitted.room-found in
     let given-2 : PlanGiven table demands admitted.room-found.room counts parents-after left_after cords-after lows-after wants-after c.copy.new.to c.copy-in-Good.new.to = let a = admitted in
-        plan-given a
-        (copied-loaded parents-after left_after cords-after lows-after wants-after ceilings-after needs-after (found-accepted a.room-found) loaded
-        c.args.headroom.now c.args.caps.now c.copy.new.to c.copy-in-Good.new.to
-        (cords-count a.room-found) (servers-count a.room-found) (a.long Headroom) (a.long Caps) c.copy.ensures.copied c.copy-in-Good.ensures.copied) in
+    plan-given a
+    (copied-loaded parents-after left_after cords-after lows-after wants-after ceilings-after needs-after (found-accepted a.room-found) loaded
+    c.args.headroom.now c.args.caps.now c.copy.new.to c.copy-in-Good.new.to
+    (cords-count a.room-found) (servers-count a.room-found) (a.long Headroom) (a.long Caps) c.copy.ensures.copied c.copy-in-Good.ensures.copied) in
     record {
       done =
-        let a = admitted in
-        let room = a.room-found.room in
-        let left = c.plan_loaded-freed.ensures.planned table demands room given-2 in
-        accepted-done table demands lent a.is left.freed-is
-        (each _ (left.lists-are Grants)
-        (stored-again c.args.caps.now (take counts.servers needs-after) (output Caps (plan_of room demands)) (needs-copied ∙ sym (output-length room demands Caps)) c.copy-in-Good.ensures.copied (left.lists-are Caps))
-        (stored-again c.args.headroom.now (take counts.cords ceilings-after) (output Headroom (plan_of room demands)) (ceilings-copied ∙ sym (output-length room demands Headroom)) c.copy.ensures.copied (left.lists-are Headroom))
-        (left.lists-are Held))
+          let a = admitted in
+          let room = a.room-found.room in
+          let left = c.plan_loaded-freed.ensures.planned table demands room given-2 in
+          accepted-done table demands lent a.is left.freed-is
+          (each _ (left.lists-are Grants)
+          (stored-again c.args.caps.now (take counts.servers needs-after) (output Caps (plan_of room demands)) (needs-copied ∙ sym (output-length room demands Caps)) c.copy-in-Good.ensures.copied (left.lists-are Caps))
+          (stored-again c.args.headroom.now (take counts.cords ceilings-after) (output Headroom (plan_of room demands)) (ceilings-copied ∙ sym (output-length room demands Headroom)) c.copy.ensures.copied (left.lists-are Headroom))
+          (left.lists-are Held));
     }
 
 pub returns-in-Refused : goal.returns-in-Refused
@@ -144,6 +143,6 @@ returns-in-Refused c =
     let lent-s : Lists = lists c.args.grants.now c.args.caps.now c.args.headroom.now c.args.held.now in
     record {
       done =
-        refused-done c.args.table.now c.args.demands.now lent-s
-        (admitted-refused c.args.table.now c.args.demands.now _ c.load_room-loaded.ensures.answer c.admit-admission.ensures.admitted c.in-Refused.is)
+          refused-done c.args.table.now c.args.demands.now lent-s
+          (admitted-refused c.args.table.now c.args.demands.now _ c.load_room-loaded.ensures.answer c.admit-admission.ensures.admitted c.in-Refused.is);
     }

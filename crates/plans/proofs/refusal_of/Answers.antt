@@ -1,7 +1,6 @@
 -- `refusal_of` meets its contract: each refusal of the loading is the one of Plan that has its name.
 use mathlib.Core.Path.{sym, ap}
 use Rattle.plans.specs.Admission.{refusal_of}
-use borrow.Author.Rules.{rules}
 use Rattle.plans.proofs.refusal_of.Goals as goal
 
 pub returns-in-Table : goal.returns-in-Table

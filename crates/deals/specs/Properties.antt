@@ -4,7 +4,6 @@
 use Rattle.std.specs.Prelude.{◌≡◌, List, [], map, ℕ, suc, ◌+◌, ◌*◌, ◌-◌, ◌≤◌, ◌<◌, ◌^◌, min, leb, length, get_or, take, drop}
 use Rattle.rooms.specs.Part.{good}
 use Rattle.rooms.specs.Table.{Room, most_watts, most_cords, room_cords}
-use Rattle.rooms.specs.Trees.{beneath}
 use Rattle.rooms.specs.Limits.{checked}
 use Rattle.figures.specs.Figures.{total, at, cell, sum_of}
 use Rattle.figures.specs.Sums.{on}

@@ -6,7 +6,7 @@ use Prim.Native.Nat.{ℕ, zero, suc, ◌+◌, ◌-◌, ◌*◌, ◌/◌, ◌≤�
 use native.Mathlib.Omega.{arith}
 use lib.ListN.{length, take, drop, set, length-set}
 use lib.Seq.{sets, take_all}
-use Rattle.outcomes.specs.Outcome.{accepted, refused, after}
+use Rattle.outcomes.specs.Outcome.{refused, after}
 use Rattle.figures.specs.Figures.{at}
 use Rattle.words.specs.Bytes.{words_of, bytes_of}
 use Rattle.words.proofs.Bytes.{length-words_of, take-loaded}

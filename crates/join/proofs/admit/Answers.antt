@@ -4,7 +4,6 @@ use native.Mathlib.Omega.{arith}
 use Rattle.join.specs.Outcome.{answer_of}
 use Rattle.join.specs.declared.JoinAnswer.TheVariants.{Accepted}
 use Rattle.join.proofs.HutLaws.{versions-differ, too-many-nodes, too-many-servers, too-many-cords, table-long, list_short, fits}
-use borrow.Author.Rules.{rules}
 use Rattle.join.proofs.admit.Goals as goal
 
 pub overflow_add-words : goal.overflow_add-words
@@ -32,8 +31,8 @@ pub returns : goal.returns
 returns c =
     record {
       answers =
-        let same : c.args.one.version ≡ c.args.two.version = omega (arith, c.if-version-other.false) in
-        λ f s a b.
-        ap Accepted (sym (table-long f s c.args.space a b same))
-        ∙ sym (ap answer_of (fits f s _ a b same (omega (arith, c.if-nodes-gt-MOST_NODES.false)) (omega (arith, c.if-servers-gt-MOST_SERVERS.false)) (omega (arith, c.if-cords-gt-MOST_CORDS.false)) (omega (arith, c.if-space-words.false))))
+          let same : c.args.one.version ≡ c.args.two.version = omega (arith, c.if-version-other.false) in
+          λ f s a b.
+          ap Accepted (sym (table-long f s c.args.space a b same))
+          ∙ sym (ap answer_of (fits f s _ a b same (omega (arith, c.if-nodes-gt-MOST_NODES.false)) (omega (arith, c.if-servers-gt-MOST_SERVERS.false)) (omega (arith, c.if-cords-gt-MOST_CORDS.false)) (omega (arith, c.if-space-words.false))));
     }

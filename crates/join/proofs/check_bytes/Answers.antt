@@ -1,6 +1,5 @@
 -- `check_bytes` meets its contract: the words that are loaded decide.
 use Rattle.join.proofs.HutLaws.{loaded-length, loaded-checked}
-use borrow.Author.Rules.{rules}
 use Rattle.join.proofs.check_bytes.Goals as goal
 
 pub slice_bounds-check-end-2 : goal.slice_bounds-check-end-2

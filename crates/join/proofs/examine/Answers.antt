@@ -15,6 +15,6 @@ pub returns : goal.returns
 returns c =
     record {
       is =
-        good-examined _ (good-told _ c.check-checked.ensures.result c.in-Good.is)
-        c.node_count.ensures.count c.server_count.ensures.count c.word_index.ensures.result.0 c.servers_index.ensures.result.0
+          good-examined _ (good-told _ c.check-checked.ensures.result c.in-Good.is)
+          c.node_count.ensures.count c.server_count.ensures.count c.word_index.ensures.result.0 c.servers_index.ensures.result.0;
     }

@@ -4,7 +4,6 @@ use native.Mathlib.Omega.{arith}
 use lib.Seq.{length-take-le}
 use Rattle.calls.proofs.Calls.{call-short}
 use Rattle.join.proofs.Together.{written-fits, count_fits, stored}
-use borrow.Author.Rules.{rules}
 use Rattle.join.proofs.join_by.Goals as goal
 
 pub returns-then-answer-lt-ANSWER_BYTES : goal.returns-then-answer-lt-ANSWER_BYTES
@@ -20,6 +19,6 @@ pub returns : goal.returns
 returns c =
     record {
       call =
-        stored _ c.join_words-told.ensures.answers c.written_count-count.ensures.is c.join_words-told.ensures.writes _ _ (written-fits _ _ _) (omega (arith, c.if-answer-lt-ANSWER_BYTES.false))
-        c.store.ensures.stored c.tell.ensures.told
+          stored _ c.join_words-told.ensures.answers c.written_count-count.ensures.is c.join_words-told.ensures.writes _ _ (written-fits _ _ _) (omega (arith, c.if-answer-lt-ANSWER_BYTES.false))
+          c.store.ensures.stored c.tell.ensures.told;
     }

@@ -119,9 +119,9 @@ returns c =
     let room-left : c.put_nodes-middle.result < length list-two = omega (arith, middle, (fits_one _ _ c.requires.may_put).inner, (fits-two _ _ c.requires.may_put).two, (fits-two _ _ c.requires.may_put).inner, c.requires.may_put.space, size-two) in
     record {
       writes =
-        let space = has-space _ _ c.requires.may_put in
-        together _ _ c.requires.may_put c.node_width-width.ensures.is.0 c.index_word-by.ensures.result
-        c.index_word.ensures.result c.index_word-2.ensures.result
-        c.args.words.now list-two c.put_nodes-middle.result (omega (arith, space.0, space.1, space.2)) room-left
-        c.put_words-behind.ensures.put c.put_nodes-middle.ensures.put c.put_words-next.ensures.put c.put_servers.ensures.put
+          let space = has-space _ _ c.requires.may_put in
+          together _ _ c.requires.may_put c.node_width-width.ensures.is.0 c.index_word-by.ensures.result
+          c.index_word.ensures.result c.index_word-2.ensures.result
+          c.args.words.now list-two c.put_nodes-middle.result (omega (arith, space.0, space.1, space.2)) room-left
+          c.put_words-behind.ensures.put c.put_nodes-middle.ensures.put c.put_words-next.ensures.put c.put_servers.ensures.put;
     }

@@ -1,6 +1,5 @@
 -- `tell` meets its contract: number and figure are those of the answer.
 use Rattle.calls.proofs.Calls.{answer-told}
-use borrow.Author.Rules.{rules}
 use Rattle.join.proofs.tell.Goals as goal
 
 pub returns : goal.returns

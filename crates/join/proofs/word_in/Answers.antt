@@ -1,6 +1,5 @@
 -- `word_in` meets its contract: a word is loaded by itself.
 use Rattle.join.proofs.PieceLaws.{word-loaded}
-use borrow.Author.Rules.{rules}
 use Rattle.join.proofs.word_in.Goals as goal
 
 pub returns : goal.returns

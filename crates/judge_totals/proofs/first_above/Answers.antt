@@ -1,6 +1,5 @@
 -- `first_above` meets its contract: its branches are the tests of what it gives.
 use native.Mathlib.Numerals.{add-one}
-use borrow.Author.Rules.{rules}
 use borrow.Author.Tests.{lt-ltb, le-ltb}
 use Rattle.judge_totals.proofs.first_above.Goals as goal
 

@@ -1,13 +1,7 @@
 -- `lowest_marked` meets its contract: the nodes still to be searched decide at every turn (`Searching`).
 use mathlib.Core.Path.{sym, ◌∙◌}
-use mathlib.Core.Bool.{◌&&◌}
-use Prim.Native.Nat.{◌-◌}
 use native.Mathlib.Omega.{arith}
-use lib.Dec.{eqb, ltb}
-use lib.ListN.{length}
-use borrow.Author.Rules.{rules}
-use Rattle.figures.specs.Figures.{at}
-use Rattle.judge_totals.proofs.Searching.{Searching, searching-start, searching-stop, searching-next, searching-end}
+use Rattle.judge_totals.proofs.Searching.{searching-start, searching-stop, searching-next, searching-end}
 use Rattle.judge_totals.proofs.lowest_marked.Goals as goal
 
 pub loop-n-init : goal.loop-n-init

@@ -1,12 +1,9 @@
-use mathlib.Core.Path.{sym, ◌∙◌}
 use mathlib.Core.Bool.{◌&&◌}
 use Prim.Native.Nat.{◌-◌}
-use native.Mathlib.Omega.{arith}
 use lib.Dec.{eqb, ltb}
 use lib.ListN.{length}
-use borrow.Author.Rules.{rules}
 use Rattle.figures.specs.Figures.{at}
-use Rattle.judge_totals.proofs.Searching.{Searching, searching-start, searching-stop, searching-next, searching-end}
+use Rattle.judge_totals.proofs.Searching.{Searching}
 use Rattle.judge_totals.proofs.lowest_marked.Given as goal
 
 abbrev pub invariant-loop-n : goal.invariant-loop-n

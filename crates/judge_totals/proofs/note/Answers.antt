@@ -2,7 +2,6 @@
 use Prim.Native.Nat.{min, max}
 use Rattle.figures.proofs.Credits.{credited-none}
 use Rattle.judge_totals.proofs.Notes.{merged-none, merged_some}
-use borrow.Author.Rules.{rules}
 use Rattle.judge_totals.proofs.note.Goals as goal
 
 pub returns-then-node-eq0 : goal.returns-then-node-eq0

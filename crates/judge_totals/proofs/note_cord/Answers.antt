@@ -4,7 +4,6 @@ use Prim.Native.Nat.{ℕ, min, max}
 use native.Mathlib.Omega.{arith}
 use Rattle.figures.specs.Credits.{credited}
 use Rattle.judge_totals.specs.Totals.{merged}
-use borrow.Author.Rules.{rules}
 use Rattle.judge_totals.proofs.note_cord.Goals as goal
 
 pub returns : goal.returns

@@ -4,12 +4,11 @@
 -- ---- The needs
 use mathlib.Core.Path.{refl, sym, ◌∙◌}
 use mathlib.Core.List.{List}
-use Prim.Native.Nat.{ℕ, ◌+◌, ◌-◌}
+use Prim.Native.Nat.{ℕ, ◌+◌}
 use native.Mathlib.Omega.{arith}
-use lib.ListN.{length, get_or}
-use borrow.Author.Rules.{rules}
+use lib.ListN.{get_or}
 use Rattle.rooms.proofs.Walk.{ServerHere}
-use Rattle.judge_totals.proofs.Walking.{Walking, WalkingServer, CordFits, walking-sized, server-sized, walking_start, walking-server, few-cords, few-servers, server-begin, judged-all, server-end, cord-fits, judged-below, server-cord}
+use Rattle.judge_totals.proofs.Walking.{CordFits, walking-sized, server-sized, walking_start, walking-server, few-cords, few-servers, server-begin, judged-all, server-end, cord-fits, judged-below, server-cord}
 use Rattle.judge_totals.proofs.note_cords.Goals as goal
 
 pub loop-v-init : goal.loop-v-init
@@ -110,56 +109,56 @@ loop-c-init c = server-begin (walking-sized c.loop-v.invariant.turns.given-size 
 pub overflow_add-share : goal.overflow_add-share
 overflow_add-share c =
     let FitsAt : Type 0 = CordFits c.args.table.now c.args.grants.now c.args.scale (get_or c.args.table.now (c.loop-v.start + 1) 0) c.need_of-need.result c.loop-c.c c.loop-c.word
-        c.loop-c.given c.loop-c.raised c.loop-c.wanting in
+    c.loop-c.given c.loop-c.raised c.loop-c.wanting in
     let fits : FitsAt = cord-fits c.loop-c.invariant c.loop-c-test.true in
     omega (arith, fits.there)
 
 pub offset_bounds-table-word : goal.offset_bounds-table-word
 offset_bounds-table-word c =
     let FitsAt : Type 0 = CordFits c.args.table.now c.args.grants.now c.args.scale (get_or c.args.table.now (c.loop-v.start + 1) 0) c.need_of-need.result c.loop-c.c c.loop-c.word
-        c.loop-c.given c.loop-c.raised c.loop-c.wanting in
+    c.loop-c.given c.loop-c.raised c.loop-c.wanting in
     let fits : FitsAt = cord-fits c.loop-c.invariant c.loop-c-test.true in
     omega (arith, fits.there)
 
 pub bounds-table-word : goal.bounds-table-word
 bounds-table-word c =
     let FitsAt : Type 0 = CordFits c.args.table.now c.args.grants.now c.args.scale (get_or c.args.table.now (c.loop-v.start + 1) 0) c.need_of-need.result c.loop-c.c c.loop-c.word
-        c.loop-c.given c.loop-c.raised c.loop-c.wanting in
+    c.loop-c.given c.loop-c.raised c.loop-c.wanting in
     let fits : FitsAt = cord-fits c.loop-c.invariant c.loop-c-test.true in
     omega (arith, fits.there)
 
 pub carried_by-low-requires : goal.carried_by-low-requires
 carried_by-low-requires c =
     let FitsAt : Type 0 = CordFits c.args.table.now c.args.grants.now c.args.scale (get_or c.args.table.now (c.loop-v.start + 1) 0) c.need_of-need.result c.loop-c.c c.loop-c.word
-        c.loop-c.given c.loop-c.raised c.loop-c.wanting in
+    c.loop-c.given c.loop-c.raised c.loop-c.wanting in
     let fits : FitsAt = cord-fits c.loop-c.invariant c.loop-c-test.true in
     record { in_range = let f = fits in (f.scaled, f.share-most, f.least-most) }
 
 pub carried_by-want-requires : goal.carried_by-want-requires
 carried_by-want-requires c =
     let FitsAt : Type 0 = CordFits c.args.table.now c.args.grants.now c.args.scale (get_or c.args.table.now (c.loop-v.start + 1) 0) c.need_of-need.result c.loop-c.c c.loop-c.word
-        c.loop-c.given c.loop-c.raised c.loop-c.wanting in
+    c.loop-c.given c.loop-c.raised c.loop-c.wanting in
     let fits : FitsAt = cord-fits c.loop-c.invariant c.loop-c-test.true in
     record { in_range = let f = fits in (f.scaled, f.share-most, f.need-most) }
 
 pub offset_bounds-grants-c : goal.offset_bounds-grants-c
 offset_bounds-grants-c c =
     let FitsAt : Type 0 = CordFits c.args.table.now c.args.grants.now c.args.scale (get_or c.args.table.now (c.loop-v.start + 1) 0) c.need_of-need.result c.loop-c.c c.loop-c.word
-        c.loop-c.given c.loop-c.raised c.loop-c.wanting in
+    c.loop-c.given c.loop-c.raised c.loop-c.wanting in
     let fits : FitsAt = cord-fits c.loop-c.invariant c.loop-c-test.true in
     omega (arith, fits.few)
 
 pub bounds-grants-c : goal.bounds-grants-c
 bounds-grants-c c =
     let FitsAt : Type 0 = CordFits c.args.table.now c.args.grants.now c.args.scale (get_or c.args.table.now (c.loop-v.start + 1) 0) c.need_of-need.result c.loop-c.c c.loop-c.word
-        c.loop-c.given c.loop-c.raised c.loop-c.wanting in
+    c.loop-c.given c.loop-c.raised c.loop-c.wanting in
     let fits : FitsAt = cord-fits c.loop-c.invariant c.loop-c-test.true in
     fits.in-grants
 
 pub overflow_add-result : goal.overflow_add-result
 overflow_add-result c =
     let FitsAt : Type 0 = CordFits c.args.table.now c.args.grants.now c.args.scale (get_or c.args.table.now (c.loop-v.start + 1) 0) c.need_of-need.result c.loop-c.c c.loop-c.word
-        c.loop-c.given c.loop-c.raised c.loop-c.wanting in
+    c.loop-c.given c.loop-c.raised c.loop-c.wanting in
     let fits : FitsAt = cord-fits c.loop-c.invariant c.loop-c-test.true in
     omega (arith, fits.few)
 
@@ -178,28 +177,28 @@ returns-then-grant-low c = record { judged = judged-below (server-sized (sym c.l
 pub first_above-above-requires : goal.first_above-above-requires
 first_above-above-requires c =
     let FitsAt : Type 0 = CordFits c.args.table.now c.args.grants.now c.args.scale (get_or c.args.table.now (c.loop-v.start + 1) 0) c.need_of-need.result c.loop-c.c c.loop-c.word
-        c.loop-c.given c.loop-c.raised c.loop-c.wanting in
+    c.loop-c.given c.loop-c.raised c.loop-c.wanting in
     let fits : FitsAt = cord-fits c.loop-c.invariant c.loop-c-test.true in
     record { cord = fits.few }
 
 pub offset_bounds-table-word-in-loop-c : goal.offset_bounds-table-word-in-loop-c
 offset_bounds-table-word-in-loop-c c =
     let FitsAt : Type 0 = CordFits c.args.table.now c.args.grants.now c.args.scale (get_or c.args.table.now (c.loop-v.start + 1) 0) c.need_of-need.result c.loop-c.c c.loop-c.word
-        c.loop-c.given c.loop-c.raised c.loop-c.wanting in
+    c.loop-c.given c.loop-c.raised c.loop-c.wanting in
     let fits : FitsAt = cord-fits c.loop-c.invariant c.loop-c-test.true in
     omega (arith, fits.there)
 
 pub bounds-table-word-in-loop-c : goal.bounds-table-word-in-loop-c
 bounds-table-word-in-loop-c c =
     let FitsAt : Type 0 = CordFits c.args.table.now c.args.grants.now c.args.scale (get_or c.args.table.now (c.loop-v.start + 1) 0) c.need_of-need.result c.loop-c.c c.loop-c.word
-        c.loop-c.given c.loop-c.raised c.loop-c.wanting in
+    c.loop-c.given c.loop-c.raised c.loop-c.wanting in
     let fits : FitsAt = cord-fits c.loop-c.invariant c.loop-c-test.true in
     omega (arith, fits.there)
 
 pub note_cord-requires : goal.note_cord-requires
 note_cord-requires c =
     let FitsAt : Type 0 = CordFits c.args.table.now c.args.grants.now c.args.scale (get_or c.args.table.now (c.loop-v.start + 1) 0) c.need_of-need.result c.loop-c.c c.loop-c.word
-        c.loop-c.given c.loop-c.raised c.loop-c.wanting in
+    c.loop-c.given c.loop-c.raised c.loop-c.wanting in
     let fits : FitsAt = cord-fits c.loop-c.invariant c.loop-c-test.true in
     let fit = fits in
     record {
@@ -211,14 +210,14 @@ note_cord-requires c =
 pub overflow_add-word-in-loop-c : goal.overflow_add-word-in-loop-c
 overflow_add-word-in-loop-c c =
     let FitsAt : Type 0 = CordFits c.args.table.now c.args.grants.now c.args.scale (get_or c.args.table.now (c.loop-v.start + 1) 0) c.need_of-need.result c.loop-c.c c.loop-c.word
-        c.loop-c.given c.loop-c.raised c.loop-c.wanting in
+    c.loop-c.given c.loop-c.raised c.loop-c.wanting in
     let fits : FitsAt = cord-fits c.loop-c.invariant c.loop-c-test.true in
     omega (arith, fits.there)
 
 pub overflow_step-c : goal.overflow_step-c
 overflow_step-c c =
     let FitsAt : Type 0 = CordFits c.args.table.now c.args.grants.now c.args.scale (get_or c.args.table.now (c.loop-v.start + 1) 0) c.need_of-need.result c.loop-c.c c.loop-c.word
-        c.loop-c.given c.loop-c.raised c.loop-c.wanting in
+    c.loop-c.given c.loop-c.raised c.loop-c.wanting in
     let fits : FitsAt = cord-fits c.loop-c.invariant c.loop-c-test.true in
     omega (arith, fits.few)
 

@@ -3,9 +3,8 @@ use mathlib.Core.Path.{refl}
 use Prim.Native.Nat.{◌-◌, ◌<◌}
 use native.Mathlib.Omega.{arith}
 use lib.ListN.{length, length-set}
-use borrow.Author.Rules.{rules}
 use Rattle.rooms.proofs.Gather.{gathered-end, gathered-most}
-use Rattle.judge_totals.proofs.Noting.{NodeTurns, nodes-start, nodes-next, nodes-end}
+use Rattle.judge_totals.proofs.Noting.{nodes-start, nodes-next, nodes-end}
 use Rattle.judge_totals.proofs.note_nodes.Goals as goal
 
 pub loop-n-init : goal.loop-n-init
@@ -14,89 +13,89 @@ loop-n-init c = nodes-start _ _ _ _ _
 pub bounds-spare-n : goal.bounds-spare-n
 bounds-spare-n c =
     let there : (c.loop-n.n - 1 < length c.args.parents.now) × (c.loop-n.n - 1 < length c.args.spare.now) × (c.loop-n.n - 1 < length c.loop-n.given) × (c.loop-n.n - 1 < length c.loop-n.raised) × (c.loop-n.n - 1 < length c.loop-n.wanting) = let here : c.loop-n.n - 1 < length c.args.parents.now = omega (arith, c.loop-n.invariant.all, c.loop-n-test.true) in (
-          here,
-          omega (arith, here, c.requires.node_lists.limits-size),
-          omega (arith, here, c.loop-n.invariant.gathered.size, c.requires.lengths.0),
-          omega (arith, here, c.loop-n.invariant.raised-size, c.requires.lengths.1),
-          omega (arith, here, c.loop-n.invariant.wanting-size, c.requires.lengths.2),
-        ) in
+      here,
+      omega (arith, here, c.requires.node_lists.limits-size),
+      omega (arith, here, c.loop-n.invariant.gathered.size, c.requires.lengths.0),
+      omega (arith, here, c.loop-n.invariant.raised-size, c.requires.lengths.1),
+      omega (arith, here, c.loop-n.invariant.wanting-size, c.requires.lengths.2),
+    ) in
     there.1
 
 pub bounds-given-n : goal.bounds-given-n
 bounds-given-n c =
     let there : (c.loop-n.n - 1 < length c.args.parents.now) × (c.loop-n.n - 1 < length c.args.spare.now) × (c.loop-n.n - 1 < length c.loop-n.given) × (c.loop-n.n - 1 < length c.loop-n.raised) × (c.loop-n.n - 1 < length c.loop-n.wanting) = let here : c.loop-n.n - 1 < length c.args.parents.now = omega (arith, c.loop-n.invariant.all, c.loop-n-test.true) in (
-          here,
-          omega (arith, here, c.requires.node_lists.limits-size),
-          omega (arith, here, c.loop-n.invariant.gathered.size, c.requires.lengths.0),
-          omega (arith, here, c.loop-n.invariant.raised-size, c.requires.lengths.1),
-          omega (arith, here, c.loop-n.invariant.wanting-size, c.requires.lengths.2),
-        ) in
+      here,
+      omega (arith, here, c.requires.node_lists.limits-size),
+      omega (arith, here, c.loop-n.invariant.gathered.size, c.requires.lengths.0),
+      omega (arith, here, c.loop-n.invariant.raised-size, c.requires.lengths.1),
+      omega (arith, here, c.loop-n.invariant.wanting-size, c.requires.lengths.2),
+    ) in
     there.2
 
 pub bounds-raised-n : goal.bounds-raised-n
 bounds-raised-n c =
     let there : (c.loop-n.n - 1 < length c.args.parents.now) × (c.loop-n.n - 1 < length c.args.spare.now) × (c.loop-n.n - 1 < length c.loop-n.given) × (c.loop-n.n - 1 < length c.loop-n.raised) × (c.loop-n.n - 1 < length c.loop-n.wanting) = let here : c.loop-n.n - 1 < length c.args.parents.now = omega (arith, c.loop-n.invariant.all, c.loop-n-test.true) in (
-          here,
-          omega (arith, here, c.requires.node_lists.limits-size),
-          omega (arith, here, c.loop-n.invariant.gathered.size, c.requires.lengths.0),
-          omega (arith, here, c.loop-n.invariant.raised-size, c.requires.lengths.1),
-          omega (arith, here, c.loop-n.invariant.wanting-size, c.requires.lengths.2),
-        ) in
+      here,
+      omega (arith, here, c.requires.node_lists.limits-size),
+      omega (arith, here, c.loop-n.invariant.gathered.size, c.requires.lengths.0),
+      omega (arith, here, c.loop-n.invariant.raised-size, c.requires.lengths.1),
+      omega (arith, here, c.loop-n.invariant.wanting-size, c.requires.lengths.2),
+    ) in
     there.3
 
 pub bounds-wanting-n : goal.bounds-wanting-n
 bounds-wanting-n c =
     let there : (c.loop-n.n - 1 < length c.args.parents.now) × (c.loop-n.n - 1 < length c.args.spare.now) × (c.loop-n.n - 1 < length c.loop-n.given) × (c.loop-n.n - 1 < length c.loop-n.raised) × (c.loop-n.n - 1 < length c.loop-n.wanting) = let here : c.loop-n.n - 1 < length c.args.parents.now = omega (arith, c.loop-n.invariant.all, c.loop-n-test.true) in (
-          here,
-          omega (arith, here, c.requires.node_lists.limits-size),
-          omega (arith, here, c.loop-n.invariant.gathered.size, c.requires.lengths.0),
-          omega (arith, here, c.loop-n.invariant.raised-size, c.requires.lengths.1),
-          omega (arith, here, c.loop-n.invariant.wanting-size, c.requires.lengths.2),
-        ) in
+      here,
+      omega (arith, here, c.requires.node_lists.limits-size),
+      omega (arith, here, c.loop-n.invariant.gathered.size, c.requires.lengths.0),
+      omega (arith, here, c.loop-n.invariant.raised-size, c.requires.lengths.1),
+      omega (arith, here, c.loop-n.invariant.wanting-size, c.requires.lengths.2),
+    ) in
     there.4
 
 pub noted-over-requires : goal.noted-over-requires
 noted-over-requires c =
     let there : (c.loop-n.n - 1 < length c.args.parents.now) × (c.loop-n.n - 1 < length c.args.spare.now) × (c.loop-n.n - 1 < length c.loop-n.given) × (c.loop-n.n - 1 < length c.loop-n.raised) × (c.loop-n.n - 1 < length c.loop-n.wanting) = let here : c.loop-n.n - 1 < length c.args.parents.now = omega (arith, c.loop-n.invariant.all, c.loop-n-test.true) in (
-          here,
-          omega (arith, here, c.requires.node_lists.limits-size),
-          omega (arith, here, c.loop-n.invariant.gathered.size, c.requires.lengths.0),
-          omega (arith, here, c.loop-n.invariant.raised-size, c.requires.lengths.1),
-          omega (arith, here, c.loop-n.invariant.wanting-size, c.requires.lengths.2),
-        ) in
+      here,
+      omega (arith, here, c.requires.node_lists.limits-size),
+      omega (arith, here, c.loop-n.invariant.gathered.size, c.requires.lengths.0),
+      omega (arith, here, c.loop-n.invariant.raised-size, c.requires.lengths.1),
+      omega (arith, here, c.loop-n.invariant.wanting-size, c.requires.lengths.2),
+    ) in
     record { place = omega (arith, there.0, c.requires.node_lists.few) }
 
 pub bounds-wanting-n-in-loop-n : goal.bounds-wanting-n-in-loop-n
 bounds-wanting-n-in-loop-n c =
     let there : (c.loop-n.n - 1 < length c.args.parents.now) × (c.loop-n.n - 1 < length c.args.spare.now) × (c.loop-n.n - 1 < length c.loop-n.given) × (c.loop-n.n - 1 < length c.loop-n.raised) × (c.loop-n.n - 1 < length c.loop-n.wanting) = let here : c.loop-n.n - 1 < length c.args.parents.now = omega (arith, c.loop-n.invariant.all, c.loop-n-test.true) in (
-          here,
-          omega (arith, here, c.requires.node_lists.limits-size),
-          omega (arith, here, c.loop-n.invariant.gathered.size, c.requires.lengths.0),
-          omega (arith, here, c.loop-n.invariant.raised-size, c.requires.lengths.1),
-          omega (arith, here, c.loop-n.invariant.wanting-size, c.requires.lengths.2),
-        ) in
+      here,
+      omega (arith, here, c.requires.node_lists.limits-size),
+      omega (arith, here, c.loop-n.invariant.gathered.size, c.requires.lengths.0),
+      omega (arith, here, c.loop-n.invariant.raised-size, c.requires.lengths.1),
+      omega (arith, here, c.loop-n.invariant.wanting-size, c.requires.lengths.2),
+    ) in
     there.4
 
 pub bounds-parents-n : goal.bounds-parents-n
 bounds-parents-n c =
     let there : (c.loop-n.n - 1 < length c.args.parents.now) × (c.loop-n.n - 1 < length c.args.spare.now) × (c.loop-n.n - 1 < length c.loop-n.given) × (c.loop-n.n - 1 < length c.loop-n.raised) × (c.loop-n.n - 1 < length c.loop-n.wanting) = let here : c.loop-n.n - 1 < length c.args.parents.now = omega (arith, c.loop-n.invariant.all, c.loop-n-test.true) in (
-          here,
-          omega (arith, here, c.requires.node_lists.limits-size),
-          omega (arith, here, c.loop-n.invariant.gathered.size, c.requires.lengths.0),
-          omega (arith, here, c.loop-n.invariant.raised-size, c.requires.lengths.1),
-          omega (arith, here, c.loop-n.invariant.wanting-size, c.requires.lengths.2),
-        ) in
+      here,
+      omega (arith, here, c.requires.node_lists.limits-size),
+      omega (arith, here, c.loop-n.invariant.gathered.size, c.requires.lengths.0),
+      omega (arith, here, c.loop-n.invariant.raised-size, c.requires.lengths.1),
+      omega (arith, here, c.loop-n.invariant.wanting-size, c.requires.lengths.2),
+    ) in
     there.0
 
 pub note-requires : goal.note-requires
 note-requires c =
     let there : (c.loop-n.n - 1 < length c.args.parents.now) × (c.loop-n.n - 1 < length c.args.spare.now) × (c.loop-n.n - 1 < length c.loop-n.given) × (c.loop-n.n - 1 < length c.loop-n.raised) × (c.loop-n.n - 1 < length c.loop-n.wanting) = let here : c.loop-n.n - 1 < length c.args.parents.now = omega (arith, c.loop-n.invariant.all, c.loop-n-test.true) in (
-          here,
-          omega (arith, here, c.requires.node_lists.limits-size),
-          omega (arith, here, c.loop-n.invariant.gathered.size, c.requires.lengths.0),
-          omega (arith, here, c.loop-n.invariant.raised-size, c.requires.lengths.1),
-          omega (arith, here, c.loop-n.invariant.wanting-size, c.requires.lengths.2),
-        ) in
+      here,
+      omega (arith, here, c.requires.node_lists.limits-size),
+      omega (arith, here, c.loop-n.invariant.gathered.size, c.requires.lengths.0),
+      omega (arith, here, c.loop-n.invariant.raised-size, c.requires.lengths.1),
+      omega (arith, here, c.loop-n.invariant.wanting-size, c.requires.lengths.2),
+    ) in
     let here = there.0 in
     let rise = c.requires.node_lists.rises (c.loop-n.n - 1) here in
     let most = gathered-most c.requires.node_lists.rises c.loop-n.invariant.gathered in

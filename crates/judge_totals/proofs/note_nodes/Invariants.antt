@@ -1,10 +1,4 @@
-use mathlib.Core.Path.{refl}
-use Prim.Native.Nat.{◌-◌, ◌<◌}
-use native.Mathlib.Omega.{arith}
-use lib.ListN.{length, length-set}
-use borrow.Author.Rules.{rules}
-use Rattle.rooms.proofs.Gather.{gathered-end, gathered-most}
-use Rattle.judge_totals.proofs.Noting.{NodeTurns, nodes-start, nodes-next, nodes-end}
+use Rattle.judge_totals.proofs.Noting.{NodeTurns}
 use Rattle.judge_totals.proofs.note_nodes.Given as goal
 
 abbrev pub invariant-loop-n : goal.invariant-loop-n

@@ -1,13 +1,8 @@
-use mathlib.Core.Path.{refl, sym, ◌∙◌}
 use Prim.Native.Nat.{◌-◌, ◌≤◌}
-use native.Mathlib.Omega.{arith}
 use lib.ListN.{length}
-use lib.Seq.{ext_get_or}
-use Rattle.figures.specs.Figures.{cell, column}
-use Rattle.figures.proofs.Columns.{column-length, column-at}
-use Rattle.figures.proofs.Filled.{Filled, filled_none, filled-one}
+use Rattle.figures.specs.Figures.{cell}
+use Rattle.figures.proofs.Filled.{Filled}
 use Rattle.rooms.specs.Rows.{node_column}
-use borrow.Author.Rules.{rules}
 use Rattle.layout.proofs.list_nodes.Given as goal
 
 abbrev pub invariant-loop-c : goal.invariant-loop-c

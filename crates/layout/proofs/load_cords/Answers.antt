@@ -4,12 +4,11 @@
 -- ---- The needs
 use mathlib.Core.Path.{refl}
 use mathlib.Core.List.{List}
-use Prim.Native.Nat.{ℕ, ◌+◌, ◌-◌}
+use Prim.Native.Nat.{ℕ, ◌+◌}
 use native.Mathlib.Omega.{arith}
 use lib.ListN.{get_or}
-use borrow.Author.Rules.{rules}
 use Rattle.rooms.proofs.Walk.{ServerHere}
-use Rattle.layout.proofs.Loading.{Loading, LoadingServer, CordFits, loading-start, loading-end, cords-kept, lows-kept, wants-kept, ceilings-kept, needs-kept, server-here, few-cords, few-servers, server-begin, in-needs, server-end, cord-fits, server-cord}
+use Rattle.layout.proofs.Loading.{CordFits, loading-start, loading-end, cords-kept, lows-kept, wants-kept, ceilings-kept, needs-kept, server-here, few-cords, few-servers, server-begin, in-needs, server-end, cord-fits, server-cord}
 use Rattle.layout.proofs.load_cords.Goals as goal
 
 pub loop-v-init : goal.loop-v-init
@@ -115,7 +114,7 @@ pub offset_bounds-table-word : goal.offset_bounds-table-word
 offset_bounds-table-word c =
     let table : List ℕ = c.args.table.now in
     let FitsAt : Type 0 = CordFits table c.table_scale-scale.result c.loop-v.v (get_or table (c.loop-v.start + 1) 0) (get_or table (c.loop-v.start + 2) 0) c.need_of-need.result
-        c.loop-c.c c.loop-c.word c.loop-c.cords c.loop-c.lows c.loop-c.wants c.loop-c.ceilings in
+    c.loop-c.c c.loop-c.word c.loop-c.cords c.loop-c.lows c.loop-c.wants c.loop-c.ceilings in
     let fits : FitsAt = cord-fits c.loop-c.invariant c.loop-c-test.true in
     omega (arith, fits.there)
 
@@ -123,7 +122,7 @@ pub bounds-table-word : goal.bounds-table-word
 bounds-table-word c =
     let table : List ℕ = c.args.table.now in
     let FitsAt : Type 0 = CordFits table c.table_scale-scale.result c.loop-v.v (get_or table (c.loop-v.start + 1) 0) (get_or table (c.loop-v.start + 2) 0) c.need_of-need.result
-        c.loop-c.c c.loop-c.word c.loop-c.cords c.loop-c.lows c.loop-c.wants c.loop-c.ceilings in
+    c.loop-c.c c.loop-c.word c.loop-c.cords c.loop-c.lows c.loop-c.wants c.loop-c.ceilings in
     let fits : FitsAt = cord-fits c.loop-c.invariant c.loop-c-test.true in
     omega (arith, fits.there)
 
@@ -131,7 +130,7 @@ pub short-node-requires : goal.short-node-requires
 short-node-requires c =
     let table : List ℕ = c.args.table.now in
     let FitsAt : Type 0 = CordFits table c.table_scale-scale.result c.loop-v.v (get_or table (c.loop-v.start + 1) 0) (get_or table (c.loop-v.start + 2) 0) c.need_of-need.result
-        c.loop-c.c c.loop-c.word c.loop-c.cords c.loop-c.lows c.loop-c.wants c.loop-c.ceilings in
+    c.loop-c.c c.loop-c.word c.loop-c.cords c.loop-c.lows c.loop-c.wants c.loop-c.ceilings in
     let fits : FitsAt = cord-fits c.loop-c.invariant c.loop-c-test.true in
     record { fits = fits.node-short }
 
@@ -139,7 +138,7 @@ pub overflow_add-share : goal.overflow_add-share
 overflow_add-share c =
     let table : List ℕ = c.args.table.now in
     let FitsAt : Type 0 = CordFits table c.table_scale-scale.result c.loop-v.v (get_or table (c.loop-v.start + 1) 0) (get_or table (c.loop-v.start + 2) 0) c.need_of-need.result
-        c.loop-c.c c.loop-c.word c.loop-c.cords c.loop-c.lows c.loop-c.wants c.loop-c.ceilings in
+    c.loop-c.c c.loop-c.word c.loop-c.cords c.loop-c.lows c.loop-c.wants c.loop-c.ceilings in
     let fits : FitsAt = cord-fits c.loop-c.invariant c.loop-c-test.true in
     omega (arith, fits.there)
 
@@ -147,7 +146,7 @@ pub offset_bounds-table-word-in-loop-c : goal.offset_bounds-table-word-in-loop-c
 offset_bounds-table-word-in-loop-c c =
     let table : List ℕ = c.args.table.now in
     let FitsAt : Type 0 = CordFits table c.table_scale-scale.result c.loop-v.v (get_or table (c.loop-v.start + 1) 0) (get_or table (c.loop-v.start + 2) 0) c.need_of-need.result
-        c.loop-c.c c.loop-c.word c.loop-c.cords c.loop-c.lows c.loop-c.wants c.loop-c.ceilings in
+    c.loop-c.c c.loop-c.word c.loop-c.cords c.loop-c.lows c.loop-c.wants c.loop-c.ceilings in
     let fits : FitsAt = cord-fits c.loop-c.invariant c.loop-c-test.true in
     omega (arith, fits.there)
 
@@ -155,7 +154,7 @@ pub bounds-table-word-in-loop-c : goal.bounds-table-word-in-loop-c
 bounds-table-word-in-loop-c c =
     let table : List ℕ = c.args.table.now in
     let FitsAt : Type 0 = CordFits table c.table_scale-scale.result c.loop-v.v (get_or table (c.loop-v.start + 1) 0) (get_or table (c.loop-v.start + 2) 0) c.need_of-need.result
-        c.loop-c.c c.loop-c.word c.loop-c.cords c.loop-c.lows c.loop-c.wants c.loop-c.ceilings in
+    c.loop-c.c c.loop-c.word c.loop-c.cords c.loop-c.lows c.loop-c.wants c.loop-c.ceilings in
     let fits : FitsAt = cord-fits c.loop-c.invariant c.loop-c-test.true in
     fits.there
 
@@ -163,7 +162,7 @@ pub place-requires : goal.place-requires
 place-requires c =
     let table : List ℕ = c.args.table.now in
     let FitsAt : Type 0 = CordFits table c.table_scale-scale.result c.loop-v.v (get_or table (c.loop-v.start + 1) 0) (get_or table (c.loop-v.start + 2) 0) c.need_of-need.result
-        c.loop-c.c c.loop-c.word c.loop-c.cords c.loop-c.lows c.loop-c.wants c.loop-c.ceilings in
+    c.loop-c.c c.loop-c.word c.loop-c.cords c.loop-c.lows c.loop-c.wants c.loop-c.ceilings in
     let fits : FitsAt = cord-fits c.loop-c.invariant c.loop-c-test.true in
     record { fits = fits.server-short }
 
@@ -171,7 +170,7 @@ pub short-requires : goal.short-requires
 short-requires c =
     let table : List ℕ = c.args.table.now in
     let FitsAt : Type 0 = CordFits table c.table_scale-scale.result c.loop-v.v (get_or table (c.loop-v.start + 1) 0) (get_or table (c.loop-v.start + 2) 0) c.need_of-need.result
-        c.loop-c.c c.loop-c.word c.loop-c.cords c.loop-c.lows c.loop-c.wants c.loop-c.ceilings in
+    c.loop-c.c c.loop-c.word c.loop-c.cords c.loop-c.lows c.loop-c.wants c.loop-c.ceilings in
     let fits : FitsAt = cord-fits c.loop-c.invariant c.loop-c-test.true in
     record { fits = fits.share-short }
 
@@ -179,7 +178,7 @@ pub offset_bounds-cords-c : goal.offset_bounds-cords-c
 offset_bounds-cords-c c =
     let table : List ℕ = c.args.table.now in
     let FitsAt : Type 0 = CordFits table c.table_scale-scale.result c.loop-v.v (get_or table (c.loop-v.start + 1) 0) (get_or table (c.loop-v.start + 2) 0) c.need_of-need.result
-        c.loop-c.c c.loop-c.word c.loop-c.cords c.loop-c.lows c.loop-c.wants c.loop-c.ceilings in
+    c.loop-c.c c.loop-c.word c.loop-c.cords c.loop-c.lows c.loop-c.wants c.loop-c.ceilings in
     let fits : FitsAt = cord-fits c.loop-c.invariant c.loop-c-test.true in
     omega (arith, fits.few)
 
@@ -187,7 +186,7 @@ pub bounds-cords-c : goal.bounds-cords-c
 bounds-cords-c c =
     let table : List ℕ = c.args.table.now in
     let FitsAt : Type 0 = CordFits table c.table_scale-scale.result c.loop-v.v (get_or table (c.loop-v.start + 1) 0) (get_or table (c.loop-v.start + 2) 0) c.need_of-need.result
-        c.loop-c.c c.loop-c.word c.loop-c.cords c.loop-c.lows c.loop-c.wants c.loop-c.ceilings in
+    c.loop-c.c c.loop-c.word c.loop-c.cords c.loop-c.lows c.loop-c.wants c.loop-c.ceilings in
     let fits : FitsAt = cord-fits c.loop-c.invariant c.loop-c-test.true in
     fits.in-cords
 
@@ -195,7 +194,7 @@ pub load_cord-requires : goal.load_cord-requires
 load_cord-requires c =
     let table : List ℕ = c.args.table.now in
     let FitsAt : Type 0 = CordFits table c.table_scale-scale.result c.loop-v.v (get_or table (c.loop-v.start + 1) 0) (get_or table (c.loop-v.start + 2) 0) c.need_of-need.result
-        c.loop-c.c c.loop-c.word c.loop-c.cords c.loop-c.lows c.loop-c.wants c.loop-c.ceilings in
+    c.loop-c.c c.loop-c.word c.loop-c.cords c.loop-c.lows c.loop-c.wants c.loop-c.ceilings in
     let fits : FitsAt = cord-fits c.loop-c.invariant c.loop-c-test.true in
     let f = fits in
     record {
@@ -207,7 +206,7 @@ pub overflow_add-word-in-loop-c : goal.overflow_add-word-in-loop-c
 overflow_add-word-in-loop-c c =
     let table : List ℕ = c.args.table.now in
     let FitsAt : Type 0 = CordFits table c.table_scale-scale.result c.loop-v.v (get_or table (c.loop-v.start + 1) 0) (get_or table (c.loop-v.start + 2) 0) c.need_of-need.result
-        c.loop-c.c c.loop-c.word c.loop-c.cords c.loop-c.lows c.loop-c.wants c.loop-c.ceilings in
+    c.loop-c.c c.loop-c.word c.loop-c.cords c.loop-c.lows c.loop-c.wants c.loop-c.ceilings in
     let fits : FitsAt = cord-fits c.loop-c.invariant c.loop-c-test.true in
     omega (arith, fits.there)
 
@@ -215,7 +214,7 @@ pub overflow_step-c : goal.overflow_step-c
 overflow_step-c c =
     let table : List ℕ = c.args.table.now in
     let FitsAt : Type 0 = CordFits table c.table_scale-scale.result c.loop-v.v (get_or table (c.loop-v.start + 1) 0) (get_or table (c.loop-v.start + 2) 0) c.need_of-need.result
-        c.loop-c.c c.loop-c.word c.loop-c.cords c.loop-c.lows c.loop-c.wants c.loop-c.ceilings in
+    c.loop-c.c c.loop-c.word c.loop-c.cords c.loop-c.lows c.loop-c.wants c.loop-c.ceilings in
     let fits : FitsAt = cord-fits c.loop-c.invariant c.loop-c-test.true in
     omega (arith, fits.few)
 

@@ -1,5 +1,4 @@
 -- `load_nodes` meets its contract: a good table's limits are no less than the lows beneath its nodes.
-use borrow.Author.Rules.{rules}
 use Rattle.layout.proofs.Spare.{spare-asked, nodes-loaded}
 use Rattle.layout.proofs.load_nodes.Goals as goal
 

@@ -2,9 +2,8 @@
 use mathlib.Core.Path.{ap, ◌∙◌}
 use Prim.Native.Nat.{ℕ, ◌-◌}
 use native.Mathlib.Omega.{arith}
-use borrow.Author.Rules.{rules}
 use Rattle.figures.specs.Figures.{at}
-use Rattle.layout.proofs.Spare.{SpareTurn, spare-start, spare-turn}
+use Rattle.layout.proofs.Spare.{spare-start, spare-turn}
 use Rattle.layout.proofs.spare_limits.Goals as goal
 
 pub loop-n-init : goal.loop-n-init

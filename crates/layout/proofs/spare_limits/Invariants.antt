@@ -1,9 +1,5 @@
-use mathlib.Core.Path.{ap, ◌∙◌}
-use Prim.Native.Nat.{ℕ, ◌-◌}
-use native.Mathlib.Omega.{arith}
-use borrow.Author.Rules.{rules}
-use Rattle.figures.specs.Figures.{at}
-use Rattle.layout.proofs.Spare.{SpareTurn, spare-start, spare-turn}
+use Prim.Native.Nat.{◌-◌}
+use Rattle.layout.proofs.Spare.{SpareTurn}
 use Rattle.layout.proofs.spare_limits.Given as goal
 
 abbrev pub invariant-loop-n : goal.invariant-loop-n

@@ -26,8 +26,8 @@ pub returns-then-first-before : goal.returns-then-first-before
 returns-then-first-before c =
     record {
       admits =
-        first_short c.args.table.now c.args.nodes c.args.servers c.args.first c.args.second c.requires.hut c.requires.nodes.0 c.requires.nodes.1 c.requires.servers (crossing_is c.requires.hut c.requires.nodes.0 c.requires.nodes.1 c.requires.servers c.side_before-one.ensures.is c.side_behind-two.ensures.is c.first_across-across.ensures.is) (omega (arith, c.if-across-ne0.false))
-        (first-long c.requires.hut c.requires.nodes.0 c.requires.nodes.1 c.requires.servers c.side_before-one.ensures.is c.side_behind-two.ensures.is c.side_words-before.ensures.is) c.if-first-before.true
+          first_short c.args.table.now c.args.nodes c.args.servers c.args.first c.args.second c.requires.hut c.requires.nodes.0 c.requires.nodes.1 c.requires.servers (crossing_is c.requires.hut c.requires.nodes.0 c.requires.nodes.1 c.requires.servers c.side_before-one.ensures.is c.side_behind-two.ensures.is c.first_across-across.ensures.is) (omega (arith, c.if-across-ne0.false))
+          (first-long c.requires.hut c.requires.nodes.0 c.requires.nodes.1 c.requires.servers c.side_before-one.ensures.is c.side_behind-two.ensures.is c.side_words-before.ensures.is) c.if-first-before.true;
     }
 
 pub side_words-behind-requires : goal.side_words-behind-requires
@@ -37,15 +37,15 @@ pub returns-then-second-behind : goal.returns-then-second-behind
 returns-then-second-behind c =
     record {
       admits =
-        second_short c.args.table.now c.args.nodes c.args.servers c.args.first c.args.second c.requires.hut c.requires.nodes.0 c.requires.nodes.1 c.requires.servers (crossing_is c.requires.hut c.requires.nodes.0 c.requires.nodes.1 c.requires.servers c.side_before-one.ensures.is c.side_behind-two.ensures.is c.first_across-across.ensures.is) (omega (arith, c.if-across-ne0.false))
-        (first-long c.requires.hut c.requires.nodes.0 c.requires.nodes.1 c.requires.servers c.side_before-one.ensures.is c.side_behind-two.ensures.is c.side_words-before.ensures.is) (omega (arith, c.if-first-before.false))
-        (second-long c.requires.hut c.requires.nodes.0 c.requires.nodes.1 c.requires.servers c.side_before-one.ensures.is c.side_behind-two.ensures.is c.side_words-behind.ensures.is) c.if-second-behind.true
+          second_short c.args.table.now c.args.nodes c.args.servers c.args.first c.args.second c.requires.hut c.requires.nodes.0 c.requires.nodes.1 c.requires.servers (crossing_is c.requires.hut c.requires.nodes.0 c.requires.nodes.1 c.requires.servers c.side_before-one.ensures.is c.side_behind-two.ensures.is c.first_across-across.ensures.is) (omega (arith, c.if-across-ne0.false))
+          (first-long c.requires.hut c.requires.nodes.0 c.requires.nodes.1 c.requires.servers c.side_before-one.ensures.is c.side_behind-two.ensures.is c.side_words-before.ensures.is) (omega (arith, c.if-first-before.false))
+          (second-long c.requires.hut c.requires.nodes.0 c.requires.nodes.1 c.requires.servers c.side_before-one.ensures.is c.side_behind-two.ensures.is c.side_words-behind.ensures.is) c.if-second-behind.true;
     }
 
 pub returns : goal.returns
 returns c =
     record {
       admits =
-        halved c.requires.hut c.requires.nodes.0 c.requires.nodes.1 c.requires.servers c.side_before-one.ensures.is c.side_behind-two.ensures.is c.args.first c.args.second c.first_across-across.ensures.is (omega (arith, c.if-across-ne0.false))
-        c.side_words-before.ensures.is (omega (arith, c.if-first-before.false)) c.side_words-behind.ensures.is (omega (arith, c.if-second-behind.false))
+          halved c.requires.hut c.requires.nodes.0 c.requires.nodes.1 c.requires.servers c.side_before-one.ensures.is c.side_behind-two.ensures.is c.args.first c.args.second c.first_across-across.ensures.is (omega (arith, c.if-across-ne0.false))
+          c.side_words-before.ensures.is (omega (arith, c.if-first-before.false)) c.side_words-behind.ensures.is (omega (arith, c.if-second-behind.false));
     }

@@ -1,7 +1,6 @@
 -- `deal_out` meets its contract: the weights are dealt to the nodes, then to the cords.
 use mathlib.Core.Path.{sym, ◌∙◌}
 use native.Mathlib.Omega.{arith}
-use borrow.Author.Rules.{rules}
 use Rattle.plan_headroom.specs.Passes.{LendLists, AllPlaces, LendWeights}
 use Rattle.plan_headroom.proofs.Weights.{listed-length, deal-nodes-asks, deal-cords-asks, take-wants-asks, shared}
 use Rattle.plan_headroom.proofs.deal_out.Goals as goal

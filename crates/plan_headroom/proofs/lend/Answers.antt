@@ -9,7 +9,6 @@ use mathlib.Core.List.{List}
 use Prim.Native.Nat.{ℕ, ◌≤◌}
 use native.Mathlib.Omega.{arith}
 use lib.ListN.{length, replicate}
-use borrow.Author.Rules.{rules}
 use Rattle.figures.proofs.Fronts.{equal-length}
 use Rattle.plan_headroom.specs.Passes.{LendLists, AllPlaces, LendWeights}
 use Rattle.plan_headroom.proofs.Weights.{listed-length, sum-weights-asks, OnNodes, weigh-asks, lend-weights}

@@ -1,11 +1,9 @@
 -- `list_all` meets its contract: before each turn the places passed are listed.
 use mathlib.Core.Path.{◌≡◌, ◌∙◌}
-use Prim.Native.Nat.{◌-◌}
 use native.Mathlib.Omega.{arith}
 use lib.ListN.{length}
-use borrow.Author.Rules.{rules}
 use Rattle.rooms.specs.Table.{most_cords}
-use Rattle.figures.proofs.Filled.{Filled, filled_none, filled-one}
+use Rattle.figures.proofs.Filled.{filled_none, filled-one}
 use Rattle.plan_headroom.proofs.list_all.Goals as goal
 
 pub loop-i-init : goal.loop-i-init
@@ -27,6 +25,6 @@ pub returns : goal.returns
 returns c =
     record {
       listed =
-        let size : length c.loop-i.all ≡ most_cords = c.loop-i.invariant.size_is ∙ c.requires.size in
-        record { size = size; own = λ i h. c.loop-i.invariant.done i (omega (arith, c.loop-i-test.false, c.requires.size)) }
+          let size : length c.loop-i.all ≡ most_cords = c.loop-i.invariant.size_is ∙ c.requires.size in
+          record { size = size; own = λ i h. c.loop-i.invariant.done i (omega (arith, c.loop-i-test.false, c.requires.size)) };
     }

@@ -1,10 +1,6 @@
-use mathlib.Core.Path.{◌≡◌, ◌∙◌}
 use Prim.Native.Nat.{◌-◌}
-use native.Mathlib.Omega.{arith}
 use lib.ListN.{length}
-use borrow.Author.Rules.{rules}
-use Rattle.rooms.specs.Table.{most_cords}
-use Rattle.figures.proofs.Filled.{Filled, filled_none, filled-one}
+use Rattle.figures.proofs.Filled.{Filled}
 use Rattle.plan_headroom.proofs.list_all.Given as goal
 
 abbrev pub invariant-loop-i : goal.invariant-loop-i

@@ -1,11 +1,7 @@
 -- `take_wants` meets its contract: before each turn the cords passed have what they have over their wants.
-use Prim.Native.Nat.{◌-◌}
 use mathlib.Core.Path.{refl}
 use native.Mathlib.Omega.{arith}
-use lib.ListN.{length}
-use borrow.Author.Rules.{rules}
-use Rattle.figures.specs.Figures.{at}
-use Rattle.figures.proofs.Filled.{Filled, filled_none, filled-one}
+use Rattle.figures.proofs.Filled.{filled_none, filled-one}
 use Rattle.plan_headroom.proofs.take_wants.Goals as goal
 
 pub loop-c-init : goal.loop-c-init

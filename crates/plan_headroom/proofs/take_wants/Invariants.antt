@@ -1,10 +1,7 @@
 use Prim.Native.Nat.{◌-◌}
-use mathlib.Core.Path.{refl}
-use native.Mathlib.Omega.{arith}
 use lib.ListN.{length}
-use borrow.Author.Rules.{rules}
 use Rattle.figures.specs.Figures.{at}
-use Rattle.figures.proofs.Filled.{Filled, filled_none, filled-one}
+use Rattle.figures.proofs.Filled.{Filled}
 use Rattle.plan_headroom.proofs.take_wants.Given as goal
 
 abbrev pub invariant-loop-c : goal.invariant-loop-c

@@ -1,13 +1,12 @@
 -- `fill_rows` meets its contract: before each turn the nodes passed have their rows.
 use mathlib.Core.Path.{refl, ap}
 use mathlib.Core.List.{[]}
-use Prim.Native.Nat.{ℕ, ◌-◌, ◌<◌}
+use Prim.Native.Nat.{ℕ, ◌<◌}
 use native.Mathlib.Omega.{arith}
-use lib.ListN.{length, get_or}
-use borrow.Author.Rules.{rules}
+use lib.ListN.{get_or}
 use Rattle.rooms.specs.Table.{most_nodes}
 use Rattle.plan_holders.specs.Holding.{CutNodes}
-use Rattle.plan_holders.proofs.Rows.{Filling, filling-start, filling-next, filling-end}
+use Rattle.plan_holders.proofs.Rows.{filling-start, filling-next, filling-end}
 use Rattle.plan_holders.proofs.fill_rows.Goals as goal
 
 pub loop-n-init : goal.loop-n-init

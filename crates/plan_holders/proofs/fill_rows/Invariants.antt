@@ -1,12 +1,6 @@
-use mathlib.Core.Path.{refl, ap}
-use mathlib.Core.List.{[]}
-use Prim.Native.Nat.{ℕ, ◌-◌, ◌<◌}
-use native.Mathlib.Omega.{arith}
-use lib.ListN.{length, get_or}
-use borrow.Author.Rules.{rules}
-use Rattle.rooms.specs.Table.{most_nodes}
-use Rattle.plan_holders.specs.Holding.{CutNodes}
-use Rattle.plan_holders.proofs.Rows.{Filling, filling-start, filling-next, filling-end}
+use Prim.Native.Nat.{◌-◌}
+use lib.ListN.{length}
+use Rattle.plan_holders.proofs.Rows.{Filling}
 use Rattle.plan_holders.proofs.fill_rows.Given as goal
 
 abbrev pub invariant-loop-n : goal.invariant-loop-n

@@ -1,14 +1,12 @@
 -- `name_holders` meets its contract: before each turn the cords passed have their holders.
 use mathlib.Core.Path.{refl}
-use Prim.Native.Nat.{◌-◌, ◌≤◌, ◌<◌}
+use Prim.Native.Nat.{◌≤◌, ◌<◌}
 use native.Mathlib.Omega.{arith}
-use lib.ListN.{length}
-use borrow.Author.Rules.{rules}
 use Rattle.rooms.specs.Table.{most_nodes, most_cords, highest_rank}
 use Rattle.plan_holders.specs.Holding.{HeldLists}
-use Rattle.figures.proofs.Filled.{Filled, filled_none, filled-one, filled-all}
+use Rattle.figures.proofs.Filled.{filled_none, filled-one, filled-all}
 use Rattle.figures.proofs.Cells.{zero_rows}
-use Rattle.plan_holders.proofs.Rows.{held_at, held-is}
+use Rattle.plan_holders.proofs.Rows.{held-is}
 use Rattle.plan_holders.proofs.name_holders.Goals as goal
 
 pub fill_rows-requires : goal.fill_rows-requires

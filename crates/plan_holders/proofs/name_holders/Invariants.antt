@@ -1,13 +1,7 @@
-use mathlib.Core.Path.{refl}
-use Prim.Native.Nat.{◌-◌, ◌≤◌, ◌<◌}
-use native.Mathlib.Omega.{arith}
+use Prim.Native.Nat.{◌-◌}
 use lib.ListN.{length}
-use borrow.Author.Rules.{rules}
-use Rattle.rooms.specs.Table.{most_nodes, most_cords, highest_rank}
-use Rattle.plan_holders.specs.Holding.{HeldLists}
-use Rattle.figures.proofs.Filled.{Filled, filled_none, filled-one, filled-all}
-use Rattle.figures.proofs.Cells.{zero_rows}
-use Rattle.plan_holders.proofs.Rows.{held_at, held-is}
+use Rattle.figures.proofs.Filled.{Filled}
+use Rattle.plan_holders.proofs.Rows.{held_at}
 use Rattle.plan_holders.proofs.name_holders.Given as goal
 
 abbrev pub invariant-loop-c : goal.invariant-loop-c

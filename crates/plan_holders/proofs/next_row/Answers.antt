@@ -1,8 +1,7 @@
 -- `next_row` meets its contract: before each turn the levels passed have their numbers.
-use Prim.Native.Nat.{◌-◌}
 use native.Mathlib.Omega.{arith}
 use borrow.Author.Rules.{rules}
-use Rattle.plan_holders.proofs.Rows.{Turning, turning-start, turning-next, turning-end}
+use Rattle.plan_holders.proofs.Rows.{turning-start, turning-next, turning-end}
 use Rattle.plan_holders.proofs.next_row.Goals as goal
 
 pub loop-level-init : goal.loop-level-init

@@ -1,7 +1,5 @@
 use Prim.Native.Nat.{◌-◌}
-use native.Mathlib.Omega.{arith}
-use borrow.Author.Rules.{rules}
-use Rattle.plan_holders.proofs.Rows.{Turning, turning-start, turning-next, turning-end}
+use Rattle.plan_holders.proofs.Rows.{Turning}
 use Rattle.plan_holders.proofs.next_row.Given as goal
 
 abbrev pub invariant-loop-level : goal.invariant-loop-level

@@ -4,8 +4,7 @@ use mathlib.Core.Path.{ap₂, ◌∙◌}
 use Prim.Native.Nat.{◌-◌, ◌≤◌, ◌<◌}
 use native.Mathlib.Omega.{arith}
 use lib.ListN.{length}
-use borrow.Author.Rules.{rules}
-use Rattle.plan_reclaim.proofs.Reclaiming.{Reclaiming, reclaiming-start, reclaiming-more, reclaiming-end}
+use Rattle.plan_reclaim.proofs.Reclaiming.{reclaiming-start, reclaiming-more, reclaiming-end}
 use Rattle.plan_reclaim.proofs.reclaim.Goals as goal
 
 pub loop-c-init : goal.loop-c-init

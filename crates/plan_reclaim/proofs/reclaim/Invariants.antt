@@ -1,9 +1,6 @@
-use mathlib.Core.Path.{ap₂, ◌∙◌}
-use Prim.Native.Nat.{◌-◌, ◌≤◌, ◌<◌}
-use native.Mathlib.Omega.{arith}
+use Prim.Native.Nat.{◌-◌, ◌≤◌}
 use lib.ListN.{length}
-use borrow.Author.Rules.{rules}
-use Rattle.plan_reclaim.proofs.Reclaiming.{Reclaiming, reclaiming-start, reclaiming-more, reclaiming-end}
+use Rattle.plan_reclaim.proofs.Reclaiming.{Reclaiming}
 use Rattle.plan_reclaim.proofs.reclaim.Given as goal
 
 abbrev pub invariant-loop-c : goal.invariant-loop-c

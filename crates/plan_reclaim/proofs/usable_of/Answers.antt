@@ -1,11 +1,10 @@
 -- `usable_of` meets its contract: before each turn each figure is the least over the server's cords passed.
 -- ---- What is known at a turn whose cord has a share, once the place of its server is read
 use mathlib.Core.Path.{sym, ◌∙◌}
-use Prim.Native.Nat.{◌-◌, ◌≤◌, ◌<◌}
+use Prim.Native.Nat.{◌<◌}
 use native.Mathlib.Omega.{arith}
 use lib.ListN.{length}
-use borrow.Author.Rules.{rules}
-use Rattle.plan_reclaim.proofs.Reclaiming.{product-fits, UsableBy, usable-none, usable-kept, usable-lowered, usable-all}
+use Rattle.plan_reclaim.proofs.Reclaiming.{product-fits, usable-none, usable-kept, usable-lowered, usable-all}
 use Rattle.plan_reclaim.proofs.usable_of.Goals as goal
 use Rattle.plan_reclaim.proofs.usable_of.Goals.{then-share-ne0, else-share-ne0}
 
@@ -38,8 +37,9 @@ pub loop-c-preserved : goal.loop-c-preserved
 loop-c-preserved c =
     let share = c.wide-share.ensures.result.0 ∙ c.word16.ensures.result.0 in
     elim c.if-share-ne0.branch [
-        then-share-ne0 w ↦ (omega arith, rw w.usable-is (usable-lowered c.loop-c.invariant.1 w.index-v.ensures.result.0 (omega (arith, c.requires.lists.within _ c.loop-c-test.true, w.index-v.ensures.result.0)) share w.if-share-ne0.true w.wide-then-share-ne0.ensures.result.0 w.wide-then-share-ne0-2.ensures.result.0 w.wide.ensures.result.0 (w.narrow.ensures.result ∙ w.least.ensures.result)))
-      | else-share-ne0 w ↦ (omega arith, rw w.usable-is (usable-kept c.loop-c.invariant.1 (sym share ∙ w.if-share-ne0.false))) ]
+      | then-share-ne0 w ↦ (omega arith, rw w.usable-is (usable-lowered c.loop-c.invariant.1 w.index-v.ensures.result.0 (omega (arith, c.requires.lists.within _ c.loop-c-test.true, w.index-v.ensures.result.0)) share w.if-share-ne0.true w.wide-then-share-ne0.ensures.result.0 w.wide-then-share-ne0-2.ensures.result.0 w.wide.ensures.result.0 (w.narrow.ensures.result ∙ w.least.ensures.result)))
+      | else-share-ne0 w ↦ (omega arith, rw w.usable-is (usable-kept c.loop-c.invariant.1 (sym share ∙ w.if-share-ne0.false)))
+    ]
 
 pub shape_of-usable : goal.shape_of-usable
 shape_of-usable c = c.loop-c.invariant.1.size_is

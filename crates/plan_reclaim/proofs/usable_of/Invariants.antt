@@ -1,10 +1,6 @@
-use mathlib.Core.Path.{sym, ◌∙◌}
-use mathlib.Core.Logic.{⊎_elim}
-use Prim.Native.Nat.{◌-◌, ◌≤◌, ◌<◌}
-use native.Mathlib.Omega.{arith}
+use Prim.Native.Nat.{◌-◌, ◌≤◌}
 use lib.ListN.{length}
-use borrow.Author.Rules.{rules}
-use Rattle.plan_reclaim.proofs.Reclaiming.{product-fits, UsableBy, usable-none, usable-kept, usable-lowered, usable-all}
+use Rattle.plan_reclaim.proofs.Reclaiming.{UsableBy}
 use Rattle.plan_reclaim.proofs.usable_of.Given as goal
 
 abbrev pub invariant-loop-c : goal.invariant-loop-c

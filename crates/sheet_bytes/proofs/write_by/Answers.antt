@@ -4,7 +4,6 @@ use mathlib.Core.Path.{refl}
 use Rattle.calls.proofs.Calls.{call-short}
 use Rattle.calls.proofs.Fronts.{loaded-length}
 use Rattle.sheet_bytes.proofs.CallLaws.{write_done}
-use borrow.Author.Rules.{rules}
 use Rattle.sheet_bytes.proofs.write_by.Goals as goal
 
 pub returns-then-answer-lt-ANSWER_BYTES : goal.returns-then-answer-lt-ANSWER_BYTES
@@ -17,6 +16,6 @@ pub returns : goal.returns
 returns c =
     record {
       called =
-        write_done c.args.table.now c.args.words.now c.load-count.ensures.count c.load-count.ensures.loaded c.args.sheet.now c.args.answer.now c.requires.deciding
-        (omega (arith, c.if-answer-lt-ANSWER_BYTES.false)) c.write-written.ensures.result c.write-written.ensures.sheet c.number.ensures.result c.figure.ensures.result c.store_answer.ensures.stored
+          write_done c.args.table.now c.args.words.now c.load-count.ensures.count c.load-count.ensures.loaded c.args.sheet.now c.args.answer.now c.requires.deciding
+          (omega (arith, c.if-answer-lt-ANSWER_BYTES.false)) c.write-written.ensures.result c.write-written.ensures.sheet c.number.ensures.result c.figure.ensures.result c.store_answer.ensures.stored;
     }

@@ -7,14 +7,13 @@ use mathlib.Core.List.{List}
 use Prim.Native.Nat.{ℕ, ◌-◌, ◌≤◌, ◌<◌}
 use native.Mathlib.Omega.{arith}
 use lib.ListN.{length, replicate}
-use borrow.Author.Rules.{rules}
 use borrow.Author.Count.{falls_down}
 use Rattle.rooms.specs.Table.{most_nodes, highest_rank}
 use Rattle.figures.proofs.Cells.{zeros-rows, zeros-cells}
 use Rattle.figures.proofs.Filled.{zeros-at}
 use Rattle.figures.proofs.Fronts.{equal-length}
 use Rattle.deals.specs.Ranks.{SomeDeal}
-use Rattle.deals.proofs.RankLoop.{figures_length, RankLoop, LevelRow, loop-start, loop-end, level-fits, loop-skip, part_end, add-cords-asks, Summed, summed, request-asks, deal-nodes-asks, deal-cords-asks, loop-turn}
+use Rattle.deals.proofs.RankLoop.{figures_length, LevelRow, loop-start, loop-end, level-fits, loop-skip, part_end, add-cords-asks, Summed, summed, request-asks, deal-nodes-asks, deal-cords-asks, loop-turn}
 use Rattle.deals.proofs.by_rank.deal.Goals as goal
 
 list-sized : length {A = ℕ} (replicate figures_length 0) ≡ figures_length
@@ -130,7 +129,7 @@ slice_bounds-request-end-then-from-to c =
     let bases-s : List ℕ = c.add_cords.new.bases in
     let wholes-s : List ℕ = c.add_cords.new.wholes in
     let sums_at : Summed some-deal c.loop-level.invariant more row bases-s wholes-s = summed some-deal c.loop-level.invariant more row
-        c.add_cords.auto.bases c.add_cords.auto.wholes c.add_cords.ensures.summed in
+    c.add_cords.auto.bases c.add_cords.auto.wholes c.add_cords.ensures.summed in
     sym sums_at.wholes-size
 
 pub slice_bounds-request-end-then-from-to-2 : goal.slice_bounds-request-end-then-from-to-2
@@ -151,7 +150,7 @@ slice_bounds-request-end-then-from-to-3 c =
     let bases-s : List ℕ = c.add_cords.new.bases in
     let wholes-s : List ℕ = c.add_cords.new.wholes in
     let sums_at : Summed some-deal c.loop-level.invariant more row bases-s wholes-s = summed some-deal c.loop-level.invariant more row
-        c.add_cords.auto.bases c.add_cords.auto.wholes c.add_cords.ensures.summed in
+    c.add_cords.auto.bases c.add_cords.auto.wholes c.add_cords.ensures.summed in
     sym sums_at.bases-size
 
 pub request-requires : goal.request-requires
@@ -169,7 +168,7 @@ request-requires c =
     let bases-s : List ℕ = c.add_cords.new.bases in
     let wholes-s : List ℕ = c.add_cords.new.wholes in
     let sums_at : Summed some-deal c.loop-level.invariant more row bases-s wholes-s = summed some-deal c.loop-level.invariant more row
-        c.add_cords.auto.bases c.add_cords.auto.wholes c.add_cords.ensures.summed in
+    c.add_cords.auto.bases c.add_cords.auto.wholes c.add_cords.ensures.summed in
     let both = request-asks some-deal c.loop-level.invariant more row sums_at in
     record { weights = both.0; requests = both.1 }
 
@@ -194,7 +193,7 @@ slice_bounds-deal_nodes-end-then-from-to c =
     let bases-s : List ℕ = c.add_cords.new.bases in
     let wholes-s : List ℕ = c.add_cords.new.wholes in
     let sums_at : Summed some-deal c.loop-level.invariant more row bases-s wholes-s = summed some-deal c.loop-level.invariant more row
-        c.add_cords.auto.bases c.add_cords.auto.wholes c.add_cords.ensures.summed in
+    c.add_cords.auto.bases c.add_cords.auto.wholes c.add_cords.ensures.summed in
     let wholes-sized : length c.request.new.wholes ≡ figures_length = c.request.auto.wholes ∙ sums_at.wholes-size in
     sym wholes-sized
 
@@ -224,7 +223,7 @@ deal_nodes-requires c =
     let bases-s : List ℕ = c.add_cords.new.bases in
     let wholes-s : List ℕ = c.add_cords.new.wholes in
     let sums_at : Summed some-deal c.loop-level.invariant more row bases-s wholes-s = summed some-deal c.loop-level.invariant more row
-        c.add_cords.auto.bases c.add_cords.auto.wholes c.add_cords.ensures.summed in
+    c.add_cords.auto.bases c.add_cords.auto.wholes c.add_cords.ensures.summed in
     let all = deal-nodes-asks some-deal c.loop-level.invariant more row sums_at c.request.ensures.weighed c.request.ensures.requested in
     record { nodes = all.0; weights = all.1.0; in_range = all.1.1 }
 
@@ -288,7 +287,7 @@ slice_bounds-deal_cords-end-then-from-to c =
     let bases-s : List ℕ = c.add_cords.new.bases in
     let wholes-s : List ℕ = c.add_cords.new.wholes in
     let sums_at : Summed some-deal c.loop-level.invariant more row bases-s wholes-s = summed some-deal c.loop-level.invariant more row
-        c.add_cords.auto.bases c.add_cords.auto.wholes c.add_cords.ensures.summed in
+    c.add_cords.auto.bases c.add_cords.auto.wholes c.add_cords.ensures.summed in
     let wholes-sized : length c.request.new.wholes ≡ figures_length = c.request.auto.wholes ∙ sums_at.wholes-size in
     sym wholes-sized
 
@@ -323,7 +322,7 @@ deal_cords-requires c =
     let bases-s : List ℕ = c.add_cords.new.bases in
     let wholes-s : List ℕ = c.add_cords.new.wholes in
     let sums_at : Summed some-deal c.loop-level.invariant more row bases-s wholes-s = summed some-deal c.loop-level.invariant more row
-        c.add_cords.auto.bases c.add_cords.auto.wholes c.add_cords.ensures.summed in
+    c.add_cords.auto.bases c.add_cords.auto.wholes c.add_cords.ensures.summed in
     let wholes-sized : length c.request.new.wholes ≡ figures_length = c.request.auto.wholes ∙ sums_at.wholes-size in
     let weights-sized : length c.request.new.weights ≡ figures_length = c.request.auto.weights ∙ c.loop-level.invariant.amounts-size in
     let amounts-sized : length c.deal_nodes.new.amounts ≡ figures_length = c.deal_nodes.auto.amounts ∙ weights-sized in
@@ -353,7 +352,7 @@ loop-level-preserved-then-from-to c =
     let bases-s : List ℕ = c.add_cords.new.bases in
     let wholes-s : List ℕ = c.add_cords.new.wholes in
     let sums_at : Summed some-deal c.loop-level.invariant more row bases-s wholes-s = summed some-deal c.loop-level.invariant more row
-        c.add_cords.auto.bases c.add_cords.auto.wholes c.add_cords.ensures.summed in
+    c.add_cords.auto.bases c.add_cords.auto.wholes c.add_cords.ensures.summed in
     let wholes-sized : length c.request.new.wholes ≡ figures_length = c.request.auto.wholes ∙ sums_at.wholes-size in
     let weights-sized : length c.request.new.weights ≡ figures_length = c.request.auto.weights ∙ c.loop-level.invariant.amounts-size in
     let bases-sized : length c.request.new.bases ≡ figures_length = c.request.auto.bases ∙ sums_at.bases-size in

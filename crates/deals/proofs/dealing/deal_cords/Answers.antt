@@ -1,10 +1,9 @@
 -- `deal_cords` meets its contract: before each turn the cords of the entries passed have their grants and are served on their nodes.
 use mathlib.Core.Path.{refl, sym, ◌∙◌}
-use Prim.Native.Nat.{◌-◌, ◌≤◌, ◌<◌}
+use Prim.Native.Nat.{◌≤◌, ◌<◌}
 use native.Mathlib.Omega.{arith}
 use lib.ListN.{length}
-use borrow.Author.Rules.{rules}
-use Rattle.deals.proofs.CordTurns.{CordTurn, cords-start, cords-end, cord-may-serve, grant-most, cord-next}
+use Rattle.deals.proofs.CordTurns.{cords-start, cords-end, cord-may-serve, grant-most, cord-next}
 use Rattle.deals.proofs.CordSums.{cord-within, cord-hangs, cord-bounds}
 use Rattle.deals.proofs.dealing.deal_cords.Goals as goal
 
@@ -31,7 +30,7 @@ bounds-nodes-c c =
 pub overflow_sub-p : goal.overflow_sub-p
 overflow_sub-p c =
     let node-there : (1 ≤ c.index-p.result) × (c.index-p.result ≤ length c.args.amounts.now) = let hangs = cord-hangs c.requires.cords c.loop-i-test.true c.index-c.ensures.result.0 in
-        (omega (arith, hangs.0, c.index-p.ensures.result.0), omega (arith, hangs.1, c.index-p.ensures.result.0)) in
+    (omega (arith, hangs.0, c.index-p.ensures.result.0), omega (arith, hangs.1, c.index-p.ensures.result.0)) in
     node-there.0
 
 pub bounds-starts-c : goal.bounds-starts-c
@@ -42,13 +41,13 @@ bounds-starts-c c =
 pub bounds-amounts-p : goal.bounds-amounts-p
 bounds-amounts-p c =
     let node-there : (1 ≤ c.index-p.result) × (c.index-p.result ≤ length c.args.amounts.now) = let hangs = cord-hangs c.requires.cords c.loop-i-test.true c.index-c.ensures.result.0 in
-        (omega (arith, hangs.0, c.index-p.ensures.result.0), omega (arith, hangs.1, c.index-p.ensures.result.0)) in
+    (omega (arith, hangs.0, c.index-p.ensures.result.0), omega (arith, hangs.1, c.index-p.ensures.result.0)) in
     omega (arith, node-there)
 
 pub bounds-wholes-p : goal.bounds-wholes-p
 bounds-wholes-p c =
     let node-there : (1 ≤ c.index-p.result) × (c.index-p.result ≤ length c.args.amounts.now) = let hangs = cord-hangs c.requires.cords c.loop-i-test.true c.index-c.ensures.result.0 in
-        (omega (arith, hangs.0, c.index-p.ensures.result.0), omega (arith, hangs.1, c.index-p.ensures.result.0)) in
+    (omega (arith, hangs.0, c.index-p.ensures.result.0), omega (arith, hangs.1, c.index-p.ensures.result.0)) in
     omega (arith, node-there, c.requires.sizes.0)
 
 pub bounds-wants-c : goal.bounds-wants-c

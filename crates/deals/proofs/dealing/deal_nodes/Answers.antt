@@ -1,12 +1,10 @@
 -- `deal_nodes` meets its contract: before each turn the active nodes passed have their amounts and are served as children, and the others
 -- their weights; a node that is not active has none.
 use mathlib.Core.Path.{◌≡◌, refl, sym, ◌∙◌}
-use mathlib.Core.Logic.{⊎_elim}
 use Prim.Native.Nat.{◌-◌, ◌<◌}
 use native.Mathlib.Omega.{arith}
 use lib.ListN.{length}
-use borrow.Author.Rules.{rules}
-use Rattle.deals.proofs.NodeTurns.{nodes-start, parent-within, node-may-serve, root-next, inner-next, DealTurn, deal-start, deal-within, deal-present, deal-here, deal-next, deal-end}
+use Rattle.deals.proofs.NodeTurns.{nodes-start, parent-within, node-may-serve, root-next, inner-next, deal-start, deal-within, deal-present, deal-here, deal-next, deal-end}
 use Rattle.deals.proofs.dealing.deal_nodes.Goals as goal
 use Rattle.deals.proofs.dealing.deal_nodes.Goals.{then-parent-ne0, else-parent-ne0}
 
@@ -66,8 +64,9 @@ loop-i-preserved c =
     let within = deal-within c.loop-i.invariant c.loop-i-test.true c.index-m.ensures.result.0 in
     let some = deal-present c.loop-i.invariant c.loop-i-test.true c.index-m.ensures.result.0 in
     elim c.if-parent-ne0.branch [
-        then-parent-ne0 w ↦ deal-next c.loop-i.invariant c.loop-i-test.true c.index-m.ensures.result.0 (inner-next here within some _ _ c.wide-weight.ensures.result.0 c.index-parent.ensures.result.0 w.if-parent-ne0.true _ (record { watts-are = w.serve.ensures.served.watts-are; before-is = w.before-is ∙ w.serve.ensures.served.before-is; dealt-is = w.dealt-is ∙ w.serve.ensures.served.dealt-is }) w.amounts-is)
-      | else-parent-ne0 w ↦ deal-next c.loop-i.invariant c.loop-i-test.true c.index-m.ensures.result.0 (root-next here within some _ _ c.wide-weight.ensures.result.0 c.index-parent.ensures.result.0 w.if-parent-ne0.false w.amounts-is w.before-is w.dealt-is) ]
+      | then-parent-ne0 w ↦ deal-next c.loop-i.invariant c.loop-i-test.true c.index-m.ensures.result.0 (inner-next here within some _ _ c.wide-weight.ensures.result.0 c.index-parent.ensures.result.0 w.if-parent-ne0.true _ (record { watts-are = w.serve.ensures.served.watts-are; before-is = w.before-is ∙ w.serve.ensures.served.before-is; dealt-is = w.dealt-is ∙ w.serve.ensures.served.dealt-is }) w.amounts-is)
+      | else-parent-ne0 w ↦ deal-next c.loop-i.invariant c.loop-i-test.true c.index-m.ensures.result.0 (root-next here within some _ _ c.wide-weight.ensures.result.0 c.index-parent.ensures.result.0 w.if-parent-ne0.false w.amounts-is w.before-is w.dealt-is)
+    ]
 
 pub shape_of-amounts : goal.shape_of-amounts
 shape_of-amounts c = c.loop-i.invariant.turn.amounts-size

@@ -1,12 +1,11 @@
 -- `add_cords` meets its contract: before each turn the cords of the entries passed are summed on their nodes.
 use mathlib.Core.Path.{refl, ◌∙◌}
-use Prim.Native.Nat.{◌-◌, ◌≤◌, ◌<◌}
+use Prim.Native.Nat.{◌≤◌, ◌<◌}
 use native.Mathlib.Omega.{arith}
-use borrow.Author.Rules.{rules}
 use lib.ListN.{length}
 use Rattle.figures.specs.Figures.{at}
 use Rattle.rooms.specs.Table.{most_watts}
-use Rattle.deals.proofs.CordSums.{cord-within, cord-bounds, SumTurn, sums-start, sums-end, start_fits, weight-fits, sums_next}
+use Rattle.deals.proofs.CordSums.{cord-within, cord-bounds, sums-start, sums-end, start_fits, weight-fits, sums_next}
 use Rattle.deals.proofs.metrics.add_cords.Goals as goal
 
 pub loop-i-init : goal.loop-i-init
@@ -15,19 +14,19 @@ loop-i-init c = sums-start c.requires.cords refl refl c.requires.sizes.0 (omega 
 pub bounds-nodes-c : goal.bounds-nodes-c
 bounds-nodes-c c =
     let cord-there : (c.index-c.result < length c.args.nodes.now) × (c.index-c.result < length c.args.starts.now) × (c.index-c.result < length c.args.wants.now) = let here = cord-within c.requires.cords c.loop-i-test.true c.index-c.ensures.result.0 in (
-          here,
-          omega (arith, here, c.requires.cords.starts-size),
-          omega (arith, here, c.requires.cords.wants-size),
-        ) in
+      here,
+      omega (arith, here, c.requires.cords.starts-size),
+      omega (arith, here, c.requires.cords.wants-size),
+    ) in
     cord-there.0
 
 pub bounds-starts-c : goal.bounds-starts-c
 bounds-starts-c c =
     let cord-there : (c.index-c.result < length c.args.nodes.now) × (c.index-c.result < length c.args.starts.now) × (c.index-c.result < length c.args.wants.now) = let here = cord-within c.requires.cords c.loop-i-test.true c.index-c.ensures.result.0 in (
-          here,
-          omega (arith, here, c.requires.cords.starts-size),
-          omega (arith, here, c.requires.cords.wants-size),
-        ) in
+      here,
+      omega (arith, here, c.requires.cords.starts-size),
+      omega (arith, here, c.requires.cords.wants-size),
+    ) in
     omega (arith, cord-there)
 
 pub credit-requires : goal.credit-requires
@@ -40,10 +39,10 @@ credit-requires c =
 pub bounds-wants-c : goal.bounds-wants-c
 bounds-wants-c c =
     let cord-there : (c.index-c.result < length c.args.nodes.now) × (c.index-c.result < length c.args.starts.now) × (c.index-c.result < length c.args.wants.now) = let here = cord-within c.requires.cords c.loop-i-test.true c.index-c.ensures.result.0 in (
-          here,
-          omega (arith, here, c.requires.cords.starts-size),
-          omega (arith, here, c.requires.cords.wants-size),
-        ) in
+      here,
+      omega (arith, here, c.requires.cords.starts-size),
+      omega (arith, here, c.requires.cords.wants-size),
+    ) in
     omega (arith, cord-there)
 
 pub overflow_sub-wants : goal.overflow_sub-wants
@@ -74,6 +73,6 @@ pub returns : goal.returns
 returns c =
     record {
       summed =
-        let all = sums-end c.loop-i.invariant c.loop-i-test.false in
-        record { on-starts = λ n l. (all n l).0; on-weights = λ n l. (all n l).1 }
+          let all = sums-end c.loop-i.invariant c.loop-i-test.false in
+          record { on-starts = λ n l. (all n l).0; on-weights = λ n l. (all n l).1 };
     }

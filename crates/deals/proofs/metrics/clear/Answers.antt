@@ -1,9 +1,7 @@
 -- `clear` meets its contract: before each turn the places passed hold 0.
 use mathlib.Core.Path.{refl}
-use Prim.Native.Nat.{◌-◌}
 use borrow.Author.Rules.{rules}
-use lib.ListN.{length}
-use Rattle.figures.proofs.Filled.{Filled, filled_none, filled-one}
+use Rattle.figures.proofs.Filled.{filled_none, filled-one}
 use Rattle.deals.proofs.metrics.clear.Goals as goal
 
 pub loop-i-init : goal.loop-i-init

@@ -1,8 +1,6 @@
-use mathlib.Core.Path.{refl}
 use Prim.Native.Nat.{◌-◌}
-use borrow.Author.Rules.{rules}
 use lib.ListN.{length}
-use Rattle.figures.proofs.Filled.{Filled, filled_none, filled-one}
+use Rattle.figures.proofs.Filled.{Filled}
 use Rattle.deals.proofs.metrics.clear.Given as goal
 
 abbrev pub invariant-loop-i : goal.invariant-loop-i

@@ -3,14 +3,12 @@
 use mathlib.Core.Path.{◌≡◌, ap, ◌∙◌}
 use Prim.Native.Nat.{ℕ, ◌+◌, ◌-◌, ◌≤◌, ◌<◌}
 use native.Mathlib.Omega.{arith}
-use lib.ListN.{length}
-use borrow.Author.Rules.{rules}
 use Rattle.rooms.specs.Table.{most_nodes, most_watts, highest_rank}
 use Rattle.figures.specs.Figures.{at, cell}
 use Rattle.figures.proofs.Cells.{stored}
 use Rattle.deals.specs.Passes.{cut_mark}
 use Rattle.deals.proofs.Weighing.{in-parents, in_left, in-wholes, in-weights, credit-fits}
-use Rattle.deals.proofs.Requesting.{RequestTurn, request-start, request-end, in-bases, in-cuts, in_rows, request-fits, base-fits, row_here, request-turn}
+use Rattle.deals.proofs.Requesting.{request-start, request-end, in-bases, in-cuts, in_rows, request-fits, base-fits, row_here, request-turn}
 use Rattle.deals.proofs.metrics.request.Goals as goal
 
 read_again : (read start weight : ℕ) → read ≡ start + weight → read - start ≡ weight

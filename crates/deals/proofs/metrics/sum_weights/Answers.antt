@@ -1,12 +1,11 @@
 -- `sum_weights` meets its contract: before each turn the weights of the cords of the entries passed are summed on their nodes.
 use mathlib.Core.Path.{refl, ◌∙◌}
-use Prim.Native.Nat.{◌-◌, ◌≤◌, ◌<◌}
+use Prim.Native.Nat.{◌≤◌, ◌<◌}
 use native.Mathlib.Omega.{arith}
-use borrow.Author.Rules.{rules}
 use lib.ListN.{length}
 use Rattle.figures.specs.Figures.{at}
 use Rattle.rooms.specs.Table.{most_watts}
-use Rattle.deals.proofs.CordSums.{cord-within, cord-bounds, WeightTurn, weights-start, weights-end, weight-fits, weights-next}
+use Rattle.deals.proofs.CordSums.{cord-within, cord-bounds, weights-start, weights-end, weight-fits, weights-next}
 use Rattle.deals.proofs.metrics.sum_weights.Goals as goal
 
 pub loop-i-init : goal.loop-i-init
@@ -15,28 +14,28 @@ loop-i-init c = weights-start c.requires.cords refl (omega (arith, c.requires.si
 pub bounds-nodes-c : goal.bounds-nodes-c
 bounds-nodes-c c =
     let cord-there : (c.index-c.result < length c.args.nodes.now) × (c.index-c.result < length c.args.starts.now) × (c.index-c.result < length c.args.wants.now) = let here = cord-within c.requires.cords c.loop-i-test.true c.index-c.ensures.result.0 in (
-          here,
-          omega (arith, here, c.requires.cords.starts-size),
-          omega (arith, here, c.requires.cords.wants-size),
-        ) in
+      here,
+      omega (arith, here, c.requires.cords.starts-size),
+      omega (arith, here, c.requires.cords.wants-size),
+    ) in
     cord-there.0
 
 pub bounds-starts-c : goal.bounds-starts-c
 bounds-starts-c c =
     let cord-there : (c.index-c.result < length c.args.nodes.now) × (c.index-c.result < length c.args.starts.now) × (c.index-c.result < length c.args.wants.now) = let here = cord-within c.requires.cords c.loop-i-test.true c.index-c.ensures.result.0 in (
-          here,
-          omega (arith, here, c.requires.cords.starts-size),
-          omega (arith, here, c.requires.cords.wants-size),
-        ) in
+      here,
+      omega (arith, here, c.requires.cords.starts-size),
+      omega (arith, here, c.requires.cords.wants-size),
+    ) in
     omega (arith, cord-there)
 
 pub bounds-wants-c : goal.bounds-wants-c
 bounds-wants-c c =
     let cord-there : (c.index-c.result < length c.args.nodes.now) × (c.index-c.result < length c.args.starts.now) × (c.index-c.result < length c.args.wants.now) = let here = cord-within c.requires.cords c.loop-i-test.true c.index-c.ensures.result.0 in (
-          here,
-          omega (arith, here, c.requires.cords.starts-size),
-          omega (arith, here, c.requires.cords.wants-size),
-        ) in
+      here,
+      omega (arith, here, c.requires.cords.starts-size),
+      omega (arith, here, c.requires.cords.wants-size),
+    ) in
     omega (arith, cord-there)
 
 pub overflow_sub-wants : goal.overflow_sub-wants

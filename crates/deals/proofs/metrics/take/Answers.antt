@@ -1,6 +1,5 @@
 -- `take` meets its contract.
 use native.Mathlib.Omega.{arith}
-use borrow.Author.Rules.{rules}
 use Rattle.deals.proofs.metrics.take.Goals as goal
 
 -- The weight is within what is left.

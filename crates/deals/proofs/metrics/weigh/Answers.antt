@@ -2,9 +2,7 @@
 -- their turns before, and the others have none.
 use mathlib.Core.Path.{refl}
 use native.Mathlib.Omega.{arith}
-use borrow.Author.Rules.{rules}
-use lib.ListN.{length}
-use Rattle.deals.proofs.Weighing.{WeighTurn, weigh-start, weigh-end, in-parents, in_left, in-wholes, in-weights, credit-fits, weigh-turn}
+use Rattle.deals.proofs.Weighing.{weigh-start, weigh-end, in-parents, in_left, in-wholes, in-weights, credit-fits, weigh-turn}
 use Rattle.deals.proofs.metrics.weigh.Goals as goal
 
 pub loop-i-init : goal.loop-i-init

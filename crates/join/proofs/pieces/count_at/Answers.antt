@@ -3,7 +3,6 @@ use mathlib.Core.Path.{sym}
 use Prim.Native.Nat.{◌+◌}
 use native.Mathlib.Omega.{arith}
 use lib.ListN.{get_or-eq_default}
-use borrow.Author.Rules.{rules}
 use Rattle.join.proofs.pieces.count_at.Goals as goal
 
 pub returns-then-words-i-lt4 : goal.returns-then-words-i-lt4

@@ -3,7 +3,6 @@ use mathlib.Core.Path.{sym, ◌∙◌}
 use mathlib.Core.Bool.{true, false}
 use Rattle.rooms.specs.Table.{form_of}
 use Rattle.join.proofs.PieceLaws.{width_is}
-use borrow.Author.Rules.{rules}
 use Rattle.join.proofs.pieces.node_width.Goals as goal
 
 pub returns-then-has_percents : goal.returns-then-has_percents

@@ -5,7 +5,6 @@ use Prim.Native.Nat.{◌-◌}
 use Rattle.join.specs.Pieces.{renumbered_every}
 use native.Mathlib.Omega.{arith}
 use Rattle.join.proofs.PieceLaws.{every-length, piece-below, put-changed}
-use borrow.Author.Rules.{rules}
 use Rattle.join.proofs.pieces.put_nodes.Goals as goal
 
 pub slice_bounds-renumber_every-end : goal.slice_bounds-renumber_every-end
@@ -18,6 +17,6 @@ pub returns : goal.returns
 returns c =
     record {
       put =
-        put-changed c.put_words-end.ensures.put (renumbered_every (c.args.width - 1) c.args.up c.args.down 0)
-        (every-length (c.args.width - 1) c.args.up c.args.down 0 _) c.renumber_every.ensures.is refl
+          put-changed c.put_words-end.ensures.put (renumbered_every (c.args.width - 1) c.args.up c.args.down 0)
+          (every-length (c.args.width - 1) c.args.up c.args.down 0 _) c.renumber_every.ensures.is refl;
     }

@@ -4,7 +4,6 @@ use Rattle.words.specs.Bytes.{words_of}
 use Rattle.join.specs.Pieces.{renumbered_cords}
 use native.Mathlib.Omega.{arith}
 use Rattle.join.proofs.PieceLaws.{cords-length, piece-below, put-changed}
-use borrow.Author.Rules.{rules}
 use Rattle.join.proofs.pieces.put_servers.Goals as goal
 
 pub slice_bounds-renumber_cords-end : goal.slice_bounds-renumber_cords-end

@@ -1,7 +1,6 @@
 -- `put_words` meets its contract: what is loaded stands in the middle of the list.
 use mathlib.Core.Path.{refl}
 use Rattle.join.proofs.PieceLaws.{put-loaded}
-use borrow.Author.Rules.{rules}
 use Rattle.join.proofs.pieces.put_words.Goals as goal
 
 pub returns : goal.returns

@@ -1,11 +1,10 @@
 -- `renumber_cords` meets its contract: what stands behind i is as it was, and starts with the cords that are left.
 use mathlib.Core.Path.{sym, subst}
-use Prim.Native.Nat.{ℕ, ◌-◌, ◌<◌}
+use Prim.Native.Nat.{ℕ, ◌<◌}
 use native.Mathlib.Omega.{arith}
-use lib.ListN.{length, length-set}
+use lib.ListN.{length-set}
 use borrow.Author.Rules.{rules}
-use Rattle.join.specs.Pieces.{renumbered_cords}
-use Rattle.join.proofs.PieceLaws.{Turning, turning-begin, turning-end, turning-at, cords-none, server-again, cord-again}
+use Rattle.join.proofs.PieceLaws.{turning-begin, turning-end, turning-at, cords-none, server-again, cord-again}
 use Rattle.join.proofs.pieces.renumber_cords.Goals as goal
 
 pub loop-i-init : goal.loop-i-init

@@ -1,11 +1,9 @@
 -- `renumber_every` meets its contract: what stands behind i is as it was.
 use mathlib.Core.Path.{sym, subst}
-use Prim.Native.Nat.{ℕ, ◌-◌, ◌<◌}
+use Prim.Native.Nat.{ℕ, ◌<◌}
 use native.Mathlib.Omega.{arith}
-use lib.ListN.{length, length-set}
-use borrow.Author.Rules.{rules}
-use Rattle.join.specs.Pieces.{renumbered_every}
-use Rattle.join.proofs.PieceLaws.{Turning, turning-begin, turning-end, turning-at, every-none, every-again}
+use lib.ListN.{length-set}
+use Rattle.join.proofs.PieceLaws.{turning-begin, turning-end, turning-at, every-none, every-again}
 use Rattle.join.proofs.pieces.renumber_every.Goals as goal
 
 pub loop-i-init : goal.loop-i-init

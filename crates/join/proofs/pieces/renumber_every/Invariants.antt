@@ -1,10 +1,7 @@
-use mathlib.Core.Path.{sym, subst}
-use Prim.Native.Nat.{ℕ, ◌-◌, ◌<◌}
-use native.Mathlib.Omega.{arith}
-use lib.ListN.{length, length-set}
-use borrow.Author.Rules.{rules}
+use Prim.Native.Nat.{◌-◌}
+use lib.ListN.{length}
 use Rattle.join.specs.Pieces.{renumbered_every}
-use Rattle.join.proofs.PieceLaws.{Turning, turning-begin, turning-end, turning-at, every-none, every-again}
+use Rattle.join.proofs.PieceLaws.{Turning}
 use Rattle.join.proofs.pieces.renumber_every.Given as goal
 
 abbrev pub invariant-loop-i : goal.invariant-loop-i

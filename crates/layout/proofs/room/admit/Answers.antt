@@ -7,7 +7,6 @@ use Rattle.rooms.specs.Part.{Good}
 use Rattle.rooms.specs.Limits.{checked, lows_told}
 use Rattle.layout.specs.Outcome.{load_reasons}
 use Rattle.layout.proofs.Loads.{table-good, cords-told, Left, table-told, count-told, count-passed, large-told, all-passed, room-told}
-use borrow.Author.Rules.{rules}
 use Rattle.layout.proofs.room.admit.Goals as goal
 
 pub returns-in-Refused : goal.returns-in-Refused

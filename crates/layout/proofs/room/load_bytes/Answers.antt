@@ -7,7 +7,6 @@ use lib.Seq.{length-take-le}
 use Rattle.rooms.specs.Table.{most_servers, most_words}
 use Rattle.layout.specs.Outcome.{loaded_of}
 use Rattle.layout.proofs.Loads.{bytes-loading, bytes-demands}
-use borrow.Author.Rules.{rules}
 use Rattle.layout.proofs.room.load_bytes.Goals as goal
 
 -- How many words the lists take, which is enough.

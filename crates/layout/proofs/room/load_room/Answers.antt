@@ -10,7 +10,6 @@ use Rattle.layout.specs.Room.{LoadSpace}
 use Rattle.layout.specs.declared.room.Counts.{Counts}
 use Rattle.layout.proofs.Loads.{lows-long, lows-told, RoomFound, found, found-good, nodes-fit, nodes-lent, servers-lent, cords-lent, demands-fit, lists-loaded, none-loaded}
 use Rattle.layout.proofs.Loads as counted
-use borrow.Author.Rules.{rules}
 use Rattle.layout.proofs.room.load_room.Goals as goal
 
 front : {A : Type 0} {n : ℕ} (list : List A) → n ≤ length list → n ≡ length (take n list)
@@ -186,16 +185,16 @@ load_cords-requires c =
     let room : RoomFound table c.args.demands.now counts = found c.admit-loaded.ensures.answer c.in-Good.is in
     record {
       lists =
-        let f = room in
-        record {
-          good-table = found-good f;
-          demands-fit = demands-fit f;
-          cords-fit = cords-lent f _ space.for-cords;
-          lows-fit = cords-lent f _ space.for-lows;
-          wants-fit = cords-lent f _ space.for-wants;
-          ceilings-fit = cords-lent f _ space.for-ceilings;
-          needs-fit = servers-lent f _ space.for-needs;
-        }
+          let f = room in
+          record {
+            good-table = found-good f;
+            demands-fit = demands-fit f;
+            cords-fit = cords-lent f _ space.for-cords;
+            lows-fit = cords-lent f _ space.for-lows;
+            wants-fit = cords-lent f _ space.for-wants;
+            ceilings-fit = cords-lent f _ space.for-ceilings;
+            needs-fit = servers-lent f _ space.for-needs;
+          };
     }
 
 pub returns-in-Good : goal.returns-in-Good

@@ -1,9 +1,7 @@
 -- `cord_across` meets its contract: no cord before i is across, and what stands behind starts with the cords that are left.
-use mathlib.Core.Path.{◌≡◌, refl, ◌∙◌}
-use Prim.Native.Nat.{◌-◌}
+use mathlib.Core.Path.{refl, ◌∙◌}
 use native.Mathlib.Omega.{arith}
-use borrow.Author.Rules.{rules}
-use Rattle.part.proofs.AcrossLaws.{cords_left, cords-end, cord-found, server-again, cord-again}
+use Rattle.part.proofs.AcrossLaws.{cords-end, cord-found, server-again, cord-again}
 use Rattle.part.proofs.sides.cord_across.Goals as goal
 
 pub loop-i-init : goal.loop-i-init

@@ -1,8 +1,6 @@
-use mathlib.Core.Path.{◌≡◌, refl, ◌∙◌}
+use mathlib.Core.Path.{◌≡◌}
 use Prim.Native.Nat.{◌-◌}
-use native.Mathlib.Omega.{arith}
-use borrow.Author.Rules.{rules}
-use Rattle.part.proofs.AcrossLaws.{cords_left, cords-end, cord-found, server-again, cord-again}
+use Rattle.part.proofs.AcrossLaws.{cords_left}
 use Rattle.part.proofs.sides.cord_across.Given as goal
 
 abbrev pub invariant-loop-i : goal.invariant-loop-i

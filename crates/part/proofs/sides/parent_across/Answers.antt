@@ -1,9 +1,7 @@
 -- `parent_across` meets its contract: no parent before i is across.
-use mathlib.Core.Path.{◌≡◌, refl, ◌∙◌}
-use Prim.Native.Nat.{◌-◌}
+use mathlib.Core.Path.{refl, ◌∙◌}
 use native.Mathlib.Omega.{arith}
-use borrow.Author.Rules.{rules}
-use Rattle.part.proofs.AcrossLaws.{parents_left, parent-found, parents-end, parents-again}
+use Rattle.part.proofs.AcrossLaws.{parent-found, parents-end, parents-again}
 use Rattle.part.proofs.sides.parent_across.Goals as goal
 
 pub loop-i-init : goal.loop-i-init

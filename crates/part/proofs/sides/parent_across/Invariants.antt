@@ -1,8 +1,6 @@
-use mathlib.Core.Path.{◌≡◌, refl, ◌∙◌}
+use mathlib.Core.Path.{◌≡◌}
 use Prim.Native.Nat.{◌-◌}
-use native.Mathlib.Omega.{arith}
-use borrow.Author.Rules.{rules}
-use Rattle.part.proofs.AcrossLaws.{parents_left, parent-found, parents-end, parents-again}
+use Rattle.part.proofs.AcrossLaws.{parents_left}
 use Rattle.part.proofs.sides.parent_across.Given as goal
 
 abbrev pub invariant-loop-i : goal.invariant-loop-i

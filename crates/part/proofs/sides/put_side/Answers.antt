@@ -57,7 +57,7 @@ returns c =
     let size : length c.put_nodes-middle.new.words ≡ length c.args.words.now = c.put_nodes-middle.ensures.put.size ∙ head-length c.args.words.now c.args.side.version c.index_word.result in
     record {
       put =
-        side-put c.args.table.now c.args.side c.requires.fits c.args.words.now c.requires.space c.put_nodes-middle.new.words
-        c.node_width-width.ensures.is.0 c.index_word.ensures.result c.index_word-2.ensures.result
-        (omega (arith, ends, size, c.requires.space)) c.put_nodes-middle.ensures.put c.put_servers.ensures.put
+          side-put c.args.table.now c.args.side c.requires.fits c.args.words.now c.requires.space c.put_nodes-middle.new.words
+          c.node_width-width.ensures.is.0 c.index_word.ensures.result c.index_word-2.ensures.result
+          (omega (arith, ends, size, c.requires.space)) c.put_nodes-middle.ensures.put c.put_servers.ensures.put;
     }

@@ -2,7 +2,6 @@
 use mathlib.Core.Path.{refl}
 use Prim.Native.Nat.{◌+◌, ◌<◌}
 use native.Mathlib.Omega.{arith}
-use borrow.Author.Rules.{rules}
 use Rattle.part.proofs.AcrossLaws.{span-past, span-here}
 use Rattle.part.proofs.sides.server_span.Goals as goal
 

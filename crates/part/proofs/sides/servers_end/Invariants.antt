@@ -1,10 +1,7 @@
 use mathlib.Core.Path.{◌≡◌}
 use Prim.Native.Nat.{◌+◌, ◌-◌, ◌≤◌}
-use native.Mathlib.Omega.{arith}
 use lib.ListN.{length, drop}
-use borrow.Author.Rules.{rules}
 use Rattle.part.specs.Sides.{span}
-use Rattle.part.proofs.AcrossLaws.{span-begin, span-near, span_more, span-done}
 use Rattle.part.proofs.sides.servers_end.Given as goal
 
 abbrev pub invariant-loop : goal.invariant-loop

@@ -2,7 +2,6 @@
 use native.Mathlib.Omega.{arith}
 use Rattle.join.proofs.HutLaws.{hut-below}
 use Rattle.part.proofs.SidesMade.{starts-within, nodes-small, before-made}
-use borrow.Author.Rules.{rules}
 use Rattle.part.proofs.sides.side_before.Goals as goal
 
 pub overflow_add-start : goal.overflow_add-start

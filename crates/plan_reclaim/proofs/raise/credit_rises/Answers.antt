@@ -1,10 +1,8 @@
 -- `credit_rises` meets its contract: before each turn what the cords passed rise by stands on their nodes.
 use mathlib.Core.Path.{◌≡◌}
-use Prim.Native.Nat.{◌-◌, ◌≤◌}
 use native.Mathlib.Omega.{arith}
 use lib.ListN.{length}
-use borrow.Author.Rules.{rules}
-use Rattle.plan_reclaim.proofs.Raising.{RisesCredited, rises-start, rise-fits, rises-turn, rises-most, rises-end}
+use Rattle.plan_reclaim.proofs.Raising.{rises-start, rise-fits, rises-turn, rises-most, rises-end}
 use Rattle.plan_reclaim.proofs.raise.credit_rises.Goals as goal
 
 pub loop-c-init : goal.loop-c-init

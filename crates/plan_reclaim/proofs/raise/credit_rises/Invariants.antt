@@ -1,9 +1,6 @@
-use mathlib.Core.Path.{◌≡◌}
 use Prim.Native.Nat.{◌-◌, ◌≤◌}
-use native.Mathlib.Omega.{arith}
 use lib.ListN.{length}
-use borrow.Author.Rules.{rules}
-use Rattle.plan_reclaim.proofs.Raising.{RisesCredited, rises-start, rise-fits, rises-turn, rises-most, rises-end}
+use Rattle.plan_reclaim.proofs.Raising.{RisesCredited}
 use Rattle.plan_reclaim.proofs.raise.credit_rises.Given as goal
 
 abbrev pub invariant-loop-c : goal.invariant-loop-c

@@ -4,7 +4,6 @@ use mathlib.Core.Path.{◌≡◌, sym}
 use mathlib.Core.List.{List}
 use Prim.Native.Nat.{ℕ}
 use lib.ListN.{length, take, replicate}
-use borrow.Author.Rules.{rules}
 use Rattle.rooms.specs.Table.{most_nodes}
 use Rattle.figures.proofs.Cells.{zeros-front}
 use Rattle.figures.proofs.Fronts.{Lent, lent-zeros, rejoined, lent_again, lent-few, lent-front}
@@ -47,7 +46,7 @@ take_rises-requires c =
     let zeros-lent : Lent (length c.args.parents.now) (replicate most_nodes 0) back = lent-zeros most_nodes c.requires.raisable.few-nodes c.credit_rises.auto.raised in
     let again : List ℕ = let n = length c.args.parents.now in take n (rejoined n (replicate most_nodes 0) back) in
     let raised : Raised c.args.parents.now c.args.nodes.now c.args.lows.now c.args.starts.now again = raised-again c.requires.raisable zeros zeros-size c.credit_rises.auto.raised (lent_again zeros-lent) c.credit_rises.ensures.in_range
-        c.credit_rises.ensures.raised in
+    c.credit_rises.ensures.raised in
     let all = take-asks c.requires.raisable raised in
     record { sizes = all.0; parents_first = all.1.0; enough = all.1.1 }
 
@@ -59,5 +58,5 @@ returns c =
     let zeros-lent : Lent (length c.args.parents.now) (replicate most_nodes 0) back = lent-zeros most_nodes c.requires.raisable.few-nodes c.credit_rises.auto.raised in
     let again : List ℕ = let n = length c.args.parents.now in take n (rejoined n (replicate most_nodes 0) back) in
     let raised : Raised c.args.parents.now c.args.nodes.now c.args.lows.now c.args.starts.now again = raised-again c.requires.raisable zeros zeros-size c.credit_rises.auto.raised (lent_again zeros-lent) c.credit_rises.ensures.in_range
-        c.credit_rises.ensures.raised in
+    c.credit_rises.ensures.raised in
     record { raised = raised-end c.requires.raisable raised c.take_rises.new.left c.take_rises.ensures.taken }

@@ -4,7 +4,6 @@ use mathlib.Core.Path.{ap, ◌∙◌}
 use Prim.Native.Nat.{ℕ, suc, ◌-◌, ◌<◌}
 use native.Mathlib.Omega.{arith}
 use lib.ListN.{length}
-use borrow.Author.Rules.{rules}
 use Rattle.figures.specs.Figures.{at}
 use Rattle.deals.proofs.NodeSums.{summing-fits}
 use Rattle.plan_reclaim.proofs.Raising.{RisesTaken, taken_start, taken_next, node-there, taken-fits, taken-turn}

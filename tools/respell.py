@@ -13,7 +13,7 @@ import pathlib
 import re
 import sys
 
-NAME = re.compile(r"[A-Za-z_][\w']*")
+NAME = re.compile(r"(?<!\w)[A-Za-z_][\w']*")
 CAMEL = re.compile(r"[a-z][a-z0-9_]*[A-Z]")
 HEX_BYTE = re.compile(r"x[0-9A-F]{2}")
 STRING = re.compile(r'b?"(?:[^"\\\n]|\\.)*"')

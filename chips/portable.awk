@@ -29,27 +29,27 @@ function look_at_attributes(line) {
     sub(/^[^{]*{/, "", line)
     sub(/}.*/, "", line)
     gsub(/memory\([^)]*\)/, "", line)
-    gsub(/nounwind|cold|noreturn|nocallback|nofree|nosync|willreturn|speculatable/, "", line)
+    gsub(/nounwind|cold|noreturn|nocallback|nocreateundeforpoison|nofree|nosync|willreturn|speculatable/, "", line)
     if (line !~ /^ *$/) stop("the attribute" line)
 }
 
 BEGIN {
     count = split("define declare internal constant private unnamed_addr noundef zeroext captures none readonly writeonly immarg " \
-        "void ptr double i1 i8 i16 i32 i64 x align inbounds nuw nsw nneg to true false zeroinitializer c " \
+        "void ptr null double i1 i8 i16 i32 i64 x align inbounds nuw nsw nneg to true false zeroinitializer c " \
         "alloca load store getelementptr call tail br label switch ret unreachable phi select icmp fcmp " \
         "eq ne ult ule ugt uge slt sle sgt sge oeq one ogt oge olt ole ord ueq une ugt uge ult ule uno " \
         "zext sext trunc uitofp add sub mul udiv urem sdiv srem and or xor shl lshr ashr " \
         "fadd fsub fmul fdiv fneg source_filename", list, " ")
     for (i = 1; i <= count; i++) known[list[i]] = 1
     for (i in list) delete list[i]
-    count = split("llvm.trap llvm.memmove.p0.p0.i64 llvm.memcpy.p0.p0.i64 llvm.memset.p0.i64", list, " ")
+    count = split("llvm.trap llvm.memmove.p0.p0.i64 llvm.memcpy.p0.p0.i64 llvm.memset.p0.i64 llvm.arithmetic.fence.f64", list, " ")
     for (i = 1; i <= count; i++) functions[list[i]] = 1
 }
 
 /^target datalayout = "e-/ || /^target triple = / { next }
 
 /^attributes / {
-    gsub(/"probe-stack"="inline-asm"|"target-cpu"="x86-64"/, "")
+    gsub(/"probe-stack"="inline-asm"|"stack-probe-size"="[0-9]+"|"target-cpu"="x86-64"/, "")
     look_at_attributes($0)
     print
     next

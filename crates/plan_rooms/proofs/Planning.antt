@@ -21,6 +21,7 @@ use Rattle.rooms.specs.Lists.{carried_by, lows_of, parents_of, limits_of, nodes_
 use Rattle.deals.specs.Wants.{needs, first_wants}
 use Rattle.deals.specs.Metrics.{Deal, deal_from, deal_of}
 use Rattle.deals.specs.Properties.{DealBounded, StartsFit}
+use Rattle.deals.specs.Dealing.{granted}
 use Rattle.deals.specs.SecondDeal.{least_over, usable, stranded, wants_after, first_deal, first_grants, first_usable, first_used, second_deal, second_wants, second_grants}
 use Rattle.deals.specs.SecondDeal as second
 use Rattle.deals.proofs.Requests.{Dealable, deal_beneath}
@@ -219,7 +220,8 @@ module _ {r : Room} (ok : Accepted r) {demands parents spare : List ℕ} {cords 
     unfolding first_grants first_deal deal_of
     first_made made =
         let l = of.lists.cords-are in
-        made.grants-are ∙ rw (of.lists.parents-are, of.nodes-are, l.lows-are, l.wants-are)
+        let same : deal_from parents (limits_of r) nodes (levels_of r) lows lows wants ≡ first_deal r demands = rw (of.lists.parents-are, of.nodes-are, l.lows-are, l.wants-are) in
+        subst (λ (d : Deal). grants ≡ granted d) same made.grants-are
 
     pub second-made : {starts given : List ℕ} → starts ≡ first_used r demands → given ≡ second_wants r demands
         → DealMade (deal_from parents (limits_of r) nodes (levels_of r) lows starts given) left cuts grants → DealMade (second_deal r demands) left cuts grants

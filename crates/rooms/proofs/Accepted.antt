@@ -7,7 +7,7 @@ use native.Mathlib.Omega.{arith}
 use lib.ListN.{length, get_or}
 use Rattle.rooms.specs.Part.{good, many}
 use Rattle.figures.specs.Figures.{total}
-use Rattle.rooms.specs.Table.{Node, Cord, Server, Room, IsScale, most_watts, most_nodes, most_servers, most_cords, most_server_cords, highest_rank, node, nodes, cord, server, servers, cord_count, room_cords, share_sum}
+use Rattle.rooms.specs.Table.{Node, Cord, Server, Room, IsScale, most_watts, most_nodes, most_servers, most_cords, most_server_cords, highest_rank, nodes, cord, server, servers, cord_count, room_cords, share_sum}
 use Rattle.rooms.specs.Limits.{limit, node_at, lows_beneath, overloaded, checked}
 use Rattle.rooms.proofs.NodeWords.{percent-to}
 use Rattle.rooms.proofs.Inversion.{cord-is, server-is, server-few, many_is}

@@ -35,7 +35,7 @@ use Rattle.rooms.specs.declared.SheetAnswer.{SheetAnswer}
 use Rattle.rooms.specs.declared.SheetAnswer.TheVariants.{Accepted}
 use Rattle.rooms.specs.declared.SheetAnswer.TheVariants as answers
 use Rattle.rooms.specs.declared.Checked.{Checked}
-use Rattle.rooms.specs.declared.Checked.TheVariants.{Good, Refused}
+use Rattle.rooms.specs.declared.Checked.TheVariants.{Refused}
 
 -- A step that is told as refused is refused so.
 pub refused-so : {A : Type 0} (f : A → ℕ) (s : Step A) {r : Checked} {q : SheetRefusal} → r ≡ told f s → r ≡ Refused q → s ≡ bad q

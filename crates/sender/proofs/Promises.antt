@@ -11,7 +11,7 @@ use borrow.Author.Tests.{ltb-true, ltb-false}
 use lib.Dec.{ltb}
 use lib.ListN.{length, get_or}
 use Rattle.sender.specs.Period.{following, servers_from, position_after, named_count, period}
-use Rattle.outcomes.specs.Outcome.{accepted, refused}
+use Rattle.outcomes.specs.Outcome.{refused}
 use Rattle.sender.specs.Outcome.{SendOutcome, in_range, sending, answer_of, sent_number, sent_figure, sent_position}
 use Rattle.sender.specs.Promises.{InRange, Tells, AnsweredExactly, Kept, PeriodKept, run, ceil_div, EachWithin}
 use Rattle.sender.specs.declared.SendRefusal.{SendRefusal}

@@ -2,7 +2,6 @@
 use mathlib.Core.Path.{sym}
 use mathlib.Core.List.{[], ◌∷◌}
 use native.Mathlib.Omega.{arith}
-use borrow.Author.Rules.{rules}
 use Rattle.calls.proofs.Calls.{answered-short, two-stored}
 use Rattle.calls.proofs.store_answer.Goals as goal
 
@@ -10,14 +9,14 @@ pub returns-then-answer-lt-ANSWER_BYTES : goal.returns-then-answer-lt-ANSWER_BYT
 returns-then-answer-lt-ANSWER_BYTES c =
     record {
       stored =
-        let args = c.args in
-        sym (answered-short 2 args.answer.now (args.number ∷ args.figure ∷ []) (omega arith))
+          let args = c.args in
+          sym (answered-short 2 args.answer.now (args.number ∷ args.figure ∷ []) (omega arith));
     }
 
 pub returns : goal.returns
 returns c =
     record {
       stored =
-        let args = c.args in
-        two-stored args.number args.figure args.answer.now (omega (arith, c)) c.store_number.ensures.stored c.store_number-2.ensures.stored
+          let args = c.args in
+          two-stored args.number args.figure args.answer.now (omega (arith, c)) c.store_number.ensures.stored c.store_number-2.ensures.stored;
     }

@@ -2,7 +2,6 @@
 use mathlib.Core.Path.{sym}
 use mathlib.Core.List.{[], ◌∷◌}
 use native.Mathlib.Omega.{arith}
-use borrow.Author.Rules.{rules}
 use Rattle.calls.proofs.Calls.{answered-short, three-stored}
 use Rattle.calls.proofs.store_long_answer.Goals as goal
 
@@ -10,14 +9,14 @@ pub returns-then-answer-lt-LONG_ANSWER_BYTES : goal.returns-then-answer-lt-LONG_
 returns-then-answer-lt-LONG_ANSWER_BYTES c =
     record {
       stored =
-        let args = c.args in
-        sym (answered-short 3 args.answer.now (args.number ∷ args.first ∷ args.second ∷ []) (omega arith))
+          let args = c.args in
+          sym (answered-short 3 args.answer.now (args.number ∷ args.first ∷ args.second ∷ []) (omega arith));
     }
 
 pub returns : goal.returns
 returns c =
     record {
       stored =
-        let args = c.args in
-        three-stored args.number args.first args.second args.answer.now (omega (arith, c)) c.store_answer.ensures.stored c.store_number.ensures.stored
+          let args = c.args in
+          three-stored args.number args.first args.second args.answer.now (omega (arith, c)) c.store_answer.ensures.stored c.store_number.ensures.stored;
     }

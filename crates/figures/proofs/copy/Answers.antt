@@ -1,10 +1,7 @@
 -- `copy` meets its contract: a turn takes the stores of i words to those of i + 1, and the count leaves out only what does not fit.
-use borrow.Author.Rules.{rules}
 use native.Mathlib.Omega.{arith}
-use Prim.Native.Nat.{◌-◌, ◌≤◌}
-use mathlib.Core.Path.{◌≡◌, refl}
-use lib.ListN.{length, take, length-set}
-use lib.Seq.{sets}
+use mathlib.Core.Path.{refl}
+use lib.ListN.{length-set}
 use Rattle.figures.proofs.Stores.{sets-turn, sets-take}
 use Rattle.figures.proofs.copy.Goals as goal
 
@@ -12,7 +9,7 @@ pub loop-i-init : goal.loop-i-init
 loop-i-init c = (omega arith, refl, refl)
 
 pub loop-i-preserved : goal.loop-i-preserved
-loop-i-preserved c =    let args = c.args in
+loop-i-preserved c = let args = c.args in
     let turn = sets-turn args.to.now args.from.now c.loop-i.i 0 (omega arith) in
     (omega arith, (cc), simp length-set (omega arith))
 
@@ -20,6 +17,6 @@ pub returns : goal.returns
 returns c =
     record {
       copied =
-        let args = c.args in
-        cc (sets-take c.loop-i.i args.to.now args.from.now (omega arith))
+          let args = c.args in
+          cc (sets-take c.loop-i.i args.to.now args.from.now (omega arith));
     }

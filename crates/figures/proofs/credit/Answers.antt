@@ -1,5 +1,4 @@
 -- `credit` meets its contract: it stores at the node's place what `credited` sets there, and changes nothing for node 0.
-use borrow.Author.Rules.{rules}
 use Rattle.figures.proofs.Credits.{credited-none, credited-some}
 use Rattle.figures.proofs.credit.Goals as goal
 

@@ -1,8 +1,6 @@
 -- `first_not_below` meets its contract: the words that are still to be searched complete the index at every turn (`Searching`).
 use borrow.Author.Rules.{rules}
-use Prim.Native.Nat.{◌-◌}
-use lib.ListN.{length}
-use Rattle.figures.proofs.Search.{Searching, searching-begin, searching-again, searching-stop, searching-end}
+use Rattle.figures.proofs.Search.{searching-begin, searching-again, searching-stop, searching-end}
 use Rattle.figures.proofs.first_not_below.Goals as goal
 
 pub loop-index-init : goal.loop-index-init

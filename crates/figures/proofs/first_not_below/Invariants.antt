@@ -1,7 +1,6 @@
-use borrow.Author.Rules.{rules}
 use Prim.Native.Nat.{◌-◌}
 use lib.ListN.{length}
-use Rattle.figures.proofs.Search.{Searching, searching-begin, searching-again, searching-stop, searching-end}
+use Rattle.figures.proofs.Search.{Searching}
 use Rattle.figures.proofs.first_not_below.Given as goal
 
 abbrev pub invariant-loop-index : goal.invariant-loop-index

@@ -1,6 +1,5 @@
 -- `decode` meets its contract: a number of one or two bytes by `DecodePair`, any other as `decode_bytes` reads it.
 use borrow.Author.Rules.{rules}
-use borrow.Author.Tests.{ltb-true}
 use Prim.Native.Nat.{◌*◌, ◌/◌, ◌<◌}
 use native.Mathlib.Omega.{arith}
 use Rattle.numbers.proofs.DecodePair.{second_fits, paired}

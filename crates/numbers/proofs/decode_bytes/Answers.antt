@@ -2,7 +2,7 @@
 use borrow.Author.Rules.{rules}
 use Prim.Native.Nat.{ℕ, ◌+◌, ◌-◌, ◌*◌, ◌^◌, ◌≤◌, ◌<◌}
 use native.Mathlib.Omega.{arith}
-use Rattle.numbers.proofs.DecodeLoop.{Inv, empty, single, begin, exhausted, ended, fits, not-shortest, last, again}
+use Rattle.numbers.proofs.DecodeLoop.{empty, single, begin, exhausted, ended, fits, not-shortest, last, again}
 use Rattle.numbers.proofs.decode_bytes.Goals as goal
 
 pub returns-then-sheet-at : goal.returns-then-sheet-at

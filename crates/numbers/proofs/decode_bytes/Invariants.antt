@@ -1,7 +1,4 @@
-use borrow.Author.Rules.{rules}
-use Prim.Native.Nat.{ℕ, ◌+◌, ◌-◌, ◌*◌, ◌^◌, ◌≤◌, ◌<◌}
-use native.Mathlib.Omega.{arith}
-use Rattle.numbers.proofs.DecodeLoop.{Inv, empty, single, begin, exhausted, ended, fits, not-shortest, last, again}
+use Rattle.numbers.proofs.DecodeLoop.{Inv}
 use Rattle.numbers.proofs.decode_bytes.Given as goal
 
 abbrev pub invariant-loop-left : goal.invariant-loop-left

@@ -1,5 +1,4 @@
 -- `encode_sheet` meets its contract: nothing is written before all words have forms and fit, by their count or by their sizes.
-use borrow.Author.Rules.{rules}
 use mathlib.Core.Path.{refl, ap, ◌∙◌}
 use native.Mathlib.Omega.{arith}
 use Rattle.std.proofs.Common.{length, ◌≤◌}
@@ -28,12 +27,14 @@ put_all-requires-clause-values c = forms-below c.args.words.now (omega (arith, c
 
 pub put_all-requires-clause-space : goal.put_all-requires-clause-space
 put_all-requires-clause-space c = elim c.if-sheet-words.branch [
-    then-sheet-words+else-sheet-needed w ↦ omega (arith, w.total_size-needed.ensures.result)
-  | else-sheet-words w ↦ omega (arith, length-bytes_of≤ c.args.words.now) ]
+  | then-sheet-words+else-sheet-needed w ↦ omega (arith, w.total_size-needed.ensures.result)
+  | else-sheet-words w ↦ omega (arith, length-bytes_of≤ c.args.words.now)
+]
 
 pub returns-clause-result : goal.returns-clause-result
 returns-clause-result c =
     let fits : length (bytes_of c.args.words.now) ≤ length c.args.sheet.now = elim c.if-sheet-words.branch [
-        then-sheet-words+else-sheet-needed w ↦ omega (arith, w.total_size-needed.ensures.result)
-      | else-sheet-words w ↦ omega (arith, length-bytes_of≤ c.args.words.now) ] in
+      | then-sheet-words+else-sheet-needed w ↦ omega (arith, w.total_size-needed.ensures.result)
+      | else-sheet-words w ↦ omega (arith, length-bytes_of≤ c.args.words.now)
+    ] in
     ap Bytes c.put_all.ensures.count ∙ written-whole c.args.words.now _ (omega (arith, c.first_not_below-large.ensures.result)) fits

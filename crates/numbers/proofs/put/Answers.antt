@@ -1,6 +1,6 @@
 -- `put` meets its contract: the groups still to be written complete the form at every turn (`PutLoop`).
 use borrow.Author.Rules.{rules}
-use Rattle.numbers.proofs.PutLoop.{Inv, begin, place, again, last}
+use Rattle.numbers.proofs.PutLoop.{begin, place, again, last}
 use Rattle.numbers.proofs.put.Goals as goal
 
 pub loop-rest-init : goal.loop-rest-init

@@ -1,5 +1,4 @@
-use borrow.Author.Rules.{rules}
-use Rattle.numbers.proofs.PutLoop.{Inv, begin, place, again, last}
+use Rattle.numbers.proofs.PutLoop.{Inv}
 use Rattle.numbers.proofs.put.Given as goal
 
 abbrev pub invariant-loop-rest : goal.invariant-loop-rest

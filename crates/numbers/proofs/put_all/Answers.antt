@@ -1,8 +1,6 @@
 -- `put_all` meets its contract: the words that are still to be written complete the sheet at every turn (`Writing`).
 use borrow.Author.Rules.{rules}
-use Prim.Native.Nat.{◌-◌}
-use lib.ListN.{length}
-use Rattle.numbers.proofs.SheetLoops.{Writing, writing-begin, writing-end, writing-fits, writing-again, writing_more, writing-fits-more, writing-last}
+use Rattle.numbers.proofs.SheetLoops.{writing-begin, writing-end, writing-fits, writing-again, writing_more, writing-fits-more, writing-last}
 use Rattle.numbers.proofs.put_all.Goals as goal
 
 pub loop-done-init : goal.loop-done-init

@@ -1,7 +1,6 @@
-use borrow.Author.Rules.{rules}
 use Prim.Native.Nat.{◌-◌}
 use lib.ListN.{length}
-use Rattle.numbers.proofs.SheetLoops.{Writing, writing-begin, writing-end, writing-fits, writing-again, writing_more, writing-fits-more, writing-last}
+use Rattle.numbers.proofs.SheetLoops.{Writing}
 use Rattle.numbers.proofs.put_all.Given as goal
 
 abbrev pub invariant-loop-done : goal.invariant-loop-done

@@ -1,5 +1,4 @@
 -- `store` meets its contract: a store past the end changes nothing.
-use borrow.Author.Rules.{rules}
 use mathlib.Core.Path.{sym}
 use lib.Seq.{set_out}
 use Rattle.numbers.proofs.store.Goals as goal

@@ -1,10 +1,9 @@
 -- `total_size` meets its contract: the words that are still to be measured complete the sum at every turn (`Sizing`).
 use borrow.Author.Rules.{rules}
-use Prim.Native.Nat.{◌-◌}
 use native.Mathlib.Omega.{arith}
-use lib.ListN.{length, get_or}
+use lib.ListN.{get_or}
 use Rattle.numbers.proofs.NumberLaws.{length-form≤4}
-use Rattle.numbers.proofs.SheetLoops.{Sizing, sizing-begin, sizing-again, sizing-end}
+use Rattle.numbers.proofs.SheetLoops.{sizing-begin, sizing-again, sizing-end}
 use Rattle.numbers.proofs.total_size.Goals as goal
 
 pub loop-index-init : goal.loop-index-init

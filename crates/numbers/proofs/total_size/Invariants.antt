@@ -1,9 +1,6 @@
-use borrow.Author.Rules.{rules}
 use Prim.Native.Nat.{◌-◌}
-use native.Mathlib.Omega.{arith}
-use lib.ListN.{length, get_or}
-use Rattle.numbers.proofs.NumberLaws.{length-form≤4}
-use Rattle.numbers.proofs.SheetLoops.{Sizing, sizing-begin, sizing-again, sizing-end}
+use lib.ListN.{length}
+use Rattle.numbers.proofs.SheetLoops.{Sizing}
 use Rattle.numbers.proofs.total_size.Given as goal
 
 abbrev pub invariant-loop-index : goal.invariant-loop-index

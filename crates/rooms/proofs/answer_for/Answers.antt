@@ -1,7 +1,6 @@
 -- `answer_for` meets its contract: the table is checked, and only the output's length is left to decide.
 use Rattle.rooms.proofs.Steps.{known}
 use Rattle.rooms.proofs.Outcomes.{refused-so, table-refused, table-short, table-accepted}
-use borrow.Author.Rules.{rules}
 use Rattle.rooms.proofs.answer_for.Goals as goal
 
 pub returns-in-Refused : goal.returns-in-Refused

@@ -13,8 +13,6 @@ use Rattle.rooms.proofs.Steps.{known, stop, pass, ensured, denied, gives}
 use borrow.Author.Rules.{rules}
 use Rattle.rooms.proofs.check_summing.Goals as goal
 
-)
-
 pub check_table-words-requires : goal.check_table-words-requires
 check_table-words-requires c = record { zeros = all-zeros _ _ c.requires.zeros }
 
@@ -45,9 +43,9 @@ returns-then-node-ne0 c =
 pub returns : goal.returns
 unfolding checked
 returns c =
-    let both = (
-  pass _ _ _ _ c.check_table-words.ensures.result c.in-Good.is (λ room is cords.
-      let found = c.overloaded-node.ensures.result room _ is in
-      ensured _ _ _ _ _ _ (eq-eqb _ _ (sym found ∙ c.if-node-ne0.false)) (gives _ _ _ (sym cords))),
-  λ room j is. c.overloaded-node.ensures.sums room j (checked-is _ room j is).0, in
-    record { result = both.0; lows = both.1 }
+    record {
+      result = pass _ _ _ _ c.check_table-words.ensures.result c.in-Good.is (λ room is cords.
+          let found = c.overloaded-node.ensures.result room _ is in
+          ensured _ _ _ _ _ _ (eq-eqb _ _ (sym found ∙ c.if-node-ne0.false)) (gives _ _ _ (sym cords)));
+      lows = λ room j is. c.overloaded-node.ensures.sums room j (checked-is _ room j is).0;
+    }

@@ -5,13 +5,12 @@ use lib.ListN.{length}
 use lib.Seq.{length-take-le}
 use Rattle.rooms.proofs.Outcomes.{refused-told, refused-done, accepted-done}
 use Rattle.rooms.proofs.Lent.{reading-first, Stands, first-stands}
-use borrow.Author.Rules.{rules}
 use Rattle.rooms.proofs.read_by.Goals as goal
 
 pub returns-in_default : goal.returns-in_default
 returns-in_default c =
     let args = c.args in
-    let same = reading-first args.sheet.now (length args.table.now) _ c.pre in
+    let same = reading-first args.sheet.now (length args.table.now) _ c.requires.space in
     let done = refused-done _ args.table.now (sym same ∙ refused-told _ c.read_words-read.ensures.result c.in_default.is) in
     record {
       result = c.in_default.is ∙ done.0;
@@ -21,10 +20,12 @@ returns-in_default c =
 pub slice_bounds-copy-end : goal.slice_bounds-copy-end
 slice_bounds-copy-end c =
     let stands : let args = c.args in Stands args.sheet.now (length args.table.now) args.words.now c.read_words-read.new.words c.in-Accepted.count = first-stands _ _ c.args.words.now c.read_words-read.ensures.result c.in-Accepted.is c.read_words-read.ensures.words in
-    omega (arith, stands.ranges)
+    omega (arith, stands.fits)
 
 pub slice_bounds-copy-end-2 : goal.slice_bounds-copy-end-2
-slice_bounds-copy-end-2 c = sym (length-take-le _ c.read_words-read.new.words (slice-reshare-prefix-copy c))
+slice_bounds-copy-end-2 c =
+    let stands : let args = c.args in Stands args.sheet.now (length args.table.now) args.words.now c.read_words-read.new.words c.in-Accepted.count = first-stands _ _ c.args.words.now c.read_words-read.ensures.result c.in-Accepted.is c.read_words-read.ensures.words in
+    sym (length-take-le _ c.read_words-read.new.words (omega (arith, stands.fits)))
 
 pub returns : goal.returns
 returns c =

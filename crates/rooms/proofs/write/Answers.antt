@@ -4,7 +4,6 @@ use Rattle.rooms.specs.Limits.{checked}
 use Rattle.rooms.proofs.Steps.{Known, known}
 use Rattle.rooms.proofs.Outcomes.{refused-so, refused-done, accepted-done, writing-refused, writing-bytes, writing-short, writing-large}
 use mathlib.Core.Path.{◌∙◌}
-use borrow.Author.Rules.{rules}
 use Rattle.rooms.proofs.write.Goals as goal
 
 pub returns-in-Refused : goal.returns-in-Refused
@@ -34,5 +33,4 @@ pub returns-in-TooLarge : goal.returns-in-TooLarge
 returns-in-TooLarge c =
     let good : Known room_cords (checked c.args.table.now 0) c.in_default.field-0 c.in_default.field-1 = known _ _ c.check-checked.ensures.result c.in_default.is in
     let table = good in
-    let both = absurd (writing-large _ _ table.is c.encode_sheet.ensures.result c.in-TooLarge.is) in
-    record { result = both.0; sheet = both.1 }
+    absurd (writing-large _ _ table.is c.encode_sheet.ensures.result c.in-TooLarge.is)

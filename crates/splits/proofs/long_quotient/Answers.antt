@@ -2,7 +2,6 @@
 use mathlib.Core.Path.{◌≡◌, ap, ap₂, sym, subst, ◌∙◌}
 use Prim.Native.Nat.{ℕ, ◌*◌, ◌/◌, ◌≤◌}
 use native.Mathlib.Nat.{mul-le-mul_left, lt_of_le_of_lt}
-use borrow.Author.Rules.{rules}
 use Rattle.splits.proofs.Splits.{quotient_by, quotient-most}
 use Rattle.splits.proofs.Ways.{quotient_in-is}
 use Rattle.splits.proofs.long_quotient.Goals as goal
@@ -14,20 +13,20 @@ pub narrow-requires : goal.narrow-requires
 narrow-requires c =
     record {
       fits =
-        let args = c.args in
-        let by : c.wide.result * args.upto / c.greater.result ≡ c.wide.result * args.upto / args.whole
-        = ap (λ (d : ℕ). c.wide.result * args.upto / d) c.greater.ensures.result ∙ quotient_by c.wide.result args.upto args.whole c.requires.in_range.0 in
-        lt_of_le_of_lt (subst (λ (q : ℕ). q ≤ c.wide.result) (sym by) (quotient-most c.wide.result args.upto args.whole c.requires.in_range.0)) c.wide.ensures.result.1
+          let args = c.args in
+          let by : c.wide.result * args.upto / c.greater.result ≡ c.wide.result * args.upto / args.whole
+          = ap (λ (d : ℕ). c.wide.result * args.upto / d) c.greater.ensures.result ∙ quotient_by c.wide.result args.upto args.whole c.requires.in_range.0 in
+          lt_of_le_of_lt (subst (λ (q : ℕ). q ≤ c.wide.result) (sym by) (quotient-most c.wide.result args.upto args.whole c.requires.in_range.0)) c.wide.ensures.result.1;
     }
 
 pub returns : goal.returns
 returns c =
     record {
       result =
-        let args = c.args in
-        let pre = c.requires.in_range in
-        c.narrow.ensures.result
-        ∙ ap₂ (λ (x d : ℕ). x * args.upto / d) c.wide.ensures.result.0 c.greater.ensures.result
-        ∙ quotient_by args.amount args.upto args.whole pre.0
-        ∙ sym (quotient_in-is 64 args.amount args.upto args.whole pre.0 pre.1)
+          let args = c.args in
+          let pre = c.requires.in_range in
+          c.narrow.ensures.result
+          ∙ ap₂ (λ (x d : ℕ). x * args.upto / d) c.wide.ensures.result.0 c.greater.ensures.result
+          ∙ quotient_by args.amount args.upto args.whole pre.0
+          ∙ sym (quotient_in-is 64 args.amount args.upto args.whole pre.0 pre.1);
     }

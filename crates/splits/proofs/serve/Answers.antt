@@ -1,5 +1,4 @@
 -- `serve` meets its contract: all the weight takes all, and any other child is served by a division.
-use borrow.Author.Rules.{rules}
 use Rattle.splits.proofs.Serving.{serve-all, all_seen}
 use Rattle.splits.proofs.serve.Goals as goal
 

@@ -1,6 +1,5 @@
 -- `serve_by_division` meets its contract: the watts dealt on the node grow from one quotient of the split to the next.
 use mathlib.Core.Path.{refl}
-use borrow.Author.Rules.{rules}
 use Rattle.splits.proofs.Serving.{serve-some, dealt-rises}
 use Rattle.splits.proofs.serve_by_division.Goals as goal
 

@@ -2,7 +2,6 @@
 use mathlib.Core.Path.{ap, sym, ◌∙◌}
 use Prim.Native.Nat.{ℕ, ◌*◌, ◌/◌}
 use native.Mathlib.Nat.{mul-le-mul_left, lt_of_le_of_lt}
-use borrow.Author.Rules.{rules}
 use Rattle.splits.proofs.Splits.{quotient_by}
 use Rattle.splits.proofs.Ways.{quotient_in-is, short-fits}
 use Rattle.splits.proofs.short_quotient.Goals as goal
@@ -14,7 +13,7 @@ pub returns : goal.returns
 returns c =
     record {
       result =
-        ap (λ (d : ℕ). c.args.amount * c.args.upto / d) c.short_greater.ensures.result
-        ∙ quotient_by c.args.amount c.args.upto c.args.whole c.requires.short.2
-        ∙ sym (quotient_in-is 32 c.args.amount c.args.upto c.args.whole c.requires.short.2 (short-fits c.args.amount c.args.whole c.requires.short.0 c.requires.short.1))
+          ap (λ (d : ℕ). c.args.amount * c.args.upto / d) c.short_greater.ensures.result
+          ∙ quotient_by c.args.amount c.args.upto c.args.whole c.requires.short.2
+          ∙ sym (quotient_in-is 32 c.args.amount c.args.upto c.args.whole c.requires.short.2 (short-fits c.args.amount c.args.whole c.requires.short.0 c.requires.short.1));
     }

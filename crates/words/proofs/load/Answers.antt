@@ -1,10 +1,8 @@
 -- `words::load` meets its contract: it copies the words of the bytes as `copy` does those of a list, each read where its four bytes stand.
 use borrow.Author.Rules.{rules}
 use native.Mathlib.Omega.{arith}
-use Prim.Native.Nat.{◌-◌, ◌≤◌}
-use mathlib.Core.Path.{◌≡◌, refl}
-use lib.ListN.{length, take, length-set}
-use lib.Seq.{sets}
+use mathlib.Core.Path.{refl}
+use lib.ListN.{length-set}
 use Rattle.words.specs.Bytes.{words_of}
 use Rattle.figures.proofs.Stores.{sets-turn, sets-take}
 use Rattle.words.proofs.Bytes.{length-words_of, get_or-words_of}

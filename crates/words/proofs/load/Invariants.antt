@@ -1,12 +1,8 @@
-use borrow.Author.Rules.{rules}
-use native.Mathlib.Omega.{arith}
 use Prim.Native.Nat.{◌-◌, ◌≤◌}
-use mathlib.Core.Path.{◌≡◌, refl}
-use lib.ListN.{length, take, length-set}
+use mathlib.Core.Path.{◌≡◌}
+use lib.ListN.{length, take}
 use lib.Seq.{sets}
 use Rattle.words.specs.Bytes.{words_of}
-use Rattle.figures.proofs.Stores.{sets-turn, sets-take}
-use Rattle.words.proofs.Bytes.{length-words_of, get_or-words_of}
 use Rattle.words.proofs.load.Given as goal
 
 abbrev pub invariant-loop-i : goal.invariant-loop-i

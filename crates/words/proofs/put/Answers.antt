@@ -1,10 +1,8 @@
 -- `words::put` meets its contract: the bytes still to come, stored where they go, always make up the whole number.
-use borrow.Author.Rules.{rules}
 use native.Mathlib.Omega.{arith}
-use Prim.Native.Nat.{◌+◌, ◌-◌, ◌≤◌}
+use Prim.Native.Nat.{◌+◌, ◌-◌}
 use mathlib.Core.Path.{◌≡◌, refl}
-use lib.ListN.{length, length-set}
-use lib.Seq.{sets}
+use lib.ListN.{length-set}
 use Rattle.words.specs.Bytes.{little_endian}
 use Rattle.words.proofs.Bytes.{sets-little_endian-turn}
 use Rattle.words.proofs.put.Goals as goal
@@ -26,6 +24,6 @@ unfolding little_endian
 returns c =
     record {
       stored =
-        let none : c.args.count - c.loop-i.i ≡ 0 = omega arith in
-        rw none at c.loop-i.invariant.1
+          let none : c.args.count - c.loop-i.i ≡ 0 = omega arith in
+          rw none at c.loop-i.invariant.1;
     }

@@ -1,15 +1,12 @@
-use borrow.Author.Rules.{rules}
-use native.Mathlib.Omega.{arith}
 use Prim.Native.Nat.{◌+◌, ◌-◌, ◌≤◌}
-use mathlib.Core.Path.{◌≡◌, refl}
-use lib.ListN.{length, length-set}
+use mathlib.Core.Path.{◌≡◌}
+use lib.ListN.{length}
 use lib.Seq.{sets}
 use Rattle.words.specs.Bytes.{little_endian}
-use Rattle.words.proofs.Bytes.{sets-little_endian-turn}
 use Rattle.words.proofs.put.Given as goal
 
 abbrev pub invariant-loop-i : goal.invariant-loop-i
-invariant-loop-i l =     (l.i ≤ l.count)
+invariant-loop-i l = (l.i ≤ l.count)
     × (sets l.bytes (l.at + l.i) (little_endian (l.count - l.i) l.rest) ≡ sets l.initial.bytes l.at (little_endian l.count l.number))
     × (length l.bytes ≡ length l.initial.bytes)
 

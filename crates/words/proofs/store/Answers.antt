@@ -1,10 +1,8 @@
 -- `words::store` meets its contract: a turn puts the four bytes of one more word behind those of the words before it.
-use borrow.Author.Rules.{rules}
 use native.Mathlib.Omega.{arith}
-use Prim.Native.Nat.{◌-◌, ◌/◌, ◌≤◌, min}
+use Prim.Native.Nat.{◌/◌, min}
 use mathlib.Core.Path.{◌≡◌, refl}
-use lib.ListN.{length, take}
-use lib.Seq.{sets}
+use lib.ListN.{length}
 use Rattle.words.specs.Bytes.{bytes_of}
 use Rattle.figures.proofs.Stores.{take_min}
 use Rattle.words.proofs.Bytes.{sets-bytes_of-turn}
@@ -25,7 +23,7 @@ pub returns : goal.returns
 returns c =
     record {
       stored =
-        let args = c.args in
-        let all : c.loop-i.i ≡ min (length args.list.now) (length args.bytes.now / 4) = omega arith in
-        cc (take_min (length args.bytes.now / 4) args.list.now)
+          let args = c.args in
+          let all : c.loop-i.i ≡ min (length args.list.now) (length args.bytes.now / 4) = omega arith in
+          cc (take_min (length args.bytes.now / 4) args.list.now);
     }

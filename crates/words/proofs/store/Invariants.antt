@@ -1,12 +1,8 @@
-use borrow.Author.Rules.{rules}
-use native.Mathlib.Omega.{arith}
-use Prim.Native.Nat.{◌-◌, ◌/◌, ◌≤◌, min}
-use mathlib.Core.Path.{◌≡◌, refl}
+use Prim.Native.Nat.{◌-◌, ◌≤◌}
+use mathlib.Core.Path.{◌≡◌}
 use lib.ListN.{length, take}
 use lib.Seq.{sets}
 use Rattle.words.specs.Bytes.{bytes_of}
-use Rattle.figures.proofs.Stores.{take_min}
-use Rattle.words.proofs.Bytes.{sets-bytes_of-turn}
 use Rattle.words.proofs.store.Given as goal
 
 abbrev pub invariant-loop-i : goal.invariant-loop-i

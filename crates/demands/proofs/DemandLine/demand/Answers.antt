@@ -1,5 +1,4 @@
 -- `DemandLine::demand` meets its contract: a line of digits alone has their number, if there is one.
-use borrow.Author.Rules.{rules}
 use borrow.Author.Tests.{le-leb, lt-leb}
 use Rattle.demands.proofs.DemandLine.demand.Goals as goal
 

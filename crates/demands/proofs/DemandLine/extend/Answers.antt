@@ -1,5 +1,4 @@
 -- `DemandLine::extend` meets its contract: each test that fails makes the line another, and all that hold make it digits still.
-use borrow.Author.Rules.{rules}
 use borrow.Author.Tests.{le-leb, lt-leb, lt-ltb, le-ltb}
 use Rattle.figures.proofs.Tests.{and-false}
 use Rattle.demands.proofs.DemandLine.extend.Goals as goal
@@ -8,13 +7,13 @@ pub returns-then-number-lt10000000 : goal.returns-then-number-lt10000000
 returns-then-number-lt10000000 c =
     record {
       result =
-        rw (
-          c.in-Digits.is,
-          le-leb _ _ c.if-byte-ge48.true,
-          le-leb _ _ c.if-byte-le57.true,
-          lt-ltb _ _ c.if-count-lt-MOST_DIGITS.true,
-          lt-ltb _ _ c.if-number-lt10000000.true,
-        )
+          rw (
+            c.in-Digits.is,
+            le-leb _ _ c.if-byte-ge48.true,
+            le-leb _ _ c.if-byte-le57.true,
+            lt-ltb _ _ c.if-count-lt-MOST_DIGITS.true,
+            lt-ltb _ _ c.if-number-lt10000000.true,
+          );
     }
 
 pub returns-else-number-lt10000000 : goal.returns-else-number-lt10000000

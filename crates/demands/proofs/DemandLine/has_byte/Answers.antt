@@ -1,5 +1,4 @@
 -- `DemandLine::has_byte` meets its contract: a line of digits alone has a byte if it has a digit.
-use borrow.Author.Rules.{rules}
 use Rattle.demands.proofs.DemandLine.has_byte.Goals as goal
 
 pub returns-in-Digits : goal.returns-in-Digits

@@ -8,14 +8,14 @@ pub returns-then-count-least : goal.returns-then-count-least
 returns-then-count-least c =
     record {
       closed =
-        let args = c.args in
-        rw c.demand.ensures.result (sym (closed-stores args.self args.list.now (search rules)))
+          let args = c.args in
+          rw c.demand.ensures.result (sym (closed-stores args.self args.list.now (search rules)));
     }
 
 pub returns : goal.returns
 returns c =
     record {
       closed =
-        let args = c.args in
-        sym (closed-full args.self args.list.now (search rules))
+          let args = c.args in
+          sym (closed-full args.self args.list.now (search rules));
     }

@@ -1,11 +1,8 @@
 -- `DemandReading::feed` meets its contract: what is left of the piece always takes the reading where the whole piece does.
 use borrow.Author.Rules.{rules}
 use native.Mathlib.Omega.{arith}
-use mathlib.Core.Path.{◌≡◌, refl}
-use Prim.Native.Nat.{◌-◌}
-use lib.ListN.{length}
-use Rattle.demands.specs.Reading.{held_reading}
-use Rattle.demands.proofs.Bytes.{Going, going-first, going_next, going-last}
+use mathlib.Core.Path.{refl}
+use Rattle.demands.proofs.Bytes.{going-first, going_next, going-last}
 use Rattle.demands.proofs.DemandReading.feed.Goals as goal
 
 pub loop-i-init : goal.loop-i-init

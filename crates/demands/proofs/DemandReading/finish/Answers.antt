@@ -2,7 +2,6 @@
 use mathlib.Core.Path.{sym, ap, ◌∙◌}
 use Rattle.demands.specs.Reading.{HeldReading, held_count}
 use Rattle.demands.proofs.Bytes.{finished-inside, finished-between}
-use borrow.Author.Rules.{rules}
 use Rattle.demands.proofs.DemandReading.finish.Goals as goal
 
 pub returns-then-has_byte : goal.returns-then-has_byte

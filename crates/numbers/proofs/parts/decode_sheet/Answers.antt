@@ -1,9 +1,7 @@
 -- `decode_sheet` meets its contract: the numbers that are still to be read complete the answer and the list at every turn (`ReadingSheet`).
 use borrow.Author.Rules.{rules}
 use mathlib.Core.Path.{sym, ◌∙◌}
-use Prim.Native.Nat.{◌-◌}
-use lib.ListN.{length}
-use Rattle.numbers.proofs.SheetLoops.{ReadingSheet, reading-begin, reading-end, reading-stop, reading-falls, reading-again}
+use Rattle.numbers.proofs.SheetLoops.{reading-begin, reading-end, reading-stop, reading-falls, reading-again}
 use Rattle.numbers.proofs.parts.decode_sheet.Goals as goal
 
 pub loop-at-init : goal.loop-at-init

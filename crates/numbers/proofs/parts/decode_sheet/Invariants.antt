@@ -1,8 +1,6 @@
-use borrow.Author.Rules.{rules}
-use mathlib.Core.Path.{sym, ◌∙◌}
 use Prim.Native.Nat.{◌-◌}
 use lib.ListN.{length}
-use Rattle.numbers.proofs.SheetLoops.{ReadingSheet, reading-begin, reading-end, reading-stop, reading-falls, reading-again}
+use Rattle.numbers.proofs.SheetLoops.{ReadingSheet}
 use Rattle.numbers.proofs.parts.decode_sheet.Given as goal
 
 abbrev pub invariant-loop-at : goal.invariant-loop-at

@@ -3,7 +3,6 @@ use native.Mathlib.Omega.{arith}
 use mathlib.Core.Path.{ap}
 use Rattle.rooms.specs.Table.{node_words}
 use Rattle.rooms.proofs.NodeWords.{words-two, percent-most, limit-by-word, limit-by-eighty}
-use borrow.Author.Rules.{rules}
 use Rattle.rooms.proofs.form.limit_at.Goals as goal
 
 pub overflow_add-i : goal.overflow_add-i

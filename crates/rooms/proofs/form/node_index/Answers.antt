@@ -1,5 +1,4 @@
 -- `node_index` meets its contract: three words a node, or two.
-use borrow.Author.Rules.{rules}
 use Rattle.rooms.proofs.form.node_index.Goals as goal
 
 pub returns-then-percents : goal.returns-then-percents

@@ -2,7 +2,6 @@
 use mathlib.Core.Path.{sym}
 use native.Mathlib.Omega.{arith}
 use Rattle.rooms.proofs.Carried.{product-most, quotient-most, carried-is}
-use borrow.Author.Rules.{rules}
 use Rattle.rooms.proofs.limits.carried_by.Goals as goal
 
 pub overflow_mul-parts : goal.overflow_mul-parts

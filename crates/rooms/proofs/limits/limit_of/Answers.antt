@@ -2,7 +2,6 @@
 use mathlib.Core.Path.{◌∙◌}
 use native.Mathlib.Omega.{arith}
 use Rattle.rooms.proofs.Carried.{limit-most}
-use borrow.Author.Rules.{rules}
 use Rattle.rooms.proofs.limits.limit_of.Goals as goal
 
 pub overflow_mul-wide : goal.overflow_mul-wide

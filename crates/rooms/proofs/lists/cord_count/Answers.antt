@@ -1,5 +1,4 @@
 -- `cord_count` meets its contract: what a good table has besides its cords is told by its counts.
-use borrow.Author.Rules.{rules}
 use Rattle.rooms.proofs.Counts.{cords-none, cords-told}
 use Rattle.rooms.proofs.lists.cord_count.Goals as goal
 

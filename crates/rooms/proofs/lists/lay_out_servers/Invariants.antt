@@ -1,11 +1,7 @@
-use mathlib.Core.Path.{◌≡◌, sym, ◌∙◌}
-use mathlib.Core.List.{List}
-use Prim.Native.Nat.{ℕ, ◌-◌, ◌≤◌, ◌<◌}
-use native.Mathlib.Omega.{arith}
+use mathlib.Core.Path.{◌≡◌}
+use Prim.Native.Nat.{◌-◌, ◌≤◌}
 use lib.ListN.{length}
-use borrow.Author.Rules.{rules}
-use Rattle.rooms.proofs.Walk.{ServerHere}
-use Rattle.rooms.proofs.Laying.{Laying, LayingServer, CordFits, laying-start, laying-server, laying-end, corded, few-cords, few-servers, server-begin, cord-fits, row_fits, server-cord, server-end}
+use Rattle.rooms.proofs.Laying.{Laying, LayingServer}
 use Rattle.rooms.proofs.lists.lay_out_servers.Given as goal
 
 abbrev pub invariant-loop-c : goal.invariant-loop-c
@@ -15,7 +11,7 @@ abbrev pub decreases-loop-c : goal.decreases-loop-c
 decreases-loop-c l = l.c-end - l.c
 
 abbrev pub invariant-loop-v : goal.invariant-loop-v
-invariant-loop-v l =     (l.v ≤ l.v-end) × (length l.servers ≡ l.v-end) × Laying l.table l.v l.start l.first l.first l.servers l.cords
+invariant-loop-v l = (l.v ≤ l.v-end) × (length l.servers ≡ l.v-end) × Laying l.table l.v l.start l.first l.first l.servers l.cords
 
 abbrev pub decreases-loop-v : goal.decreases-loop-v
 decreases-loop-v l = l.v-end - l.v

@@ -1,6 +1,5 @@
 -- `node_count` meets its contract: the count is the second word.
 use mathlib.Core.Path.{◌∙◌}
-use borrow.Author.Rules.{rules}
 use Rattle.rooms.proofs.Counts.{nodes-told}
 use Rattle.rooms.proofs.lists.node_count.Goals as goal
 

@@ -1,6 +1,5 @@
 -- `server_count` meets its contract: the word behind the nodes.
 use mathlib.Core.Path.{◌∙◌}
-use borrow.Author.Rules.{rules}
 use Rattle.rooms.proofs.Counts.{servers-told}
 use Rattle.rooms.proofs.lists.server_count.Goals as goal
 

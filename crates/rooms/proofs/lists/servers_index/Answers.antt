@@ -1,5 +1,4 @@
 -- `servers_index` meets its contract: the count of servers stands behind the nodes.
-use borrow.Author.Rules.{rules}
 use Rattle.rooms.proofs.Counts.{index-told}
 use Rattle.rooms.proofs.lists.servers_index.Goals as goal
 

@@ -1,5 +1,4 @@
 -- `table_scale` meets its contract: the version says the scale.
-use borrow.Author.Rules.{rules}
 use Rattle.rooms.proofs.Counts.{scale-told}
 use Rattle.rooms.proofs.lists.table_scale.Goals as goal
 

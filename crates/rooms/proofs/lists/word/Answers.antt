@@ -1,7 +1,6 @@
 -- `word` meets its contract: a list has 0 past its end.
 use mathlib.Core.Path.{sym}
 use lib.ListN.{get_or-eq_default}
-use borrow.Author.Rules.{rules}
 use Rattle.rooms.proofs.lists.word.Goals as goal
 
 pub returns-else-i-table : goal.returns-else-i-table

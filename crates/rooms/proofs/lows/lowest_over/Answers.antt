@@ -3,9 +3,8 @@ use Prim.Native.Nat.{◌-◌, ◌<◌}
 use mathlib.Core.Path.{refl, ◌∙◌}
 use native.Mathlib.Omega.{arith}
 use borrow.Author.Rules.{rules}
-use Rattle.rooms.specs.Credits.{parent_at, limit_at}
 use Rattle.rooms.proofs.NodeWords.{words-two, node-fits, parent-here, limit-here}
-use Rattle.rooms.proofs.Gather.{Gathered, gathered-start, gathered-end, gathered-sums, gathered-most, gathered-turn}
+use Rattle.rooms.proofs.Gather.{gathered-start, gathered-end, gathered-sums, gathered-most, gathered-turn}
 use Rattle.rooms.proofs.lows.lowest_over.Goals as goal
 
 pub loop-n-init : goal.loop-n-init
@@ -18,23 +17,23 @@ pub bounds-sums-n : goal.bounds-sums-n
 bounds-sums-n c = omega (arith, c.loop-n.invariant.all, c.loop-n.invariant.size)
 
 pub node_index-i-requires : goal.node_index-i-requires
-node_index-i-requires c = record { place = omega (arith, c.loop-n.invariant.all, c.pre.0.0.few) }
+node_index-i-requires c = record { place = omega (arith, c.loop-n.invariant.all, c.requires.nodes.0.few) }
 
 pub limit_at-requires : goal.limit_at-requires
-limit_at-requires c = record { there = node-fits _ _ _ c.node_index-i.ensures.result c.pre.0.0 (omega (arith, c.loop-n.invariant.all, c.loop-n-test.true)) }
+limit_at-requires c = record { there = node-fits _ _ _ c.node_index-i.ensures.result c.requires.nodes.0 (omega (arith, c.loop-n.invariant.all, c.loop-n-test.true)) }
 
 pub noted-found-requires : goal.noted-found-requires
 noted-found-requires c = record { place = omega (arith, c.loop-n.invariant.all, c.requires.nodes.0.few, c.loop-n-test.true) }
 
 pub offset_bounds-w-i : goal.offset_bounds-w-i
-offset_bounds-w-i c = omega (arith, (node-fits _ _ _ c.node_index-i.ensures.result c.pre.0.0 (omega (arith, c.loop-n.invariant.all, c.loop-n-test.true))).0)
+offset_bounds-w-i c = omega (arith, (node-fits _ _ _ c.node_index-i.ensures.result c.requires.nodes.0 (omega (arith, c.loop-n.invariant.all, c.loop-n-test.true))).0)
 
 pub bounds-w-i : goal.bounds-w-i
-bounds-w-i c = omega (arith, (node-fits _ _ _ c.node_index-i.ensures.result c.pre.0.0 (omega (arith, c.loop-n.invariant.all, c.loop-n-test.true))).0, words-two c.args.percents)
+bounds-w-i c = omega (arith, (node-fits _ _ _ c.node_index-i.ensures.result c.requires.nodes.0 (omega (arith, c.loop-n.invariant.all, c.loop-n-test.true))).0, words-two c.args.percents)
 
 pub credit-requires : goal.credit-requires
 credit-requires c =
-    let inside : c.loop-n.n - 1 < c.args.node-count = omega (arith, c.loop-n.invariant.all, c.loop-n-test.true) in
+    let inside : c.loop-n.n - 1 < c.args.node_count = omega (arith, c.loop-n.invariant.all, c.loop-n-test.true) in
     let above = parent-here c.args.percents c.args.w.now _ c.node_index-i.ensures.result c.word_index.ensures.result.0 in
     let rise = c.requires.nodes.0.rises (c.loop-n.n - 1) inside in
     let most = gathered-most c.requires.nodes.0.rises c.loop-n.invariant in
@@ -47,7 +46,7 @@ pub loop-n-preserved : goal.loop-n-preserved
 loop-n-preserved c =
     let limit = limit-here c.args.percents c.args.w.now _ c.node_index-i.ensures.result (c.wide.ensures.result.0 ∙ c.limit_at.ensures.result) in
     let above = parent-here c.args.percents c.args.w.now _ c.node_index-i.ensures.result c.word_index.ensures.result.0 in
-    gathered-turn c.pre.0.0.rises c.loop-n.invariant c.loop-n-test.true c.pre.0.1 limit refl above c.noted-found.ensures.result c.credit.ensures.credited
+    gathered-turn c.requires.nodes.0.rises c.loop-n.invariant c.loop-n-test.true c.requires.nodes.1 limit refl above c.noted-found.ensures.result c.credit.ensures.credited
 
 pub shape_of-sums : goal.shape_of-sums
 shape_of-sums c = c.loop-n.invariant.size

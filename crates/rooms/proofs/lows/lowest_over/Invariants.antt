@@ -1,10 +1,5 @@
-use Prim.Native.Nat.{◌-◌, ◌<◌}
-use mathlib.Core.Path.{refl, ◌∙◌}
-use native.Mathlib.Omega.{arith}
-use borrow.Author.Rules.{rules}
 use Rattle.rooms.specs.Credits.{parent_at, limit_at}
-use Rattle.rooms.proofs.NodeWords.{words-two, node-fits, parent-here, limit-here}
-use Rattle.rooms.proofs.Gather.{Gathered, gathered-start, gathered-end, gathered-sums, gathered-most, gathered-turn}
+use Rattle.rooms.proofs.Gather.{Gathered}
 use Rattle.rooms.proofs.lows.lowest_over.Given as goal
 
 abbrev pub invariant-loop-n : goal.invariant-loop-n

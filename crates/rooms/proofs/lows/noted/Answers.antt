@@ -1,5 +1,4 @@
 -- `noted` meets its contract: its branch is the test of `cond`.
-use borrow.Author.Rules.{rules}
 use borrow.Author.Tests.{lt-ltb, le-ltb}
 use native.Mathlib.Numerals.{add-one}
 use Rattle.rooms.proofs.lows.noted.Goals as goal

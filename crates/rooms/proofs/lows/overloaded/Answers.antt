@@ -2,7 +2,6 @@
 use mathlib.Core.Path.{refl}
 use native.Mathlib.Omega.{arith}
 use lib.ListN.{get_or, replicate}
-use borrow.Author.Rules.{rules}
 use Rattle.rooms.specs.Table.{most_nodes}
 use Rattle.figures.proofs.Filled.{zeros-at}
 use Rattle.figures.proofs.Credits.{sum_zeros}
@@ -18,11 +17,11 @@ bounds-w-1 c = omega (arith, (layout _ _ _ _ refl c.requires.good.0.is).there)
 
 pub lowest_over-requires : goal.lowest_over-requires
 lowest_over-requires c =
-    let is = layout _ _ _ _ c.word_index-n.ensures.result.0 c.pre.0.0.is in
+    let is = layout _ _ _ _ c.word_index-n.ensures.result.0 c.requires.good.0.is in
     let zero = sum_zeros (get_or c.args.w.now 1 0) (replicate most_nodes 0) (zeros-at most_nodes) in
     record {
-      nodes = (nodes-read _ _ _ _ _ is c.has_percents-percents.ensures.result refl, omega (arith, is.most, c.pre.0.1));
-      sums_fit = rw c.word_index-n.ensures.result.0 (omega (arith, c.pre.1.grow c.pre.0.0.value _ c.pre.0.0.is));
+      nodes = (nodes-read _ _ _ _ _ is c.has_percents-percents.ensures.result refl, omega (arith, is.most, c.requires.good.1));
+      sums_fit = rw c.word_index-n.ensures.result.0 (omega (arith, c.requires.credited.grow c.requires.good.0.value _ c.requires.good.0.is));
     }
 
 pub returns : goal.returns

@@ -1,6 +1,5 @@
 -- `check_lows` meets its contract: a good table leaves the lows beneath each node, and a refused one's are cleared.
 use mathlib.Core.Path.{sym, ap, ◌∙◌}
-use borrow.Author.Rules.{rules}
 use Rattle.rooms.specs.Limits.{lows_told}
 use Rattle.rooms.proofs.Steps.{known}
 use Rattle.rooms.proofs.Outcomes.{refused-so}

@@ -1,6 +1,5 @@
 -- `read_words` meets its contract: the words that the list takes are at its front, and are answered for.
 use Rattle.rooms.proofs.Outcomes.{whole-so, front_length, first-bad-number, first-answered}
-use borrow.Author.Rules.{rules}
 use Rattle.rooms.proofs.parts.read_words.Goals as goal
 
 pub returns-in-Refused : goal.returns-in-Refused

@@ -2,7 +2,6 @@
 use Rattle.rooms.specs.Table.{cord}
 use Rattle.rooms.proofs.Steps.{stop, pass-word, last}
 use mathlib.Core.Path.{refl}
-use borrow.Author.Rules.{rules}
 use Rattle.rooms.proofs.table.check_cord.Goals as goal
 
 pub returns-in_default : goal.returns-in_default
@@ -14,6 +13,6 @@ unfolding cord
 returns c =
     record {
       result =
-        pass-word _ _ _ c.check_word-node.ensures.result c.in-Good.is
-        (last _ _ _ _ (λ _. refl) c.check_word.ensures.result)
+          pass-word _ _ _ c.check_word-node.ensures.result c.in-Good.is
+          (last _ _ _ _ (λ _. refl) c.check_word.ensures.result);
     }

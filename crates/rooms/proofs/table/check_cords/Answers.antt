@@ -1,14 +1,8 @@
 -- `check_cords` tells a row of cords and the sum of their shares, and credits their lows.
-use Prim.Native.Nat.{◌+◌, ◌*◌, ◌≤◌}
 use native.Mathlib.Omega.{arith}
 use mathlib.Core.Path.{refl, ◌∙◌}
-use lib.ListN.{length}
-use Rattle.figures.specs.Sums.{sum}
-use Rattle.rooms.specs.Table.{cord, cords, share_of, most_watts, most_scale, most_server_cords}
-use Rattle.rooms.specs.Credits.{credited_cords}
-use Rattle.figures.specs.Figures.{at}
-use Rattle.rooms.proofs.Steps.{Row, row-start, row-end, row-stop, row-turn, cord-most}
-use Rattle.rooms.proofs.CreditTurns.{stopped, row_of, crediting-start, CordsCrediting, cords-end, next-cord}
+use Rattle.rooms.proofs.Steps.{row-start, row-end, row-stop, row-turn, cord-most}
+use Rattle.rooms.proofs.CreditTurns.{stopped, crediting-start, cords-end, next-cord}
 use borrow.Author.Rules.{rules}
 use Rattle.rooms.proofs.table.check_cords.Goals as goal
 
@@ -24,7 +18,7 @@ returns-in_default c =
     record { result = both.0; credited = both.1 }
 
 pub carried_by-low-requires : goal.carried_by-low-requires
-carried_by-low-requires c = record { in_range = (c.pre.0.0, (next-cord _ _ c.loop-left.invariant.2 c.loop-left-test.true c.check_cord-cord.ensures.result c.in-Good.is).share-most, c.pre.0.2) }
+carried_by-low-requires c = record { in_range = (c.requires.in_range.0, (next-cord _ _ c.loop-left.invariant.2 c.loop-left-test.true c.check_cord-cord.ensures.result c.in-Good.is).share-most, c.requires.in_range.2) }
 
 pub offset_bounds-w-j : goal.offset_bounds-w-j
 offset_bounds-w-j c = omega (arith, (next-cord _ _ c.loop-left.invariant.2 c.loop-left-test.true c.check_cord-cord.ensures.result c.in-Good.is).there)
@@ -42,14 +36,14 @@ credit-requires c =
     }
 
 pub overflow_add-sum : goal.overflow_add-sum
-overflow_add-sum c = omega (arith, cord-most _ _ _ _ c.check_cord-cord.ensures.result c.in-Good.is, c.loop-left.invariant.0, c.pre.0.0.1)
+overflow_add-sum c = omega (arith, cord-most _ _ _ _ c.check_cord-cord.ensures.result c.in-Good.is, c.loop-left.invariant.0, c.requires.in_range.0.1)
 
 pub loop-left-preserved : goal.loop-left-preserved
 loop-left-preserved c =
     let low = c.wide.ensures.result.0 ∙ c.carried_by-low.ensures.result in (
-      omega (arith, cord-most _ _ _ _ c.check_cord-cord.ensures.result c.in-Good.is, c.loop-left.invariant.0, c.loop-left-test.true, c.pre.0.0.1),
+      omega (arith, cord-most _ _ _ _ c.check_cord-cord.ensures.result c.in-Good.is, c.loop-left.invariant.0, c.loop-left-test.true, c.requires.in_range.0.1),
       row-turn _ _ _ _ _ _ _ c.loop-left-test.true c.loop-left.invariant.1 c.check_cord-cord.ensures.result c.in-Good.is (λ _ _. refl),
-      (next-cord _ _ c.loop-left.invariant.2 c.loop-left-test.true c.check_cord-cord.ensures.result c.in-Good.is).turn c.pre.0.0 c.pre.0.2 c.pre.1.0 _ _ _ c.word_index.ensures.result.0 low c.credit.ensures.credited,
+      (next-cord _ _ c.loop-left.invariant.2 c.loop-left-test.true c.check_cord-cord.ensures.result c.in-Good.is).turn c.requires.in_range.0 c.requires.in_range.2 c.requires.sums_fit.0 _ _ _ c.word_index.ensures.result.0 low c.credit.ensures.credited,
     )
 
 pub shape_of-sums : goal.shape_of-sums

@@ -11,10 +11,7 @@ use Rattle.rooms.specs.declared.Checked.{Checked}
 use Rattle.rooms.proofs.Inversion.{many-length}
 use Rattle.rooms.proofs.Steps.{Reached, stop, pass, pass-word, ensured, denied, gives, word-told, word-most}
 use Rattle.rooms.proofs.CreditTurns.{stopped, load-credits}
-use borrow.Author.Rules.{rules}
 use Rattle.rooms.proofs.table.check_load.Goals as goal
-
-}
 
 pub returns-in_default : goal.returns-in_default
 unfolding load
@@ -34,20 +31,22 @@ check_cords-cords-requires c =
 pub returns-in_default-cords : goal.returns-in_default-cords
 unfolding load
 returns-in_default-cords c =
-    let goal : Checked = let given = c.args in told length (load given.scale given.node-count given.before given.start given.w.now given.i) in
+    let goal : Checked = let given = c.args in told length (load given.scale given.node_count given.before given.start given.w.now given.i) in
     let count-passed : Reached (length {A = Cord}) goal = record {
       left = _;
-      decides = λ h. pass-word _ _ _ (rw c.lesser.ensures.result at c.check_word-first.ensures.result) c.in-Good.is h; in
+      decides = λ h. pass-word _ _ _ (rw c.lesser.ensures.result at c.check_word-first.ensures.result) c.in-Good.is h;
+    } in
     let both = stopped _ _ (count-passed.decides (stop _ _ _ _ c.check_cords-cords.ensures.result c.in_default-cords.is)) c.in_default-cords.is in
     record { result = both.0; credited = both.1 }
 
 pub returns-then-shares-scale : goal.returns-then-shares-scale
 unfolding load
 returns-then-shares-scale c =
-    let goal : Checked = let given = c.args in told length (load given.scale given.node-count given.before given.start given.w.now given.i) in
+    let goal : Checked = let given = c.args in told length (load given.scale given.node_count given.before given.start given.w.now given.i) in
     let count-passed : Reached (length {A = Cord}) goal = record {
       left = _;
-      decides = λ h. pass-word _ _ _ (rw c.lesser.ensures.result at c.check_word-first.ensures.result) c.in-Good.is h; in
+      decides = λ h. pass-word _ _ _ (rw c.lesser.ensures.result at c.check_word-first.ensures.result) c.in-Good.is h;
+    } in
     let both = stopped _ _
     (count-passed.decides
     (pass _ _ _ _ c.check_cords-cords.ensures.result c.in-Good-cords.is (λ l is sum.
@@ -58,10 +57,11 @@ returns-then-shares-scale c =
 pub returns : goal.returns
 unfolding load
 returns c =
-    let goal : Checked = let given = c.args in told length (load given.scale given.node-count given.before given.start given.w.now given.i) in
+    let goal : Checked = let given = c.args in told length (load given.scale given.node_count given.before given.start given.w.now given.i) in
     let count-passed : Reached (length {A = Cord}) goal = record {
       left = _;
-      decides = λ h. pass-word _ _ _ (rw c.lesser.ensures.result at c.check_word-first.ensures.result) c.in-Good.is h; in
+      decides = λ h. pass-word _ _ _ (rw c.lesser.ensures.result at c.check_word-first.ensures.result) c.in-Good.is h;
+    } in
     let count-few : c.in-Good.count ≤ most_server_cords = omega (arith, word-most _ _ _ _ c.check_word-first.ensures.result c.in-Good.is, c.lesser.ensures.result) in
     let word = word-told _ _ _ _ c.check_word-first.ensures.result c.in-Good.is in
     record {

@@ -1,10 +1,7 @@
 -- `check_nodes` tells a row of nodes: after each turn what is left of the row tells the same as the whole did.
-use Prim.Native.Nat.{suc, ◌+◌, ◌≤◌}
 use native.Mathlib.Numerals.{add-one}
 use mathlib.Core.Path.{sym, ◌∙◌}
-use Rattle.rooms.specs.Table.{most_nodes, node}
-use Rattle.rooms.specs.Told.{nothing}
-use Rattle.rooms.proofs.Steps.{Row, row-start, row-end, row-stop, row_next, nothing-told}
+use Rattle.rooms.proofs.Steps.{row-start, row-end, row-stop, row_next, nothing-told}
 use borrow.Author.Rules.{rules}
 use Rattle.rooms.proofs.table.check_nodes.Goals as goal
 

@@ -3,7 +3,6 @@ use mathlib.Core.Path.{refl}
 use Rattle.rooms.specs.Table.{percent}
 use Rattle.rooms.proofs.NodeWords.{is-eighty, is-hundred, is-neither}
 use Rattle.rooms.proofs.Steps.{stop, pass-word, pass-value, ensured, denied, gives}
-use borrow.Author.Rules.{rules}
 use Rattle.rooms.proofs.table.check_percent.Goals as goal
 
 pub returns-in_default : goal.returns-in_default
@@ -15,9 +14,9 @@ unfolding percent
 returns-then-v-eq80 c =
     record {
       result =
-        pass-value _ _ _ _
-        (pass-word _ _ _ c.check_word-percent.ensures.result c.in-Good.is
-        (ensured _ _ _ _ _ _ (is-eighty _ c.if-v-eq80.true) (gives _ _ _ refl)))
+          pass-value _ _ _ _
+          (pass-word _ _ _ c.check_word-percent.ensures.result c.in-Good.is
+          (ensured _ _ _ _ _ _ (is-eighty _ c.if-v-eq80.true) (gives _ _ _ refl)));
     }
 
 pub returns-then-v-eq100 : goal.returns-then-v-eq100
@@ -25,9 +24,9 @@ unfolding percent
 returns-then-v-eq100 c =
     record {
       result =
-        pass-value _ _ _ _
-        (pass-word _ _ _ c.check_word-percent.ensures.result c.in-Good.is
-        (ensured _ _ _ _ _ _ (is-hundred _ c.if-v-eq80.false c.if-v-eq100.true) (gives _ _ _ refl)))
+          pass-value _ _ _ _
+          (pass-word _ _ _ c.check_word-percent.ensures.result c.in-Good.is
+          (ensured _ _ _ _ _ _ (is-hundred _ c.if-v-eq80.false c.if-v-eq100.true) (gives _ _ _ refl)));
     }
 
 pub returns : goal.returns
@@ -35,7 +34,7 @@ unfolding percent
 returns c =
     record {
       result =
-        pass-value _ _ _ _
-        (pass-word _ _ _ c.check_word-percent.ensures.result c.in-Good.is
-        (denied _ _ _ _ _ _ (is-neither _ c.if-v-eq80.false c.if-v-eq100.false)))
+          pass-value _ _ _ _
+          (pass-word _ _ _ c.check_word-percent.ensures.result c.in-Good.is
+          (denied _ _ _ _ _ _ (is-neither _ c.if-v-eq80.false c.if-v-eq100.false)));
     }

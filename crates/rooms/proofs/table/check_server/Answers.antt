@@ -5,7 +5,6 @@ use Rattle.rooms.specs.Table.{server}
 use Rattle.rooms.proofs.Inversion.{range-is}
 use Rattle.rooms.proofs.Steps.{known, stop, pass-known, pass-word, pass-value, last}
 use Rattle.rooms.proofs.CreditTurns.{stopped, server-credits}
-use borrow.Author.Rules.{rules}
 use Rattle.rooms.proofs.table.check_server.Goals as goal
 
 pub returns-in_default : goal.returns-in_default

@@ -1,14 +1,9 @@
 -- `check_servers` tells a row of servers and the count of all their cords, and credits their lows.
 use mathlib.Core.Path.{ap}
-use Prim.Native.Nat.{ℕ, ◌+◌, ◌*◌, ◌≤◌}
-use lib.ListN.{length}
-use Rattle.figures.specs.Sums.{sum}
+use Prim.Native.Nat.{ℕ, ◌+◌}
 use native.Mathlib.Omega.{arith}
-use Rattle.rooms.specs.Table.{server, servers, cord_count, most_server_cords, most_cords, most_watts}
-use Rattle.rooms.specs.Credits.{credited_servers}
-use Rattle.figures.specs.Figures.{at}
-use Rattle.rooms.proofs.Steps.{Row, row-start, row-end, row-stop, row-turn, server-most}
-use Rattle.rooms.proofs.CreditTurns.{stopped, row_of, crediting-start, ServersCrediting, servers-end, servers-turn}
+use Rattle.rooms.proofs.Steps.{row-start, row-end, row-stop, row-turn, server-most}
+use Rattle.rooms.proofs.CreditTurns.{stopped, crediting-start, servers-end, servers-turn}
 use borrow.Author.Rules.{rules}
 use Rattle.rooms.proofs.table.check_servers.Goals as goal
 
@@ -16,7 +11,7 @@ pub loop-left-init : goal.loop-left-init
 loop-left-init c = (search rules, row-start _ _ _ _ _ _ _, crediting-start _ _ _ 0 _)
 
 pub check_server-server-requires : goal.check_server-server-requires
-check_server-server-requires c = record { in_range = (c.pre.0, c.loop-left.invariant.0, omega (arith, c.loop-left.invariant.2.length-is, c.pre.1), omega (arith, c.loop-left.invariant.2.sum_is_lem, c.pre.2, c.loop-left-test.true)) }
+check_server-server-requires c = record { in_range = (c.requires.in_range.0, c.loop-left.invariant.0, omega (arith, c.loop-left.invariant.2.length-is, c.requires.in_range.1), omega (arith, c.loop-left.invariant.2.sum_is, c.requires.in_range.2, c.loop-left-test.true)) }
 
 pub shape_of-sums-in_default : goal.shape_of-sums-in_default
 shape_of-sums-in_default c = omega (arith, c.check_server-server.auto, c.loop-left.invariant.2.length-is)
@@ -30,12 +25,11 @@ pub overflow_add-before : goal.overflow_add-before
 overflow_add-before c = omega (arith, server-most _ _ _ _ _ c.loop-left.invariant.0 c.check_server-server.ensures.result c.in-Good.is)
 
 pub loop-left-preserved : goal.loop-left-preserved
-loop-left-preserved c =
-    (
-      server-most _ _ _ _ _ c.loop-left.invariant.0 c.check_server-server.ensures.result c.in-Good.is,
-      row-turn _ _ _ _ _ _ _ (search rules) c.loop-left.invariant.1 c.check_server-server.ensures.result c.in-Good.is (λ s count. ap (λ (n : ℕ). c.loop-left.before + n) count),
-      servers-turn _ c.loop-left.invariant.2 (search rules) c.check_server-server.ensures.result c.in-Good.is c.check_server-server.ensures.credited c.check_server-server.kept.1.1.1.1.1.0,
-    )
+loop-left-preserved c = (
+  server-most _ _ _ _ _ c.loop-left.invariant.0 c.check_server-server.ensures.result c.in-Good.is,
+  row-turn _ _ _ _ _ _ _ (search rules) c.loop-left.invariant.1 c.check_server-server.ensures.result c.in-Good.is (λ s count. ap (λ (n : ℕ). c.loop-left.before + n) count),
+  servers-turn _ c.loop-left.invariant.2 (search rules) c.check_server-server.ensures.result c.in-Good.is c.check_server-server.ensures.credited c.check_server-server.auto.sums,
+)
 
 pub shape_of-sums : goal.shape_of-sums
 shape_of-sums c = c.loop-left.invariant.2.length-is

@@ -13,16 +13,7 @@ use Rattle.figures.proofs.Credits.{sum_zeros}
 use Rattle.rooms.proofs.CreditTurns.{stopped}
 use Rattle.rooms.proofs.Found.{table-credits}
 use Rattle.rooms.proofs.Whole.{form-scale}
-use borrow.Author.Rules.{rules}
 use Rattle.rooms.proofs.table.check_table.Goals as goal
-
-}
-
-}
-
-}
-
-}
 
 pub returns-in_default : goal.returns-in_default
 unfolding table
@@ -36,7 +27,8 @@ returns-in_default-second c =
     let goal : Checked = told room_cords (table c.args.w.now 0) in
     let version-passed : Reached room_cords goal = record {
       left = _;
-      decides = λ h. pass-word _ _ _ c.check_word-first.ensures.result c.in-Good.is h; in
+      decides = λ h. pass-word _ _ _ c.check_word-first.ensures.result c.in-Good.is h;
+    } in
     let both = stopped _ _ (version-passed.decides (stop _ _ _ _ c.check_word-second.ensures.result c.in_default-second.is)) c.in_default-second.is in
     record { result = both.0; credited = both.1 }
 
@@ -51,10 +43,12 @@ returns-in_default-nodes c =
     let goal : Checked = told room_cords (table c.args.w.now 0) in
     let version-passed : Reached room_cords goal = record {
       left = _;
-      decides = λ h. pass-word _ _ _ c.check_word-first.ensures.result c.in-Good.is h; in
+      decides = λ h. pass-word _ _ _ c.check_word-first.ensures.result c.in-Good.is h;
+    } in
     let node-count-passed : Reached room_cords goal = record {
       left = _;
-      decides = λ h. version-passed.decides (pass-word _ _ _ c.check_word-second.ensures.result c.in-Good-second.is h); in
+      decides = λ h. version-passed.decides (pass-word _ _ _ c.check_word-second.ensures.result c.in-Good-second.is h);
+    } in
     let both = stopped _ _
     (node-count-passed.decides
     (stop _ _ _ _ (rw c.has_percents.ensures.result at c.check_nodes-nodes.ensures.result) c.in_default-nodes.is))
@@ -67,14 +61,17 @@ returns-in_default-third c =
     let goal : Checked = told room_cords (table c.args.w.now 0) in
     let version-passed : Reached room_cords goal = record {
       left = _;
-      decides = λ h. pass-word _ _ _ c.check_word-first.ensures.result c.in-Good.is h; in
+      decides = λ h. pass-word _ _ _ c.check_word-first.ensures.result c.in-Good.is h;
+    } in
     let node-count-passed : Reached room_cords goal = record {
       left = _;
-      decides = λ h. version-passed.decides (pass-word _ _ _ c.check_word-second.ensures.result c.in-Good-second.is h); in
+      decides = λ h. version-passed.decides (pass-word _ _ _ c.check_word-second.ensures.result c.in-Good-second.is h);
+    } in
     let nodes-passed : Reached room_cords goal = record {
       left = _;
       decides = λ h. node-count-passed.decides
-          (pass-known _ _ _ _ (known _ _ (rw c.has_percents.ensures.result at c.check_nodes-nodes.ensures.result) c.in-Good-nodes.is) h); in
+          (pass-known _ _ _ _ (known _ _ (rw c.has_percents.ensures.result at c.check_nodes-nodes.ensures.result) c.in-Good-nodes.is) h);
+    } in
     let both = stopped _ _ (nodes-passed.decides (stop _ _ _ _ c.check_word-third.ensures.result c.in_default-third.is)) c.in_default-third.is in
     record { result = both.0; credited = both.1 }
 
@@ -83,12 +80,11 @@ check_servers-servers-requires c =
     let node-count-most : c.in-Good-second.node_count ≤ most_nodes = word-most _ _ _ _ c.check_word-second.ensures.result c.in-Good-second.is in
     let server-count-most : c.in-Good-third.server_count ≤ most_servers = word-most _ _ _ _ c.check_word-third.ensures.result c.in-Good-third.is in
     record {
-      in_range =
-        (
-          rw c.scale_of-scale.ensures.result (form-scale _),
-          omega (arith, node-count-most, c.pre.0),
-          omega (arith, server-count-most, sum_zeros c.in-Good-second.node_count c.args.sums.now c.pre.1),
-        )
+      in_range = (
+        rw c.scale_of-scale.ensures.result (form-scale _),
+        omega (arith, node-count-most, c.requires.zeros.0),
+        omega (arith, server-count-most, sum_zeros c.in-Good-second.node_count c.args.sums.now c.requires.zeros.1),
+      );
     }
 
 pub returns-in_default-servers : goal.returns-in_default-servers
@@ -97,17 +93,21 @@ returns-in_default-servers c =
     let goal : Checked = told room_cords (table c.args.w.now 0) in
     let version-passed : Reached room_cords goal = record {
       left = _;
-      decides = λ h. pass-word _ _ _ c.check_word-first.ensures.result c.in-Good.is h; in
+      decides = λ h. pass-word _ _ _ c.check_word-first.ensures.result c.in-Good.is h;
+    } in
     let node-count-passed : Reached room_cords goal = record {
       left = _;
-      decides = λ h. version-passed.decides (pass-word _ _ _ c.check_word-second.ensures.result c.in-Good-second.is h); in
+      decides = λ h. version-passed.decides (pass-word _ _ _ c.check_word-second.ensures.result c.in-Good-second.is h);
+    } in
     let nodes-passed : Reached room_cords goal = record {
       left = _;
       decides = λ h. node-count-passed.decides
-          (pass-known _ _ _ _ (known _ _ (rw c.has_percents.ensures.result at c.check_nodes-nodes.ensures.result) c.in-Good-nodes.is) h); in
+          (pass-known _ _ _ _ (known _ _ (rw c.has_percents.ensures.result at c.check_nodes-nodes.ensures.result) c.in-Good-nodes.is) h);
+    } in
     let server-count-passed : Reached room_cords goal = record {
       left = _;
-      decides = λ h. nodes-passed.decides (pass-word _ _ _ c.check_word-third.ensures.result c.in-Good-third.is h); in
+      decides = λ h. nodes-passed.decides (pass-word _ _ _ c.check_word-third.ensures.result c.in-Good-third.is h);
+    } in
     let servers-told : c.check_servers-servers.result ≡ told (total cord_count) (servers (form_of c.in-Good.version).scale c.in-Good-second.node_count c.in-Good-third.server_count 0 c.args.w.now c.in-Good-third.first_server) = rw c.scale_of-scale.ensures.result at c.check_servers-servers.ensures.result in
     let both = stopped _ _
     (server-count-passed.decides
@@ -121,17 +121,21 @@ returns-then-next-w c =
     let goal : Checked = told room_cords (table c.args.w.now 0) in
     let version-passed : Reached room_cords goal = record {
       left = _;
-      decides = λ h. pass-word _ _ _ c.check_word-first.ensures.result c.in-Good.is h; in
+      decides = λ h. pass-word _ _ _ c.check_word-first.ensures.result c.in-Good.is h;
+    } in
     let node-count-passed : Reached room_cords goal = record {
       left = _;
-      decides = λ h. version-passed.decides (pass-word _ _ _ c.check_word-second.ensures.result c.in-Good-second.is h); in
+      decides = λ h. version-passed.decides (pass-word _ _ _ c.check_word-second.ensures.result c.in-Good-second.is h);
+    } in
     let nodes-passed : Reached room_cords goal = record {
       left = _;
       decides = λ h. node-count-passed.decides
-          (pass-known _ _ _ _ (known _ _ (rw c.has_percents.ensures.result at c.check_nodes-nodes.ensures.result) c.in-Good-nodes.is) h); in
+          (pass-known _ _ _ _ (known _ _ (rw c.has_percents.ensures.result at c.check_nodes-nodes.ensures.result) c.in-Good-nodes.is) h);
+    } in
     let server-count-passed : Reached room_cords goal = record {
       left = _;
-      decides = λ h. nodes-passed.decides (pass-word _ _ _ c.check_word-third.ensures.result c.in-Good-third.is h); in
+      decides = λ h. nodes-passed.decides (pass-word _ _ _ c.check_word-third.ensures.result c.in-Good-third.is h);
+    } in
     let servers-told : c.check_servers-servers.result ≡ told (total cord_count) (servers (form_of c.in-Good.version).scale c.in-Good-second.node_count c.in-Good-third.server_count 0 c.args.w.now c.in-Good-third.first_server) = rw c.scale_of-scale.ensures.result at c.check_servers-servers.ensures.result in
     let both = stopped _ _
     (server-count-passed.decides
@@ -146,17 +150,21 @@ returns c =
     let goal : Checked = told room_cords (table c.args.w.now 0) in
     let version-passed : Reached room_cords goal = record {
       left = _;
-      decides = λ h. pass-word _ _ _ c.check_word-first.ensures.result c.in-Good.is h; in
+      decides = λ h. pass-word _ _ _ c.check_word-first.ensures.result c.in-Good.is h;
+    } in
     let node-count-passed : Reached room_cords goal = record {
       left = _;
-      decides = λ h. version-passed.decides (pass-word _ _ _ c.check_word-second.ensures.result c.in-Good-second.is h); in
+      decides = λ h. version-passed.decides (pass-word _ _ _ c.check_word-second.ensures.result c.in-Good-second.is h);
+    } in
     let nodes-passed : Reached room_cords goal = record {
       left = _;
       decides = λ h. node-count-passed.decides
-          (pass-known _ _ _ _ (known _ _ (rw c.has_percents.ensures.result at c.check_nodes-nodes.ensures.result) c.in-Good-nodes.is) h); in
+          (pass-known _ _ _ _ (known _ _ (rw c.has_percents.ensures.result at c.check_nodes-nodes.ensures.result) c.in-Good-nodes.is) h);
+    } in
     let server-count-passed : Reached room_cords goal = record {
       left = _;
-      decides = λ h. nodes-passed.decides (pass-word _ _ _ c.check_word-third.ensures.result c.in-Good-third.is h); in
+      decides = λ h. nodes-passed.decides (pass-word _ _ _ c.check_word-third.ensures.result c.in-Good-third.is h);
+    } in
     let server-count-most : c.in-Good-third.server_count ≤ most_servers = word-most _ _ _ _ c.check_word-third.ensures.result c.in-Good-third.is in
     let servers-told : c.check_servers-servers.result ≡ told (total cord_count) (servers (form_of c.in-Good.version).scale c.in-Good-second.node_count c.in-Good-third.server_count 0 c.args.w.now c.in-Good-third.first_server) = rw c.scale_of-scale.ensures.result at c.check_servers-servers.ensures.result in
     let version-told = word-told _ _ _ _ c.check_word-first.ensures.result c.in-Good.is in

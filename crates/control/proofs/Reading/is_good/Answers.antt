@@ -1,0 +1,11 @@
+-- `Reading::is_good` meets its contract: the figures of a working cord are tested, and a failed one has none.
+use Rattle.control.specs.Step.{good_reading}
+use Rattle.control.proofs.Reading.is_good.Goals as goal
+
+pub returns-in-Working : goal.returns-in-Working
+unfolding good_reading
+returns-in-Working c = record { result = rw c.in-Working.is c.in_range.ensures.result }
+
+pub returns-in-Failed : goal.returns-in-Failed
+unfolding good_reading
+returns-in-Failed c = record { result = rw c.in-Failed.is }

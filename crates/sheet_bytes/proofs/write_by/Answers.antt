@@ -1,0 +1,22 @@
+-- `write_by` meets its contract: the words that are loaded decide, and the rest is what `rooms::write` ensures.
+use native.Mathlib.Omega.{arith}
+use mathlib.Core.Path.{refl}
+use Rattle.calls.proofs.Calls.{call-short}
+use Rattle.calls.proofs.Fronts.{loaded-length}
+use Rattle.sheet_bytes.proofs.CallLaws.{write_done}
+use borrow.Author.Rules.{rules}
+use Rattle.sheet_bytes.proofs.write_by.Goals as goal
+
+pub returns-then-answer-lt-ANSWER_BYTES : goal.returns-then-answer-lt-ANSWER_BYTES
+returns-then-answer-lt-ANSWER_BYTES c = record { called = call-short _ _ _ (omega arith) refl }
+
+pub slice_bounds-write-end-2 : goal.slice_bounds-write-end-2
+slice_bounds-write-end-2 c = loaded-length _ _ c.load-count.ensures.count c.load-count.ensures.loaded
+
+pub returns : goal.returns
+returns c =
+    record {
+      called =
+        write_done c.args.table.now c.args.words.now c.load-count.ensures.count c.load-count.ensures.loaded c.args.sheet.now c.args.answer.now c.requires.deciding
+        (omega (arith, c.if-answer-lt-ANSWER_BYTES.false)) c.write-written.ensures.result c.write-written.ensures.sheet c.number.ensures.result c.figure.ensures.result c.store_answer.ensures.stored
+    }

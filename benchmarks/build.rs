@@ -1,4 +1,4 @@
-//! Links libcapi.a from HUTPLAN_ARCHIVE_DIR, by default from where `rt staticlib capi` puts it.
+//! Links libcapi.a from HUTPLAN_ARCHIVE_DIR, by default from where `bash build capi` puts it.
 
 use std::env;
 use std::path::PathBuf;

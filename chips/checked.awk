@@ -1,16 +1,18 @@
-# Takes the main function out of the checked program's module and puts what a C caller sees around each call: there a
-# list is a pointer and a length, and inside it is the address of both. Reads the calls' lines, then the module.
+# Takes the main function out of the checked program's module and puts what a C caller sees around each call, as the kit
+# does: a list whose pointer is NULL gets another address, at which nothing is read or written. Reads the calls' lines,
+# then the module.
 
 function wrapper(name, words,    list, count, i, takes, before, gives) {
     count = split(words, list, " ")
     for (i = 1; i <= count; i++) {
         if (list[i] == "number") { takes = takes ", i64 noundef %p" i; gives = gives ", i64 %p" i; continue }
         takes = takes ", ptr noundef %p" i
-        if (list[i] !~ /:any$/) { gives = gives ", ptr %p" i; continue }
+        before = before "  %z" i " = icmp eq ptr %p" i ", null\n  %s" i " = select i1 %z" i ", i64 4096, i64 0\n" \
+            "  %q" i " = getelementptr i8, ptr %p" i ", i64 %s" i "\n"
+        gives = gives ", ptr %q" i
+        if (list[i] !~ /:any$/) continue
         takes = takes ", i64 noundef %n" i
-        before = before "  %s" i " = alloca [16 x i8], align 8\n  store ptr %p" i ", ptr %s" i ", align 8\n" \
-            "  %t" i " = getelementptr i8, ptr %s" i ", i64 8\n  store i64 %n" i ", ptr %t" i ", align 8\n"
-        gives = gives ", ptr %s" i
+        gives = gives ", i64 %n" i
     }
     return "define noundef i32 @" name "(" substr(takes, 3) ") nounwind {\nstart:\n" before \
         "  %r = call i32 @\"" path[name] "\"(" substr(gives, 3) ")\n  ret i32 %r\n}\n"

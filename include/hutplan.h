@@ -3,7 +3,7 @@
  * loop that holds a server's DC cap to its cords' budgets.
  *
  * Link with libhutplan.a of your chip, which `bash chips/build` puts into target/chips/CHIP. For
- * Linux on x86-64 that is libcapi.a too, which `rt staticlib capi` puts into target/staticlib. The
+ * Linux on x86-64 that is libcapi.a too, which `bash build capi` puts into target/staticlib. The
  * calls keep no state and take no memory from the heap, so threads may call them at the same time on
  * buffers of their own. They call nothing but memcpy and memset, on ARM by their names there
  * (__aeabi_memcpy, __aeabi_memclr and the like), and, on chips that lack an instruction for it, the

@@ -36,7 +36,7 @@ function finish(    name, list, count, i, line) {
     text = ""
 }
 
-/^ *#\[no_mangle\]/ { open = 1; next }
+/^ *#\[unsafe\(no_mangle\)\]/ { open = 1; next }
 open { text = text " " $0; gsub(/[ \t]+/, " ", text) }
 open && /-> u32/ { open = 0; finish() }
 END { if (open) stop("a call without an end") }

@@ -1,9 +1,4 @@
 -- `lend` meets its contract: what is weighed and shared is the headroom.
--- ---- The places of the code, each from a later one
--- ---- What each call leaves in its lists
--- ---- What they are then
--- ---- How long they are
--- ---- The needs
 use mathlib.Core.Path.{◌≡◌, sym, ◌∙◌}
 use mathlib.Core.List.{List}
 use Prim.Native.Nat.{ℕ, ◌≤◌}
@@ -11,7 +6,7 @@ use native.Mathlib.Omega.{arith}
 use lib.ListN.{length, replicate}
 use Rattle.figures.proofs.Fronts.{equal-length}
 use Rattle.plan_headroom.specs.Passes.{LendLists, AllPlaces, LendWeights}
-use Rattle.plan_headroom.proofs.Weights.{listed-length, sum-weights-asks, OnNodes, weigh-asks, lend-weights}
+use Rattle.plan_headroom.proofs.Weights.{sum-weights-asks, OnNodes, weigh-asks, lend-weights}
 use Rattle.plan_headroom.proofs.Headroom.{lend-lists, left-most, headroom-is}
 use Rattle.plan_headroom.proofs.lend.Goals as goal
 
@@ -22,34 +17,12 @@ figures_length = 520
 new-list : length {A = ℕ} (replicate figures_length 0) ≡ figures_length
 new-list = equal-length {A = ℕ} figures_length 0
 
-pub slice_bounds-all-end : goal.slice_bounds-all-end
-slice_bounds-all-end c =
-    let lists : LendLists c.args.parents.now c.args.nodes.now c.args.wants.now c.args.headroom.now = lend-lists c.requires.lists.0.given in
-    omega (arith, lists.few, c.list_all.ensures.listed.size)
-
-pub slice_bounds-sum_weights-end : goal.slice_bounds-sum_weights-end
-slice_bounds-sum_weights-end c =
-    let lists : LendLists c.args.parents.now c.args.nodes.now c.args.wants.now c.args.headroom.now = lend-lists c.requires.lists.0.given in
-    sym (listed-length lists c.list_all.ensures.listed)
-
-pub slice_bounds-sum_weights-end-2 : goal.slice_bounds-sum_weights-end-2
-slice_bounds-sum_weights-end-2 c = sym new-list
-
 pub sum_weights-requires : goal.sum_weights-requires
 sum_weights-requires c =
     let lists : LendLists c.args.parents.now c.args.nodes.now c.args.wants.now c.args.headroom.now = lend-lists c.requires.lists.0.given in
     let enough : (size : ℕ) → size ≡ figures_length → length c.args.parents.now ≤ size = λ size e. omega (arith, lists.few-nodes) in
     let both = sum-weights-asks lists c.list_all.ensures.listed (enough _ new-list) in
     record { cords = both.0; size = both.1 }
-
-pub slice_bounds-weigh-end-2 : goal.slice_bounds-weigh-end-2
-slice_bounds-weigh-end-2 c =
-    let sums-back : List ℕ = c.sum_weights.new.wholes in
-    let sums-sized : length sums-back ≡ figures_length = c.sum_weights.auto.wholes ∙ new-list in
-    sym sums-sized
-
-pub slice_bounds-weigh-end-3 : goal.slice_bounds-weigh-end-3
-slice_bounds-weigh-end-3 c = sym new-list
 
 pub weigh-requires : goal.weigh-requires
 weigh-requires c =
@@ -61,27 +34,12 @@ weigh-requires c =
     let on-nodes : OnNodes lists places sums-back = λ n l. c.sum_weights.ensures.summed n l in
     let sums-sized : length sums-back ≡ figures_length = c.sum_weights.auto.wholes ∙ new-list in
     let all = weigh-asks lists places c.args.left.now sums-back c.requires.lists.0.given.left-size on-nodes (enough _ sums-sized) (enough _ new-list) in
-    record { nodes = all.0; sizes = all.1.0; sums_fit = all.1.1.0; idle = all.1.1.1 }
-
-pub slice_bounds-deal_out-end-2 : goal.slice_bounds-deal_out-end-2
-slice_bounds-deal_out-end-2 c =
-    let sums-back : List ℕ = c.sum_weights.new.wholes in
-    let wholes-back : List ℕ = c.weigh.new.wholes in
-    let sums-sized : length sums-back ≡ figures_length = c.sum_weights.auto.wholes ∙ new-list in
-    let wholes-sized : length wholes-back ≡ figures_length = c.weigh.auto.wholes ∙ sums-sized in
-    sym wholes-sized
-
-pub slice_bounds-deal_out-end-3 : goal.slice_bounds-deal_out-end-3
-slice_bounds-deal_out-end-3 c =
-    let amounts-back : List ℕ = c.weigh.new.weights in
-    let amounts-sized : length amounts-back ≡ figures_length = c.weigh.auto.weights ∙ new-list in
-    sym amounts-sized
-
-pub slice_bounds-deal_out-end-4 : goal.slice_bounds-deal_out-end-4
-slice_bounds-deal_out-end-4 c = sym new-list
-
-pub slice_bounds-deal_out-end-5 : goal.slice_bounds-deal_out-end-5
-slice_bounds-deal_out-end-5 c = sym new-list
+    record {
+      nodes = all.0;
+      sizes = (all.1.0.0, omega (arith, lists.few-nodes, sums-sized), omega (arith, lists.few-nodes));
+      sums_fit = all.1.1.0;
+      idle = all.1.1.1;
+    }
 
 pub deal_out-requires : goal.deal_out-requires
 deal_out-requires c =

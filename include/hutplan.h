@@ -63,8 +63,9 @@ extern "C" {
 #endif
 
 /*
- * Refusal numbers, in the order in which they are checked; the first that is met is told. All bytes
- * of a sheet are judged (1 to 3) before any word, and all words (4 to 8) before the lows (9).
+ * Refusal numbers. The first that is met is told, in each call's order, which its own section has: 12,
+ * of a list that is too short, comes last in most calls. All bytes of a sheet are judged (1 to 3)
+ * before any word, and all words (4 to 8) before the lows (9).
  * Places count from 0; a node's number counts from 1.
  */
 enum hutplan_refusal {

@@ -11,8 +11,8 @@
 
 static struct buffer table, demands, grants, answer;
 
-/* Two roots of 150 and 500 W, so of limits 120 and 400; server 1 with a cord of 500 on each, server 2
-   with one cord on node 2; both of rank 1, 100 to 400 W: lows 50, 50 and 100. */
+/* Room H: limits 120 and 400, lows 50 and 50 of the first server, one on each node, and 100 of the second,
+   on node 2; all of one rank. */
 static const uint32_t room_h[] = {1, 2, 0, 150, 0, 500, 2, 1, 100, 400, 2, 1, 500, 2, 500, 1, 100, 400, 1, 2, 1000};
 
 /* One root of limit 80, and two servers of one cord each, 0 to 60 W, of ranks 16 and 1. */

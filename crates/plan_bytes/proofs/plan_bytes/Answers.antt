@@ -2,12 +2,13 @@
 -- ---- After the plan in words
 -- ---- Earlier places, each from a later one
 -- ---- The needs
-use mathlib.Core.Path.{◌≡◌, refl, sym}
+use mathlib.Core.Path.{◌≡◌, refl}
 use mathlib.Core.List.{List}
 use Prim.Native.Nat.{ℕ, ◌/◌}
 use native.Mathlib.Omega.{arith}
 use lib.ListN.{length, take}
-use lib.Seq.{sets, length-take-le}
+use lib.Seq.{sets}
+use Rattle.std.proofs.lemmas.List.{length-take}
 use Rattle.outcomes.specs.Outcome.{after}
 use Rattle.words.specs.Bytes.{words_of, bytes_of}
 use Rattle.deals.specs.Plan.{PlanOutcome, output, count, entries, Lists, lists, plan}
@@ -43,7 +44,7 @@ slice_bounds-store-end c =
     let outcome : PlanOutcome = plan table demands lengths in
     let words : Lists = lists c.plan_figures-figures.new.granted c.plan_figures-figures.new.capped c.plan_figures-figures.new.lent c.plan_figures-figures.new.holders in
     let left : FiguresLeft outcome c.plan_figures-figures.result words = c.plan_figures-figures.ensures.planned in
-    sym (length-take-le _ _ (omega (arith, (left.lists-are Grants).few)))
+    omega (arith, (left.lists-are Grants).few, length-take {A = ℕ})
 
 pub slice_bounds-capped-end : goal.slice_bounds-capped-end
 slice_bounds-capped-end c =
@@ -65,7 +66,7 @@ slice_bounds-store-end-2 c =
     let outcome : PlanOutcome = plan table demands lengths in
     let words : Lists = lists c.plan_figures-figures.new.granted c.plan_figures-figures.new.capped c.plan_figures-figures.new.lent c.plan_figures-figures.new.holders in
     let left : FiguresLeft outcome c.plan_figures-figures.result words = c.plan_figures-figures.ensures.planned in
-    sym (length-take-le _ _ (omega (arith, (left.lists-are Caps).few)))
+    omega (arith, (left.lists-are Caps).few, length-take {A = ℕ})
 
 pub slice_bounds-lent-end : goal.slice_bounds-lent-end
 slice_bounds-lent-end c =
@@ -87,7 +88,7 @@ slice_bounds-store-end-3 c =
     let outcome : PlanOutcome = plan table demands lengths in
     let words : Lists = lists c.plan_figures-figures.new.granted c.plan_figures-figures.new.capped c.plan_figures-figures.new.lent c.plan_figures-figures.new.holders in
     let left : FiguresLeft outcome c.plan_figures-figures.result words = c.plan_figures-figures.ensures.planned in
-    sym (length-take-le _ _ (omega (arith, (left.lists-are Headroom).few)))
+    omega (arith, (left.lists-are Headroom).few, length-take {A = ℕ})
 
 pub slice_bounds-holders-end : goal.slice_bounds-holders-end
 slice_bounds-holders-end c =
@@ -109,7 +110,7 @@ slice_bounds-store-end-4 c =
     let outcome : PlanOutcome = plan table demands lengths in
     let words : Lists = lists c.plan_figures-figures.new.granted c.plan_figures-figures.new.capped c.plan_figures-figures.new.lent c.plan_figures-figures.new.holders in
     let left : FiguresLeft outcome c.plan_figures-figures.result words = c.plan_figures-figures.ensures.planned in
-    sym (length-take-le _ _ (omega (arith, (left.lists-are Held).few)))
+    omega (arith, (left.lists-are Held).few, length-take {A = ℕ})
 
 pub returns : goal.returns
 returns c =

@@ -25,7 +25,7 @@ answered count numbers buffer = cond (holds_answer count buffer) (sets buffer 0 
 -- too short. `Buffers` says what its other lists and buffers are left as, by whether the answer was stored.
 pub record Call (count : ℕ) (numbers answer : List ℕ) (Buffers : Bool → Type 0) (r : ℕ) (answer' : List ℕ) : Type 0 where
   pub returned : r ≡ cond (holds_answer count answer) 1 0
-  pub buffers-after : Buffers (holds_answer count answer)
+  pub buffers_after : Buffers (holds_answer count answer)
   pub answer-after : answer' ≡ answered count numbers answer
 
 -- A list or buffer that a call leaves filled, or unchanged where the answer was not stored.

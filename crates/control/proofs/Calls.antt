@@ -15,8 +15,8 @@ use Rattle.control.specs.Step.{stepped, step_number, step_place}
 use Rattle.control.specs.Call.{figures_after, SteppedCall}
 
 -- The answer is that of the step that was made, which is that of the controller and the readings made of the lists.
-pub call-done : {c before : Controller} {readings made : List Reading} {step : Stepped} (controller : List Float) (answer : List ℕ) {controller' : List Float} {number place : ℕ} {answer' : List ℕ}
+pub call_done : {c before : Controller} {readings made : List Reading} {step : Stepped} (controller : List Float) (answer : List ℕ) {controller' : List Float} {number place : ℕ} {answer' : List ℕ}
     → 16 ≤ length answer → before ≡ c → made ≡ readings → step ≡ stepped before made
     → controller' ≡ figures_after step controller 0 → number ≡ step_number step → place ≡ step_place step → answer' ≡ answered 2 (number ∷ place ∷ []) answer
     → SteppedCall (stepped c readings) controller answer 1 controller' answer'
-call-done controller answer h b m s kept n p a = rw (← b, ← m, ← s) (calls.call-done _ answer _ (omega arith) kept (answer-told answer n p a))
+call_done controller answer h b m s kept n p a = rw (← b, ← m, ← s) (calls.call_done _ answer _ (omega arith) kept (answer-told answer n p a))

@@ -22,23 +22,23 @@ use Rattle.control.specs.declared.JudgedCords.TheVariants.{Good, Bad}
 use Rattle.control.specs.Step.{ac, good_controller, good_reading, difference, errors, lesser, least, moved, successor, refusal, judged, stepped}
 use Rattle.control.specs.Judged.{tally_of, no_tally, tallied, moved_by, judged_first, judged_with, stepped_by}
 use Rattle.control.specs.Promises.{SoundReading}
-use Rattle.control.proofs.Tests.{cond-true, cond-false}
-use Rattle.control.proofs.FloatOrder.{real, from-true}
-use Rattle.control.proofs.FloatRounding.{sub-real}
-use Rattle.control.proofs.FloatChoice.{lesser-infinite}
-use Rattle.control.proofs.Sound.{good-sound-reading}
+use Rattle.control.proofs.Tests.{cond_true, cond_false}
+use Rattle.control.proofs.FloatOrder.{real, from_true}
+use Rattle.control.proofs.FloatRounding.{sub_real}
+use Rattle.control.proofs.FloatChoice.{lesser_infinite}
+use Rattle.control.proofs.Sound.{good_sound_reading}
 
 -- ---- Errors
 
 -- None is a NaN.
 pub data Reals : List AcWatts → Type 0 where
-  no-reals : Reals []
+  no_reals : Reals []
   reals : {error : AcWatts} {rest : List AcWatts} → T (real error.0) → Reals rest → Reals (error ∷ rest)
 
-pub error-real : (budget measured : AcWatts) → SoundReading (Working budget measured) → T (real (difference budget measured).0)
-error-real budget measured sound =
+pub error_real : (budget measured : AcWatts) → SoundReading (Working budget measured) → T (real (difference budget measured).0)
+error_real budget measured sound =
     let both = sound.figures budget measured refl in
-    sub-real binary64 budget.0 measured.0 (from-true both.0.is_finite) (from-true both.1.is_finite)
+    sub_real binary64 budget.0 measured.0 (from_true both.0.is_finite) (from_true both.1.is_finite)
 
 -- ---- A tally followed by errors
 
@@ -48,11 +48,11 @@ unfolding least
 successor_from c tally rest = moved_by c (tally_of (least tally.least rest) (tally.working + length rest))
 
 -- A cord may be tallied, or stand first of those after the tally.
-successor_from-tallied : (c : Controller) (tally : Tally) (reading : Reading) (rest : List Reading) → tally.working < 4
+successor_from_tallied : (c : Controller) (tally : Tally) (reading : Reading) (rest : List Reading) → tally.working < 4
     → successor_from c (tallied tally reading) (errors rest) ≡ successor_from c tally (errors (reading ∷ rest))
 unfolding successor_from errors least
-successor_from-tallied c tally Failed rest h = refl
-successor_from-tallied c tally (Working budget measured) rest h =
+successor_from_tallied c tally Failed rest h = refl
+successor_from_tallied c tally (Working budget measured) rest h =
     let more = tallied tally (Working budget measured) in
     let count : more.working + length (errors rest) ≡ tally.working + suc (length (errors rest)) = omega arith in
     ap (λ (n : ℕ). moved_by c (tally_of (least more.least (errors rest)) n)) count
@@ -63,38 +63,38 @@ tallied-within tally Failed rest h = omega arith
 tallied-within tally (Working budget measured) rest h = omega arith
 
 -- With no cord after it, the tally says all; with none in it, the cords after it do.
-successor_from-end : (c : Controller) (tally : Tally) → moved_by c tally ≡ successor_from c tally []
+successor_from_end : (c : Controller) (tally : Tally) → moved_by c tally ≡ successor_from c tally []
 unfolding successor_from least
-successor_from-end c tally = ap (λ (n : ℕ). moved_by c (tally_of tally.least n)) (sym (add-zero tally.working))
+successor_from_end c tally = ap (λ (n : ℕ). moved_by c (tally_of tally.least n)) (sym (add-zero tally.working))
 
-successor_from-none : (c : Controller) (rest : List AcWatts) → Reals rest → successor_from c no_tally rest ≡ successor c rest
+successor_from_none : (c : Controller) (rest : List AcWatts) → Reals rest → successor_from c no_tally rest ≡ successor c rest
 unfolding successor_from successor least
-successor_from-none c [] no-reals = refl
-successor_from-none c (error ∷ rest) (reals r rs) =
+successor_from_none c [] no_reals = refl
+successor_from_none c (error ∷ rest) (reals r rs) =
     let count : 0 + suc (length rest) ≡ suc (length rest) = omega arith in
     let some : 0 < 0 + suc (length rest) = omega arith in
-    sym (cond-false c (moved c (least (lesser (ac (inf false)) error) rest) (0 + suc (length rest))) (ne_eqb (0 + suc (length rest)) 0 (ne_of_gt some)))
-    ∙ ap (λ (e : AcWatts). moved c (least e rest) (0 + suc (length rest))) (ap ac (lesser-infinite error.0 r))
+    sym (cond_false c (moved c (least (lesser (ac (inf false)) error) rest) (0 + suc (length rest))) (ne_eqb (0 + suc (length rest)) 0 (ne_of_gt some)))
+    ∙ ap (λ (e : AcWatts). moved c (least e rest) (0 + suc (length rest))) (ap ac (lesser_infinite error.0 r))
     ∙ ap (moved c (least error rest)) count
 
 -- ---- Readings judged
 
-pub judged-good : (c : Controller) (i : ℕ) (reading : Reading) (rest : List Reading) (next : Stepped)
+pub judged_good : (c : Controller) (i : ℕ) (reading : Reading) (rest : List Reading) (next : Stepped)
     → good_reading reading ≡ true → judged c (suc i) rest next ≡ judged c i (reading ∷ rest) next
 unfolding judged
-judged-good c i reading rest next good = cond-true _ _ good
+judged_good c i reading rest next good = cond_true _ _ good
 
-pub judged-bad : (c : Controller) (i : ℕ) (reading : Reading) (rest : List Reading) (next : Stepped)
+pub judged_bad : (c : Controller) (i : ℕ) (reading : Reading) (rest : List Reading) (next : Stepped)
     → good_reading reading ≡ false → Refused (refusal 17 i) c ≡ judged c i (reading ∷ rest) next
 unfolding judged
-judged-bad c i reading rest next bad = cond-false _ _ bad
+judged_bad c i reading rest next bad = cond_false _ _ bad
 
 -- What follows good readings need only be known where their errors are no NaN.
 judged-same : (c : Controller) (i : ℕ) (readings : List Reading) (x y : Stepped) → (Reals (errors readings) → x ≡ y) → judged c i readings x ≡ judged c i readings y
 unfolding judged errors
-judged-same c i [] x y f = f no-reals
+judged-same c i [] x y f = f no_reals
 judged-same c i (Failed ∷ rest) x y f =
-    sym (judged-good c i Failed rest x refl) ∙ judged-same c (suc i) rest x y f ∙ judged-good c i Failed rest y refl
+    sym (judged_good c i Failed rest x refl) ∙ judged-same c (suc i) rest x y f ∙ judged_good c i Failed rest y refl
 judged-same c i (Working budget measured ∷ rest) x y f = go (good_reading reading) refl (judged-same c (suc i) rest x y)
   where
     reading : Reading
@@ -103,10 +103,10 @@ judged-same c i (Working budget measured ∷ rest) x y f = go (good_reading read
     go : (b : Bool) → good_reading reading ≡ b → ((Reals (errors rest) → x ≡ y) → judged c (suc i) rest x ≡ judged c (suc i) rest y)
         → judged c i (reading ∷ rest) x ≡ judged c i (reading ∷ rest) y
     go true good later =
-        sym (judged-good c i reading rest x good)
-        ∙ later (λ rs. f (reals (error-real budget measured (good-sound-reading reading good)) rs))
-        ∙ judged-good c i reading rest y good
-    go false bad later = sym (judged-bad c i reading rest x bad) ∙ judged-bad c i reading rest y bad
+        sym (judged_good c i reading rest x good)
+        ∙ later (λ rs. f (reals (error_real budget measured (good_sound_reading reading good)) rs))
+        ∙ judged_good c i reading rest y good
+    go false bad later = sym (judged_bad c i reading rest x bad) ∙ judged_bad c i reading rest y bad
 
 -- ---- Cords judged one by one
 
@@ -115,16 +115,16 @@ unfolding judged_with
 judged_all j i [] = j
 judged_all j i (reading ∷ rest) = judged_all (judged_with j i reading) (suc i) rest
 
-all-bad : (why : StepRefusal) (i : ℕ) (readings : List Reading) → judged_all (Bad why) i readings ≡ Bad why
+all_bad : (why : StepRefusal) (i : ℕ) (readings : List Reading) → judged_all (Bad why) i readings ≡ Bad why
 unfolding judged_all judged_with
-all-bad why i [] = refl
-all-bad why i (reading ∷ rest) = all-bad why (suc i) rest
+all_bad why i [] = refl
+all_bad why i (reading ∷ rest) = all_bad why (suc i) rest
 
-all-good : (c : Controller) (tally : Tally) (i : ℕ) (readings : List Reading) → tally.working + length readings ≤ 4
+all_good : (c : Controller) (tally : Tally) (i : ℕ) (readings : List Reading) → tally.working + length readings ≤ 4
     → stepped_by c (judged_all (Good tally) i readings) ≡ judged c i readings (Next (successor_from c tally (errors readings)))
 unfolding judged_all judged_with judged errors
-all-good c tally i [] h = ap Next (successor_from-end c tally)
-all-good c tally i (reading ∷ rest) h = go (good_reading reading) refl (all-good c (tallied tally reading) (suc i) rest (tallied-within tally reading rest h))
+all_good c tally i [] h = ap Next (successor_from_end c tally)
+all_good c tally i (reading ∷ rest) h = go (good_reading reading) refl (all_good c (tallied tally reading) (suc i) rest (tallied-within tally reading rest h))
   where
     after : Stepped
     after = Next (successor_from c tally (errors (reading ∷ rest)))
@@ -136,51 +136,51 @@ all-good c tally i (reading ∷ rest) h = go (good_reading reading) refl (all-go
         → stepped_by c (judged_all (Good more) (suc i) rest) ≡ judged c (suc i) rest (Next (successor_from c more (errors rest)))
         → stepped_by c (judged_all (judged_with (Good tally) i reading) (suc i) rest) ≡ judged c i (reading ∷ rest) after
     go true good later =
-        ap (λ (j : JudgedCords). stepped_by c (judged_all j (suc i) rest)) (sym (cond-true _ _ good))
+        ap (λ (j : JudgedCords). stepped_by c (judged_all j (suc i) rest)) (sym (cond_true _ _ good))
         ∙ later
-        ∙ ap (λ (next : Controller). judged c (suc i) rest (Next next)) (successor_from-tallied c tally reading rest (omega (arith, h)))
-        ∙ judged-good c i reading rest after good
+        ∙ ap (λ (next : Controller). judged c (suc i) rest (Next next)) (successor_from_tallied c tally reading rest (omega (arith, h)))
+        ∙ judged_good c i reading rest after good
     go false bad later =
-        ap (λ (j : JudgedCords). stepped_by c (judged_all j (suc i) rest)) (sym (cond-false _ _ bad))
-        ∙ ap (stepped_by c) (all-bad (refusal 17 i) (suc i) rest)
-        ∙ judged-bad c i reading rest after bad
+        ap (λ (j : JudgedCords). stepped_by c (judged_all j (suc i) rest)) (sym (cond_false _ _ bad))
+        ∙ ap (stepped_by c) (all_bad (refusal 17 i) (suc i) rest)
+        ∙ judged_bad c i reading rest after bad
 
 -- ---- The step
 
 -- A controller that is not good ends the step.
-pub stepped-bad-controller : (c : Controller) (readings : List Reading) → good_controller c ≡ false
+pub stepped_bad_controller : (c : Controller) (readings : List Reading) → good_controller c ≡ false
     → Refused (refusal 16 0) c ≡ stepped c readings
 unfolding stepped
-stepped-bad-controller c readings bad = cond-false _ _ bad
+stepped_bad_controller c readings bad = cond_false _ _ bad
 
 -- The controller judged, then each cord, make the step.
-stepped_by-all : (c : Controller) (readings : List Reading) → length readings ≤ 4 → stepped_by c (judged_all (judged_first c) 0 readings) ≡ stepped c readings
+stepped_by_all : (c : Controller) (readings : List Reading) → length readings ≤ 4 → stepped_by c (judged_all (judged_first c) 0 readings) ≡ stepped c readings
 unfolding judged_first stepped
-stepped_by-all c readings h = go (good_controller c) refl
+stepped_by_all c readings h = go (good_controller c) refl
   where
     go : (b : Bool) → good_controller c ≡ b → stepped_by c (judged_all (judged_first c) 0 readings) ≡ stepped c readings
     go true good =
-        ap (λ (j : JudgedCords). stepped_by c (judged_all j 0 readings)) (sym (cond-true _ _ good))
-        ∙ all-good c no_tally 0 readings (omega (arith, h))
-        ∙ judged-same c 0 readings _ _ (λ rs. ap Next (successor_from-none c (errors readings) rs))
-        ∙ cond-true _ _ good
+        ap (λ (j : JudgedCords). stepped_by c (judged_all j 0 readings)) (sym (cond_true _ _ good))
+        ∙ all_good c no_tally 0 readings (omega (arith, h))
+        ∙ judged-same c 0 readings _ _ (λ rs. ap Next (successor_from_none c (errors readings) rs))
+        ∙ cond_true _ _ good
     go false bad =
-        ap (λ (j : JudgedCords). stepped_by c (judged_all j 0 readings)) (sym (cond-false _ _ bad))
-        ∙ ap (stepped_by c) (all-bad (refusal 16 0) 0 readings)
-        ∙ stepped-bad-controller c readings bad
+        ap (λ (j : JudgedCords). stepped_by c (judged_all j 0 readings)) (sym (cond_false _ _ bad))
+        ∙ ap (stepped_by c) (all_bad (refusal 16 0) 0 readings)
+        ∙ stepped_bad_controller c readings bad
 
 -- The same of four cords.
-pub stepped_by-four : (c : Controller) (first second third fourth : Reading)
+pub stepped_by_four : (c : Controller) (first second third fourth : Reading)
     → stepped_by c (judged_with (judged_with (judged_with (judged_with (judged_first c) 0 first) 1 second) 2 third) 3 fourth) ≡ stepped c (first ∷ second ∷ third ∷ fourth ∷ [])
 unfolding judged_all
-stepped_by-four c first second third fourth = stepped_by-all c (first ∷ second ∷ third ∷ fourth ∷ []) (omega arith)
+stepped_by_four c first second third fourth = stepped_by_all c (first ∷ second ∷ third ∷ fourth ∷ []) (omega arith)
 
 -- Four readings are those at their places.
-pub four-readings : (readings : List Reading) (d : Reading) → length readings ≡ 4
+pub four_readings : (readings : List Reading) (d : Reading) → length readings ≡ 4
     → get_or readings 0 d ∷ get_or readings 1 d ∷ get_or readings 2 d ∷ get_or readings 3 d ∷ [] ≡ readings
-four-readings (first ∷ second ∷ third ∷ fourth ∷ []) d h = refl
-four-readings [] d h = absurd (omega (arith, h))
-four-readings (first ∷ []) d h = absurd (omega (arith, h))
-four-readings (first ∷ second ∷ []) d h = absurd (omega (arith, h))
-four-readings (first ∷ second ∷ third ∷ []) d h = absurd (omega (arith, h))
-four-readings (first ∷ second ∷ third ∷ fourth ∷ fifth ∷ rest) d h = absurd (omega (arith, h))
+four_readings (first ∷ second ∷ third ∷ fourth ∷ []) d h = refl
+four_readings [] d h = absurd (omega (arith, h))
+four_readings (first ∷ []) d h = absurd (omega (arith, h))
+four_readings (first ∷ second ∷ []) d h = absurd (omega (arith, h))
+four_readings (first ∷ second ∷ third ∷ []) d h = absurd (omega (arith, h))
+four_readings (first ∷ second ∷ third ∷ fourth ∷ fifth ∷ rest) d h = absurd (omega (arith, h))

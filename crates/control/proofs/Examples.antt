@@ -35,25 +35,25 @@ cord = working (of_bits binary64 4613712638259704627) float0
 
 pub record Worked : Type 0 where
   -- Errors 200 − 190 and 200 − 180: (10 × 0.5) × 2 is added to 300.
-  least-error : stepped server (working (scaled 25 3) (scaled 95 1) ∷ Failed ∷ working (scaled 25 3) (scaled 45 2) ∷ Failed ∷ [])
+  least_error : stepped server (working (scaled 25 3) (scaled 95 1) ∷ Failed ∷ working (scaled 25 3) (scaled 45 2) ∷ Failed ∷ [])
       ≡ Next (controller_of (scaled 155 1) half (scaled 25 2) (scaled 25 4))
   -- An error of 400 − 0 is too much, and one of 0 − 800 too: 300 + 200 and 300 − 400 are cut.
-  cut-to-high : stepped server (working (scaled 25 4) float0 ∷ Failed ∷ Failed ∷ Failed ∷ [])
+  cut_to_high : stepped server (working (scaled 25 4) float0 ∷ Failed ∷ Failed ∷ Failed ∷ [])
       ≡ Next (controller_of (scaled 25 4) half (scaled 25 2) (scaled 25 4))
-  cut-to-low : stepped server (Failed ∷ Failed ∷ Failed ∷ working float0 (scaled 25 5) ∷ [])
+  cut_to_low : stepped server (Failed ∷ Failed ∷ Failed ∷ working float0 (scaled 25 5) ∷ [])
       ≡ Next (controller_of (scaled 25 2) half (scaled 25 2) (scaled 25 4))
   -- A cord at 0 W works: errors 0 and 200, over two cords.
-  no-watts : stepped server (working float0 float0 ∷ working (scaled 25 3) float0 ∷ Failed ∷ Failed ∷ []) ≡ Next server
+  no_watts : stepped server (working float0 float0 ∷ working (scaled 25 3) float0 ∷ Failed ∷ Failed ∷ []) ≡ Next server
   -- (2.9 × 0.05) × 3 is 0.43499999999999994, by the bits of these floats. In another order it would be 0.435 or 0.43500000000000005.
   rounded : stepped (controller_of float0 (of_bits binary64 4587366580439587226) float0 half) (cord ∷ cord ∷ cord ∷ Failed ∷ [])
       ≡ Next (controller_of (of_bits binary64 4601507883269530582) (of_bits binary64 4587366580439587226) float0 half)
   -- Of the errors −0 and +0 the first is taken: only −0 leaves a cap of −0.
-  first-negative : stepped (controller_of negative0 half negative0 half) (working negative0 float0 ∷ working float0 float0 ∷ Failed ∷ Failed ∷ [])
+  first_negative : stepped (controller_of negative0 half negative0 half) (working negative0 float0 ∷ working float0 float0 ∷ Failed ∷ Failed ∷ [])
       ≡ Next (controller_of negative0 half negative0 half)
-  first-positive : stepped (controller_of negative0 half negative0 half) (working float0 float0 ∷ working negative0 float0 ∷ Failed ∷ Failed ∷ [])
+  first_positive : stepped (controller_of negative0 half negative0 half) (working float0 float0 ∷ working negative0 float0 ∷ Failed ∷ Failed ∷ [])
       ≡ Next (controller_of float0 half negative0 half)
   -- A k of 0; and 2 ^ 24 = 16,777,216 W.
-  no-efficiency : stepped (controller_of (scaled 75 2) float0 (scaled 25 2) (scaled 25 4)) (Failed ∷ Failed ∷ Failed ∷ working (scaled 1 24) float0 ∷ [])
+  no_efficiency : stepped (controller_of (scaled 75 2) float0 (scaled 25 2) (scaled 25 4)) (Failed ∷ Failed ∷ Failed ∷ working (scaled 1 24) float0 ∷ [])
       ≡ Refused (refusal 16 0) (controller_of (scaled 75 2) float0 (scaled 25 2) (scaled 25 4))
   watts-above : stepped server (Failed ∷ working float0 float0 ∷ working float0 (scaled 1 24) ∷ working (scaled 1 24) float0 ∷ [])
       ≡ Refused (refusal 17 2) server
@@ -61,13 +61,13 @@ pub record Worked : Type 0 where
 pub worked : Worked
 unfolding stepped lt le add sub mul of_int of_bits
 worked = record {
-  least-error = refl;
-  cut-to-high = refl;
-  cut-to-low = refl;
-  no-watts = refl;
+  least_error = refl;
+  cut_to_high = refl;
+  cut_to_low = refl;
+  no_watts = refl;
   rounded = refl;
-  first-negative = refl;
-  first-positive = refl;
-  no-efficiency = refl;
+  first_negative = refl;
+  first_positive = refl;
+  no_efficiency = refl;
   watts-above = refl;
 }

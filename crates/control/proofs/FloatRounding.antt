@@ -15,64 +15,64 @@ use lib.Ieee.Back.{round_whole}
 use lib.Pow.{pow_pos, pow-add, pow-lt}
 use lib.Ieee.Positive.{positive, positive_of_value}
 use lib.Ieee.Scale.{finite, round_same}
-use Rattle.control.proofs.FloatOrder.{real, finite-real}
+use Rattle.control.proofs.FloatOrder.{real, finite_real}
 
 -- ---- No operation of a step makes a NaN
 
-units-real : (f : Format) (s : Bool) (q k : ℕ) → T (real (units f s q k))
+units_real : (f : Format) (s : Bool) (q k : ℕ) → T (real (units f s q k))
 unfolding units odd
-units-real f s q k = go (ltb (q * 2 ^ k) (2 ^ (low f + suc (emax f)))) q
+units_real f s q k = go (ltb (q * 2 ^ k) (2 ^ (low f + suc (emax f)))) q
   where
     go : (b : Bool) (p : ℕ) → T (real (cond b (odd (suc (prec f)) s p k (low f)) (inf s)))
     go true zero = tt
     go true (suc p) = tt
     go false p = tt
 
-pub round-real : (f : Format) (s : Bool) (a c : ℕ) → T (real (round f s a c))
-round-real f s a c = rw (round_is f s a c) (units-real f s _ _)
+pub round_real : (f : Format) (s : Bool) (a c : ℕ) → T (real (round f s a c))
+round_real f s a c = rw (round_is f s a c) (units_real f s _ _)
 
-cond-real : (b : Bool) (x y : Float) → T (real x) → T (real y) → T (real (cond b x y))
-cond-real true x y p q = p
-cond-real false x y p q = q
+cond_real : (b : Bool) (x y : Float) → T (real x) → T (real y) → T (real (cond b x y))
+cond_real true x y p q = p
+cond_real false x y p q = q
 
-sum-real : (f : Format) (s : Bool) (a : ℕ) (t : Bool) (b c : ℕ) → T (real (sum f s a t b c))
+sum_real : (f : Format) (s : Bool) (a : ℕ) (t : Bool) (b c : ℕ) → T (real (sum f s a t b c))
 unfolding sum
-sum-real f s a t b c =
-    cond-real (beq s t) _ _ (round-real f s (a + b) c)
-    (cond-real (ltb a b) _ _ (round-real f t (b - a) c) (round-real f (s && ltb b a) (a - b) c))
+sum_real f s a t b c =
+    cond_real (beq s t) _ _ (round_real f s (a + b) c)
+    (cond_real (ltb a b) _ _ (round_real f t (b - a) c) (round_real f (s && ltb b a) (a - b) c))
 
-pub add-real : (f : Format) (x y : Float) → T (finite x) → T (real y) → T (real (add f x y))
+pub add_real : (f : Format) (x y : Float) → T (finite x) → T (real y) → T (real (add f x y))
 unfolding add
-add-real f nan y p q = absurd p
-add-real f (inf s) y p q = absurd p
-add-real f (fin s m e) nan p q = absurd q
-add-real f (fin s m e) (inf t) p q = tt
-add-real f (fin s m e) (fin t n d) p q = sum-real f s _ t _ _
+add_real f nan y p q = absurd p
+add_real f (inf s) y p q = absurd p
+add_real f (fin s m e) nan p q = absurd q
+add_real f (fin s m e) (inf t) p q = tt
+add_real f (fin s m e) (fin t n d) p q = sum_real f s _ t _ _
 
-pub mul-real : (f : Format) (x y : Float) → T (real x) → T (positive y) → T (real (mul f x y))
+pub mul_real : (f : Format) (x y : Float) → T (real x) → T (positive y) → T (real (mul f x y))
 unfolding mul
-mul-real f x nan p q = absurd q
-mul-real f x (inf t) p q = absurd q
-mul-real f x (fin true n d) p q = absurd q
-mul-real f nan (fin false n d) p q = absurd p
-mul-real f (inf s) (fin false zero d) p q = absurd q
-mul-real f (inf s) (fin false (suc n) d) p q = rw (eqb-suc-zero n) tt
-mul-real f (fin s m e) (fin false n d) p q = round-real f _ _ _
+mul_real f x nan p q = absurd q
+mul_real f x (inf t) p q = absurd q
+mul_real f x (fin true n d) p q = absurd q
+mul_real f nan (fin false n d) p q = absurd p
+mul_real f (inf s) (fin false zero d) p q = absurd q
+mul_real f (inf s) (fin false (suc n) d) p q = rw (eqb-suc-zero n) tt
+mul_real f (fin s m e) (fin false n d) p q = round_real f _ _ _
 
-pub neg-finite : (y : Float) → T (finite y) → T (finite (neg y))
+pub neg_finite : (y : Float) → T (finite y) → T (finite (neg y))
 unfolding neg
-neg-finite nan h = h
-neg-finite (inf s) h = h
-neg-finite (fin s m e) h = tt
+neg_finite nan h = h
+neg_finite (inf s) h = h
+neg_finite (fin s m e) h = tt
 
-pub sub-real : (f : Format) (x y : Float) → T (finite x) → T (finite y) → T (real (sub f x y))
+pub sub_real : (f : Format) (x y : Float) → T (finite x) → T (finite y) → T (real (sub f x y))
 unfolding sub
-sub-real f x y p q = add-real f x (neg y) p (finite-real (neg y) (neg-finite y q))
+sub_real f x y p q = add_real f x (neg y) p (finite_real (neg y) (neg_finite y q))
 
 -- A count is positive.
-pub count-positive : (n : ℕ) → 0 < n → n ≤ 2 ^ 53 → T (positive (of_int binary64 (pos n)))
+pub count_positive : (n : ℕ) → 0 < n → n ≤ 2 ^ 53 → T (positive (of_int binary64 (pos n)))
 unfolding of_int
-count-positive n p h = positive_of_value (round binary64 false n 1) n 1 (round_whole binary64 false n h) p
+count_positive n p h = positive_of_value (round binary64 false n 1) n 1 (round_whole binary64 false n h) p
 
 -- ---- Zero, of either sign
 
@@ -90,14 +90,14 @@ no_size m u c d U C h = go (eq-zero-or-pos m)
         let p : 0 < m * u * c = mul-pos (mul-pos l U) C in
         omega (arith, zero-mul d)
 
-value-zero : (x : Float) (s : Bool) (c : ℕ) → 0 < c → HasValue x s 0 c → T (zeroed x)
-value-zero nan s c p h = h
-value-zero (inf t) s c p h = h
-value-zero (fin t m e) s c p h = eq→eqb (no_size m (up e) c (down e) (up_pos e) p h.1)
+value_zero : (x : Float) (s : Bool) (c : ℕ) → 0 < c → HasValue x s 0 c → T (zeroed x)
+value_zero nan s c p h = h
+value_zero (inf t) s c p h = h
+value_zero (fin t m e) s c p h = eq→eqb (no_size m (up e) c (down e) (up_pos e) p h.1)
 
-round-zero : (f : Format) (s : Bool) (c : ℕ) → 0 < c → T (zeroed (round f s 0 c))
-round-zero f s c p =
-    value-zero (round f s 0 c) s c p
+round_zero : (f : Format) (s : Bool) (c : ℕ) → 0 < c → T (zeroed (round f s 0 c))
+round_zero f s c p =
+    value_zero (round f s 0 c) s c p
     (round_exact f s 0 c 0 0 p (pow_pos (prec f)) (pow_pos (low f + suc (emax f))) (simp zero-mul))
 
 pub mul-zero : (f : Format) (x y : Float) → T (zeroed x) → T (positive y) → T (zeroed (mul f x y))
@@ -110,7 +110,7 @@ mul-zero f (fin s m e) (fin true n d) p q = absurd q
 mul-zero f (fin s m e) (fin false n d) p q =
     let z : m ≡ 0 = eqb→eq m 0 p in
     let w : m * up e * (n * up d) ≡ 0 = rw z (simp zero-mul) in
-    rw w (round-zero f _ _ (mul-pos (down_pos e) (down_pos d)))
+    rw w (round_zero f _ _ (mul-pos (down_pos e) (down_pos d)))
 
 -- ---- A value that fits is written in one way, and rounding leaves it
 
@@ -182,13 +182,13 @@ exact f m (negsuc k) h s =
 
 one_power : (a : ℕ) → 2 ^ a ≡ 1 → a ≡ 0
 one_power zero h = refl
-one_power (suc a) h = absurd (no-half (2 ^ a) (sym (pow-succ' 2 a) ∙ h))
+one_power (suc a) h = absurd (no_half (2 ^ a) (sym (pow-succ' 2 a) ∙ h))
   where
-    no-half : (x : ℕ) → 2 * x ≡ 1 → ⊥
-    no-half x h = omega arith
+    no_half : (x : ℕ) → 2 * x ≡ 1 → ⊥
+    no_half x h = omega arith
 
-no-sum : (a b : ℕ) → a + suc b ≡ 0 → ⊥
-no-sum a b h = omega arith
+no_sum : (a b : ℕ) → a + suc b ≡ 0 → ⊥
+no_sum a b h = omega arith
 
 -- odd numbers with their powers of two: equal as fractions, equal in both parts
 same_parts : (m n : ℕ) (e d : ℤ) → m % 2 ≡ 1 → n % 2 ≡ 1 → m * up e * down d ≡ n * up d * down e → (m ≡ n) × (e ≡ d)
@@ -196,38 +196,38 @@ same_parts m n (pos a) (pos b) o p h =
     let w = odd_pow m n a b o p (simp mul-one at h) in
     (w.0, ap pos w.1)
 same_parts m n (pos a) (negsuc b) o p h =
-    absurd (no-sum a b (odd_pow m n (a + suc b) 0 o p (ap (λ (x : ℕ). m * x) (pow-add 2 a (suc b)) ∙ sym (mul_assoc m (2 ^ a) (2 ^ suc b)) ∙ h ∙ mul-one (n * 1))).1)
+    absurd (no_sum a b (odd_pow m n (a + suc b) 0 o p (ap (λ (x : ℕ). m * x) (pow-add 2 a (suc b)) ∙ sym (mul_assoc m (2 ^ a) (2 ^ suc b)) ∙ h ∙ mul-one (n * 1))).1)
 same_parts m n (negsuc a) (pos b) o p h =
-    absurd (no-sum b a (odd_pow n m (b + suc a) 0 p o (ap (λ (x : ℕ). n * x) (pow-add 2 b (suc a)) ∙ sym (mul_assoc n (2 ^ b) (2 ^ suc a)) ∙ sym h ∙ mul-one (m * 1))).1)
+    absurd (no_sum b a (odd_pow n m (b + suc a) 0 p o (ap (λ (x : ℕ). n * x) (pow-add 2 b (suc a)) ∙ sym (mul_assoc n (2 ^ b) (2 ^ suc a)) ∙ sym h ∙ mul-one (m * 1))).1)
 same_parts m n (negsuc a) (negsuc b) o p h =
     let w = odd_pow m n (suc b) (suc a) o p (simp mul-one at h) in
     let q : b ≡ a = omega (arith, w.1) in
     (w.0, ap negsuc (sym q))
 
 -- a zero that fits
-pub plain-zero : (f : Format) (s : Bool) (e : ℤ) → T (fits f (fin s 0 e)) → e ≡ pos 0
+pub plain_zero : (f : Format) (s : Bool) (e : ℤ) → T (fits f (fin s 0 e)) → e ≡ pos 0
 unfolding fits
-plain-zero f s (pos k) h = ap pos (one_power k (simp mul-one at (eqb→eq (2 ^ k * 1) 1 h)))
-plain-zero f s (negsuc k) h =
+plain_zero f s (pos k) h = ap pos (one_power k (simp mul-one at (eqb→eq (2 ^ k * 1) 1 h)))
+plain_zero f s (negsuc k) h =
     let z : suc k ≡ 0 = one_power (suc k) (simp one-mul at (eqb→eq (1 * 2 ^ suc k) 1 h)) in
     absurd (omega (arith, z))
 
 -- a value of the format that is a finite one, is it
-pub same-value : (f : Format) (x : Float) (s : Bool) (m : ℕ) (e : ℤ) → T (fits f x) → T (fits f (fin s m e)) → HasValue x s (m * up e) (down e) → x ≡ fin s m e
-same-value f nan s m e p q v = absurd v
-same-value f (inf t) s m e p q v = absurd v
-same-value f (fin t zero d) s zero e p q v =
+pub same_value : (f : Format) (x : Float) (s : Bool) (m : ℕ) (e : ℤ) → T (fits f x) → T (fits f (fin s m e)) → HasValue x s (m * up e) (down e) → x ≡ fin s m e
+same_value f nan s m e p q v = absurd v
+same_value f (inf t) s m e p q v = absurd v
+same_value f (fin t zero d) s zero e p q v =
     let a : t ≡ s = v.0 in
-    let b : d ≡ pos 0 = plain-zero f t d p in
-    let c : e ≡ pos 0 = plain-zero f s e q in
+    let b : d ≡ pos 0 = plain_zero f t d p in
+    let c : e ≡ pos 0 = plain_zero f s e q in
     cc
-same-value f (fin t zero d) s (suc m) e p q v =
+same_value f (fin t zero d) s (suc m) e p q v =
     let z : suc m ≡ 0 = no_size (suc m) (up e) (down d) (up d * down e) (up_pos e) (down_pos d) (sym v.1 ∙ mul_assoc 0 (up d) (down e)) in
     absurd (omega (arith, z))
-same-value f (fin t (suc n) d) s zero e p q v =
+same_value f (fin t (suc n) d) s zero e p q v =
     let z : suc n ≡ 0 = no_size (suc n) (up d) (down e) (up e * down d) (up_pos d) (down_pos e) (v.1 ∙ mul_assoc 0 (up e) (down d)) in
     absurd (omega (arith, z))
-same-value f (fin t (suc n) d) s (suc m) e p q v =
+same_value f (fin t (suc n) d) s (suc m) e p q v =
     let w = same_parts (suc n) (suc m) d e (held f t n d p).is_odd (held f s m e q).is_odd v.1 in
     let a : t ≡ s = v.0 in
     let b : suc n ≡ suc m = w.0 in
@@ -235,7 +235,7 @@ same-value f (fin t (suc n) d) s (suc m) e p q v =
     cc
 
 kept : (f : Format) (s : Bool) (m : ℕ) (e : ℤ) → T (fits f (fin s m e)) → round f s (m * up e) (down e) ≡ fin s m e
-kept f s m e h = same-value f (round f s (m * up e) (down e)) s m e (round-fits f s (m * up e) (down e)) h (value m h)
+kept f s m e h = same_value f (round f s (m * up e) (down e)) s m e (round-fits f s (m * up e) (down e)) h (value m h)
   where
     value : (m : ℕ) → T (fits f (fin s m e)) → HasValue (round f s (m * up e) (down e)) s (m * up e) (down e)
     value zero h =
@@ -244,8 +244,8 @@ kept f s m e h = same-value f (round f s (m * up e) (down e)) s m e (round-fits 
 
 -- ---- A zero added
 
-pub never-below : (a : ℕ) → ltb a 0 ≡ false
-never-below a = is_false (ltb a 0) (not_T (ltb a 0) (λ t. no_less a (ltb→lt a 0 t)))
+pub never_below : (a : ℕ) → ltb a 0 ≡ false
+never_below a = is_false (ltb a 0) (not_T (ltb a 0) (λ t. no_less a (ltb→lt a 0 t)))
   where
     no_less : (a : ℕ) → a < 0 → ⊥
     no_less a h = omega arith
@@ -256,25 +256,25 @@ zero_is f a c p z =
     let e : a * 1 ≡ 0 * c = mul-one a ∙ z ∙ sym (zero-mul c) in
     round_same f false a c 0 1 p (pow_pos 0) e ∙ kept f false 0 (pos 0) tt
 
-sum-zero : (f : Format) (s : Bool) (a : ℕ) (t : Bool) (c : ℕ) → (sum f s a t 0 c ≡ round f s a c) ⊎ ((a ≡ 0) × (sum f s a t 0 c ≡ round f false a c))
+sum_zero : (f : Format) (s : Bool) (a : ℕ) (t : Bool) (c : ℕ) → (sum f s a t 0 c ≡ round f s a c) ⊎ ((a ≡ 0) × (sum f s a t 0 c ≡ round f false a c))
 unfolding sum
-sum-zero f true a true c = inl (ap (λ (x : ℕ). round f true x c) (add-zero a))
-sum-zero f false a false c = inl (ap (λ (x : ℕ). round f false x c) (add-zero a))
-sum-zero f false a true c = inl (rw (never-below a) (ap (λ (x : ℕ). round f false x c) (sub-zero a)))
-sum-zero f true a false c = go (eq-zero-or-pos a)
+sum_zero f true a true c = inl (ap (λ (x : ℕ). round f true x c) (add-zero a))
+sum_zero f false a false c = inl (ap (λ (x : ℕ). round f false x c) (add-zero a))
+sum_zero f false a true c = inl (rw (never_below a) (ap (λ (x : ℕ). round f false x c) (sub-zero a)))
+sum_zero f true a false c = go (eq-zero-or-pos a)
   where
     go : (a ≡ 0) ⊎ (0 < a) → (sum f true a false 0 c ≡ round f true a c) ⊎ ((a ≡ 0) × (sum f true a false 0 c ≡ round f false a c))
     go (inl z) = inr (z, rw z refl)
-    go (inr l) = inl (rw (never-below a, is_true (ltb 0 a) (lt→ltb 0 a l)) (ap (λ (x : ℕ). round f true x c) (sub-zero a)))
+    go (inr l) = inl (rw (never_below a, is_true (ltb 0 a) (lt→ltb 0 a l)) (ap (λ (x : ℕ). round f true x c) (sub-zero a)))
 
-pub add-zero-is : (f : Format) (x y : Float) → T (fits f x) → T (finite x) → T (zeroed y)
+pub add_zero_is : (f : Format) (x y : Float) → T (fits f x) → T (finite x) → T (zeroed y)
     → (add f x y ≡ x) ⊎ (T (zeroed x) × (add f x y ≡ fin false 0 (pos 0)))
 unfolding add
-add-zero-is f nan y h p q = absurd p
-add-zero-is f (inf s) y h p q = absurd p
-add-zero-is f (fin s m e) nan h p q = absurd q
-add-zero-is f (fin s m e) (inf t) h p q = absurd q
-add-zero-is f (fin s m e) (fin t n d) h p q = rw none (go (sum-zero f s a t c))
+add_zero_is f nan y h p q = absurd p
+add_zero_is f (inf s) y h p q = absurd p
+add_zero_is f (fin s m e) nan h p q = absurd q
+add_zero_is f (fin s m e) (inf t) h p q = absurd q
+add_zero_is f (fin s m e) (fin t n d) h p q = rw none (go (sum_zero f s a t c))
   where
     a : ℕ
     a = m * up e * down d

@@ -14,9 +14,9 @@ use Rattle.control.specs.declared.Stepped.{Stepped}
 use Rattle.control.specs.declared.Stepped.TheVariants.{Next, Refused}
 use Rattle.control.specs.Step.{good_controller, good_reading, errors, successor, refusal, judged, stepped}
 use Rattle.control.specs.Promises.{Sound, SoundReading, FirstUnsound}
-use Rattle.control.proofs.Tests.{cond-true}
-use Rattle.control.proofs.Cords.{judged-good, judged-bad, stepped-bad-controller}
-use Rattle.control.proofs.Sound.{good-sound, not_good, good-sound-reading, not-good-reading}
+use Rattle.control.proofs.Tests.{cond_true}
+use Rattle.control.proofs.Cords.{judged_good, judged_bad, stepped_bad_controller}
+use Rattle.control.proofs.Sound.{good_sound, not_good, good_sound_reading, not_good_reading}
 
 -- Every reading is sound.
 abbrev pub AllSound : List Reading → Type 0
@@ -38,30 +38,30 @@ judgement c i (reading ∷ rest) next = go (good_reading reading) refl (judgemen
         → (AllSound (reading ∷ rest) × (judged c i (reading ∷ rest) next ≡ next)) ⊎ ((j : ℕ) × FirstUnsound (reading ∷ rest) j × (judged c i (reading ∷ rest) next ≡ Refused (refusal 17 (i + j)) c))
     go false bad later = inr (
       0,
-      record { within = omega arith; unsound = not-good-reading reading bad; first = λ j h. absurd (none_below j h) },
-      sym (judged-bad c i reading rest next bad) ∙ ap (λ (k : ℕ). Refused (refusal 17 k) c) (sym (add-zero i)),
+      record { within = omega arith; unsound = not_good_reading reading bad; first = λ j h. absurd (none_below j h) },
+      sym (judged_bad c i reading rest next bad) ∙ ap (λ (k : ℕ). Refused (refusal 17 k) c) (sym (add-zero i)),
     )
-    go true good (inl all) = inl (each, sym (judged-good c i reading rest next good) ∙ all.1)
+    go true good (inl all) = inl (each, sym (judged_good c i reading rest next good) ∙ all.1)
       where
         each : AllSound (reading ∷ rest)
-        each zero h = good-sound-reading reading good
+        each zero h = good_sound_reading reading good
         each (suc j) h = all.0 j (omega arith)
     go true good (inr (j, found, is)) =
         let moved : suc i + j ≡ i + suc j = omega arith in
         inr (
           suc j,
           record { within = omega (arith, found.within); unsound = found.unsound; first = before },
-          sym (judged-good c i reading rest next good) ∙ is ∙ ap (λ (k : ℕ). Refused (refusal 17 k) c) moved,
+          sym (judged_good c i reading rest next good) ∙ is ∙ ap (λ (k : ℕ). Refused (refusal 17 k) c) moved,
         )
       where
         before : (m : ℕ) → m < suc j → SoundReading (get_or (reading ∷ rest) m Failed)
-        before zero h = good-sound-reading reading good
+        before zero h = good_sound_reading reading good
         before (suc m) h = found.first m (omega arith)
 
 -- What a step comes to.
 pub data Outcome (c : Controller) (readings : List Reading) : Type 0 where
-  bad-controller : (Sound c → ⊥) → stepped c readings ≡ Refused (refusal 16 0) c → Outcome c readings
-  bad-reading : Sound c → (i : ℕ) → FirstUnsound readings i → stepped c readings ≡ Refused (refusal 17 i) c → Outcome c readings
+  bad_controller : (Sound c → ⊥) → stepped c readings ≡ Refused (refusal 16 0) c → Outcome c readings
+  bad_reading : Sound c → (i : ℕ) → FirstUnsound readings i → stepped c readings ≡ Refused (refusal 17 i) c → Outcome c readings
   all_sound : Sound c → AllSound readings → stepped c readings ≡ Next (successor c (errors readings)) → Outcome c readings
 
 pub outcome : (c : Controller) (readings : List Reading) → Outcome c readings
@@ -74,6 +74,6 @@ outcome c readings = go (good_controller c) refl (judgement c 0 readings (Next (
     go : (b : Bool) → good_controller c ≡ b
         → (AllSound readings × (judged c 0 readings next ≡ next)) ⊎ ((j : ℕ) × FirstUnsound readings j × (judged c 0 readings next ≡ Refused (refusal 17 (0 + j)) c))
         → Outcome c readings
-    go false bad j = bad-controller (not_good c bad) (sym (stepped-bad-controller c readings bad))
-    go true good (inl all) = all_sound (good-sound c good) all.0 (sym (cond-true _ _ good) ∙ all.1)
-    go true good (inr (j, found, is)) = bad-reading (good-sound c good) j found (sym (cond-true _ _ good) ∙ is ∙ ap (λ (k : ℕ). Refused (refusal 17 k) c) (zero-add j))
+    go false bad j = bad_controller (not_good c bad) (sym (stepped_bad_controller c readings bad))
+    go true good (inl all) = all_sound (good_sound c good) all.0 (sym (cond_true _ _ good) ∙ all.1)
+    go true good (inr (j, found, is)) = bad_reading (good_sound c good) j found (sym (cond_true _ _ good) ∙ is ∙ ap (λ (k : ℕ). Refused (refusal 17 k) c) (zero-add j))

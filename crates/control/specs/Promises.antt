@@ -1,5 +1,5 @@
 -- What holds of a step, apart from any code.
--- proofs/Promises.antt proves each: `CapInRange` as `cap-in-range`, and so on.
+-- proofs/Promises.antt proves each: `CapInRange` as `cap_in_range`, and so on.
 --
 -- A test that holds is written `test ≡ true`. `eq` is the floats' `==`, by which −0 equals +0; `finite` holds of all but NaN and the infinities.
 use Rattle.std.specs.Prelude.{◌≡◌, true, false, List, [], ◌∷◌, ◌↔◌, ℕ, suc, ◌<◌, length, get_or, Float}
@@ -91,16 +91,16 @@ RefusedUnchanged = (c : Controller) (readings : List Reading) (why : StepRefusal
 
 -- What refusal 16 asks of a controller, in document 02's words.
 pub record Sound (c : Controller) : Type 0 where
-  pub k-above : lt float0 c.k ≡ true
-  pub k-most : le c.k float1 ≡ true
+  pub k_above : lt float0 c.k ≡ true
+  pub k_most : le c.k float1 ≡ true
   pub low-least : le float0 c.low.0 ≡ true
-  pub low-cap : le c.low.0 c.cap.0 ≡ true
-  pub cap-high : le c.cap.0 c.high.0 ≡ true
-  pub high-most : le c.high.0 most_watts ≡ true
-  pub k-finite : finite c.k ≡ true
-  pub low-finite : finite c.low.0 ≡ true
-  pub cap-finite : finite c.cap.0 ≡ true
-  pub high-finite : finite c.high.0 ≡ true
+  pub low_cap : le c.low.0 c.cap.0 ≡ true
+  pub cap_high : le c.cap.0 c.high.0 ≡ true
+  pub high_most : le c.high.0 most_watts ≡ true
+  pub k_finite : finite c.k ≡ true
+  pub low_finite : finite c.low.0 ≡ true
+  pub cap_finite : finite c.cap.0 ≡ true
+  pub high_finite : finite c.high.0 ≡ true
 
 -- What refusal 17 asks of a figure, and so of a reading.
 pub record SoundFigure (watts : AcWatts) : Type 0 where
@@ -121,7 +121,7 @@ pub record FirstUnsound (readings : List Reading) (i : ℕ) : Type 0 where
 -- accepted exactly if all are.
 pub record Refusals : Type 0 where
   pub sixteen : (c : Controller) (readings : List Reading) → (step_number (stepped c readings) ≡ 16) ↔ (Sound c → ⊥)
-  pub sixteen-place : (c : Controller) (readings : List Reading) → step_number (stepped c readings) ≡ 16 → step_place (stepped c readings) ≡ 0
+  pub sixteen_place : (c : Controller) (readings : List Reading) → step_number (stepped c readings) ≡ 16 → step_place (stepped c readings) ≡ 0
   pub seventeen : (c : Controller) (readings : List Reading) (i : ℕ)
       → ((step_number (stepped c readings) ≡ 17) × (step_place (stepped c readings) ≡ i)) ↔ (Sound c × FirstUnsound readings i)
   pub accepted : (c : Controller) (readings : List Reading)

@@ -7,17 +7,17 @@ use native.Mathlib.Omega.{arith}
 use lib.ListN.{length}
 use lib.Ieee.{Float}
 use Rattle.outcomes.specs.Outcome.{accepted, refused, after}
-use Rattle.outcomes.proofs.Outcomes.{unless-stop, unless-pass, unless-none}
+use Rattle.outcomes.proofs.Outcomes.{unless_stop, unless_pass, unless_none}
 use Rattle.calls.specs.Call.{answered}
 use Rattle.calls.proofs.Calls as calls
-use Rattle.figures.proofs.Stores.{sets-all}
+use Rattle.figures.proofs.Stores.{sets_all}
 use Rattle.control_all.specs.declared.PassAnswer.{PassAnswer}
 use Rattle.control_all.specs.declared.PassAnswer.TheVariants.{Accepted, Refused}
 use Rattle.control_all.specs.Pass.{controller_count, stepped_to, numbers_to, zeros, Pass, PassOutcome, unfit, passed, answer_of, pass_number, pass_figure}
 use Rattle.control_all.specs.Call.{PassedCall}
 use Rattle.control_all.specs.Fitting.{Fitting}
-use Rattle.control_all.proofs.Turns.{length-stepped_to, length-numbers_to}
-use Rattle.control_all.proofs.Lengths.{fit, fit-fits, fits-fitting}
+use Rattle.control_all.proofs.Turns.{length_stepped_to, length_numbers_to}
+use Rattle.control_all.proofs.Lengths.{fit, fit_fits, fits_fitting}
 
 module _ (controllers : List Float) (working : List ℕ) (budgets measured : List Float) (results : List ℕ) where
   abbrev outcome : PassOutcome
@@ -31,48 +31,48 @@ module _ (controllers : List Float) (working : List ℕ) (budgets measured : Lis
   }
 
   -- Lists that fit are stepped.
-  pub passed-accepted : fit controllers working budgets measured results ≡ true → passed controllers working budgets measured results ≡ accepted whole
+  pub passed_accepted : fit controllers working budgets measured results ≡ true → passed controllers working budgets measured results ≡ accepted whole
   unfolding passed
-  passed-accepted fits = unless-pass (unfit controllers working budgets measured results) [] whole (ap not fits) ∙ unless-none whole
+  passed_accepted fits = unless_pass (unfit controllers working budgets measured results) [] whole (ap not fits) ∙ unless_none whole
 
   -- Lists that do not are refused.
-  pub passed-refused : fit controllers working budgets measured results ≡ false
+  pub passed_refused : fit controllers working budgets measured results ≡ false
       → passed controllers working budgets measured results ≡ refused (controller_count controllers)
   unfolding passed
-  passed-refused unfits = unless-stop (unfit controllers working budgets measured results) [] whole (ap not unfits)
+  passed_refused unfits = unless_stop (unfit controllers working budgets measured results) [] whole (ap not unfits)
 
   -- What is asked of lists that are stepped, where the test is b.
-  pub test-fitting : {b : Bool} → b ≡ fit controllers working budgets measured results → b ≡ true → Fitting controllers working budgets measured results
-  test-fitting e h = fits-fitting controllers working budgets measured results (fit-fits controllers working budgets measured results (sym e ∙ h))
+  pub test_fitting : {b : Bool} → b ≡ fit controllers working budgets measured results → b ≡ true → Fitting controllers working budgets measured results
+  test_fitting e h = fits_fitting controllers working budgets measured results (fit_fits controllers working budgets measured results (sym e ∙ h))
 
-  pub pass-done : {b : Bool} {controllers' : List Float} {results' : List ℕ} {count : ℕ} → b ≡ fit controllers working budgets measured results → b ≡ true
+  pub pass_done : {b : Bool} {controllers' : List Float} {results' : List ℕ} {count : ℕ} → b ≡ fit controllers working budgets measured results → b ≡ true
       → controllers' ≡ stepped_to controllers working budgets measured (length results)
       → results' ≡ numbers_to controllers working budgets measured results (length results)
       → count ≡ zeros results'
       → (Accepted count ≡ answer_of outcome) × ((controllers' ≡ after (λ pass. pass.controllers) outcome controllers) × (results' ≡ after (λ pass. pass.results) outcome results))
-  pass-done e h c r n =
+  pass_done e h c r n =
       let fits = sym e ∙ h in
-      let one = (fit-fits controllers working budgets measured results fits).results-one in
-      let controllers-whole = sets-all controllers whole.controllers (sym (length-stepped_to controllers working budgets measured results (controller_count controllers))) in
-      let results-whole = sets-all results whole.results (sym (length-numbers_to controllers working budgets measured results (controller_count controllers))) in
-      rw (passed-accepted fits) (ap Accepted (n ∙ ap zeros (rw one at r)), ((rw one at c) ∙ sym controllers-whole, (rw one at r) ∙ sym results-whole))
+      let one = (fit_fits controllers working budgets measured results fits).results_one in
+      let controllers_whole = sets_all controllers whole.controllers (sym (length_stepped_to controllers working budgets measured results (controller_count controllers))) in
+      let results_whole = sets_all results whole.results (sym (length_numbers_to controllers working budgets measured results (controller_count controllers))) in
+      rw (passed_accepted fits) (ap Accepted (n ∙ ap zeros (rw one at r)), ((rw one at c) ∙ sym controllers_whole, (rw one at r) ∙ sym results_whole))
 
-  pub pass-refused : {b : Bool} → b ≡ fit controllers working budgets measured results → b ≡ false
+  pub pass_refused : {b : Bool} → b ≡ fit controllers working budgets measured results → b ≡ false
       → (Refused (controller_count controllers) ≡ answer_of outcome) × ((controllers ≡ after (λ pass. pass.controllers) outcome controllers) × (results ≡ after (λ pass. pass.results) outcome results))
-  pass-refused e h = rw (passed-refused (sym e ∙ h)) (refl, (refl, refl))
+  pass_refused e h = rw (passed_refused (sym e ∙ h)) (refl, (refl, refl))
 
 -- ---- The call
 
 -- Where the answer's buffer is too short, nothing is changed.
-pub call-short : (outcome : PassOutcome) (controllers : List Float) (results answer : List ℕ) → length answer < 16
+pub call_short : (outcome : PassOutcome) (controllers : List Float) (results answer : List ℕ) → length answer < 16
     → PassedCall outcome controllers results answer 0 controllers results answer
-call-short outcome controllers results answer h = calls.call-short _ answer _ (omega arith) (record { controllers-after = refl; results-after = refl })
+call_short outcome controllers results answer h = calls.call_short _ answer _ (omega arith) (record { controllers_after = refl; results_after = refl })
 
 -- Where it is long enough, it has the answer of the pass.
-pub call-done : (outcome : PassOutcome) (controllers : List Float) (results answer : List ℕ) {told : PassAnswer} {controllers' : List Float} {results' answer' : List ℕ} {number figure : ℕ}
+pub call_done : (outcome : PassOutcome) (controllers : List Float) (results answer : List ℕ) {told : PassAnswer} {controllers' : List Float} {results' answer' : List ℕ} {number figure : ℕ}
     → 16 ≤ length answer → told ≡ answer_of outcome → controllers' ≡ after (λ pass. pass.controllers) outcome controllers → results' ≡ after (λ pass. pass.results) outcome results
     → number ≡ pass_number told → figure ≡ pass_figure told → answer' ≡ answered 2 (number ∷ figure ∷ []) answer
     → PassedCall outcome controllers results answer 1 controllers' results' answer'
-call-done outcome controllers results answer h t c r n f a =
-    calls.call-done _ answer _ (omega arith) (record { controllers-after = c; results-after = r })
+call_done outcome controllers results answer h t c r n f a =
+    calls.call_done _ answer _ (omega arith) (record { controllers_after = c; results_after = r })
     (calls.answer-told answer (n ∙ ap pass_number t) (f ∙ ap pass_figure t) a)

@@ -16,7 +16,7 @@ use Rattle.control.specs.declared.Stepped.{Stepped}
 use Rattle.control.specs.declared.Stepped.TheVariants.{Next, Refused}
 use Rattle.control.specs.Step.{step_number, stepped}
 use Rattle.control.specs.Call.{controller_at, readings_at, step_at, figures_after}
-use Rattle.control.proofs.Outcomes.{Outcome, bad-controller, bad-reading, all_sound, outcome}
+use Rattle.control.proofs.Outcomes.{Outcome, bad_controller, bad_reading, all_sound, outcome}
 use Rattle.control_all.specs.Pass.{own_step, stepped_to, numbers_to, zeros}
 use Rattle.control_all.specs.Fitting.{Fitting}
 
@@ -27,9 +27,9 @@ pub length-figures_after : (step : Stepped) (figures : List Float) (at : ℕ) �
 length-figures_after (Next next) figures at = length-set figures at next.cap.0
 length-figures_after (Refused why unchanged) figures at = refl
 
-pub figures_after-other : (step : Stepped) (figures : List Float) (at i : ℕ) → (i ≡ at → ⊥) → get_or (figures_after step figures at) i nan ≡ get_or figures i nan
-figures_after-other (Next next) figures at i h = get_or-set_other figures at i next.cap.0 nan h
-figures_after-other (Refused why unchanged) figures at i h = refl
+pub figures_after_other : (step : Stepped) (figures : List Float) (at i : ℕ) → (i ≡ at → ⊥) → get_or (figures_after step figures at) i nan ≡ get_or figures i nan
+figures_after_other (Next next) figures at i h = get_or-set_other figures at i next.cap.0 nan h
+figures_after_other (Refused why unchanged) figures at i h = refl
 
 -- A step's number fits a byte.
 number_small : (step : Stepped) {n : ℕ} → step_number step ≡ n → n ≤ 17 → step_number step % 256 ≡ step_number step
@@ -46,8 +46,8 @@ number-byte controllers working budgets measured at = go (outcome c readings)
     readings = readings_at working budgets measured at
 
     go : Outcome c readings → step_number (stepped c readings) % 256 ≡ step_number (stepped c readings)
-    go (bad-controller unsound e) = number_small (stepped c readings) (ap step_number e) (omega arith)
-    go (bad-reading sound i found e) = number_small (stepped c readings) (ap step_number e) (omega arith)
+    go (bad_controller unsound e) = number_small (stepped c readings) (ap step_number e) (omega arith)
+    go (bad_reading sound i found e) = number_small (stepped c readings) (ap step_number e) (omega arith)
     go (all_sound sound all e) = number_small (stepped c readings) (ap step_number e) (omega arith)
 
 -- ---- Zeros counted
@@ -72,25 +72,25 @@ zeros-set l i v h =
 
 module _ (controllers : List Float) (working : List ℕ) (budgets measured : List Float) (results : List ℕ) where
   -- Controllers that are not yet reached are as they were found.
-  pub stepped_to-ahead : (i at : ℕ) → 4 * i ≤ at → get_or (stepped_to controllers working budgets measured i) at nan ≡ get_or controllers at nan
+  pub stepped_to_ahead : (i at : ℕ) → 4 * i ≤ at → get_or (stepped_to controllers working budgets measured i) at nan ≡ get_or controllers at nan
   unfolding stepped_to
-  stepped_to-ahead zero at h = refl
-  stepped_to-ahead (suc i) at h =
+  stepped_to_ahead zero at h = refl
+  stepped_to_ahead (suc i) at h =
       let past : 4 * i < at = omega arith in
-      figures_after-other (own_step controllers working budgets measured i) (stepped_to controllers working budgets measured i) (4 * i) at (ne_of_gt past)
-      ∙ stepped_to-ahead i at (omega arith)
+      figures_after_other (own_step controllers working budgets measured i) (stepped_to controllers working budgets measured i) (4 * i) at (ne_of_gt past)
+      ∙ stepped_to_ahead i at (omega arith)
 
-  pub length-stepped_to : (i : ℕ) → length (stepped_to controllers working budgets measured i) ≡ length controllers
+  pub length_stepped_to : (i : ℕ) → length (stepped_to controllers working budgets measured i) ≡ length controllers
   unfolding stepped_to
-  length-stepped_to zero = refl
-  length-stepped_to (suc i) =
-      length-figures_after (own_step controllers working budgets measured i) (stepped_to controllers working budgets measured i) (4 * i) ∙ length-stepped_to i
+  length_stepped_to zero = refl
+  length_stepped_to (suc i) =
+      length-figures_after (own_step controllers working budgets measured i) (stepped_to controllers working budgets measured i) (4 * i) ∙ length_stepped_to i
 
-  pub length-numbers_to : (i : ℕ) → length (numbers_to controllers working budgets measured results i) ≡ length results
+  pub length_numbers_to : (i : ℕ) → length (numbers_to controllers working budgets measured results i) ≡ length results
   unfolding numbers_to
-  length-numbers_to zero = refl
-  length-numbers_to (suc i) =
-      length-set (numbers_to controllers working budgets measured results i) i (step_number (own_step controllers working budgets measured i)) ∙ length-numbers_to i
+  length_numbers_to zero = refl
+  length_numbers_to (suc i) =
+      length-set (numbers_to controllers working budgets measured results i) i (step_number (own_step controllers working budgets measured i)) ∙ length_numbers_to i
 
   -- What is known before controller i: those before it are stepped, their numbers are told, and the zeros among these are counted.
   pub record Before (controllers' : List Float) (results' : List ℕ) (count i : ℕ) : Type 0 where
@@ -100,12 +100,12 @@ module _ (controllers : List Float) (working : List ℕ) (budgets measured : Lis
     pub tells : results' ≡ numbers_to controllers working budgets measured results i
     pub counts : count ≡ zeros (take i results')
     pub few : count ≤ i
-    pub controllers-kept : length controllers' ≡ length controllers
-    pub results-kept : length results' ≡ length results
+    pub controllers_kept : length controllers' ≡ length controllers
+    pub results_kept : length results' ≡ length results
 
-  pub before-first : Fitting controllers working budgets measured results → Before controllers results 0 0
+  pub before_first : Fitting controllers working budgets measured results → Before controllers results 0 0
   unfolding stepped_to numbers_to zeros
-  before-first fit = record { fit = fit; within = omega arith; steps = refl; tells = refl; counts = refl; few = omega arith; controllers-kept = refl; results-kept = refl }
+  before_first fit = record { fit = fit; within = omega arith; steps = refl; tells = refl; counts = refl; few = omega arith; controllers_kept = refl; results_kept = refl }
 
   module _ {controllers' : List Float} {results' : List ℕ} {count i : ℕ} (before : Before controllers' results' count i) where
     -- The step of the controller at its turn is the one that it would make by itself.
@@ -113,19 +113,19 @@ module _ (controllers : List Float) (working : List ℕ) (budgets measured : Lis
     own-step e = e ∙ rw (ahead (4 * i) (omega arith), ahead (4 * i + 1) (omega arith), ahead (4 * i + 2) (omega arith), ahead (4 * i + 3) (omega arith)) refl
       where
         ahead : (at : ℕ) → 4 * i ≤ at → get_or controllers' at nan ≡ get_or controllers at nan
-        ahead at h = ap (λ (l : List Float). get_or l at nan) before.steps ∙ stepped_to-ahead i at h
+        ahead at h = ap (λ (l : List Float). get_or l at nan) before.steps ∙ stepped_to_ahead i at h
 
     -- A turn: its cap is kept, and its number told and counted.
-    pub before-next : {step : Stepped} {after : List Float} {number one : ℕ} → i < length results
+    pub before_next : {step : Stepped} {after : List Float} {number one : ℕ} → i < length results
         → step ≡ step_at controllers' working budgets measured (4 * i) → after ≡ figures_after step controllers' (4 * i) → number ≡ step_number step % 256
         → one ≡ cond (eqb number 0) 1 0 → one ≤ 1
         → Before after (set results' i number) (count + one) (i + 1)
     unfolding stepped_to numbers_to
-    before-next {step} {after} {number} {one} h s a n o most =
+    before_next {step} {after} {number} {one} h s a n o most =
         let own = own-step s in
         let told : number ≡ step_number (own_step controllers working budgets measured i) =
         n ∙ ap (λ (x : Stepped). step_number x % 256) own ∙ number-byte controllers working budgets measured (4 * i) in
-        let here : i < length results' = omega (arith, before.results-kept) in
+        let here : i < length results' = omega (arith, before.results_kept) in
         record {
           fit = before.fit;
           within = omega arith;
@@ -133,8 +133,8 @@ module _ (controllers : List Float) (working : List ℕ) (budgets measured : Lis
           tells = rw add-one (rw (told, before.tells) refl);
           counts = rw (zeros-set results' i number here, before.counts, o) refl;
           few = omega (arith, before.few);
-          controllers-kept = ap length a ∙ length-figures_after step controllers' (4 * i) ∙ before.controllers-kept;
-          results-kept = length-set results' i number ∙ before.results-kept;
+          controllers_kept = ap length a ∙ length-figures_after step controllers' (4 * i) ∙ before.controllers_kept;
+          results_kept = length-set results' i number ∙ before.results_kept;
         }
 
     -- After the last controller all are stepped, and all zeros are counted.
@@ -144,5 +144,5 @@ module _ (controllers : List Float) (working : List ℕ) (budgets measured : Lis
         × (count ≡ zeros results')
     before_last h =
         let end : i ≡ length results = omega (arith, before.within) in
-        let all : take i results' ≡ results' = take_all i results' (omega (arith, before.results-kept)) in
+        let all : take i results' ≡ results' = take_all i results' (omega (arith, before.results_kept)) in
         (rw (← end) before.steps, rw (← end) before.tells, before.counts ∙ ap zeros all)

@@ -7,8 +7,8 @@ use Rattle.control_all.specs.Pass.{PassOutcome, passed, answer_of, pass_number, 
 -- The lists that the call of a pass leaves.
 pub record ListsLeft (outcome : PassOutcome) (controllers : List Float) (results : List ℕ) (controllers' : List Float) (results' : List ℕ)
     (stored : Bool) : Type 0 where
-  pub controllers-after : Left (after (λ pass. pass.controllers) outcome controllers) controllers controllers' stored
-  pub results-after : Left (after (λ pass. pass.results) outcome results) results results' stored
+  pub controllers_after : Left (after (λ pass. pass.controllers) outcome controllers) controllers controllers' stored
+  pub results_after : Left (after (λ pass. pass.results) outcome results) results results' stored
 
 -- The call of a pass that comes to an outcome.
 abbrev pub PassedCall : PassOutcome → (controllers : List Float) (results answer : List ℕ) (r : ℕ)

@@ -5,7 +5,7 @@ use Rattle.control_all.specs.Pass.{most_controllers}
 -- The lists fit: one result for each controller, and for each result a controller and four cords.
 pub record Fitting (controllers : List Float) (working : List ℕ) (budgets measured : List Float) (results : List ℕ) : Type 0 where
   pub few : length results ≤ most_controllers
-  pub controllers-are : 4 * length results ≤ length controllers
-  pub working-are : length working ≡ 4 * length results
-  pub budgets-are : length budgets ≡ 4 * length results
-  pub measured-are : length measured ≡ 4 * length results
+  pub controllers_are : 4 * length results ≤ length controllers
+  pub working_are : length working ≡ 4 * length results
+  pub budgets_are : length budgets ≡ 4 * length results
+  pub measured_are : length measured ≡ 4 * length results

@@ -1,5 +1,5 @@
 -- What holds of a pass, apart from any code.
--- proofs/Promises.antt proves each: `EachAsSingle` as `each-as-single`, and so on.
+-- proofs/Promises.antt proves each: `EachAsSingle` as `each_as_single`, and so on.
 use Rattle.std.specs.Prelude.{◌≡◌, List, ◌↔◌, ℕ, ◌*◌, ◌<◌, ◌≤◌, length, get_or, Float}
 use Rattle.std.specs.Float.{nan}
 use Rattle.control.specs.declared.Stepped.{Stepped}
@@ -34,8 +34,8 @@ EachAsSingle = (p : AcceptedPass) (i : ℕ) → i < controller_count p.controlle
 
 -- The lists keep their lengths, and figures over at the end of the controllers are untouched.
 pub record Bounded (p : AcceptedPass) : Type 0 where
-  pub controllers-kept : length p.controllers' ≡ length p.controllers
-  pub results-kept : length p.results' ≡ length p.results
+  pub controllers_kept : length p.controllers' ≡ length p.controllers
+  pub results_kept : length p.results' ≡ length p.results
   pub over : (at : ℕ) → 4 * controller_count p.controllers ≤ at → get_or p.controllers' at nan ≡ get_or p.controllers at nan
 
 abbrev pub StaysInside : Type 0
@@ -44,10 +44,10 @@ StaysInside = (p : AcceptedPass) → Bounded p
 -- What refusal 18 asks of the lists, in document 02's words.
 pub record Fits (controllers : List Float) (working : List ℕ) (budgets measured : List Float) (results : List ℕ) : Type 0 where
   pub few : controller_count controllers ≤ most_controllers
-  pub working-four : length working ≡ 4 * controller_count controllers
-  pub budgets-four : length budgets ≡ 4 * controller_count controllers
-  pub measured-four : length measured ≡ 4 * controller_count controllers
-  pub results-one : length results ≡ controller_count controllers
+  pub working_four : length working ≡ 4 * controller_count controllers
+  pub budgets_four : length budgets ≡ 4 * controller_count controllers
+  pub measured_four : length measured ≡ 4 * controller_count controllers
+  pub results_one : length results ≡ controller_count controllers
 
 -- 18 comes exactly if the lists do not fit, at the number of controllers.
 pub record RefusalEighteen : Type 0 where

@@ -17,59 +17,59 @@ use Rattle.rooms.specs.Table.{most_nodes, highest_rank}
 use Rattle.figures.specs.Figures.{at, cell}
 use Rattle.deals.specs.Levels.{from_column, to_column, active_count_column, LevelRows, Ordered, Marked, MarksAdded, NodeMarks, Listed, FullLists, LevelsListed, ActivesListed, ActiveNodes, CordsActive, LevelLists}
 use Rattle.figures.specs.Places.{Absent}
-use Rattle.figures.proofs.Cells.{stored, cell-here, cell-elsewhere, cell-others, stored-full}
+use Rattle.figures.proofs.Cells.{stored, cell-here, cell_elsewhere, cell_others, stored_full}
 use Rattle.rooms.specs.Trees.{ParentsFirst}
 
 -- ---- Marks
 
-pub marked-one : (level : ℕ) → Marked (2 ^ level) level
-marked-one level = ap (λ (x : ℕ). x % 2) (div_self (pow_pos level))
+pub marked_one : (level : ℕ) → Marked (2 ^ level) level
+marked_one level = ap (λ (x : ℕ). x % 2) (div_self (pow_pos level))
 
 module _ (a b level : ℕ) where
-  or-bit : bit_or a b / 2 ^ level % 2 ≡ max (a / 2 ^ level % 2) (b / 2 ^ level % 2)
-  or-bit =
+  or_bit : bit_or a b / 2 ^ level % 2 ≡ max (a / 2 ^ level % 2) (b / 2 ^ level % 2)
+  or_bit =
       let x : ℕ = a / 2 ^ level in
       let y : ℕ = b / 2 ^ level in
       let s = or_step x y in
       ap (λ (z : ℕ). z % 2) (or_shr a b level) ∙ omega (arith, s)
 
-  pub marked-left : Marked a level → Marked (bit_or a b) level
-  marked-left h = omega (arith, or-bit)
+  pub marked_left : Marked a level → Marked (bit_or a b) level
+  marked_left h = omega (arith, or_bit)
 
-  pub marked-right : Marked b level → Marked (bit_or a b) level
-  marked-right h = omega (arith, or-bit)
+  pub marked_right : Marked b level → Marked (bit_or a b) level
+  marked_right h = omega (arith, or_bit)
 
 -- The marks after more are added to those of a node.
 module _ (marks : List ℕ) (node more : ℕ) (some : node ≡ 0 → ⊥) (there : node ≤ length marks) where
   abbrev added : List ℕ
   added = set marks (node - 1) (bit_or (at marks (node - 1)) more)
 
-  added-here : at added (node - 1) ≡ bit_or (at marks (node - 1)) more
-  added-here = get_or-set_same marks (node - 1) (bit_or (at marks (node - 1)) more) 0 (omega arith)
+  added_here : at added (node - 1) ≡ bit_or (at marks (node - 1)) more
+  added_here = get_or-set_same marks (node - 1) (bit_or (at marks (node - 1)) more) 0 (omega arith)
 
-  added-other : (n : ℕ) → (n ≡ node - 1 → ⊥) → at added n ≡ at marks n
-  added-other n d = get_or-set_other marks (node - 1) n (bit_or (at marks (node - 1)) more) 0 d
+  added_other : (n : ℕ) → (n ≡ node - 1 → ⊥) → at added n ≡ at marks n
+  added_other n d = get_or-set_other marks (node - 1) n (bit_or (at marks (node - 1)) more) 0 d
 
-  added-kept : (n level : ℕ) → Marked (at marks n) level → Marked (at added n) level
-  added-kept n level h = go (eqb n (node - 1)) refl
+  added_kept : (n level : ℕ) → Marked (at marks n) level → Marked (at added n) level
+  added_kept n level h = go (eqb n (node - 1)) refl
     where
       go : (t : Bool) → eqb n (node - 1) ≡ t → Marked (at added n) level
       go true e =
           let q : n ≡ node - 1 = eqb-true n (node - 1) e in
-          rw (q, added-here) (marked-left (at marks (node - 1)) more level (rw q at h))
-      go false e = rw (added-other n (eqb-false n (node - 1) e)) h
+          rw (q, added_here) (marked_left (at marks (node - 1)) more level (rw q at h))
+      go false e = rw (added_other n (eqb-false n (node - 1) e)) h
 
-  pub marks-added : MarksAdded node more marks added
-  marks-added = record {
-    kept = added-kept;
+  pub marks_added : MarksAdded node more marks added
+  marks_added = record {
+    kept = added_kept;
     added = λ n level e h.
         let q : n ≡ node - 1 = omega arith in
-        rw (q, added-here) (marked-right (at marks (node - 1)) more level h);
-    later = λ n l. added-other n (λ e. omega arith);
+        rw (q, added_here) (marked_right (at marks (node - 1)) more level h);
+    later = λ n l. added_other n (λ e. omega arith);
   }
 
-pub none-added : (marks : List ℕ) (node more : ℕ) → node ≡ 0 → MarksAdded node more marks marks
-none-added marks node more none = record { kept = λ n level h. h; added = λ n level e h. absurd (omega arith); later = λ n l. refl }
+pub none_added : (marks : List ℕ) (node more : ℕ) → node ≡ 0 → MarksAdded node more marks marks
+none_added marks node more none = record { kept = λ n level h. h; added = λ n level e h. absurd (omega arith); later = λ n l. refl }
 
 -- Before the turn of the cord at place c: the nodes of the cords before it are marked with their levels.
 pub record MarkingCords (parents nodes levels : List ℕ) (c : ℕ) (marks : List ℕ) : Type 0 where
@@ -77,8 +77,8 @@ pub record MarkingCords (parents nodes levels : List ℕ) (c : ℕ) (marks : Lis
   pub size : length marks ≡ length parents
   pub cords : (h : ℕ) → h < c → (n : ℕ) → at nodes h ≡ suc n → Marked (at marks n) (at levels h)
 
-pub marking-start : (parents nodes levels marks : List ℕ) → length marks ≡ length parents → MarkingCords parents nodes levels 0 marks
-marking-start parents nodes levels marks size = record { reached = omega arith; size = size; cords = λ h l. absurd (omega arith) }
+pub marking_start : (parents nodes levels marks : List ℕ) → length marks ≡ length parents → MarkingCords parents nodes levels 0 marks
+marking_start parents nodes levels marks size = record { reached = omega arith; size = size; cords = λ h l. absurd (omega arith) }
 
 -- Before the turn of the node at place n - 1: the nodes from n on have passed their marks on.
 pub record Marking (parents nodes levels : List ℕ) (n : ℕ) (marks : List ℕ) : Type 0 where
@@ -88,8 +88,8 @@ pub record Marking (parents nodes levels : List ℕ) (n : ℕ) (marks : List ℕ
   pub passed : (m p level : ℕ) → n ≤ m → m < length parents → at parents m ≡ suc p → Marked (at marks m) level → Marked (at marks p) level
 
 -- All cords' nodes are marked, and no node has passed its marks on.
-pub marking-nodes : {parents nodes levels marks : List ℕ} {c : ℕ} → MarkingCords parents nodes levels c marks → length nodes ≤ c → Marking parents nodes levels (length parents) marks
-marking-nodes inv end = record {
+pub marking_nodes : {parents nodes levels marks : List ℕ} {c : ℕ} → MarkingCords parents nodes levels c marks → length nodes ≤ c → Marking parents nodes levels (length parents) marks
+marking_nodes inv end = record {
   reached = le_refl _;
   size = inv.size;
   cords = λ h l. inv.cords h (omega arith);
@@ -97,9 +97,9 @@ marking-nodes inv end = record {
 }
 
 module _ {parents nodes levels marks marks' : List ℕ} {node more : ℕ} (size : length marks' ≡ length marks) (adds : MarksAdded node more marks marks') where
-  pub cord-marked : {c level : ℕ} → MarkingCords parents nodes levels c marks → c < length nodes → node ≡ at nodes c → level ≡ at levels c → Marked more level
+  pub cord_marked : {c level : ℕ} → MarkingCords parents nodes levels c marks → c < length nodes → node ≡ at nodes c → level ≡ at levels c → Marked more level
       → MarkingCords parents nodes levels (c + 1) marks'
-  cord-marked {c} {level} inv more-cords en el is = record {
+  cord_marked {c} {level} inv more_cords en el is = record {
     reached = omega arith;
     size = size ∙ inv.size;
     cords = below_more (λ h. (n : ℕ) → at nodes h ≡ suc n → Marked (at marks' n) (at levels h)) c (λ h l n e. adds.kept n (at levels h) (inv.cords h l n e))
@@ -107,9 +107,9 @@ module _ {parents nodes levels marks marks' : List ℕ} {node more : ℕ} (size 
   }
 
   -- A node's turn: its marks are its parent's too.
-  pub marking-turn : {n : ℕ} → ParentsFirst (length parents) (at parents)
+  pub marking_turn : {n : ℕ} → ParentsFirst (length parents) (at parents)
       → Marking parents nodes levels n marks → 0 < n → node ≡ at parents (n - 1) → more ≡ at marks (n - 1) → Marking parents nodes levels (n - 1) marks'
-  marking-turn {n = n} rises inv some en em = record {
+  marking_turn {n = n} rises inv some en em = record {
     reached = omega (arith, inv.reached);
     size = size ∙ inv.size;
     cords = λ h l m e. adds.kept m (at levels h) (inv.cords h l m e);
@@ -127,8 +127,8 @@ module _ {parents nodes levels marks marks' : List ℕ} {node more : ℕ} (size 
           let d : m ≡ n - 1 → ⊥ = eqb-false m (n - 1) q in
           adds.kept p level (inv.passed m p level (omega arith) l e is)
 
-pub marking-end : {parents nodes levels marks : List ℕ} {n : ℕ} → Marking parents nodes levels n marks → n ≤ 0 → NodeMarks parents nodes levels marks
-marking-end inv z = record { cords = λ c n l. inv.cords c l n; children = λ m n level l. inv.passed m n level (omega arith) l }
+pub marking_end : {parents nodes levels marks : List ℕ} {n : ℕ} → Marking parents nodes levels n marks → n ≤ 0 → NodeMarks parents nodes levels marks
+marking_end inv z = record { cords = λ c n l. inv.cords c l n; children = λ m n level l. inv.passed m n level (omega arith) l }
 
 -- ---- The list of the nodes with a level's mark
 
@@ -154,8 +154,8 @@ listing_start marks level list size = record {
 }
 
 module _ {marks : List ℕ} {level n : ℕ} {list : List ℕ} {count : ℕ} (inv : Listing marks level n list count) where
-  pub listing-end : length marks ≤ n → Listed marks level list count
-  listing-end h = record {
+  pub listing_end : length marks ≤ n → Listed marks level list count
+  listing_end h = record {
     few = omega (arith, inv.few, inv.size, inv.reached);
     within = λ i l. omega (arith, inv.within i l, inv.reached);
     rises = inv.rises;
@@ -208,9 +208,9 @@ module _ {marks : List ℕ} {level n : ℕ} {list : List ℕ} {count : ℕ} (inv
     }
 
     -- One turn, in the terms of the code.
-    pub listing-turn : {v bit : ℕ} → v ≡ n → bit ≡ at marks n / 2 ^ level % 2 → Listing marks level (n + 1) (set list count v) (count + bit)
+    pub listing_turn : {v bit : ℕ} → v ≡ n → bit ≡ at marks n / 2 ^ level % 2 → Listing marks level (n + 1) (set list count v) (count + bit)
     unfolding put
-    listing-turn {v} {bit} ev eb = rw ev (go (eqb bit 1) refl)
+    listing_turn {v} {bit} ev eb = rw ev (go (eqb bit 1) refl)
       where
         go : (t : Bool) → eqb bit 1 ≡ t → Listing marks level (n + 1) (set list count n) (count + bit)
         go true e =
@@ -227,8 +227,8 @@ module _ {marks : List ℕ} {level n : ℕ} {list : List ℕ} {count : ℕ} (inv
 
 module _ {parents nodes levels marks : List ℕ} (size : length marks ≡ length parents) (is : NodeMarks parents nodes levels marks)
     {level : ℕ} {active : List ℕ} {count : ℕ} (listed : Listed marks level active count) where
-  pub active-nodes : ParentsFirst (length parents) (at parents) → ActiveNodes parents active count
-  active-nodes rises = record {
+  pub active_nodes : ParentsFirst (length parents) (at parents) → ActiveNodes parents active count
+  active_nodes rises = record {
     few = listed.few;
     within = λ i l. omega (arith, listed.within i l);
     rises = listed.rises;
@@ -236,8 +236,8 @@ module _ {parents nodes levels marks : List ℕ} (size : length marks ≡ length
         listed.all n (omega (arith, rises m l)) (is.children m n level l e (subst (λ (m : ℕ). Marked (at marks m) level) q (listed.marked i h))) none;
   }
 
-  pub cords-active : ((c : ℕ) → c < length nodes → at nodes c ≤ length parents) → CordsActive nodes levels level active count
-  cords-active within c n l e q none =
+  pub cords_active : ((c : ℕ) → c < length nodes → at nodes c ≤ length parents) → CordsActive nodes levels level active count
+  cords_active within c n l e q none =
       listed.all n (omega (arith, within c l)) (subst (Marked (at marks n)) e (is.cords c n l q)) none
 
 -- ---- The active nodes of all levels
@@ -245,16 +245,16 @@ module _ {parents nodes levels marks : List ℕ} (size : length marks ≡ length
 -- Before the turns of the levels below `above`; `rows₀` are the levels' rows before all turns.
 pub record Levelling (marks : List ℕ) (rows₀ : List (List ℕ)) (above : ℕ) (rows actives : List (List ℕ)) : Type 0 where
   pub within : above ≤ highest_rank
-  pub rows-full : LevelRows rows
+  pub rows_full : LevelRows rows
   pub full : FullLists actives
   pub bounds : (j : ℕ) → (cell rows j from_column ≡ cell rows₀ j from_column) × (cell rows j to_column ≡ cell rows₀ j to_column)
   pub listed : (j : ℕ) → above ≤ j → j < highest_rank → cell rows₀ j from_column < cell rows₀ j to_column → Listed marks j (get_or actives j []) (cell rows j active_count_column)
   pub none : (j : ℕ) → above ≤ j → j < highest_rank → cell rows₀ j to_column ≤ cell rows₀ j from_column → cell rows j active_count_column ≡ 0
 
-pub levelling-start : {marks : List ℕ} {rows actives : List (List ℕ)} → LevelRows rows → FullLists actives → Levelling marks rows highest_rank rows actives
-levelling-start rows-full full = record {
+pub levelling_start : {marks : List ℕ} {rows actives : List (List ℕ)} → LevelRows rows → FullLists actives → Levelling marks rows highest_rank rows actives
+levelling_start rows_full full = record {
   within = le_refl highest_rank;
-  rows-full = rows-full;
+  rows_full = rows_full;
   full = full;
   bounds = λ j. (refl, refl);
   listed = λ j l h. absurd (omega arith);
@@ -262,9 +262,9 @@ levelling-start rows-full full = record {
 }
 
 module _ {marks : List ℕ} {rows₀ : List (List ℕ)} {above : ℕ} {rows actives : List (List ℕ)} (inv : Levelling marks rows₀ above rows actives) where
-  pub levelling-end : above ≤ 0 → LevelsListed marks rows₀ actives rows
-  levelling-end h = record {
-    rows-full = inv.rows-full;
+  pub levelling_end : above ≤ 0 → LevelsListed marks rows₀ actives rows
+  levelling_end h = record {
+    rows_full = inv.rows_full;
     full = inv.full;
     bounds = inv.bounds;
     listed = λ j l. inv.listed j (omega arith) l;
@@ -275,14 +275,14 @@ module _ {marks : List ℕ} {rows₀ : List (List ℕ)} {above : ℕ} {rows acti
     abbrev level : ℕ
     level = above - 1
 
-    pub level-few : level < highest_rank
-    level-few = omega (arith, inv.within)
+    pub level_few : level < highest_rank
+    level_few = omega (arith, inv.within)
 
-    pub level-there : level < length rows
-    level-there = omega (arith, level-few, inv.rows-full.0)
+    pub level_there : level < length rows
+    level_there = omega (arith, level_few, inv.rows_full.0)
 
-    pub level-width : length (get_or rows level []) ≡ 4
-    level-width = inv.rows-full.1 level level-few
+    pub level_width : length (get_or rows level []) ≡ 4
+    level_width = inv.rows_full.1 level level_few
 
     -- What holds of the levels passed and of this one.
     passed : (holds : ℕ → Type 0) → ((j : ℕ) → above ≤ j → j < highest_rank → holds j) → holds level → (j : ℕ) → level ≤ j → j < highest_rank → holds j
@@ -297,24 +297,24 @@ module _ {marks : List ℕ} {rows₀ : List (List ℕ)} {above : ℕ} {rows acti
     -- A level's count is stored: the counts of other levels stand, and so do all bounds.
     module _ (v : ℕ) where
       counted : cell (stored rows level active_count_column v) level active_count_column ≡ v
-      counted = cell-here rows level active_count_column v level-there (omega (arith, level-width))
+      counted = cell-here rows level active_count_column v level_there (omega (arith, level_width))
 
       uncounted : (j : ℕ) → above ≤ j → cell (stored rows level active_count_column v) j active_count_column ≡ cell rows j active_count_column
-      uncounted j l = cell-elsewhere rows level active_count_column v level-there j active_count_column (λ q. omega arith)
+      uncounted j l = cell_elsewhere rows level active_count_column v level_there j active_count_column (λ q. omega arith)
 
-      same-bounds : (j : ℕ) → (cell (stored rows level active_count_column v) j from_column ≡ cell rows₀ j from_column) × (cell (stored rows level active_count_column v) j to_column ≡ cell rows₀ j to_column)
-      same-bounds j = (
-        cell-others rows level active_count_column v level-there j from_column (λ q. absurd (omega arith)) ∙ (inv.bounds j).0,
-        cell-others rows level active_count_column v level-there j to_column (λ q. absurd (omega arith)) ∙ (inv.bounds j).1,
+      same_bounds : (j : ℕ) → (cell (stored rows level active_count_column v) j from_column ≡ cell rows₀ j from_column) × (cell (stored rows level active_count_column v) j to_column ≡ cell rows₀ j to_column)
+      same_bounds j = (
+        cell_others rows level active_count_column v level_there j from_column (λ q. absurd (omega arith)) ∙ (inv.bounds j).0,
+        cell_others rows level active_count_column v level_there j to_column (λ q. absurd (omega arith)) ∙ (inv.bounds j).1,
       )
 
     -- A level that no cord has.
-    pub levelling-skip : cell rows level to_column ≤ cell rows level from_column → Levelling marks rows₀ level (stored rows level active_count_column 0) actives
-    levelling-skip none = record {
+    pub levelling_skip : cell rows level to_column ≤ cell rows level from_column → Levelling marks rows₀ level (stored rows level active_count_column 0) actives
+    levelling_skip none = record {
       within = omega (arith, inv.within);
-      rows-full = stored-full rows level active_count_column 0 level-there inv.rows-full;
+      rows_full = stored_full rows level active_count_column 0 level_there inv.rows_full;
       full = inv.full;
-      bounds = same-bounds 0;
+      bounds = same_bounds 0;
       listed = passed (λ j. cell rows₀ j from_column < cell rows₀ j to_column → Listed marks j (get_or actives j []) (cell (stored rows level active_count_column 0) j active_count_column))
           (λ j l h has. subst (Listed marks j (get_or actives j [])) (sym (uncounted 0 j l)) (inv.listed j l h has))
           (λ has. absurd (omega (arith, inv.bounds level)));
@@ -322,16 +322,16 @@ module _ {marks : List ℕ} {rows₀ : List (List ℕ)} {above : ℕ} {rows acti
           (λ j l h has. uncounted 0 j l ∙ inv.none j l h has) (λ has. counted 0);
     }
 
-    pub levelling-turn : cell rows level from_column < cell rows level to_column → (list : List ℕ) {v count : ℕ} → v ≡ count → length list ≡ length (get_or actives level [])
+    pub levelling_turn : cell rows level from_column < cell rows level to_column → (list : List ℕ) {v count : ℕ} → v ≡ count → length list ≡ length (get_or actives level [])
         → Listed marks level list count → Levelling marks rows₀ level (stored rows level active_count_column v) (set actives level list)
-    levelling-turn some-cord list {v} {count} e size listed = record {
+    levelling_turn some_cord list {v} {count} e size listed = record {
       within = omega (arith, inv.within);
-      rows-full = stored-full rows level active_count_column v level-there inv.rows-full;
+      rows_full = stored_full rows level active_count_column v level_there inv.rows_full;
       full = (
         length-set actives level list ∙ inv.full.0,
         λ j h. set-length (eqb j level) j refl h,
       );
-      bounds = same-bounds v;
+      bounds = same_bounds v;
       listed = passed (λ j. cell rows₀ j from_column < cell rows₀ j to_column → Listed marks j (get_or (set actives level list) j []) (cell (stored rows level active_count_column v) j active_count_column))
           (λ j l h has. rw (get_or-set_other actives level j list [] (λ q. omega arith)) (subst (Listed marks j (get_or actives j [])) (sym (uncounted v j l)) (inv.listed j l h has)))
           (λ has. rw row (subst (Listed marks level list) (sym (counted v ∙ e)) listed));
@@ -343,38 +343,38 @@ module _ {marks : List ℕ} {rows₀ : List (List ℕ)} {above : ℕ} {rows acti
         row = get_or-set_same actives level list [] (omega (arith, inv.full.0, inv.within))
 
         set-length : (t : Bool) (j : ℕ) → eqb j level ≡ t → j < highest_rank → length (get_or (set actives level list) j []) ≡ most_nodes
-        set-length true j q h = rw (eqb-true j level q, row) (size ∙ inv.full.1 level level-few)
+        set-length true j q h = rw (eqb-true j level q, row) (size ∙ inv.full.1 level level_few)
         set-length false j q h = rw (get_or-set_other actives level j list [] (eqb-false j level q)) (inv.full.1 j h)
 
 -- The marked nodes of a level are its active nodes.
-pub actives-listed : {parents nodes levels marks : List ℕ} {rows rows' actives : List (List ℕ)} → length marks ≡ length parents
+pub actives_listed : {parents nodes levels marks : List ℕ} {rows rows' actives : List (List ℕ)} → length marks ≡ length parents
     → NodeMarks parents nodes levels marks
     → ParentsFirst (length parents) (at parents)
     → ((c : ℕ) → c < length nodes → at nodes c ≤ length parents)
     → LevelsListed marks rows actives rows'
     → ActivesListed parents nodes levels rows actives rows'
-actives-listed size marked rises within all = record {
-  rows-full = all.rows-full;
+actives_listed size marked rises within all = record {
+  rows_full = all.rows_full;
   full = all.full;
   bounds = all.bounds;
-  nodes-active = λ j l some. active-nodes size marked (all.listed j l some) rises;
-  cords-active = λ j l some. cords-active size marked (all.listed j l some) within;
+  nodes_active = λ j l some. active_nodes size marked (all.listed j l some) rises;
+  cords_active = λ j l some. cords_active size marked (all.listed j l some) within;
   none = all.none;
 }
 
 -- What both deals take of the levels.
-pub level-lists : {parents nodes levels : List ℕ} {rows rows' : List (List ℕ)} {order : List ℕ} {actives : List (List ℕ)}
+pub level_lists : {parents nodes levels : List ℕ} {rows rows' : List (List ℕ)} {order : List ℕ} {actives : List (List ℕ)}
     → Ordered levels rows order → ActivesListed parents nodes levels rows actives rows' → LevelLists parents nodes levels rows' order actives
-level-lists ordered all = record {
+level_lists ordered all = record {
   ordered = record {
     size = ordered.size;
-    full = all.rows-full;
+    full = all.rows_full;
     bounds = λ j l. (omega (arith, ordered.bounds j l, all.bounds j), omega (arith, ordered.bounds j l, all.bounds j));
     cords = λ j l. rw ((all.bounds j).0, (all.bounds j).1) (ordered.cords j l);
   };
   full = all.full;
-  nodes-active = λ j l some. all.nodes-active j l (omega (arith, all.bounds j));
-  cords-active = λ j l some. all.cords-active j l (omega (arith, all.bounds j));
+  nodes_active = λ j l some. all.nodes_active j l (omega (arith, all.bounds j));
+  cords_active = λ j l some. all.cords_active j l (omega (arith, all.bounds j));
   none = λ j l none. all.none j l (omega (arith, all.bounds j));
 }
 
@@ -387,17 +387,17 @@ pub record Parted (active : List ℕ) (count i n : ℕ) : Type 0 where
   pub from : (k : ℕ) → i ≤ k → k < count → n ≤ at active k
 
 -- Before all entries.
-pub parted-none : {active : List ℕ} {count : ℕ} → Parted active count 0 0
-parted-none = record { reached = omega arith; below = λ k l. absurd (omega arith); from = λ k l h. omega arith }
+pub parted_none : {active : List ℕ} {count : ℕ} → Parted active count 0 0
+parted_none = record { reached = omega arith; below = λ k l. absurd (omega arith); from = λ k l h. omega arith }
 
 module _ {parents active : List ℕ} {count : ℕ} (nodes : ActiveNodes parents active count) where
   -- After all entries.
-  pub parted-all : Parted active count count (length parents)
-  parted-all = record { reached = le_refl count; below = nodes.within; from = λ k l h. absurd (omega arith) }
+  pub parted_all : Parted active count count (length parents)
+  parted_all = record { reached = le_refl count; below = nodes.within; from = λ k l h. absurd (omega arith) }
 
   -- At an entry: all before it are below, itself and all after it are not.
-  pub parted-at : (i : ℕ) → i < count → Parted active count i (at active i)
-  parted-at i l = record {
+  pub parted_at : (i : ℕ) → i < count → Parted active count i (at active i)
+  parted_at i l = record {
     reached = omega arith;
     below = λ k h. nodes.rises k i h l;
     from = λ k h b. go k h b (eqb i k) refl;
@@ -410,8 +410,8 @@ module _ {parents active : List ℕ} {count : ℕ} (nodes : ActiveNodes parents 
           omega (arith, nodes.rises i k (omega arith) b)
 
   -- After an entry.
-  pub parted-after : (i : ℕ) → i < count → Parted active count (i + 1) (at active i + 1)
-  parted-after i l = record {
+  pub parted_after : (i : ℕ) → i < count → Parted active count (i + 1) (at active i + 1)
+  parted_after i l = record {
     reached = omega arith;
     below = below_more (λ k. at active k < at active i + 1) i (λ k h. omega (arith, nodes.rises k i h l)) (omega arith);
     from = λ k h b. omega (arith, nodes.rises i k (omega arith) b);

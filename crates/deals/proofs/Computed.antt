@@ -9,7 +9,7 @@ use lib.ListN.{length, get_or, drop}
 use lib.Seq.{drop-cons, drop-drop, get_or-drop}
 use borrow.Author.Tests.{eq-eqb}
 use Rattle.figures.specs.Sums.{on, sum}
-use Rattle.figures.proofs.Sums.{on-yes, up}
+use Rattle.figures.proofs.Sums.{on_yes, up}
 use Rattle.figures.specs.Figures.{at, cell, sum_of}
 use Rattle.deals.specs.Metrics.{Deal, at_level, over_children, child_sums, sums_from, requests_above, requests_from, metrics}
 use Rattle.deals.specs.Dealing.{Child, node, cord, weight, cord_over, by_number, part_of, node_amount, cord_amount, amount, reached, granted}
@@ -18,11 +18,11 @@ use Rattle.deals.specs.Properties.{GivesAll, from_level}
 use Rattle.figures.proofs.Lists.{figures-at, figures-length, total-drop}
 use Rattle.deals.proofs.Rows.{IsRow}
 use Rattle.deals.proofs.Children.{part_of-node, part_of-cord}
-use Rattle.deals.proofs.Requests.{Dealable, WholeWay, TreeWay, Measured, asked, later, deal_beneath, pcapmin-request}
+use Rattle.deals.proofs.Requests.{Dealable, WholeWay, TreeWay, Measured, asked, later, deal_beneath, pcapmin_request}
 use Rattle.deals.proofs.Amounts.{ByWeights}
-use Rattle.deals.proofs.Equations.{Starting, Dealt, weights, grant, amount-weight, gives_all, granted-beneath, granted-request, reached-over, ours, most-above}
+use Rattle.deals.proofs.Equations.{Starting, Dealt, weights, grant, amount-weight, gives_all, granted-beneath, granted_request, reached_over, ours, most_above}
 use Rattle.rooms.specs.Trees.{child_sum, ParentsFirst}
-use Rattle.rooms.proofs.Trees.{sum_beneath-cong, child_sum-cong}
+use Rattle.rooms.proofs.Trees.{sum_beneath_cong, child_sum_cong}
 
 -- ---- The rows of the nodes, from the last to the first
 
@@ -34,7 +34,7 @@ module _ (d : Deal) where
   child_sums-at rises n j l w q =
       figures-at d.levels j _ q
       ∙ ap (λ (z : ℕ). z + child_sum d.cords d.node n (at_level d j w))
-      (child_sum-cong d.nodes d.parent n (λ m. cell (drop (suc n) l) (m - suc n) j) (λ m. cell l m j) (λ m lm e.
+      (child_sum_cong d.nodes d.parent n (λ m. cell (drop (suc n) l) (m - suc n) j) (λ m. cell l m j) (λ m lm e.
       let after : suc n + (m - suc n) ≡ m = omega (arith, rises m lm) in
       ap (λ (row : List ℕ). at row j) (get_or-drop (suc n) l (m - suc n) [] ∙ ap (λ (k : ℕ). get_or l k []) after)))
 
@@ -92,16 +92,16 @@ module _ (mm limit : ℕ) (p s : ℕ → ℕ) where
       ∙ ap (λ (z : ℕ). min (limit - z - sum j p) (s j))
       (ap (λ (l : List ℕ). sum_of (drop 1 l)) (sym a ∙ c) ∙ total-drop (λ a. a) 0 row k (suc j) (omega arith))
 
-row-cong : (mm limit : ℕ) (p s q r : ℕ → ℕ) → ((j : ℕ) → j < mm → s j ≡ q j) → IsRow mm limit p s r → IsRow mm limit p q r
-row-cong mm limit p s q r e row k j h = row k j h ∙ ap (λ (z : ℕ). min (limit - up k (suc j) r - sum j p) z) (e j (omega arith))
+row_cong : (mm limit : ℕ) (p s q r : ℕ → ℕ) → ((j : ℕ) → j < mm → s j ≡ q j) → IsRow mm limit p s r → IsRow mm limit p q r
+row_cong mm limit p s q r e row k j h = row k j h ∙ ap (λ (z : ℕ). min (limit - up k (suc j) r - sum j p) z) (e j (omega arith))
 
 -- ---- The dealing
 
-by_number-zero : (v a : ℕ) (f : ℕ → ℕ) → v ≡ 0 → by_number v a f ≡ a
-by_number-zero v a f e = ap (λ (z : ℕ). by_number z a f) e
+by_number_zero : (v a : ℕ) (f : ℕ → ℕ) → v ≡ 0 → by_number v a f ≡ a
+by_number_zero v a f e = ap (λ (z : ℕ). by_number z a f) e
 
-by_number-suc : (v a : ℕ) (f : ℕ → ℕ) (n : ℕ) → v ≡ suc n → by_number v a f ≡ f n
-by_number-suc v a f n e = ap (λ (z : ℕ). by_number z a f) e
+by_number_suc : (v a : ℕ) (f : ℕ → ℕ) (n : ℕ) → v ≡ suc n → by_number v a f ≡ f n
+by_number_suc v a f n e = ap (λ (z : ℕ). by_number z a f) e
 
 -- Pcapmin, Request, starts and amount of a deal, as functions of place and level.
 unfoldable pub pcapmin : Deal → ℕ → ℕ → ℕ
@@ -117,21 +117,21 @@ unfoldable pub amount_of : Deal → ℕ → ℕ → ℕ
 amount_of d m j = amount d (metrics d) (suc m) m j
 
 -- Each row has a place for each level.
-sums-levels : (d : Deal) (w : ℕ → ℕ) (n : ℕ) → n < d.nodes → length (get_or (sums_from d w d.nodes 0) n []) ≡ d.levels
+sums_levels : (d : Deal) (w : ℕ → ℕ) (n : ℕ) → n < d.nodes → length (get_or (sums_from d w d.nodes 0) n []) ≡ d.levels
 unfolding child_sums
-sums-levels d w n l = ap length (sums_from-at d w d.nodes 0 n n (zero-add n) l) ∙ figures-length d.levels _
+sums_levels d w n l = ap length (sums_from-at d w d.nodes 0 n n (zero-add n) l) ∙ figures-length d.levels _
 
-pub pcapmins-levels : (d : Deal) (n : ℕ) → n < d.nodes → length (get_or (metrics d).pcapmins n []) ≡ d.levels
+pub pcapmins_levels : (d : Deal) (n : ℕ) → n < d.nodes → length (get_or (metrics d).pcapmins n []) ≡ d.levels
 unfolding metrics
-pcapmins-levels d = sums-levels d d.low
+pcapmins_levels d = sums_levels d d.low
 
-pub starts-levels : (d : Deal) (n : ℕ) → n < d.nodes → length (get_or (metrics d).starts n []) ≡ d.levels
+pub starts_levels : (d : Deal) (n : ℕ) → n < d.nodes → length (get_or (metrics d).starts n []) ≡ d.levels
 unfolding metrics
-starts-levels d = sums-levels d d.start
+starts_levels d = sums_levels d d.start
 
-pub requests-levels : (d : Deal) (n : ℕ) → n < d.nodes → length (get_or (metrics d).requests n []) ≡ d.levels
+pub requests_levels : (d : Deal) (n : ℕ) → n < d.nodes → length (get_or (metrics d).requests n []) ≡ d.levels
 unfolding metrics request_row
-requests-levels d n l =
+requests_levels d n l =
     ap length (requests_from-at d (sums_from d d.low d.nodes 0) d.nodes 0 n n (zero-add n) l)
     ∙ requests_above-length d.levels (d.limit n) _ _ d.levels 0 0
 
@@ -143,7 +143,7 @@ module _ (d : Deal) (ok : Dealable d) where
     request = λ n l.
         let rows : List (List ℕ) = requests_from d (sums_from d d.low d.nodes 0) d.nodes 0 in
         let sums : List ℕ = child_sums d n (drop (suc n) rows) d.want in
-        row-cong d.levels (d.limit n) (pcapmin d n) (at sums) (asked d (request d) n) (request d n)
+        row_cong d.levels (d.limit n) (pcapmin d n) (at sums) (asked d (request d) n) (request d n)
         (λ j h. child_sums-at d ok.rises n j rows d.want h)
         (subst (λ (z : List ℕ). IsRow d.levels (d.limit n) (pcapmin d n) (at sums) (at z))
         (sym (requests_from-at d (sums_from d d.low d.nodes 0) d.nodes 0 n n (zero-add n) l))
@@ -157,30 +157,30 @@ module _ (d : Deal) (ok : Dealable d) where
     node_part m n z = part_of d w n z (node m)
 
     -- Steps beyond the node's place change nothing.
-    amount-steps : (k l m : ℕ) → m < d.nodes → m < k → m < l → node_amount d w k m ≡ node_amount d w l m
+    amount_steps : (k l m : ℕ) → m < d.nodes → m < k → m < l → node_amount d w k m ≡ node_amount d w l m
     unfolding node_amount node_part
-    amount-steps zero l m h a b = absurd (not-suc-le-zero a)
-    amount-steps (suc k) zero m h a b = absurd (not-suc-le-zero b)
-    amount-steps (suc k) (suc l) m h a b = go (d.parent m) refl (λ n. amount-steps k l n)
+    amount_steps zero l m h a b = absurd (not-suc-le-zero a)
+    amount_steps (suc k) zero m h a b = absurd (not-suc-le-zero b)
+    amount_steps (suc k) (suc l) m h a b = go (d.parent m) refl (λ n. amount_steps k l n)
       where
         go : (v : ℕ) → d.parent m ≡ v
             → ((n : ℕ) → n < d.nodes → n < k → n < l → node_amount d w k n ≡ node_amount d w l n)
             → node_amount d w (suc k) m ≡ node_amount d w (suc l) m
-        go zero e ih = by_number-zero (d.parent m) _ _ e ∙ sym (by_number-zero (d.parent m) _ _ e)
+        go zero e ih = by_number_zero (d.parent m) _ _ e ∙ sym (by_number_zero (d.parent m) _ _ e)
         go (suc n) e ih =
             let u : n < m = later d ok m n h e in
-            by_number-suc (d.parent m) _ _ n e ∙ ap (node_part m n) (ih n (omega arith) (omega arith) (omega arith))
-            ∙ sym (by_number-suc (d.parent m) _ _ n e)
+            by_number_suc (d.parent m) _ _ n e ∙ ap (node_part m n) (ih n (omega arith) (omega arith) (omega arith))
+            ∙ sym (by_number_suc (d.parent m) _ _ n e)
 
     pub by_weights : ByWeights d (λ m. w (node m)) (λ c. w (cord c)) (λ m. node_amount d w (suc m) m) (cord_amount d w)
     unfolding node_amount cord_amount node_part
     by_weights = record {
-      root = λ m l e. by_number-zero (d.parent m) _ _ e;
+      root = λ m l e. by_number_zero (d.parent m) _ _ e;
       inner = λ m n l e.
           let u : n < m = later d ok m n l e in
-          by_number-suc (d.parent m) _ _ n e ∙ ap (node_part m n) (amount-steps m (suc n) n (omega arith) u (le_refl (suc n)))
+          by_number_suc (d.parent m) _ _ n e ∙ ap (node_part m n) (amount_steps m (suc n) n (omega arith) u (le_refl (suc n)))
           ∙ part_of-node d n w (node_amount d w (suc n) n) m l e;
-      leaf = λ c n l e. by_number-suc (d.node c) _ _ n e ∙ part_of-cord d n w (node_amount d w (suc n) n) c l e;
+      leaf = λ c n l e. by_number_suc (d.node c) _ _ n e ∙ part_of-cord d n w (node_amount d w (suc n) n) c l e;
     }
 
   pub dealt : Dealt d (starts_of d) (request d) (amount_of d) (reached d (metrics d))
@@ -191,7 +191,7 @@ module _ (d : Deal) (ok : Dealable d) where
     inner = λ m n j l e. (by_weights (weight d (metrics d) j)).inner m n l e;
     leaf = λ c n l e.
         (by_weights (weight d (metrics d) (d.level c))).leaf c n l e
-        ∙ ap (part _ _ _) (on-yes (eqb (d.level c) (d.level c)) (cord_over d c) (eq-eqb (d.level c) (d.level c) refl));
+        ∙ ap (part _ _ _) (on_yes (eqb (d.level c) (d.level c)) (cord_over d c) (eq-eqb (d.level c) (d.level c) refl));
   }
 
   pub granted-at : (c : ℕ) → c < d.cords → at (granted d) c ≡ d.start c + reached d (metrics d) c
@@ -204,65 +204,65 @@ Startable d = Starting d (starts_of d) (request d)
 
 module _ (d : Deal) (ok : Dealable d) (st : Startable d) where
   -- The computed grants are a way of dealing.
-  pub granted-way : WholeWay d (at (granted d))
+  pub granted_way : WholeWay d (at (granted d))
   unfolding grant
-  granted-way =
+  granted_way =
       let o : WholeWay d (grant d ok (pcapmin d) (request d) (measured d ok) (starts_of d) (amount_of d) (reached d (metrics d)) st (dealt d ok))
       = ours d ok (pcapmin d) (request d) (measured d ok) (starts_of d) (amount_of d) (reached d (metrics d)) st (dealt d ok) in
       record {
         least = λ c l. le_trans (o.least c l) (le_of_eq (sym (granted-at d ok c l)));
         most = λ c l. le_trans (le_of_eq (granted-at d ok c l)) (o.most c l);
-        within = λ n l. le_trans (le_of_eq (sum_beneath-cong d.nodes d.parent d.cords d.node n (at (granted d)) _ (granted-at d ok))) (o.within n l);
+        within = λ n l. le_trans (le_of_eq (sum_beneath_cong d.nodes d.parent d.cords d.node n (at (granted d)) _ (granted-at d ok))) (o.within n l);
       }
 
   -- No other way gives the cords beneath a root, of a level and above, more.
-  pub granted-most : (f : ℕ → ℕ) (n : ℕ) → TreeWay d n f → n < d.nodes → d.parent n ≡ 0 → (j : ℕ) → j ≤ d.levels
+  pub granted_most : (f : ℕ → ℕ) (n : ℕ) → TreeWay d n f → n < d.nodes → d.parent n ≡ 0 → (j : ℕ) → j ≤ d.levels
       → deal_beneath d n (from_level d j f) ≤ deal_beneath d n (from_level d j (at (granted d)))
   unfolding grant
-  granted-most f n w l e j h =
-      le_trans (most-above d ok (pcapmin d) (request d) (measured d ok) (starts_of d) (amount_of d) (reached d (metrics d)) st (dealt d ok) f n w l e j h)
-      (le_of_eq (sum_beneath-cong d.nodes d.parent d.cords d.node n _ _ (λ c lc. ap (λ (z : ℕ). on (leb j (d.level c)) z) (sym (granted-at d ok c lc)))))
+  granted_most f n w l e j h =
+      le_trans (most_above d ok (pcapmin d) (request d) (measured d ok) (starts_of d) (amount_of d) (reached d (metrics d)) st (dealt d ok) f n w l e j h)
+      (le_of_eq (sum_beneath_cong d.nodes d.parent d.cords d.node n _ _ (λ c lc. ap (λ (z : ℕ). on (leb j (d.level c)) z) (sym (granted-at d ok c lc)))))
 
   -- No cord is granted less than its start.
-  pub granted-start : (c : ℕ) → c < d.cords → d.start c ≤ at (granted d) c
-  granted-start c l = omega (arith, granted-at d ok c l)
+  pub granted_start : (c : ℕ) → c < d.cords → d.start c ≤ at (granted d) c
+  granted_start c l = omega (arith, granted-at d ok c l)
 
   -- What is granted beneath a node at a level is the starts and the amount.
-  pub granted-level : (n j : ℕ) → n < d.nodes → j < d.levels → starts_of d n j + amount_of d n j ≡ deal_beneath d n (at_level d j (at (granted d)))
+  pub granted_level : (n j : ℕ) → n < d.nodes → j < d.levels → starts_of d n j + amount_of d n j ≡ deal_beneath d n (at_level d j (at (granted d)))
   unfolding grant
-  granted-level n j l h =
+  granted_level n j l h =
       granted-beneath d ok (pcapmin d) (request d) (measured d ok) (starts_of d) (amount_of d) (reached d (metrics d)) st (dealt d ok) j h n l
-      ∙ sum_beneath-cong d.nodes d.parent d.cords d.node n _ _ (λ c lc. ap (λ (z : ℕ). on (eqb (d.level c) j) z) (sym (granted-at d ok c lc)))
+      ∙ sum_beneath_cong d.nodes d.parent d.cords d.node n _ _ (λ c lc. ap (λ (z : ℕ). on (eqb (d.level c) j) z) (sym (granted-at d ok c lc)))
 
   -- A node's cords of a level are granted no more than its Request there.
-  pub granted-asked : (n j : ℕ) → n < d.nodes → j < d.levels → deal_beneath d n (at_level d j (at (granted d))) ≤ request d n j
+  pub granted_asked : (n j : ℕ) → n < d.nodes → j < d.levels → deal_beneath d n (at_level d j (at (granted d))) ≤ request d n j
   unfolding grant
-  granted-asked n j l h =
-      le_trans (le_of_eq (sum_beneath-cong d.nodes d.parent d.cords d.node n _ _ (λ c lc. ap (λ (z : ℕ). on (eqb (d.level c) j) z) (granted-at d ok c lc))))
-      (granted-request d ok (pcapmin d) (request d) (measured d ok) (starts_of d) (amount_of d) (reached d (metrics d)) st (dealt d ok) j h n l)
+  granted_asked n j l h =
+      le_trans (le_of_eq (sum_beneath_cong d.nodes d.parent d.cords d.node n _ _ (λ c lc. ap (λ (z : ℕ). on (eqb (d.level c) j) z) (granted-at d ok c lc))))
+      (granted_request d ok (pcapmin d) (request d) (measured d ok) (starts_of d) (amount_of d) (reached d (metrics d)) st (dealt d ok) j h n l)
 
   -- Every node gives its children all of its amount, and none of them more than its weight.
-  pub deal-gives-all : GivesAll d
+  pub deal_gives_all : GivesAll d
   unfolding amount_of starts_of request
-  deal-gives-all = record {
+  deal_gives_all = record {
     all = λ n j l h. add_comm _ _ ∙ gives_all d ok (pcapmin d) (request d) (measured d ok) (starts_of d) (amount_of d) (reached d (metrics d)) st (dealt d ok) n j l h;
     to_node = λ m j l h. amount-weight d ok (pcapmin d) (request d) (measured d ok) (starts_of d) (amount_of d) (reached d (metrics d)) st (dealt d ok) m l j h;
-    to_cord = reached-over d ok (pcapmin d) (request d) (measured d ok) (starts_of d) (amount_of d) (reached d (metrics d)) st (dealt d ok);
+    to_cord = reached_over d ok (pcapmin d) (request d) (measured d ok) (starts_of d) (amount_of d) (reached d (metrics d)) st (dealt d ok);
   }
 
 -- ---- A deal in which each cord starts from its low
 
 module _ (d : Deal) (ok : Dealable d) (lows : d.start ≡ d.low) where
-  pub starts-are : starts_of d ≡ pcapmin d
+  pub starts_are : starts_of d ≡ pcapmin d
   unfolding starts_of pcapmin metrics
-  starts-are = ap (λ (w : ℕ → ℕ). cell (sums_from d w d.nodes 0)) lows
+  starts_are = ap (λ (w : ℕ → ℕ). cell (sums_from d w d.nodes 0)) lows
 
-  pub lows-starting : Starting d (pcapmin d) (request d)
-  lows-starting = record {
+  pub lows_starting : Starting d (pcapmin d) (request d)
+  lows_starting = record {
     least = λ c l. le_of_eq (ap (λ (w : ℕ → ℕ). w c) (sym lows));
     most = λ c l. le_trans (le_of_eq (ap (λ (w : ℕ → ℕ). w c) lows)) (ok.wants c l);
-    within = λ n j l h. pcapmin-request d ok (pcapmin d) (request d) (measured d ok) n l j h;
+    within = λ n j l h. pcapmin_request d ok (pcapmin d) (request d) (measured d ok) n l j h;
   }
 
-  pub lows-startable : Startable d
-  lows-startable = subst (λ (s : ℕ → ℕ → ℕ). Starting d s (request d)) (sym starts-are) lows-starting
+  pub lows_startable : Startable d
+  lows_startable = subst (λ (s : ℕ → ℕ → ℕ). Starting d s (request d)) (sym starts_are) lows_starting

@@ -9,10 +9,10 @@ use lib.Dec.{eqb}
 use lib.ListN.{length}
 use Rattle.figures.specs.Sums.{on}
 use Rattle.figures.specs.Figures.{at, cell}
-use Rattle.figures.proofs.Sums.{sum-cong}
+use Rattle.figures.proofs.Sums.{sum_cong}
 use Rattle.splits.specs.Split.{part}
 use Rattle.deals.specs.Passes.{weight_of, cut_mark, FullRows, Weighed, Requested, NodesDealt}
-use Rattle.deals.proofs.Cuts.{ltb-cong}
+use Rattle.deals.proofs.Cuts.{ltb_cong}
 use Rattle.rooms.specs.Trees.{child_sum}
 use Rattle.rooms.specs.Credits.{tree_sum}
 
@@ -30,25 +30,25 @@ pub record Gathered (parents : List ℕ) (level : ℕ) (left cuts starts weights
   pub full : FullRows rows'
 
 -- Sums over children of figures that are equal.
-pub children-cong : (parents : List ℕ) (f g : ℕ → ℕ) (n m : ℕ) → ((h : ℕ) → h < m → f h ≡ g h) → child_sum m (at parents) n f ≡ child_sum m (at parents) n g
-children-cong parents f g n m e = sum-cong m _ _ (λ h l. ap (on (eqb (at parents h) (suc n))) (e h l))
+pub children_cong : (parents : List ℕ) (f g : ℕ → ℕ) (n m : ℕ) → ((h : ℕ) → h < m → f h ≡ g h) → child_sum m (at parents) n f ≡ child_sum m (at parents) n g
+children_cong parents f g n m e = sum_cong m _ _ (λ h l. ap (on (eqb (at parents h) (suc n))) (e h l))
 
 -- A node is cut where its weight is less than its children's.
 cut-same : (mark level left whole : ℕ) → cut_mark mark level (min left whole) whole ≡ cut_mark mark level left whole
-cut-same mark level left whole = ap (λ (t : Bool). max mark (on t (suc level))) (ltb-cong (min left whole) whole left whole (λ l. omega arith) (λ l. omega arith))
+cut-same mark level left whole = ap (λ (t : Bool). max mark (on t (suc level))) (ltb_cong (min left whole) whole left whole (λ l. omega arith) (λ l. omega arith))
 
 module _ {parents active : List ℕ} {count level : ℕ} {left own left' wholes weights cuts starts : List ℕ} {rows : List (List ℕ)} {cuts' starts' : List ℕ} {rows' : List (List ℕ)}
     (w : Weighed parents active count left own left' wholes weights) (r : Requested parents level left wholes cuts starts rows cuts' starts' rows') where
-  weight-left : (n : ℕ) → n < length parents → request_weight rows' level (tree_sum (at parents) (length parents) (at starts)) n ≡ weight_of left wholes n
-  weight-left n l = omega (arith, r.request n l)
+  weight_left : (n : ℕ) → n < length parents → request_weight rows' level (tree_sum (at parents) (length parents) (at starts)) n ≡ weight_of left wholes n
+  weight_left n l = omega (arith, r.request n l)
 
   -- The weight by the rows is the one listed.
-  pub weight-listed : (n : ℕ) → n < length parents → request_weight rows' level (tree_sum (at parents) (length parents) (at starts)) n ≡ weight_of weights wholes n
-  weight-listed n l = weight-left n l ∙ sym (w.weights-are n l)
+  pub weight_listed : (n : ℕ) → n < length parents → request_weight rows' level (tree_sum (at parents) (length parents) (at starts)) n ≡ weight_of weights wholes n
+  weight_listed n l = weight_left n l ∙ sym (w.weights_are n l)
 
   pub gathered : Gathered parents level left cuts starts own rows left' cuts' wholes rows'
   gathered = record {
-    children = λ n l. w.children n l ∙ ap (λ (x : ℕ). at own n + x) (children-cong parents _ _ n (length parents) (λ h g. sym (weight-left h g)));
+    children = λ n l. w.children n l ∙ ap (λ (x : ℕ). at own n + x) (children_cong parents _ _ n (length parents) (λ h g. sym (weight_left h g)));
     request = r.request;
     others = r.others;
     left_is = w.left_is;
@@ -57,13 +57,13 @@ module _ {parents active : List ℕ} {count level : ℕ} {left own left' wholes 
   }
 
 -- What is dealt by weights is dealt by equal ones.
-pub dealt-again : {parents active : List ℕ} {count : ℕ} {f g : ℕ → ℕ} {wholes amounts before dealt : List ℕ} → ((h : ℕ) → h < length parents → f h ≡ g h)
+pub dealt_again : {parents active : List ℕ} {count : ℕ} {f g : ℕ → ℕ} {wholes amounts before dealt : List ℕ} → ((h : ℕ) → h < length parents → f h ≡ g h)
     → NodesDealt parents active count f wholes amounts before dealt → NodesDealt parents active count g wholes amounts before dealt
-dealt-again {parents} {f = f} {g = g} {wholes = wholes} {amounts = amounts} e nd = record {
+dealt_again {parents} {f = f} {g = g} {wholes = wholes} {amounts = amounts} e nd = record {
   root = λ m l some top. nd.root m l some top ∙ e m l;
   inner = λ m n l some hangs. nd.inner m n l some hangs
-      ∙ ap₂ (part (at amounts n) (at wholes n)) (children-cong parents f g n m (λ h k. e h (lt_trans k l))) (e m l);
+      ∙ ap₂ (part (at amounts n) (at wholes n)) (children_cong parents f g n m (λ h k. e h (lt_trans k l))) (e m l);
   most = λ m l some. omega (arith, nd.most m l some, e m l);
-  served = λ n l some. nd.served n l some ∙ children-cong parents f g n (length parents) e;
-  dealt-is = nd.dealt-is;
+  served = λ n l some. nd.served n l some ∙ children_cong parents f g n (length parents) e;
+  dealt_is = nd.dealt_is;
 }

@@ -13,7 +13,7 @@ use lib.Dec.{eqb, ltb}
 use borrow.Author.Tests.{eqb-true, eqb-false, eq-eqb, ne_eqb, ltb-true, ltb-false}
 use Rattle.figures.specs.Figures.{at}
 use Rattle.figures.specs.Sums.{on}
-use Rattle.figures.proofs.Sums.{on-yes, on-le, sum-cong}
+use Rattle.figures.proofs.Sums.{on_yes, on_le, sum_cong}
 use Rattle.figures.proofs.Lists.{figures-at}
 use Rattle.rooms.specs.Trees.{beneath, sum_beneath, ParentsFirst}
 use Rattle.rooms.proofs.Trees.{rise}
@@ -21,11 +21,11 @@ use Rattle.deals.specs.Metrics.{Deal, metrics, at_level}
 use Rattle.deals.specs.Dealing.{weight, cord_over, amount, reached, granted}
 use Rattle.deals.specs.Held.{cut_at, some_from, cut_from, nearest_root, holder, held_over}
 use Rattle.deals.specs.Promises.{NearestCut}
-use Rattle.deals.proofs.Rows.{sum-tight}
-use Rattle.deals.proofs.Requests.{Dealable, later, or_right, deal_beneath, deal_beneath-all, asked, pcapmin-is, request-asked, cut-full, cut-lows}
-use Rattle.deals.proofs.Amounts.{whole-node, whole-cord}
-use Rattle.deals.proofs.Equations.{weights, weights-are, amount-weight, pcapmin-starts}
-use Rattle.deals.proofs.Computed.{pcapmin, request, starts_of, amount_of, measured, by_weights, dealt, granted-at, Startable, granted-way, granted-level}
+use Rattle.deals.proofs.Rows.{sum_tight}
+use Rattle.deals.proofs.Requests.{Dealable, later, or_right, deal_beneath, deal_beneath_all, asked, pcapmin_is, request_asked, cut_full, cut-lows}
+use Rattle.deals.proofs.Amounts.{whole_node, whole_cord}
+use Rattle.deals.proofs.Equations.{weights, weights_are, amount-weight, pcapmin_starts}
+use Rattle.deals.proofs.Computed.{pcapmin, request, starts_of, amount_of, measured, by_weights, dealt, granted-at, Startable, granted_way, granted_level}
 
 -- ---- Some level
 
@@ -47,10 +47,10 @@ some_one (suc k) j test e = go (test j) refl e (some_one k (suc j) test)
         let s = ih b in
         record { level = s.level; from = omega (arith, s.from); to = omega (arith, s.to); holds = s.holds }
 
-some-none : (k j : ℕ) (test : ℕ → Bool) → some_from k j test ≡ false → (i : ℕ) → j ≤ i → i < j + k → test i ≡ false
+some_none : (k j : ℕ) (test : ℕ → Bool) → some_from k j test ≡ false → (i : ℕ) → j ≤ i → i < j + k → test i ≡ false
 unfolding some_from
-some-none zero j test e i a b = absurd (omega arith)
-some-none (suc k) j test e i a b = go (test j) refl e (eqb j i) refl (λ r l. some-none k (suc j) test r i l (omega arith))
+some_none zero j test e i a b = absurd (omega arith)
+some_none (suc k) j test e i a b = go (test j) refl e (eqb j i) refl (λ r l. some_none k (suc j) test r i l (omega arith))
   where
     go : (t : Bool) → test j ≡ t → t || some_from k (suc j) test ≡ false → (s : Bool) → eqb j i ≡ s
         → (some_from k (suc j) test ≡ false → suc j ≤ i → test i ≡ false) → test i ≡ false
@@ -96,13 +96,13 @@ module _ (nodes : ℕ) (parent : ℕ → ℕ) (rises : ParentsFirst nodes parent
       go (inr q) = absurd (q.0 q.1)
 
   -- Nor of any node on the way.
-  none-met : (k l v : ℕ) → v ≤ k → v ≤ nodes → nearest_root parent test k v ≡ 0 → (m : ℕ) → beneath parent l m v ≡ true → test m ≡ false
+  none_met : (k l v : ℕ) → v ≤ k → v ≤ nodes → nearest_root parent test k v ≡ 0 → (m : ℕ) → beneath parent l m v ≡ true → test m ≡ false
   unfolding beneath
-  none-met k zero v h g e m b = absurd (false≢true b)
-  none-met k (suc l) zero h g e m b = absurd (false≢true b)
-  none-met k (suc l) (suc x) h g e m b =
+  none_met k zero v h g e m b = absurd (false≢true b)
+  none_met k (suc l) zero h g e m b = absurd (false≢true b)
+  none_met k (suc l) (suc x) h g e m b =
       let s = none_named k x h g e in
-      go s.0 (eqb x m) refl b (none-met s.1.steps l (parent x) s.1.enough (omega (arith, rises x g)) s.1.none m)
+      go s.0 (eqb x m) refl b (none_met s.1.steps l (parent x) s.1.enough (omega (arith, rises x g)) s.1.none m)
     where
       go : test x ≡ false → (t : Bool) → eqb x m ≡ t → t || beneath parent l m (parent x) ≡ true → (beneath parent l m (parent x) ≡ true → test m ≡ false)
           → test m ≡ false
@@ -149,38 +149,38 @@ module _ (d : Deal) (ok : Dealable d) (st : Startable d) where
   abbrev cut : ℕ → ℕ → Bool
   cut = cut_from d (metrics d)
 
-  cut-some : (i n : ℕ) → cut i n ≡ true → Some (levels - i) i (λ j. ltb (request d n j) (asked d (request d) n j))
+  cut_some : (i n : ℕ) → cut i n ≡ true → Some (levels - i) i (λ j. ltb (request d n j) (asked d (request d) n j))
   unfolding cut_from request asked
-  cut-some i n e = some_one (levels - i) i (cut_at d (metrics d) n) e
+  cut_some i n e = some_one (levels - i) i (cut_at d (metrics d) n) e
 
   uncut : (i n : ℕ) → cut i n ≡ false → (j : ℕ) → i ≤ j → j < levels → asked d (request d) n j ≤ request d n j
   unfolding cut_from request asked
-  uncut i n e j a h = ltb-false _ _ (some-none (levels - i) i (cut_at d (metrics d) n) e j a (omega arith))
+  uncut i n e j a h = ltb-false _ _ (some_none (levels - i) i (cut_at d (metrics d) n) e j a (omega arith))
 
   -- A node that is not cut at a level weighs as much as its children there.
-  whole-weight : (n j : ℕ) → n < nodes → j < levels → asked d (request d) n j ≤ request d n j
+  whole_weight : (n j : ℕ) → n < nodes → j < levels → asked d (request d) n j ≤ request d n j
       → request d n j - starts_of d n j ≡ weights d (starts_of d) (request d) n j
-  whole-weight n j l h u =
+  whole_weight n j l h u =
       omega (
         arith,
-        weights-are d ok (pcapmin d) (request d) (measured d ok) (starts_of d) (amount_of d) (reached d (metrics d)) st (dealt d ok) n j l h,
-        request-asked d ok (pcapmin d) (request d) (measured d ok) n l j h,
+        weights_are d ok (pcapmin d) (request d) (measured d ok) (starts_of d) (amount_of d) (reached d (metrics d)) st (dealt d ok) n j l h,
+        request_asked d ok (pcapmin d) (request d) (measured d ok) n l j h,
       )
 
   -- A node that has as much as its children weigh passes each its whole weight.
   node-passed : (j m n : ℕ) → m < nodes → parent m ≡ suc n → amount_of d n j ≡ weights d (starts_of d) (request d) n j
       → amount_of d m j ≡ request d m j - starts_of d m j
   unfolding amount_of amount weights starts_of request
-  node-passed j m n l e q = whole-node d _ _ _ _ (by_weights d ok (weight d (metrics d) j)) m n l e q
+  node-passed j m n l e q = whole_node d _ _ _ _ (by_weights d ok (weight d (metrics d) j)) m n l e q
 
   cord-passed : (c n : ℕ) → c < cords → node c ≡ suc n → amount_of d n (level c) ≡ weights d (starts_of d) (request d) n (level c)
       → reached d (metrics d) c ≡ at_level d (level c) (cord_over d) c
   unfolding amount_of amount reached weights starts_of request
-  cord-passed c n l e q = whole-cord d _ _ _ _ (by_weights d ok (weight d (metrics d) (level c))) c n l e q
+  cord-passed c n l e q = whole_cord d _ _ _ _ (by_weights d ok (weight d (metrics d) (level c))) c n l e q
 
   -- A node above which none is cut gets its whole weight.
-  gets-whole : (i j : ℕ) → i ≤ j → j < levels → (n : ℕ) → n < nodes → ClearAbove parent (cut i) n → amount_of d n j ≡ request d n j - starts_of d n j
-  gets-whole i j a h =
+  gets_whole : (i j : ℕ) → i ≤ j → j < levels → (n : ℕ) → n < nodes → ClearAbove parent (cut i) n → amount_of d n j ≡ request d n j - starts_of d n j
+  gets_whole i j a h =
       rise nodes (λ n. ClearAbove parent (cut i) n → amount_of d n j ≡ request d n j - starts_of d n j) (λ n l ih clear. go n l ih clear (parent n) refl)
     where
       go : (n : ℕ) → n < nodes → ((m : ℕ) → m < n → ClearAbove parent (cut i) m → amount_of d m j ≡ request d m j - starts_of d m j)
@@ -192,12 +192,12 @@ module _ (d : Deal) (ok : Dealable d) (st : Startable d) where
           let c = none_named nodes parent ok.rises (cut i) clear.steps q
           (subst (λ (z : ℕ). z ≤ clear.steps) e clear.enough) lq
           (subst (λ (z : ℕ). nearest_root parent (cut i) clear.steps z ≡ 0) e clear.none) in
-          node-passed j n q l e (ih q u c.1 ∙ whole-weight q j lq h (uncut i q c.0 j a h))
+          node-passed j n q l e (ih q u c.1 ∙ whole_weight q j lq h (uncut i q c.0 j a h))
 
   -- A cord for which no node is named has its want.
-  pub none-has-want : (c : ℕ) → c < cords → holder d (metrics d) c ≡ 0 → at (granted d) c ≡ want c
+  pub none_has_want : (c : ℕ) → c < cords → holder d (metrics d) c ≡ 0 → at (granted d) c ≡ want c
   unfolding holder
-  none-has-want c l e = go (node c) refl
+  none_has_want c l e = go (node c) refl
     where
       go : (v : ℕ) → node c ≡ v → at (granted d) c ≡ want c
       go zero q = absurd (omega (arith, ok.hangs c l))
@@ -205,45 +205,45 @@ module _ (d : Deal) (ok : Dealable d) (st : Startable d) where
           let b : m < nodes = omega (arith, ok.here c l) in
           let n = none_named nodes parent ok.rises (cut (level c)) nodes m b b (subst (λ (z : ℕ). nearest_root parent (cut (level c)) nodes z ≡ 0) q e) in
           let h : level c < levels = ok.ranks c l in
-          let y = cord-passed c m l q (gets-whole (level c) (level c) (le_refl (level c)) h m b n.1
-          ∙ whole-weight m (level c) b h (uncut (level c) m n.0 (level c) (le_refl (level c)) h)) in
-          omega (arith, granted-at d ok c l, y, on-yes (eqb (level c) (level c)) (cord_over d c) (eq-eqb (level c) (level c) refl), st.most c l)
+          let y = cord-passed c m l q (gets_whole (level c) (level c) (le_refl (level c)) h m b n.1
+          ∙ whole_weight m (level c) b h (uncut (level c) m n.0 (level c) (le_refl (level c)) h)) in
+          omega (arith, granted-at d ok c l, y, on_yes (eqb (level c) (level c)) (cord_over d c) (eq-eqb (level c) (level c) refl), st.most c l)
 
   -- ---- The node that is named for a cord of level i
 
   module _ (i n : ℕ) (l : n < nodes) (holds : cut i n ≡ true) (clear : ClearAbove parent (cut i) n) where
     -- Below the level at which it is cut its Requests are Pcapmin.
-    request-lows : (j : ℕ) → j < i → request d n j ≡ pcapmin d n j
-    request-lows j b =
-        let s = cut-some i n holds in
+    request_lows : (j : ℕ) → j < i → request d n j ≡ pcapmin d n j
+    request_lows j b =
+        let s = cut_some i n holds in
         cut-lows d ok (pcapmin d) (request d) (measured d ok) n l s.level (omega (arith, s.from, s.to)) (ltb-true _ _ s.holds) j (omega (arith, s.from))
 
     -- At every level what is granted beneath it is its Request.
-    granted-requests : (j : ℕ) → j < levels → deal_beneath d n (at_level d j (at (granted d))) ≡ request d n j
-    granted-requests j h = go (dec_le i j)
+    granted_requests : (j : ℕ) → j < levels → deal_beneath d n (at_level d j (at (granted d))) ≡ request d n j
+    granted_requests j h = go (dec_le i j)
       where
         s : starts_of d n j ≤ request d n j
         s = st.within n j l h
 
         go : Dec (i ≤ j) → deal_beneath d n (at_level d j (at (granted d))) ≡ request d n j
-        go (yes a) = sym (granted-level d ok st n j l h) ∙ omega (arith, gets-whole i j a h n l clear, s)
+        go (yes a) = sym (granted_level d ok st n j l h) ∙ omega (arith, gets_whole i j a h n l clear, s)
         go (no a) =
-            sym (granted-level d ok st n j l h)
+            sym (granted_level d ok st n j l h)
             ∙ omega (
               arith,
-              request-lows j (omega arith),
-              pcapmin-starts d ok (pcapmin d) (request d) (measured d ok) (starts_of d) (amount_of d) (reached d (metrics d)) st (dealt d ok) n j l h,
+              request_lows j (omega arith),
+              pcapmin_starts d ok (pcapmin d) (request d) (measured d ok) (starts_of d) (amount_of d) (reached d (metrics d)) st (dealt d ok) n j l h,
               amount-weight d ok (pcapmin d) (request d) (measured d ok) (starts_of d) (amount_of d) (reached d (metrics d)) st (dealt d ok) n l j h,
               s,
             )
 
     -- So all of its limit is granted.
-    pub holder-full : deal_beneath d n (at (granted d)) ≡ limit n
-    holder-full =
-        let s = cut-some i n holds in
-        sym (deal_beneath-all d ok n (at (granted d)))
-        ∙ sum-cong levels _ (request d n) granted-requests
-        ∙ cut-full d ok (pcapmin d) (request d) (measured d ok) n l s.level (omega (arith, s.from, s.to)) (ltb-true _ _ s.holds)
+    pub holder_full : deal_beneath d n (at (granted d)) ≡ limit n
+    holder_full =
+        let s = cut_some i n holds in
+        sym (deal_beneath_all d ok n (at (granted d)))
+        ∙ sum_cong levels _ (request d n) granted_requests
+        ∙ cut_full d ok (pcapmin d) (request d) (measured d ok) n l s.level (omega (arith, s.from, s.to)) (ltb-true _ _ s.holds)
 
     -- And a cord beneath it of a lower level has its low.
     pub holder-lows : (c : ℕ) → c < cords → beneath parent nodes n (node c) ≡ true → level c < i → at (granted d) c ≡ low c
@@ -253,12 +253,12 @@ module _ (d : Deal) (ok : Dealable d) (st : Startable d) where
         let h : j < levels = ok.ranks c lc in
         let here : ℕ → Bool = λ c. beneath parent nodes n (node c) in
         let e : deal_beneath d n (at_level d j (at (granted d))) ≡ deal_beneath d n (at_level d j low)
-        = granted-requests j h ∙ request-lows j lower ∙ pcapmin-is d ok (pcapmin d) (request d) (measured d ok) j n h l in
-        let t = sum-tight cords (λ c. on (here c) (at_level d j low c)) (λ c. on (here c) (at_level d j (at (granted d)) c))
-        (λ c lc. on-le (here c) _ _ (λ _. on-le (eqb (level c) j) (low c) (at (granted d) c) (λ _. (granted-way d ok st).least c lc)))
+        = granted_requests j h ∙ request_lows j lower ∙ pcapmin_is d ok (pcapmin d) (request d) (measured d ok) j n h l in
+        let t = sum_tight cords (λ c. on (here c) (at_level d j low c)) (λ c. on (here c) (at_level d j (at (granted d)) c))
+        (λ c lc. on_le (here c) _ _ (λ _. on_le (eqb (level c) j) (low c) (at (granted d) c) (λ _. (granted_way d ok st).least c lc)))
         (le_of_eq e) c lc in
         let own : (figure : ℕ → ℕ) → on (here c) (at_level d j figure c) ≡ figure c
-        = λ figure. on-yes (here c) _ b ∙ on-yes (eqb (level c) j) (figure c) (eq-eqb j j refl) in
+        = λ figure. on_yes (here c) _ b ∙ on_yes (eqb (level c) j) (figure c) (eq-eqb j j refl) in
         sym (own (at (granted d))) ∙ t ∙ own low
 
   -- What is named for each cord: by its grant and want.
@@ -269,8 +269,8 @@ module _ (d : Deal) (ok : Dealable d) (st : Startable d) where
   pub held_none : (c : ℕ) → c < cords → at (granted d) c ≡ want c → at (held_over d) c ≡ 0
   held_none c l e = held_over-at c l ∙ ap (λ (t : Bool). cond t 0 (holder d (metrics d) c)) (eq-eqb (at (granted d) c) (want c) e)
 
-  held-short : (c : ℕ) → c < cords → at (granted d) c < want c → at (held_over d) c ≡ holder d (metrics d) c
-  held-short c l h = held_over-at c l ∙ ap (λ (t : Bool). cond t 0 (holder d (metrics d) c)) (ne_eqb (at (granted d) c) (want c) (λ e. omega arith))
+  held_short : (c : ℕ) → c < cords → at (granted d) c < want c → at (held_over d) c ≡ holder d (metrics d) c
+  held_short c l h = held_over-at c l ∙ ap (λ (t : Bool). cond t 0 (holder d (metrics d) c)) (ne_eqb (at (granted d) c) (want c) (λ e. omega arith))
 
   -- A node is named for the cord at place c: this.
   pub record Holder (c : ℕ) : Type 0 where
@@ -278,26 +278,26 @@ module _ (d : Deal) (ok : Dealable d) (st : Startable d) where
     pub is : at (held_over d) c ≡ suc place
     pub nearest : Nearest nodes parent ok.rises (cut (level c)) nodes (node c) place
 
-  pub held-named : (c : ℕ) → c < cords → at (granted d) c < want c → Holder c
+  pub held_named : (c : ℕ) → c < cords → at (granted d) c < want c → Holder c
   unfolding holder
-  held-named c l h = go (holder d (metrics d) c) refl
+  held_named c l h = go (holder d (metrics d) c) refl
     where
       go : (v : ℕ) → holder d (metrics d) c ≡ v → Holder c
-      go zero e = absurd (omega (arith, none-has-want c l e))
+      go zero e = absurd (omega (arith, none_has_want c l e))
       go (suc n) e = record {
         place = n;
-        is = held-short c l h ∙ e;
+        is = held_short c l h ∙ e;
         nearest = nearest nodes parent ok.rises (cut (level c)) nodes (node c) n (ok.here c l) (ok.here c l) e;
       }
 
-  pub holder-nearest : (c : ℕ) → (x : Holder c) → NearestCut d c x.place
-  holder-nearest c x =
+  pub holder_nearest : (c : ℕ) → (x : Holder c) → NearestCut d c x.place
+  holder_nearest c x =
       let n = x.nearest in
       let clear = n.clear in
       record {
         above = n.above;
         cut = n.holds;
         nearest =
-            none-met nodes parent ok.rises (cut (level c)) clear.steps nodes (parent x.place) clear.enough
+            none_met nodes parent ok.rises (cut (level c)) clear.steps nodes (parent x.place) clear.enough
             (omega (arith, ok.rises x.place n.place, n.place)) clear.none;
       }

@@ -8,7 +8,7 @@ use Rattle.rooms.specs.Table.{Room}
 use Rattle.rooms.specs.Limits.{checked}
 use Rattle.deals.specs.Plan.{Plan, plan}
 use Rattle.deals.specs.declared.Lengths.{Lengths}
-use Rattle.deals.proofs.Plans.{plan-good, plan-good-table, Planning, plan_room-accepted}
+use Rattle.deals.proofs.Plans.{plan_good, plan_good_table, Planning, plan_room_accepted}
 
 -- An accepted plan has a room, and its lists fit.
 pub record Written (table demands : List ℕ) (lengths : Lengths) (answer : Plan) : Type 0 where
@@ -19,10 +19,10 @@ pub record Written (table demands : List ℕ) (lengths : Lengths) (answer : Plan
 
 pub plan-written : (table demands : List ℕ) (lengths : Lengths) {answer : Plan} → plan table demands lengths ≡ accepted answer → Written table demands lengths answer
 plan-written table demands lengths {answer} e =
-    let g = plan-good table demands lengths answer e in
+    let g = plan_good table demands lengths answer e in
     record {
       room = g.value;
       end = g.next;
       is_room = g.is;
-      planning = plan_room-accepted g.value demands lengths answer (sym (plan-good-table table demands lengths g.value g.next g.is) ∙ e);
+      planning = plan_room_accepted g.value demands lengths answer (sym (plan_good_table table demands lengths g.value g.next g.is) ∙ e);
     }

@@ -12,16 +12,16 @@ use Rattle.figures.specs.Sums.{on, sum}
 use Rattle.rooms.specs.Table.{most_cords, most_watts}
 use Rattle.rooms.specs.Credits.{tree_sum}
 use Rattle.figures.specs.Credits.{credited}
-use Rattle.figures.proofs.Sums.{sum-suc, sum-up}
+use Rattle.figures.proofs.Sums.{sum_suc, sum_up}
 use Rattle.figures.proofs.Credits.{credited-at, credited-length}
-use Rattle.rooms.proofs.Credits.{tree_sum-step, tree_sum-most}
-use Rattle.rooms.proofs.Gather.{Holds, holds-start, holds-turn, holds-most, holds-whole}
+use Rattle.rooms.proofs.Credits.{tree_sum_step, tree_sum_most}
+use Rattle.rooms.proofs.Gather.{Holds, holds_start, holds_turn, holds_most, holds_whole}
 use Rattle.figures.specs.Figures.{at}
 use Rattle.rooms.specs.Trees.{ParentsFirst}
 
-pub on-zero : (t : Bool) (a : ℕ) → a ≡ 0 → on t a ≡ 0
-on-zero true a e = e
-on-zero false a e = refl
+pub on_zero : (t : Bool) (a : ℕ) → a ≡ 0 → on t a ≡ 0
+on_zero true a e = e
+on_zero false a e = refl
 
 -- ---- Sums over all nodes beneath a node
 
@@ -44,39 +44,39 @@ pub record Summing (parents start : List ℕ) (n : ℕ) (sums : List ℕ) : Type
 
 pub summing_start : (parents start : List ℕ) → Summing parents start (length parents) start
 summing_start parents start =
-    record { done = 0; all = omega arith; held = holds-start (length parents) (at parents) (at start) (tree_sum (at parents) (length parents) (at start)); size = refl }
+    record { done = 0; all = omega arith; held = holds_start (length parents) (at parents) (at start) (tree_sum (at parents) (length parents) (at start)); size = refl }
 
 module _ {parents start : List ℕ} (rises : ParentsFirst (length parents) (at parents)) where
   -- No sum ever passes the sum of all.
-  summing-most : {n : ℕ} {sums : List ℕ} → Summing parents start n sums → (m : ℕ) → m < length parents → at sums m ≤ sum (length parents) (at start)
-  summing-most {n} {sums} inv m l =
+  summing_most : {n : ℕ} {sums : List ℕ} → Summing parents start n sums → (m : ℕ) → m < length parents → at sums m ≤ sum (length parents) (at start)
+  summing_most {n} {sums} inv m l =
       omega (
         arith,
-        holds-most (length parents) (at parents) (at start) (tree_sum (at parents) (length parents) (at start)) inv.done n (at sums) inv.all inv.held m l,
-        tree_sum-step (length parents) (at parents) rises (at start) m l,
-        tree_sum-most (length parents) (at parents) (at start) m,
+        holds_most (length parents) (at parents) (at start) (tree_sum (at parents) (length parents) (at start)) inv.done n (at sums) inv.all inv.held m l,
+        tree_sum_step (length parents) (at parents) rises (at start) m l,
+        tree_sum_most (length parents) (at parents) (at start) m,
       )
 
   -- So a node's credit to its parent does not overflow.
-  pub summing-fits : {m : ℕ} {sums : List ℕ} {parent : ℕ} → Fits parents start → Summing parents start (suc m) sums → parent ≡ at parents m
+  pub summing_fits : {m : ℕ} {sums : List ℕ} {parent : ℕ} → Fits parents start → Summing parents start (suc m) sums → parent ≡ at parents m
       → (parent ≤ length sums) × (at sums (parent - 1) + at sums m < 2 ^ 64)
-  summing-fits {m} {parent = parent} fits inv ep =
+  summing_fits {m} {parent = parent} fits inv ep =
       let l : m < length parents = omega (arith, inv.all) in
       let r = rises m l in (
         omega (arith, inv.size, fits.0),
-        omega (arith, summing-most inv m l, summing-most inv (parent - 1) (omega arith), fits.1),
+        omega (arith, summing_most inv m l, summing_most inv (parent - 1) (omega arith), fits.1),
       )
 
   -- A node's sum is whole when its turn comes.
-  pub whole-at : {m : ℕ} {sums : List ℕ} → Summing parents start (suc m) sums → at sums m ≡ tree_sum (at parents) (length parents) (at start) m
-  whole-at {m} {sums} inv =
-      holds-whole (length parents) (at parents) (at start) (tree_sum (at parents) (length parents) (at start)) rises inv.done m (at sums) inv.all inv.held
-      ∙ sym (tree_sum-step (length parents) (at parents) rises (at start) m (omega (arith, inv.all)))
+  pub whole_at : {m : ℕ} {sums : List ℕ} → Summing parents start (suc m) sums → at sums m ≡ tree_sum (at parents) (length parents) (at start) m
+  whole_at {m} {sums} inv =
+      holds_whole (length parents) (at parents) (at start) (tree_sum (at parents) (length parents) (at start)) rises inv.done m (at sums) inv.all inv.held
+      ∙ sym (tree_sum_step (length parents) (at parents) rises (at start) m (omega (arith, inv.all)))
 
   -- A node's turn.
-  pub summing-at : {m : ℕ} {sums : List ℕ} {parent : ℕ} {sums' : List ℕ} → length parents ≤ length start → Summing parents start (suc m) sums
+  pub summing_at : {m : ℕ} {sums : List ℕ} {parent : ℕ} {sums' : List ℕ} → length parents ≤ length start → Summing parents start (suc m) sums
       → parent ≡ at parents m → sums' ≡ credited parent (at sums m) sums → Summing parents start m sums'
-  summing-at {m} {sums} {sums' = sums'} h inv ep es =
+  summing_at {m} {sums} {sums' = sums'} h inv ep es =
       let r = rises m (omega (arith, inv.all)) in
       let own : ℕ → ℕ = at start in
       let passed : ℕ → ℕ = tree_sum (at parents) (length parents) (at start) in
@@ -85,21 +85,21 @@ module _ {parents start : List ℕ} (rises : ParentsFirst (length parents) (at p
       (record {
         done = suc inv.done;
         all = omega (arith, inv.all);
-        held = holds-turn (length parents) (at parents) own passed inv.done m (at sums) (at (credited (at parents m) (at sums m) sums)) inv.held
+        held = holds_turn (length parents) (at parents) own passed inv.done m (at sums) (at (credited (at parents m) (at sums m) sums)) inv.held
             (λ i l. credited-at (at parents m) (at sums m) sums i (omega (arith, inv.all, inv.size))
-            ∙ ap (λ (x : ℕ). at sums i + on (eqb (at parents m) (suc i)) x) (whole-at inv));
+            ∙ ap (λ (x : ℕ). at sums i + on (eqb (at parents m) (suc i)) x) (whole_at inv));
         size = credited-length (at parents m) (at sums m) sums ∙ inv.size;
       })
 
   -- The turn of a node that has nothing to pass on.
-  pub summing-idle : {m : ℕ} {sums : List ℕ} → length parents ≤ length start → tree_sum (at parents) (length parents) (at start) m ≡ 0 → Summing parents start (suc m) sums → Summing parents start m sums
-  summing-idle {m} {sums} h none inv =
-      summing-at h inv refl (sym (ap (λ (x : ℕ). credited (at parents m) x sums) (whole-at inv ∙ none) ∙ credited-nothing (at parents m) sums))
+  pub summing_idle : {m : ℕ} {sums : List ℕ} → length parents ≤ length start → tree_sum (at parents) (length parents) (at start) m ≡ 0 → Summing parents start (suc m) sums → Summing parents start m sums
+  summing_idle {m} {sums} h none inv =
+      summing_at h inv refl (sym (ap (λ (x : ℕ). credited (at parents m) x sums) (whole_at inv ∙ none) ∙ credited-nothing (at parents m) sums))
 
 -- One more figure is within a sum over more places.
 pub sum-within : (k m : ℕ) (g : ℕ → ℕ) → k < m → sum k g + g k ≤ sum m g
-sum-within k m g h = omega (arith, sum-suc k g, sum-up (m - suc k) (suc k) m g (omega arith))
+sum-within k m g h = omega (arith, sum_suc k g, sum_up (m - suc k) (suc k) m g (omega arith))
 
 -- An amount times the weights of all children fits its word.
-pub product-fits : (x e : ℕ) → x ≤ most_watts → e ≤ most_cords * most_watts → x * e < 2 ^ 64
-product-fits x e most few = lt_of_le_of_lt (mul-le-mul most few) (lit< tt)
+pub product_fits : (x e : ℕ) → x ≤ most_watts → e ≤ most_cords * most_watts → x * e < 2 ^ 64
+product_fits x e most few = lt_of_le_of_lt (mul-le-mul most few) (lit< tt)

@@ -10,8 +10,8 @@ use lib.Dec.{eqb}
 use lib.ListN.{length}
 use borrow.Author.Tests.{eqb-true, ltb-false, le-ltb}
 use Rattle.outcomes.specs.Outcome.{Outcome, accepted, refused, unless}
-use Rattle.outcomes.proofs.Parts.{accepted-went}
-use Rattle.outcomes.proofs.Outcomes.{unless-pass, unless-back, unless-either, unless-none, unless-is}
+use Rattle.outcomes.proofs.Parts.{accepted_went}
+use Rattle.outcomes.proofs.Outcomes.{unless_pass, unless-back, unless_either, unless_none, unless_is}
 use Rattle.rooms.specs.Part.{Step, good, bad, Good}
 use Rattle.rooms.specs.Table.{Room, room_cords}
 use Rattle.rooms.specs.Limits.{checked}
@@ -19,7 +19,7 @@ use Rattle.rooms.specs.Promises.{Overloaded}
 use Rattle.rooms.specs.declared.SheetRefusal.{SheetRefusal}
 use Rattle.rooms.specs.declared.SheetRefusal.TheVariants.{LowsAboveLimit}
 use Rattle.rooms.proofs.All.{All}
-use Rattle.rooms.proofs.Overloaded.{checked-nine, nine-lows}
+use Rattle.rooms.proofs.Overloaded.{checked_nine, nine_lows}
 use Rattle.figures.specs.Figures.{figures}
 use Rattle.rooms.specs.Lists.{nodes_of}
 use Rattle.deals.specs.Metrics.{deal_from, deal_of}
@@ -55,8 +55,8 @@ pub count_none : (list : PlanList) → count 0 0 list ≡ 0
 count_none = each _ refl refl refl refl
 
 -- A list that is too short is told by another number than 9.
-list-not-nine : (list : PlanList) → plan_list_number list ≡ 9 → ⊥
-list-not-nine = each _ (λ e. omega arith) (λ e. omega arith) (λ e. omega arith) (λ e. omega arith)
+list_not_nine : (list : PlanList) → plan_list_number list ≡ 9 → ⊥
+list_not_nine = each _ (λ e. omega arith) (λ e. omega arith) (λ e. omega arith) (λ e. omega arith)
 
 -- ---- The lengths of the answer's lists
 
@@ -93,56 +93,56 @@ module _ {A : Type 0} (result : A) (cords servers : ℕ) (lengths : Lengths) whe
   abbrev told : List PlanList → Outcome A PlanRefusal
   told names = unless (map (list_too_short cords servers lengths) names) result
 
-  some-long : (names : List PlanList) {given : A} → told names ≡ accepted given → All Long names
+  some_long : (names : List PlanList) {given : A} → told names ≡ accepted given → All Long names
   unfolding All
-  some-long [] e = tt
-  some-long (list ∷ rest) e =
+  some_long [] e = tt
+  some_long (list ∷ rest) e =
       let passed = unless-back _ _ result e in
-      (ltb-false (entries lengths list) (count cords servers list) passed.0, some-long rest passed.1)
+      (ltb-false (entries lengths list) (count cords servers list) passed.0, some_long rest passed.1)
 
-  some-passed : ((list : PlanList) → Long list) → (names : List PlanList) → told names ≡ accepted result
-  some-passed long [] = unless-none result
-  some-passed long (list ∷ rest) =
-      unless-pass _ _ result (le-ltb (entries lengths list) (count cords servers list) (long list)) ∙ some-passed long rest
+  some_passed : ((list : PlanList) → Long list) → (names : List PlanList) → told names ≡ accepted result
+  some_passed long [] = unless_none result
+  some_passed long (list ∷ rest) =
+      unless_pass _ _ result (le-ltb (entries lengths list) (count cords servers list) (long list)) ∙ some_passed long rest
 
-  some-either : (P : Outcome A PlanRefusal → Type 0) → ((list : PlanList) (place : ℕ) → P (refused (ListTooShort list place))) → P (accepted result)
+  some_either : (P : Outcome A PlanRefusal → Type 0) → ((list : PlanList) (place : ℕ) → P (refused (ListTooShort list place))) → P (accepted result)
       → (names : List PlanList) → P (told names)
-  some-either P short whole [] = subst P (sym (unless-none result)) whole
-  some-either P short whole (list ∷ rest) =
-      unless-either (list_too_short cords servers lengths list) _ result P (λ _. short list (count cords servers list)) (λ _. some-either P short whole rest)
+  some_either P short whole [] = subst P (sym (unless_none result)) whole
+  some_either P short whole (list ∷ rest) =
+      unless_either (list_too_short cords servers lengths list) _ result P (λ _. short list (count cords servers list)) (λ _. some_either P short whole rest)
 
   -- Lists that give no reason to refuse are long enough, and those that are long enough give none.
   pub lists-long : {given : A} → unless (list_reasons cords servers lengths) result ≡ accepted given → (list : PlanList) → Long list
-  lists-long e = any_of Long (some-long all_lists e)
+  lists-long e = any_of Long (some_long all_lists e)
 
   pub lists-passed : ((list : PlanList) → Long list) → unless (list_reasons cords servers lengths) result ≡ accepted result
-  lists-passed long = some-passed long all_lists
+  lists-passed long = some_passed long all_lists
 
   -- What holds wherever a list is too short, and where the result is accepted, holds.
-  pub lists-either : (P : Outcome A PlanRefusal → Type 0) → ((list : PlanList) (place : ℕ) → P (refused (ListTooShort list place)))
+  pub lists_either : (P : Outcome A PlanRefusal → Type 0) → ((list : PlanList) (place : ℕ) → P (refused (ListTooShort list place)))
       → P (accepted result) → P (unless (list_reasons cords servers lengths) result)
-  lists-either P short whole = some-either P short whole all_lists
+  lists_either P short whole = some_either P short whole all_lists
 
 -- ---- The table
 
-pub plan_room-is : (r : Room) (demands : List ℕ) (lengths : Lengths) → plan_room r demands lengths ≡ unless (reasons r demands lengths) (plan_of r demands)
+pub plan_room_is : (r : Room) (demands : List ℕ) (lengths : Lengths) → plan_room r demands lengths ≡ unless (reasons r demands lengths) (plan_of r demands)
 unfolding plan_room
-plan_room-is r demands lengths = refl
+plan_room_is r demands lengths = refl
 
-pub plan-bad-table : (table demands : List ℕ) (lengths : Lengths) (refusal : SheetRefusal) → checked table 0 ≡ bad refusal
+pub plan_bad_table : (table demands : List ℕ) (lengths : Lengths) (refusal : SheetRefusal) → checked table 0 ≡ bad refusal
     → plan table demands lengths ≡ refused (Table refusal)
 unfolding plan
-plan-bad-table table demands lengths refusal e = ap (λ (s : Step Room). plan_step s demands lengths) e
+plan_bad_table table demands lengths refusal e = ap (λ (s : Step Room). plan_step s demands lengths) e
 
-pub plan-good-table : (table demands : List ℕ) (lengths : Lengths) (r : Room) (end : ℕ) → checked table 0 ≡ good r end
+pub plan_good_table : (table demands : List ℕ) (lengths : Lengths) (r : Room) (end : ℕ) → checked table 0 ≡ good r end
     → plan table demands lengths ≡ plan_room r demands lengths
 unfolding plan
-plan-good-table table demands lengths r end e = ap (λ (s : Step Room). plan_step s demands lengths) e
+plan_good_table table demands lengths r end e = ap (λ (s : Step Room). plan_step s demands lengths) e
 
 -- An accepted plan has a good table.
-pub plan-good : (table demands : List ℕ) (lengths : Lengths) (answer : Plan) → plan table demands lengths ≡ accepted answer → Good (checked table 0)
+pub plan_good : (table demands : List ℕ) (lengths : Lengths) (answer : Plan) → plan table demands lengths ≡ accepted answer → Good (checked table 0)
 unfolding plan
-plan-good table demands lengths answer e = (accepted-went Table (λ room. plan_room room demands lengths) (checked table 0) e).good-step
+plan_good table demands lengths answer e = (accepted_went Table (λ room. plan_room room demands lengths) (checked table 0) e).good_step
 
 -- ---- What an accepted plan says
 
@@ -157,22 +157,22 @@ pub record Planning (r : Room) (demands : List ℕ) (lengths : Lengths) (answer 
   pub demand_count : length demands ≡ length r.servers
   pub fits : (list : PlanList) → Fits (output list answer) (count_in r list) (entries lengths list)
 
-pub plan_room-accepted : (r : Room) (demands : List ℕ) (lengths : Lengths) (answer : Plan) → plan_room r demands lengths ≡ accepted answer
+pub plan_room_accepted : (r : Room) (demands : List ℕ) (lengths : Lengths) (answer : Plan) → plan_room r demands lengths ≡ accepted answer
     → Planning r demands lengths answer
-plan_room-accepted r demands lengths answer e =
-    let all = sym (plan_room-is r demands lengths) ∙ e in
-    let is = unless-is _ (plan_of r demands) answer all in
+plan_room_accepted r demands lengths answer e =
+    let all = sym (plan_room_is r demands lengths) ∙ e in
+    let is = unless_is _ (plan_of r demands) answer all in
     let same = unless-back _ _ (plan_of r demands) all in
     let small = unless-back _ _ (plan_of r demands) same.1 in
     let long = lists-long (plan_of r demands) (room_cords r) (length r.servers) lengths small.1 in
     record {
       is = is;
-      demand_count = not-differs (length demands) (length r.servers) same.0;
+      demand_count = not_differs (length demands) (length r.servers) same.0;
       fits = λ list. record { count = ap (λ (p : Plan). length (output list p)) is ∙ output-length r demands list; within = long list };
     }
   where
-    not-differs : (a b : ℕ) → not (eqb a b) ≡ false → a ≡ b
-    not-differs a b e = go (eqb a b) refl e
+    not_differs : (a b : ℕ) → not (eqb a b) ≡ false → a ≡ b
+    not_differs a b e = go (eqb a b) refl e
       where
         go : (t : Bool) → eqb a b ≡ t → not t ≡ false → a ≡ b
         go true q d = eqb-true a b q
@@ -185,22 +185,22 @@ record NotNine (o : PlanOutcome) : Type 0 where
   other : plan_number (answer_of o) ≡ 9 → ⊥
 
 -- The plan of a good room is accepted, or refused by 10 and on.
-room-other : (r : Room) (demands : List ℕ) (lengths : Lengths) → NotNine (plan_room r demands lengths)
-room-other r demands lengths =
-    subst NotNine (sym (plan_room-is r demands lengths))
-    (unless-either _ _ (plan_of r demands) NotNine (λ _. record { other = λ e. omega arith }) (λ _.
-    unless-either _ _ (plan_of r demands) NotNine (λ _. record { other = λ e. omega arith }) (λ _.
-    lists-either (plan_of r demands) (room_cords r) (length r.servers) lengths NotNine
-    (λ list place. record { other = list-not-nine list }) (record { other = λ e. omega arith }))))
+room_other : (r : Room) (demands : List ℕ) (lengths : Lengths) → NotNine (plan_room r demands lengths)
+room_other r demands lengths =
+    subst NotNine (sym (plan_room_is r demands lengths))
+    (unless_either _ _ (plan_of r demands) NotNine (λ _. record { other = λ e. omega arith }) (λ _.
+    unless_either _ _ (plan_of r demands) NotNine (λ _. record { other = λ e. omega arith }) (λ _.
+    lists_either (plan_of r demands) (room_cords r) (length r.servers) lengths NotNine
+    (λ list place. record { other = list_not_nine list }) (record { other = λ e. omega arith }))))
 
-step-nine : (s : Step Room) (demands : List ℕ) (lengths : Lengths) (n : ℕ) → IsNine (answer_of (plan_step s demands lengths)) n ↔ (s ≡ bad (LowsAboveLimit n))
-step-nine (good r end) demands lengths n =
-    (λ a. absurd ((room-other r demands lengths).other a.0), λ e. absurd (let z : ◌≡◌ {A = ℕ} 0 1 = cc in omega arith))
-step-nine (bad refusal) demands lengths n = (
-  λ a. ap bad (nine-lows refusal n a.0 a.1),
+step_nine : (s : Step Room) (demands : List ℕ) (lengths : Lengths) (n : ℕ) → IsNine (answer_of (plan_step s demands lengths)) n ↔ (s ≡ bad (LowsAboveLimit n))
+step_nine (good r end) demands lengths n =
+    (λ a. absurd ((room_other r demands lengths).other a.0), λ e. absurd (let z : ◌≡◌ {A = ℕ} 0 1 = cc in omega arith))
+step_nine (bad refusal) demands lengths n = (
+  λ a. ap bad (nine_lows refusal n a.0 a.1),
   λ e. let q : refusal ≡ LowsAboveLimit n = cc in rw q (refl, refl),
 )
 
-pub plan-nine : (table demands : List ℕ) (lengths : Lengths) (n : ℕ) → IsNine (answer_of (plan table demands lengths)) n ↔ Overloaded table n
+pub plan_nine : (table demands : List ℕ) (lengths : Lengths) (n : ℕ) → IsNine (answer_of (plan table demands lengths)) n ↔ Overloaded table n
 unfolding plan
-plan-nine table demands lengths n = Iff.trans (step-nine (checked table 0) demands lengths n) (checked-nine table n)
+plan_nine table demands lengths n = Iff.trans (step_nine (checked table 0) demands lengths n) (checked_nine table n)

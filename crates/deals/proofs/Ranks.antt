@@ -14,43 +14,43 @@ use Rattle.figures.specs.Sums.{on, sum}
 use Rattle.rooms.specs.Table.{most_watts, most_cords, highest_rank}
 use Rattle.rooms.specs.Trees.{beneath, sum_beneath, child_sum}
 use Rattle.rooms.specs.Credits.{tree_sum}
-use Rattle.figures.proofs.Sums.{on-comm, on-no, sum-cong, sum-zero, sum-suc, sum-le, sum-none, up, up_suc}
-use Rattle.rooms.proofs.Trees.{child_sum-cong, down, rise, child_sum-none}
-use Rattle.rooms.proofs.Credits.{tree_sum-step}
+use Rattle.figures.proofs.Sums.{on_comm, on_no, sum_cong, sum_zero, sum_suc, sum_le, sum_none, up, up_suc}
+use Rattle.rooms.proofs.Trees.{child_sum_cong, down, rise, child_sum_none}
+use Rattle.rooms.proofs.Credits.{tree_sum_step}
 use Rattle.figures.specs.Figures.{at, cell}
 use Rattle.deals.specs.Metrics.{Deal, deal_from, metrics, at_level}
 use Rattle.splits.specs.Split.{part}
 use Rattle.deals.specs.Dealing.{granted, reached}
 use Rattle.deals.specs.Held.{cut_at}
 use Rattle.deals.specs.Ranks.{NodeLists, CordLists, DealLists, Spare, list_beneath, DealMade}
-use Rattle.deals.proofs.Cuts.{Marked, ltb-cong, marked_start, marked_turn, marked-skip}
+use Rattle.deals.proofs.Cuts.{Marked, ltb_cong, marked_start, marked_turn, marked_skip}
 use Rattle.deals.specs.Passes.{listed_before, over_listed, cord_weight, NodesDealt, CordsDealt}
 use Rattle.deals.proofs.Gathered.{request_weight, Gathered}
 use Rattle.figures.specs.Places.{Present, Zeros}
 use Rattle.deals.specs.Levels.{ActiveNodes, CordsActive, CordsOf}
-use Rattle.deals.proofs.Ordering.{listed-before, listed-all}
+use Rattle.deals.proofs.Ordering.{listed-before, listed_all}
 use Rattle.figures.proofs.Lists.{figures-length}
-use Rattle.deals.proofs.Amounts.{child_cords-most}
-use Rattle.deals.proofs.Requests.{Dealable, later, deal_beneath, asked, request-asked, deal_beneath-unique, deal_beneath-all}
-use Rattle.deals.proofs.Equations.{Dealt, weights, weights-are, pcapmin-starts}
+use Rattle.deals.proofs.Amounts.{child_cords_most}
+use Rattle.deals.proofs.Requests.{Dealable, later, deal_beneath, asked, request_asked, deal_beneath_unique, deal_beneath_all}
+use Rattle.deals.proofs.Equations.{Dealt, weights, weights_are, pcapmin_starts}
 use Rattle.deals.proofs.Computed.{pcapmin, request, starts_of, amount_of, measured, dealt, granted-at, Startable}
-use Rattle.deals.proofs.Bounds.{asked-most, request-most}
-use Rattle.deals.proofs.Totals.{request_total-is, starts_below-is}
-use Rattle.deals.proofs.NodeSums.{on-zero}
+use Rattle.deals.proofs.Bounds.{asked_most, request_most}
+use Rattle.deals.proofs.Totals.{request_total_is, starts_below_is}
+use Rattle.deals.proofs.NodeSums.{on_zero}
 
 -- What is left before a level is what the limit has over the Requests of the higher ones and the starts of this one and the lower ones. The
 -- definition's bracket has Pcapmin, which is no more, in the place of the starts of the lower levels. Where the bracket counts, the
 -- Request takes what the starts leave, since it leaves them theirs.
-row-left : (limit higher lower starts start left whole request : ℕ) → lower ≤ starts → left + higher + (starts + start) ≡ limit
+row_left : (limit higher lower starts start left whole request : ℕ) → lower ≤ starts → left + higher + (starts + start) ≡ limit
     → request ≡ min (limit - higher - lower) (whole + start) → starts + (request + higher) ≤ limit → request ≡ start + min left whole
-row-left limit higher lower starts start left whole request less is row fits = omega arith
+row_left limit higher lower starts start left whole request less is row fits = omega arith
 
 -- ---- One rank of a deal, over functions of the places
 
 -- Whether a node is cut, by what its children ask.
-cut-is : (d : Deal) (n j : ℕ) → cut_at d (metrics d) n j ≡ ltb (request d n j) (asked d (request d) n j)
+cut_is : (d : Deal) (n j : ℕ) → cut_at d (metrics d) n j ≡ ltb (request d n j) (asked d (request d) n j)
 unfolding request asked
-cut-is d n j = refl
+cut_is d n j = refl
 
 module _ (d : Deal) (ok : Dealable d) where
   open d use {nodes, parent, limit, cords, node, level, want, start, levels}
@@ -59,50 +59,50 @@ module _ (d : Deal) (ok : Dealable d) where
   pub beneath-sum : (figure : ℕ → ℕ) (sums : ℕ → ℕ → ℕ) (j : ℕ)
       → ((n : ℕ) → n < nodes → sums n j ≡ child_sum nodes parent n (λ m. sums m j) + child_sum cords node n (at_level d j figure))
       → (n : ℕ) → n < nodes → sums n j ≡ tree_sum parent nodes (λ m. child_sum cords node m (at_level d j figure)) n
-  beneath-sum figure sums j by-children = down nodes (λ n. sums n j ≡ tree_sum parent nodes (λ m. child_sum cords node m (at_level d j figure)) n) (λ n l ih.
+  beneath-sum figure sums j by_children = down nodes (λ n. sums n j ≡ tree_sum parent nodes (λ m. child_sum cords node m (at_level d j figure)) n) (λ n l ih.
       let f : ℕ → ℕ = λ m. child_sum cords node m (at_level d j figure) in
       let k : child_sum nodes parent n (λ m. sums m j) ≡ child_sum nodes parent n (tree_sum parent nodes f)
-      = child_sum-cong nodes parent n _ _ (λ m lm q. ih m lm (subst (λ (z : ℕ). z ≤ m) q (ok.rises m lm))) in
-      omega (arith, by-children n l, tree_sum-step nodes parent ok.rises f n l))
+      = child_sum_cong nodes parent n _ _ (λ m lm q. ih m lm (subst (λ (z : ℕ). z ≤ m) q (ok.rises m lm))) in
+      omega (arith, by_children n l, tree_sum_step nodes parent ok.rises f n l))
 
   -- The starts beneath a node, over all levels.
-  pub starts-all : (n : ℕ) → n < nodes → sum levels (starts_of d n) ≡ deal_beneath d n start
-  starts-all n l =
-      sum-cong levels _ _ (λ j h. deal_beneath-unique d ok (at_level d j start) (λ m. starts_of d m j) (λ m lm. (dealt d ok).starts m j lm h ∙ add_comm _ _) n l)
-      ∙ deal_beneath-all d ok n start
+  pub starts_all : (n : ℕ) → n < nodes → sum levels (starts_of d n) ≡ deal_beneath d n start
+  starts_all n l =
+      sum_cong levels _ _ (λ j h. deal_beneath_unique d ok (at_level d j start) (λ m. starts_of d m j) (λ m lm. (dealt d ok).starts m j lm h ∙ add_comm _ _) n l)
+      ∙ deal_beneath_all d ok n start
 
   -- A level that no cord has: no starts and no Request, and no node is cut there.
   module _ (j : ℕ) (h : j < levels) (none : (c : ℕ) → c < cords → level c ≡ j → ⊥) where
-    child_cords-none : (f : ℕ → ℕ) (n : ℕ) → child_sum cords node n (at_level d j f) ≡ 0
-    child_cords-none f n = sum-cong cords _ _ (λ c l. zero-at c l) ∙ sum-zero cords
+    child_cords_none : (f : ℕ → ℕ) (n : ℕ) → child_sum cords node n (at_level d j f) ≡ 0
+    child_cords_none f n = sum_cong cords _ _ (λ c l. zero_at c l) ∙ sum_zero cords
       where
-        zero-at : (c : ℕ) → c < cords → on (eqb (node c) (suc n)) (at_level d j f c) ≡ 0
-        zero-at c l = on-zero (eqb (node c) (suc n)) (at_level d j f c) (on-no (eqb (level c) j) (f c) (ne_eqb (level c) j (none c l)))
+        zero_at : (c : ℕ) → c < cords → on (eqb (node c) (suc n)) (at_level d j f c) ≡ 0
+        zero_at c l = on_zero (eqb (node c) (suc n)) (at_level d j f c) (on_no (eqb (level c) j) (f c) (ne_eqb (level c) j (none c l)))
 
     pub starts_none : (n : ℕ) → n < nodes → starts_of d n j ≡ 0
     starts_none = down nodes (λ n. starts_of d n j ≡ 0) (λ n l ih.
-        omega (arith, (dealt d ok).starts n j l h, child_cords-none start n, child_sum-none nodes parent n (λ m. starts_of d m j) (λ m lm q. ih m lm (later d ok m n lm q))))
+        omega (arith, (dealt d ok).starts n j l h, child_cords_none start n, child_sum_none nodes parent n (λ m. starts_of d m j) (λ m lm q. ih m lm (later d ok m n lm q))))
 
-    asked-none : (n : ℕ) → n < nodes → ((m : ℕ) → m < nodes → n < m → request d m j ≡ 0) → asked d (request d) n j ≡ 0
+    asked_none : (n : ℕ) → n < nodes → ((m : ℕ) → m < nodes → n < m → request d m j ≡ 0) → asked d (request d) n j ≡ 0
     unfolding asked
-    asked-none n l none_below =
-        omega (arith, child_cords-none want n, child_sum-none nodes parent n (λ m. request d m j) (λ m lm q. none_below m lm (later d ok m n lm q)))
+    asked_none n l none_below =
+        omega (arith, child_cords_none want n, child_sum_none nodes parent n (λ m. request d m j) (λ m lm q. none_below m lm (later d ok m n lm q)))
 
-    pub request-none : (n : ℕ) → n < nodes → request d n j ≡ 0
-    request-none = down nodes (λ n. request d n j ≡ 0) (λ n l ih.
-        omega (arith, request-asked d ok (pcapmin d) (request d) (measured d ok) n l j h, asked-none n l ih))
+    pub request_none : (n : ℕ) → n < nodes → request d n j ≡ 0
+    request_none = down nodes (λ n. request d n j ≡ 0) (λ n l ih.
+        omega (arith, request_asked d ok (pcapmin d) (request d) (measured d ok) n l j h, asked_none n l ih))
 
-    pub cut-none : (n : ℕ) → n < nodes → cut_at d (metrics d) n j ≡ false
-    cut-none n l = cut-is d n j ∙ le-ltb (request d n j) (asked d (request d) n j) (omega (arith, asked-none n l (λ m lm q. request-none m lm)))
+    pub cut_none : (n : ℕ) → n < nodes → cut_at d (metrics d) n j ≡ false
+    cut_none n l = cut_is d n j ∙ le-ltb (request d n j) (asked d (request d) n j) (omega (arith, asked_none n l (λ m lm q. request_none m lm)))
 
 -- ---- The deal of lists
 
 module _ (parents limits nodes levels lows starts wants : List ℕ) (lists : DealLists parents limits nodes levels lows starts wants) where
   ns : NodeLists parents limits
-  ns = lists.of-nodes
+  ns = lists.of_nodes
 
   cs : CordLists (length parents) nodes levels lows starts wants
-  cs = lists.of-cords
+  cs = lists.of_cords
 
   abbrev the_deal : Deal
   the_deal = deal_from parents limits nodes levels lows starts wants
@@ -130,45 +130,45 @@ module _ (parents limits nodes levels lows starts wants : List ℕ) (lists : Dea
   -- What the deal asks of its starts, and its equations.
   started : Startable the_deal
   unfolding deal_from starts_of request
-  started = record { least = cs.least; most = cs.ordered; within = lists.starts-within }
+  started = record { least = cs.least; most = cs.ordered; within = lists.starts_within }
 
   equations : Dealt the_deal base req (amount_of the_deal) (reached the_deal (metrics the_deal))
   equations = dealt the_deal dealable
 
   -- The Requests of a level and above leave the lower levels their starts.
-  starts-left : (n : ℕ) → n < length parents → (k j : ℕ) → suc j + k ≡ highest_rank → sum j (base n) + (req n j + up k (suc j) (req n)) ≤ at limits n
+  starts_left : (n : ℕ) → n < length parents → (k j : ℕ) → suc j + k ≡ highest_rank → sum j (base n) + (req n j + up k (suc j) (req n)) ≤ at limits n
   unfolding deal_from
-  starts-left n l k j e =
+  starts_left n l k j e =
       omega (
         arith,
         lists.starts_fit n j l (omega arith),
-        starts_below-is the_deal n l j (omega arith),
-        request_total-is the_deal n l (suc k) j (omega arith),
+        starts_below_is the_deal n l j (omega arith),
+        request_total_is the_deal n l (suc k) j (omega arith),
         up_suc k j (req n),
       )
 
   -- Those starts are no less than the Pcapmin of the lower levels.
-  lower-starts : (n j : ℕ) → n < length parents → j < highest_rank → sum j (pcap n) ≤ sum j (base n)
+  lower_starts : (n j : ℕ) → n < length parents → j < highest_rank → sum j (pcap n) ≤ sum j (base n)
   unfolding deal_from
-  lower-starts n j l h =
-      sum-le j (pcap n) (base n) (λ i below.
-      pcapmin-starts the_deal dealable (pcapmin the_deal) (request the_deal) (measured the_deal dealable) (starts_of the_deal) (amount_of the_deal) (reached the_deal (metrics the_deal)) started equations n i l (omega arith))
+  lower_starts n j l h =
+      sum_le j (pcap n) (base n) (λ i below.
+      pcapmin_starts the_deal dealable (pcapmin the_deal) (request the_deal) (measured the_deal dealable) (starts_of the_deal) (amount_of the_deal) (reached the_deal (metrics the_deal)) started equations n i l (omega arith))
 
   -- What the children ask is their weights and the starts.
   asked_is : (n j : ℕ) → n < length parents → j < highest_rank → weights the_deal base req n j + base n j ≡ asked the_deal req n j
   unfolding deal_from
-  asked_is = weights-are the_deal dealable (pcapmin the_deal) (request the_deal) (measured the_deal dealable) (starts_of the_deal) (amount_of the_deal) (reached the_deal (metrics the_deal)) started equations
+  asked_is = weights_are the_deal dealable (pcapmin the_deal) (request the_deal) (measured the_deal dealable) (starts_of the_deal) (amount_of the_deal) (reached the_deal (metrics the_deal)) started equations
 
   -- A node's Request is its starts and the lesser of what is left and of its children's weights.
-  request-is : (n : ℕ) → n < length parents → (k j : ℕ) → suc j + k ≡ highest_rank → (left : ℕ)
+  request_is : (n : ℕ) → n < length parents → (k j : ℕ) → suc j + k ≡ highest_rank → (left : ℕ)
       → left + up k (suc j) (req n) + sum (suc j) (base n) ≡ at limits n → req n j ≡ base n j + min left (weights the_deal base req n j)
   unfolding deal_from
-  request-is n l k j e left is =
-      row-left (at limits n) (up k (suc j) (req n)) (sum j (pcap n)) (sum j (base n)) (base n j) left (weights the_deal base req n j) (req n j)
-      (lower-starts n j l (omega arith))
-      (ap (λ (z : ℕ). left + up k (suc j) (req n) + z) (sym (sum-suc j (base n))) ∙ is)
+  request_is n l k j e left is =
+      row_left (at limits n) (up k (suc j) (req n)) (sum j (pcap n)) (sum j (base n)) (base n j) left (weights the_deal base req n j) (req n j)
+      (lower_starts n j l (omega arith))
+      (ap (λ (z : ℕ). left + up k (suc j) (req n) + z) (sym (sum_suc j (base n))) ∙ is)
       ((measured the_deal dealable).request n l k j e ∙ ap (λ (z : ℕ). min (at limits n - up k (suc j) (req n) - sum j (pcap n)) z) (sym (asked_is n j l (omega arith))))
-      (starts-left n l k j e)
+      (starts_left n l k j e)
 
   -- Before the ranks below `above`: what the ranks dealt and the starts of those to come leave of each limit, the Requests of the ranks
   -- dealt, in the rows, where they cut a node, and their cords' grants.
@@ -178,60 +178,60 @@ module _ (parents limits nodes levels lows starts wants : List ℕ) (lists : Dea
     pub left_is : (n : ℕ) → n < length parents → at left n + up higher above (req n) + sum above (base n) ≡ at limits n
     pub cuts_are : (n : ℕ) → n < length parents → Marked the_deal above n (at cuts n)
     pub filled : (n j : ℕ) → n < length parents → above ≤ j → j < highest_rank → cell rows n j ≡ req n j
-    pub grants-are : (c : ℕ) → c < length nodes → above ≤ at levels c → at grants c ≡ at (granted the_deal) c
+    pub grants_are : (c : ℕ) → c < length nodes → above ≤ at levels c → at grants c ≡ at (granted the_deal) c
 
   -- Before the first rank.
-  pub state-start : (rows : List (List ℕ)) (left cuts grants : List ℕ) → Spare parents limits nodes starts left → Zeros (length parents) cuts → State highest_rank rows left cuts grants
+  pub state_start : (rows : List (List ℕ)) (left cuts grants : List ℕ) → Spare parents limits nodes starts left → Zeros (length parents) cuts → State highest_rank rows left cuts grants
   unfolding deal_from sum_beneath up
-  state-start rows left cuts grants spare uncut = record {
+  state_start rows left cuts grants spare uncut = record {
     higher = 0;
     sum_is = omega arith;
     left_is = λ n l.
-        let e : list_beneath parents nodes starts n ≡ sum highest_rank (base n) = sym (starts-all the_deal dealable n l) in
+        let e : list_beneath parents nodes starts n ≡ sum highest_rank (base n) = sym (starts_all the_deal dealable n l) in
         omega (arith, spare.over n l);
     cuts_are = λ n l. subst (Marked the_deal highest_rank n) (sym (uncut.none n l)) (marked_start the_deal n);
     filled = λ n j l a b. absurd (omega arith);
-    grants-are = λ c l h. absurd (omega (arith, cs.ranked c l));
+    grants_are = λ c l h. absurd (omega (arith, cs.ranked c l));
   }
 
   -- After the last.
-  pub state-end : {rows : List (List ℕ)} {left cuts grants : List ℕ} → length grants ≡ length nodes → State 0 rows left cuts grants → DealMade the_deal left cuts grants
+  pub state_end : {rows : List (List ℕ)} {left cuts grants : List ℕ} → length grants ≡ length nodes → State 0 rows left cuts grants → DealMade the_deal left cuts grants
   unfolding deal_from granted request
-  state-end {grants = grants} size s = record {
-    grants-are = ext_get_or 0 grants (granted the_deal) (size ∙ sym (figures-length (length nodes) _)) (λ c l. s.grants-are c (omega arith) (omega arith));
-    left_is = λ n l. omega (arith, s.left_is n l, sum-none (base n), request_total-is the_deal n l s.higher 0 s.sum_is);
-    cuts_are = λ n j l b. (s.cuts_are n l).cut-is j (omega arith) (omega arith);
+  state_end {grants = grants} size s = record {
+    grants_are = ext_get_or 0 grants (granted the_deal) (size ∙ sym (figures-length (length nodes) _)) (λ c l. s.grants_are c (omega arith) (omega arith));
+    left_is = λ n l. omega (arith, s.left_is n l, sum_none (base n), request_total_is the_deal n l s.higher 0 s.sum_is);
+    cuts_are = λ n j l b. (s.cuts_are n l).cut_is j (omega arith) (omega arith);
   }
 
   -- ---- A level that no cord has
 
   module _ (j : ℕ) {rows : List (List ℕ)} {left cuts grants : List ℕ} (none : (c : ℕ) → c < length nodes → at levels c ≡ j → ⊥)
       (blank : (n : ℕ) → n < length parents → cell rows n j ≡ 0) (s : State (suc j) rows left cuts grants) where
-    pub state-skip : State j rows left cuts grants
+    pub state_skip : State j rows left cuts grants
     unfolding deal_from
-    state-skip = record {
+    state_skip = record {
       higher = suc s.higher;
       sum_is = omega (arith, s.sum_is);
       left_is = λ n l. omega (
         arith,
         s.left_is n l,
         up_suc s.higher j (req n),
-        sum-suc j (base n),
-        request-none the_deal dealable j (omega (arith, s.sum_is)) none n l,
+        sum_suc j (base n),
+        request_none the_deal dealable j (omega (arith, s.sum_is)) none n l,
         starts_none the_deal dealable j (omega (arith, s.sum_is)) none n l,
       );
-      cuts_are = λ n l. marked-skip the_deal n j (omega (arith, s.sum_is)) (s.cuts_are n l) (cut-none the_deal dealable j (omega (arith, s.sum_is)) none n l);
+      cuts_are = λ n l. marked_skip the_deal n j (omega (arith, s.sum_is)) (s.cuts_are n l) (cut_none the_deal dealable j (omega (arith, s.sum_is)) none n l);
       filled = λ n i l a b.
           ⊎_elim
-          (λ e. subst (λ (k : ℕ). cell rows n k ≡ req n k) e (blank n l ∙ sym (request-none the_deal dealable j (omega (arith, s.sum_is)) none n l)))
+          (λ e. subst (λ (k : ℕ). cell rows n k ≡ req n k) e (blank n l ∙ sym (request_none the_deal dealable j (omega (arith, s.sum_is)) none n l)))
           (λ more. s.filled n i l more b)
           (eq-or-lt_of_le a);
-      grants-are = λ c l h. go c l (eqb (at levels c) j) refl h;
+      grants_are = λ c l h. go c l (eqb (at levels c) j) refl h;
     }
       where
         go : (c : ℕ) → c < length nodes → (t : Bool) → eqb (at levels c) j ≡ t → j ≤ at levels c → at grants c ≡ at (granted the_deal) c
         go c l true e h = absurd (none c l (eqb-true (at levels c) j e))
-        go c l false e h = s.grants-are c l (let q : at levels c ≡ j → ⊥ = eqb-false (at levels c) j e in omega arith)
+        go c l false e h = s.grants_are c l (let q : at levels c ≡ j → ⊥ = eqb-false (at levels c) j e in omega arith)
 
   -- ---- A level that some cord has: what its passes ask, and what they leave
 
@@ -240,26 +240,26 @@ module _ (parents limits nodes levels lows starts wants : List ℕ) (lists : Dea
   of_level j figure n k = sum k (λ c. on (eqb (at nodes c) (suc n)) (on (eqb (at levels c) j) (figure c)))
 
   module _ (j : ℕ) {rows₀ : List (List ℕ)} {left cuts grants : List ℕ} (s : State (suc j) rows₀ left cuts grants) (listed : List ℕ) (of : CordsOf levels j listed) where
-    level-fits : j < highest_rank
-    level-fits = omega (arith, s.sum_is)
+    level_fits : j < highest_rank
+    level_fits = omega (arith, s.sum_is)
 
     -- Sums over the list are sums over all cords.
-    listed-level : (figure : ℕ → ℕ) (n : ℕ) → over_listed listed nodes figure n ≡ of_level j figure n (length nodes)
-    listed-level figure n =
-        listed-all of (λ c. on (eqb (at nodes c) (suc n)) (figure c))
-        ∙ ap (λ (k : ℕ). sum k (λ c. on (eqb (at levels c) j) (on (eqb (at nodes c) (suc n)) (figure c)))) cs.levels-size
-        ∙ sum-cong (length nodes) _ _ (λ c l. on-comm (eqb (at levels c) j) (eqb (at nodes c) (suc n)) (figure c))
+    listed_level : (figure : ℕ → ℕ) (n : ℕ) → over_listed listed nodes figure n ≡ of_level j figure n (length nodes)
+    listed_level figure n =
+        listed_all of (λ c. on (eqb (at nodes c) (suc n)) (figure c))
+        ∙ ap (λ (k : ℕ). sum k (λ c. on (eqb (at levels c) j) (on (eqb (at nodes c) (suc n)) (figure c)))) cs.levels_size
+        ∙ sum_cong (length nodes) _ _ (λ c l. on_comm (eqb (at levels c) j) (eqb (at nodes c) (suc n)) (figure c))
 
-    listed-level-before : (figure : ℕ → ℕ) (n i : ℕ) → i < length listed → listed_before listed nodes figure n i ≡ of_level j figure n (at listed i)
-    listed-level-before figure n i h =
+    listed_level_before : (figure : ℕ → ℕ) (n i : ℕ) → i < length listed → listed_before listed nodes figure n i ≡ of_level j figure n (at listed i)
+    listed_level_before figure n i h =
         listed-before of (λ c. on (eqb (at nodes c) (suc n)) (figure c)) i h
-        ∙ sum-cong (at listed i) _ _ (λ c l. on-comm (eqb (at levels c) j) (eqb (at nodes c) (suc n)) (figure c))
+        ∙ sum_cong (at listed i) _ _ (λ c l. on_comm (eqb (at levels c) j) (eqb (at nodes c) (suc n)) (figure c))
 
     module _ (starts₀ weights₀ : List ℕ)
-        (own-starts : (n : ℕ) → n < length parents → at starts₀ n ≡ over_listed listed nodes (at starts) n)
-        (own-weights : (n : ℕ) → n < length parents → at weights₀ n ≡ over_listed listed nodes (cord_weight starts wants) n) where
-      level-most : (figure : ℕ → ℕ) → ((c : ℕ) → c < length nodes → figure c ≤ most_watts) → (c : ℕ) → c < length nodes → on (eqb (at levels c) j) (figure c) ≤ most_watts
-      level-most figure h c l = go (eqb (at levels c) j)
+        (own_starts : (n : ℕ) → n < length parents → at starts₀ n ≡ over_listed listed nodes (at starts) n)
+        (own_weights : (n : ℕ) → n < length parents → at weights₀ n ≡ over_listed listed nodes (cord_weight starts wants) n) where
+      level_most : (figure : ℕ → ℕ) → ((c : ℕ) → c < length nodes → figure c ≤ most_watts) → (c : ℕ) → c < length nodes → on (eqb (at levels c) j) (figure c) ≤ most_watts
+      level_most figure h c l = go (eqb (at levels c) j)
         where
           go : (t : Bool) → on t (figure c) ≤ most_watts
           go true = h c l
@@ -269,88 +269,88 @@ module _ (parents limits nodes levels lows starts wants : List ℕ) (lists : Dea
           → ((c : ℕ) → c < length nodes → figure c ≤ most_watts) → sum (length parents) (at list) ≤ most_cords * most_watts
       unfolding deal_from
       figures-sum list figure is most =
-          le_trans (le_of_eq (sum-cong (length parents) _ _ (λ n l. is n l ∙ listed-level figure n)))
-          (le_trans (child_cords-most (length parents) (length nodes) (at nodes) dealable.hangs dealable.here (at_level the_deal j figure) most_watts (level-most figure most)) (mul-le-mul_right most_watts cs.few))
+          le_trans (le_of_eq (sum_cong (length parents) _ _ (λ n l. is n l ∙ listed_level figure n)))
+          (le_trans (child_cords_most (length parents) (length nodes) (at nodes) dealable.hangs dealable.here (at_level the_deal j figure) most_watts (level_most figure most)) (mul-le-mul_right most_watts cs.few))
 
-      pub sums-most : (sum (length parents) (at starts₀) ≤ most_cords * most_watts) × (sum (length parents) (at weights₀) ≤ most_cords * most_watts)
-      sums-most = (
-        figures-sum starts₀ (at starts) own-starts (λ c l. omega (arith, cs.ordered c l, cs.most c l)),
-        figures-sum weights₀ (cord_weight starts wants) own-weights (λ c l. omega (arith, cs.most c l)),
+      pub sums_most : (sum (length parents) (at starts₀) ≤ most_cords * most_watts) × (sum (length parents) (at weights₀) ≤ most_cords * most_watts)
+      sums_most = (
+        figures-sum starts₀ (at starts) own_starts (λ c l. omega (arith, cs.ordered c l, cs.most c l)),
+        figures-sum weights₀ (cord_weight starts wants) own_weights (λ c l. omega (arith, cs.most c l)),
       )
 
-      beneath-is : (list : List ℕ) (figure : ℕ → ℕ) (sums : ℕ → ℕ → ℕ) → ((n : ℕ) → n < length parents → at list n ≡ over_listed listed nodes figure n)
+      beneath_is : (list : List ℕ) (figure : ℕ → ℕ) (sums : ℕ → ℕ → ℕ) → ((n : ℕ) → n < length parents → at list n ≡ over_listed listed nodes figure n)
           → ((n : ℕ) → n < length parents → sums n j ≡ child_sum (length parents) (at parents) n (λ m. sums m j) + child_sum (length nodes) (at nodes) n (at_level the_deal j figure))
           → (n : ℕ) → n < length parents → tree_sum (at parents) (length parents) (at list) n ≡ sums n j
       unfolding deal_from sum_beneath
-      beneath-is list figure sums is by-children n l =
-          sum-cong (length parents) _ _ (λ m h. ap (λ (z : ℕ). on (beneath (at parents) (length parents) n (suc m)) z) (is m h ∙ listed-level figure m))
-          ∙ sym (beneath-sum the_deal dealable figure sums j by-children n l)
+      beneath_is list figure sums is by_children n l =
+          sum_cong (length parents) _ _ (λ m h. ap (λ (z : ℕ). on (beneath (at parents) (length parents) n (suc m)) z) (is m h ∙ listed_level figure m))
+          ∙ sym (beneath-sum the_deal dealable figure sums j by_children n l)
 
-      starts-beneath : (n : ℕ) → n < length parents → tree_sum (at parents) (length parents) (at starts₀) n ≡ base n j
+      starts_beneath : (n : ℕ) → n < length parents → tree_sum (at parents) (length parents) (at starts₀) n ≡ base n j
       unfolding deal_from
-      starts-beneath = beneath-is starts₀ (at starts) base own-starts (λ n l. equations.starts n j l level-fits)
+      starts_beneath = beneath_is starts₀ (at starts) base own_starts (λ n l. equations.starts n j l level_fits)
 
-      pub gather-asks : (n : ℕ) → n < length parents → at left n + tree_sum (at parents) (length parents) (at starts₀) n ≤ most_watts
-      gather-asks n l = omega (arith, starts-beneath n l, s.left_is n l, sum-suc j (base n), ns.most n l)
+      pub gather_asks : (n : ℕ) → n < length parents → at left n + tree_sum (at parents) (length parents) (at starts₀) n ≤ most_watts
+      gather_asks n l = omega (arith, starts_beneath n l, s.left_is n l, sum_suc j (base n), ns.most n l)
 
       module _ (rows' : List (List ℕ)) (left' cuts' wholes : List ℕ) (g : Gathered parents j left cuts starts₀ weights₀ rows₀ left' cuts' wholes rows') where
         -- The starts beneath each node.
         abbrev bases : ℕ → ℕ
         bases = tree_sum (at parents) (length parents) (at starts₀)
 
-        bases-are : (n : ℕ) → n < length parents → bases n ≡ base n j
-        bases-are = starts-beneath
+        bases_are : (n : ℕ) → n < length parents → bases n ≡ base n j
+        bases_are = starts_beneath
 
         -- The children's weights, once those of the child nodes are the deal's.
         whole_by : (n : ℕ) → n < length parents → ((m : ℕ) → m < length parents → n < m → cell rows' m j ≡ req m j) → at wholes n ≡ weights the_deal base req n j
         unfolding deal_from weights
         whole_by n l ih =
             let c : child_sum (length parents) (at parents) n (request_weight rows' j bases) ≡ child_sum (length parents) (at parents) n (λ m. req m j - base m j)
-            = child_sum-cong (length parents) (at parents) n _ _ (λ m lm q. ap₂ ◌-◌ (ih m lm (subst (λ (z : ℕ). z ≤ m) q (ns.rises m lm))) (bases-are m lm)) in
-            omega (arith, g.children n l, own-weights n l, listed-level (cord_weight starts wants) n)
+            = child_sum_cong (length parents) (at parents) n _ _ (λ m lm q. ap₂ ◌-◌ (ih m lm (subst (λ (z : ℕ). z ≤ m) q (ns.rises m lm))) (bases_are m lm)) in
+            omega (arith, g.children n l, own_weights n l, listed_level (cord_weight starts wants) n)
 
-        request-left : (n : ℕ) → n < length parents → req n j ≡ base n j + min (at left n) (weights the_deal base req n j)
-        request-left n l = request-is n l s.higher j s.sum_is (at left n) (s.left_is n l)
+        request_left : (n : ℕ) → n < length parents → req n j ≡ base n j + min (at left n) (weights the_deal base req n j)
+        request_left n l = request_is n l s.higher j s.sum_is (at left n) (s.left_is n l)
 
-        requests-are : (n : ℕ) → n < length parents → cell rows' n j ≡ req n j
-        requests-are = down (length parents) (λ n. cell rows' n j ≡ req n j) (λ n l ih.
-            g.request n l ∙ ap₂ (λ (b w : ℕ). b + min (at left n) w) (bases-are n l) (whole_by n l ih) ∙ sym (request-left n l))
+        requests_are : (n : ℕ) → n < length parents → cell rows' n j ≡ req n j
+        requests_are = down (length parents) (λ n. cell rows' n j ≡ req n j) (λ n l ih.
+            g.request n l ∙ ap₂ (λ (b w : ℕ). b + min (at left n) w) (bases_are n l) (whole_by n l ih) ∙ sym (request_left n l))
 
         weight_is : (n : ℕ) → n < length parents → request_weight rows' j bases n ≡ req n j - base n j
-        weight_is n l = ap₂ ◌-◌ (requests-are n l) (bases-are n l)
+        weight_is n l = ap₂ ◌-◌ (requests_are n l) (bases_are n l)
 
         whole_is : (n : ℕ) → n < length parents → at wholes n ≡ weights the_deal base req n j
-        whole_is n l = whole_by n l (λ m lm q. requests-are m lm)
+        whole_is n l = whole_by n l (λ m lm q. requests_are m lm)
 
         -- A node is cut where less is left than its children weigh.
         cut_left : (n : ℕ) → n < length parents → cut_at the_deal (metrics the_deal) n j ≡ ltb (at left n) (at wholes n)
         cut_left n l =
-            cut-is the_deal n j
-            ∙ ltb-cong (req n j) (asked the_deal req n j) (at left n) (at wholes n)
-            (λ h. omega (arith, request-left n l, asked_is n j l level-fits, whole_is n l))
-            (λ h. omega (arith, request-left n l, asked_is n j l level-fits, whole_is n l))
+            cut_is the_deal n j
+            ∙ ltb_cong (req n j) (asked the_deal req n j) (at left n) (at wholes n)
+            (λ h. omega (arith, request_left n l, asked_is n j l level_fits, whole_is n l))
+            (λ h. omega (arith, request_left n l, asked_is n j l level_fits, whole_is n l))
 
-        children-is : (n m : ℕ) → m ≤ length parents → child_sum m (at parents) n (request_weight rows' j bases) ≡ sum m (λ h. on (eqb (at parents h) (suc n)) (req h j - base h j))
-        children-is n m h = sum-cong m _ _ (λ i l. ap (λ (z : ℕ). on (eqb (at parents i) (suc n)) z) (weight_is i (omega arith)))
+        children_is : (n m : ℕ) → m ≤ length parents → child_sum m (at parents) n (request_weight rows' j bases) ≡ sum m (λ h. on (eqb (at parents h) (suc n)) (req h j - base h j))
+        children_is n m h = sum_cong m _ _ (λ i l. ap (λ (z : ℕ). on (eqb (at parents i) (suc n)) z) (weight_is i (omega arith)))
 
-        pub nodes-ask : (n : ℕ) → n < length parents → (bases n ≤ cell rows' n j) × (cell rows' n j ≤ most_watts) × (request_weight rows' j bases n ≤ at wholes n)
+        pub nodes_ask : (n : ℕ) → n < length parents → (bases n ≤ cell rows' n j) × (cell rows' n j ≤ most_watts) × (request_weight rows' j bases n ≤ at wholes n)
             × (at wholes n ≤ most_cords * most_watts) × (child_sum (length parents) (at parents) n (request_weight rows' j bases) ≤ at wholes n)
         unfolding deal_from request
-        nodes-ask n l =
-            let r = requests-are n l in
-            let rm : req n j ≤ most_watts = request-most the_deal dealable cs.few ns.most cs.most n j l level-fits in
-            let am : asked the_deal req n j ≤ most_cords * most_watts = asked-most the_deal dealable cs.few ns.most cs.most n j l level-fits in
+        nodes_ask n l =
+            let r = requests_are n l in
+            let rm : req n j ≤ most_watts = request_most the_deal dealable cs.few ns.most cs.most n j l level_fits in
+            let am : asked the_deal req n j ≤ most_cords * most_watts = asked_most the_deal dealable cs.few ns.most cs.most n j l level_fits in
             let w = whole_is n l in
-            let a = asked_is n j l level-fits in
+            let a = asked_is n j l level_fits in
             let q = g.request n l in
             (omega arith, omega arith, omega arith, omega arith, omega (arith, g.children n l))
 
-        module _ (active : List ℕ) (count : ℕ) (nodes-active : ActiveNodes parents active count) (cords-active : CordsActive nodes levels j active count)
+        module _ (active : List ℕ) (count : ℕ) (nodes_active : ActiveNodes parents active count) (cords_active : CordsActive nodes levels j active count)
             (amounts before dealts : List ℕ) (nd : NodesDealt parents active count (request_weight rows' j bases) wholes amounts before dealts) where
           -- From each parent to its children: the parent of an active node is active too.
-          amounts-are : (m : ℕ) → m < length parents → Present active count m → at amounts m ≡ amount_of the_deal m j
+          amounts_are : (m : ℕ) → m < length parents → Present active count m → at amounts m ≡ amount_of the_deal m j
           unfolding deal_from
-          amounts-are = rise (length parents) (λ m. Present active count m → at amounts m ≡ amount_of the_deal m j) (λ m l ih some. go m l ih some (at parents m) refl)
+          amounts_are = rise (length parents) (λ m. Present active count m → at amounts m ≡ amount_of the_deal m j) (λ m l ih some. go m l ih some (at parents m) refl)
             where
               go : (m : ℕ) → m < length parents → ((i : ℕ) → i < m → Present active count i → at amounts i ≡ amount_of the_deal i j) → Present active count m → (v : ℕ) → at parents m ≡ v → at amounts m ≡ amount_of the_deal m j
               go m l ih some zero e = nd.root m l some e ∙ weight_is m l ∙ sym (equations.root m j l e)
@@ -358,45 +358,45 @@ module _ (parents limits nodes levels lows starts wants : List ℕ) (lists : Dea
                   let u : n < m = subst (λ (z : ℕ). z ≤ m) e (ns.rises m l) in
                   nd.inner m n l some e
                   ∙ ap (λ (z : ℕ). part (at amounts n) (at wholes n) (child_sum m (at parents) n (request_weight rows' j bases)) z) (weight_is m l)
-                  ∙ ap (λ (z : ℕ). part (at amounts n) (at wholes n) z (req m j - base m j)) (children-is n m (omega arith))
-                  ∙ ap₂ (λ (x w : ℕ). part x w (sum m (λ h. on (eqb (at parents h) (suc n)) (req h j - base h j))) (req m j - base m j)) (ih n u (λ none. some (nodes-active.closed m n l e none))) (whole_is n (omega arith))
+                  ∙ ap (λ (z : ℕ). part (at amounts n) (at wholes n) z (req m j - base m j)) (children_is n m (omega arith))
+                  ∙ ap₂ (λ (x w : ℕ). part x w (sum m (λ h. on (eqb (at parents h) (suc n)) (req h j - base h j))) (req m j - base m j)) (ih n u (λ none. some (nodes_active.closed m n l e none))) (whole_is n (omega arith))
                   ∙ sym (equations.inner m n j l e)
 
-          served-is : (n : ℕ) → n < length parents → Present active count n → at before n ≡ child_sum (length parents) (at parents) n (λ m. req m j - base m j)
-          served-is n l some = nd.served n l some ∙ children-is n (length parents) (le_refl (length parents))
+          served_is : (n : ℕ) → n < length parents → Present active count n → at before n ≡ child_sum (length parents) (at parents) n (λ m. req m j - base m j)
+          served_is n l some = nd.served n l some ∙ children_is n (length parents) (le_refl (length parents))
 
           -- A node with a listed cord on it is active.
           module _ (i n : ℕ) (h : i < length listed) (hangs : at nodes (at listed i) ≡ suc n) where
-            cord-fits : at listed i < length nodes
-            cord-fits = omega (arith, of.within i h, cs.levels-size)
+            cord_fits : at listed i < length nodes
+            cord_fits = omega (arith, of.within i h, cs.levels_size)
 
             there : n < length parents
-            there = omega (arith, cs.within (at listed i) cord-fits, hangs)
+            there = omega (arith, cs.within (at listed i) cord_fits, hangs)
 
             some : Present active count n
-            some = cords-active (at listed i) n cord-fits (of.ranked i h) hangs
+            some = cords_active (at listed i) n cord_fits (of.ranked i h) hangs
 
-            pub cords-ask : (at amounts n ≤ most_watts) × (at amounts n ≤ at wholes n) × (at wholes n ≤ most_cords * most_watts)
+            pub cords_ask : (at amounts n ≤ most_watts) × (at amounts n ≤ at wholes n) × (at wholes n ≤ most_cords * most_watts)
                 × (at dealts n ≡ at amounts n * at before n / at wholes n)
                 × (at before n + over_listed listed nodes (cord_weight starts wants) n ≤ at wholes n)
             unfolding deal_from weights
-            cords-ask =
-                let asks = nodes-ask n there in
+            cords_ask =
+                let asks = nodes_ask n there in
                 let most = nd.most n there some in (
                   omega (arith, most, asks.1),
                   omega (arith, most, asks.2),
                   asks.3,
-                  nd.dealt-is n there some,
-                  omega (arith, served-is n there some, whole_is n there, listed-level (cord_weight starts wants) n),
+                  nd.dealt_is n there some,
+                  omega (arith, served_is n there some, whole_is n there, listed_level (cord_weight starts wants) n),
                 )
 
           -- What reaches a cord of this level.
-          reached-is : (c n i : ℕ) → c < length nodes → at nodes c ≡ suc n → at levels c ≡ i
+          reached_is : (c n i : ℕ) → c < length nodes → at nodes c ≡ suc n → at levels c ≡ i
               → reached the_deal (metrics the_deal) c
               ≡ part (amount_of the_deal n i) (weights the_deal base req n i)
               (child_sum (length parents) (at parents) n (λ m. req m i - base m i) + of_level i (cord_weight starts wants) n c) (cord_weight starts wants c)
           unfolding deal_from
-          reached-is c n i l q e =
+          reached_is c n i l q e =
               subst
               (λ (i : ℕ). reached the_deal (metrics the_deal) c
               ≡ part (amount_of the_deal n i) (weights the_deal base req n i)
@@ -405,45 +405,45 @@ module _ (parents limits nodes levels lows starts wants : List ℕ) (lists : Dea
 
           module _ (grants' : List ℕ) (cd : CordsDealt listed nodes starts wants wholes amounts before grants grants') where
             -- A listed cord's grant is the deal's.
-            listed-grant : (i n : ℕ) → i < length listed → at nodes (at listed i) ≡ suc n → at grants' (at listed i) ≡ at (granted the_deal) (at listed i)
+            listed_grant : (i n : ℕ) → i < length listed → at nodes (at listed i) ≡ suc n → at grants' (at listed i) ≡ at (granted the_deal) (at listed i)
             unfolding deal_from
-            listed-grant i n h q =
+            listed_grant i n h q =
                 let c : ℕ = at listed i in
                 let ln = there i n h q in
                 let some = some i n h q in
                 cd.ours i n h q
                 ∙ ap (λ (z : ℕ). at starts c + z)
-                (ap₂ (λ (x w : ℕ). part x w (at before n + listed_before listed nodes (cord_weight starts wants) n i) (cord_weight starts wants c)) (amounts-are n ln some) (whole_is n ln)
-                ∙ ap₂ (λ (a b : ℕ). part (amount_of the_deal n j) (weights the_deal base req n j) (a + b) (cord_weight starts wants c)) (served-is n ln some) (listed-level-before (cord_weight starts wants) n i h)
-                ∙ sym (reached-is c n j (cord-fits i n h q) q (of.ranked i h)))
-                ∙ sym (granted-at the_deal dealable c (cord-fits i n h q))
+                (ap₂ (λ (x w : ℕ). part x w (at before n + listed_before listed nodes (cord_weight starts wants) n i) (cord_weight starts wants c)) (amounts_are n ln some) (whole_is n ln)
+                ∙ ap₂ (λ (a b : ℕ). part (amount_of the_deal n j) (weights the_deal base req n j) (a + b) (cord_weight starts wants c)) (served_is n ln some) (listed_level_before (cord_weight starts wants) n i h)
+                ∙ sym (reached_is c n j (cord_fits i n h q) q (of.ranked i h)))
+                ∙ sym (granted-at the_deal dealable c (cord_fits i n h q))
 
-            pub state-turn : State j rows' left' cuts' grants'
+            pub state_turn : State j rows' left' cuts' grants'
             unfolding deal_from
-            state-turn = record {
+            state_turn = record {
               higher = suc s.higher;
               sum_is = omega (arith, s.sum_is);
               left_is = λ n l. omega (
                 arith,
                 g.left_is n l,
                 whole_is n l,
-                request-left n l,
+                request_left n l,
                 s.left_is n l,
                 up_suc s.higher j (req n),
-                sum-suc j (base n),
+                sum_suc j (base n),
               );
-              cuts_are = λ n l. marked_turn the_deal n j level-fits (s.cuts_are n l) (at left n) (at wholes n) (cut_left n l) (g.cuts_are n l);
-              filled = λ n i l a b. ⊎_elim (λ e. subst (λ (k : ℕ). cell rows' n k ≡ req n k) e (requests-are n l))
+              cuts_are = λ n l. marked_turn the_deal n j level_fits (s.cuts_are n l) (at left n) (at wholes n) (cut_left n l) (g.cuts_are n l);
+              filled = λ n i l a b. ⊎_elim (λ e. subst (λ (k : ℕ). cell rows' n k ≡ req n k) e (requests_are n l))
                   (λ more. g.others n i (λ q. absurd (omega arith)) ∙ s.filled n i l more b) (eq-or-lt_of_le a);
-              grants-are = λ c l h. go c l (eqb (at levels c) j) refl h (at nodes c) refl;
+              grants_are = λ c l h. go c l (eqb (at levels c) j) refl h (at nodes c) refl;
             }
               where
                 go : (c : ℕ) → c < length nodes → (t : Bool) → eqb (at levels c) j ≡ t → j ≤ at levels c → (v : ℕ) → at nodes c ≡ v → at grants' c ≡ at (granted the_deal) c
                 go c l false e h v q =
                     let ne : at levels c ≡ j → ⊥ = eqb-false (at levels c) j e in
-                    cd.others c l (λ i u same. ne (ap (at levels) (sym same) ∙ of.ranked i u)) ∙ s.grants-are c l (omega arith)
+                    cd.others c l (λ i u same. ne (ap (at levels) (sym same) ∙ of.ranked i u)) ∙ s.grants_are c l (omega arith)
                 go c l true e h zero q = absurd (omega (arith, cs.hangs c l))
                 go c l true e h (suc n) q =
-                    let found = of.all c (omega (arith, cs.levels-size)) (eqb-true (at levels c) j e) in
+                    let found = of.all c (omega (arith, cs.levels_size)) (eqb-true (at levels c) j e) in
                     subst (λ (c : ℕ). at grants' c ≡ at (granted the_deal) c) found.here
-                    (listed-grant found.place n found.below (ap (at nodes) found.here ∙ q))
+                    (listed_grant found.place n found.below (ap (at nodes) found.here ∙ q))

@@ -15,8 +15,8 @@ use Rattle.figures.proofs.Lists.{figures-at, figures-length}
 use Rattle.rooms.proofs.Cords.{cords_of-length}
 
 -- Figures that are 0 from place k on stand at every place of their list, past its end too.
-figures-everywhere : (k : ℕ) (g : ℕ → ℕ) → ((i : ℕ) → k ≤ i → g i ≡ 0) → (i : ℕ) → at (figures k g) i ≡ g i
-figures-everywhere k g none i = go (dec_le k i)
+figures_everywhere : (k : ℕ) (g : ℕ → ℕ) → ((i : ℕ) → k ≤ i → g i ≡ 0) → (i : ℕ) → at (figures k g) i ≡ g i
+figures_everywhere k g none i = go (dec_le k i)
   where
     go : Dec (k ≤ i) → at (figures k g) i ≡ g i
     go (yes h) = get_or-eq_default (figures k g) 0 {n = i} (omega (arith, figures-length k g)) ∙ sym (none i h)
@@ -37,7 +37,7 @@ module _ (r : Room) where
 
   pub parents_of-at : (m : ℕ) → at (parents_of r) m ≡ parent_of r m
   unfolding parents_of
-  parents_of-at = figures-everywhere (length r.nodes) _ (λ m h. ap (λ (n : Node). n.parent) (no_node m h))
+  parents_of-at = figures_everywhere (length r.nodes) _ (λ m h. ap (λ (n : Node). n.parent) (no_node m h))
 
   pub limits_of-length : length (limits_of r) ≡ length r.nodes
   unfolding limits_of
@@ -45,7 +45,7 @@ module _ (r : Room) where
 
   pub limits_of-at : (m : ℕ) → at (limits_of r) m ≡ limit (node_at r m)
   unfolding limits_of
-  limits_of-at = figures-everywhere (length r.nodes) _ (λ m h. ap limit (no_node m h))
+  limits_of-at = figures_everywhere (length r.nodes) _ (λ m h. ap limit (no_node m h))
 
   -- ---- One figure a cord
 
@@ -55,13 +55,13 @@ module _ (r : Room) where
 
   pub nodes_of-at : (c : ℕ) → at (nodes_of r) c ≡ (cord_at r c).node
   unfolding nodes_of
-  nodes_of-at = figures-everywhere (room_cords r) _ (λ c h. ap (λ (x : RoomCord). x.node) (no-cord c h))
+  nodes_of-at = figures_everywhere (room_cords r) _ (λ c h. ap (λ (x : RoomCord). x.node) (no-cord c h))
 
   pub shares_of-at : (c : ℕ) → at (shares_of r) c ≡ (cord_at r c).share
-  shares_of-at = figures-everywhere (room_cords r) _ (λ c h. ap (λ (x : RoomCord). x.share) (no-cord c h))
+  shares_of-at = figures_everywhere (room_cords r) _ (λ c h. ap (λ (x : RoomCord). x.share) (no-cord c h))
 
   pub servers_of-at : (c : ℕ) → at (servers_of r) c ≡ (cord_at r c).server
-  servers_of-at = figures-everywhere (room_cords r) _ (λ c h. ap (λ (x : RoomCord). x.server) (no-cord c h))
+  servers_of-at = figures_everywhere (room_cords r) _ (λ c h. ap (λ (x : RoomCord). x.server) (no-cord c h))
 
   pub levels_of-length : length (levels_of r) ≡ room_cords r
   unfolding levels_of
@@ -89,9 +89,9 @@ module _ (r : Room) where
       levels = highest_rank;
     }
 
-    pub deal_of-is : deal_of r starts wants ≡ room_deal
+    pub deal_of_is : deal_of r starts wants ≡ room_deal
     unfolding deal_of deal_from
-    deal_of-is = λ i. record {
+    deal_of_is = λ i. record {
       nodes = parents_of-length i;
       parent = λ m. parents_of-at m i;
       limit = λ m. limits_of-at m i;

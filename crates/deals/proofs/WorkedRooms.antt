@@ -46,7 +46,7 @@ table_h = table_h_with 500
 
 -- Its plan whole, in which each root holds a cord, and the cord that wants no more than it uses has its want; and room H turned back by
 -- 10 to 15.
-room-h : (figures_of (plan table_h (400 ∷ 400 ∷ []) (exact 3 2)) ≡ planned 13 (120 ∷ 120 ∷ 280 ∷ []) (240 ∷ 280 ∷ []) (0 ∷ 0 ∷ 0 ∷ []) (1 ∷ 0 ∷ 2 ∷ []))
+room_h : (figures_of (plan table_h (400 ∷ 400 ∷ []) (exact 3 2)) ≡ planned 13 (120 ∷ 120 ∷ 280 ∷ []) (240 ∷ 280 ∷ []) (0 ∷ 0 ∷ 0 ∷ []) (1 ∷ 0 ∷ 2 ∷ []))
     × (plan table_h (400 ∷ []) (short_from Grants 0) ≡ refused (DemandCount 2))
     × (plan table_h (400 ∷ 16777216 ∷ []) (short_from Grants 0) ≡ refused (DemandTooLarge 1))
     × (plan table_h (400 ∷ 400 ∷ []) (short_from Grants 2) ≡ refused (ListTooShort Grants 3))
@@ -56,7 +56,7 @@ room-h : (figures_of (plan table_h (400 ∷ 400 ∷ []) (exact 3 2)) ≡ planned
 unfolding plan
     follow word ensure end many total form_of percent node cord range load server table
     beneath server_lows lows first_node overloaded
-room-h = (refl, refl, refl, refl, refl, refl, refl)
+room_h = (refl, refl, refl, refl, refl, refl, refl)
 
 -- A root with 150 W over a node with 100 W and a cord. What hangs on the node wants 1,000 W, the cord wants 100; no cord has a low.
 abbrev table_n : List ℕ
@@ -83,23 +83,23 @@ table_p =
 
 -- The first grants are 20, 22, 46 and 52. The used watts, 2 W less, are passed on through the node before those 2 W are split.
 -- (No headroom: both roots ask for all of their limits.)
-through-nodes : figures_of (plan table_p (100 ∷ 100 ∷ 60 ∷ []) (exact 4 3))
+through_nodes : figures_of (plan table_p (100 ∷ 100 ∷ 60 ∷ []) (exact 4 3))
     ≡ planned 2 (20 ∷ 20 ∷ 47 ∷ 53 ∷ []) (40 ∷ 47 ∷ 53 ∷ []) (0 ∷ 0 ∷ 0 ∷ 0 ∷ []) (3 ∷ 0 ∷ 1 ∷ 1 ∷ [])
 unfolding plan
     follow word ensure end many total form_of percent node cord range load server table
     beneath server_lows lows first_node overloaded
-through-nodes = refl
+through_nodes = refl
 
 -- What programs that nearly get there get wrong: weights that are excesses; child nodes before cords; and a rank that counts
 -- across breakers.
-near-misses : (figures_of (plan table_n (1000 ∷ 100 ∷ []) (exact 2 2)) ≡ planned 0 (75 ∷ 75 ∷ []) (75 ∷ 75 ∷ []) (0 ∷ 0 ∷ []) (1 ∷ 1 ∷ []))
+near_misses : (figures_of (plan table_n (1000 ∷ 100 ∷ []) (exact 2 2)) ≡ planned 0 (75 ∷ 75 ∷ []) (75 ∷ 75 ∷ []) (0 ∷ 0 ∷ []) (1 ∷ 1 ∷ []))
     × (figures_of (plan table_o (1 ∷ 1 ∷ []) (exact 2 2)) ≡ planned 0 (0 ∷ 1 ∷ []) (0 ∷ 1 ∷ []) (0 ∷ 0 ∷ []) (1 ∷ 0 ∷ []))
     × (figures_of (plan table_s (430 ∷ 430 ∷ 430 ∷ 430 ∷ []) (exact 4 4))
     ≡ planned 0 (430 ∷ 270 ∷ 270 ∷ 270 ∷ []) (430 ∷ 270 ∷ 270 ∷ 270 ∷ []) (0 ∷ 0 ∷ 0 ∷ 0 ∷ []) (0 ∷ 1 ∷ 1 ∷ 1 ∷ []))
 unfolding plan
     follow word ensure end many total form_of percent node cord range load server table
     beneath server_lows lows first_node overloaded
-near-misses = (refl, refl, refl)
+near_misses = (refl, refl, refl)
 
 -- ---- Headroom
 

@@ -14,8 +14,8 @@ use Rattle.rooms.specs.Trees.{child_sum, ParentsFirst}
 -- want.
 pub record LevelCords (node_count : ℕ) (listed nodes starts wants : List ℕ) : Type 0 where
   pub few : length listed ≤ most_cords
-  pub starts-size : length starts ≡ length nodes
-  pub wants-size : length wants ≡ length nodes
+  pub starts_size : length starts ≡ length nodes
+  pub wants_size : length wants ≡ length nodes
   pub within : (i : ℕ) → i < length listed → at listed i < length nodes
   pub rises : (i k : ℕ) → i < k → k < length listed → at listed i < at listed k
   pub hangs : (i : ℕ) → i < length listed → 1 ≤ at nodes (at listed i)
@@ -37,8 +37,8 @@ cord_weight starts wants c = at wants c - at starts c
 
 -- The starts and the weights of the listed cords are summed on their nodes.
 pub record CordsSummed (node_count : ℕ) (listed nodes starts wants bases wholes : List ℕ) : Type 0 where
-  pub on-starts : (n : ℕ) → n < node_count → at bases n ≡ over_listed listed nodes (at starts) n
-  pub on-weights : (n : ℕ) → n < node_count → at wholes n ≡ over_listed listed nodes (cord_weight starts wants) n
+  pub on_starts : (n : ℕ) → n < node_count → at bases n ≡ over_listed listed nodes (at starts) n
+  pub on_weights : (n : ℕ) → n < node_count → at wholes n ≡ over_listed listed nodes (cord_weight starts wants) n
 
 -- A row for each place of a node, with a figure for each level.
 abbrev pub FullRows : List (List ℕ) → Type 0
@@ -57,19 +57,19 @@ cut_mark mark level left whole = max mark (on (ltb left whole) (suc level))
 -- The active nodes have their weights in a list; a node that is not active has no children with weight.
 pub record WeightsListed (parents active : List ℕ) (count : ℕ) (wholes weights : List ℕ) : Type 0 where
   pub nodes : ActiveNodes parents active count
-  pub wholes-size : length parents ≤ length wholes
-  pub weights-size : length parents ≤ length weights
+  pub wholes_size : length parents ≤ length wholes
+  pub weights_size : length parents ≤ length weights
   pub within : (n : ℕ) → n < length parents → Present active count n → at weights n ≤ at wholes n
   pub idle : (n : ℕ) → n < length parents → Absent active count n → at wholes n ≡ 0
 
 -- What the weights of a rank are gathered from: what is left of each limit, and the weights of the cords on each node, which together are
 -- no more than the most cords can weigh. On a node that is not active there are none.
-pub record MayWeigh (parents active : List ℕ) (count : ℕ) (left own : List ℕ) (weights-length : ℕ) : Type 0 where
+pub record MayWeigh (parents active : List ℕ) (count : ℕ) (left own : List ℕ) (weights_length : ℕ) : Type 0 where
   pub nodes : ActiveNodes parents active count
   pub rises : ParentsFirst (length parents) (at parents)
-  pub left-size : length left ≡ length parents
-  pub own-fit : (length parents ≤ length own) × (sum (length parents) (at own) ≤ most_cords * most_watts)
-  pub weights-size : length parents ≤ weights-length
+  pub left_size : length left ≡ length parents
+  pub own_fit : (length parents ≤ length own) × (sum (length parents) (at own) ≤ most_cords * most_watts)
+  pub weights_size : length parents ≤ weights_length
   pub idle : (n : ℕ) → n < length parents → Absent active count n → at own n ≡ 0
 
 -- From what is left of each limit over the Requests of higher ranks and the starts of this rank and those below, and the weights of the
@@ -77,7 +77,7 @@ pub record MayWeigh (parents active : List ℕ) (count : ℕ) (left own : List �
 pub record Weighed (parents active : List ℕ) (count : ℕ) (left own left' wholes weights : List ℕ) : Type 0 where
   pub children : (n : ℕ) → n < length parents → at wholes n ≡ at own n + child_sum (length parents) (at parents) n (weight_of left wholes)
   pub left_is : (n : ℕ) → n < length parents → at left' n ≡ at left n - at wholes n
-  pub weights-are : (n : ℕ) → n < length parents → weight_of weights wholes n ≡ weight_of left wholes n
+  pub weights_are : (n : ℕ) → n < length parents → weight_of weights wholes n ≡ weight_of left wholes n
   pub listed : WeightsListed parents active count wholes weights
 
 -- What the Requests of a rank are made from, beside the weights: the starts of the cords on each node, which with what is left of a limit
@@ -85,7 +85,7 @@ pub record Weighed (parents active : List ℕ) (count : ℕ) (left own left' who
 pub record MayRequest (parents active : List ℕ) (count level : ℕ) (left cuts starts : List ℕ) (rows : List (List ℕ)) : Type 0 where
   pub few : length parents ≤ most_nodes
   pub ranked : level < highest_rank
-  pub cuts-size : length cuts ≡ length parents
+  pub cuts_size : length cuts ≡ length parents
   pub starts_fit : (length parents ≤ length starts) × (sum (length parents) (at starts) ≤ most_cords * most_watts)
   pub enough : (n : ℕ) → n < length parents → tree_sum (at parents) (length parents) (at starts) n + at left n ≤ most_watts
   pub idle : (n : ℕ) → n < length parents → Absent active count n → (at starts n ≡ 0) × (cell rows n level ≡ 0)
@@ -109,7 +109,7 @@ pub record NodesDealt (parents active : List ℕ) (count : ℕ) (weight : ℕ �
       → at amounts m ≡ part (at amounts n) (at wholes n) (child_sum m (at parents) n weight) (weight m)
   pub most : (m : ℕ) → m < length parents → Present active count m → at amounts m ≤ weight m
   pub served : (n : ℕ) → n < length parents → Present active count n → at before n ≡ child_sum (length parents) (at parents) n weight
-  pub dealt-is : (n : ℕ) → n < length parents → Present active count n → at dealt n ≡ at amounts n * at before n / at wholes n
+  pub dealt_is : (n : ℕ) → n < length parents → Present active count n → at dealt n ≡ at amounts n * at before n / at wholes n
 
 -- The grants after a rank: a listed cord has its start and its part of its node's amount, every other what it had.
 pub record CordsDealt (listed nodes starts wants wholes amounts before grants grants' : List ℕ) : Type 0 where

@@ -1,5 +1,5 @@
 -- All that documents 01 and 02 ask to hold of plans and of judged lists, in their order, whatever the table and the demands. Statements
--- only; proofs/Promises.antt proves each: `FirstKept` as `first-kept`, and so on. (Of Read and Write, of splits and of the other
+-- only; proofs/Promises.antt proves each: `FirstKept` as `first_kept`, and so on. (Of Read and Write, of splits and of the other
 -- operations, the file of this name in their crate; crates/promises has all of them in one record.)
 use Rattle.std.specs.Prelude.{◌≡◌, true, false, List, map, ◌↔◌, ℕ, suc, ◌+◌, ◌-◌, ◌≤◌, ◌<◌, length}
 use Rattle.rooms.specs.Part.{good, Good}

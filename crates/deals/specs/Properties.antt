@@ -1,6 +1,6 @@
 -- What else is proved of every plan, though no document asks for it: that wants and amounts lie in their ranges, what a node's Requests of
 -- a rank and above sum to, that they leave the lower ranks their starts, and that the figures fit their words. Statements only;
--- proofs/Promises.antt proves each: `SecondWantsInRange` as `second-wants-in-range`, and so on.
+-- proofs/Promises.antt proves each: `SecondWantsInRange` as `second_wants_in_range`, and so on.
 use Rattle.std.specs.Prelude.{◌≡◌, List, [], map, ℕ, suc, ◌+◌, ◌*◌, ◌-◌, ◌≤◌, ◌<◌, ◌^◌, min, leb, length, get_or, take, drop}
 use Rattle.rooms.specs.Part.{good}
 use Rattle.rooms.specs.Table.{Room, most_watts, most_cords, room_cords}

@@ -13,17 +13,17 @@ use Rattle.deals.specs.Levels.{LevelLists}
 -- The nodes of a room: for each its parent's number and its limit.
 pub record NodeLists (parents limits : List ℕ) : Type 0 where
   pub few : length parents ≤ most_nodes
-  pub limits-size : length limits ≡ length parents
+  pub limits_size : length limits ≡ length parents
   pub rises : ParentsFirst (length parents) (at parents)
   pub most : (m : ℕ) → m < length parents → at limits m ≤ most_watts
 
 -- The cords of a room of so many nodes: for each its node's number, its level (rank − 1), its low, its start and its want.
 pub record CordLists (node_count : ℕ) (nodes levels lows starts wants : List ℕ) : Type 0 where
   pub few : length nodes ≤ most_cords
-  pub levels-size : length levels ≡ length nodes
-  pub lows-size : length lows ≡ length nodes
-  pub starts-size : length starts ≡ length nodes
-  pub wants-size : length wants ≡ length nodes
+  pub levels_size : length levels ≡ length nodes
+  pub lows_size : length lows ≡ length nodes
+  pub starts_size : length starts ≡ length nodes
+  pub wants_size : length wants ≡ length nodes
   pub hangs : (c : ℕ) → c < length nodes → 1 ≤ at nodes c
   pub within : (c : ℕ) → c < length nodes → at nodes c ≤ node_count
   pub ranked : (c : ℕ) → c < length nodes → at levels c < highest_rank
@@ -38,10 +38,10 @@ list_beneath parents nodes watts n = sum_beneath (length parents) (at parents) (
 -- Lists of which a deal can be made: no node has a limit that the lows beneath it exceed, nor at any rank a Request that the starts
 -- beneath it exceed, and the Requests of any rank and above leave the lower ranks their starts.
 pub record DealLists (parents limits nodes levels lows starts wants : List ℕ) : Type 0 where
-  pub of-nodes : NodeLists parents limits
-  pub of-cords : CordLists (length parents) nodes levels lows starts wants
+  pub of_nodes : NodeLists parents limits
+  pub of_cords : CordLists (length parents) nodes levels lows starts wants
   pub lows-within : (n : ℕ) → n < length parents → list_beneath parents nodes lows n ≤ at limits n
-  pub starts-within : (n j : ℕ) → n < length parents → j < highest_rank
+  pub starts_within : (n j : ℕ) → n < length parents → j < highest_rank
       → cell (metrics (deal_from parents limits nodes levels lows starts wants)).starts n j
       ≤ cell (metrics (deal_from parents limits nodes levels lows starts wants)).requests n j
   pub starts_fit : StartsFit (deal_from parents limits nodes levels lows starts wants)
@@ -70,6 +70,6 @@ pub record SomeDeal (parents : List ℕ) (rows : List (List ℕ)) (order : List 
 -- A deal is made: its grants, what each limit has over the Requests, and for each node the highest rank at which it is cut, 0 if there is
 -- none (a rank is its level + 1).
 pub record DealMade (d : Deal) (left cuts grants : List ℕ) : Type 0 where
-  pub grants-are : grants ≡ granted d
+  pub grants_are : grants ≡ granted d
   pub left_is : (n : ℕ) → n < d.nodes → at left n + requests_at (metrics d) n ≡ d.limit n
   pub cuts_are : (n j : ℕ) → n < d.nodes → j < highest_rank → cut_from d (metrics d) j n ≡ ltb j (at cuts n)

@@ -16,33 +16,33 @@ use Rattle.demands.specs.declared.DemandReading.{DemandReading}
 
 module _ (reading : DemandReading) (list : List ℕ) where
   -- A line that ends where there is space, and where there is none.
-  pub closed-stores : reading.count < space list
+  pub closed_stores : reading.count < space list
       → closed (held_reading reading list) ≡ held_reading (with (reading.count + 1) empty_line) (set list reading.count (line_demand reading.line))
   unfolding closed
-  closed-stores h = rw (lt-ltb _ _ h)
+  closed_stores h = rw (lt-ltb _ _ h)
 
-  pub closed-full : space list ≤ reading.count → closed (held_reading reading list) ≡ held_reading (with reading.count empty_line) list
+  pub closed_full : space list ≤ reading.count → closed (held_reading reading list) ≡ held_reading (with reading.count empty_line) list
   unfolding closed
-  closed-full h = rw (le-ltb _ _ h)
+  closed_full h = rw (le-ltb _ _ h)
 
   -- A newline, and any other byte.
   pub fed_byte-newline : (byte : ℕ) → byte ≡ newline → fed_byte (held_reading reading list) byte ≡ closed (held_reading reading list)
   unfolding fed_byte
   fed_byte-newline byte h = rw (eq-eqb _ _ h)
 
-  pub fed_byte-other : (byte : ℕ) → (byte ≡ newline → ⊥)
+  pub fed_byte_other : (byte : ℕ) → (byte ≡ newline → ⊥)
       → fed_byte (held_reading reading list) byte ≡ held_reading (with reading.count (extended reading.line byte)) list
   unfolding fed_byte
-  fed_byte-other byte h = rw (ne_eqb _ _ h)
+  fed_byte_other byte h = rw (ne_eqb _ _ h)
 
   -- The end of the text, inside a line and at the start of one.
-  pub finished-inside : has_byte reading.line ≡ true → finished (held_reading reading list) ≡ closed (held_reading reading list)
+  pub finished_inside : has_byte reading.line ≡ true → finished (held_reading reading list) ≡ closed (held_reading reading list)
   unfolding finished
-  finished-inside h = rw h
+  finished_inside h = rw h
 
-  pub finished-between : has_byte reading.line ≡ false → finished (held_reading reading list) ≡ held_reading reading list
+  pub finished_between : has_byte reading.line ≡ false → finished (held_reading reading list) ≡ held_reading reading list
   unfolding finished
-  finished-between h = rw h
+  finished_between h = rw h
 
 -- ---- the loop over a piece
 
@@ -51,8 +51,8 @@ pub record Going (h₀ : HeldReading) (piece : List ℕ) (h : HeldReading) (i : 
   pub bound : i ≤ length piece
   pub same : fed h (drop i piece) ≡ fed h₀ piece
 
-pub going-first : (h₀ : HeldReading) (piece : List ℕ) → Going h₀ piece h₀ 0
-going-first h₀ piece = record { bound = omega arith; same = refl }
+pub going_first : (h₀ : HeldReading) (piece : List ℕ) → Going h₀ piece h₀ 0
+going_first h₀ piece = record { bound = omega arith; same = refl }
 
 pub going_next : (h₀ : HeldReading) (piece : List ℕ) (h h' : HeldReading) (i : ℕ) → Going h₀ piece h i → i < length piece
     → h' ≡ fed_byte h (get_or piece i 0)
@@ -62,6 +62,6 @@ going_next h₀ piece h h' i g inside e =
     let split : drop i piece ≡ get_or piece i 0 ∷ drop (i + 1) piece = rw (add-one, drop-cons piece i 0) in
     record { bound = omega arith; same = ap (λ (x : HeldReading). fed x (drop (i + 1) piece)) e ∙ rw split at g.same }
 
-pub going-last : (h₀ : HeldReading) (piece : List ℕ) (h : HeldReading) (i : ℕ) → Going h₀ piece h i → length piece ≤ i → h ≡ fed h₀ piece
+pub going_last : (h₀ : HeldReading) (piece : List ℕ) (h : HeldReading) (i : ℕ) → Going h₀ piece h i → length piece ≤ i → h ≡ fed h₀ piece
 unfolding fed
-going-last h₀ piece h i g past = rw (drop_of_length-le piece past) at g.same
+going_last h₀ piece h i g past = rw (drop_of_length-le piece past) at g.same

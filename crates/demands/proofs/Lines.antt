@@ -14,7 +14,7 @@ use Rattle.demands.specs.Text.{most_digits, no_demand, before, is_digit, are_dig
 use Rattle.demands.specs.Reading.{empty_line, extended, has_byte, line_demand}
 use Rattle.demands.specs.declared.DemandLine.{DemandLine}
 use Rattle.demands.specs.declared.DemandLine.TheVariants.{Digits, Other}
-use Rattle.figures.proofs.Tests.{and-false}
+use Rattle.figures.proofs.Tests.{and_false}
 
 -- ---- one line
 
@@ -23,16 +23,16 @@ unfoldable pub extended_by : DemandLine → List ℕ → DemandLine
 extended_by line [] = line
 extended_by line (byte ∷ bytes) = extended_by (extended line byte) bytes
 
-pub extended_by-append : (line : DemandLine) (bytes : List ℕ) (byte : ℕ)
+pub extended_by_append : (line : DemandLine) (bytes : List ℕ) (byte : ℕ)
     → extended_by line (bytes ++ (byte ∷ [])) ≡ extended (extended_by line bytes) byte
 unfolding extended_by
-extended_by-append line [] byte = refl
-extended_by-append line (b ∷ bytes) byte = extended_by-append (extended line b) bytes byte
+extended_by_append line [] byte = refl
+extended_by_append line (b ∷ bytes) byte = extended_by_append (extended line b) bytes byte
 
-stays-other : (bytes : List ℕ) → extended_by Other bytes ≡ Other
+stays_other : (bytes : List ℕ) → extended_by Other bytes ≡ Other
 unfolding extended_by
-stays-other [] = refl
-stays-other (b ∷ bytes) = stays-other bytes
+stays_other [] = refl
+stays_other (b ∷ bytes) = stays_other bytes
 
 -- So many digits give a number of no more digits.
 grown : (count number digit : ℕ) → number < 10 ^ count → digit ≤ 9 → number * 10 + digit < 10 ^ (count + 1)
@@ -53,11 +53,11 @@ line_demand-after : (count number : ℕ) (line : List ℕ) → count ≤ most_di
 unfolding extended_by are_digits number_after
 line_demand-after count number [] h k =
     let few : leb count most_digits ≡ true = le-leb count 8 h in
-    rw (add-zero, few) (sym-and (leb 1 count))
+    rw (add-zero, few) (sym_and (leb 1 count))
   where
-    sym-and : (test : Bool) → cond test number no_demand ≡ cond (test && true) number no_demand
-    sym-and true = refl
-    sym-and false = refl
+    sym_and : (test : Bool) → cond test number no_demand ≡ cond (test && true) number no_demand
+    sym_and true = refl
+    sym_and false = refl
 line_demand-after count number (b ∷ line) h k =
     go (is_digit b) refl (eq-or-lt_of_le h) (line_demand-after (count + 1) (number * 10 + (b - 48)) line)
   where
@@ -75,20 +75,20 @@ line_demand-after count number (b ∷ line) h k =
         (extended_by (cond (test && (ltb count most_digits && ltb number 10000000)) (Digits (count + 1) (number * 10 + (b - 48))) Other) line)
         ≡ cond (leb 1 (count + suc (length line)) && (leb (count + suc (length line)) most_digits && (test && are_digits line)))
         (number_after (number * 10 + (b - 48)) line) no_demand
-    go false q w rec = rw (stays-other line, and-false, and-false)
+    go false q w rec = rw (stays_other line, and_false, and_false)
     go true q (inl e) rec =
         let long : most_digits < count + suc (length line) = omega arith in
         let many : leb (count + suc (length line)) most_digits ≡ false = lt-leb _ _ long in
         let none : ltb count most_digits ≡ false = rw e in
-        rw (none, stays-other line, many, and-false)
+        rw (none, stays_other line, many, and_false)
     go true q (inr few) rec =
         let n : count + suc (length line) ≡ count + 1 + length line = omega arith in
         rw (lt-ltb _ _ few, lt-ltb _ _ (small count number few k), n) (rec (omega arith) (grown count number (b - 48) k (digit q)))
 
 -- A line that is read from its start comes to its demand.
-pub line_demand-whole : (line : List ℕ) → line_demand (extended_by empty_line line) ≡ demand_of line
+pub line_demand_whole : (line : List ℕ) → line_demand (extended_by empty_line line) ≡ demand_of line
 unfolding demand_of
-line_demand-whole line =
+line_demand_whole line =
     let n : 0 + length line ≡ length line = omega arith in
     rw n at (line_demand-after 0 0 line (omega arith) (omega arith))
 
@@ -102,10 +102,10 @@ extended-has_byte (Digits count number) byte = go (is_digit byte && (ltb count m
     go false = refl
 extended-has_byte Other byte = refl
 
-pub has_byte-some : (line : DemandLine) (byte : ℕ) (bytes : List ℕ) → has_byte (extended_by line (byte ∷ bytes)) ≡ true
+pub has_byte_some : (line : DemandLine) (byte : ℕ) (bytes : List ℕ) → has_byte (extended_by line (byte ∷ bytes)) ≡ true
 unfolding extended_by
-has_byte-some line byte [] = extended-has_byte line byte
-has_byte-some line byte (b ∷ bytes) = has_byte-some (extended line byte) b bytes
+has_byte_some line byte [] = extended-has_byte line byte
+has_byte_some line byte (b ∷ bytes) = has_byte_some (extended line byte) b bytes
 
 -- ---- the lines of a text, some bytes being read
 
@@ -114,18 +114,18 @@ unfoldable pub before_all : List ℕ → List (List ℕ) → List (List ℕ)
 before_all [] rest = rest
 before_all (byte ∷ bytes) rest = before byte (before_all bytes rest)
 
-pub before_all-ended : (line : List ℕ) (rest : List (List ℕ)) → before_all line ([] ∷ rest) ≡ line ∷ rest
+pub before_all_ended : (line : List ℕ) (rest : List (List ℕ)) → before_all line ([] ∷ rest) ≡ line ∷ rest
 unfolding before_all before
-before_all-ended [] rest = refl
-before_all-ended (byte ∷ line) rest = rw (before_all-ended line rest)
+before_all_ended [] rest = refl
+before_all_ended (byte ∷ line) rest = rw (before_all_ended line rest)
 
-pub before_all-append : (line : List ℕ) (byte : ℕ) (rest : List (List ℕ))
+pub before_all_append : (line : List ℕ) (byte : ℕ) (rest : List (List ℕ))
     → before_all (line ++ (byte ∷ [])) rest ≡ before_all line (before byte rest)
 unfolding before_all
-before_all-append [] byte rest = refl
-before_all-append (b ∷ line) byte rest = ap (before b) (before_all-append line byte rest)
+before_all_append [] byte rest = refl
+before_all_append (b ∷ line) byte rest = ap (before b) (before_all_append line byte rest)
 
-pub before_all-last : (byte : ℕ) (line : List ℕ) → before_all (byte ∷ line) [] ≡ (byte ∷ line) ∷ []
+pub before_all_last : (byte : ℕ) (line : List ℕ) → before_all (byte ∷ line) [] ≡ (byte ∷ line) ∷ []
 unfolding before_all before
-before_all-last byte [] = refl
-before_all-last byte (b ∷ line) = ap (before byte) (before_all-last b line)
+before_all_last byte [] = refl
+before_all_last byte (b ∷ line) = ap (before byte) (before_all_last b line)

@@ -14,8 +14,8 @@ use Rattle.demands.specs.Text.{most_lines, newline, before, lines, demand_of, de
 use Rattle.demands.specs.Reading.{HeldReading, held_reading, with, empty_line, extended, has_byte, line_demand, space, closed, fed_byte, fed, fed_pieces, finished, held_count}
 use Rattle.demands.specs.Promises.{joined, ReadsDemands}
 use Rattle.demands.specs.declared.DemandLine.{DemandLine}
-use Rattle.demands.proofs.Bytes.{closed-stores, closed-full}
-use Rattle.demands.proofs.Lines.{extended_by, extended_by-append, line_demand-whole, has_byte-some, before_all, before_all-ended, before_all-append, before_all-last}
+use Rattle.demands.proofs.Bytes.{closed_stores, closed_full}
+use Rattle.demands.proofs.Lines.{extended_by, extended_by_append, line_demand_whole, has_byte_some, before_all, before_all_ended, before_all_append, before_all_last}
 
 -- ---- pieces
 
@@ -40,9 +40,9 @@ abbrev reached : List ℕ → List ℕ → DemandLine → HeldReading
 reached list demands line = standing list (space list) demands line
 
 -- A line that ends is one demand more.
-closed-adds : (list demands : List ℕ) (line : DemandLine)
+closed_adds : (list demands : List ℕ) (line : DemandLine)
     → closed (reached list demands line) ≡ reached list (demands ++ (line_demand line ∷ [])) empty_line
-closed-adds list demands line = go (ltb (length demands) (space list)) refl
+closed_adds list demands line = go (ltb (length demands) (space list)) refl
   where
     d : ℕ
     d = line_demand line
@@ -64,13 +64,13 @@ closed-adds list demands line = go (ltb (length demands) (space list)) refl
         take_all (space list) (demands ++ (d ∷ [])) (omega (arith, length-append demands (d ∷ []))) in
         let stored : sets list 0 (demands ++ (d ∷ [])) ≡ set (sets list 0 demands) (length demands) d =
         rw zero-add at (sets-append list 0 demands (d ∷ [])) in
-        closed-stores (with (min (length demands) (space list)) line) filled (omega (arith, same))
+        closed_stores (with (min (length demands) (space list)) line) filled (omega (arith, same))
         ∙ rw (more, next, stored, all, count)
     go false e =
         let h : space list ≤ length demands = ltb-false _ _ e in
         let count : min (length demands) (space list) ≡ space list = omega arith in
         let more : min (length (demands ++ (d ∷ []))) (space list) ≡ space list = omega (arith, length-append demands (d ∷ [])) in
-        closed-full (with (min (length demands) (space list)) line) filled (omega (arith, same))
+        closed_full (with (min (length demands) (space list)) line) filled (omega (arith, same))
         ∙ rw (more, count, take-append-le (space list) demands (d ∷ []) h)
 
 -- The rest of a text, read to its end, where a line is open that has some bytes.
@@ -80,8 +80,8 @@ finished-fed : (list text demands line : List ℕ)
 unfolding fed finished lines extended_by before_all
 finished-fed list [] demands [] = rw append-nil
 finished-fed list [] demands (byte ∷ line) =
-    rw (has_byte-some empty_line byte line, before_all-last byte line, ← line_demand-whole (byte ∷ line))
-    (closed-adds list demands (extended_by empty_line (byte ∷ line)))
+    rw (has_byte_some empty_line byte line, before_all_last byte line, ← line_demand_whole (byte ∷ line))
+    (closed_adds list demands (extended_by empty_line (byte ∷ line)))
 finished-fed list (byte ∷ text) demands line =
     go (eqb byte newline)
     (finished-fed list text (demands ++ (demand_of line ∷ [])) []) (finished-fed list text demands (line ++ (byte ∷ [])))
@@ -101,20 +101,20 @@ finished-fed list (byte ∷ text) demands line =
         ≡ reached list (demands ++ map demand_of (before_all line (cond test ([] ∷ lines text) (before byte (lines text))))) empty_line
     go true ended further =
         rw (
-          closed-adds list demands now,
-          line_demand-whole line,
-          before_all-ended line (lines text),
+          closed_adds list demands now,
+          line_demand_whole line,
+          before_all_ended line (lines text),
           ← append_assoc demands (demand_of line ∷ []) (map demand_of (lines text)),
         ) ended
-    go false ended further = rw (← before_all-append line byte (lines text), ← extended_by-append empty_line line byte) further
+    go false ended further = rw (← before_all_append line byte (lines text), ← extended_by_append empty_line line byte) further
 
 -- A text, read from its start to its end.
 abbrev read_whole : List ℕ → List ℕ → HeldReading
 read_whole list text = finished (fed (held_reading (with 0 empty_line) list) text)
 
-read_whole-is : (list text : List ℕ) → read_whole list text ≡ reached list (map demand_of (lines text)) empty_line
+read_whole_is : (list text : List ℕ) → read_whole list text ≡ reached list (map demand_of (lines text)) empty_line
 unfolding extended_by before_all
-read_whole-is list text =
+read_whole_is list text =
     let none : min 0 (space list) ≡ 0 = omega arith in
     let start : reached list [] empty_line ≡ held_reading (with 0 empty_line) list = rw (none, take-nil (space list)) in
     rw (← start) (finished-fed list text [] [])
@@ -130,34 +130,34 @@ alike : (h g k : HeldReading) → Alike h g → Alike g k → Alike h k
 alike h g k p q = record { list = p.list ∙ q.list; count = p.count ∙ q.count }
 
 -- Once 513 lines are read, neither a line's end nor a byte nor the text's end changes count or list.
-closed-enough : (h : HeldReading) → most_lines ≤ h.reading.count → Alike (closed h) h
-closed-enough h full =
-    let is = closed-full h.reading h.list (omega arith) in
+closed_enough : (h : HeldReading) → most_lines ≤ h.reading.count → Alike (closed h) h
+closed_enough h full =
+    let is = closed_full h.reading h.list (omega arith) in
     record { list = ap (λ (g : HeldReading). g.list) is; count = ap (λ (g : HeldReading). g.reading.count) is }
 
-fed_byte-enough : (h : HeldReading) (byte : ℕ) → most_lines ≤ h.reading.count → Alike (fed_byte h byte) h
+fed_byte_enough : (h : HeldReading) (byte : ℕ) → most_lines ≤ h.reading.count → Alike (fed_byte h byte) h
 unfolding fed_byte
-fed_byte-enough h byte full = go (eqb byte newline)
+fed_byte_enough h byte full = go (eqb byte newline)
   where
     go : (test : Bool)
         → Alike (cond test (closed h) (held_reading (with h.reading.count (extended h.reading.line byte)) h.list)) h
-    go true = closed-enough h full
+    go true = closed_enough h full
     go false = record { list = refl; count = refl }
 
-fed-enough : (h : HeldReading) (piece : List ℕ) → most_lines ≤ h.reading.count → Alike (fed h piece) h
+fed_enough : (h : HeldReading) (piece : List ℕ) → most_lines ≤ h.reading.count → Alike (fed h piece) h
 unfolding fed
-fed-enough h [] full = record { list = refl; count = refl }
-fed-enough h (byte ∷ piece) full =
-    let one = fed_byte-enough h byte full in
+fed_enough h [] full = record { list = refl; count = refl }
+fed_enough h (byte ∷ piece) full =
+    let one = fed_byte_enough h byte full in
     let still : most_lines ≤ (fed_byte h byte).reading.count = rw one.count full in
-    alike _ _ _ (fed-enough (fed_byte h byte) piece still) one
+    alike _ _ _ (fed_enough (fed_byte h byte) piece still) one
 
-finished-enough : (h : HeldReading) → most_lines ≤ h.reading.count → Alike (finished h) h
+finished_enough : (h : HeldReading) → most_lines ≤ h.reading.count → Alike (finished h) h
 unfolding finished
-finished-enough h full = go (has_byte h.reading.line)
+finished_enough h full = go (has_byte h.reading.line)
   where
     go : (test : Bool) → Alike (cond test (closed h) h) h
-    go true = closed-enough h full
+    go true = closed_enough h full
     go false = record { list = refl; count = refl }
 
 -- ---- the promises
@@ -174,32 +174,32 @@ sets-space list demands =
 
 -- What the list then is, and the count.
 module _ (list text : List ℕ) where
-  text-list : (read_whole list text).list ≡ sets list 0 (demands_of text)
+  text_list : (read_whole list text).list ≡ sets list 0 (demands_of text)
   unfolding demands_of
-  text-list = ap (λ (h : HeldReading). h.list) (read_whole-is list text) ∙ sets-space list (map demand_of (lines text))
+  text_list = ap (λ (h : HeldReading). h.list) (read_whole_is list text) ∙ sets-space list (map demand_of (lines text))
 
-  text-count : held_count (read_whole list text) ≡ min (length (demands_of text)) (length list)
+  text_count : held_count (read_whole list text) ≡ min (length (demands_of text)) (length list)
   unfolding demands_of
-  text-count = ap held_count (read_whole-is list text) ∙ counted (map demand_of (lines text))
+  text_count = ap held_count (read_whole_is list text) ∙ counted (map demand_of (lines text))
     where
       counted : (demands : List ℕ)
           → min (min (length demands) (space list)) (length (sets list 0 (take (space list) demands)))
           ≡ min (length (take most_lines demands)) (length list)
       counted demands = omega (arith, length-sets list 0 (take (space list) demands), length-take most_lines demands)
 
-  pub text-whole : most_lines ≤ length list → take (held_count (read_whole list text)) (read_whole list text).list ≡ demands_of text
-  text-whole long =
+  pub text_whole : most_lines ≤ length list → take (held_count (read_whole list text)) (read_whole list text).list ≡ demands_of text
+  text_whole long =
       let few = length-demands_of text in
-      let count : held_count (read_whole list text) ≡ length (demands_of text) = omega (arith, text-count) in
-      rw (count, text-list)
+      let count : held_count (read_whole list text) ≡ length (demands_of text) = omega (arith, text_count) in
+      rw (count, text_list)
       (take-sets (length (demands_of text)) list (demands_of text) (omega arith) (omega arith) ∙ take-length (demands_of text))
 
-pub reads-demands : ReadsDemands
-reads-demands =
+pub reads_demands : ReadsDemands
+reads_demands =
     record {
-      list = λ list pieces. rw (joined_is list pieces) (text-list list (joined pieces));
-      count = λ list pieces. rw (joined_is list pieces) (text-count list (joined pieces));
-      whole = λ list pieces. rw (joined_is list pieces) (text-whole list (joined pieces));
+      list = λ list pieces. rw (joined_is list pieces) (text_list list (joined pieces));
+      count = λ list pieces. rw (joined_is list pieces) (text_count list (joined pieces));
+      whole = λ list pieces. rw (joined_is list pieces) (text_whole list (joined pieces));
       enough = λ h piece full. still h piece (leb-true most_lines h.reading.count full);
     }
   where
@@ -210,7 +210,7 @@ reads-demands =
     still : (h : HeldReading) (piece : List ℕ) → most_lines ≤ h.reading.count
         → ((finished (fed h piece)).list ≡ h.list) × (held_count (finished (fed h piece)) ≡ held_count h)
     still h piece full =
-        let read = fed-enough h piece full in
-        let end = finished-enough (fed h piece) (rw read.count full) in
+        let read = fed_enough h piece full in
+        let end = finished_enough (fed h piece) (rw read.count full) in
         let all = alike _ _ _ end read in
         (all.list, rw (all.count, all.list))

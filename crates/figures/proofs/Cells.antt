@@ -21,21 +21,21 @@ module _ (rows : List (List ℕ)) (k i v : ℕ) where
     pub cell-here : i < length (get_or rows k []) → cell stored k i ≡ v
     cell-here h = ap (λ (r : List ℕ). at r i) (get_or-set_same rows k (set (get_or rows k []) i v) [] there) ∙ get_or-set_same (get_or rows k []) i v 0 h
 
-    pub cell-elsewhere : (m j : ℕ) → (m ≡ k → ⊥) → cell stored m j ≡ cell rows m j
-    cell-elsewhere m j d = ap (λ (r : List ℕ). at r j) (get_or-set_other rows k m (set (get_or rows k []) i v) [] d)
+    pub cell_elsewhere : (m j : ℕ) → (m ≡ k → ⊥) → cell stored m j ≡ cell rows m j
+    cell_elsewhere m j d = ap (λ (r : List ℕ). at r j) (get_or-set_other rows k m (set (get_or rows k []) i v) [] d)
 
-    pub cell-others : (m j : ℕ) → (j ≡ i → ⊥) → cell stored m j ≡ cell rows m j
-    cell-others m j d = go (eqb m k) refl
+    pub cell_others : (m j : ℕ) → (j ≡ i → ⊥) → cell stored m j ≡ cell rows m j
+    cell_others m j d = go (eqb m k) refl
       where
         go : (t : Bool) → eqb m k ≡ t → cell stored m j ≡ cell rows m j
-        go false e = cell-elsewhere m j (eqb-false m k e)
+        go false e = cell_elsewhere m j (eqb-false m k e)
         go true e =
             let q : m ≡ k = eqb-true m k e in
             rw q
             (ap (λ (r : List ℕ). at r j) (get_or-set_same rows k (set (get_or rows k []) i v) [] there) ∙ get_or-set_other (get_or rows k []) i j v 0 d)
 
-    pub stored-full : {count size : ℕ} → Full count size rows → Full count size stored
-    stored-full {count} {size} full = (
+    pub stored_full : {count size : ℕ} → Full count size rows → Full count size stored
+    stored_full {count} {size} full = (
       length-set rows k (set (get_or rows k []) i v) ∙ full.0,
       λ m l. go m l (eqb m k) refl,
     )
@@ -56,18 +56,18 @@ pub zeros-front : (k n : ℕ) → n ≤ k → length {A = ℕ} (take n (replicat
 unfolding zeros
 zeros-front k n h = length-take-le n (zeros k) (omega (arith, length-replicate {A = ℕ} k 0))
 
-pub zeros-rows : (k n : ℕ) → (length (replicate k (replicate {A = ℕ} n 0)) ≡ k) × ((m : ℕ) → m < k → length (get_or (replicate k (replicate {A = ℕ} n 0)) m []) ≡ n)
+pub zeros_rows : (k n : ℕ) → (length (replicate k (replicate {A = ℕ} n 0)) ≡ k) × ((m : ℕ) → m < k → length (get_or (replicate k (replicate {A = ℕ} n 0)) m []) ≡ n)
 unfolding zeros
-zeros-rows k n = (length-replicate k (zeros n), λ m l. ap length (get_or-replicate k m (zeros n) [] l) ∙ length-replicate {A = ℕ} n 0)
+zeros_rows k n = (length-replicate k (zeros n), λ m l. ap length (get_or-replicate k m (zeros n) [] l) ∙ length-replicate {A = ℕ} n 0)
 
 rows_at : (row : List ℕ) → ((j : ℕ) → at row j ≡ 0) → (k n j : ℕ) → cell (replicate k row) n j ≡ 0
 rows_at row z zero n j = refl
 rows_at row z (suc k) zero j = z j
 rows_at row z (suc k) (suc n) j = rows_at row z k n j
 
-pub zeros-cells : (k m n j : ℕ) → cell (replicate k (replicate m 0)) n j ≡ 0
+pub zeros_cells : (k m n j : ℕ) → cell (replicate k (replicate m 0)) n j ≡ 0
 unfolding zeros
-zeros-cells k m n j = rows_at (zeros m) (zeros-at m) k n j
+zeros_cells k m n j = rows_at (zeros m) (zeros-at m) k n j
 
 pub zero_rows : (k n : ℕ) → ZeroRows k n (replicate k (replicate n 0))
-zero_rows k n = record { full = zeros-rows k n; none = zeros-cells k n }
+zero_rows k n = record { full = zeros_rows k n; none = zeros_cells k n }

@@ -21,8 +21,8 @@ filled_none g l = record { size_is = refl; done = λ i h. absurd (not-suc-le-zer
 
 module _ {g : ℕ → ℕ} {size c : ℕ} {l : List ℕ} where
   -- One more figure.
-  pub filled-one : (x : ℕ) → Filled g size c l → c < size → x ≡ g c → Filled g size (c + 1) (set l c x)
-  filled-one x f h e =
+  pub filled_one : (x : ℕ) → Filled g size c l → c < size → x ≡ g c → Filled g size (c + 1) (set l c x)
+  filled_one x f h e =
       rw add-one
       (record { size_is = length-set l c x ∙ f.size_is; done = λ i q. go i (eq-or-lt_of_le (le_of_suc-le-suc q)) })
     where
@@ -31,8 +31,8 @@ module _ {g : ℕ → ℕ} {size c : ℕ} {l : List ℕ} where
       go i (inr q) = get_or-set_other l c i x 0 (λ z. omega arith) ∙ f.done i q
 
   -- A list filled to its end is the list of the figures, by whatever name.
-  pub filled-all : (n : ℕ) (f : ℕ → ℕ) → Filled g size c l → size ≡ n → n ≤ c → ((i : ℕ) → i < n → g i ≡ f i) → l ≡ figures n f
-  filled-all n f filled s h e =
+  pub filled_all : (n : ℕ) (f : ℕ → ℕ) → Filled g size c l → size ≡ n → n ≤ c → ((i : ℕ) → i < n → g i ≡ f i) → l ≡ figures n f
+  filled_all n f filled s h e =
       ext_get_or 0 l (figures n f) (filled.size_is ∙ s ∙ sym (figures-length n f))
       (λ i q. let m : i < n = omega (arith, filled.size_is) in filled.done i (omega arith) ∙ e i m ∙ sym (figures-at n i f m))
 

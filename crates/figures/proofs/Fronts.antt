@@ -7,8 +7,8 @@ use lib.ListN.{length, take, drop, replicate, length-replicate}
 use lib.Seq.{length-take-le, length_front, take_at}
 
 -- A list of equal entries has as many as were asked for.
-pub equal-length : {A : Type 0} (k : ℕ) (a : A) → length (replicate k a) ≡ k
-equal-length k a = length-replicate k a
+pub equal_length : {A : Type 0} (k : ℕ) (a : A) → length (replicate k a) ≡ k
+equal_length k a = length-replicate k a
 
 module _ {A : Type 0} where
   pub front_length : (n : ℕ) (l : List A) → n ≤ length l → n ≡ length (take n l)
@@ -34,12 +34,12 @@ module _ {A : Type 0} where
     pub lent_again : take n (rejoined n list back) ≡ back
     lent_again = take_at back (drop n list) n l.size
 
-    pub lent-few : n ≤ length (rejoined n list back)
-    lent-few = omega (arith, lent_length, l.few)
+    pub lent_few : n ≤ length (rejoined n list back)
+    lent_few = omega (arith, lent_length, l.few)
 
     pub lent-front : n ≡ length (take n (rejoined n list back))
-    lent-front = front_length n (rejoined n list back) lent-few
+    lent-front = front_length n (rejoined n list back) lent_few
 
 -- A list of zeros, as it is lent at first.
 pub lent-zeros : (k : ℕ) {n : ℕ} {back : List ℕ} → n ≤ k → length back ≡ length {A = ℕ} (take n (replicate k 0)) → Lent n (replicate k 0) back
-lent-zeros k few kept = lent (omega (arith, equal-length {A = ℕ} k 0)) kept
+lent-zeros k few kept = lent (omega (arith, equal_length {A = ℕ} k 0)) kept

@@ -9,7 +9,7 @@ use lib.ListN.{length, get_or, take, drop, drop_of_length-le}
 use lib.Seq.{drop-cons, length-take-le, get_or-take}
 use Rattle.figures.specs.Figures.{total, figures_from, figures, at, sum_of}
 use Rattle.figures.specs.Sums.{sum}
-use Rattle.figures.proofs.Sums.{sum-cong, sum-up, sum-none, up}
+use Rattle.figures.proofs.Sums.{sum_cong, sum_up, sum_none, up}
 
 -- ---- Figures at places
 
@@ -33,20 +33,20 @@ figures-length k g = figures_from-length k 0 g
 -- ---- From place to place
 
 -- What holds at a place holds after it: from m up to n.
-pub passed-up : (P : ℕ → Type 0) (m n : ℕ) → m ≤ n → ((h : ℕ) → m ≤ h → h < n → P h → P (h + 1)) → P m → P n
-passed-up P m zero l step p = subst P (omega arith) p
-passed-up P m (suc n) l step p =
+pub passed_up : (P : ℕ → Type 0) (m n : ℕ) → m ≤ n → ((h : ℕ) → m ≤ h → h < n → P h → P (h + 1)) → P m → P n
+passed_up P m zero l step p = subst P (omega arith) p
+passed_up P m (suc n) l step p =
     ⊎_elim (λ e. subst P e p)
     (λ less.
     let next : n + 1 ≡ suc n = omega arith in
-    subst P next (step n (omega arith) (omega arith) (passed-up P m n (omega arith) (λ h a b. step h a (omega arith)) p)))
+    subst P next (step n (omega arith) (omega arith) (passed_up P m n (omega arith) (λ h a b. step h a (omega arith)) p)))
     (eq-or-lt_of_le l)
 
 -- What holds after a place holds at it: from n down to m.
-pub passed-down : (P : ℕ → Type 0) (m n : ℕ) → m ≤ n → ((h : ℕ) → m ≤ h → h < n → P (suc h) → P h) → P n → P m
-passed-down P m zero l step p = subst P (omega arith) p
-passed-down P m (suc n) l step p =
-    ⊎_elim (λ e. subst P (sym e) p) (λ less. passed-down P m n (omega arith) (λ h a b. step h a (omega arith)) (step n (omega arith) (omega arith) p))
+pub passed_down : (P : ℕ → Type 0) (m n : ℕ) → m ≤ n → ((h : ℕ) → m ≤ h → h < n → P (suc h) → P h) → P n → P m
+passed_down P m zero l step p = subst P (omega arith) p
+passed_down P m (suc n) l step p =
+    ⊎_elim (λ e. subst P (sym e) p) (λ less. passed_down P m n (omega arith) (λ h a b. step h a (omega arith)) (step n (omega arith) (omega arith) p))
     (eq-or-lt_of_le l)
 
 -- ---- The sum over a list
@@ -63,8 +63,8 @@ module _ {A : Type 0} where
       omega (
         arith,
         total-drop f none l (length l) 0 (zero-add (length l)),
-        sum-up (length l) 0 (length l) (λ i. f (get_or l i none)) (zero-add (length l)),
-        sum-none (λ i. f (get_or l i none)),
+        sum_up (length l) 0 (length l) (λ i. f (get_or l i none)) (zero-add (length l)),
+        sum_none (λ i. f (get_or l i none)),
       )
 
   pub total-append : (f : A → ℕ) (l m : List A) → total f (l ++ m) ≡ total f l + total f m
@@ -74,18 +74,18 @@ module _ {A : Type 0} where
 
 -- ---- Sums of bounded figures
 
-pub sum-most : (k most : ℕ) (g : ℕ → ℕ) → ((i : ℕ) → i < k → g i ≤ most) → sum k g ≤ k * most
+pub sum_most : (k most : ℕ) (g : ℕ → ℕ) → ((i : ℕ) → i < k → g i ≤ most) → sum k g ≤ k * most
 unfolding sum
-sum-most zero most g h = omega arith
-sum-most (suc k) most g h =
-    let a : sum k g ≤ k * most = sum-most k most g (λ i l. h i (le_trans l (le-suc k))) in
+sum_most zero most g h = omega arith
+sum_most (suc k) most g h =
+    let a : sum k g ≤ k * most = sum_most k most g (λ i l. h i (le_trans l (le-suc k))) in
     let b : g k ≤ most = h k (le_refl (suc k)) in
     omega arith
 
-pub sum-one-le : (k i : ℕ) (g : ℕ → ℕ) → i < k → g i ≤ sum k g
+pub sum_one_le : (k i : ℕ) (g : ℕ → ℕ) → i < k → g i ≤ sum k g
 unfolding sum
-sum-one-le zero i g h = absurd (omega arith)
-sum-one-le (suc k) i g h = go (eq-or-lt_of_le (le_of_suc-le-suc h)) (λ l. sum-one-le k i g l)
+sum_one_le zero i g h = absurd (omega arith)
+sum_one_le (suc k) i g h = go (eq-or-lt_of_le (le_of_suc-le-suc h)) (λ l. sum_one_le k i g l)
   where
     go : (i ≡ k) ⊎ (i < k) → (i < k → g i ≤ sum k g) → g i ≤ sum k g + g k
     go (inl e) ih = omega (arith, ap g e)
@@ -95,7 +95,7 @@ pub sum_of-take : (l : List ℕ) (j : ℕ) → j ≤ length l → sum_of (take j
 sum_of-take l j h =
     total-sum (λ a. a) 0 (take j l)
     ∙ ap (λ (k : ℕ). sum k (at (take j l))) (length-take-le j l h)
-    ∙ sum-cong j (at (take j l)) (at l) (λ i q. get_or-take j l i 0 q)
+    ∙ sum_cong j (at (take j l)) (at l) (λ i q. get_or-take j l i 0 q)
 
-pub sum_of-most : (l : List ℕ) (most : ℕ) → ((i : ℕ) → i < length l → at l i ≤ most) → sum_of l ≤ length l * most
-sum_of-most l most h = le_trans (le_of_eq (total-sum (λ a. a) 0 l)) (sum-most (length l) most (at l) h)
+pub sum_of_most : (l : List ℕ) (most : ℕ) → ((i : ℕ) → i < length l → at l i ≤ most) → sum_of l ≤ length l * most
+sum_of_most l most h = le_trans (le_of_eq (total-sum (λ a. a) 0 l)) (sum_most (length l) most (at l) h)

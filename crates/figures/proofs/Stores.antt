@@ -13,14 +13,14 @@ module _ {ℓ} {A : Type ℓ} where
   -- ---- a run of stores
 
   -- No run changes the empty list.
-  pub sets-nil : (i : ℕ) (t : List A) → sets [] i t ≡ []
-  sets-nil i [] = refl
-  sets-nil i (a ∷ t) = sets-nil (suc i) t
+  pub sets_nil : (i : ℕ) (t : List A) → sets [] i t ≡ []
+  sets_nil i [] = refl
+  sets_nil i (a ∷ t) = sets_nil (suc i) t
 
   -- A run that starts past the first element leaves that element.
-  pub sets-cons : (x : A) (l : List A) (i : ℕ) (t : List A) → sets (x ∷ l) (suc i) t ≡ x ∷ sets l i t
-  sets-cons x l i [] = refl
-  sets-cons x l i (a ∷ t) = sets-cons x (set l i a) (suc i) t
+  pub sets_cons : (x : A) (l : List A) (i : ℕ) (t : List A) → sets (x ∷ l) (suc i) t ≡ x ∷ sets l i t
+  sets_cons x l i [] = refl
+  sets_cons x l i (a ∷ t) = sets_cons x (set l i a) (suc i) t
 
   -- One run after another is one run.
   pub sets-append : (l : List A) (i : ℕ) (s t : List A) → sets l i (s ++ t) ≡ sets (sets l i s) (i + length s) t
@@ -35,16 +35,16 @@ module _ {ℓ} {A : Type ℓ} where
 
   -- What of the run fits, then what it does not reach.
   pub sets-front : (l t : List A) → sets l 0 t ≡ take (length l) t ++ drop (length t) l
-  sets-front [] t = sets-nil 0 t ∙ sym (drop-nil (length t))
+  sets-front [] t = sets_nil 0 t ∙ sym (drop-nil (length t))
   sets-front (x ∷ l) [] = refl
-  sets-front (x ∷ l) (a ∷ t) = sets-cons a l 0 t ∙ ap (λ (r : List A). a ∷ r) (sets-front l t)
+  sets-front (x ∷ l) (a ∷ t) = sets_cons a l 0 t ∙ ap (λ (r : List A). a ∷ r) (sets-front l t)
 
   -- A whole list is replaced by a run that is as long.
-  pub sets-all : (l t : List A) → length l ≡ length t → sets l 0 t ≡ t
-  sets-all [] [] e = refl
-  sets-all [] (a ∷ t) e = absurd (omega arith)
-  sets-all (x ∷ l) [] e = absurd (omega arith)
-  sets-all (x ∷ l) (a ∷ t) e = sets-cons a l 0 t ∙ ap (λ (r : List A). a ∷ r) (sets-all l t (omega arith))
+  pub sets_all : (l t : List A) → length l ≡ length t → sets l 0 t ≡ t
+  sets_all [] [] e = refl
+  sets_all [] (a ∷ t) e = absurd (omega arith)
+  sets_all (x ∷ l) [] e = absurd (omega arith)
+  sets_all (x ∷ l) (a ∷ t) e = sets_cons a l 0 t ∙ ap (λ (r : List A). a ∷ r) (sets_all l t (omega arith))
 
   -- The first elements are the run's, where it and the list have as many.
   pub take-sets : (n : ℕ) (l t : List A) → n ≤ length l → n ≤ length t → take n (sets l 0 t) ≡ take n t
@@ -52,25 +52,25 @@ module _ {ℓ} {A : Type ℓ} where
   take-sets (suc n) [] t h k = absurd (omega arith)
   take-sets (suc n) (x ∷ l) [] h k = absurd (omega arith)
   take-sets (suc n) (x ∷ l) (a ∷ t) h k =
-      ap (take (suc n)) (sets-cons a l 0 t) ∙ ap (λ (r : List A). a ∷ r) (take-sets n l t (omega arith) (omega arith))
+      ap (take (suc n)) (sets_cons a l 0 t) ∙ ap (λ (r : List A). a ∷ r) (take-sets n l t (omega arith) (omega arith))
 
   -- What stands past the run is untouched.
   pub drop-sets : (l t : List A) → drop (length t) (sets l 0 t) ≡ drop (length t) l
-  drop-sets [] t = ap (drop (length t)) (sets-nil 0 t)
+  drop-sets [] t = ap (drop (length t)) (sets_nil 0 t)
   drop-sets (x ∷ l) [] = refl
-  drop-sets (x ∷ l) (a ∷ t) = ap (drop (suc (length t))) (sets-cons a l 0 t) ∙ drop-sets l t
+  drop-sets (x ∷ l) (a ∷ t) = ap (drop (suc (length t))) (sets_cons a l 0 t) ∙ drop-sets l t
 
   -- A run may be cut to what there is of it and what of it fits.
   pub sets-take : (n : ℕ) (l t : List A) → min (length t) (length l) ≤ n → sets l 0 (take n t) ≡ sets l 0 t
-  sets-take n [] t h = sets-nil 0 (take n t) ∙ sym (sets-nil 0 t)
+  sets-take n [] t h = sets_nil 0 (take n t) ∙ sym (sets_nil 0 t)
   sets-take n (x ∷ l) [] h = ap (sets (x ∷ l) 0) (take-nil n)
   sets-take zero (x ∷ l) (a ∷ t) h = absurd (omega arith)
   sets-take (suc n) (x ∷ l) (a ∷ t) h =
-      sets-cons a l 0 (take n t) ∙ ap (λ (r : List A). a ∷ r) (sets-take n l t (omega arith)) ∙ sym (sets-cons a l 0 t)
+      sets_cons a l 0 (take n t) ∙ ap (λ (r : List A). a ∷ r) (sets-take n l t (omega arith)) ∙ sym (sets_cons a l 0 t)
 
   -- A turn of a loop that copies t to the front of l: one more store, one more element of t.
-  pub sets-turn : (l t : List A) (i : ℕ) (d : A) → i < length t → set (sets l 0 (take i t)) i (get_or t i d) ≡ sets l 0 (take (i + 1) t)
-  sets-turn l t i d h =
+  pub sets_turn : (l t : List A) (i : ℕ) (d : A) → i < length t → set (sets l 0 (take i t)) i (get_or t i d) ≡ sets l 0 (take (i + 1) t)
+  sets_turn l t i d h =
       let e : 0 + length (take i t) ≡ i = omega (arith, length-take-le i t (omega arith)) in
       sym (rw (add-one, take-suc t i d, sets-append, e))
 

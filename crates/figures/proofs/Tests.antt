@@ -2,6 +2,6 @@
 use mathlib.Core.Path.{◌≡◌, refl}
 use mathlib.Core.Bool.{Bool, true, false, ◌&&◌}
 
-pub and-false : (t : Bool) → t && false ≡ false
-and-false true = refl
-and-false false = refl
+pub and_false : (t : Bool) → t && false ≡ false
+and_false true = refl
+and_false false = refl

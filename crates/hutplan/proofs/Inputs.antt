@@ -8,16 +8,16 @@ use lib.Seq.{length-take-le}
 use Rattle.io.specs.Counts.{IsPrefixLen}
 use Rattle.demands.specs.Text.{most_lines}
 use Rattle.demands.specs.Reading.{HeldReading, held_reading, with, empty_line, fed, finished, held_count}
-use Rattle.demands.proofs.Promises.{fed-append, text-whole}
+use Rattle.demands.proofs.Promises.{fed-append, text_whole}
 use Rattle.hutplan.specs.Input.{FedPiece, ReadText}
 
 -- No piece, and one more.
-pub fed-none : {h g : HeldReading} → h ≡ g → FedPiece g h
+pub fed_none : {h g : HeldReading} → h ≡ g → FedPiece g h
 unfolding fed
-fed-none e = record { piece = []; is = e }
+fed_none e = record { piece = []; is = e }
 
-pub fed-more : {a b c : HeldReading} → FedPiece a b → FedPiece b c → FedPiece a c
-fed-more {a} p q =
+pub fed_more : {a b c : HeldReading} → FedPiece a b → FedPiece b c → FedPiece a c
+fed_more {a} p q =
     record {
       piece = p.piece ++ q.piece;
       is = q.is ∙ ap (λ (h : HeldReading). fed h q.piece) p.is ∙ sym (fed-append a p.piece q.piece);
@@ -33,6 +33,6 @@ read-text before after {h} {count} long p l e =
     let list = l ∙ ap (λ (g : HeldReading). g.list) read in
     let counted = e ∙ ap held_count read in
     let within : count ≤ length after = rw l (omega arith) in (
-      record { text = text; is = rw (list, counted) (text-whole before text long) },
+      record { text = text; is = rw (list, counted) (text_whole before text long) },
       (within, sym (length-take-le count after within)),
     )

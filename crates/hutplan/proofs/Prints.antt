@@ -13,7 +13,7 @@ use Rattle.rooms.specs.Outcome.{SheetOutcome, reading, sheet_refusal_number, she
 use Rattle.rooms.specs.Outcome as read
 use Rattle.rooms.specs.declared.SheetRefusal.{SheetRefusal}
 use Rattle.rooms.specs.declared.SheetAnswer.TheVariants as answer
-use Rattle.rooms.proofs.Lent.{reading-fits}
+use Rattle.rooms.proofs.Lent.{reading_fits}
 use Rattle.outcomes.specs.Outcome.{after}
 use Rattle.outcomes.specs.Outcome as outcomes
 use Rattle.deals.specs.Plan.{Plan, PlanOutcome, output, Lists, lent, most_lent, plan, plan_room, plan_step, answer_of, plan_refusal_number, plan_refusal_place}
@@ -24,7 +24,7 @@ use Rattle.deals.specs.declared.PlanRefusal.{PlanRefusal}
 use Rattle.deals.specs.declared.Planned.{Planned}
 use Rattle.deals.specs.declared.Planned.TheVariants.{Accepted, Refused}
 use Rattle.deals.specs.declared.PlanRefusal.TheVariants.{Table}
-use Rattle.deals.proofs.Plans.{plan-good-table, Fits}
+use Rattle.deals.proofs.Plans.{plan_good_table, Fits}
 use Rattle.deals.proofs.Lent.{plan-written}
 use Rattle.print.specs.Line.{refused_line}
 use Rattle.print.specs.Print.{print_of}
@@ -37,8 +37,8 @@ fitting fits = omega (arith, fits.count, fits.within)
 
 -- A good table, and the print of its room with these lists, which is the table's text.
 pub record RoomText (table demands : List ℕ) (f : ℕ) (left : Lists) : Type 0 where
-  pub good-table : Good (checked table 0)
-  pub text : print_of f good-table.value.servers (left Caps) (left Grants) (left Headroom) (left Held) ≡ table_text table demands
+  pub good_table : Good (checked table 0)
+  pub text : print_of f good_table.value.servers (left Caps) (left Grants) (left Headroom) (left Held) ≡ table_text table demands
 
 -- Lists that take the plan of every room, and what Plan comes to with them.
 module _ (table demands : List ℕ) (given : Lists) (most : lent given ≡ most_lent) where
@@ -46,10 +46,10 @@ module _ (table demands : List ℕ) (given : Lists) (most : lent given ≡ most_
   outcome = plan table demands (lent given)
 
   -- A refused plan.
-  pub table-refused : {a : Planned} {q : PlanRefusal} → a ≡ Refused q → a ≡ answer_of outcome
+  pub table_refused : {a : Planned} {q : PlanRefusal} → a ≡ Refused q → a ≡ answer_of outcome
       → table_text table demands ≡ refused_line (plan_refusal_number q) (plan_refusal_place q)
   unfolding table_text plan
-  table-refused {q = q} told e =
+  table_refused {q = q} told e =
       go (checked table 0) (subst (λ (lengths : Lengths). Refused q ≡ answer_of (plan table demands lengths)) most (sym told ∙ e))
     where
       room : (r : Room) (o : PlanOutcome) → Refused q ≡ answer_of o
@@ -63,20 +63,20 @@ module _ (table demands : List ℕ) (given : Lists) (most : lent given ≡ most_
       go (bad refusal) e = let same : q ≡ Table refusal = cc in rw same
 
   -- An accepted plan, whose figures stand at the front of the lists.
-  pub table-accepted : (left : Lists) {a : Planned} {f : ℕ} → a ≡ Accepted f → a ≡ answer_of outcome
+  pub table_accepted : (left : Lists) {a : Planned} {f : ℕ} → a ≡ Accepted f → a ≡ answer_of outcome
       → ((list : PlanList) → left list ≡ after (output list) outcome (given list)) → RoomText table demands f left
   unfolding table_text
-  table-accepted left {f = f} told e stored = go outcome refl (sym told ∙ e) stored
+  table_accepted left {f = f} told e stored = go outcome refl (sym told ∙ e) stored
     where
-      in-room : (answer : Plan) → outcome ≡ outcomes.accepted answer
+      in_room : (answer : Plan) → outcome ≡ outcomes.accepted answer
           → RoomText table demands answer.freed (λ list. sets (given list) 0 (output list answer))
-      in-room answer is =
+      in_room answer is =
           let w = plan-written table demands (lent given) is in
           let fits = w.planning.fits in
           let room : plan_room w.room demands most_lent ≡ outcomes.accepted answer =
-          rw (← most) (sym (plan-good-table table demands (lent given) w.room w.end w.is_room) ∙ is) in
+          rw (← most) (sym (plan_good_table table demands (lent given) w.room w.end w.is_room) ∙ is) in
           record {
-            good-table = record { value = w.room; next = w.end; is = w.is_room };
+            good_table = record { value = w.room; next = w.end; is = w.is_room };
             text =
                 print_of-front w.room answer.freed answer.caps answer.grants answer.headroom answer.held
                 (given Caps) (given Grants) (given Headroom) (given Held)
@@ -90,16 +90,16 @@ module _ (table demands : List ℕ) (given : Lists) (most : lent given ≡ most_
       go (outcomes.refused q) is e stored = let z : ◌≡◌ {A = ℕ} 0 1 = cc in absurd (omega arith)
       go (outcomes.accepted answer) is e stored =
           let same : f ≡ answer.freed = cc in
-          rw (same, fun_ext stored) (in-room answer is)
+          rw (same, fun_ext stored) (in_room answer is)
 
 -- ---- Read
 
 -- A refused sheet.
-pub sheet-refused : (sheet demands : List ℕ) (n : ℕ) {q : SheetRefusal} → n ≡ most_words
+pub sheet_refused : (sheet demands : List ℕ) (n : ℕ) {q : SheetRefusal} → n ≡ most_words
     → answer.Refused q ≡ read.answer_of (reading sheet n)
     → sheet_text sheet demands ≡ refused_line (sheet_refusal_number q) (sheet_refusal_place q)
 unfolding sheet_text
-sheet-refused sheet demands n {q} h e = go (reading sheet most_words) (rw h at e)
+sheet_refused sheet demands n {q} h e = go (reading sheet most_words) (rw h at e)
   where
     go : (o : SheetOutcome) → answer.Refused q ≡ read.answer_of o
         → read_text o demands ≡ refused_line (sheet_refusal_number q) (sheet_refusal_place q)
@@ -107,18 +107,18 @@ sheet-refused sheet demands n {q} h e = go (reading sheet most_words) (rw h at e
     go (outcomes.refused p) e = let same : q ≡ p = cc in rw same
 
 -- An accepted sheet: its words stand at the front of the list.
-pub sheet-accepted : (sheet demands list list' : List ℕ) {count : ℕ} → length list ≡ most_words
+pub sheet_accepted : (sheet demands list list' : List ℕ) {count : ℕ} → length list ≡ most_words
     → answer.Accepted count ≡ read.answer_of (reading sheet (length list))
     → list' ≡ after (λ l. l) (reading sheet (length list)) list
     → (count ≤ length list') × (table_text (take count list') demands ≡ sheet_text sheet demands)
 unfolding sheet_text
-sheet-accepted sheet demands list list' {count} h e l = go (reading sheet most_words) refl (rw h at e) (rw h at l)
+sheet_accepted sheet demands list list' {count} h e l = go (reading sheet most_words) refl (rw h at e) (rw h at l)
   where
     go : (o : SheetOutcome) → reading sheet most_words ≡ o → answer.Accepted count ≡ read.answer_of o → list' ≡ after (λ l. l) o list
         → (count ≤ length list') × (table_text (take count list') demands ≡ read_text o demands)
     go (outcomes.refused q) is e l = let z : ◌≡◌ {A = ℕ} 0 1 = cc in absurd (omega arith)
     go (outcomes.accepted words) is e l =
         let n : count ≡ length words = cc in
-        let fits : length words ≤ length list = rw h (reading-fits sheet most_words is) in
+        let fits : length words ≤ length list = rw h (reading_fits sheet most_words is) in
         let size : length list' ≡ length list = ap length l ∙ length-sets list 0 words in
         (omega arith, rw (l, n, take-sets (length words) list words fits (omega arith), take-length words))

@@ -2,6 +2,6 @@
 use Rattle.hutplan.specs.Printed.{printed}
 use Rattle.hutplan.specs.Promises.{PrintsInput}
 
-pub prints-input : PrintsInput
+pub prints_input : PrintsInput
 unfolding printed
-prints-input file text sheet demands bytes count f t = rw (f, t)
+prints_input file text sheet demands bytes count f t = rw (f, t)

@@ -18,13 +18,13 @@ use Rattle.rooms.specs.Outcome.{SheetOutcome, reading, answer_of, sheet_number, 
 use Rattle.deals.specs.SecondDeal.{first_grants, first_usable}
 use Rattle.outcomes.specs.Outcome.{after}
 use Rattle.outcomes.specs.Outcome as outcomes
-use Rattle.outcomes.proofs.Outcomes.{unless-pass}
+use Rattle.outcomes.proofs.Outcomes.{unless_pass}
 use Rattle.deals.specs.Plan.{PlanOutcome, plan_of, output, Lists, lent, most_lent, plan}
 use Rattle.deals.specs.Plan as plan
 use Rattle.deals.specs.declared.Lengths.{Lengths}
 use Rattle.deals.specs.declared.PlanList.{PlanList}
 use Rattle.deals.specs.declared.Planned.TheVariants.{Accepted}
-use Rattle.deals.proofs.Plans.{count_none, output-length, lists-passed, plan_room-is, plan-good-table}
+use Rattle.deals.proofs.Plans.{count_none, output-length, lists-passed, plan_room_is, plan_good_table}
 use Rattle.deals.proofs.WorkedRooms.{figures_of, planned}
 use Rattle.demands.specs.Text.{before, lines, are_digits, number_after, demand_of, demands_of}
 use Rattle.print.specs.Line.{numeral, freed_line, server_line, cord_line, refused_line}
@@ -143,17 +143,17 @@ pub record Starred : Type 0 where
 abbrev unserved : Room
 unserved = record { scale = 1000; nodes = record { parent = 0; rating = 100; percent = 80 } ∷ []; servers = [] }
 
-unserved-checked : checked no_servers 0 ≡ good unserved 5
+unserved_checked : checked no_servers 0 ≡ good unserved 5
 unfolding checked follow word ensure end many total form_of percent node cord range load server table beneath server_lows lows first_node overloaded
-unserved-checked = refl
+unserved_checked = refl
 
-unserved-planned : (lengths : Lengths) → plan no_servers [] lengths ≡ outcomes.accepted (plan_of unserved [])
+unserved_planned : (lengths : Lengths) → plan no_servers [] lengths ≡ outcomes.accepted (plan_of unserved [])
 unfolding first_not_below total
-unserved-planned lengths =
-    plan-good-table no_servers [] lengths unserved 5 unserved-checked
-    ∙ plan_room-is unserved [] lengths
-    ∙ unless-pass _ _ (plan_of unserved []) refl
-    ∙ unless-pass _ _ (plan_of unserved []) refl
+unserved_planned lengths =
+    plan_good_table no_servers [] lengths unserved 5 unserved_checked
+    ∙ plan_room_is unserved [] lengths
+    ∙ unless_pass _ _ (plan_of unserved []) refl
+    ∙ unless_pass _ _ (plan_of unserved []) refl
     ∙ lists-passed (plan_of unserved []) 0 0 lengths (λ list. omega (arith, count_none list))
 
 -- What is written of no entries changes nothing.
@@ -181,8 +181,8 @@ starred =
       byte80 = refl;
       bytes018000 = refl;
       bytes80808080 = refl;
-      no_servers_freed = λ given. ap plan.answer_of (unserved-planned (lent given));
-      no_servers_lists = λ given list. ap (λ (o : PlanOutcome). after (output list) o (given list)) (unserved-planned (lent given))
+      no_servers_freed = λ given. ap plan.answer_of (unserved_planned (lent given));
+      no_servers_lists = λ given list. ap (λ (o : PlanOutcome). after (output list) o (given list)) (unserved_planned (lent given))
           ∙ none_written (given list) (output list (plan_of unserved [])) (output-length unserved [] list ∙ count_none list);
     }
 

@@ -11,7 +11,7 @@ use Rattle.io.specs.Counts.{IsPrefixLen}
 use Rattle.figures.proofs.Stores.{take-sets}
 use Rattle.numbers.specs.Number.{form}
 use Rattle.numbers.specs.Sheet.{bytes_of}
-use Rattle.numbers.proofs.NumberLaws.{length-form≤4}
+use Rattle.numbers.proofs.NumberLaws.{length_form≤4}
 use Rattle.rooms.specs.Outcome.{writing, sheet_figure}
 use Rattle.rooms.specs.Outcome as rooms
 use Rattle.rooms.specs.declared.SheetAnswer.{SheetAnswer}
@@ -20,8 +20,8 @@ use Rattle.print.proofs.Putting.{put_whole}
 use Rattle.print.proofs.Size.{length-refused_line}
 use Rattle.outcomes.specs.Outcome.{accepted, refused, after}
 use Rattle.schedules.specs.Schedule.{ScheduleOutcome, most_schedule_words, schedule_refusal_number, schedule_refusal_place, scheduling, answer_of}
-use Rattle.schedules.proofs.TableLaws.{written-fits}
-use Rattle.schedules.proofs.Promises.{schedule-gives-room}
+use Rattle.schedules.proofs.TableLaws.{written_fits}
+use Rattle.schedules.proofs.Promises.{schedule_gives_room}
 use Rattle.schedules.specs.declared.ScheduleRefusal.{ScheduleRefusal}
 use Rattle.schedules.specs.declared.Scheduled.TheVariants.{Accepted, Refused}
 use Rattle.hutschedule.specs.Printed.{most_output, printed}
@@ -30,20 +30,20 @@ use Rattle.hutschedule.specs.Printed.{most_output, printed}
 length-bytes_of : (words : List ℕ) → length (bytes_of words) ≤ 4 * length words
 unfolding bytes_of
 length-bytes_of [] = omega arith
-length-bytes_of (w ∷ words) = omega (arith, length-append (form w) (bytes_of words), length-form≤4 w, length-bytes_of words)
+length-bytes_of (w ∷ words) = omega (arith, length-append (form w) (bytes_of words), length_form≤4 w, length-bytes_of words)
 
 -- ---- Refused
 
-refused-so : (outcome : ScheduleOutcome) {refusal : ScheduleRefusal} → Refused refusal ≡ answer_of outcome → outcome ≡ refused refusal
-refused-so (accepted table) e = absurd (suc-ne-zero 0 (cc))
-refused-so (refused q) {refusal = refusal} e = let a : q ≡ refusal = cc in rw a
+refused_so : (outcome : ScheduleOutcome) {refusal : ScheduleRefusal} → Refused refusal ≡ answer_of outcome → outcome ≡ refused refusal
+refused_so (accepted table) e = absurd (suc-ne-zero 0 (cc))
+refused_so (refused q) {refusal = refusal} e = let a : q ≡ refusal = cc in rw a
 
-pub text-refused : (text buffer : List ℕ) {buffer' : List ℕ} {words length' : ℕ} {refusal : ScheduleRefusal} → words ≡ most_schedule_words → most_output ≤ length buffer
+pub text_refused : (text buffer : List ℕ) {buffer' : List ℕ} {words length' : ℕ} {refusal : ScheduleRefusal} → words ≡ most_schedule_words → most_output ≤ length buffer
     → Refused refusal ≡ answer_of (scheduling text words) → Put buffer 0 buffer' length' (refused_line (schedule_refusal_number refusal) (schedule_refusal_place refusal))
     → record { refused = true; bytes = take length' buffer' } ≡ printed text
 unfolding printed
-text-refused text buffer {refusal = refusal} n long r p =
-    let is : scheduling text most_schedule_words ≡ refused refusal = rw n at (refused-so (scheduling text _) r) in
+text_refused text buffer {refusal = refusal} n long r p =
+    let is : scheduling text most_schedule_words ≡ refused refusal = rw n at (refused_so (scheduling text _) r) in
     rw (is, put_whole p (omega (arith, length-refused_line (schedule_refusal_number refusal) (schedule_refusal_place refusal))))
 
 -- ---- Accepted
@@ -60,23 +60,23 @@ stands text list {list'} {count} n a e = go (scheduling text most_schedule_words
     go : (o : ScheduleOutcome) → scheduling text most_schedule_words ≡ o → Accepted count ≡ answer_of o → list' ≡ after (λ words. words) o list → Stands text list' count
     go (accepted table) s a e =
         let c : count ≡ length table = cc in
-        let short : length table ≤ most_schedule_words = rw s at (written-fits text most_schedule_words) in
+        let short : length table ≤ most_schedule_words = rw s at (written_fits text most_schedule_words) in
         let front : take count list' ≡ table = rw (c, e) (take-sets (length table) list table (omega arith) (omega arith) ∙ take-length table) in
         record { is = s ∙ ap accepted (sym front); fits = omega (arith, ap length e ∙ length-sets list 0 table) }
     go (refused q) s a e = absurd (suc-ne-zero 0 (cc))
 
 -- Its sheet is written.
-pub sheet-written : (text list buffer : List ℕ) {buffer' : List ℕ} {count length' : ℕ} {told : SheetAnswer} → Stands text list count → most_output ≤ length buffer
+pub sheet_written : (text list buffer : List ℕ) {buffer' : List ℕ} {count length' : ℕ} {told : SheetAnswer} → Stands text list count → most_output ≤ length buffer
     → told ≡ rooms.answer_of (writing (take count list) (length buffer)) → buffer' ≡ after (λ bytes. bytes) (writing (take count list) (length buffer)) buffer
     → length' ≡ sheet_figure told
     → (record { refused = false; bytes = take length' buffer' } ≡ printed text) × IsPrefixLen length' buffer'
 unfolding printed
-sheet-written text list buffer {buffer'} {count} {length'} {told} s long t b l =
+sheet_written text list buffer {buffer'} {count} {length'} {told} s long t b l =
     let table = take count list in
     let sheet = bytes_of table in
-    let words : length table ≤ most_schedule_words = rw s.is at (written-fits text most_schedule_words) in
+    let words : length table ≤ most_schedule_words = rw s.is at (written_fits text most_schedule_words) in
     let fits : length sheet ≤ length buffer = omega (arith, length-bytes_of table) in
-    let writes = (schedule-gives-room text table most_schedule_words s.is).writes (length buffer) fits in
+    let writes = (schedule_gives_room text table most_schedule_words s.is).writes (length buffer) fits in
     let size : length' ≡ length sheet = l ∙ ap sheet_figure t ∙ rw writes refl in
     let stored : buffer' ≡ sets buffer 0 sheet = b ∙ rw writes refl in
     let front : take length' buffer' ≡ sheet = rw (size, stored) (take-sets (length sheet) buffer sheet fits (omega arith) ∙ take-length sheet) in

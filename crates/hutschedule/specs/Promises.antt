@@ -1,4 +1,4 @@
--- What the contract of `print_input` comes to. A statement; proofs/Promises.antt proves it, as `prints-input`.
+-- What the contract of `print_input` comes to. A statement; proofs/Promises.antt proves it, as `prints_input`.
 use Rattle.std.specs.Prelude.{◌≡◌, List, ℕ, take}
 use Rattle.hutschedule.specs.Printed.{most_input, printed}
 

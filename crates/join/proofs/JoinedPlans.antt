@@ -19,10 +19,10 @@ use Rattle.deals.specs.Headroom.{headroom}
 use Rattle.deals.specs.Held.{held}
 use Rattle.deals.specs.Plan.{plan_of}
 use Rattle.deals.proofs.BothDeals.{stranded-count}
-use Rattle.deals.proofs.RoomInside.{RoomInside, ServersIn, first_grants-in, stranded-in, second_grants-in, caps-in}
-use Rattle.deals.proofs.RoomInsideLists.{room-headroom-in, room-held-in}
+use Rattle.deals.proofs.RoomInside.{RoomInside, ServersIn, first_grants_in, stranded_in, second_grants_in, caps_in}
+use Rattle.deals.proofs.RoomInsideLists.{room_headroom_in, room_held_in}
 use Rattle.join.specs.Joined.{joined, joined_plan}
-use Rattle.join.proofs.JoinedRoom.{accepted-facts, Side, before, behind, side, behind-at, map_at, raised-none, servers-joined, cords-count, first-inside, second-inside}
+use Rattle.join.proofs.JoinedRoom.{accepted_facts, Side, before, behind, side, behind_at, map_at, raised_none, servers-joined, cords-count, first_inside, second_inside}
 use Rattle.deals.proofs.Plans.{second_grants-length, caps-length, headroom-length, held-length}
 
 -- A list that has the entries of one, and behind them those of another.
@@ -32,7 +32,7 @@ appended l f g k e n lo hi = ext_get_or 0 l (f ++ g) (omega (arith, length-appen
   where
     go : (i : ℕ) → i < length l → Side k i → at l i ≡ at (f ++ g) i
     go i h (before o) = (rw add-zero at (lo i o)) ∙ sym (get_or-append f g 0 i (omega arith))
-    go i h (behind j o) = ap (at l) o ∙ hi j (omega arith) ∙ sym (ap (at (f ++ g)) o ∙ behind-at f g j k 0 e)
+    go i h (behind j o) = ap (at l) o ∙ hi j (omega arith) ∙ sym (ap (at (f ++ g)) o ∙ behind_at f g j k 0 e)
 
 module _ (r q : Room) (ok : Accepted r) (ko : Accepted q) (both : Accepted (joined r q)) (same : q.scale ≡ r.scale)
     (d e : List ℕ) (count : length d ≡ length r.servers) where
@@ -40,22 +40,22 @@ module _ (r q : Room) (ok : Accepted r) (ko : Accepted q) (both : Accepted (join
   whole = joined r q
 
   one : RoomInside r whole 0 0 0
-  one = first-inside r q (accepted-facts r ok)
+  one = first_inside r q (accepted_facts r ok)
 
   two : RoomInside q whole (length r.nodes) (room_cords r) (length r.servers)
-  two = second-inside r q (accepted-facts r ok) same
+  two = second_inside r q (accepted_facts r ok) same
 
-  demands-one : ServersIn r whole 0 0 0 one ok both 0 (d ++ e) d
-  demands-one u l k = rw add-zero (get_or-append d e 0 u (omega arith))
+  demands_one : ServersIn r whole 0 0 0 one ok both 0 (d ++ e) d
+  demands_one u l k = rw add-zero (get_or-append d e 0 u (omega arith))
 
-  demands-two : ServersIn q whole (length r.nodes) (room_cords r) (length r.servers) two ko both 0 (d ++ e) e
-  demands-two u l k = behind-at d e u (length r.servers) 0 count
+  demands_two : ServersIn q whole (length r.nodes) (room_cords r) (length r.servers) two ko both 0 (d ++ e) e
+  demands_two u l k = behind_at d e u (length r.servers) 0 count
 
   -- A list with a figure a cord, of the whole and of its halves.
-  cords-appended : (list : Room → List ℕ → List ℕ) → ((r : Room) (d : List ℕ) → length (list r d) ≡ room_cords r) → (g : List ℕ) → length g ≡ room_cords q
+  cords_appended : (list : Room → List ℕ → List ℕ) → ((r : Room) (d : List ℕ) → length (list r d) ≡ room_cords r) → (g : List ℕ) → length g ≡ room_cords q
       → ((c : ℕ) → c < room_cords r → at (list whole (d ++ e)) (c + 0) ≡ at (list r d) c)
       → ((c : ℕ) → c < room_cords q → at (list whole (d ++ e)) (c + room_cords r) ≡ at g c) → list whole (d ++ e) ≡ list r d ++ g
-  cords-appended list count g z lo hi =
+  cords_appended list count g z lo hi =
       appended (list whole (d ++ e)) (list r d) g (room_cords r) (count r d) (omega (arith, count whole (d ++ e), cords-count r q)) lo (λ c h. hi c (omega arith))
 
   abbrev left : Room → List ℕ → List ℕ
@@ -63,9 +63,9 @@ module _ (r q : Room) (ok : Accepted r) (ko : Accepted q) (both : Accepted (join
 
   stranded-joined : left whole (d ++ e) ≡ left r d ++ left q e
   stranded-joined =
-      cords-appended left (λ r d. stranded-count r (first_grants r d) (first_used r d)) (left q e) (stranded-count q (first_grants q e) (first_used q e))
-      (λ c l. stranded-in r whole 0 0 0 one ok both 0 (d ++ e) d demands-one c l zero-le)
-      (λ c l. stranded-in q whole (length r.nodes) (room_cords r) (length r.servers) two ko both 0 (d ++ e) e demands-two c l zero-le)
+      cords_appended left (λ r d. stranded-count r (first_grants r d) (first_used r d)) (left q e) (stranded-count q (first_grants q e) (first_used q e))
+      (λ c l. stranded_in r whole 0 0 0 one ok both 0 (d ++ e) d demands_one c l zero-le)
+      (λ c l. stranded_in q whole (length r.nodes) (room_cords r) (length r.servers) two ko both 0 (d ++ e) e demands_two c l zero-le)
 
   freed-joined : freed whole (d ++ e) ≡ freed r d + freed q e
   unfolding freed
@@ -78,39 +78,39 @@ module _ (r q : Room) (ok : Accepted r) (ko : Accepted q) (both : Accepted (join
 
   pub first_grants-joined : first_grants whole (d ++ e) ≡ first_grants r d ++ first_grants q e
   first_grants-joined =
-      cords-appended first_grants first_grants-length (first_grants q e) (first_grants-length q e)
-      (λ c l. first_grants-in r whole 0 0 0 one ok both 0 (d ++ e) d demands-one c l zero-le)
-      (λ c l. first_grants-in q whole (length r.nodes) (room_cords r) (length r.servers) two ko both 0 (d ++ e) e demands-two c l zero-le)
+      cords_appended first_grants first_grants-length (first_grants q e) (first_grants-length q e)
+      (λ c l. first_grants_in r whole 0 0 0 one ok both 0 (d ++ e) d demands_one c l zero-le)
+      (λ c l. first_grants_in q whole (length r.nodes) (room_cords r) (length r.servers) two ko both 0 (d ++ e) e demands_two c l zero-le)
 
-  grants-joined : second_grants whole (d ++ e) ≡ second_grants r d ++ second_grants q e
-  grants-joined =
-      cords-appended second_grants second_grants-length (second_grants q e) (second_grants-length q e)
-      (λ c l. second_grants-in r whole 0 0 0 one ok both 0 (d ++ e) d demands-one c l zero-le)
-      (λ c l. second_grants-in q whole (length r.nodes) (room_cords r) (length r.servers) two ko both 0 (d ++ e) e demands-two c l zero-le)
+  grants_joined : second_grants whole (d ++ e) ≡ second_grants r d ++ second_grants q e
+  grants_joined =
+      cords_appended second_grants second_grants-length (second_grants q e) (second_grants-length q e)
+      (λ c l. second_grants_in r whole 0 0 0 one ok both 0 (d ++ e) d demands_one c l zero-le)
+      (λ c l. second_grants_in q whole (length r.nodes) (room_cords r) (length r.servers) two ko both 0 (d ++ e) e demands_two c l zero-le)
 
   caps-joined : caps whole (d ++ e) ≡ caps r d ++ caps q e
   caps-joined =
       appended (caps whole (d ++ e)) (caps r d) (caps q e) (length r.servers) (caps-length r d) (omega (arith, caps-length whole (d ++ e), caps-length q e, servers-joined r q))
-      (λ u l. caps-in r whole 0 0 0 one ok both 0 (d ++ e) d demands-one u l zero-le)
-      (λ u l. caps-in q whole (length r.nodes) (room_cords r) (length r.servers) two ko both 0 (d ++ e) e demands-two u (omega (arith, caps-length q e)) zero-le)
+      (λ u l. caps_in r whole 0 0 0 one ok both 0 (d ++ e) d demands_one u l zero-le)
+      (λ u l. caps_in q whole (length r.nodes) (room_cords r) (length r.servers) two ko both 0 (d ++ e) e demands_two u (omega (arith, caps-length q e)) zero-le)
 
   headroom-joined : headroom whole (d ++ e) ≡ headroom r d ++ headroom q e
   headroom-joined =
-      cords-appended headroom headroom-length (headroom q e) (headroom-length q e)
-      (λ c l. room-headroom-in r whole 0 0 0 one ok both (d ++ e) d demands-one c l)
-      (λ c l. room-headroom-in q whole (length r.nodes) (room_cords r) (length r.servers) two ko both (d ++ e) e demands-two c l)
+      cords_appended headroom headroom-length (headroom q e) (headroom-length q e)
+      (λ c l. room_headroom_in r whole 0 0 0 one ok both (d ++ e) d demands_one c l)
+      (λ c l. room_headroom_in q whole (length r.nodes) (room_cords r) (length r.servers) two ko both (d ++ e) e demands_two c l)
 
   held-joined : held whole (d ++ e) ≡ held r d ++ map (raised (length r.nodes)) (held q e)
   held-joined =
-      cords-appended held held-length (map (raised (length r.nodes)) (held q e)) (length-map (held q e) (raised (length r.nodes)) ∙ held-length q e)
-      (λ c l. room-held-in r whole 0 0 0 one ok both (d ++ e) d demands-one c l ∙ sym (raised-none (at (held r d) c)))
-      (λ c l. room-held-in q whole (length r.nodes) (room_cords r) (length r.servers) two ko both (d ++ e) e demands-two c l
+      cords_appended held held-length (map (raised (length r.nodes)) (held q e)) (length-map (held q e) (raised (length r.nodes)) ∙ held-length q e)
+      (λ c l. room_held_in r whole 0 0 0 one ok both (d ++ e) d demands_one c l ∙ sym (raised_none (at (held r d) c)))
+      (λ c l. room_held_in q whole (length r.nodes) (room_cords r) (length r.servers) two ko both (d ++ e) e demands_two c l
       ∙ sym (map_at (raised (length r.nodes)) (held q e) c 0 0 (omega (arith, held-length q e))))
 
   pub plan-joined : plan_of whole (d ++ e) ≡ joined_plan (length r.nodes) (plan_of r d) (plan_of q e)
   plan-joined = λ i. record {
     freed = freed-joined i;
-    grants = grants-joined i;
+    grants = grants_joined i;
     caps = caps-joined i;
     headroom = headroom-joined i;
     held = held-joined i;

@@ -10,7 +10,7 @@ use lib.ListN.{length, length-map}
 use lib.Dec.{eqb}
 use Rattle.figures.specs.Figures.{total}
 use Rattle.figures.specs.Sums.{on}
-use Rattle.figures.proofs.Sums.{sum-cong}
+use Rattle.figures.proofs.Sums.{sum_cong}
 use Rattle.rooms.specs.Part.{good}
 use Rattle.rooms.specs.Table.{raised, Node, Cord, Server, Room, form_of, most_nodes, most_servers, most_cords, room_cords, share_of}
 use Rattle.rooms.specs.Limits.{limit, carried, node_at, parent_of, hangs_beneath, lows_beneath, checked}
@@ -19,18 +19,18 @@ use Rattle.rooms.specs.Promises.{IsNode, Within}
 use Rattle.rooms.proofs.All.{All}
 use Rattle.rooms.proofs.Accepted.{CordAccepted, ServerAccepted, Accepted}
 use Rattle.rooms.proofs.Cords.{lows-sum}
-use Rattle.rooms.proofs.Trees.{sum_beneath-step, sum_beneath-unique}
+use Rattle.rooms.proofs.Trees.{sum_beneath_step, sum_beneath_unique}
 use Rattle.rooms.specs.Words.{table_of, NodeInRange}
-use Rattle.rooms.proofs.Tables.{Chain, RoomFits, table-reads}
+use Rattle.rooms.proofs.Tables.{Chain, RoomFits, table_reads}
 use Rattle.rooms.proofs.Words.{servers-fit}
-use Rattle.rooms.proofs.Promises.{refusal-nine}
+use Rattle.rooms.proofs.Promises.{refusal_nine}
 use Rattle.deals.specs.Metrics.{Deal}
 use Rattle.deals.proofs.Requests.{deal_beneath}
-use Rattle.deals.proofs.BothDeals.{parents-below, cord-facts}
-use Rattle.deals.proofs.Inside.{Inside, child_nodes-in, child_cords-in}
+use Rattle.deals.proofs.BothDeals.{parents_below, cord_facts}
+use Rattle.deals.proofs.Inside.{Inside, child_nodes_in, child_cords_in}
 use Rattle.deals.proofs.RoomInside.{RoomInside}
 use Rattle.join.specs.Joined.{raised_node, raised_cord, raised_server, joined}
-use Rattle.join.proofs.JoinedRoom.{Linked, accepted-facts, total_kept, Side, before, behind, side, nodes-joined, servers-joined, cords-count, first-inside, second-inside}
+use Rattle.join.proofs.JoinedRoom.{Linked, accepted_facts, total_kept, Side, before, behind, side, nodes-joined, servers-joined, cords-count, first_inside, second_inside}
 use Rattle.rooms.specs.Trees.{sum_beneath, ParentsFirst}
 
 -- ---- Figures in range
@@ -46,10 +46,10 @@ unfolding All
 all_map P Q f h [] ps = tt
 all_map P Q f h (x ∷ l) ps = (h x ps.0, all_map P Q f h l ps.1)
 
-all-weaken : {A : Type 0} (P Q : A → Type 0) → ((x : A) → P x → Q x) → (l : List A) → All P l → All Q l
+all_weaken : {A : Type 0} (P Q : A → Type 0) → ((x : A) → P x → Q x) → (l : List A) → All P l → All Q l
 unfolding All
-all-weaken P Q h [] ps = tt
-all-weaken P Q h (x ∷ l) ps = (h x ps.0, all-weaken P Q h l ps.1)
+all_weaken P Q h [] ps = tt
+all_weaken P Q h (x ∷ l) ps = (h x ps.0, all_weaken P Q h l ps.1)
 
 abbrev pub Nodes : Bool → ℕ → List Node → Type 0
 Nodes percents own l = Chain (NodeInRange percents) (λ own _. suc own) own l
@@ -72,13 +72,13 @@ nodes-raised percents a (n ∷ l) own h f = (
   subst (λ (x : ℕ). Nodes percents x (map (raised_node a) l)) (let q : suc own + a ≡ suc (own + a) = omega arith in q) (nodes-raised percents a l (suc own) (omega arith) f.1),
 )
 
-raised-from : (a v : ℕ) → 1 ≤ v → 1 ≤ raised a v
-raised-from a zero h = absurd (omega arith)
-raised-from a (suc v) h = omega arith
+raised_from : (a v : ℕ) → 1 ≤ v → 1 ≤ raised a v
+raised_from a zero h = absurd (omega arith)
+raised_from a (suc v) h = omega arith
 
-raised-to : (a v k : ℕ) → v ≤ k → raised a v ≤ a + k
-raised-to a zero k h = omega arith
-raised-to a (suc v) k h = omega arith
+raised_to : (a v k : ℕ) → v ≤ k → raised a v ≤ a + k
+raised_to a zero k h = omega arith
+raised_to a (suc v) k h = omega arith
 
 -- A server is accepted with other cords: as many, with shares that are whole, and each of them accepted.
 pub with-cords : {scale k h : ℕ} {s : Server} (cords : List Cord) → ServerAccepted scale k s → length cords ≡ length s.cords → total share_of cords ≡ total share_of s.cords
@@ -95,14 +95,14 @@ with-cords cords f count shares each = record {
 }
 
 module _ (scale : ℕ) where
-  cord-wider : (k h : ℕ) → k ≤ h → (c : Cord) → CordAccepted scale k c → CordAccepted scale h c
-  cord-wider k h l c f = record { node_from = f.node_from; node_to = omega (arith, f.node_to); share_to = f.share_to }
+  cord_wider : (k h : ℕ) → k ≤ h → (c : Cord) → CordAccepted scale k c → CordAccepted scale h c
+  cord_wider k h l c f = record { node_from = f.node_from; node_to = omega (arith, f.node_to); share_to = f.share_to }
 
-  server-wider : (k h : ℕ) → k ≤ h → (s : Server) → ServerAccepted scale k s → ServerAccepted scale h s
-  server-wider k h l s f = with-cords s.cords f refl refl (all-weaken _ _ (cord-wider k h l) s.cords f.cords)
+  server_wider : (k h : ℕ) → k ≤ h → (s : Server) → ServerAccepted scale k s → ServerAccepted scale h s
+  server_wider k h l s f = with-cords s.cords f refl refl (all_weaken _ _ (cord_wider k h l) s.cords f.cords)
 
   cord-raised : (a k : ℕ) (c : Cord) → CordAccepted scale k c → CordAccepted scale (a + k) (raised_cord a c)
-  cord-raised a k c g = record { node_from = raised-from a c.node g.node_from; node_to = raised-to a c.node k g.node_to; share_to = g.share_to }
+  cord-raised a k c g = record { node_from = raised_from a c.node g.node_from; node_to = raised_to a c.node k g.node_to; share_to = g.share_to }
 
   server-raised : (a k : ℕ) (s : Server) → ServerAccepted scale k s → ServerAccepted scale (a + k) (raised_server a s)
   server-raised a k s f =
@@ -126,41 +126,41 @@ plain r = record {
   levels = 1;
 }
 
-plain-lows : (r : Room) (n : ℕ) → deal_beneath (plain r) n (plain r).low ≡ lows_beneath r n
+plain_lows : (r : Room) (n : ℕ) → deal_beneath (plain r) n (plain r).low ≡ lows_beneath r n
 unfolding sum_beneath
-plain-lows r n = sym (lows-sum r (hangs_beneath r n))
+plain_lows r n = sym (lows-sum r (hangs_beneath r n))
 
 module _ (r q : Room) (a b v : ℕ) (ins : RoomInside r q a b v) (facts : Linked r) (other : Linked q) where
-  low-in : (c : ℕ) → c < room_cords r → (plain q).low (c + b) ≡ (plain r).low c
-  low-in c l =
+  low_in : (c : ℕ) → c < room_cords r → (plain q).low (c + b) ≡ (plain r).low c
+  low_in c l =
       ap₂ (λ (k s : ℕ). carried k s (server_at q (cord_at q (c + b)).server).least) ins.scale (ins.share c l)
       ∙ ap (carried r.scale (cord_at r c).share) (ap (λ (u : ℕ). (server_at q u).least) (ins.server c l) ∙ ins.least (cord_at r c).server (facts.served c l))
 
-  plain-inside : Inside (plain r) (plain q) a b 0
-  plain-inside = record {
+  plain_inside : Inside (plain r) (plain q) a b 0
+  plain_inside = record {
     nodes_fit = ins.nodes_fit;
     cords_fit = ins.cords_fit;
     parent = ins.parent;
     node = ins.node;
     limit = ins.limits;
     level = λ c l. refl;
-    low = low-in;
-    want = λ c l k. low-in c l;
-    start = λ c l k. low-in c l;
+    low = low_in;
+    want = λ c l k. low_in c l;
+    start = λ c l k. low_in c l;
     levels = refl;
     alone = ins.alone;
     bare = ins.bare;
   }
 
-  pub lows_beneath-in : (n : ℕ) → n < length r.nodes → lows_beneath q (n + a) ≡ lows_beneath r n
-  lows_beneath-in n l =
-      sym (plain-lows q (n + a))
-      ∙ sum_beneath-unique (length r.nodes) (parent_of r) facts.rises (room_cords r) (λ c. (cord_at r c).node) facts.here (plain r).low (λ n. sums (n + a)) (λ n l.
-      sum_beneath-step (length q.nodes) (parent_of q) other.rises (room_cords q) (λ c. (cord_at q c).node) other.here (n + a) (plain q).low
+  pub lows_beneath_in : (n : ℕ) → n < length r.nodes → lows_beneath q (n + a) ≡ lows_beneath r n
+  lows_beneath_in n l =
+      sym (plain_lows q (n + a))
+      ∙ sum_beneath_unique (length r.nodes) (parent_of r) facts.rises (room_cords r) (λ c. (cord_at r c).node) facts.here (plain r).low (λ n. sums (n + a)) (λ n l.
+      sum_beneath_step (length q.nodes) (parent_of q) other.rises (room_cords q) (λ c. (cord_at q c).node) other.here (n + a) (plain q).low
       ∙ ap₂ ◌+◌
-      (child_cords-in (plain r) (plain q) a b 0 plain-inside n l (plain q).low ∙ sum-cong (room_cords r) _ _ (λ c lc. ap (λ (e : ℕ). on (eqb (cord_at r c).node (suc n)) e) (low-in c lc)))
-      (child_nodes-in (plain r) (plain q) a b 0 plain-inside n l sums)) n l
-      ∙ plain-lows r n
+      (child_cords_in (plain r) (plain q) a b 0 plain_inside n l (plain q).low ∙ sum_cong (room_cords r) _ _ (λ c lc. ap (λ (e : ℕ). on (eqb (cord_at r c).node (suc n)) e) (low_in c lc)))
+      (child_nodes_in (plain r) (plain q) a b 0 plain_inside n l sums)) n l
+      ∙ plain_lows r n
     where
       sums : ℕ → ℕ
       sums n = deal_beneath (plain q) n (plain q).low
@@ -182,12 +182,12 @@ module _ (version : ℕ) (r q : Room) (fr : RoomFits version r) (fq : RoomFits v
   joined-servers =
       subst (λ (k : ℕ). All (ServerAccepted r.scale k) whole.servers) (sym (nodes-joined r q))
       (all_append _ r.servers _
-      (all-weaken _ _ (server-wider r.scale (length r.nodes) (length r.nodes + length q.nodes) (omega arith)) r.servers ok.servers)
+      (all_weaken _ _ (server_wider r.scale (length r.nodes) (length r.nodes + length q.nodes) (omega arith)) r.servers ok.servers)
       (all_map _ _ (raised_server (length r.nodes)) (server-raised r.scale (length r.nodes) (length q.nodes)) q.servers
       (subst (λ (k : ℕ). All (ServerAccepted k (length q.nodes)) q.servers) may.scale ko.servers)))
 
-  pub joined-fits : RoomFits version whole
-  joined-fits = record {
+  pub joined_fits : RoomFits version whole
+  joined_fits = record {
     first = fr.first;
     newest = fr.newest;
     scaled = fr.scaled;
@@ -198,25 +198,25 @@ module _ (version : ℕ) (r q : Room) (fr : RoomFits version r) (fq : RoomFits v
     servers = servers-fit r.scale (length whole.nodes) whole.servers 0 (omega (arith, cords-count r q, may.cords)) joined-servers;
   }
 
-  parents-joined : ParentsFirst (length whole.nodes) (parent_of whole)
-  parents-joined m l = go (side (length r.nodes) m)
+  parents_joined : ParentsFirst (length whole.nodes) (parent_of whole)
+  parents_joined m l = go (side (length r.nodes) m)
     where
       go : Side (length r.nodes) m → parent_of whole m ≤ m
       go (before o) =
           subst (λ (x : ℕ). parent_of whole x ≤ m) (add-zero m)
-          (subst (λ (x : ℕ). x ≤ m) (sym ((first-inside r q (accepted-facts r ok)).parent m o)) (raised-small (parent_of r m) m (parents-below r ok m o)))
+          (subst (λ (x : ℕ). x ≤ m) (sym ((first_inside r q (accepted_facts r ok)).parent m o)) (raised_small (parent_of r m) m (parents_below r ok m o)))
         where
-          raised-small : (v m : ℕ) → v ≤ m → raised 0 v ≤ m
-          raised-small zero m h = omega arith
-          raised-small (suc v) m h = omega arith
+          raised_small : (v m : ℕ) → v ≤ m → raised 0 v ≤ m
+          raised_small zero m h = omega arith
+          raised_small (suc v) m h = omega arith
       go (behind i o) =
           let li : i < length q.nodes = omega (arith, nodes-joined r q) in
           subst (λ (x : ℕ). parent_of whole x ≤ x) (sym o)
-          (subst (λ (x : ℕ). x ≤ i + length r.nodes) (sym ((second-inside r q (accepted-facts r ok) may.scale).parent i li)) (raised-near (length r.nodes) (parent_of q i) i (parents-below q ko i li)))
+          (subst (λ (x : ℕ). x ≤ i + length r.nodes) (sym ((second_inside r q (accepted_facts r ok) may.scale).parent i li)) (raised_near (length r.nodes) (parent_of q i) i (parents_below q ko i li)))
         where
-          raised-near : (a v i : ℕ) → v ≤ i → raised a v ≤ i + a
-          raised-near a zero i h = omega arith
-          raised-near a (suc v) i h = omega arith
+          raised_near : (a v i : ℕ) → v ≤ i → raised a v ≤ i + a
+          raised_near a zero i h = omega arith
+          raised_near a (suc v) i h = omega arith
 
   nodes-here : (c : ℕ) → c < room_cords whole → (cord_at whole c).node ≤ length whole.nodes
   nodes-here c l = go (side (room_cords r) c)
@@ -224,28 +224,28 @@ module _ (version : ℕ) (r q : Room) (fr : RoomFits version r) (fq : RoomFits v
       go : Side (room_cords r) c → (cord_at whole c).node ≤ length whole.nodes
       go (before o) =
           subst (λ (x : ℕ). (cord_at whole x).node ≤ length whole.nodes) (add-zero c)
-          (subst (λ (x : ℕ). x ≤ length whole.nodes) (sym ((first-inside r q (accepted-facts r ok)).node c o))
-          (let h : raised 0 (cord_at r c).node ≤ 0 + length r.nodes = raised-to 0 (cord_at r c).node (length r.nodes) (cord-facts r ok c o).2 in omega (arith, nodes-joined r q)))
+          (subst (λ (x : ℕ). x ≤ length whole.nodes) (sym ((first_inside r q (accepted_facts r ok)).node c o))
+          (let h : raised 0 (cord_at r c).node ≤ 0 + length r.nodes = raised_to 0 (cord_at r c).node (length r.nodes) (cord_facts r ok c o).2 in omega (arith, nodes-joined r q)))
       go (behind i o) =
           let li : i < room_cords q = omega (arith, cords-count r q) in
           subst (λ (x : ℕ). (cord_at whole x).node ≤ length whole.nodes) (sym o)
-          (subst (λ (x : ℕ). x ≤ length whole.nodes) (sym ((second-inside r q (accepted-facts r ok) may.scale).node i li))
-          (let h = raised-to (length r.nodes) (cord_at q i).node (length q.nodes) (cord-facts q ko i li).2 in omega (arith, nodes-joined r q)))
+          (subst (λ (x : ℕ). x ≤ length whole.nodes) (sym ((second_inside r q (accepted_facts r ok) may.scale).node i li))
+          (let h = raised_to (length r.nodes) (cord_at q i).node (length q.nodes) (cord_facts q ko i li).2 in omega (arith, nodes-joined r q)))
 
-  joined-served : (c : ℕ) → c < room_cords whole → (cord_at whole c).server < length whole.servers
-  joined-served c l = go (side (room_cords r) c)
+  joined_served : (c : ℕ) → c < room_cords whole → (cord_at whole c).server < length whole.servers
+  joined_served c l = go (side (room_cords r) c)
     where
       go : Side (room_cords r) c → (cord_at whole c).server < length whole.servers
       go (before o) =
           subst (λ (x : ℕ). (cord_at whole x).server < length whole.servers) (add-zero c)
-          (omega (arith, (first-inside r q (accepted-facts r ok)).server c o, (cord-facts r ok c o).0, servers-joined r q))
+          (omega (arith, (first_inside r q (accepted_facts r ok)).server c o, (cord_facts r ok c o).0, servers-joined r q))
       go (behind i o) =
           let li : i < room_cords q = omega (arith, cords-count r q) in
           subst (λ (x : ℕ). (cord_at whole x).server < length whole.servers) (sym o)
-          (omega (arith, (second-inside r q (accepted-facts r ok) may.scale).server i li, (cord-facts q ko i li).0, servers-joined r q))
+          (omega (arith, (second_inside r q (accepted_facts r ok) may.scale).server i li, (cord_facts q ko i li).0, servers-joined r q))
 
-  joined-facts : Linked whole
-  joined-facts = record { rises = parents-joined; here = nodes-here; served = joined-served }
+  joined_facts : Linked whole
+  joined_facts = record { rises = parents_joined; here = nodes-here; served = joined_served }
 
   within : (n : ℕ) → IsNode whole n → Within whole n
   within n h = go (n - 1) (let z : n - 1 < length whole.nodes = omega arith in z) (side (length r.nodes) (n - 1))
@@ -253,15 +253,15 @@ module _ (version : ℕ) (r q : Room) (fr : RoomFits version r) (fq : RoomFits v
       go : (m : ℕ) → m < length whole.nodes → Side (length r.nodes) m → lows_beneath whole m ≤ limit (node_at whole m)
       go m l (before o) =
           subst (λ (x : ℕ). lows_beneath whole x ≤ limit (node_at whole x)) (add-zero m)
-          (let e = lows_beneath-in r whole 0 0 0 (first-inside r q (accepted-facts r ok)) (accepted-facts r ok) joined-facts m o in
-          let k = (first-inside r q (accepted-facts r ok)).limits m o in
+          (let e = lows_beneath_in r whole 0 0 0 (first_inside r q (accepted_facts r ok)) (accepted_facts r ok) joined_facts m o in
+          let k = (first_inside r q (accepted_facts r ok)).limits m o in
           omega (arith, ok.lows m o))
       go m l (behind i o) =
           let li : i < length q.nodes = omega (arith, nodes-joined r q) in
           subst (λ (x : ℕ). lows_beneath whole x ≤ limit (node_at whole x)) (sym o)
-          (let e = lows_beneath-in q whole (length r.nodes) (room_cords r) (length r.servers) (second-inside r q (accepted-facts r ok) may.scale) (accepted-facts q ko) joined-facts i li in
-          let k = (second-inside r q (accepted-facts r ok) may.scale).limits i li in
+          (let e = lows_beneath_in q whole (length r.nodes) (room_cords r) (length r.servers) (second_inside r q (accepted_facts r ok) may.scale) (accepted_facts q ko) joined_facts i li in
+          let k = (second_inside r q (accepted_facts r ok) may.scale).limits i li in
           omega (arith, ko.lows i li))
 
-  pub joined-checked : (let t = table-reads version whole joined-fits in checked (table_of version whole) 0 ≡ good whole t.next)
-  joined-checked = let t = table-reads version whole joined-fits in refusal-nine.passed (table_of version whole) whole t.next t.is within
+  pub joined-checked : (let t = table_reads version whole joined_fits in checked (table_of version whole) 0 ≡ good whole t.next)
+  joined-checked = let t = table_reads version whole joined_fits in refusal_nine.passed (table_of version whole) whole t.next t.is within

@@ -9,8 +9,8 @@ use lib.Seq.{sets, length-take-le, take-nil, drop-nil, take-suc-set, drop-set-lt
 use Rattle.words.specs.Bytes.{word, words_of}
 use Rattle.words.proofs.Bytes.{length-words_of}
 use Rattle.figures.specs.Bounds.{AllBelow}
-use Rattle.figures.proofs.Stores.{sets-all}
-use Rattle.figures.proofs.Bounds.{drop-below}
+use Rattle.figures.proofs.Stores.{sets_all}
+use Rattle.figures.proofs.Bounds.{drop_below}
 use Rattle.rooms.specs.Table.{node_words}
 use Rattle.join.specs.Pieces.{renumbered, renumbered_every, renumbered_cords, piece, MayPut, PiecePut}
 
@@ -22,12 +22,12 @@ pub record Turning (change : List ℕ → List ℕ) (wanted list now : List ℕ)
   pub ahead : drop i now ≡ drop i list
   pub same : take i now ++ change (drop i now) ≡ wanted
 
-pub turning-begin : (change : List ℕ → List ℕ) (list : List ℕ) → Turning change (change list) list list 0
-turning-begin change list = record { size = refl; ahead = refl; same = refl }
+pub turning_begin : (change : List ℕ → List ℕ) (list : List ℕ) → Turning change (change list) list list 0
+turning_begin change list = record { size = refl; ahead = refl; same = refl }
 
 -- Where nothing is left, all is done.
-pub turning-end : {change : List ℕ → List ℕ} {wanted list now : List ℕ} {i : ℕ} → change [] ≡ [] → length now ≤ i → Turning change wanted list now i → now ≡ wanted
-turning-end {change} {wanted} {list} {now} {i} none h t =
+pub turning_end : {change : List ℕ → List ℕ} {wanted list now : List ℕ} {i : ℕ} → change [] ≡ [] → length now ≤ i → Turning change wanted list now i → now ≡ wanted
+turning_end {change} {wanted} {list} {now} {i} none h t =
     sym (append-nil now)
     ∙ ap₂ ◌++◌ (sym (take_all i now h)) (sym (ap change (drop_past now i h) ∙ none))
     ∙ t.same
@@ -41,10 +41,10 @@ drop_more : (l m : List ℕ) (i k : ℕ) → drop i l ≡ drop i m → drop (i +
 drop_more l m i k e = sym (drop-drop k i l) ∙ ap (drop k) e ∙ drop-drop k i m
 
 -- The word at i is changed, and `gap` words behind it stay.
-pub turning-set : {change next : List ℕ → List ℕ} {wanted list now : List ℕ} {i : ℕ} (x gap : ℕ) → i < length now
+pub turning_set : {change next : List ℕ → List ℕ} {wanted list now : List ℕ} {i : ℕ} (x gap : ℕ) → i < length now
     → ((rest : List ℕ) → change (get_or now i 0 ∷ rest) ≡ x ∷ (take gap rest ++ next (drop gap rest)))
     → Turning change wanted list now i → Turning next wanted list (set now i x) (suc i + gap)
-turning-set {change} {next} {wanted} {list} {now} {i} x gap h step t =
+turning_set {change} {next} {wanted} {list} {now} {i} x gap h step t =
     let front : take (suc i + gap) (set now i x) ≡ (take i now ++ (x ∷ [])) ++ take gap (drop (suc i) now)
     = take-add (suc i) gap (set now i x) ∙ ap₂ (λ (a b : List ℕ). a ++ take gap b) (take-suc-set now i x h) (drop-set-lt (suc i) now i x (omega arith)) in
     let back : drop (suc i + gap) (set now i x) ≡ drop gap (drop (suc i) now)
@@ -63,10 +63,10 @@ turning-set {change} {next} {wanted} {list} {now} {i} x gap h step t =
     one_on l m i e = ap (λ (k : ℕ). drop k l) (let q : suc i ≡ i + 1 = omega arith in q) ∙ drop_more l m i 1 e ∙ ap (λ (k : ℕ). drop k m) (let q : i + 1 ≡ suc i = omega arith in q)
 
 -- So many words are passed as they are.
-pub turning-pass : {change next : List ℕ → List ℕ} {wanted list now : List ℕ} {i : ℕ} (k : ℕ)
+pub turning_pass : {change next : List ℕ → List ℕ} {wanted list now : List ℕ} {i : ℕ} (k : ℕ)
     → ((rest : List ℕ) → drop i now ≡ rest → change rest ≡ take k rest ++ next (drop k rest))
     → Turning change wanted list now i → Turning next wanted list now (i + k)
-turning-pass {change} {next} {wanted} {list} {now} {i} k step t = record {
+turning_pass {change} {next} {wanted} {list} {now} {i} k step t = record {
   size = t.size;
   ahead = drop_more now list i k t.ahead;
   same = ap₂ (λ (a b : List ℕ). a ++ next b) (take-add i k now) (sym (drop-drop k i now))
@@ -81,49 +81,49 @@ head_at (x ∷ l) zero = refl
 head_at (x ∷ l) (suc i) = head_at l i
 
 -- The entry at i is one of the list as it was.
-pub turning-at : {change : List ℕ → List ℕ} {wanted list now : List ℕ} {i : ℕ} → Turning change wanted list now i → get_or now i 0 ≡ get_or list i 0
-turning-at {change} {wanted} {list} {now} {i} t = head_at now i ∙ ap (λ (l : List ℕ). get_or l 0 0) t.ahead ∙ sym (head_at list i)
+pub turning_at : {change : List ℕ → List ℕ} {wanted list now : List ℕ} {i : ℕ} → Turning change wanted list now i → get_or now i 0 ≡ get_or list i 0
+turning_at {change} {wanted} {list} {now} {i} t = head_at now i ∙ ap (λ (l : List ℕ). get_or l 0 0) t.ahead ∙ sym (head_at list i)
 
 -- ---- Every word of a width
 
 module _ (gap up down : ℕ) where
-  every-skip : (skip : ℕ) (l : List ℕ) → renumbered_every gap up down skip l ≡ take skip l ++ renumbered_every gap up down 0 (drop skip l)
+  every_skip : (skip : ℕ) (l : List ℕ) → renumbered_every gap up down skip l ≡ take skip l ++ renumbered_every gap up down 0 (drop skip l)
   unfolding renumbered_every
-  every-skip zero l = refl
-  every-skip (suc skip) [] = refl
-  every-skip (suc skip) (w ∷ l) = ap (λ (z : List ℕ). w ∷ z) (every-skip skip l)
+  every_skip zero l = refl
+  every_skip (suc skip) [] = refl
+  every_skip (suc skip) (w ∷ l) = ap (λ (z : List ℕ). w ∷ z) (every_skip skip l)
 
-  pub every-length : (skip : ℕ) (l : List ℕ) → length (renumbered_every gap up down skip l) ≡ length l
+  pub every_length : (skip : ℕ) (l : List ℕ) → length (renumbered_every gap up down skip l) ≡ length l
   unfolding renumbered_every
-  every-length zero [] = refl
-  every-length zero (w ∷ l) = ap suc (every-length gap l)
-  every-length (suc skip) [] = refl
-  every-length (suc skip) (w ∷ l) = ap suc (every-length skip l)
+  every_length zero [] = refl
+  every_length zero (w ∷ l) = ap suc (every_length gap l)
+  every_length (suc skip) [] = refl
+  every_length (suc skip) (w ∷ l) = ap suc (every_length skip l)
 
-  pub every-none : renumbered_every gap up down 0 [] ≡ []
+  pub every_none : renumbered_every gap up down 0 [] ≡ []
   unfolding renumbered_every
-  every-none = refl
+  every_none = refl
 
-  pub every-turn : {wanted list now : List ℕ} {i : ℕ} → i < length now → Turning (renumbered_every gap up down 0) wanted list now i
+  pub every_turn : {wanted list now : List ℕ} {i : ℕ} → i < length now → Turning (renumbered_every gap up down 0) wanted list now i
       → Turning (renumbered_every gap up down 0) wanted list (set now i (renumbered up down (get_or now i 0))) (suc i + gap)
   unfolding renumbered_every
-  every-turn {now = now} {i = i} h t =
-      turning-set (renumbered up down (get_or now i 0)) gap h (λ rest. ap (λ (z : List ℕ). renumbered up down (get_or now i 0) ∷ z) (every-skip gap rest)) t
+  every_turn {now = now} {i = i} h t =
+      turning_set (renumbered up down (get_or now i 0)) gap h (λ rest. ap (λ (z : List ℕ). renumbered up down (get_or now i 0) ∷ z) (every_skip gap rest)) t
 
 -- The same, by a width.
-pub every-again : (width up down : ℕ) {wanted list now : List ℕ} {i x : ℕ} → 1 ≤ width → i < length now → x ≡ renumbered up down (get_or now i 0)
+pub every_again : (width up down : ℕ) {wanted list now : List ℕ} {i x : ℕ} → 1 ≤ width → i < length now → x ≡ renumbered up down (get_or now i 0)
     → Turning (renumbered_every (width - 1) up down 0) wanted list now i → Turning (renumbered_every (width - 1) up down 0) wanted list (set now i x) (i + width)
-every-again width up down {wanted} {list} {now} {i} {x} some h is t =
+every_again width up down {wanted} {list} {now} {i} {x} some h is t =
     subst (λ (k : ℕ). Turning (renumbered_every (width - 1) up down 0) wanted list (set now i x) k) (let q : suc i + (width - 1) ≡ i + width = omega arith in q)
-    (subst (λ (v : ℕ). Turning (renumbered_every (width - 1) up down 0) wanted list (set now i v) (suc i + (width - 1))) (sym is) (every-turn (width - 1) up down h t))
+    (subst (λ (v : ℕ). Turning (renumbered_every (width - 1) up down 0) wanted list (set now i v) (suc i + (width - 1))) (sym is) (every_turn (width - 1) up down h t))
 
 -- ---- The cords of servers
 
 module _ (up down : ℕ) where
-  pub cords-none : (left : ℕ) → renumbered_cords up down left [] ≡ []
+  pub cords_none : (left : ℕ) → renumbered_cords up down left [] ≡ []
   unfolding renumbered_cords
-  cords-none zero = refl
-  cords-none (suc left) = refl
+  cords_none zero = refl
+  cords_none (suc left) = refl
 
   pub cords-length : (left : ℕ) (l : List ℕ) → length (renumbered_cords up down left l) ≡ length l
   unfolding renumbered_cords
@@ -136,41 +136,41 @@ module _ (up down : ℕ) where
   cords-length zero (a ∷ []) = refl
   cords-length zero [] = refl
 
-  server-pass : (l : List ℕ) → renumbered_cords up down 0 l ≡ take 4 l ++ renumbered_cords up down (get_or l 3 0) (drop 4 l)
+  server_pass : (l : List ℕ) → renumbered_cords up down 0 l ≡ take 4 l ++ renumbered_cords up down (get_or l 3 0) (drop 4 l)
   unfolding renumbered_cords
-  server-pass (a ∷ b ∷ c ∷ k ∷ l) = refl
-  server-pass (a ∷ b ∷ c ∷ []) = refl
-  server-pass (a ∷ b ∷ []) = refl
-  server-pass (a ∷ []) = refl
-  server-pass [] = refl
+  server_pass (a ∷ b ∷ c ∷ k ∷ l) = refl
+  server_pass (a ∷ b ∷ c ∷ []) = refl
+  server_pass (a ∷ b ∷ []) = refl
+  server_pass (a ∷ []) = refl
+  server_pass [] = refl
 
   cord-set : (left n : ℕ) (l : List ℕ) → renumbered_cords up down (suc left) (n ∷ l) ≡ renumbered up down n ∷ (take 1 l ++ renumbered_cords up down left (drop 1 l))
   unfolding renumbered_cords
   cord-set left n (s ∷ l) = refl
-  cord-set left n [] = ap (λ (z : List ℕ). renumbered up down n ∷ z) (sym (cords-none left))
+  cord-set left n [] = ap (λ (z : List ℕ). renumbered up down n ∷ z) (sym (cords_none left))
 
-  pub server-turn : {wanted list now : List ℕ} {i left : ℕ} → left ≡ 0 → Turning (renumbered_cords up down left) wanted list now i
+  pub server_turn : {wanted list now : List ℕ} {i left : ℕ} → left ≡ 0 → Turning (renumbered_cords up down left) wanted list now i
       → Turning (renumbered_cords up down (get_or now (i + 3) 0)) wanted list now (i + 4)
-  server-turn {now = now} {i = i} e t =
-      turning-pass 4 (λ rest d. ap (λ (k : ℕ). renumbered_cords up down k rest) e ∙ server-pass rest
+  server_turn {now = now} {i = i} e t =
+      turning_pass 4 (λ rest d. ap (λ (k : ℕ). renumbered_cords up down k rest) e ∙ server_pass rest
       ∙ ap (λ (k : ℕ). take 4 rest ++ renumbered_cords up down k (drop 4 rest)) (ap (λ (l : List ℕ). get_or l 3 0) (sym d) ∙ get_or-drop i now 3 0)) t
 
-  pub cord-turn : {wanted list now : List ℕ} {i left : ℕ} (k : ℕ) → left ≡ suc k → i < length now → Turning (renumbered_cords up down left) wanted list now i
+  pub cord_turn : {wanted list now : List ℕ} {i left : ℕ} (k : ℕ) → left ≡ suc k → i < length now → Turning (renumbered_cords up down left) wanted list now i
       → Turning (renumbered_cords up down k) wanted list (set now i (renumbered up down (get_or now i 0))) (suc i + 1)
-  cord-turn {now = now} {i = i} k e h t =
-      turning-set (renumbered up down (get_or now i 0)) 1 h (λ rest. ap (λ (n : ℕ). renumbered_cords up down n (get_or now i 0 ∷ rest)) e ∙ cord-set k (get_or now i 0) rest) t
+  cord_turn {now = now} {i = i} k e h t =
+      turning_set (renumbered up down (get_or now i 0)) 1 h (λ rest. ap (λ (n : ℕ). renumbered_cords up down n (get_or now i 0 ∷ rest)) e ∙ cord-set k (get_or now i 0) rest) t
 
   -- The same, by what the code has.
-  pub server-again : {wanted list now : List ℕ} {i left count : ℕ} → left ≡ 0 → count ≡ get_or now (i + 3) 0 → Turning (renumbered_cords up down left) wanted list now i
+  pub server_again : {wanted list now : List ℕ} {i left count : ℕ} → left ≡ 0 → count ≡ get_or now (i + 3) 0 → Turning (renumbered_cords up down left) wanted list now i
       → Turning (renumbered_cords up down count) wanted list now (i + 4)
-  server-again {wanted} {list} {now} {i} e c t = subst (λ (k : ℕ). Turning (renumbered_cords up down k) wanted list now (i + 4)) (sym c) (server-turn e t)
+  server_again {wanted} {list} {now} {i} e c t = subst (λ (k : ℕ). Turning (renumbered_cords up down k) wanted list now (i + 4)) (sym c) (server_turn e t)
 
-  pub cord-again : {wanted list now : List ℕ} {i left x : ℕ} → (left ≡ 0 → ⊥) → i < length now → x ≡ renumbered up down (get_or now i 0)
+  pub cord_again : {wanted list now : List ℕ} {i left x : ℕ} → (left ≡ 0 → ⊥) → i < length now → x ≡ renumbered up down (get_or now i 0)
       → Turning (renumbered_cords up down left) wanted list now i → Turning (renumbered_cords up down (left - 1)) wanted list (set now i x) (i + 2)
-  cord-again {wanted} {list} {now} {i} {left} {x} n h is t =
+  cord_again {wanted} {list} {now} {i} {left} {x} n h is t =
       subst (λ (k : ℕ). Turning (renumbered_cords up down (left - 1)) wanted list (set now i x) k) (let q : suc i + 1 ≡ i + 2 = omega arith in q)
       (subst (λ (v : ℕ). Turning (renumbered_cords up down (left - 1)) wanted list (set now i v) (suc i + 1)) (sym is)
-      (cord-turn (left - 1) (let q : left ≡ suc (left - 1) = omega arith in q) h t))
+      (cord_turn (left - 1) (let q : left ≡ suc (left - 1) = omega arith in q) h t))
 
 -- ---- One number, and one width
 
@@ -178,9 +178,9 @@ pub renumbered-low : (up down v : ℕ) → v + up < down → 0 ≡ renumbered up
 renumbered-low up down zero h = refl
 renumbered-low up down (suc m) h = omega arith
 
-pub renumbered-is : (up down v : ℕ) → (v ≡ 0 → ⊥) → v + up - down ≡ renumbered up down v
-renumbered-is up down zero n = absurd (n refl)
-renumbered-is up down (suc m) n = refl
+pub renumbered_is : (up down v : ℕ) → (v ≡ 0 → ⊥) → v + up - down ≡ renumbered up down v
+renumbered_is up down zero n = absurd (n refl)
+renumbered_is up down (suc m) n = refl
 
 pub width_is : (percents : Bool) (other : Bool) → percents ≡ other → (cond percents 3 2 ≡ node_words other) × (2 ≤ cond percents 3 2) × (cond percents 3 2 ≤ 3)
 width_is true other e = (ap node_words e, omega arith, omega arith)
@@ -188,26 +188,26 @@ width_is false other e = (ap node_words e, omega arith, omega arith)
 
 -- ---- Words of a part of the bytes
 
-four-more : (f : ℕ) → 4 * suc f ≡ suc (suc (suc (suc (4 * f))))
-four-more f = omega arith
+four_more : (f : ℕ) → 4 * suc f ≡ suc (suc (suc (suc (4 * f))))
+four_more f = omega arith
 
 words_of-drop : (f : ℕ) (bytes : List ℕ) → words_of (drop (4 * f) bytes) ≡ drop f (words_of bytes)
 unfolding words_of
 words_of-drop zero bytes = refl
 words_of-drop (suc f) [] = ap words_of (drop-nil (4 * suc f))
-words_of-drop (suc f) (a ∷ []) = ap (λ (k : ℕ). words_of (drop k (a ∷ []))) (four-more f) ∙ ap words_of (drop-nil (suc (suc (suc (4 * f)))))
-words_of-drop (suc f) (a ∷ b ∷ []) = ap (λ (k : ℕ). words_of (drop k (a ∷ b ∷ []))) (four-more f) ∙ ap words_of (drop-nil (suc (suc (4 * f))))
-words_of-drop (suc f) (a ∷ b ∷ c ∷ []) = ap (λ (k : ℕ). words_of (drop k (a ∷ b ∷ c ∷ []))) (four-more f) ∙ ap words_of (drop-nil (suc (4 * f)))
-words_of-drop (suc f) (a ∷ b ∷ c ∷ d ∷ bytes) = ap (λ (k : ℕ). words_of (drop k (a ∷ b ∷ c ∷ d ∷ bytes))) (four-more f) ∙ words_of-drop f bytes
+words_of-drop (suc f) (a ∷ []) = ap (λ (k : ℕ). words_of (drop k (a ∷ []))) (four_more f) ∙ ap words_of (drop-nil (suc (suc (suc (4 * f)))))
+words_of-drop (suc f) (a ∷ b ∷ []) = ap (λ (k : ℕ). words_of (drop k (a ∷ b ∷ []))) (four_more f) ∙ ap words_of (drop-nil (suc (suc (4 * f))))
+words_of-drop (suc f) (a ∷ b ∷ c ∷ []) = ap (λ (k : ℕ). words_of (drop k (a ∷ b ∷ c ∷ []))) (four_more f) ∙ ap words_of (drop-nil (suc (4 * f)))
+words_of-drop (suc f) (a ∷ b ∷ c ∷ d ∷ bytes) = ap (λ (k : ℕ). words_of (drop k (a ∷ b ∷ c ∷ d ∷ bytes))) (four_more f) ∙ words_of-drop f bytes
 
 words_of-take : (k : ℕ) (bytes : List ℕ) → words_of (take (4 * k) bytes) ≡ take k (words_of bytes)
 unfolding words_of
 words_of-take zero bytes = refl
 words_of-take (suc k) [] = ap words_of (take-nil (4 * suc k))
-words_of-take (suc k) (a ∷ []) = ap (λ (n : ℕ). words_of (take n (a ∷ []))) (four-more k) ∙ ap (λ (l : List ℕ). words_of (a ∷ l)) (take-nil (suc (suc (suc (4 * k)))))
-words_of-take (suc k) (a ∷ b ∷ []) = ap (λ (n : ℕ). words_of (take n (a ∷ b ∷ []))) (four-more k) ∙ ap (λ (l : List ℕ). words_of (a ∷ b ∷ l)) (take-nil (suc (suc (4 * k))))
-words_of-take (suc k) (a ∷ b ∷ c ∷ []) = ap (λ (n : ℕ). words_of (take n (a ∷ b ∷ c ∷ []))) (four-more k) ∙ ap (λ (l : List ℕ). words_of (a ∷ b ∷ c ∷ l)) (take-nil (suc (4 * k)))
-words_of-take (suc k) (a ∷ b ∷ c ∷ d ∷ bytes) = ap (λ (n : ℕ). words_of (take n (a ∷ b ∷ c ∷ d ∷ bytes))) (four-more k) ∙ ap (λ (l : List ℕ). word a b c d ∷ l) (words_of-take k bytes)
+words_of-take (suc k) (a ∷ []) = ap (λ (n : ℕ). words_of (take n (a ∷ []))) (four_more k) ∙ ap (λ (l : List ℕ). words_of (a ∷ l)) (take-nil (suc (suc (suc (4 * k)))))
+words_of-take (suc k) (a ∷ b ∷ []) = ap (λ (n : ℕ). words_of (take n (a ∷ b ∷ []))) (four_more k) ∙ ap (λ (l : List ℕ). words_of (a ∷ b ∷ l)) (take-nil (suc (suc (4 * k))))
+words_of-take (suc k) (a ∷ b ∷ c ∷ []) = ap (λ (n : ℕ). words_of (take n (a ∷ b ∷ c ∷ []))) (four_more k) ∙ ap (λ (l : List ℕ). words_of (a ∷ b ∷ c ∷ l)) (take-nil (suc (4 * k)))
+words_of-take (suc k) (a ∷ b ∷ c ∷ d ∷ bytes) = ap (λ (n : ℕ). words_of (take n (a ∷ b ∷ c ∷ d ∷ bytes))) (four_more k) ∙ ap (λ (l : List ℕ). word a b c d ∷ l) (words_of-take k bytes)
 
 -- ---- One piece behind another
 
@@ -218,9 +218,9 @@ drop-take (suc at) (suc end) [] = sym (take-nil (suc end - suc at))
 drop-take (suc at) (suc end) (x ∷ l) = drop-take at end l ∙ ap (λ (k : ℕ). take k (drop at l)) (let q : end - at ≡ suc end - suc at = omega arith in q)
 
 -- A list with a new middle has it behind its front.
-pub put-middle : (list : List ℕ) (at end : ℕ) (words : List ℕ) {list' : List ℕ} → end ≡ at + length words → end ≤ length list
+pub put_middle : (list : List ℕ) (at end : ℕ) (words : List ℕ) {list' : List ℕ} → end ≡ at + length words → end ≤ length list
     → list' ≡ take at list ++ (words ++ drop (end - at) (drop at list)) → PiecePut list at words list' end
-put-middle list at end words {list'} e h is =
+put_middle list at end words {list'} e h is =
     let front : length (take at list) ≡ at = length-take-le at list (omega arith) in
     let rest = drop (end - at) (drop at list) in
     let done : list' ≡ (take at list ++ words) ++ rest = is ∙ sym (append_assoc (take at list) words rest) in
@@ -236,19 +236,19 @@ module _ {list words list₁ : List ℕ} {at end : ℕ} (put : PiecePut list at 
   front_length = length-take-le at list (omega (arith, put.ends, put.within))
 
   -- What was put stands in the middle, and the front before it is as it was.
-  pub put-there : take (end - at) (drop at list₁) ≡ words
-  put-there = sym (drop-take at end list₁) ∙ ap (drop at) put.front ∙ drop_at (take at list) words at front_length
+  pub put_there : take (end - at) (drop at list₁) ≡ words
+  put_there = sym (drop-take at end list₁) ∙ ap (drop at) put.front ∙ drop_at (take at list) words at front_length
 
-  pub put-before : take at list₁ ≡ take at list
-  put-before = sym (take-take at end list₁ (omega (arith, put.ends))) ∙ ap (take at) put.front ∙ take_at (take at list) words at front_length
+  pub put_before : take at list₁ ≡ take at list
+  put_before = sym (take-take at end list₁ (omega (arith, put.ends))) ∙ ap (take at) put.front ∙ take_at (take at list) words at front_length
 
   -- What was put may be changed in its place.
-  pub put-changed : (change : List ℕ → List ℕ) {part list₂ : List ℕ} → length (change words) ≡ length words
+  pub put_changed : (change : List ℕ → List ℕ) {part list₂ : List ℕ} → length (change words) ≡ length words
       → part ≡ change (take (end - at) (drop at list₁)) → list₂ ≡ take at list₁ ++ (part ++ drop (end - at) (drop at list₁)) → PiecePut list at (change words) list₂ end
-  put-changed change e changed is =
-      let p = put-middle list₁ at end (change words) (put.ends ∙ ap (λ (k : ℕ). at + k) (sym e)) (omega (arith, put.size, put.within))
-      (is ∙ ap (λ (l : List ℕ). take at list₁ ++ (l ++ drop (end - at) (drop at list₁))) (changed ∙ ap change put-there)) in
-      record { ends = p.ends; within = put.within; size = p.size ∙ put.size; front = p.front ∙ ap (λ (l : List ℕ). l ++ change words) put-before }
+  put_changed change e changed is =
+      let p = put_middle list₁ at end (change words) (put.ends ∙ ap (λ (k : ℕ). at + k) (sym e)) (omega (arith, put.size, put.within))
+      (is ∙ ap (λ (l : List ℕ). take at list₁ ++ (l ++ drop (end - at) (drop at list₁))) (changed ∙ ap change put_there)) in
+      record { ends = p.ends; within = put.within; size = p.size ∙ put.size; front = p.front ∙ ap (λ (l : List ℕ). l ++ change words) put_before }
 
 -- A word is put by a store.
 pub put_word : (list : List ℕ) (at word : ℕ) → at < length list → PiecePut list at (word ∷ []) (set list at word) (suc at)
@@ -265,8 +265,8 @@ put_both {list} {list₁} {list₂} {words} {more} {at} p q = record {
 }
 
 -- The words of a part of the bytes are a piece of their words.
-pub piece-words : (bytes : List ℕ) (from to : ℕ) → words_of (take (4 * to - 4 * from) (drop (4 * from) bytes)) ≡ piece from to (words_of bytes)
-piece-words bytes from to =
+pub piece_words : (bytes : List ℕ) (from to : ℕ) → words_of (take (4 * to - 4 * from) (drop (4 * from) bytes)) ≡ piece from to (words_of bytes)
+piece_words bytes from to =
     ap (λ (k : ℕ). words_of (take k (drop (4 * from) bytes))) (let q : 4 * to - 4 * from ≡ 4 * (to - from) = omega arith in q)
     ∙ words_of-take (to - from) (drop (4 * from) bytes) ∙ ap (take (to - from)) (words_of-drop from bytes)
 
@@ -278,7 +278,7 @@ pub word-loaded : (bytes : List ℕ) (i : ℕ) {list : List ℕ} → i < length 
     → list ≡ sets (0 ∷ []) 0 (words_of (take (4 * (i + 1) - 4 * i) (drop (4 * i) bytes))) → get_or list 0 0 ≡ get_or (words_of bytes) i 0
 word-loaded bytes i h e =
     let size : 1 ≡ length (piece i (i + 1) (words_of bytes)) = omega (arith, piece-length (words_of bytes) i (i + 1) (omega (arith, length-words_of bytes))) in
-    ap (λ (l : List ℕ). get_or l 0 0) (e ∙ ap (sets (0 ∷ []) 0) (piece-words bytes i (i + 1)) ∙ sets-all (0 ∷ []) (piece i (i + 1) (words_of bytes)) size)
+    ap (λ (l : List ℕ). get_or l 0 0) (e ∙ ap (sets (0 ∷ []) 0) (piece_words bytes i (i + 1)) ∙ sets_all (0 ∷ []) (piece i (i + 1) (words_of bytes)) size)
     ∙ ap (λ (k : ℕ). get_or (take k (drop i (words_of bytes))) 0 0) (let q : i + 1 - i ≡ 1 = omega arith in q)
     ∙ first (drop i (words_of bytes)) ∙ sym (head_at (words_of bytes) i)
   where
@@ -287,24 +287,24 @@ word-loaded bytes i h e =
     first (x ∷ l) = refl
 
 -- Words that are loaded into the middle of a list are put there.
-pub put-loaded : (bytes list : List ℕ) (from to at : ℕ) {part list' : List ℕ} → MayPut bytes from to list at
+pub put_loaded : (bytes list : List ℕ) (from to at : ℕ) {part list' : List ℕ} → MayPut bytes from to list at
     → part ≡ sets (take (at + (to - from) - at) (drop at list)) 0 (words_of (take (4 * to - 4 * from) (drop (4 * from) bytes)))
     → list' ≡ take at list ++ (part ++ drop (at + (to - from) - at) (drop at list))
     → PiecePut list at (piece from to (words_of bytes)) list' (at + (to - from))
-put-loaded bytes list from to at may loaded is =
+put_loaded bytes list from to at may loaded is =
     let words = piece from to (words_of bytes) in
     let size : length words ≡ to - from = piece-length (words_of bytes) from to (omega (arith, length-words_of bytes, may.there)) in
     let space = may.space in
-    let all = loaded ∙ ap (sets (take (at + (to - from) - at) (drop at list)) 0) (piece-words bytes from to)
-    ∙ sets-all (take (at + (to - from) - at) (drop at list)) words
+    let all = loaded ∙ ap (sets (take (at + (to - from) - at) (drop at list)) 0) (piece_words bytes from to)
+    ∙ sets_all (take (at + (to - from) - at) (drop at list)) words
     (length-take-le (at + (to - from) - at) (drop at list) (omega (arith, length-drop at list)) ∙ let q : at + (to - from) - at ≡ length words = omega arith in q) in
-    put-middle list at (at + (to - from)) words (ap (λ (k : ℕ). at + k) (sym size)) space (is ∙ ap (λ (l : List ℕ). take at list ++ (l ++ drop (at + (to - from) - at) (drop at list))) all)
+    put_middle list at (at + (to - from)) words (ap (λ (k : ℕ). at + k) (sym size)) space (is ∙ ap (λ (l : List ℕ). take at list ++ (l ++ drop (at + (to - from) - at) (drop at list))) all)
 
 -- What was put stands there, no word of it above the bytes' own.
-pub piece-below : (bound from to : ℕ) (words : List ℕ) {at end : ℕ} {list list₁ : List ℕ} → PiecePut list at (piece from to words) list₁ end → AllBelow bound words
+pub piece_below : (bound from to : ℕ) (words : List ℕ) {at end : ℕ} {list list₁ : List ℕ} → PiecePut list at (piece from to words) list₁ end → AllBelow bound words
     → AllBelow bound (take (end - at) (drop at list₁))
-piece-below bound from to words put all =
-    subst (AllBelow bound) (sym (put-there put)) (take_below (to - from) (drop from words) (drop-below bound words from all))
+piece_below bound from to words put all =
+    subst (AllBelow bound) (sym (put_there put)) (take_below (to - from) (drop from words) (drop_below bound words from all))
   where
     take_below : (n : ℕ) (l : List ℕ) → AllBelow bound l → AllBelow bound (take n l)
     take_below zero [] h i = h i

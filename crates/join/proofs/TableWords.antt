@@ -13,16 +13,16 @@ use Rattle.rooms.specs.Table.{Node, Cord, Server, Room, form_of, node_words, cor
 use Rattle.rooms.specs.Limits.{checked}
 use Rattle.rooms.specs.Words.{row_words, words_of_node, words_of_cord, words_of_server, table_of}
 use Rattle.rooms.specs.Walk.{servers_index}
-use Rattle.rooms.proofs.Whole.{checked-is}
+use Rattle.rooms.proofs.Whole.{checked_is}
 use Rattle.rooms.proofs.Tables.{table-written}
 use Rattle.join.specs.Pieces.{renumbered, renumbered_every, renumbered_cords, piece}
 
 -- ---- Rows of words
 
-pub row-append : {A : Type 0} (words : A → List ℕ) (l m : List A) → row_words words (l ++ m) ≡ row_words words l ++ row_words words m
+pub row_append : {A : Type 0} (words : A → List ℕ) (l m : List A) → row_words words (l ++ m) ≡ row_words words l ++ row_words words m
 unfolding row_words
-row-append words [] m = refl
-row-append words (a ∷ l) m = ap (λ (z : List ℕ). words a ++ z) (row-append words l m) ∙ sym (append_assoc (words a) (row_words words l) (row_words words m))
+row_append words [] m = refl
+row_append words (a ∷ l) m = ap (λ (z : List ℕ). words a ++ z) (row_append words l m) ∙ sym (append_assoc (words a) (row_words words l) (row_words words m))
 
 node-length : (percents : Bool) (n : Node) → length (words_of_node percents n) ≡ node_words percents
 node-length true n = refl
@@ -45,36 +45,36 @@ module _ (w : List ℕ) (r : Room) (j : ℕ) (e : checked w 0 ≡ good r j) wher
   server_row = row_words words_of_server r.servers
 
   pub words_are : w ≡ table_of (at w 0) r
-  words_are = table-written w r j (checked-is w r j e).0
+  words_are = table-written w r j (checked_is w r j e).0
 
   count_at : at w 1 ≡ length r.nodes
   count_at = ap (λ (l : List ℕ). at l 1) words_are
 
-  pub middle-is : servers_index w ≡ 2 + length node_row
-  middle-is = omega (arith, nodes-length (form_of (at w 0)).percents r.nodes, ap (λ (n : ℕ). node_words (form_of (at w 0)).percents * n) count_at)
+  pub middle_is : servers_index w ≡ 2 + length node_row
+  middle_is = omega (arith, nodes-length (form_of (at w 0)).percents r.nodes, ap (λ (n : ℕ). node_words (form_of (at w 0)).percents * n) count_at)
 
-  pub length-are : length w ≡ 3 + length node_row + length server_row
-  length-are = ap length words_are ∙ omega (arith, length-append node_row (length r.servers ∷ server_row))
+  pub length_are : length w ≡ 3 + length node_row + length server_row
+  length_are = ap length words_are ∙ omega (arith, length-append node_row (length r.servers ∷ server_row))
 
-  behind-head : drop 2 w ≡ node_row ++ (length r.servers ∷ server_row)
-  behind-head = ap (drop 2) words_are
+  behind_head : drop 2 w ≡ node_row ++ (length r.servers ∷ server_row)
+  behind_head = ap (drop 2) words_are
 
   pub nodes-piece : piece 2 (servers_index w) w ≡ node_row
   nodes-piece =
-      ap₂ take (let q : servers_index w - 2 ≡ length node_row = omega (arith, middle-is) in q) behind-head
+      ap₂ take (let q : servers_index w - 2 ≡ length node_row = omega (arith, middle_is) in q) behind_head
       ∙ take_at node_row (length r.servers ∷ server_row) (length node_row) refl
 
-  pub behind-middle : drop (servers_index w + 1) w ≡ server_row
-  behind-middle =
-      ap (λ (k : ℕ). drop k w) (let q : servers_index w + 1 ≡ 2 + (length node_row + 1) = omega (arith, middle-is) in q)
+  pub behind_middle : drop (servers_index w + 1) w ≡ server_row
+  behind_middle =
+      ap (λ (k : ℕ). drop k w) (let q : servers_index w + 1 ≡ 2 + (length node_row + 1) = omega (arith, middle_is) in q)
       ∙ sym (drop-drop (length node_row + 1) 2 w)
-      ∙ ap (drop (length node_row + 1)) behind-head
+      ∙ ap (drop (length node_row + 1)) behind_head
       ∙ sym (drop-drop 1 (length node_row) (node_row ++ (length r.servers ∷ server_row)))
       ∙ ap (drop 1) (drop_at node_row (length r.servers ∷ server_row) (length node_row) refl)
 
   pub servers-piece : piece (servers_index w + 1) (length w) w ≡ server_row
   servers-piece =
-      ap₂ take (let q : length w - (servers_index w + 1) ≡ length server_row = omega (arith, middle-is, length-are) in q) behind-middle
+      ap₂ take (let q : length w - (servers_index w + 1) ≡ length server_row = omega (arith, middle_is, length_are) in q) behind_middle
       ∙ take_all (length server_row) server_row (let q : length server_row ≤ length server_row = omega arith in q)
 
 -- ---- Numbers of nodes moved

@@ -39,7 +39,7 @@ examined w = examined_step w (checked w 0)
 pub record HutOf (w : List ℕ) (hut : Hut) : Type 0 where
   pub room : Room
   pub end : ℕ
-  pub good-table : checked w 0 ≡ good room end
+  pub good_table : checked w 0 ≡ good room end
   pub is : hut ≡ hut_of w room
 
 -- Its figures are below a bound, so that two of them can be added.

@@ -1,4 +1,4 @@
--- What is promised of Join, apart from any code. proofs/Promises.antt proves each: `JoinGivesRoom` as `join-gives-room`, and so on.
+-- What is promised of Join, apart from any code. proofs/Promises.antt proves each: `JoinGivesRoom` as `join_gives_room`, and so on.
 use Rattle.std.specs.Prelude.{◌≡◌, List, ◌++◌, ℕ, ◌+◌, ◌≤◌, length}
 use Rattle.outcomes.specs.Outcome.{accepted, refused}
 use Rattle.figures.specs.Figures.{at}

@@ -16,7 +16,7 @@ use Rattle.layout.specs.declared.room.Counts.{Counts}
 use Rattle.layout.specs.declared.room.LoadRefusal.{LoadRefusal}
 use Rattle.layout.specs.declared.room.Loaded.{Loaded}
 use Rattle.layout.specs.declared.room.Loaded.TheVariants as loads
-use Rattle.layout.proofs.Loads.{RoomFound, found-good, nodes-fit, cords-count, demands-fit, lows-long, lows-told}
+use Rattle.layout.proofs.Loads.{RoomFound, found_good, nodes-fit, cords-count, demands_fit, lows_long, lows-told}
 use Rattle.deals.specs.Judge.{verdict}
 use Rattle.deals.specs.declared.Verdict.{Verdict}
 use Rattle.judge.specs.Outcome.{judge_loaded, judging, answer_of}
@@ -25,15 +25,15 @@ use Rattle.judge.specs.declared.JudgeRefusal.TheVariants.{Load, GrantCount}
 use Rattle.judge.specs.declared.Judged.TheVariants as judged
 
 module _ (table demands grants : List ℕ) where
-  judging-is : {o : LoadOutcome} → loading table demands ≡ o → judging table demands grants ≡ judge_loaded o demands grants
+  judging_is : {o : LoadOutcome} → loading table demands ≡ o → judging table demands grants ≡ judge_loaded o demands grants
   unfolding judging
-  judging-is e = ap (λ (o : LoadOutcome). judge_loaded o demands grants) e
+  judging_is e = ap (λ (o : LoadOutcome). judge_loaded o demands grants) e
 
   -- ---- Refused by loading
 
-  by-refusal : (q : LoadRefusal) → judge_loaded (refused q) demands grants ≡ refused (Load q)
+  by_refusal : (q : LoadRefusal) → judge_loaded (refused q) demands grants ≡ refused (Load q)
   unfolding judge_loaded
-  by-refusal q = refl
+  by_refusal q = refl
 
   pub load_told : {answer : Loaded} {q : LoadRefusal} → answer ≡ loaded_of (loading table demands) → answer ≡ loads.Refused q
       → judged.Refused (Load q) ≡ answer_of (judging table demands grants)
@@ -41,7 +41,7 @@ module _ (table demands grants : List ℕ) where
     where
       go : (o : LoadOutcome) → loading table demands ≡ o → loads.Refused q ≡ loaded_of o → judged.Refused (Load q) ≡ answer_of (judging table demands grants)
       go (accepted r) is told = absurd (let z : ◌≡◌ {A = ℕ} 0 1 = cc in omega arith)
-      go (refused p) is told = let same : q ≡ p = cc in ap (λ (x : LoadRefusal). judged.Refused (Load x)) same ∙ sym (ap answer_of (judging-is is ∙ by-refusal p))
+      go (refused p) is told = let same : q ≡ p = cc in ap (λ (x : LoadRefusal). judged.Refused (Load x)) same ∙ sym (ap answer_of (judging_is is ∙ by_refusal p))
 
   -- ---- A room that is loaded
 
@@ -50,41 +50,41 @@ module _ (table demands grants : List ℕ) where
     unfolding judge_loaded unless
     by_count n = rw (ne_eqb (length grants) (room_cords r) n) refl
 
-    by-verdict : length grants ≡ room_cords r → judge_loaded (accepted r) demands grants ≡ accepted (verdict r demands grants)
+    by_verdict : length grants ≡ room_cords r → judge_loaded (accepted r) demands grants ≡ accepted (verdict r demands grants)
     unfolding judge_loaded unless
-    by-verdict e = rw (eq-eqb (length grants) (room_cords r) e) refl
+    by_verdict e = rw (eq-eqb (length grants) (room_cords r) e) refl
 
   module _ {counts : Counts} (f : RoomFound table demands counts) where
     pub count-told : (length grants ≡ counts.cords → ⊥) → judged.Refused (GrantCount counts.cords) ≡ answer_of (judging table demands grants)
     count-told n =
         ap (λ (k : ℕ). judged.Refused (GrantCount k)) (cords-count f)
-        ∙ sym (ap answer_of (judging-is f.accepts ∙ by_count f.room (λ e. n (e ∙ sym (cords-count f)))))
+        ∙ sym (ap answer_of (judging_is f.accepts ∙ by_count f.room (λ e. n (e ∙ sym (cords-count f)))))
 
     -- What is said of the room found is said of the table's.
-    of-found : (p : Room → Type 0) → p f.room → OfRoom table p
-    of-found p here r end q =
+    of_found : (p : Room → Type 0) → p f.room → OfRoom table p
+    of_found p here r end q =
         let h : good f.room f.end ≡ good r end = sym f.is ∙ q in
         let same : f.room ≡ r = cc in
         subst p same here
 
-    pub scale-fits : ScaleIs table counts.scale
-    scale-fits = of-found (λ r. counts.scale ≡ r.scale) (ap (λ (c : Counts). c.scale) f.counted)
+    pub scale_fits : ScaleIs table counts.scale
+    scale_fits = of_found (λ r. counts.scale ≡ r.scale) (ap (λ (c : Counts). c.scale) f.counted)
 
     pub servers-fit : ServersFit table (length demands)
-    servers-fit = demands-fit f
+    servers-fit = demands_fit f
 
     pub nodes-given : {beneath : List ℕ} → beneath ≡ lows_told (checked table 0) → NodesGiven table counts.nodes beneath
     nodes-given {beneath} e = record {
-      good-table = found-good f;
+      good_table = found_good f;
       nodes-fit = nodes-fit f;
-      beneath-long = le_of_eq (lows-long table beneath e);
-      beneath-is = lows-told table beneath e;
+      beneath_long = le_of_eq (lows_long table beneath e);
+      beneath_is = lows-told table beneath e;
     }
 
     module _ (size : length grants ≡ counts.cords) where
-      pub grants-fit : CordsFit table (length grants)
-      grants-fit = of-found (λ r. length grants ≡ room_cords r) (size ∙ cords-count f)
+      pub grants_fit : CordsFit table (length grants)
+      grants_fit = of_found (λ r. length grants ≡ room_cords r) (size ∙ cords-count f)
 
       pub verdict-told : {v : Verdict} → ((r : Room) (end : ℕ) → checked table 0 ≡ good r end → v ≡ verdict r demands grants) → judged.Accepted v ≡ answer_of (judging table demands grants)
       verdict-told is =
-          ap judged.Accepted (is f.room f.end f.is) ∙ sym (ap answer_of (judging-is f.accepts ∙ by-verdict f.room (size ∙ cords-count f)))
+          ap judged.Accepted (is f.room f.end f.is) ∙ sym (ap answer_of (judging_is f.accepts ∙ by_verdict f.room (size ∙ cords-count f)))

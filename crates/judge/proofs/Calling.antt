@@ -9,15 +9,15 @@ use lib.Dec.{eqb}
 use lib.ListN.{length, take}
 use lib.Seq.{sets, length-sets, length-take-le, take_all}
 use Rattle.outcomes.specs.Outcome.{accepted, refused, unless}
-use Rattle.outcomes.proofs.Outcomes.{accepted-is}
+use Rattle.outcomes.proofs.Outcomes.{accepted_is}
 use Rattle.words.specs.Bytes.{words_of, number_stored}
 use Rattle.words.proofs.Bytes.{take-loaded}
 use Rattle.calls.specs.Call.{answered}
-use Rattle.calls.proofs.Calls.{answered-long, number_more, call-done}
+use Rattle.calls.proofs.Calls.{answered_long, number_more, call_done}
 use Rattle.rooms.specs.Table.{Room, most_servers, most_cords, most_words, room_cords}
 use Rattle.layout.specs.Outcome.{LoadOutcome, loading}
 use Rattle.layout.specs.declared.room.LoadRefusal.{LoadRefusal}
-use Rattle.layout.proofs.Loads.{count_cut, bytes-loading, bytes-demands, outcome-found, found-accepted}
+use Rattle.layout.proofs.Loads.{count_cut, bytes_loading, bytes_demands, outcome_found, found_accepted}
 use Rattle.deals.specs.Judge.{verdict_number, verdict_names, verdict_rank}
 use Rattle.deals.specs.declared.Verdict.{Verdict}
 use Rattle.judge.specs.Outcome.{judge_loaded, judging, answer_of, judge_refusal_number, judge_refusal_place}
@@ -30,25 +30,25 @@ use Rattle.judge.specs.declared.Judged.TheVariants.{Accepted, Refused}
 
 module _ (r : Room) where
   -- Where the grants are not one a cord, they are refused whatever they are.
-  grants-refused : (demands grants others : List ℕ) → (length grants ≡ room_cords r → ⊥) → (length others ≡ room_cords r → ⊥)
+  grants_refused : (demands grants others : List ℕ) → (length grants ≡ room_cords r → ⊥) → (length others ≡ room_cords r → ⊥)
       → judge_loaded (accepted r) demands grants ≡ judge_loaded (accepted r) demands others
   unfolding judge_loaded unless
-  grants-refused demands grants others n m = rw (ne_eqb (length grants) (room_cords r) n, ne_eqb (length others) (room_cords r) m) refl
+  grants_refused demands grants others n m = rw (ne_eqb (length grants) (room_cords r) n, ne_eqb (length others) (room_cords r) m) refl
 
   -- Grants that are cut after one more than there are cords get the same.
-  grants-cut : (demands grants : List ℕ) (k : ℕ) → room_cords r < k → judge_loaded (accepted r) demands (take k grants) ≡ judge_loaded (accepted r) demands grants
-  grants-cut demands grants k h = go (eqb (length grants) (room_cords r)) refl
+  grants_cut : (demands grants : List ℕ) (k : ℕ) → room_cords r < k → judge_loaded (accepted r) demands (take k grants) ≡ judge_loaded (accepted r) demands grants
+  grants_cut demands grants k h = go (eqb (length grants) (room_cords r)) refl
     where
       go : (t : Bool) → eqb (length grants) (room_cords r) ≡ t → judge_loaded (accepted r) demands (take k grants) ≡ judge_loaded (accepted r) demands grants
       go true e = ap (judge_loaded (accepted r) demands) (take_all k grants (omega (arith, eqb-true (length grants) (room_cords r) e)))
       go false e =
           let differs = eqb-false (length grants) (room_cords r) e in
-          grants-refused demands (take k grants) grants (count_cut grants (room_cords r) k h differs) differs
+          grants_refused demands (take k grants) grants (count_cut grants (room_cords r) k h differs) differs
 
 -- What is refused before is refused whatever the demands and the grants are.
-load-refused : (q : LoadRefusal) (demands grants demands' grants' : List ℕ) → judge_loaded (refused q) demands grants ≡ judge_loaded (refused q) demands' grants'
+load_refused : (q : LoadRefusal) (demands grants demands' grants' : List ℕ) → judge_loaded (refused q) demands grants ≡ judge_loaded (refused q) demands' grants'
 unfolding judge_loaded
-load-refused q demands grants demands' grants' = refl
+load_refused q demands grants demands' grants' = refl
 
 -- Words that were loaded stand in their list.
 pub loaded-front : (bytes list list' : List ℕ) {n : ℕ} → n ≡ min (length bytes / 4) (length list) → list' ≡ sets list 0 (words_of bytes) → n ≡ length (take n list')
@@ -57,41 +57,41 @@ loaded-front bytes list list' {n = n} e s = sym (length-take-le n list' (omega (
 -- ---- The answer
 
 module _ (answer : List ℕ) (long : 32 ≤ length answer) where
-  pub refused-numbers : (q : JudgeRefusal) {number place : ℕ} {answer' : List ℕ} → number ≡ judge_refusal_number q → place ≡ judge_refusal_place q
+  pub refused_numbers : (q : JudgeRefusal) {number place : ℕ} {answer' : List ℕ} → number ≡ judge_refusal_number q → place ≡ judge_refusal_place q
       → answer' ≡ answered 2 (number ∷ place ∷ []) answer → answer' ≡ answered 4 (judged_numbers (Refused q)) answer
-  refused-numbers q n p a =
-      a ∙ rw (n, p) (answered-long 2 answer (judged_numbers (Refused q)) (omega arith) ∙ sym (answered-long 4 answer (judged_numbers (Refused q)) (omega arith)))
+  refused_numbers q n p a =
+      a ∙ rw (n, p) (answered_long 2 answer (judged_numbers (Refused q)) (omega arith) ∙ sym (answered_long 4 answer (judged_numbers (Refused q)) (omega arith)))
 
-  pub accepted-numbers : (v : Verdict) {number names rank : ℕ} {a b : List ℕ} → number ≡ verdict_number v → names ≡ verdict_names v → rank ≡ verdict_rank v
+  pub accepted_numbers : (v : Verdict) {number names rank : ℕ} {a b : List ℕ} → number ≡ verdict_number v → names ≡ verdict_names v → rank ≡ verdict_rank v
       → a ≡ answered 3 (0 ∷ number ∷ names ∷ []) answer → b ≡ number_stored rank a 24 → b ≡ answered 4 (judged_numbers (Accepted v)) answer
-  accepted-numbers v {number} {names} {rank} n m k ea eb =
-      number_more answer (0 ∷ number ∷ names ∷ []) rank 24 refl (omega arith) (ea ∙ answered-long 3 answer (0 ∷ number ∷ names ∷ []) (omega arith)) eb
-      ∙ rw (n, m, k) (sym (answered-long 4 answer (judged_numbers (Accepted v)) (omega arith)))
+  accepted_numbers v {number} {names} {rank} n m k ea eb =
+      number_more answer (0 ∷ number ∷ names ∷ []) rank 24 refl (omega arith) (ea ∙ answered_long 3 answer (0 ∷ number ∷ names ∷ []) (omega arith)) eb
+      ∙ rw (n, m, k) (sym (answered_long 4 answer (judged_numbers (Accepted v)) (omega arith)))
 
 -- ---- The call
 
 -- The first words of each list are loaded, and decide.
 module _ (table words demands figures grants watts answer : List ℕ) (w : suc most_words ≤ length words) (f : suc most_servers ≤ length figures) (k : suc most_cords ≤ length watts)
     {wn fn kn : ℕ} {words' figures' watts' : List ℕ}
-    (wn-is : wn ≡ min (length table / 4) (length words)) (words_are : words' ≡ sets words 0 (words_of table))
-    (fn_is : fn ≡ min (length demands / 4) (length figures)) (figures-are : figures' ≡ sets figures 0 (words_of demands))
-    (kn-is : kn ≡ min (length grants / 4) (length watts)) (watts-are : watts' ≡ sets watts 0 (words_of grants)) where
-  by-load : (o : LoadOutcome) → loading (words_of table) (words_of demands) ≡ o
+    (wn_is : wn ≡ min (length table / 4) (length words)) (words_are : words' ≡ sets words 0 (words_of table))
+    (fn_is : fn ≡ min (length demands / 4) (length figures)) (figures_are : figures' ≡ sets figures 0 (words_of demands))
+    (kn_is : kn ≡ min (length grants / 4) (length watts)) (watts_are : watts' ≡ sets watts 0 (words_of grants)) where
+  by_load : (o : LoadOutcome) → loading (words_of table) (words_of demands) ≡ o
       → judge_loaded o (take fn figures') (take kn watts') ≡ judge_loaded o (words_of demands) (words_of grants)
-  by-load (refused q) e = load-refused q _ _ _ _
-  by-load (accepted r) e =
-      let found = outcome-found (words_of table) (words_of demands) e in
-      let same : found.room ≡ r = accepted-is (sym found.accepts ∙ e) in
+  by_load (refused q) e = load_refused q _ _ _ _
+  by_load (accepted r) e =
+      let found = outcome_found (words_of table) (words_of demands) e in
+      let same : found.room ≡ r = accepted_is (sym found.accepts ∙ e) in
       ap₂ (judge_loaded (accepted r))
-      (bytes-demands table demands words figures w f wn-is words_are fn_is figures-are r e) (take-loaded (length watts) kn grants watts watts' refl kn-is watts-are)
-      ∙ grants-cut r (words_of demands) (words_of grants) (length watts) (omega (arith, (found-accepted found).few_cords, ap room_cords same, k))
+      (bytes_demands table demands words figures w f wn_is words_are fn_is figures_are r e) (take-loaded (length watts) kn grants watts watts' refl kn_is watts_are)
+      ∙ grants_cut r (words_of demands) (words_of grants) (length watts) (omega (arith, (found_accepted found).few_cords, ap room_cords same, k))
 
   loaded : judging (take wn words') (take fn figures') (take kn watts') ≡ judging (words_of table) (words_of demands) (words_of grants)
   unfolding judging
   loaded =
-      ap (λ (o : LoadOutcome). judge_loaded o (take fn figures') (take kn watts')) (bytes-loading table demands words figures w f wn-is words_are fn_is figures-are)
-      ∙ by-load (loading (words_of table) (words_of demands)) refl
+      ap (λ (o : LoadOutcome). judge_loaded o (take fn figures') (take kn watts')) (bytes_loading table demands words figures w f wn_is words_are fn_is figures_are)
+      ∙ by_load (loading (words_of table) (words_of demands)) refl
 
-  pub call-told : {told : Judged} {answer' : List ℕ} → 32 ≤ length answer → told ≡ answer_of (judging (take wn words') (take fn figures') (take kn watts'))
+  pub call_told : {told : Judged} {answer' : List ℕ} → 32 ≤ length answer → told ≡ answer_of (judging (take wn words') (take fn figures') (take kn watts'))
       → answer' ≡ answered 4 (judged_numbers told) answer → JudgeCall table demands grants answer 1 answer'
-  call-told h t a = call-done _ answer _ h tt (a ∙ ap (λ (x : Judged). answered 4 (judged_numbers x) answer) (t ∙ ap answer_of loaded))
+  call_told h t a = call_done _ answer _ h tt (a ∙ ap (λ (x : Judged). answered 4 (judged_numbers x) answer) (t ∙ ap answer_of loaded))

@@ -9,13 +9,13 @@ use lib.ListN.{length}
 use borrow.Author.Tests.{eqb-true, ltb-false}
 use Rattle.figures.specs.Figures.{at}
 use Rattle.figures.specs.Sums.{on, sum}
-use Rattle.figures.proofs.Sums.{on-yes, on-add, sum-cong, sum-add}
+use Rattle.figures.proofs.Sums.{on_yes, on_add, sum_cong, sum_add}
 use Rattle.rooms.specs.Table.{Room, most_watts, highest_rank, room_cords}
 use Rattle.rooms.specs.Limits.{limit, node_at, parent_of, lows_beneath, first_node}
 use Rattle.rooms.specs.Lists.{parents_of, limits_of, nodes_of, levels_of, lows_of}
 use Rattle.rooms.proofs.Accepted.{Accepted}
-use Rattle.rooms.proofs.Credits.{tree_sum-step}
-use Rattle.rooms.proofs.Search.{first_node-cong, first_node-none, first_node-first}
+use Rattle.rooms.proofs.Credits.{tree_sum_step}
+use Rattle.rooms.proofs.Search.{first_node_cong, first_node_none, first_node_first}
 use Rattle.deals.specs.Wants.{first_wants}
 use Rattle.deals.specs.Metrics.{Deal, deal_from, deal_of}
 use Rattle.deals.specs.SecondDeal.{first_deal}
@@ -24,13 +24,13 @@ use Rattle.deals.specs.Properties as dealing
 use Rattle.deals.specs.Judge.{below_low, above_want, over_limit, short_at, short_rank, short_root, highest, at_first, verdict}
 use Rattle.deals.specs.declared.Verdict.{Verdict}
 use Rattle.deals.specs.declared.Verdict.TheVariants.{Passes, BelowLow, AboveWant, OverLimit, Short}
-use Rattle.deals.proofs.Requests.{Dealable, deal_beneath, deal_beneath-unique}
+use Rattle.deals.proofs.Requests.{Dealable, deal_beneath, deal_beneath_unique}
 use Rattle.deals.specs.Ranks.{NodeLists}
-use Rattle.deals.proofs.RoomDeals.{deal_of-is, parents_of-length, parents_of-at, limits_of-at, nodes_of-length, nodes_of-at}
-use Rattle.deals.proofs.BothDeals.{parents-below, lows-under}
+use Rattle.deals.proofs.RoomDeals.{deal_of_is, parents_of-length, parents_of-at, limits_of-at, nodes_of-length, nodes_of-at}
+use Rattle.deals.proofs.BothDeals.{parents_below, lows_under}
 use Rattle.deals.proofs.Bounds.{bounded}
-use Rattle.deals.proofs.Judged.{at_first-none, at_first-some}
-use Rattle.deals.proofs.JudgedTotals.{ltb-both, most_over, most_step, first, first-dealable, short_at-is}
+use Rattle.deals.proofs.Judged.{at_first_none, at_first_some}
+use Rattle.deals.proofs.JudgedTotals.{ltb_both, most_over, most_step, first, first_dealable, short_at_is}
 use Rattle.deals.proofs.JudgedTotals as totals
 use Rattle.judge_totals.specs.Totals.{GrantedCords, over_low, on_node, from_level, over_from, IsMostFrom, less_than, Compared}
 use Rattle.judge.specs.Lists.{CordsPass}
@@ -39,54 +39,54 @@ use Rattle.rooms.specs.Trees.{beneath, sum_beneath, child_sum}
 -- ---- Searches
 
 module _ (count : ℕ) (test : ℕ → Bool) (named : ℕ → Verdict) (otherwise : Verdict) where
-  at_first-zero : {found : ℕ} → found ≡ first_node count 0 test → found ≡ 0 → at_first count 0 test named otherwise ≡ otherwise
-  at_first-zero f z = at_first-none count 0 test named otherwise (first_node-none count 0 test (sym f ∙ z))
+  at_first_zero : {found : ℕ} → found ≡ first_node count 0 test → found ≡ 0 → at_first count 0 test named otherwise ≡ otherwise
+  at_first_zero f z = at_first_none count 0 test named otherwise (first_node_none count 0 test (sym f ∙ z))
 
-  at_first-found : {found : ℕ} → found ≡ first_node count 0 test → (found ≡ 0 → ⊥) → named (found - 1) ≡ at_first count 0 test named otherwise
-  at_first-found {found = zero} f n = absurd (n refl)
-  at_first-found {found = suc p} f n =
+  at_first_found : {found : ℕ} → found ≡ first_node count 0 test → (found ≡ 0 → ⊥) → named (found - 1) ≡ at_first count 0 test named otherwise
+  at_first_found {found = zero} f n = absurd (n refl)
+  at_first_found {found = suc p} f n =
       let e : suc p - 1 ≡ p = omega arith in
-      ap named e ∙ sym (at_first-some count 0 test named otherwise p (first_node-first count 0 test p (sym f)))
+      ap named e ∙ sym (at_first_some count 0 test named otherwise p (first_node_first count 0 test p (sym f)))
 
 -- A number that is found is that of a place searched.
 pub found_within : (count : ℕ) (test : ℕ → Bool) {found : ℕ} → found ≡ first_node count 0 test → (found ≡ 0 → ⊥) → found - 1 < count
 found_within count test {found = zero} f n = absurd (n refl)
-found_within count test {found = suc p} f n = omega (arith, (first_node-first count 0 test p (sym f)).within)
+found_within count test {found = suc p} f n = omega (arith, (first_node_first count 0 test p (sym f)).within)
 
-highest-cong : (s t : ℕ → Bool) (k : ℕ) → ((j : ℕ) → j < k → s (suc j) ≡ t (suc j)) → highest s k ≡ highest t k
+highest_cong : (s t : ℕ → Bool) (k : ℕ) → ((j : ℕ) → j < k → s (suc j) ≡ t (suc j)) → highest s k ≡ highest t k
 unfolding highest
-highest-cong s t zero e = refl
-highest-cong s t (suc k) e = ap₂ (λ (x : Bool) (y : ℕ). cond x (suc k) y) (e k (omega arith)) (highest-cong s t k (λ j l. e j (omega arith)))
+highest_cong s t zero e = refl
+highest_cong s t (suc k) e = ap₂ (λ (x : Bool) (y : ℕ). cond x (suc k) y) (e k (omega arith)) (highest_cong s t k (λ j l. e j (omega arith)))
 
-and-cong : (s t u : Bool) → (s ≡ true → t ≡ u) → s && t ≡ s && u
-and-cong true t u e = e refl
-and-cong false t u e = refl
+and_cong : (s t u : Bool) → (s ≡ true → t ≡ u) → s && t ≡ s && u
+and_cong true t u e = e refl
+and_cong false t u e = refl
 
 -- ---- A room's nodes, as lists
 
 -- The parents of a room's nodes, and what each limit has over the lows beneath it.
 pub record RoomNodes (r : Room) (parents spare : List ℕ) : Type 0 where
-  pub parents-are : parents ≡ parents_of r
-  pub spare-size : length spare ≡ length parents
-  pub spare-is : (n : ℕ) → n < length r.nodes → at spare n + lows_beneath r n ≡ at (limits_of r) n
+  pub parents_are : parents ≡ parents_of r
+  pub spare_size : length spare ≡ length parents
+  pub spare_is : (n : ℕ) → n < length r.nodes → at spare n + lows_beneath r n ≡ at (limits_of r) n
 
 module _ (r : Room) (ok : Accepted r) {parents spare : List ℕ} (lists : RoomNodes r parents spare) where
-  nodes-are : length parents ≡ length r.nodes
-  nodes-are = ap length lists.parents-are ∙ parents_of-length r
+  nodes_are : length parents ≡ length r.nodes
+  nodes_are = ap length lists.parents_are ∙ parents_of-length r
 
   parent-at : (m : ℕ) → at parents m ≡ parent_of r m
-  parent-at m = ap (λ (l : List ℕ). at l m) lists.parents-are ∙ parents_of-at r m
+  parent-at m = ap (λ (l : List ℕ). at l m) lists.parents_are ∙ parents_of-at r m
 
-  limit-most : (n : ℕ) → n < length r.nodes → at (limits_of r) n ≤ most_watts
+  limit_most : (n : ℕ) → n < length r.nodes → at (limits_of r) n ≤ most_watts
   unfolding first_deal deal_of deal_from
-  limit-most n l = (bounded r ok []).first.limits n (omega (arith, parents_of-length r))
+  limit_most n l = (bounded r ok []).first.limits n (omega (arith, parents_of-length r))
 
   pub node_lists : NodeLists parents spare
   node_lists = record {
-    few = omega (arith, nodes-are, ok.few_nodes);
-    rises = λ m l. omega (arith, parent-at m, parents-below r ok m (omega (arith, nodes-are)));
-    limits-size = lists.spare-size;
-    most = λ n l. omega (arith, lists.spare-is n (omega (arith, nodes-are)), limit-most n (omega (arith, nodes-are)));
+    few = omega (arith, nodes_are, ok.few_nodes);
+    rises = λ m l. omega (arith, parent-at m, parents_below r ok m (omega (arith, nodes_are)));
+    limits_size = lists.spare_size;
+    most = λ n l. omega (arith, lists.spare_is n (omega (arith, nodes_are)), limit_most n (omega (arith, nodes_are)));
   }
 
   -- ---- Cords that pass
@@ -104,126 +104,126 @@ module _ (r : Room) (ok : Accepted r) {parents spare : List ℕ} (lists : RoomNo
     abbrev wants : List ℕ
     wants = first_wants r demands
 
-    cords-are : length nodes ≡ room_cords r
-    cords-are = nodes_of-length r
+    cords_are : length nodes ≡ room_cords r
+    cords_are = nodes_of-length r
 
     -- The first deal.
     abbrev d : Deal
     d = first r ok demands
 
     abbrev able : Dealable d
-    able = first-dealable r ok demands
+    able = first_dealable r ok demands
 
-    want-most : (c : ℕ) → c < room_cords r → at (first_wants r demands) c ≤ most_watts
+    want_most : (c : ℕ) → c < room_cords r → at (first_wants r demands) c ≤ most_watts
     unfolding first_deal deal_of deal_from
-    want-most c l = (bounded r ok demands).first.wants c (omega (arith, nodes_of-length r))
+    want_most c l = (bounded r ok demands).first.wants c (omega (arith, nodes_of-length r))
 
     least : (c : ℕ) → c < room_cords r → at (lows_of r) c ≤ at grants c
-    least c l = ltb-false _ _ (first_node-none (room_cords r) 0 (below_low r grants) pass.none_below c zero-le (omega arith))
+    least c l = ltb-false _ _ (first_node_none (room_cords r) 0 (below_low r grants) pass.none_below c zero-le (omega arith))
 
     most : (c : ℕ) → c < room_cords r → at grants c ≤ at (first_wants r demands) c
-    most c l = ltb-false _ _ (first_node-none (room_cords r) 0 (above_want r demands grants) pass.none_above c zero-le (omega arith))
+    most c l = ltb-false _ _ (first_node_none (room_cords r) 0 (above_want r demands grants) pass.none_above c zero-le (omega arith))
 
     pub cord-lists : GrantedCords (length parents) nodes levels lows wants grants
     cord-lists = record {
-      few = omega (arith, cords-are, ok.few_cords);
-      hangs = λ c l. omega (arith, nodes_of-at r c, able.hangs c (omega (arith, cords-are)));
-      within = λ c l. omega (arith, nodes_of-at r c, able.here c (omega (arith, cords-are)), nodes-are);
-      ranked = λ c l. able.ranks c (omega (arith, cords-are));
-      least = λ c l. least c (omega (arith, cords-are));
-      most = λ c l. most c (omega (arith, cords-are));
-      wants-most = λ c l. want-most c (omega (arith, cords-are));
+      few = omega (arith, cords_are, ok.few_cords);
+      hangs = λ c l. omega (arith, nodes_of-at r c, able.hangs c (omega (arith, cords_are)));
+      within = λ c l. omega (arith, nodes_of-at r c, able.here c (omega (arith, cords_are)), nodes_are);
+      ranked = λ c l. able.ranks c (omega (arith, cords_are));
+      least = λ c l. least c (omega (arith, cords_are));
+      most = λ c l. most c (omega (arith, cords_are));
+      wants_most = λ c l. want_most c (omega (arith, cords_are));
     }
 
     -- ---- Sums on nodes, and beneath them
 
-    on-is : (watts : List ℕ) (f : ℕ → ℕ) → ((c : ℕ) → at watts c ≡ f c) → (j n : ℕ)
+    on_is : (watts : List ℕ) (f : ℕ → ℕ) → ((c : ℕ) → at watts c ≡ f c) → (j n : ℕ)
         → on_node nodes (from_level levels j (over_low lows watts)) n ≡ child_sum d.cords d.node n (dealing.from_level d j (totals.over_low d able f))
     unfolding on_node
-    on-is watts f e j n =
-        ap (λ (k : ℕ). sum k (λ c. on (eqb (at nodes c) (suc n)) (from_level levels j (over_low lows watts) c))) cords-are
-        ∙ sum-cong (room_cords r) _ _ (λ c l. rw (nodes_of-at r c, e c) refl)
+    on_is watts f e j n =
+        ap (λ (k : ℕ). sum k (λ c. on (eqb (at nodes c) (suc n)) (from_level levels j (over_low lows watts) c))) cords_are
+        ∙ sum_cong (room_cords r) _ _ (λ c l. rw (nodes_of-at r c, e c) refl)
 
-    child_nodes-are : (n : ℕ) (g : ℕ → ℕ) → sum (length parents) (λ m. on (eqb (at parents m) (suc n)) (g m)) ≡ child_sum d.nodes d.parent n g
-    child_nodes-are n g =
-        ap (λ (k : ℕ). sum k (λ m. on (eqb (at parents m) (suc n)) (g m))) nodes-are
-        ∙ sum-cong (length r.nodes) _ _ (λ m l. ap (λ (x : ℕ). on (eqb x (suc n)) (g m)) (parent-at m))
+    child_nodes_are : (n : ℕ) (g : ℕ → ℕ) → sum (length parents) (λ m. on (eqb (at parents m) (suc n)) (g m)) ≡ child_sum d.nodes d.parent n g
+    child_nodes_are n g =
+        ap (λ (k : ℕ). sum k (λ m. on (eqb (at parents m) (suc n)) (g m))) nodes_are
+        ∙ sum_cong (length r.nodes) _ _ (λ m l. ap (λ (x : ℕ). on (eqb x (suc n)) (g m)) (parent-at m))
 
     lows-sum : (n : ℕ) → deal_beneath d n d.low ≡ lows_beneath r n
     unfolding deal_of deal_from sum_beneath
     lows-sum n =
-        ap (λ (x : Deal). sum x.cords (λ c. on (beneath x.parent x.nodes n (x.node c)) (x.low c))) (sym (deal_of-is r (lows_of r) (first_wants r demands)))
-        ∙ lows-under r ok n
+        ap (λ (x : Deal). sum x.cords (λ c. on (beneath x.parent x.nodes n (x.node c)) (x.low c))) (sym (deal_of_is r (lows_of r) (first_wants r demands)))
+        ∙ lows_under r ok n
 
-    spare-is : (n : ℕ) → n < length r.nodes → at spare n + deal_beneath d n d.low ≡ limit (node_at r n)
-    spare-is n l = omega (arith, lists.spare-is n l, lows-sum n, limits_of-at r n)
+    spare_is : (n : ℕ) → n < length r.nodes → at spare n + deal_beneath d n d.low ≡ limit (node_at r n)
+    spare_is n l = omega (arith, lists.spare_is n l, lows-sum n, limits_of-at r n)
 
     -- The most that the cords of a level and above can have is the most by these lists.
-    most-lists : IsMostFrom parents spare nodes levels lows wants (most_over d able)
-    most-lists j h n l =
-        let inside : n < length r.nodes = omega (arith, nodes-are) in
-        let room : d.limit n - deal_beneath d n d.low ≡ at spare n = omega (arith, spare-is n inside) in
+    most_lists : IsMostFrom parents spare nodes levels lows wants (most_over d able)
+    most_lists j h n l =
+        let inside : n < length r.nodes = omega (arith, nodes_are) in
+        let room : d.limit n - deal_beneath d n d.low ≡ at spare n = omega (arith, spare_is n inside) in
         most_step d able j n (omega arith) inside
-        ∙ ap₂ min room (ap₂ ◌+◌ (sym (on-is wants d.want (λ c. refl) j n)) (sym (child_nodes-are n (most_over d able j))))
+        ∙ ap₂ min room (ap₂ ◌+◌ (sym (on_is wants d.want (λ c. refl) j n)) (sym (child_nodes_are n (most_over d able j))))
 
     -- What the grants have over the lows, beneath a node.
-    over-is : (j n : ℕ) → n < length r.nodes → over_from parents nodes levels lows grants j n ≡ deal_beneath d n (dealing.from_level d j (totals.over_low d able (at grants)))
+    over_is : (j n : ℕ) → n < length r.nodes → over_from parents nodes levels lows grants j n ≡ deal_beneath d n (dealing.from_level d j (totals.over_low d able (at grants)))
     unfolding over_from
-    over-is j = deal_beneath-unique d able (dealing.from_level d j (totals.over_low d able (at grants))) (over_from parents nodes levels lows grants j) (λ n l.
-        tree_sum-step (length parents) (at parents) node_lists.rises (on_node nodes (from_level levels j (over_low lows grants))) n (omega (arith, nodes-are))
-        ∙ ap₂ ◌+◌ (on-is grants (at grants) (λ c. refl) j n) (step n))
+    over_is j = deal_beneath_unique d able (dealing.from_level d j (totals.over_low d able (at grants))) (over_from parents nodes levels lows grants j) (λ n l.
+        tree_sum_step (length parents) (at parents) node_lists.rises (on_node nodes (from_level levels j (over_low lows grants))) n (omega (arith, nodes_are))
+        ∙ ap₂ ◌+◌ (on_is grants (at grants) (λ c. refl) j n) (step n))
       where
         step : (n : ℕ) → child_sum (length parents) (at parents) n (over_from parents nodes levels lows grants j) ≡ child_sum d.nodes d.parent n (over_from parents nodes levels lows grants j)
-        step n = child_nodes-are n (over_from parents nodes levels lows grants j)
+        step n = child_nodes_are n (over_from parents nodes levels lows grants j)
 
     -- ---- Nodes
 
-    all-levels : (n : ℕ) (f : ℕ → ℕ) → deal_beneath d n (dealing.from_level d 0 f) ≡ deal_beneath d n f
+    all_levels : (n : ℕ) (f : ℕ → ℕ) → deal_beneath d n (dealing.from_level d 0 f) ≡ deal_beneath d n f
     unfolding sum_beneath
-    all-levels n f = sum-cong d.cords _ _ (λ c l. ap (on (beneath d.parent d.nodes n (d.node c))) (on-yes (leb 0 (d.level c)) (f c) (leb-zero (d.level c))))
+    all_levels n f = sum_cong d.cords _ _ (λ c l. ap (on (beneath d.parent d.nodes n (d.node c))) (on_yes (leb 0 (d.level c)) (f c) (leb-zero (d.level c))))
 
     -- What the grants beneath a node come to: what they have over the lows, and the lows.
-    over-and-lows : (n : ℕ) → watts_beneath r n (at grants) ≡ deal_beneath d n (totals.over_low d able (at grants)) + deal_beneath d n d.low
+    over_and_lows : (n : ℕ) → watts_beneath r n (at grants) ≡ deal_beneath d n (totals.over_low d able (at grants)) + deal_beneath d n d.low
     unfolding sum_beneath
-    over-and-lows n =
-        sum-cong d.cords _ _ (λ c l.
+    over_and_lows n =
+        sum_cong d.cords _ _ (λ c l.
         let e : at grants c ≡ totals.over_low d able (at grants) c + d.low c = omega (arith, least c l) in
-        ap (on (cord_beneath r n c)) e ∙ on-add (cord_beneath r n c) (totals.over_low d able (at grants) c) (d.low c))
-        ∙ sum-add d.cords (λ c. on (cord_beneath r n c) (totals.over_low d able (at grants) c)) (λ c. on (cord_beneath r n c) (d.low c))
+        ap (on (cord_beneath r n c)) e ∙ on_add (cord_beneath r n c) (totals.over_low d able (at grants) c) (d.low c))
+        ∙ sum_add d.cords (λ c. on (cord_beneath r n c) (totals.over_low d able (at grants) c)) (λ c. on (cord_beneath r n c) (d.low c))
 
     over-limit : (n : ℕ) → n < length r.nodes → ltb (at spare n) (over_from parents nodes levels lows grants 0 n) ≡ over_limit r grants n
     over-limit n l =
         let over : over_from parents nodes levels lows grants 0 n ≡ deal_beneath d n (totals.over_low d able (at grants))
-        = over-is 0 n l ∙ all-levels n (totals.over_low d able (at grants)) in
+        = over_is 0 n l ∙ all_levels n (totals.over_low d able (at grants)) in
         let given : over_from parents nodes levels lows grants 0 n + deal_beneath d n d.low ≡ watts_beneath r n (at grants)
-        = ap (λ (x : ℕ). x + deal_beneath d n d.low) over ∙ sym (over-and-lows n) in
-        sym (ltb-both (at spare n) (over_from parents nodes levels lows grants 0 n) (deal_beneath d n d.low)) ∙ ap₂ ltb (spare-is n l) given
+        = ap (λ (x : ℕ). x + deal_beneath d n d.low) over ∙ sym (over_and_lows n) in
+        sym (ltb_both (at spare n) (over_from parents nodes levels lows grants 0 n) (deal_beneath d n d.low)) ∙ ap₂ ltb (spare_is n l) given
 
     short-rank : {over : ℕ} {short : List ℕ} → Compared parents spare nodes levels lows wants grants over short → over ≡ 0
         → (n : ℕ) → n < length r.nodes → parent_of r n ≡ 0 → at short n ≡ short_rank r demands grants n
     unfolding short_rank
     short-rank compared none n l top =
-        compared.short-is (most_over d able) most-lists none n (omega (arith, nodes-are))
-        ∙ highest-cong (less_than parents nodes levels lows grants (most_over d able) n) (short_at r demands grants n) highest_rank (λ j h.
+        compared.short_is (most_over d able) most_lists none n (omega (arith, nodes_are))
+        ∙ highest_cong (less_than parents nodes levels lows grants (most_over d able) n) (short_at r demands grants n) highest_rank (λ j h.
         let e : suc j - 1 ≡ j = omega arith in
         let less : less_than parents nodes levels lows grants (most_over d able) n (suc j) ≡ ltb (deal_beneath d n (dealing.from_level d j (totals.over_low d able (at grants)))) (most_over d able j n)
-        = rw e (ap (λ (x : ℕ). ltb x (most_over d able j n)) (over-is j n l)) in
-        less ∙ sym (short_at-is r ok demands grants least n l top j h))
+        = rw e (ap (λ (x : ℕ). ltb x (most_over d able j n)) (over_is j n l)) in
+        less ∙ sym (short_at_is r ok demands grants least n l top j h))
 
     module _ {over : ℕ} {short : List ℕ} (compared : Compared parents spare nodes levels lows wants grants over short) where
-      pub over-found : over ≡ first_node (length r.nodes) 0 (over_limit r grants)
-      over-found =
-          compared.over-is
-          ∙ ap (λ (k : ℕ). first_node k 0 (λ n. ltb (at spare n) (over_from parents nodes levels lows grants 0 n))) nodes-are
-          ∙ first_node-cong (length r.nodes) 0 _ _ (λ n l. over-limit n (omega arith))
+      pub over_found : over ≡ first_node (length r.nodes) 0 (over_limit r grants)
+      over_found =
+          compared.over_is
+          ∙ ap (λ (k : ℕ). first_node k 0 (λ n. ltb (at spare n) (over_from parents nodes levels lows grants 0 n))) nodes_are
+          ∙ first_node_cong (length r.nodes) 0 _ _ (λ n l. over-limit n (omega arith))
 
-      pub root-found : over ≡ 0 → {root : ℕ} → root ≡ first_node (length parents) 0 (λ n. eqb (at parents n) 0 && ltb 0 (at short n))
+      pub root_found : over ≡ 0 → {root : ℕ} → root ≡ first_node (length parents) 0 (λ n. eqb (at parents n) 0 && ltb 0 (at short n))
           → root ≡ first_node (length r.nodes) 0 (short_root r demands grants)
-      root-found none f =
-          f ∙ ap (λ (k : ℕ). first_node k 0 (λ n. eqb (at parents n) 0 && ltb 0 (at short n))) nodes-are
-          ∙ first_node-cong (length r.nodes) 0 _ _ (λ n l.
+      root_found none f =
+          f ∙ ap (λ (k : ℕ). first_node k 0 (λ n. eqb (at parents n) 0 && ltb 0 (at short n))) nodes_are
+          ∙ first_node_cong (length r.nodes) 0 _ _ (λ n l.
           ap (λ (x : ℕ). eqb x 0 && ltb 0 (at short n)) (parent-at n)
-          ∙ and-cong (eqb (parent_of r n) 0) (ltb 0 (at short n)) (ltb 0 (short_rank r demands grants n))
+          ∙ and_cong (eqb (parent_of r n) 0) (ltb 0 (at short n)) (ltb 0 (short_rank r demands grants n))
           (λ t. ap (ltb 0) (short-rank compared none n (omega arith) (eqb-true (parent_of r n) 0 t))))
 
       -- ---- The verdict, where no cord fails
@@ -234,54 +234,54 @@ module _ (r : Room) (ok : Accepted r) {parents spare : List ℕ} (lists : RoomNo
       abbrev of_limits : Verdict
       of_limits = at_first (length r.nodes) 0 (over_limit r grants) (λ n. OverLimit (suc n)) of_short
 
-      past-cords : verdict r demands grants ≡ of_limits
+      past_cords : verdict r demands grants ≡ of_limits
       unfolding verdict
-      past-cords =
-          at_first-zero (room_cords r) (below_low r grants) BelowLow (at_first (room_cords r) 0 (above_want r demands grants) AboveWant of_limits) (sym pass.none_below) refl
-          ∙ at_first-zero (room_cords r) (above_want r demands grants) AboveWant of_limits (sym pass.none_above) refl
+      past_cords =
+          at_first_zero (room_cords r) (below_low r grants) BelowLow (at_first (room_cords r) 0 (above_want r demands grants) AboveWant of_limits) (sym pass.none_below) refl
+          ∙ at_first_zero (room_cords r) (above_want r demands grants) AboveWant of_limits (sym pass.none_above) refl
 
-      pub is-over : (over ≡ 0 → ⊥) → OverLimit over ≡ verdict r demands grants
-      is-over n =
+      pub is_over : (over ≡ 0 → ⊥) → OverLimit over ≡ verdict r demands grants
+      is_over n =
           let e : over ≡ suc (over - 1) = number over n in
-          ap OverLimit e ∙ at_first-found (length r.nodes) (over_limit r grants) (λ n. OverLimit (suc n)) of_short over-found n ∙ sym past-cords
+          ap OverLimit e ∙ at_first_found (length r.nodes) (over_limit r grants) (λ n. OverLimit (suc n)) of_short over_found n ∙ sym past_cords
         where
           number : (x : ℕ) → (x ≡ 0 → ⊥) → x ≡ suc (x - 1)
           number zero n = absurd (n refl)
           number (suc x) n = omega arith
 
-      past-limits : over ≡ 0 → verdict r demands grants ≡ of_short
-      past-limits z = past-cords ∙ at_first-zero (length r.nodes) (over_limit r grants) (λ n. OverLimit (suc n)) of_short over-found z
+      past_limits : over ≡ 0 → verdict r demands grants ≡ of_short
+      past_limits z = past_cords ∙ at_first_zero (length r.nodes) (over_limit r grants) (λ n. OverLimit (suc n)) of_short over_found z
 
       pub is-short : over ≡ 0 → {root : ℕ} → root ≡ first_node (length parents) 0 (λ n. eqb (at parents n) 0 && ltb 0 (at short n)) → (root ≡ 0 → ⊥)
           → {rank : ℕ} → rank ≡ at short (root - 1) → Short root rank ≡ verdict r demands grants
       is-short z {root = zero} f n k = absurd (n refl)
       is-short z {root = suc p} f n {rank = rank} k =
-          let g = root-found z f in
-          let first-at = first_node-first (length r.nodes) 0 (short_root r demands grants) p (sym g) in
+          let g = root_found z f in
+          let first_at = first_node_first (length r.nodes) 0 (short_root r demands grants) p (sym g) in
           let e : suc p - 1 ≡ p = omega arith in
-          let top = eqb-true (parent_of r p) 0 (and_left (eqb (parent_of r p) 0) (ltb 0 (short_rank r demands grants p)) first-at.holds) in
-          let is : rank ≡ short_rank r demands grants p = k ∙ ap (at short) e ∙ short-rank compared z p (omega (arith, first-at.within)) top in
+          let top = eqb-true (parent_of r p) 0 (and_left (eqb (parent_of r p) 0) (ltb 0 (short_rank r demands grants p)) first_at.holds) in
+          let is : rank ≡ short_rank r demands grants p = k ∙ ap (at short) e ∙ short-rank compared z p (omega (arith, first_at.within)) top in
           ap (Short (suc p)) is
-          ∙ sym (at_first-some (length r.nodes) 0 (short_root r demands grants) (λ n. Short (suc n) (short_rank r demands grants n)) Passes p first-at)
-          ∙ sym (past-limits z)
+          ∙ sym (at_first_some (length r.nodes) 0 (short_root r demands grants) (λ n. Short (suc n) (short_rank r demands grants n)) Passes p first_at)
+          ∙ sym (past_limits z)
         where
           and_left : (s t : Bool) → s && t ≡ true → s ≡ true
           and_left true t e = refl
           and_left false t e = e
 
-      pub is-passes : over ≡ 0 → {root : ℕ} → root ≡ first_node (length parents) 0 (λ n. eqb (at parents n) 0 && ltb 0 (at short n)) → root ≡ 0
+      pub is_passes : over ≡ 0 → {root : ℕ} → root ≡ first_node (length parents) 0 (λ n. eqb (at parents n) 0 && ltb 0 (at short n)) → root ≡ 0
           → Passes ≡ verdict r demands grants
-      is-passes z f n = sym (at_first-zero (length r.nodes) (short_root r demands grants) (λ n. Short (suc n) (short_rank r demands grants n)) Passes (root-found z f) n) ∙ sym (past-limits z)
+      is_passes z f n = sym (at_first_zero (length r.nodes) (short_root r demands grants) (λ n. Short (suc n) (short_rank r demands grants n)) Passes (root_found z f) n) ∙ sym (past_limits z)
 
 -- ---- The verdict, where a cord fails
 
 module _ (r : Room) (demands grants : List ℕ) where
   pub is_below : {below : ℕ} → below ≡ first_node (room_cords r) 0 (below_low r grants) → (below ≡ 0 → ⊥) → BelowLow (below - 1) ≡ verdict r demands grants
   unfolding verdict
-  is_below b n = at_first-found (room_cords r) (below_low r grants) BelowLow _ b n
+  is_below b n = at_first_found (room_cords r) (below_low r grants) BelowLow _ b n
 
-  pub is-above : {below above : ℕ} → below ≡ first_node (room_cords r) 0 (below_low r grants) → below ≡ 0
+  pub is_above : {below above : ℕ} → below ≡ first_node (room_cords r) 0 (below_low r grants) → below ≡ 0
       → above ≡ first_node (room_cords r) 0 (above_want r demands grants) → (above ≡ 0 → ⊥) → AboveWant (above - 1) ≡ verdict r demands grants
   unfolding verdict
-  is-above b z a n =
-      at_first-found (room_cords r) (above_want r demands grants) AboveWant _ a n ∙ sym (at_first-zero (room_cords r) (below_low r grants) BelowLow _ b z)
+  is_above b z a n =
+      at_first_found (room_cords r) (above_want r demands grants) AboveWant _ a n ∙ sym (at_first_zero (room_cords r) (below_low r grants) BelowLow _ b z)

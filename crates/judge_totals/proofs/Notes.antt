@@ -11,41 +11,41 @@ use lib.Seq.{get_or-set_same, get_or-set_other}
 use borrow.Author.Tests.{ltb-true, ltb-false, lt-ltb, le-ltb, leb-true, leb-false, le-leb, lt-leb, eqb-true, eqb-false}
 use Rattle.figures.specs.Figures.{at}
 use Rattle.figures.specs.Sums.{on}
-use Rattle.figures.proofs.Sums.{on-yes, on-no, on-le}
+use Rattle.figures.proofs.Sums.{on_yes, on_no, on_le}
 use Rattle.rooms.specs.Table.{highest_rank}
 use Rattle.figures.specs.Credits.{credited}
-use Rattle.figures.proofs.Credits.{on-most, credited-at}
+use Rattle.figures.proofs.Credits.{on_most, credited-at}
 use Rattle.deals.specs.Judge.{highest}
 use Rattle.judge_totals.specs.Totals.{Noted, merged, held_back}
 
 -- ---- The same figures
 
-pub noted-same : {given most given' most' : ℕ → ℕ} {watts raised wanting watts' raised' wanting' : ℕ} → Noted given most watts raised wanting
+pub noted_same : {given most given' most' : ℕ → ℕ} {watts raised wanting watts' raised' wanting' : ℕ} → Noted given most watts raised wanting
     → ((j : ℕ) → j < highest_rank → given' j ≡ given j) → ((j : ℕ) → j < highest_rank → most' j ≡ most j)
     → watts' ≡ watts → raised' ≡ raised → wanting' ≡ wanting → Noted given' most' watts' raised' wanting'
-noted-same n g m w r h =
+noted_same n g m w r h =
     let first = g 0 (omega arith) in
     record {
-      watts-are = omega (arith, n.watts-are);
+      watts_are = omega (arith, n.watts_are);
       falls = λ j l. omega (arith, g j l, n.falls j l);
-      none-lower = λ j l k. omega (arith, g j l, n.none-lower j l (omega arith));
-      some-lower = λ j l k. omega (arith, g j l, n.some-lower j l (omega arith));
+      none_lower = λ j l k. omega (arith, g j l, n.none_lower j l (omega arith));
+      some_lower = λ j l k. omega (arith, g j l, n.some_lower j l (omega arith));
       within = λ j l. omega (arith, g j l, m j l, n.within j l);
       rank = omega (arith, n.rank);
-      none-higher = λ j l k. omega (arith, g j l, m j l, n.none-higher j l (omega arith));
+      none_higher = λ j l k. omega (arith, g j l, m j l, n.none_higher j l (omega arith));
       less = λ j e. let l : j < highest_rank = omega (arith, n.rank) in omega (arith, g j l, m j l, n.less j (sym h ∙ e));
     }
 
 -- Nothing.
-pub noted-none : Noted (λ j. 0) (λ j. 0) 0 highest_rank 0
-noted-none = record {
-  watts-are = refl;
+pub noted_none : Noted (λ j. 0) (λ j. 0) 0 highest_rank 0
+noted_none = record {
+  watts_are = refl;
   falls = λ j l. omega arith;
-  none-lower = λ j l k. refl;
-  some-lower = λ j l k. absurd (omega arith);
+  none_lower = λ j l k. refl;
+  some_lower = λ j l k. absurd (omega arith);
   within = λ j l. omega arith;
   rank = omega arith;
-  none-higher = λ j l k. refl;
+  none_higher = λ j l k. refl;
   less = λ j e. absurd (omega arith);
 }
 
@@ -54,31 +54,31 @@ noted-none = record {
 -- A cord of a level with x watts, which could have y: it counts from the lowest level to its own.
 module _ (level x y : ℕ) (l : level < highest_rank) (le : x ≤ y) where
   counts : (j a : ℕ) → j ≤ level → on (leb j level) a ≡ a
-  counts j a h = on-yes (leb j level) a (le-leb j level h)
+  counts j a h = on_yes (leb j level) a (le-leb j level h)
 
-  not-above : (j a : ℕ) → level < j → on (leb j level) a ≡ 0
-  not-above j a h = on-no (leb j level) a (lt-leb j level h)
+  not_above : (j a : ℕ) → level < j → on (leb j level) a ≡ 0
+  not_above j a h = on_no (leb j level) a (lt-leb j level h)
 
-  pub noted-cord : (some wants : Bool) → (some ≡ true → 0 < x) → (some ≡ false → x ≡ 0) → (wants ≡ true → x < y) → (wants ≡ false → x ≡ y)
+  pub noted_cord : (some wants : Bool) → (some ≡ true → 0 < x) → (some ≡ false → x ≡ 0) → (wants ≡ true → x < y) → (wants ≡ false → x ≡ y)
       → Noted (λ j. on (leb j level) x) (λ j. on (leb j level) y) x (cond some (suc level) highest_rank) (cond wants (suc level) 0)
-  noted-cord some wants s s' w w' = record {
-    watts-are = sym (counts 0 x (omega arith));
-    falls = λ j k. omega (arith, on-most (leb j level) x, counts 0 x (omega arith));
-    none-lower = λ j k b. lowest some s s' j b;
-    some-lower = λ j k b. lower some s s' j k b;
-    within = λ j k. on-le (leb j level) x y (λ e. le);
+  noted_cord some wants s s' w w' = record {
+    watts_are = sym (counts 0 x (omega arith));
+    falls = λ j k. omega (arith, on_most (leb j level) x, counts 0 x (omega arith));
+    none_lower = λ j k b. lowest some s s' j b;
+    some_lower = λ j k b. lower some s s' j k b;
+    within = λ j k. on_le (leb j level) x y (λ e. le);
     rank = in-range wants;
-    none-higher = λ j k b. above wants w' j b;
+    none_higher = λ j k b. above wants w' j b;
     less = λ j e. own wants w j e;
   }
     where
       lowest : (t : Bool) → (t ≡ true → 0 < x) → (t ≡ false → x ≡ 0) → (j : ℕ) → j < cond t (suc level) highest_rank → on (leb j level) x ≡ on (leb 0 level) x
       lowest true s s' j b = counts j x (omega arith) ∙ sym (counts 0 x (omega arith))
-      lowest false s s' j b = omega (arith, on-most (leb j level) x, on-most (leb 0 level) x, s' refl)
+      lowest false s s' j b = omega (arith, on_most (leb j level) x, on_most (leb 0 level) x, s' refl)
 
       lower : (t : Bool) → (t ≡ true → 0 < x) → (t ≡ false → x ≡ 0) → (j : ℕ) → j < highest_rank → cond t (suc level) highest_rank ≤ j
           → on (leb j level) x < on (leb 0 level) x
-      lower true s s' j k b = omega (arith, not-above j x (omega arith), counts 0 x (omega arith), s refl)
+      lower true s s' j k b = omega (arith, not_above j x (omega arith), counts 0 x (omega arith), s refl)
       lower false s s' j k b = absurd (omega arith)
 
       in-range : (t : Bool) → cond t (suc level) 0 ≤ highest_rank
@@ -86,7 +86,7 @@ module _ (level x y : ℕ) (l : level < highest_rank) (le : x ≤ y) where
       in-range false = omega arith
 
       above : (t : Bool) → (t ≡ false → x ≡ y) → (j : ℕ) → cond t (suc level) 0 ≤ j → on (leb j level) x ≡ on (leb j level) y
-      above true w j b = not-above j x (omega arith) ∙ sym (not-above j y (omega arith))
+      above true w j b = not_above j x (omega arith) ∙ sym (not_above j y (omega arith))
       above false w j b = ap (on (leb j level)) (w refl)
 
       own : (t : Bool) → (t ≡ true → x < y) → (j : ℕ) → cond t (suc level) 0 ≡ suc j → on (leb j level) x < on (leb j level) y
@@ -97,9 +97,9 @@ module _ (level x y : ℕ) (l : level < highest_rank) (le : x ≤ y) where
 
 module _ {given most given' most' : ℕ → ℕ} {watts raised wanting watts' raised' wanting' : ℕ}
     (n : Noted given most watts raised wanting) (m : Noted given' most' watts' raised' wanting') where
-  lower-both : (j : ℕ) → j < highest_rank → min raised raised' ≤ j → (t : Bool) → leb raised j ≡ t → given j + given' j < given 0 + given' 0
-  lower-both j l k true e = omega (arith, n.some-lower j l (leb-true raised j e), m.falls j l)
-  lower-both j l k false e = omega (arith, n.falls j l, m.some-lower j l (omega (arith, leb-false raised j e)))
+  lower_both : (j : ℕ) → j < highest_rank → min raised raised' ≤ j → (t : Bool) → leb raised j ≡ t → given j + given' j < given 0 + given' 0
+  lower_both j l k true e = omega (arith, n.some_lower j l (leb-true raised j e), m.falls j l)
+  lower_both j l k false e = omega (arith, n.falls j l, m.some_lower j l (omega (arith, leb-false raised j e)))
 
   less_both : (j : ℕ) → j < highest_rank → max wanting wanting' ≡ suc j → (t : Bool) → eqb wanting (suc j) ≡ t → given j + given' j < most j + most' j
   less_both j l e true q = omega (arith, n.less j (eqb-true wanting (suc j) q), m.within j l)
@@ -107,15 +107,15 @@ module _ {given most given' most' : ℕ → ℕ} {watts raised wanting watts' ra
       let other : wanting' ≡ suc j = omega (arith, eqb-false wanting (suc j) q) in
       omega (arith, n.within j l, m.less j other)
 
-  pub noted-both : Noted (λ j. given j + given' j) (λ j. most j + most' j) (watts + watts') (min raised raised') (max wanting wanting')
-  noted-both = record {
-    watts-are = omega (arith, n.watts-are, m.watts-are);
+  pub noted_both : Noted (λ j. given j + given' j) (λ j. most j + most' j) (watts + watts') (min raised raised') (max wanting wanting')
+  noted_both = record {
+    watts_are = omega (arith, n.watts_are, m.watts_are);
     falls = λ j l. omega (arith, n.falls j l, m.falls j l);
-    none-lower = λ j l k. omega (arith, n.none-lower j l (omega arith), m.none-lower j l (omega arith));
-    some-lower = λ j l k. lower-both j l k (leb raised j) refl;
+    none_lower = λ j l k. omega (arith, n.none_lower j l (omega arith), m.none_lower j l (omega arith));
+    some_lower = λ j l k. lower_both j l k (leb raised j) refl;
     within = λ j l. omega (arith, n.within j l, m.within j l);
     rank = omega (arith, n.rank, m.rank);
-    none-higher = λ j l k. omega (arith, n.none-higher j l (omega arith), m.none-higher j l (omega arith));
+    none_higher = λ j l k. omega (arith, n.none_higher j l (omega arith), m.none_higher j l (omega arith));
     less = λ j e. less_both j (omega (arith, n.rank, m.rank)) e (eqb wanting (suc j)) refl;
   }
 
@@ -124,46 +124,46 @@ module _ {given most given' most' : ℕ → ℕ} {watts raised wanting watts' ra
 -- Of all that is on and beneath a node, by what its limit has to spare. Where the node is full, no rank can rise up to that of the lowest
 -- watts; from there on the lower watts give way.
 module _ {given most : ℕ → ℕ} {watts raised wanting : ℕ} (n : Noted given most watts raised wanting) (limit : ℕ) (fits : watts ≤ limit) where
-  abbrev most-here : ℕ → ℕ
-  most-here j = min limit (most j)
+  abbrev most_here : ℕ → ℕ
+  most_here j = min limit (most j)
 
   abbrev Here : ℕ → Type 0
-  Here = Noted given most-here watts raised
+  Here = Noted given most_here watts raised
 
   free : (watts < limit) ⊎ (raised < wanting) → Here wanting
   free f = record {
-    watts-are = n.watts-are;
+    watts_are = n.watts_are;
     falls = n.falls;
-    none-lower = n.none-lower;
-    some-lower = n.some-lower;
-    within = λ j l. omega (arith, n.watts-are, n.falls j l, n.within j l);
+    none_lower = n.none_lower;
+    some_lower = n.some_lower;
+    within = λ j l. omega (arith, n.watts_are, n.falls j l, n.within j l);
     rank = n.rank;
-    none-higher = λ j l k. omega (arith, n.watts-are, n.falls j l, n.none-higher j l k);
+    none_higher = λ j l k. omega (arith, n.watts_are, n.falls j l, n.none_higher j l k);
     less = λ j e. rises j e f;
   }
     where
-      rises : (j : ℕ) → wanting ≡ suc j → (watts < limit) ⊎ (raised < wanting) → given j < most-here j
-      rises j e (inl f) = omega (arith, n.watts-are, n.falls j (omega (arith, n.rank)), n.less j e)
-      rises j e (inr f) = omega (arith, n.watts-are, n.some-lower j (omega (arith, n.rank)) (omega arith), n.less j e)
+      rises : (j : ℕ) → wanting ≡ suc j → (watts < limit) ⊎ (raised < wanting) → given j < most_here j
+      rises j e (inl f) = omega (arith, n.watts_are, n.falls j (omega (arith, n.rank)), n.less j e)
+      rises j e (inr f) = omega (arith, n.watts_are, n.some_lower j (omega (arith, n.rank)) (omega arith), n.less j e)
 
   full : limit ≤ watts → wanting ≤ raised → Here 0
   full f h = record {
-    watts-are = n.watts-are;
+    watts_are = n.watts_are;
     falls = n.falls;
-    none-lower = n.none-lower;
-    some-lower = n.some-lower;
-    within = λ j l. omega (arith, n.watts-are, n.falls j l, n.within j l);
+    none_lower = n.none_lower;
+    some_lower = n.some_lower;
+    within = λ j l. omega (arith, n.watts_are, n.falls j l, n.within j l);
     rank = omega arith;
-    none-higher = λ j l k. stays j l (ltb j raised) refl;
+    none_higher = λ j l k. stays j l (ltb j raised) refl;
     less = λ j e. absurd (omega arith);
   }
     where
-      stays : (j : ℕ) → j < highest_rank → (t : Bool) → ltb j raised ≡ t → given j ≡ most-here j
-      stays j l true e = omega (arith, n.watts-are, n.none-lower j l (ltb-true j raised e), n.within j l)
-      stays j l false e = omega (arith, n.watts-are, n.falls j l, n.none-higher j l (omega (arith, ltb-false j raised e)))
+      stays : (j : ℕ) → j < highest_rank → (t : Bool) → ltb j raised ≡ t → given j ≡ most_here j
+      stays j l true e = omega (arith, n.watts_are, n.none_lower j l (ltb-true j raised e), n.within j l)
+      stays j l false e = omega (arith, n.watts_are, n.falls j l, n.none_higher j l (omega (arith, ltb-false j raised e)))
 
-  pub noted-held : Here (held_back limit watts raised wanting)
-  noted-held = go (ltb watts limit) refl (ltb raised wanting) refl
+  pub noted_held : Here (held_back limit watts raised wanting)
+  noted_held = go (ltb watts limit) refl (ltb raised wanting) refl
     where
       go : (t : Bool) → ltb watts limit ≡ t → (u : Bool) → ltb raised wanting ≡ u → Here (cond t wanting (cond u wanting 0))
       go true e u f = free (inl (ltb-true watts limit e))
@@ -194,10 +194,10 @@ merged-at with (suc m) rank l i h = go (eqb m i) refl
         get_or-set_other l m i (with (at l m) rank) 0 (λ q. eqb-false m i e (sym q))
         ∙ sym (ap (λ (t : Bool). cond t (with (at l i) rank) (at l i)) (eqb-suc-suc m i ∙ e))
 
-pub merged-none : (with : ℕ → ℕ → ℕ) (node rank : ℕ) (l : List ℕ) → node ≡ 0 → l ≡ merged with node rank l
+pub merged_none : (with : ℕ → ℕ → ℕ) (node rank : ℕ) (l : List ℕ) → node ≡ 0 → l ≡ merged with node rank l
 unfolding merged
-merged-none with zero rank l e = refl
-merged-none with (suc m) rank l e = absurd (omega arith)
+merged_none with zero rank l e = refl
+merged_none with (suc m) rank l e = absurd (omega arith)
 
 pub merged_some : (with : ℕ → ℕ → ℕ) (node rank : ℕ) (l : List ℕ) {stored : ℕ} → (node ≡ 0 → ⊥) → stored ≡ with (at l (node - 1)) rank
     → set l (node - 1) stored ≡ merged with node rank l
@@ -206,25 +206,25 @@ merged_some with zero rank l n e = absurd (n refl)
 merged_some with (suc m) rank l n e = let q : suc m - 1 ≡ m = omega arith in ap (set l (suc m - 1)) e ∙ ap (λ (x : ℕ). set l x (with (at l x) rank)) q
 
 -- A place past the node is left as it is.
-pub merged-past : (with : ℕ → ℕ → ℕ) (node rank : ℕ) (l : List ℕ) (i : ℕ) → node ≤ i → at (merged with node rank l) i ≡ at l i
+pub merged_past : (with : ℕ → ℕ → ℕ) (node rank : ℕ) (l : List ℕ) (i : ℕ) → node ≤ i → at (merged with node rank l) i ≡ at l i
 unfolding merged
-merged-past with zero rank l i h = refl
-merged-past with (suc m) rank l i h = get_or-set_other l m i (with (at l m) rank) 0 (λ e. omega arith)
+merged_past with zero rank l i h = refl
+merged_past with (suc m) rank l i h = get_or-set_other l m i (with (at l m) rank) 0 (λ e. omega arith)
 
 -- What is noted on a node, where what a cord or a child node has is noted on its own.
-pub noted-next : {given most given' most' : ℕ → ℕ} (watts raised wanting : List ℕ) (i node : ℕ) {more low high : ℕ}
+pub noted_next : {given most given' most' : ℕ → ℕ} (watts raised wanting : List ℕ) (i node : ℕ) {more low high : ℕ}
     → node ≤ length watts → node ≤ length raised → node ≤ length wanting
     → Noted given most (at watts i) (at raised i) (at wanting i) → Noted given' most' more low high
     → Noted (λ j. given j + on (eqb node (suc i)) (given' j)) (λ j. most j + on (eqb node (suc i)) (most' j))
     (at (credited node more watts) i) (at (merged min node low raised) i) (at (merged max node high wanting) i)
-noted-next {given} {most} {given'} {most'} watts raised wanting i node {more} {low} {high} a b c n m =
-    noted-same (go (eqb node (suc i))) (λ j l. refl) (λ j l. refl)
+noted_next {given} {most} {given'} {most'} watts raised wanting i node {more} {low} {high} a b c n m =
+    noted_same (go (eqb node (suc i))) (λ j l. refl) (λ j l. refl)
     (credited-at node more watts i a) (merged-at min node low raised i b) (merged-at max node high wanting i c)
   where
     go : (t : Bool) → Noted (λ j. given j + on t (given' j)) (λ j. most j + on t (most' j)) (at watts i + on t more)
         (cond t (min (at raised i) low) (at raised i)) (cond t (max (at wanting i) high) (at wanting i))
-    go true = noted-both n m
-    go false = noted-same n (λ j l. omega arith) (λ j l. omega arith) (omega arith) refl refl
+    go true = noted_both n m
+    go false = noted_same n (λ j l. omega arith) (λ j l. omega arith) (omega arith) refl refl
 
 -- ---- The highest rank that could have more
 
@@ -240,8 +240,8 @@ highest-at test (suc k) rank l none here = go (λ less. highest-at test k rank l
         let less : rank ≤ k = omega (arith, eqb-false rank (suc k) e) in
         rw (none k (omega arith) less) (rest less)
 
-pub noted-highest : {given most : ℕ → ℕ} {watts raised wanting : ℕ} → Noted given most watts raised wanting
+pub noted_highest : {given most : ℕ → ℕ} {watts raised wanting : ℕ} → Noted given most watts raised wanting
     → highest (λ rank. ltb (given (rank - 1)) (most (rank - 1))) highest_rank ≡ wanting
-noted-highest {given} {most} {wanting = wanting} n = highest-at (λ rank. ltb (given (rank - 1)) (most (rank - 1))) highest_rank wanting n.rank
-    (λ j l k. let e : suc j - 1 ≡ j = omega arith in rw e (le-ltb (given j) (most j) (omega (arith, n.none-higher j l k))))
+noted_highest {given} {most} {wanting = wanting} n = highest-at (λ rank. ltb (given (rank - 1)) (most (rank - 1))) highest_rank wanting n.rank
+    (λ j l k. let e : suc j - 1 ≡ j = omega arith in rw e (le-ltb (given j) (most j) (omega (arith, n.none_higher j l k))))
     (λ j k. let e : suc j - 1 ≡ j = omega arith in rw e (lt-ltb (given j) (most j) (n.less j k)))

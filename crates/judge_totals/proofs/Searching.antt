@@ -15,8 +15,8 @@ pub record Searching (count : ℕ) (test : ℕ → Bool) (place : ℕ) : Type 0 
   pub all : place + left ≡ count
   pub same : first_node left place test ≡ first_node count 0 test
 
-pub searching-start : (count : ℕ) (test : ℕ → Bool) → Searching count test 0
-searching-start count test = record { left = count; all = omega arith; same = refl }
+pub searching_start : (count : ℕ) (test : ℕ → Bool) → Searching count test 0
+searching_start count test = record { left = count; all = omega arith; same = refl }
 
 module _ (test : ℕ → Bool) (place : ℕ) where
   found_here : (left : ℕ) → 0 < left → test place ≡ true → first_node left place test ≡ suc place
@@ -24,10 +24,10 @@ module _ (test : ℕ → Bool) (place : ℕ) where
   found_here zero p e = absurd (omega arith)
   found_here (suc left) p e = ap (λ (t : Bool). cond t (suc place) (first_node left (suc place) test)) e
 
-  not-here : (left : ℕ) → 0 < left → test place ≡ false → first_node left place test ≡ first_node (left - 1) (suc place) test
+  not_here : (left : ℕ) → 0 < left → test place ≡ false → first_node left place test ≡ first_node (left - 1) (suc place) test
   unfolding first_node
-  not-here zero p e = absurd (omega arith)
-  not-here (suc left) p e =
+  not_here zero p e = absurd (omega arith)
+  not_here (suc left) p e =
       let q : suc left - 1 ≡ left = omega arith in
       ap (λ (t : Bool). cond t (suc place) (first_node left (suc place) test)) e ∙ sym (ap (λ (k : ℕ). first_node k (suc place) test) q)
 
@@ -37,26 +37,26 @@ module _ (test : ℕ → Bool) (place : ℕ) where
   none_left (suc left) e = absurd (omega arith)
 
 module _ {count : ℕ} {test : ℕ → Bool} {place : ℕ} where
-  pub searching-stop : Searching count test place → place < count → test place ≡ true → place + 1 ≡ first_node count 0 test
-  searching-stop inv l e = add-one place ∙ sym (found_here test place inv.left (omega (arith, inv.all)) e) ∙ inv.same
+  pub searching_stop : Searching count test place → place < count → test place ≡ true → place + 1 ≡ first_node count 0 test
+  searching_stop inv l e = add-one place ∙ sym (found_here test place inv.left (omega (arith, inv.all)) e) ∙ inv.same
 
-  pub searching-next : Searching count test place → place < count → test place ≡ false → Searching count test (place + 1)
-  searching-next inv l e = rw add-one (record {
+  pub searching_next : Searching count test place → place < count → test place ≡ false → Searching count test (place + 1)
+  searching_next inv l e = rw add-one (record {
     left = inv.left - 1;
     all = omega (arith, inv.all);
-    same = sym (not-here test place inv.left (omega (arith, inv.all)) e) ∙ inv.same;
+    same = sym (not_here test place inv.left (omega (arith, inv.all)) e) ∙ inv.same;
   })
 
-  pub searching-end : Searching count test place → count ≤ place → 0 ≡ first_node count 0 test
-  searching-end inv l = sym (none_left test place inv.left (omega (arith, inv.all))) ∙ inv.same
+  pub searching_end : Searching count test place → count ≤ place → 0 ≡ first_node count 0 test
+  searching_end inv l = sym (none_left test place inv.left (omega (arith, inv.all))) ∙ inv.same
 
 -- ---- One place more
 
 -- What a search of k places finds stands; if that is none, the place behind them decides.
-more-from : (test : ℕ → Bool) (k n : ℕ) → first_node (suc k) n test ≡ cond (ltb 0 (first_node k n test)) (first_node k n test) (cond (test (n + k)) (suc (n + k)) 0)
+more_from : (test : ℕ → Bool) (k n : ℕ) → first_node (suc k) n test ≡ cond (ltb 0 (first_node k n test)) (first_node k n test) (cond (test (n + k)) (suc (n + k)) 0)
 unfolding first_node
-more-from test zero n = ap (λ (x : ℕ). cond (test x) (suc x) 0) (sym (add-zero n))
-more-from test (suc k) n = go (more-from test k (suc n)) (test n)
+more_from test zero n = ap (λ (x : ℕ). cond (test x) (suc x) 0) (sym (add-zero n))
+more_from test (suc k) n = go (more_from test k (suc n)) (test n)
   where
     go : first_node (suc k) (suc n) test ≡ cond (ltb 0 (first_node k (suc n) test)) (first_node k (suc n) test) (cond (test (suc n + k)) (suc (suc n + k)) 0) → (t : Bool)
         → cond t (suc n) (first_node (suc k) (suc n) test)
@@ -67,4 +67,4 @@ more-from test (suc k) n = go (more-from test k (suc n)) (test n)
         rest ∙ ap (λ (x : ℕ). cond (ltb 0 (first_node k (suc n) test)) (first_node k (suc n) test) (cond (test x) (suc x) 0)) e
 
 pub first_more : (test : ℕ → Bool) (k : ℕ) → first_node (suc k) 0 test ≡ cond (ltb 0 (first_node k 0 test)) (first_node k 0 test) (cond (test k) (suc k) 0)
-first_more test k = more-from test k 0 ∙ ap (λ (x : ℕ). cond (ltb 0 (first_node k 0 test)) (first_node k 0 test) (cond (test x) (suc x) 0)) (zero-add k)
+first_more test k = more_from test k 0 ∙ ap (λ (x : ℕ). cond (ltb 0 (first_node k 0 test)) (first_node k 0 test) (cond (test x) (suc x) 0)) (zero-add k)

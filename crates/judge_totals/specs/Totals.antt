@@ -22,7 +22,7 @@ pub record GrantedCords (node_count : ℕ) (nodes levels lows wants grants : Lis
   pub ranked : (c : ℕ) → c < length nodes → at levels c < highest_rank
   pub least : (c : ℕ) → c < length nodes → at lows c ≤ at grants c
   pub most : (c : ℕ) → c < length nodes → at grants c ≤ at wants c
-  pub wants-most : (c : ℕ) → c < length nodes → at wants c ≤ most_watts
+  pub wants_most : (c : ℕ) → c < length nodes → at wants c ≤ most_watts
 
 -- ---- Sums on nodes
 
@@ -43,15 +43,15 @@ from_level levels j figure c = on (leb j (at levels c)) (figure c)
 -- What is noted of a cord or of a node: the watts that are given there, the lowest rank that these are of, and the highest rank that could
 -- have more. `given` and `most` are by level: what the cords of the level and above have, and the most that they could have.
 pub record Noted (given most : ℕ → ℕ) (watts raised wanting : ℕ) : Type 0 where
-  pub watts-are : watts ≡ given 0
+  pub watts_are : watts ≡ given 0
   pub falls : (j : ℕ) → j < highest_rank → given j ≤ given 0
   -- The levels below j have watts exactly where the lowest rank is one of theirs. For no watts it may be the highest rank.
-  pub none-lower : (j : ℕ) → j < highest_rank → j < raised → given j ≡ given 0
-  pub some-lower : (j : ℕ) → j < highest_rank → raised ≤ j → given j < given 0
+  pub none_lower : (j : ℕ) → j < highest_rank → j < raised → given j ≡ given 0
+  pub some_lower : (j : ℕ) → j < highest_rank → raised ≤ j → given j < given 0
   pub within : (j : ℕ) → j < highest_rank → given j ≤ most j
   -- From the highest rank that could have more, 0 for none, the levels above have the most; and its own has less.
   pub rank : wanting ≤ highest_rank
-  pub none-higher : (j : ℕ) → j < highest_rank → wanting ≤ j → given j ≡ most j
+  pub none_higher : (j : ℕ) → j < highest_rank → wanting ≤ j → given j ≡ most j
   pub less : (j : ℕ) → wanting ≡ suc j → given j < most j
 
 -- It is noted of each of so many nodes.
@@ -71,8 +71,8 @@ CordsNoted count nodes levels lows wants grants =
 -- What the pass over a room's cords finds and leaves: the first cord below its low; if there is none, the first above its want; and if
 -- there is none either, the notes of all.
 pub record CordsJudged (r : Room) (demands grants : List ℕ) (count : ℕ) (faults : Faults) (watts raised wanting : List ℕ) : Type 0 where
-  pub below-is : faults.below ≡ first_node (room_cords r) 0 (below_low r grants)
-  pub above-is : faults.below ≡ 0 → faults.above ≡ first_node (room_cords r) 0 (above_want r demands grants)
+  pub below_is : faults.below ≡ first_node (room_cords r) 0 (below_low r grants)
+  pub above_is : faults.below ≡ 0 → faults.above ≡ first_node (room_cords r) 0 (above_want r demands grants)
   pub noted : faults.below ≡ 0 → faults.above ≡ 0
       → CordsNoted count (nodes_of r) (levels_of r) (lows_of r) (first_wants r demands) grants watts raised wanting
 
@@ -119,6 +119,6 @@ less_than parents nodes levels lows grants most n rank = ltb (over_from parents 
 -- What the passes come to: the lowest node that is given more than it has to spare, 0 if there is none; and, if there is none, each node's
 -- mark, the highest rank at which it has less than the most.
 pub record Compared (parents spare nodes levels lows wants grants : List ℕ) (over : ℕ) (short : List ℕ) : Type 0 where
-  pub over-is : over ≡ first_node (length parents) 0 (λ n. ltb (at spare n) (over_from parents nodes levels lows grants 0 n))
-  pub short-is : (most : ℕ → ℕ → ℕ) → IsMostFrom parents spare nodes levels lows wants most → over ≡ 0
+  pub over_is : over ≡ first_node (length parents) 0 (λ n. ltb (at spare n) (over_from parents nodes levels lows grants 0 n))
+  pub short_is : (most : ℕ → ℕ → ℕ) → IsMostFrom parents spare nodes levels lows wants most → over ≡ 0
       → (n : ℕ) → n < length parents → at short n ≡ highest (less_than parents nodes levels lows grants most n) highest_rank

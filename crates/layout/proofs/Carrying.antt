@@ -21,16 +21,16 @@ pub record CordStands (table : List ℕ) (r : Room) (v c word : ℕ) : Type 0 wh
   pub there : word + 1 < length table
   pub within : c < room_cords r
   pub is : cord_at r c ≡ record { server = v; node = at table word; share = at table (word + 1) }
-  pub node-most : at table word ≤ length r.nodes
-  pub share-most : at table (word + 1) ≤ r.scale
+  pub node_most : at table word ≤ length r.nodes
+  pub share_most : at table (word + 1) ≤ r.scale
 
 -- What a cord carries, where its scale and its load have other names.
-pub carried-as : (share : ℕ) {scale s load l figure : ℕ} → scale ≡ s → load ≡ l → figure ≡ carried s share l → carried scale share load ≡ figure
-carried-as share es el is = ap₂ (λ (x y : ℕ). carried x share y) es el ∙ sym is
+pub carried_as : (share : ℕ) {scale s load l figure : ℕ} → scale ≡ s → load ≡ l → figure ≡ carried s share l → carried scale share load ≡ figure
+carried_as share es el is = ap₂ (λ (x y : ℕ). carried x share y) es el ∙ sym is
 
 module _ {table : List ℕ} {r : Room} {v start first : ℕ} (standing : ServerHere table r v start first) where
-  pub cord-stands : {c word : ℕ} → first ≤ c → c < first + at table (start + 3) → word + 2 * first ≡ start + 4 + 2 * c → CordStands table r v c word
-  cord-stands {c} {word} from to next =
+  pub cord_stands : {c word : ℕ} → first ≤ c → c < first + at table (start + 3) → word + 2 * first ≡ start + 4 + 2 * c → CordStands table r v c word
+  cord_stands {c} {word} from to next =
       let here : CordHere table r v start first (c - first) = standing.cord (c - first) (omega arith) in
       let at_c : first + (c - first) ≡ c = omega arith in
       let at-word : start + 4 + 2 * (c - first) ≡ word = omega arith in
@@ -39,13 +39,13 @@ module _ {table : List ℕ} {r : Room} {v start first : ℕ} (standing : ServerH
         there = omega (arith, here.there, at-share);
         within = rw at_c at here.within;
         is = rw (at_c, at-word, at-share) at here.is;
-        node-most = rw at-word at here.node-most;
-        share-most = rw at-share at here.share-most;
+        node_most = rw at-word at here.node_most;
+        share_most = rw at-share at here.share_most;
       }
 
   -- The server's need, by its words.
-  pub need-is : (demands : List ℕ) → v < length r.servers → at (needs r demands) v ≡ min (max (at demands v) (at table (start + 1))) (at table (start + 2))
-  need-is demands here = needs-at r demands v here ∙ ap₂ (λ (x y : ℕ). min (max (at demands v) x) y) standing.least standing.greatest
+  pub need_is : (demands : List ℕ) → v < length r.servers → at (needs r demands) v ≡ min (max (at demands v) (at table (start + 1))) (at table (start + 2))
+  need_is demands here = needs-at r demands v here ∙ ap₂ (λ (x y : ℕ). min (max (at demands v) x) y) standing.least standing.greatest
 
   -- The cord's low, want and ceiling, by its words and those of its server.
   module _ {c word : ℕ} (cord : CordStands table r v c word) where
@@ -53,18 +53,18 @@ module _ {table : List ℕ} {r : Room} {v start first : ℕ} (standing : ServerH
     load_is : (loads : List ℕ) {load : ℕ} → at loads v ≡ load → carried r.scale (cord_at r c).share (at loads (cord_at r c).server) ≡ carried r.scale (at table (word + 1)) load
     load_is loads e = ap₂ (carried r.scale) (ap (λ (x : RoomCord). x.share) cord.is) (ap (λ (x : RoomCord). at loads x.server) cord.is ∙ e)
 
-    pub low-is : Accepted r → at (lows_of r) c ≡ carried r.scale (at table (word + 1)) (at table (start + 1))
-    low-is ok =
+    pub low_is : Accepted r → at (lows_of r) c ≡ carried r.scale (at table (word + 1)) (at table (start + 1))
+    low_is ok =
         lows_of-at r ok c cord.within
         ∙ ap₂ (carried r.scale) (ap (λ (x : RoomCord). x.share) cord.is) (ap (λ (x : RoomCord). (server_at r x.server).least) cord.is ∙ standing.least)
 
     pub want_is : (demands : List ℕ) → v < length r.servers
         → at (first_wants r demands) c ≡ carried r.scale (at table (word + 1)) (min (max (at demands v) (at table (start + 1))) (at table (start + 2)))
     unfolding first_wants
-    want_is demands here = carried_by-at r (needs r demands) c cord.within ∙ load_is (needs r demands) (need-is demands here)
+    want_is demands here = carried_by-at r (needs r demands) c cord.within ∙ load_is (needs r demands) (need_is demands here)
 
-    pub ceiling-is : v < length r.servers → at (ceilings_of r) c ≡ carried r.scale (at table (word + 1)) (at table (start + 2))
+    pub ceiling_is : v < length r.servers → at (ceilings_of r) c ≡ carried r.scale (at table (word + 1)) (at table (start + 2))
     unfolding ceilings_of
-    ceiling-is here =
+    ceiling_is here =
         let greatests : List ℕ = figures (length r.servers) (λ u. (server_at r u).greatest) in
         carried_by-at r greatests c cord.within ∙ load_is greatests (figures-at (length r.servers) v _ here ∙ standing.greatest)

@@ -10,8 +10,8 @@ use lib.Seq.{sets, length-take-le, take_all, take_at}
 use borrow.Author.Tests.{eqb-true, eqb-false, eq-eqb, ne_eqb, lt-ltb, le-ltb, leb-true, leb-false}
 use Rattle.outcomes.specs.Outcome.{accepted, refused, Reason, unless}
 use Rattle.outcomes.specs.Part.{when_good}
-use Rattle.outcomes.proofs.Outcomes.{unless-stop, unless-pass, unless-back, unless-none, unless-is, accepted-is}
-use Rattle.outcomes.proofs.Parts.{accepted-went}
+use Rattle.outcomes.proofs.Outcomes.{unless_stop, unless_pass, unless-back, unless_none, unless_is, accepted_is}
+use Rattle.outcomes.proofs.Parts.{accepted_went}
 use Rattle.words.specs.Bytes.{words_of}
 use Rattle.words.proofs.Bytes.{take-loaded}
 use Rattle.figures.specs.Figures.{at}
@@ -28,8 +28,8 @@ use Rattle.rooms.proofs.Found.{node_lows-at, lows_told-length}
 use Rattle.rooms.proofs.Accepted.{Accepted}
 use Rattle.rooms.proofs.Accepted as rooms
 use Rattle.rooms.proofs.Steps.{known}
-use Rattle.rooms.proofs.Outcomes.{refused-so}
-use Rattle.rooms.proofs.Reach.{prefix-decides}
+use Rattle.rooms.proofs.Outcomes.{refused_so}
+use Rattle.rooms.proofs.Reach.{prefix_decides}
 use Rattle.deals.specs.Plan.{first_too_large}
 use Rattle.layout.specs.Lists.{HasLowsBeneath, CordsLaidOut}
 use Rattle.layout.specs.Outcome.{LoadOutcome, load_reasons, loading, counts_of, loaded_of}
@@ -43,16 +43,16 @@ use Rattle.layout.specs.declared.room.Loaded.TheVariants as loads
 -- ---- What the table's check tells
 
 -- The check tells a good table and the count of its cords.
-pub table-good : (table : List ℕ) {answer : Checked} {v j : ℕ} → answer ≡ told room_cords (checked table 0) → answer ≡ checks.Good v j → Good (checked table 0)
-table-good table d e = let k = known room_cords (checked table 0) d e in record { value = k.got; next = _; is = k.is }
+pub table_good : (table : List ℕ) {answer : Checked} {v j : ℕ} → answer ≡ told room_cords (checked table 0) → answer ≡ checks.Good v j → Good (checked table 0)
+table_good table d e = let k = known room_cords (checked table 0) d e in record { value = k.got; next = _; is = k.is }
 
 pub cords-told : (table : List ℕ) {answer : Checked} {v j : ℕ} → answer ≡ told room_cords (checked table 0) → answer ≡ checks.Good v j → CordsFit table v
 unfolding told
 cords-told table {answer = answer} {v = v} d e r end is = let t : answer ≡ checks.Good (room_cords r) end = d ∙ rw is in cc
 
 -- The list that the check hands out has a place for each node, and there the lows beneath it.
-pub lows-long : (table list : List ℕ) → list ≡ lows_told (checked table 0) → most_nodes ≡ length list
-lows-long table list e = sym (ap length e ∙ lows_told-length (checked table 0))
+pub lows_long : (table list : List ℕ) → list ≡ lows_told (checked table 0) → most_nodes ≡ length list
+lows_long table list e = sym (ap length e ∙ lows_told-length (checked table 0))
 
 pub lows-told : (table list : List ℕ) → list ≡ lows_told (checked table 0) → HasLowsBeneath table list
 unfolding lows_told
@@ -66,24 +66,24 @@ abbrev by_step : Step Room → List ℕ → LoadOutcome
 by_step step demands = when_good Table step (λ r. unless (load_reasons r demands) r)
 
 module _ (table demands : List ℕ) where
-  loading-is : {step : Step Room} → checked table 0 ≡ step → loading table demands ≡ by_step step demands
+  loading_is : {step : Step Room} → checked table 0 ≡ step → loading table demands ≡ by_step step demands
   unfolding loading
-  loading-is e = ap (λ (s : Step Room). by_step s demands) e
+  loading_is e = ap (λ (s : Step Room). by_step s demands) e
 
-  pub loading-good : {r : Room} {end : ℕ} → checked table 0 ≡ good r end → loading table demands ≡ unless (load_reasons r demands) r
-  loading-good e = loading-is e
+  pub loading_good : {r : Room} {end : ℕ} → checked table 0 ≡ good r end → loading table demands ≡ unless (load_reasons r demands) r
+  loading_good e = loading_is e
 
-  pub loading-bad : {q : SheetRefusal} → checked table 0 ≡ bad q → loading table demands ≡ refused (Table q)
-  loading-bad e = loading-is e
+  pub loading_bad : {q : SheetRefusal} → checked table 0 ≡ bad q → loading table demands ≡ refused (Table q)
+  loading_bad e = loading_is e
 
   -- A refusal is told.
-  refused-told : {q : LoadRefusal} → loading table demands ≡ refused q → loads.Refused q ≡ loaded_of (loading table demands)
-  refused-told e = rw e refl
+  refused_told : {q : LoadRefusal} → loading table demands ≡ refused q → loads.Refused q ≡ loaded_of (loading table demands)
+  refused_told e = rw e refl
 
   -- The table's refusal stands.
   pub table-told : {answer : Checked} {q : SheetRefusal} → answer ≡ told room_cords (checked table 0) → answer ≡ checks.Refused q
       → loads.Refused (Table q) ≡ loaded_of (loading table demands)
-  table-told d e = refused-told (loading-bad (refused-so room_cords (checked table 0) d e))
+  table-told d e = refused_told (loading_bad (refused_so room_cords (checked table 0) d e))
 
   -- These reasons to refuse are left, of those of a good table's room, and decide.
   pub record Left (room : Room) (rest : List (Reason LoadRefusal)) : Type 0 where
@@ -91,15 +91,15 @@ module _ (table demands : List ℕ) where
 
   -- Of a good table all are left.
   pub table-passed : (g : Good (checked table 0)) → Left g.value (load_reasons g.value demands)
-  table-passed g = record { is = loading-good g.is }
+  table-passed g = record { is = loading_good g.is }
 
   -- A reason holds, and its refusal is told; or it does not, and the others are left.
   module _ {room : Room} {reason : Reason LoadRefusal} {rest : List (Reason LoadRefusal)} (left : Left room (reason ∷ rest)) where
     stopped : reason.holds ≡ true → loads.Refused reason.refusal ≡ loaded_of (loading table demands)
-    stopped h = refused-told (left.is ∙ unless-stop reason rest room h)
+    stopped h = refused_told (left.is ∙ unless_stop reason rest room h)
 
     passed : reason.holds ≡ false → Left room rest
-    passed h = record { is = left.is ∙ unless-pass reason rest room h }
+    passed h = record { is = left.is ∙ unless_pass reason rest room h }
 
   module _ (g : Good (checked table 0)) where
     -- The count of demands.
@@ -114,15 +114,15 @@ module _ (table demands : List ℕ) where
 
     -- The demands themselves.
     module _ (left : Left g.value (drop 1 (load_reasons g.value demands))) (n : ℕ) (is : n ≡ first_too_large demands) where
-      pub large-told : n < length demands → loads.Refused (DemandTooLarge n) ≡ loaded_of (loading table demands)
-      large-told h = ap (λ (k : ℕ). loads.Refused (DemandTooLarge k)) is ∙ stopped left (lt-ltb (first_too_large demands) (length demands) (omega arith))
+      pub large_told : n < length demands → loads.Refused (DemandTooLarge n) ≡ loaded_of (loading table demands)
+      large_told h = ap (λ (k : ℕ). loads.Refused (DemandTooLarge k)) is ∙ stopped left (lt-ltb (first_too_large demands) (length demands) (omega arith))
 
-      pub all-passed : length demands ≤ n → loading table demands ≡ accepted g.value
-      all-passed h = (passed left (le-ltb (first_too_large demands) (length demands) (omega arith))).is ∙ unless-none g.value
+      pub all_passed : length demands ≤ n → loading table demands ≡ accepted g.value
+      all_passed h = (passed left (le-ltb (first_too_large demands) (length demands) (omega arith))).is ∙ unless_none g.value
 
     -- The room's counts are told.
-    pub room-told : loading table demands ≡ accepted g.value → {counts : Counts} → counts ≡ counts_of g.value → loads.Good counts ≡ loaded_of (loading table demands)
-    room-told e is = rw (e, is) refl
+    pub room_told : loading table demands ≡ accepted g.value → {counts : Counts} → counts ≡ counts_of g.value → loads.Good counts ≡ loaded_of (loading table demands)
+    room_told e is = rw (e, is) refl
 
 -- ---- What is loaded
 
@@ -137,28 +137,28 @@ pub record RoomFound (table demands : List ℕ) (counts : Counts) : Type 0 where
 
 -- So it is where the outcome is accepted.
 module _ (table demands : List ℕ) {r : Room} (e : loading table demands ≡ accepted r) where
-  good-step : Good (checked table 0)
+  good_step : Good (checked table 0)
   unfolding loading
-  good-step = (accepted-went Table (λ x. unless (load_reasons x demands) x) (checked table 0) e).good-step
+  good_step = (accepted_went Table (λ x. unless (load_reasons x demands) x) (checked table 0) e).good_step
 
-  went : unless (load_reasons good-step.value demands) good-step.value ≡ accepted r
-  went = sym (loading-good table demands good-step.is) ∙ e
+  went : unless (load_reasons good_step.value demands) good_step.value ≡ accepted r
+  went = sym (loading_good table demands good_step.is) ∙ e
 
-  found-room : r ≡ good-step.value
-  found-room = unless-is (load_reasons good-step.value demands) good-step.value r went
+  found_room : r ≡ good_step.value
+  found_room = unless_is (load_reasons good_step.value demands) good_step.value r went
 
-  pub outcome-found : RoomFound table demands (counts_of r)
-  outcome-found = record {
+  pub outcome_found : RoomFound table demands (counts_of r)
+  outcome_found = record {
     room = r;
-    end = good-step.next;
-    is = good-step.is ∙ ap (λ (x : Room). good x good-step.next) (sym found-room);
+    end = good_step.next;
+    is = good_step.is ∙ ap (λ (x : Room). good x good_step.next) (sym found_room);
     accepts = e;
-    demand_count = not-differs (length demands) (length good-step.value.servers) (unless-back _ _ good-step.value went).0 ∙ ap (λ (x : Room). length x.servers) (sym found-room);
+    demand_count = not_differs (length demands) (length good_step.value.servers) (unless-back _ _ good_step.value went).0 ∙ ap (λ (x : Room). length x.servers) (sym found_room);
     counted = refl;
   }
     where
-      not-differs : (a b : ℕ) → not (eqb a b) ≡ false → a ≡ b
-      not-differs a b q = go (eqb a b) refl q
+      not_differs : (a b : ℕ) → not (eqb a b) ≡ false → a ≡ b
+      not_differs a b q = go (eqb a b) refl q
         where
           go : (t : Bool) → eqb a b ≡ t → not t ≡ false → a ≡ b
           go true h d = eqb-true a b h
@@ -168,18 +168,18 @@ pub found : {table demands : List ℕ} {answer : Loaded} {counts : Counts} → a
 found {table} {demands} {answer} {counts} d e = go (loading table demands) refl (sym e ∙ d)
   where
     go : (o : LoadOutcome) → loading table demands ≡ o → loads.Good counts ≡ loaded_of o → RoomFound table demands counts
-    go (accepted r) is told = let same : counts ≡ counts_of r = cc in rw same (outcome-found table demands is)
+    go (accepted r) is told = let same : counts ≡ counts_of r = cc in rw same (outcome_found table demands is)
     go (refused q) is told = absurd (let z : ◌≡◌ {A = ℕ} 0 1 = cc in omega arith)
 
 module _ {table demands : List ℕ} {counts : Counts} (f : RoomFound table demands counts) where
-  pub found-good : Good (checked table 0)
-  found-good = record { value = f.room; next = f.end; is = f.is }
+  pub found_good : Good (checked table 0)
+  found_good = record { value = f.room; next = f.end; is = f.is }
 
-  pub found-accepted : Accepted f.room
-  found-accepted = rooms.accepted table f.room f.end f.is
+  pub found_accepted : Accepted f.room
+  found_accepted = rooms.accepted table f.room f.end f.is
 
-  same-room : (r : Room) (end : ℕ) → checked table 0 ≡ good r end → f.room ≡ r
-  same-room r end q = let h : good f.room f.end ≡ good r end = sym f.is ∙ q in cc
+  same_room : (r : Room) (end : ℕ) → checked table 0 ≡ good r end → f.room ≡ r
+  same_room r end q = let h : good f.room f.end ≡ good r end = sym f.is ∙ q in cc
 
   -- The counts fit the table, and are few.
   pub nodes-count : counts.nodes ≡ length f.room.nodes
@@ -191,33 +191,33 @@ module _ {table demands : List ℕ} {counts : Counts} (f : RoomFound table deman
   pub cords-count : counts.cords ≡ room_cords f.room
   cords-count = ap (λ (c : Counts). c.cords) f.counted
 
-  pub nodes-few : counts.nodes ≤ most_nodes
-  nodes-few = omega (arith, nodes-count, found-accepted.few_nodes)
+  pub nodes_few : counts.nodes ≤ most_nodes
+  nodes_few = omega (arith, nodes-count, found_accepted.few_nodes)
 
-  pub servers-few : counts.servers ≤ most_servers
-  servers-few = omega (arith, servers-count, found-accepted.few_servers)
+  pub servers_few : counts.servers ≤ most_servers
+  servers_few = omega (arith, servers-count, found_accepted.few_servers)
 
-  pub cords-few : counts.cords ≤ most_cords
-  cords-few = omega (arith, cords-count, found-accepted.few_cords)
+  pub cords_few : counts.cords ≤ most_cords
+  cords_few = omega (arith, cords-count, found_accepted.few_cords)
 
   pub nodes-fit : NodesFit table counts.nodes
-  nodes-fit r end q = nodes-count ∙ ap (λ (x : Room). length x.nodes) (same-room r end q)
+  nodes-fit r end q = nodes-count ∙ ap (λ (x : Room). length x.nodes) (same_room r end q)
 
   -- Lists that are lent by their fronts fit.
   module _ {A : Type 0} (list : List A) where
     pub nodes-lent : most_nodes ≤ length list → NodesFit table (length (take counts.nodes list))
     nodes-lent space r end q =
-        length-take-le counts.nodes list (omega (arith, nodes-few)) ∙ nodes-fit r end q
+        length-take-le counts.nodes list (omega (arith, nodes_few)) ∙ nodes-fit r end q
 
     pub servers-lent : most_servers ≤ length list → ServersFit table (length (take counts.servers list))
     servers-lent space r end q =
-        length-take-le counts.servers list (omega (arith, servers-few)) ∙ servers-count ∙ ap (λ (x : Room). length x.servers) (same-room r end q)
+        length-take-le counts.servers list (omega (arith, servers_few)) ∙ servers-count ∙ ap (λ (x : Room). length x.servers) (same_room r end q)
 
     pub cords-lent : most_cords ≤ length list → CordsFit table (length (take counts.cords list))
-    cords-lent space r end q = length-take-le counts.cords list (omega (arith, cords-few)) ∙ cords-count ∙ ap room_cords (same-room r end q)
+    cords-lent space r end q = length-take-le counts.cords list (omega (arith, cords_few)) ∙ cords-count ∙ ap room_cords (same_room r end q)
 
-  pub demands-fit : ServersFit table (length demands)
-  demands-fit r end q = f.demand_count ∙ ap (λ (x : Room). length x.servers) (same-room r end q)
+  pub demands_fit : ServersFit table (length demands)
+  demands_fit r end q = f.demand_count ∙ ap (λ (x : Room). length x.servers) (same_room r end q)
 
 -- The first n entries of a list were lent, and `back` came back for them.
 pub record Back {A : Type 0} (n : ℕ) (list back : List A) : Type 0 where
@@ -225,22 +225,22 @@ pub record Back {A : Type 0} (n : ℕ) (list back : List A) : Type 0 where
   pub kept : length back ≡ length (take n list)
 
 -- They stand at its front, also where their count has another name.
-front-is : {A : Type 0} {n m : ℕ} {list back : List A} → Back n list back → n ≡ m → take m (back ++ drop n list) ≡ back
-front-is {n = n} {m = m} {list = list} {back = back} b e = take_at back (drop n list) m (b.kept ∙ length-take-le n list b.few ∙ e)
+front_is : {A : Type 0} {n m : ℕ} {list back : List A} → Back n list back → n ≡ m → take m (back ++ drop n list) ≡ back
+front_is {n = n} {m = m} {list = list} {back = back} b e = take_at back (drop n list) m (b.kept ∙ length-take-le n list b.few ∙ e)
 
 -- The room's lists stand at the fronts.
 module _ {table demands : List ℕ} {counts : Counts} (f : RoomFound table demands counts)
     {parents spare lows wants ceilings needed parents' spare' lows' wants' ceilings' needed' : List ℕ} {cords cords' : List (List ℕ)}
-    (of-nodes : OfRoom table (λ r. (parents' ≡ parents_of r) × ((n : ℕ) → n < length r.nodes → at spare' n + lows_beneath r n ≡ at (limits_of r) n)))
-    (of-cords : OfRoom table (λ r. CordsLaidOut r demands cords' lows' wants' ceilings' needed'))
+    (of_nodes : OfRoom table (λ r. (parents' ≡ parents_of r) × ((n : ℕ) → n < length r.nodes → at spare' n + lows_beneath r n ≡ at (limits_of r) n)))
+    (of_cords : OfRoom table (λ r. CordsLaidOut r demands cords' lows' wants' ceilings' needed'))
     (p : Back counts.nodes parents parents') (s : Back counts.nodes spare spare') (k : Back counts.cords cords cords') (l : Back counts.cords lows lows')
     (w : Back counts.cords wants wants') (t : Back counts.cords ceilings ceilings') (n : Back counts.servers needed needed') where
-  lists-laid : RoomLists f.room demands parents' spare' cords' lows' wants' ceilings' needed'
-  lists-laid = record {
-    parents-are = (of-nodes f.room f.end f.is).0;
-    spare-size = s.kept ∙ length-take-le counts.nodes spare s.few ∙ sym (p.kept ∙ length-take-le counts.nodes parents p.few);
-    spare-is = (of-nodes f.room f.end f.is).1;
-    cords-are = of-cords f.room f.end f.is;
+  lists_laid : RoomLists f.room demands parents' spare' cords' lows' wants' ceilings' needed'
+  lists_laid = record {
+    parents_are = (of_nodes f.room f.end f.is).0;
+    spare_size = s.kept ∙ length-take-le counts.nodes spare s.few ∙ sym (p.kept ∙ length-take-le counts.nodes parents p.few);
+    spare_is = (of_nodes f.room f.end f.is).1;
+    cords_are = of_cords f.room f.end f.is;
   }
 
   abbrev LoadedAs : Room → Type 0
@@ -250,15 +250,15 @@ module _ {table demands : List ℕ} {counts : Counts} (f : RoomFound table deman
 
   own : LoadedAs f.room
   own =
-      rw (front-is p (nodes-count f), front-is s (nodes-count f), front-is k (cords-count f), front-is l (cords-count f), front-is w (cords-count f), front-is t (cords-count f), front-is n (servers-count f))
-      lists-laid
+      rw (front_is p (nodes-count f), front_is s (nodes-count f), front_is k (cords-count f), front_is l (cords-count f), front_is w (cords-count f), front_is t (cords-count f), front_is n (servers-count f))
+      lists_laid
 
   pub lists-loaded : (r : Room) → loading table demands ≡ accepted r → LoadedAs r
-  lists-loaded r e = subst LoadedAs (accepted-is (sym f.accepts ∙ e)) own
+  lists-loaded r e = subst LoadedAs (accepted_is (sym f.accepts ∙ e)) own
 
 -- Where loading is refused, no room is accepted.
-pub none-loaded : (table demands : List ℕ) {q : LoadRefusal} → loads.Refused q ≡ loaded_of (loading table demands) → (r : Room) → loading table demands ≡ accepted r → ⊥
-none-loaded table demands d r e = let h = d ∙ ap loaded_of e in let z : ◌≡◌ {A = ℕ} 0 1 = cc in omega arith
+pub none_loaded : (table demands : List ℕ) {q : LoadRefusal} → loads.Refused q ≡ loaded_of (loading table demands) → (r : Room) → loading table demands ≡ accepted r → ⊥
+none_loaded table demands d r e = let h = d ∙ ap loaded_of e in let z : ◌≡◌ {A = ℕ} 0 1 = cc in omega arith
 
 -- ---- A table and demands in bytes
 
@@ -270,11 +270,11 @@ count_cut demands servers m h n e = go (leb m (length demands)) refl
     go true l = absurd (omega (arith, length-take-le m demands (leb-true m (length demands) l)))
     go false l = n (sym (ap length (take_all m demands (omega (arith, leb-false m (length demands) l)))) ∙ e)
 
-demands-cut : (r : Room) (demands : List ℕ) (m : ℕ) → length r.servers < m → unless (load_reasons r (take m demands)) r ≡ unless (load_reasons r demands) r
-demands-cut r demands m h = go (eqb (length demands) (length r.servers)) refl
+demands_cut : (r : Room) (demands : List ℕ) (m : ℕ) → length r.servers < m → unless (load_reasons r (take m demands)) r ≡ unless (load_reasons r demands) r
+demands_cut r demands m h = go (eqb (length demands) (length r.servers)) refl
   where
     differs : (d : List ℕ) → (length d ≡ length r.servers → ⊥) → unless (load_reasons r d) r ≡ refused (DemandCount (length r.servers))
-    differs d n = unless-stop _ _ r (ap not (ne_eqb (length d) (length r.servers) n))
+    differs d n = unless_stop _ _ r (ap not (ne_eqb (length d) (length r.servers) n))
 
     go : (t : Bool) → eqb (length demands) (length r.servers) ≡ t → unless (load_reasons r (take m demands)) r ≡ unless (load_reasons r demands) r
     go true e = ap (λ (d : List ℕ). unless (load_reasons r d) r) (take_all m demands (omega (arith, eqb-true (length demands) (length r.servers) e)))
@@ -285,10 +285,10 @@ demands-cut r demands m h = go (eqb (length demands) (length r.servers)) refl
 -- Loading comes to the same of a table and demands that are cut no shorter than decides every answer.
 loading-cut : (table demands : List ℕ) (w m : ℕ) → suc most_words ≤ w → suc most_servers ≤ m → loading (take w table) (take m demands) ≡ loading table demands
 unfolding loading
-loading-cut table demands w m hw hm = ap (λ (s : Step Room). by_step s (take m demands)) (prefix-decides table w hw) ∙ go (checked table 0) refl
+loading-cut table demands w m hw hm = ap (λ (s : Step Room). by_step s (take m demands)) (prefix_decides table w hw) ∙ go (checked table 0) refl
   where
     go : (s : Step Room) → checked table 0 ≡ s → by_step s (take m demands) ≡ by_step s demands
-    go (good r end) e = demands-cut r demands m (omega (arith, (rooms.accepted table r end e).few_servers))
+    go (good r end) e = demands_cut r demands m (omega (arith, (rooms.accepted table r end e).few_servers))
     go (bad q) e = refl
 
 -- What `load` took of a table and of demands, into lists that are long enough.
@@ -299,13 +299,13 @@ module _ (table demands words figures : List ℕ) {word_count figure_count : ℕ
   taken : take figure_count figures' ≡ take (length figures) (words_of demands)
   taken = take-loaded (length figures) figure_count demands figures figures' refl nf d
 
-  pub bytes-loading : loading (take word_count words') (take figure_count figures') ≡ loading (words_of table) (words_of demands)
-  bytes-loading =
+  pub bytes_loading : loading (take word_count words') (take figure_count figures') ≡ loading (words_of table) (words_of demands)
+  bytes_loading =
       ap₂ loading (take-loaded (length words) word_count table words words' refl nw w) taken
       ∙ loading-cut (words_of table) (words_of demands) (length words) (length figures) hw hf
 
   -- Of a room that is accepted, all demands were taken.
-  pub bytes-demands : (r : Room) → loading (words_of table) (words_of demands) ≡ accepted r → take figure_count figures' ≡ words_of demands
-  bytes-demands r e =
-      let f = outcome-found (words_of table) (words_of demands) e in
-      taken ∙ take_all (length figures) (words_of demands) (omega (arith, f.demand_count, (found-accepted f).few_servers))
+  pub bytes_demands : (r : Room) → loading (words_of table) (words_of demands) ≡ accepted r → take figure_count figures' ≡ words_of demands
+  bytes_demands r e =
+      let f = outcome_found (words_of table) (words_of demands) e in
+      taken ∙ take_all (length figures) (words_of demands) (omega (arith, f.demand_count, (found_accepted f).few_servers))

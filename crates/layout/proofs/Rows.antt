@@ -13,20 +13,20 @@ use Rattle.rooms.specs.Lists.{carried_by, shares_of, servers_of}
 use Rattle.rooms.specs.Rows.{node_column, server_column, share_column, carried_from, CordRows}
 use Rattle.deals.proofs.RoomDeals.{nodes_of-length, nodes_of-at, shares_of-at, servers_of-at}
 
-module _ {r : Room} {rows : List (List ℕ)} (of-cords : CordRows r rows) where
+module _ {r : Room} {rows : List (List ℕ)} (of_cords : CordRows r rows) where
   pub cords-count : length rows ≡ room_cords r
-  cords-count = sym (column-length node_column rows) ∙ ap length of-cords.nodes ∙ nodes_of-length r
+  cords-count = sym (column-length node_column rows) ∙ ap length of_cords.nodes ∙ nodes_of-length r
 
   pub node_stands : (c : ℕ) → cell rows c node_column ≡ (cord_at r c).node
-  node_stands c = sym (column-at node_column rows c) ∙ ap (λ (l : List ℕ). at l c) of-cords.nodes ∙ nodes_of-at r c
+  node_stands c = sym (column-at node_column rows c) ∙ ap (λ (l : List ℕ). at l c) of_cords.nodes ∙ nodes_of-at r c
 
   pub server-at : (c : ℕ) → cell rows c server_column ≡ (cord_at r c).server
-  server-at c = sym (column-at server_column rows c) ∙ ap (λ (l : List ℕ). at l c) of-cords.servers ∙ servers_of-at r c
+  server-at c = sym (column-at server_column rows c) ∙ ap (λ (l : List ℕ). at l c) of_cords.servers ∙ servers_of-at r c
 
-  pub share-at : (c : ℕ) → cell rows c share_column ≡ (cord_at r c).share
-  share-at c = sym (column-at share_column rows c) ∙ ap (λ (l : List ℕ). at l c) of-cords.shares ∙ shares_of-at r c
+  pub share_at : (c : ℕ) → cell rows c share_column ≡ (cord_at r c).share
+  share_at c = sym (column-at share_column rows c) ∙ ap (λ (l : List ℕ). at l c) of_cords.shares ∙ shares_of-at r c
 
 -- What is carried by the room's shares and servers.
-pub carried-is : (r : Room) (loads : List ℕ) → carried_from r.scale (shares_of r) (servers_of r) loads ≡ carried_by r loads
+pub carried_is : (r : Room) (loads : List ℕ) → carried_from r.scale (shares_of r) (servers_of r) loads ≡ carried_by r loads
 unfolding carried_by
-carried-is r loads = λ i. figures (figures-length (room_cords r) (λ c. (cord_at r c).share) i) (λ c. carried r.scale (shares_of-at r c i) (at loads (servers_of-at r c i)))
+carried_is r loads = λ i. figures (figures-length (room_cords r) (λ c. (cord_at r c).share) i) (λ c. carried r.scale (shares_of-at r c i) (at loads (servers_of-at r c i)))

@@ -16,18 +16,18 @@ HasLowsBeneath table list = OfRoom table (λ r. (n : ℕ) → n < length r.nodes
 -- The lists that are lent for a good table's cords and servers are as long as these are many: for each cord its row, its low, its
 -- want and its ceiling; for each server its need. There is a demand for each server.
 pub record CordsLent (table demands : List ℕ) (cords : List (List ℕ)) (lows wants ceilings needs : List ℕ) : Type 0 where
-  pub good-table : Good (checked table 0)
-  pub demands-fit : ServersFit table (length demands)
+  pub good_table : Good (checked table 0)
+  pub demands_fit : ServersFit table (length demands)
   pub cords-fit : CordsFit table (length cords)
-  pub lows-fit : CordsFit table (length lows)
-  pub wants-fit : CordsFit table (length wants)
-  pub ceilings-fit : CordsFit table (length ceilings)
-  pub needs-fit : ServersFit table (length needs)
+  pub lows_fit : CordsFit table (length lows)
+  pub wants_fit : CordsFit table (length wants)
+  pub ceilings_fit : CordsFit table (length ceilings)
+  pub needs_fit : ServersFit table (length needs)
 
 -- The lists are those of the room's cords and servers, with the wants of the first deal.
 pub record CordsLaidOut (r : Room) (demands : List ℕ) (cords : List (List ℕ)) (lows wants ceilings needed : List ℕ) : Type 0 where
   pub rows_are : CordRows r cords
-  pub lows-are : lows ≡ lows_of r
-  pub wants-are : wants ≡ first_wants r demands
-  pub ceilings-are : ceilings ≡ ceilings_of r
-  pub needs-are : needed ≡ needs r demands
+  pub lows_are : lows ≡ lows_of r
+  pub wants_are : wants ≡ first_wants r demands
+  pub ceilings_are : ceilings ≡ ceilings_of r
+  pub needs_are : needed ≡ needs r demands

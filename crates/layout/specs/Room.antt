@@ -8,21 +8,21 @@ use Rattle.layout.specs.Lists.{CordsLaidOut}
 
 -- Lists of these lengths take those of any room: a place for each node, for each cord, or for each server.
 pub record LoadSpace (parents spare cords lows wants ceilings needs : ℕ) : Type 0 where
-  pub for-parents : most_nodes ≤ parents
-  pub for-spare : most_nodes ≤ spare
-  pub for-cords : most_cords ≤ cords
-  pub for-lows : most_cords ≤ lows
-  pub for-wants : most_cords ≤ wants
-  pub for-ceilings : most_cords ≤ ceilings
-  pub for-needs : most_servers ≤ needs
+  pub for_parents : most_nodes ≤ parents
+  pub for_spare : most_nodes ≤ spare
+  pub for_cords : most_cords ≤ cords
+  pub for_lows : most_cords ≤ lows
+  pub for_wants : most_cords ≤ wants
+  pub for_ceilings : most_cords ≤ ceilings
+  pub for_needs : most_servers ≤ needs
 
 -- The lists are those of a room, with given demands: its nodes' parents and what their limits have over the lows beneath, its cords' rows,
 -- their lows, their wants of the first deal and their ceilings, and its servers' needs.
 pub record RoomLists (r : Room) (demands parents spare : List ℕ) (cords : List (List ℕ)) (lows wants ceilings needed : List ℕ) : Type 0 where
-  pub parents-are : parents ≡ parents_of r
-  pub spare-size : length spare ≡ length parents
-  pub spare-is : (n : ℕ) → n < length r.nodes → at spare n + lows_beneath r n ≡ at (limits_of r) n
-  pub cords-are : CordsLaidOut r demands cords lows wants ceilings needed
+  pub parents_are : parents ≡ parents_of r
+  pub spare_size : length spare ≡ length parents
+  pub spare_is : (n : ℕ) → n < length r.nodes → at spare n + lows_beneath r n ≡ at (limits_of r) n
+  pub cords_are : CordsLaidOut r demands cords lows wants ceilings needed
 
 -- The lists have those of a room at their fronts.
 abbrev pub RoomLoaded : Room → (demands parents spare : List ℕ) → List (List ℕ) → (lows wants ceilings needed : List ℕ) → Type 0

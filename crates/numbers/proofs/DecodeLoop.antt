@@ -25,8 +25,8 @@ pub record Inv (sheet : List ℕ) (at value unit next left : ℕ) : Type 0 where
   pub same : resumed at value unit next (later left (drop next sheet)) ≡ decoded at (number (drop at sheet))
 
 -- A byte that was read stands in front of those after it.
-byte-first : (sheet : List ℕ) (i byte : ℕ) → byte ≡ get_or sheet i 0 → i < length sheet → drop i sheet ≡ byte ∷ drop (suc i) sheet
-byte-first sheet i byte e h = rw e (drop-cons sheet i 0 h)
+byte_first : (sheet : List ℕ) (i byte : ℕ) → byte ≡ get_or sheet i 0 → i < length sheet → drop i sheet ≡ byte ∷ drop (suc i) sheet
+byte_first sheet i byte e h = rw e (drop-cons sheet i 0 h)
 
 module _ (sheet : List ℕ) (at : ℕ) where
   pub empty : length sheet ≤ at → Refused CutShort at ≡ decoded at (number (drop at sheet))
@@ -36,7 +36,7 @@ module _ (sheet : List ℕ) (at : ℕ) where
   module _ (byte : ℕ) (e : byte ≡ get_or sheet at 0) (h : at < length sheet) where
     pub single : byte < 128 → Number byte (at + 1) ≡ decoded at (number (drop at sheet))
     unfolding number
-    single low = rw (byte-first sheet at byte e h, lt-ltb byte 128 low)
+    single low = rw (byte_first sheet at byte e h, lt-ltb byte 128 low)
 
     pub begin : 128 ≤ byte → byte < 256 → Inv sheet at (byte - 128) 128 (at + 1) 3
     unfolding number
@@ -44,7 +44,7 @@ module _ (sheet : List ℕ) (at : ℕ) where
         record {
           small = omega arith;
           space = refl;
-          same = rw (byte-first sheet at byte e h, le-ltb byte 128 top, add-one) (go (later 3 (drop (suc at) sheet)));
+          same = rw (byte_first sheet at byte e h, le-ltb byte 128 top, add-one) (go (later 3 (drop (suc at) sheet)));
         }
       where
         go : (f : Front) → resumed at (byte - 128) 128 (suc at) f ≡ decoded at (above (byte - 128) f)
@@ -74,17 +74,17 @@ module _ (sheet : List ℕ) (at value unit next : ℕ) where
       (omega (arith, inv.small), u)
 
   module _ (byte : ℕ) (e : byte ≡ get_or sheet next 0) (h : next < length sheet) where
-    pub not-shortest : (left : ℕ) → 0 < left → Inv sheet at value unit next left → byte ≡ 0
+    pub not_shortest : (left : ℕ) → 0 < left → Inv sheet at value unit next left → byte ≡ 0
         → Refused NotShortest at ≡ decoded at (number (drop at sheet))
     unfolding later
-    not-shortest zero p inv z = absurd (omega arith)
-    not-shortest (suc left) p inv z = rw (byte-first sheet next byte e h, eq-eqb byte 0 z) at inv.same
+    not_shortest zero p inv z = absurd (omega arith)
+    not_shortest (suc left) p inv z = rw (byte_first sheet next byte e h, eq-eqb byte 0 z) at inv.same
 
     pub last : (left : ℕ) → 0 < left → Inv sheet at value unit next left → (byte ≡ 0 → ⊥) → byte < 128
         → Number (value + unit * byte) (next + 1) ≡ decoded at (number (drop at sheet))
     unfolding later
     last zero p inv z low = absurd (omega arith)
-    last (suc left) p inv z low = rw (byte-first sheet next byte e h, ne_eqb byte 0 z, lt-ltb byte 128 low) at inv.same
+    last (suc left) p inv z low = rw (byte_first sheet next byte e h, ne_eqb byte 0 z, lt-ltb byte 128 low) at inv.same
 
     pub again : (left : ℕ) → 0 < left → Inv sheet at value unit next left → 128 ≤ byte → byte < 256
         → Inv sheet at (value + unit * (byte - 128)) (unit * 128) (next + 1) (left - 1)
@@ -97,7 +97,7 @@ module _ (sheet : List ℕ) (at value unit next : ℕ) where
         (record {
           small = omega (arith, inv.small, mul-le-mul_left {m = byte - 128} {n = 127} unit (omega arith));
           space = mul_assoc unit 128 (128 ^ left) ∙ rw (← pow-succ' 128 left) inv.space;
-          same = go (byte - 128) (later left (drop (suc next) sheet)) ∙ (rw (byte-first sheet next byte e h, ne_eqb byte 0 z, le-ltb byte 128 top) at inv.same);
+          same = go (byte - 128) (later left (drop (suc next) sheet)) ∙ (rw (byte_first sheet next byte e h, ne_eqb byte 0 z, le-ltb byte 128 top) at inv.same);
         })
       where
         go : (group : ℕ) (f : Front)

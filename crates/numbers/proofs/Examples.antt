@@ -11,9 +11,9 @@ unfolding groups
 forms = refl
 
 -- `80 00` is no number.
-pub not-shortest : number (0x80 ∷ 0x00 ∷ []) ≡ bad NotShortest
+pub not_shortest : number (0x80 ∷ 0x00 ∷ []) ≡ bad NotShortest
 unfolding number later
-not-shortest = refl
+not_shortest = refl
 
 -- The sheets `80`, `01 80 00`, `80 80 80 80` and the empty one.
 pub sheets : map sheet_of ((0x80 ∷ []) ∷ (0x01 ∷ 0x80 ∷ 0x00 ∷ []) ∷ (0x80 ∷ 0x80 ∷ 0x80 ∷ 0x80 ∷ []) ∷ [] ∷ [])

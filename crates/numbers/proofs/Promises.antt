@@ -1,19 +1,19 @@
 -- The number form's promises, proved.
 use Rattle.numbers.specs.Promises.{NumberReadsBack, NumberWritesBack, SheetReadsBack, SheetWritesBack, WordsHaveForms}
 use Rattle.numbers.proofs.NumberLaws.{number-form, form-number}
-use Rattle.numbers.proofs.SheetLaws.{sheet_of-bytes_of, bytes_of-sheet_of, words-below}
+use Rattle.numbers.proofs.SheetLaws.{sheet_of-bytes_of, bytes_of-sheet_of, words_below}
 
-pub number-reads-back : NumberReadsBack
-number-reads-back = number-form
+pub number_reads_back : NumberReadsBack
+number_reads_back = number-form
 
-pub number-writes-back : NumberWritesBack
-number-writes-back = form-number
+pub number_writes_back : NumberWritesBack
+number_writes_back = form-number
 
-pub sheet-reads-back : SheetReadsBack
-sheet-reads-back = sheet_of-bytes_of
+pub sheet_reads_back : SheetReadsBack
+sheet_reads_back = sheet_of-bytes_of
 
-pub sheet-writes-back : SheetWritesBack
-sheet-writes-back = bytes_of-sheet_of
+pub sheet_writes_back : SheetWritesBack
+sheet_writes_back = bytes_of-sheet_of
 
-pub words-have-forms : WordsHaveForms
-words-have-forms = words-below
+pub words_have_forms : WordsHaveForms
+words_have_forms = words_below

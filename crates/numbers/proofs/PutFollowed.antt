@@ -13,7 +13,7 @@ use borrow.Author.Tests.{ltb-true, ltb-false}
 use Rattle.figures.proofs.Stores.{sets-append}
 use Rattle.numbers.specs.Number.{form}
 use Rattle.numbers.specs.Followed.{Followed}
-use Rattle.numbers.proofs.NumberLaws.{groups-last, groups-more}
+use Rattle.numbers.proofs.NumberLaws.{groups_last, groups_more}
 
 module _ (value : ℕ) (sheet : List ℕ) (at : ℕ) where
   -- Exactly the form.
@@ -29,22 +29,22 @@ module _ (value : ℕ) (sheet : List ℕ) (at : ℕ) where
 
   -- The first byte of what follows is stored over the second.
   none : value < 128 → (another : ℕ) → another ≡ 0 → Short another
-  none low another n = (rw (groups-last 3 value low, n) (omega arith), over)
+  none low another n = (rw (groups_last 3 value low, n) (omega arith), over)
     where
       over : Followed value sheet at (two_bytes another) (at + 1 + another)
       over [] h = absurd (omega arith)
       over (b ∷ rest) h =
           let first : 128 * another + value % 128 ≡ value = omega (arith, mod-eq_of_lt low) in
           let next : at + 1 + another ≡ suc at = omega arith in
-          rw (groups-last 3 value low, first, next, add-one, set-set)
+          rw (groups_last 3 value low, first, next, add-one, set-set)
 
   one : 128 ≤ value → value < 16384 → (another : ℕ) → another ≡ 1 → Short another
   one big low another n =
       let last : value / 128 < 128 = omega arith in
       let first : 128 * another + value % 128 ≡ 128 + value % 128 = omega arith in
       let next : at + 1 + another ≡ suc (suc at) = omega arith in (
-        rw (groups-more 3 value big, groups-last 2 (value / 128) last, next) (omega arith),
-        λ rest h. rw (groups-more 3 value big, groups-last 2 (value / 128) last, first, next, add-one),
+        rw (groups_more 3 value big, groups_last 2 (value / 128) last, next) (omega arith),
+        λ rest h. rw (groups_more 3 value big, groups_last 2 (value / 128) last, first, next, add-one),
       )
 
   pub short : value < 16384 → Short ((value + 16256) / 16384)

@@ -12,25 +12,25 @@ use Rattle.figures.specs.Bounds.{AllBelow}
 use Rattle.numbers.specs.declared.Fault.{Fault}
 use Rattle.numbers.specs.declared.Decoded.TheVariants.{Number, Refused}
 use Rattle.numbers.specs.declared.JudgedSheet.TheVariants.{Words, Refused as Turned}
-use Rattle.numbers.proofs.NumberLaws.{Good, number-good, 1≤length-form, length-form≤4}
-use Rattle.figures.proofs.Bounds.{drop-below}
+use Rattle.numbers.proofs.NumberLaws.{Good, number_good, 1≤length_form, length_form≤4}
+use Rattle.figures.proofs.Bounds.{drop_below}
 use Rattle.figures.proofs.Stores.{sets-append}
-use Rattle.numbers.proofs.SheetLaws.{sheet_from-end, sheet_from-some, bytes_of-drop}
+use Rattle.numbers.proofs.SheetLaws.{sheet_from-end, sheet_from_some, bytes_of-drop}
 
 -- ---- `decode_sheet`: the numbers in front of `at` are stored; those from there on complete the answer and the list
 
 -- What an answer of `decode` says of the bytes.
-decoded-good : (at value next : ℕ) (f : Front) → Number value next ≡ decoded at f → (f ≡ good value (next - at)) × (at ≤ next)
-decoded-good at value next (good v size) e =
+decoded_good : (at value next : ℕ) (f : Front) → Number value next ≡ decoded at f → (f ≡ good value (next - at)) × (at ≤ next)
+decoded_good at value next (good v size) e =
     let ev : value ≡ v = cc in
     let en : next ≡ at + size = cc in
     let d : size ≡ next - at = omega arith in
     (rw (ev, d), omega arith)
-decoded-good at value next (bad fault) e = let z : ◌≡◌ {A = ℕ} 0 1 = cc in absurd (omega arith)
+decoded_good at value next (bad fault) e = let z : ◌≡◌ {A = ℕ} 0 1 = cc in absurd (omega arith)
 
-decoded-bad : (at : ℕ) (fault : Fault) (place : ℕ) (f : Front) → Refused fault place ≡ decoded at f → (f ≡ bad fault) × (place ≡ at)
-decoded-bad at fault place (good v size) e = let z : ◌≡◌ {A = ℕ} 0 1 = cc in absurd (omega arith)
-decoded-bad at fault place (bad g) e = let eg : fault ≡ g = cc in (rw eg, cc)
+decoded_bad : (at : ℕ) (fault : Fault) (place : ℕ) (f : Front) → Refused fault place ≡ decoded at f → (f ≡ bad fault) × (place ≡ at)
+decoded_bad at fault place (good v size) e = let z : ◌≡◌ {A = ℕ} 0 1 = cc in absurd (omega arith)
+decoded_bad at fault place (bad g) e = let eg : fault ≡ g = cc in (rw eg, cc)
 
 pub record ReadingSheet (sheet words₀ words : List ℕ) (at count : ℕ) : Type 0 where
   pub bytes : AllBelow 256 sheet
@@ -42,8 +42,8 @@ pub record ReadingSheet (sheet words₀ words : List ℕ) (at count : ℕ) : Typ
   pub answered : answer (count + length (sheet_from fuel at (drop at sheet)).words) (sheet_from fuel at (drop at sheet)).ending ≡ judged (sheet_of sheet)
   pub stored : sets words count (sheet_from fuel at (drop at sheet)).words ≡ sets words₀ 0 (sheet_of sheet).words
 
-pub reading-begin : (sheet words : List ℕ) → AllBelow 256 sheet → ReadingSheet sheet words words 0 0
-reading-begin sheet words all =
+pub reading_begin : (sheet words : List ℕ) → AllBelow 256 sheet → ReadingSheet sheet words words 0 0
+reading_begin sheet words all =
     record {
       bytes = all;
       fuel = length sheet;
@@ -68,25 +68,25 @@ module _ (sheet words₀ words : List ℕ) (at count : ℕ) (inv : ReadingSheet 
     rest f e zero enough = absurd (omega arith)
     rest f e (suc fuel) enough =
         let l : suc fuel - 1 ≡ fuel = omega arith in
-        rw (← e, l) (sheet_from-some fuel at (drop at sheet) (omega (arith, length-drop at sheet)) ∙ simp drop-drop)
+        rw (← e, l) (sheet_from_some fuel at (drop at sheet) (omega (arith, length-drop at sheet)) ∙ simp drop-drop)
 
-    pub reading-stop : (fault : Fault) (place : ℕ) → Refused fault place ≡ decoded at (number (drop at sheet))
+    pub reading_stop : (fault : Fault) (place : ℕ) → Refused fault place ≡ decoded at (number (drop at sheet))
         → (Turned fault place ≡ judged (sheet_of sheet)) × (words ≡ sets words₀ 0 (sheet_of sheet).words)
-    reading-stop fault place d =
-        let b = decoded-bad at fault place (number (drop at sheet)) d in
+    reading_stop fault place d =
+        let b = decoded_bad at fault place (number (drop at sheet)) d in
         let e = rest (bad fault) b.0 inv.fuel inv.enough in
         (ap (Turned fault) b.1 ∙ (rw e at inv.answered), rw e at inv.stored)
 
     module _ (value next : ℕ) (d : Number value next ≡ decoded at (number (drop at sheet))) where
       is-good : Good 4 (drop at sheet) value (next - at)
-      is-good = number-good (drop at sheet) value (next - at) (drop-below 256 sheet at inv.bytes) (decoded-good at value next (number (drop at sheet)) d).0
+      is-good = number_good (drop at sheet) value (next - at) (drop_below 256 sheet at inv.bytes) (decoded_good at value next (number (drop at sheet)) d).0
 
-      pub reading-falls : length sheet - next < length sheet - at
-      reading-falls = omega (arith, is-good.some)
+      pub reading_falls : length sheet - next < length sheet - at
+      reading_falls = omega (arith, is-good.some)
 
-      pub reading-again : (words' : List ℕ) → words' ≡ set words count value → ReadingSheet sheet words₀ words' next (count + 1)
-      reading-again words' w =
-          let b = decoded-good at value next (number (drop at sheet)) d in
+      pub reading_again : (words' : List ℕ) → words' ≡ set words count value → ReadingSheet sheet words₀ words' next (count + 1)
+      reading_again words' w =
+          let b = decoded_good at value next (number (drop at sheet)) d in
           let n : at + (next - at) ≡ next = omega arith in
           let e = rw n at (rest (good value (next - at)) b.0 inv.fuel inv.enough) in
           let after = sheet_from (inv.fuel - 1) next (drop next sheet) in
@@ -111,8 +111,8 @@ pub record Writing (words sheet₀ sheet : List ℕ) (index at : ℕ) : Type 0 w
   pub size : length sheet ≡ length sheet₀
   pub same : sets sheet at (bytes_of (drop index words)) ≡ sets sheet₀ 0 (bytes_of words)
 
-pub writing-begin : (words sheet : List ℕ) → Writing words sheet sheet 0 0
-writing-begin words sheet = record { within = omega arith; end = omega arith; size = refl; same = refl }
+pub writing_begin : (words sheet : List ℕ) → Writing words sheet sheet 0 0
+writing_begin words sheet = record { within = omega arith; end = omega arith; size = refl; same = refl }
 
 -- The length of the words' bytes from an index on.
 length-bytes_of-drop : (words : List ℕ) (index : ℕ) → index < length words
@@ -128,14 +128,14 @@ module _ (words sheet₀ sheet : List ℕ) (index at : ℕ) (inv : Writing words
       (omega arith, rw none at inv.same)
 
   module _ (h : index < length words) where
-    pub writing-fits : length (bytes_of words) ≤ length sheet₀ → at + length (form (get_or words index 0)) ≤ length sheet
-    writing-fits f = omega (arith, inv.end, inv.size, length-bytes_of-drop words index h)
+    pub writing_fits : length (bytes_of words) ≤ length sheet₀ → at + length (form (get_or words index 0)) ≤ length sheet
+    writing_fits f = omega (arith, inv.end, inv.size, length-bytes_of-drop words index h)
 
     -- What follows the word completes the sheet, also over a byte too much.
-    pub writing-again : (sheet' : List ℕ) (at' : ℕ) → at' ≡ at + length (form (get_or words index 0)) → length sheet' ≡ length sheet
+    pub writing_again : (sheet' : List ℕ) (at' : ℕ) → at' ≡ at + length (form (get_or words index 0)) → length sheet' ≡ length sheet
         → sets sheet' at' (bytes_of (drop (suc index) words)) ≡ sets sheet at (form (get_or words index 0) ++ bytes_of (drop (suc index) words))
         → Writing words sheet₀ sheet' (index + 1) at'
-    writing-again sheet' at' a l s =
+    writing_again sheet' at' a l s =
         rw add-one
         (record {
           within = h;
@@ -147,20 +147,20 @@ module _ (words sheet₀ sheet : List ℕ) (index at : ℕ) (inv : Writing words
   -- A byte at least follows every word but the last.
   module _ (h : index + 1 < length words) where
     pub writing_more : 0 < length (bytes_of (drop (suc index) words))
-    writing_more = omega (arith, length-bytes_of-drop words (suc index) (omega arith), 1≤length-form (get_or words (suc index) 0))
+    writing_more = omega (arith, length-bytes_of-drop words (suc index) (omega arith), 1≤length_form (get_or words (suc index) 0))
 
-    pub writing-fits-more : length (bytes_of words) ≤ length sheet₀ → at + length (form (get_or words index 0)) < length sheet
-    writing-fits-more f = omega (arith, inv.end, inv.size, length-bytes_of-drop words index (omega arith), writing_more)
+    pub writing_fits_more : length (bytes_of words) ≤ length sheet₀ → at + length (form (get_or words index 0)) < length sheet
+    writing_fits_more f = omega (arith, inv.end, inv.size, length-bytes_of-drop words index (omega arith), writing_more)
 
 -- The last word completes the sheet.
-pub writing-last : (words sheet₀ sheet : List ℕ) (index at : ℕ) → Writing words sheet₀ sheet index at → index < length words → length words ≤ index + 1
+pub writing_last : (words sheet₀ sheet : List ℕ) (index at : ℕ) → Writing words sheet₀ sheet index at → index < length words → length words ≤ index + 1
     → (sheet' : List ℕ) (at' : ℕ) → at' ≡ at + length (form (get_or words index 0)) → sheet' ≡ sets sheet at (form (get_or words index 0))
     → (at' ≡ length (bytes_of words)) × (sheet' ≡ sets sheet₀ 0 (bytes_of words))
-writing-last words sheet₀ sheet index at inv h last sheet' at' a s =
+writing_last words sheet₀ sheet index at inv h last sheet' at' a s =
     let after = bytes_of (drop (suc index) words) in
     let w = form (get_or words index 0) in
     writing-end words sheet₀ sheet' (index + 1) at'
-    (writing-again words sheet₀ sheet index at inv h sheet' at' a (rw s (length-sets sheet at w)) (rw (a, s) (sym (sets-append sheet at w after))))
+    (writing_again words sheet₀ sheet index at inv h sheet' at' a (rw s (length-sets sheet at w)) (rw (a, s) (sym (sets-append sheet at w after))))
     last
 
 -- ---- `total_size`: the words in front of `index` have `total` bytes
@@ -170,20 +170,20 @@ pub record Sizing (words : List ℕ) (total index : ℕ) : Type 0 where
   pub small : total ≤ 4 * index
   pub same : total + length (bytes_of (drop index words)) ≡ length (bytes_of words)
 
-pub sizing-begin : (words : List ℕ) → Sizing words 0 0
-sizing-begin words = record { within = omega arith; small = omega arith; same = omega arith }
+pub sizing_begin : (words : List ℕ) → Sizing words 0 0
+sizing_begin words = record { within = omega arith; small = omega arith; same = omega arith }
 
 module _ (words : List ℕ) (total index : ℕ) (inv : Sizing words total index) where
-  pub sizing-again : (size : ℕ) → index < length words → size ≡ length (form (get_or words index 0)) → Sizing words (total + size) (index + 1)
-  sizing-again size h e =
+  pub sizing_again : (size : ℕ) → index < length words → size ≡ length (form (get_or words index 0)) → Sizing words (total + size) (index + 1)
+  sizing_again size h e =
       record {
         within = omega arith;
-        small = omega (arith, inv.small, length-form≤4 (get_or words index 0));
+        small = omega (arith, inv.small, length_form≤4 (get_or words index 0));
         same = rw add-one (omega (arith, inv.same, length-bytes_of-drop words index h));
       }
 
-  pub sizing-end : length words ≤ index → total ≡ length (bytes_of words)
+  pub sizing_end : length words ≤ index → total ≡ length (bytes_of words)
   unfolding bytes_of
-  sizing-end h =
+  sizing_end h =
       let s = rw (drop_of_length-le words h) at inv.same in
       omega arith

@@ -1,5 +1,5 @@
 -- What holds of the number form, apart from any code: reading undoes writing, and writing undoes reading.
--- proofs/Promises.antt proves each: `NumberReadsBack` as `number-reads-back`, and so on.
+-- proofs/Promises.antt proves each: `NumberReadsBack` as `number_reads_back`, and so on.
 use Rattle.std.specs.Prelude.{◌≡◌, List, ◌++◌, ℕ, ◌^◌, ◌<◌, length, take}
 use Rattle.figures.specs.Bounds.{AllBelow}
 use Rattle.numbers.specs.Number.{good, number, form}

@@ -19,85 +19,85 @@ module _ (w : List ℕ) where
   pub piece-drop : (k i to : ℕ) → drop k (piece i to w) ≡ piece (i + k) to w
   piece-drop k i to = drop-take k (to - i) (drop i w) ∙ ap₂ take (let q : to - i - k ≡ to - (i + k) = omega arith in q) (drop-drop k i w)
 
-  pub piece-past : (i to : ℕ) → to ≤ i → piece i to w ≡ []
-  piece-past i to h = ap (λ (k : ℕ). take k (drop i w)) (let q : to - i ≡ 0 = omega arith in q)
+  pub piece_past : (i to : ℕ) → to ≤ i → piece i to w ≡ []
+  piece_past i to h = ap (λ (k : ℕ). take k (drop i w)) (let q : to - i ≡ 0 = omega arith in q)
 
-  piece-cons : (i to : ℕ) → i < to → to ≤ length w → piece i to w ≡ get_or w i 0 ∷ piece (i + 1) to w
-  piece-cons i to h l =
+  piece_cons : (i to : ℕ) → i < to → to ≤ length w → piece i to w ≡ get_or w i 0 ∷ piece (i + 1) to w
+  piece_cons i to h l =
       ap₂ take (let q : to - i ≡ suc (to - (i + 1)) = omega arith in q) (drop-cons w i 0 (omega arith))
       ∙ ap (λ (k : ℕ). get_or w i 0 ∷ take (to - (i + 1)) (drop k w)) (let q : suc i ≡ i + 1 = omega arith in q)
 
 -- ---- Parents
 
 module _ (nodes gap : ℕ) where
-  every-none : (index : ℕ) → every_across nodes gap 0 index [] ≡ 0
+  every_none : (index : ℕ) → every_across nodes gap 0 index [] ≡ 0
   unfolding every_across
-  every-none index = refl
+  every_none index = refl
 
-  every-skip : (skip index : ℕ) (l : List ℕ) → every_across nodes gap skip index l ≡ every_across nodes gap 0 (index + skip) (drop skip l)
+  every_skip : (skip index : ℕ) (l : List ℕ) → every_across nodes gap skip index l ≡ every_across nodes gap 0 (index + skip) (drop skip l)
   unfolding every_across
-  every-skip zero index l = ap (λ (k : ℕ). every_across nodes gap 0 k l) (let q : index ≡ index + 0 = omega arith in q)
-  every-skip (suc skip) index [] = refl
-  every-skip (suc skip) index (x ∷ l) =
-      every-skip skip (index + 1) l ∙ ap (λ (k : ℕ). every_across nodes gap 0 k (drop skip l)) (let q : index + 1 + skip ≡ index + suc skip = omega arith in q)
+  every_skip zero index l = ap (λ (k : ℕ). every_across nodes gap 0 k l) (let q : index ≡ index + 0 = omega arith in q)
+  every_skip (suc skip) index [] = refl
+  every_skip (suc skip) index (x ∷ l) =
+      every_skip skip (index + 1) l ∙ ap (λ (k : ℕ). every_across nodes gap 0 k (drop skip l)) (let q : index + 1 + skip ≡ index + suc skip = omega arith in q)
 
-  every-stop : (index x : ℕ) (l : List ℕ) → across nodes false x ≡ true → every_across nodes gap 0 index (x ∷ l) ≡ index
+  every_stop : (index x : ℕ) (l : List ℕ) → across nodes false x ≡ true → every_across nodes gap 0 index (x ∷ l) ≡ index
   unfolding every_across
-  every-stop index x l e = ap (λ (t : Bool). cond t index (every_across nodes gap gap (index + 1) l)) e
+  every_stop index x l e = ap (λ (t : Bool). cond t index (every_across nodes gap gap (index + 1) l)) e
 
-  every-pass : (index x : ℕ) (l : List ℕ) → across nodes false x ≡ false
+  every_pass : (index x : ℕ) (l : List ℕ) → across nodes false x ≡ false
       → every_across nodes gap 0 index (x ∷ l) ≡ every_across nodes gap 0 (index + 1 + gap) (drop gap l)
   unfolding every_across
-  every-pass index x l e = ap (λ (t : Bool). cond t index (every_across nodes gap gap (index + 1) l)) e ∙ every-skip gap (index + 1) l
+  every_pass index x l e = ap (λ (t : Bool). cond t index (every_across nodes gap gap (index + 1) l)) e ∙ every_skip gap (index + 1) l
 
 module _ (w : List ℕ) (nodes width i to : ℕ) where
   -- What is left to search, from i on.
   abbrev pub parents_left : ℕ
   parents_left = every_across nodes (width - 1) 0 i (piece i to w)
 
-  pub parent-found : {t : Bool} → i < to → to ≤ length w → t ≡ across nodes false (get_or w i 0) → t ≡ true → i ≡ parents_left
-  parent-found h l is e =
-      sym (every-stop nodes (width - 1) i (get_or w i 0) (piece (i + 1) to w) (sym is ∙ e)) ∙ sym (ap (every_across nodes (width - 1) 0 i) (piece-cons w i to h l))
+  pub parent_found : {t : Bool} → i < to → to ≤ length w → t ≡ across nodes false (get_or w i 0) → t ≡ true → i ≡ parents_left
+  parent_found h l is e =
+      sym (every_stop nodes (width - 1) i (get_or w i 0) (piece (i + 1) to w) (sym is ∙ e)) ∙ sym (ap (every_across nodes (width - 1) 0 i) (piece_cons w i to h l))
 
-  pub parents-end : to ≤ i → 0 ≡ parents_left
-  parents-end h = sym (ap (every_across nodes (width - 1) 0 i) (piece-past w i to h) ∙ every-none nodes (width - 1) i)
+  pub parents_end : to ≤ i → 0 ≡ parents_left
+  parents_end h = sym (ap (every_across nodes (width - 1) 0 i) (piece_past w i to h) ∙ every_none nodes (width - 1) i)
 
-pub parents-again : (w : List ℕ) (nodes width i to : ℕ) {t : Bool} {all : ℕ} → 1 ≤ width → i < to → to ≤ length w → t ≡ across nodes false (get_or w i 0) → t ≡ false
+pub parents_again : (w : List ℕ) (nodes width i to : ℕ) {t : Bool} {all : ℕ} → 1 ≤ width → i < to → to ≤ length w → t ≡ across nodes false (get_or w i 0) → t ≡ false
     → parents_left w nodes width i to ≡ all → parents_left w nodes width (i + width) to ≡ all
-parents-again w nodes width i to some h l is e all =
+parents_again w nodes width i to some h l is e all =
     let gap = width - 1 in
     let on : i + 1 + gap ≡ i + width = omega arith in
     ap (λ (k : ℕ). every_across nodes gap 0 k (piece k to w)) (sym on)
     ∙ ap (every_across nodes gap 0 (i + 1 + gap)) (sym (piece-drop w gap (i + 1) to))
-    ∙ sym (every-pass nodes gap i (get_or w i 0) (piece (i + 1) to w) (sym is ∙ e))
-    ∙ sym (ap (every_across nodes gap 0 i) (piece-cons w i to h l))
+    ∙ sym (every_pass nodes gap i (get_or w i 0) (piece (i + 1) to w) (sym is ∙ e))
+    ∙ sym (ap (every_across nodes gap 0 i) (piece_cons w i to h l))
     ∙ all
 
 -- ---- Cords
 
 module _ (nodes : ℕ) (before : Bool) where
-  cords-none : (left index : ℕ) → cords_across nodes before left index [] ≡ 0
+  cords_none : (left index : ℕ) → cords_across nodes before left index [] ≡ 0
   unfolding cords_across
-  cords-none zero index = refl
-  cords-none (suc left) index = refl
+  cords_none zero index = refl
+  cords_none (suc left) index = refl
 
-  server-pass : (index : ℕ) (l : List ℕ) → cords_across nodes before 0 index l ≡ cords_across nodes before (get_or l 3 0) (index + 4) (drop 4 l)
+  server_pass : (index : ℕ) (l : List ℕ) → cords_across nodes before 0 index l ≡ cords_across nodes before (get_or l 3 0) (index + 4) (drop 4 l)
   unfolding cords_across
-  server-pass index (a ∷ b ∷ c ∷ k ∷ l) = refl
-  server-pass index (a ∷ b ∷ c ∷ []) = refl
-  server-pass index (a ∷ b ∷ []) = refl
-  server-pass index (a ∷ []) = refl
-  server-pass index [] = refl
+  server_pass index (a ∷ b ∷ c ∷ k ∷ l) = refl
+  server_pass index (a ∷ b ∷ c ∷ []) = refl
+  server_pass index (a ∷ b ∷ []) = refl
+  server_pass index (a ∷ []) = refl
+  server_pass index [] = refl
 
-  cord-stop : (k index x : ℕ) (l : List ℕ) → across nodes before x ≡ true → cords_across nodes before (suc k) index (x ∷ l) ≡ index
+  cord_stop : (k index x : ℕ) (l : List ℕ) → across nodes before x ≡ true → cords_across nodes before (suc k) index (x ∷ l) ≡ index
   unfolding cords_across
-  cord-stop k index x [] e = ap (λ (t : Bool). cond t index 0) e
-  cord-stop k index x (s ∷ l) e = ap (λ (t : Bool). cond t index (cords_across nodes before k (index + 2) l)) e
+  cord_stop k index x [] e = ap (λ (t : Bool). cond t index 0) e
+  cord_stop k index x (s ∷ l) e = ap (λ (t : Bool). cond t index (cords_across nodes before k (index + 2) l)) e
 
-  cord-pass : (k index x : ℕ) (l : List ℕ) → across nodes before x ≡ false → cords_across nodes before (suc k) index (x ∷ l) ≡ cords_across nodes before k (index + 2) (drop 1 l)
+  cord_pass : (k index x : ℕ) (l : List ℕ) → across nodes before x ≡ false → cords_across nodes before (suc k) index (x ∷ l) ≡ cords_across nodes before k (index + 2) (drop 1 l)
   unfolding cords_across
-  cord-pass k index x [] e = ap (λ (t : Bool). cond t index 0) e ∙ sym (cords-none k (index + 2))
-  cord-pass k index x (s ∷ l) e = ap (λ (t : Bool). cond t index (cords_across nodes before k (index + 2) l)) e
+  cord_pass k index x [] e = ap (λ (t : Bool). cond t index 0) e ∙ sym (cords_none k (index + 2))
+  cord_pass k index x (s ∷ l) e = ap (λ (t : Bool). cond t index (cords_across nodes before k (index + 2) l)) e
 
 module _ (w : List ℕ) (nodes : ℕ) (before : Bool) (left i to : ℕ) where
   -- What is left to search, from i on, where so many cords come first.
@@ -105,17 +105,17 @@ module _ (w : List ℕ) (nodes : ℕ) (before : Bool) (left i to : ℕ) where
   cords_left = cords_across nodes before left i (piece i to w)
 
   pub cords-end : to ≤ i → 0 ≡ cords_left
-  cords-end h = sym (ap (cords_across nodes before left i) (piece-past w i to h) ∙ cords-none nodes before left i)
+  cords-end h = sym (ap (cords_across nodes before left i) (piece_past w i to h) ∙ cords_none nodes before left i)
 
-  pub cord-found : {t : Bool} → (left ≡ 0 → ⊥) → i < to → to ≤ length w → t ≡ across nodes before (get_or w i 0) → t ≡ true → i ≡ cords_left
-  cord-found some h l is e =
-      sym (cord-stop nodes before (left - 1) i (get_or w i 0) (piece (i + 1) to w) (sym is ∙ e))
-      ∙ sym (ap₂ (λ (k : ℕ) (z : List ℕ). cords_across nodes before k i z) (let q : left ≡ suc (left - 1) = omega arith in q) (piece-cons w i to h l))
+  pub cord_found : {t : Bool} → (left ≡ 0 → ⊥) → i < to → to ≤ length w → t ≡ across nodes before (get_or w i 0) → t ≡ true → i ≡ cords_left
+  cord_found some h l is e =
+      sym (cord_stop nodes before (left - 1) i (get_or w i 0) (piece (i + 1) to w) (sym is ∙ e))
+      ∙ sym (ap₂ (λ (k : ℕ) (z : List ℕ). cords_across nodes before k i z) (let q : left ≡ suc (left - 1) = omega arith in q) (piece_cons w i to h l))
 
 module _ (w : List ℕ) (nodes : ℕ) (before : Bool) (left i to : ℕ) {all : ℕ} where
-  pub server-again : {count : ℕ} → left ≡ 0 → to ≤ length w → count ≡ get_or w (i + 3) 0
+  pub server_again : {count : ℕ} → left ≡ 0 → to ≤ length w → count ≡ get_or w (i + 3) 0
       → cords_left w nodes before left i to ≡ all → cords_left w nodes before count (i + 4) to ≡ all
-  server-again {count} none l c is = go (ltb (i + 3) to) refl ∙ sym (server-pass nodes before i (piece i to w)) ∙ ap (λ (k : ℕ). cords_across nodes before k i (piece i to w)) (sym none) ∙ is
+  server_again {count} none l c is = go (ltb (i + 3) to) refl ∙ sym (server_pass nodes before i (piece i to w)) ∙ ap (λ (k : ℕ). cords_across nodes before k i (piece i to w)) (sym none) ∙ is
     where
       go : (t : Bool) → ltb (i + 3) to ≡ t → cords_left w nodes before count (i + 4) to ≡ cords_across nodes before (get_or (piece i to w) 3 0) (i + 4) (drop 4 (piece i to w))
       go true h = ap₂ (λ (k : ℕ) (z : List ℕ). cords_across nodes before k (i + 4) z)
@@ -125,31 +125,31 @@ module _ (w : List ℕ) (nodes : ℕ) (before : Bool) (left i to : ℕ) {all : �
           ∙ cords-end w nodes before (get_or (piece i to w) 3 0) (i + 4) to (omega (arith, ltb-false (i + 3) to h))
           ∙ ap (cords_across nodes before (get_or (piece i to w) 3 0) (i + 4)) (sym (piece-drop w 4 i to))
 
-  pub cord-again : {t : Bool} → (left ≡ 0 → ⊥) → i < to → to ≤ length w → t ≡ across nodes before (get_or w i 0) → t ≡ false
+  pub cord_again : {t : Bool} → (left ≡ 0 → ⊥) → i < to → to ≤ length w → t ≡ across nodes before (get_or w i 0) → t ≡ false
       → cords_left w nodes before left i to ≡ all → cords_left w nodes before (left - 1) (i + 2) to ≡ all
-  cord-again some h l is e all =
+  cord_again some h l is e all =
       ap (λ (k : ℕ). cords_across nodes before (left - 1) (i + 2) (piece k to w)) (let q : i + 2 ≡ i + 1 + 1 = omega arith in q)
       ∙ ap (cords_across nodes before (left - 1) (i + 2)) (sym (piece-drop w 1 (i + 1) to))
-      ∙ sym (cord-pass nodes before (left - 1) i (get_or w i 0) (piece (i + 1) to w) (sym is ∙ e))
-      ∙ sym (ap₂ (λ (k : ℕ) (z : List ℕ). cords_across nodes before k i z) (let q : left ≡ suc (left - 1) = omega arith in q) (piece-cons w i to h l))
+      ∙ sym (cord_pass nodes before (left - 1) i (get_or w i 0) (piece (i + 1) to w) (sym is ∙ e))
+      ∙ sym (ap₂ (λ (k : ℕ) (z : List ℕ). cords_across nodes before k i z) (let q : left ≡ suc (left - 1) = omega arith in q) (piece_cons w i to h l))
       ∙ all
 
 -- ---- Where servers end
 
-pub span-begin : (w : List ℕ) (start k : ℕ) → start + span (k - 0) (drop start w) ≡ start + span k (drop start w)
-span-begin w start k = ap (λ (m : ℕ). start + span m (drop start w)) (let q : k - 0 ≡ k = omega arith in q)
+pub span_begin : (w : List ℕ) (start k : ℕ) → start + span (k - 0) (drop start w) ≡ start + span k (drop start w)
+span_begin w start k = ap (λ (m : ℕ). start + span m (drop start w)) (let q : k - 0 ≡ k = omega arith in q)
 
 -- A server that starts within a list ends not far behind it, and one that does not has no words.
-pub span-near : (size most i more : ℕ) → (size ≤ i → more ≡ 0) → more < most → i ≤ size + most → i + more ≤ size + most
-span-near size most i more none small near = go (ltb i size) refl
+pub span_near : (size most i more : ℕ) → (size ≤ i → more ≡ 0) → more < most → i ≤ size + most → i + more ≤ size + most
+span_near size most i more none small near = go (ltb i size) refl
   where
     go : (t : Bool) → ltb i size ≡ t → i + more ≤ size + most
     go true e = omega (arith, ltb-true i size e)
     go false e = omega (arith, none (ltb-false i size e))
 
 module _ (w : List ℕ) (i : ℕ) where
-  pub span-past : length w ≤ i → 0 ≡ server_span (drop i w)
-  span-past h = sym (ap server_span (drop_of_length-le w h))
+  pub span_past : length w ≤ i → 0 ≡ server_span (drop i w)
+  span_past h = sym (ap server_span (drop_of_length-le w h))
 
   pub span-here : {count : ℕ} → i < length w → count ≡ get_or w (i + 3) 0 → 4 + 2 * count ≡ server_span (drop i w)
   span-here {count} h c =
@@ -165,9 +165,9 @@ module _ (w : List ℕ) (i : ℕ) where
       = ap (λ (m : ℕ). span left (drop m (drop i w))) (sym is) ∙ ap (span left) (drop-drop more i w) in
       omega arith
 
-  pub span-done : {k all : ℕ} → k ≡ 0 → i + span k (drop i w) ≡ all → i ≡ all
+  pub span_done : {k all : ℕ} → k ≡ 0 → i + span k (drop i w) ≡ all → i ≡ all
   unfolding span
-  span-done {k} {all} n e = let none : span k (drop i w) ≡ 0 = ap (λ (m : ℕ). span m (drop i w)) n in omega arith
+  span_done {k} {all} n e = let none : span k (drop i w) ≡ 0 = ap (λ (m : ℕ). span m (drop i w)) n in omega arith
 
 -- ---- One number
 
@@ -176,11 +176,11 @@ module _ (nodes number : ℕ) {before : Bool} where
   across-before e = sym (ap (λ (t : Bool). across nodes t number) e)
 
   module _ (behind : before ≡ false) where
-    side-is : across nodes before number ≡ leb 1 number && leb number nodes
-    side-is = ap (λ (t : Bool). across nodes t number) behind
+    side_is : across nodes before number ≡ leb 1 number && leb number nodes
+    side_is = ap (λ (t : Bool). across nodes t number) behind
 
-    pub across-some : 1 ≤ number → leb number nodes ≡ across nodes before number
-    across-some h = sym (side-is ∙ ap (λ (t : Bool). t && leb number nodes) (le-leb 1 number h))
+    pub across_some : 1 ≤ number → leb number nodes ≡ across nodes before number
+    across_some h = sym (side_is ∙ ap (λ (t : Bool). t && leb number nodes) (le-leb 1 number h))
 
-    pub across-none : number < 1 → leb 1 number ≡ across nodes before number
-    across-none h = lt-leb 1 number h ∙ sym (side-is ∙ ap (λ (t : Bool). t && leb number nodes) (lt-leb 1 number h))
+    pub across_none : number < 1 → leb 1 number ≡ across nodes before number
+    across_none h = lt-leb 1 number h ∙ sym (side_is ∙ ap (λ (t : Bool). t && leb number nodes) (lt-leb 1 number h))

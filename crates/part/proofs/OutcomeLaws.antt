@@ -9,20 +9,20 @@ use lib.Seq.{take_all}
 use lib.Dec.{leb}
 use borrow.Author.Tests.{eq-eqb, ne_eqb, lt-ltb, le-ltb, lt-leb, le-leb}
 use Rattle.outcomes.specs.Outcome.{accepted, refused, Reason, unless}
-use Rattle.outcomes.proofs.Outcomes.{accepted≢refused, unless-stop, unless-pass, unless-none}
-use Rattle.outcomes.proofs.Parts.{good-goes-on, bad-stands}
+use Rattle.outcomes.proofs.Outcomes.{accepted≢refused, unless_stop, unless_pass, unless_none}
+use Rattle.outcomes.proofs.Parts.{good_goes_on, bad_stands}
 use Rattle.figures.specs.Figures.{at}
 use Rattle.rooms.specs.Part.{Step, good, bad}
 use Rattle.rooms.specs.Table.{Room, most_words}
 use Rattle.rooms.specs.Limits.{checked}
 use Rattle.rooms.specs.Rows.{OfRoom}
 use Rattle.rooms.specs.declared.SheetRefusal.{SheetRefusal}
-use Rattle.rooms.proofs.Reach.{prefix-decides, length-small}
+use Rattle.rooms.proofs.Reach.{prefix_decides, length_small}
 use Rattle.join.specs.Huts.{examined, HutOf}
 use Rattle.join.specs.declared.Hut.{Hut}
 use Rattle.join.specs.declared.Examined.{Examined}
 use Rattle.join.specs.declared.Examined.TheVariants as examineds
-use Rattle.join.proofs.HutLaws.{bad-examined}
+use Rattle.join.proofs.HutLaws.{bad_examined}
 use Rattle.part.specs.Crossing.{crossing}
 use Rattle.part.specs.Outcome.{Parts, PartOutcome, parts_of, reasons, part_room, parting}
 use Rattle.part.specs.Sides.{side_before, side_behind, behind_of, side_table, SideFits, side_words, first_across, Halved, Admits}
@@ -31,7 +31,7 @@ use Rattle.part.specs.declared.Admitted.{Admitted}
 use Rattle.part.specs.declared.Admitted.TheVariants as answers
 use Rattle.part.specs.declared.PartRefusal.{PartRefusal}
 use Rattle.part.specs.declared.PartRefusal.TheVariants.{Table, NodesOutOfRange, ServersOutOfRange, LinkAcross, FirstTooShort, SecondTooShort}
-use Rattle.part.proofs.SideLaws.{side-length, middle-at, table_before, table-behind, before-fits, behind-fits, before_small, behind-small, across-is}
+use Rattle.part.proofs.SideLaws.{side_length, middle_at, table_before, table_behind, before_fits, behind_fits, before_small, behind_small, across_is}
 
 -- ---- The reasons, one after the other
 
@@ -39,12 +39,12 @@ module _ (w : List ℕ) (n s first second : ℕ) where
   abbrev outcome : PartOutcome
   outcome = parting w n s first second
 
-  pub table-bad : {q : SheetRefusal} → checked w 0 ≡ bad q → outcome ≡ refused (Table q)
+  pub table_bad : {q : SheetRefusal} → checked w 0 ≡ bad q → outcome ≡ refused (Table q)
   unfolding parting
-  table-bad e = bad-stands Table (λ r. part_room (at w 0) r n s first second) e
+  table_bad e = bad_stands Table (λ r. part_room (at w 0) r n s first second) e
 
-  pub table-refused : {k : Examined} {q : SheetRefusal} → k ≡ examined w → k ≡ examineds.Refused q → outcome ≡ refused (Table q)
-  table-refused d e = table-bad (bad-examined w d e)
+  pub table_refused : {k : Examined} {q : SheetRefusal} → k ≡ examined w → k ≡ examineds.Refused q → outcome ≡ refused (Table q)
+  table_refused d e = table_bad (bad_examined w d e)
 
   module _ {hut : Hut} (a : HutOf w hut) where
     abbrev parts : Parts
@@ -53,68 +53,68 @@ module _ (w : List ℕ) (n s first second : ℕ) where
     abbrev why : List (Reason PartRefusal)
     why = reasons (at w 0) a.room n s first second
 
-    pub table-good : outcome ≡ unless why parts
+    pub table_good : outcome ≡ unless why parts
     unfolding parting part_room
-    table-good = good-goes-on Table (λ r. part_room (at w 0) r n s first second) a.good-table
+    table_good = good_goes_on Table (λ r. part_room (at w 0) r n s first second) a.good_table
 
-    nodes-are : hut.nodes ≡ length a.room.nodes
-    nodes-are = ap (λ (x : Hut). x.nodes) a.is
+    nodes_are : hut.nodes ≡ length a.room.nodes
+    nodes_are = ap (λ (x : Hut). x.nodes) a.is
 
-    servers-are : hut.servers ≡ length a.room.servers
-    servers-are = ap (λ (x : Hut). x.servers) a.is
+    servers_are : hut.servers ≡ length a.room.servers
+    servers_are = ap (λ (x : Hut). x.servers) a.is
 
-    pub no-nodes : n ≡ 0 → outcome ≡ refused NodesOutOfRange
-    no-nodes h = table-good ∙ unless-stop _ _ parts (ap (λ (t : Bool). not (t && leb n (length a.room.nodes - 1))) (lt-leb 1 n (omega arith)))
+    pub no_nodes : n ≡ 0 → outcome ≡ refused NodesOutOfRange
+    no_nodes h = table_good ∙ unless_stop _ _ parts (ap (λ (t : Bool). not (t && leb n (length a.room.nodes - 1))) (lt-leb 1 n (omega arith)))
 
     pub many-nodes : 1 ≤ n → hut.nodes ≤ n → outcome ≡ refused NodesOutOfRange
     many-nodes some h =
-        table-good ∙ unless-stop _ _ parts (ap₂ (λ (t u : Bool). not (t && u)) (le-leb 1 n some) (lt-leb n (length a.room.nodes - 1) (omega (arith, nodes-are))))
+        table_good ∙ unless_stop _ _ parts (ap₂ (λ (t u : Bool). not (t && u)) (le-leb 1 n some) (lt-leb n (length a.room.nodes - 1) (omega (arith, nodes_are))))
 
     module _ (some : 1 ≤ n) (few : n < hut.nodes) where
-      pass-nodes : outcome ≡ unless (drop 1 why) parts
-      pass-nodes =
-          table-good ∙ unless-pass _ _ parts (ap₂ (λ (t u : Bool). not (t && u)) (le-leb 1 n some) (le-leb n (length a.room.nodes - 1) (omega (arith, nodes-are))))
+      pass_nodes : outcome ≡ unless (drop 1 why) parts
+      pass_nodes =
+          table_good ∙ unless_pass _ _ parts (ap₂ (λ (t u : Bool). not (t && u)) (le-leb 1 n some) (le-leb n (length a.room.nodes - 1) (omega (arith, nodes_are))))
 
       pub many-servers : hut.servers < s → outcome ≡ refused ServersOutOfRange
-      many-servers h = pass-nodes ∙ unless-stop _ _ parts (lt-ltb (length a.room.servers) s (omega (arith, servers-are)))
+      many-servers h = pass_nodes ∙ unless_stop _ _ parts (lt-ltb (length a.room.servers) s (omega (arith, servers_are)))
 
       module _ (few_servers : s ≤ hut.servers) where
-        pass-servers : outcome ≡ unless (drop 2 why) parts
-        pass-servers = pass-nodes ∙ unless-pass _ _ parts (le-ltb (length a.room.servers) s (omega (arith, servers-are)))
+        pass_servers : outcome ≡ unless (drop 2 why) parts
+        pass_servers = pass_nodes ∙ unless_pass _ _ parts (le-ltb (length a.room.servers) s (omega (arith, servers_are)))
 
         module _ {index : ℕ} (is : index ≡ crossing (at w 0) n s a.room) where
-          pub link-across : (index ≡ 0 → ⊥) → outcome ≡ refused (LinkAcross index)
-          link-across some =
-              pass-servers ∙ unless-stop _ _ parts (ap not (ne_eqb (crossing (at w 0) n s a.room) 0 (λ e. some (is ∙ e)))) ∙ ap (λ (k : ℕ). refused (LinkAcross k)) (sym is)
+          pub link_across : (index ≡ 0 → ⊥) → outcome ≡ refused (LinkAcross index)
+          link_across some =
+              pass_servers ∙ unless_stop _ _ parts (ap not (ne_eqb (crossing (at w 0) n s a.room) 0 (λ e. some (is ∙ e)))) ∙ ap (λ (k : ℕ). refused (LinkAcross k)) (sym is)
 
           module _ (none : index ≡ 0) where
-            pass-links : outcome ≡ unless (drop 3 why) parts
-            pass-links = pass-servers ∙ unless-pass _ _ parts (ap not (eq-eqb (crossing (at w 0) n s a.room) 0 (sym is ∙ none)))
+            pass_links : outcome ≡ unless (drop 3 why) parts
+            pass_links = pass_servers ∙ unless_pass _ _ parts (ap not (eq-eqb (crossing (at w 0) n s a.room) 0 (sym is ∙ none)))
 
             module _ {before : ℕ} (long : before ≡ length parts.first) where
               pub first_short : first < before → outcome ≡ refused (FirstTooShort before)
-              first_short h = pass-links ∙ unless-stop _ _ parts (lt-ltb first (length parts.first) (omega arith)) ∙ ap (λ (k : ℕ). refused (FirstTooShort k)) (sym long)
+              first_short h = pass_links ∙ unless_stop _ _ parts (lt-ltb first (length parts.first) (omega arith)) ∙ ap (λ (k : ℕ). refused (FirstTooShort k)) (sym long)
 
               module _ (fits : before ≤ first) where
-                pass-first : outcome ≡ unless (drop 4 why) parts
-                pass-first = pass-links ∙ unless-pass _ _ parts (le-ltb first (length parts.first) (omega arith))
+                pass_first : outcome ≡ unless (drop 4 why) parts
+                pass_first = pass_links ∙ unless_pass _ _ parts (le-ltb first (length parts.first) (omega arith))
 
                 module _ {behind : ℕ} (more : behind ≡ length parts.second) where
                   pub second_short : second < behind → outcome ≡ refused (SecondTooShort behind)
-                  second_short h = pass-first ∙ unless-stop _ _ parts (lt-ltb second (length parts.second) (omega arith)) ∙ ap (λ (k : ℕ). refused (SecondTooShort k)) (sym more)
+                  second_short h = pass_first ∙ unless_stop _ _ parts (lt-ltb second (length parts.second) (omega arith)) ∙ ap (λ (k : ℕ). refused (SecondTooShort k)) (sym more)
 
-                  pub both-fit : behind ≤ second → outcome ≡ accepted parts
-                  both-fit h = pass-first ∙ unless-pass _ _ parts (le-ltb second (length parts.second) (omega arith)) ∙ unless-none parts
+                  pub both_fit : behind ≤ second → outcome ≡ accepted parts
+                  both_fit h = pass_first ∙ unless_pass _ _ parts (le-ltb second (length parts.second) (omega arith)) ∙ unless_none parts
 
 -- ---- Both sides
 
 -- What the count of a side's words wants.
-pub words-fit : (w : List ℕ) {side : Side} → SideFits w side → (side.top ≤ side.bottom) × (side.start ≤ side.end) × (side.bottom < 4294967296) × (side.end < 4294967296)
-words-fit w fits =
-    (fits.node_words-there.0, fits.server_words-there.0, omega (arith, fits.node_words-there.1, fits.long), omega (arith, fits.server_words-there.1, fits.long))
+pub words_fit : (w : List ℕ) {side : Side} → SideFits w side → (side.top ≤ side.bottom) × (side.start ≤ side.end) × (side.bottom < 4294967296) × (side.end < 4294967296)
+words_fit w fits =
+    (fits.node_words_there.0, fits.server_words_there.0, omega (arith, fits.node_words_there.1, fits.long), omega (arith, fits.server_words_there.1, fits.long))
 
 module _ {w : List ℕ} {hut : Hut} (a : HutOf w hut) {n s : ℕ} (some : 1 ≤ n) (few : n < hut.nodes) (few_servers : s ≤ hut.servers)
-    {one : Side} (one-is : OfRoom w (λ room. one ≡ side_before (at w 0) n s room)) where
+    {one : Side} (one_is : OfRoom w (λ room. one ≡ side_before (at w 0) n s room)) where
   abbrev r : Room
   r = a.room
 
@@ -124,21 +124,21 @@ module _ {w : List ℕ} {hut : Hut} (a : HutOf w hut) {n s : ℕ} (some : 1 ≤ 
   within : s ≤ length r.servers
   within = omega (arith, ap (λ (x : Hut). x.servers) a.is)
 
-  before-is : one ≡ side_before (at w 0) n s r
-  before-is = one-is r a.end a.good-table
+  before_is : one ≡ side_before (at w 0) n s r
+  before_is = one_is r a.end a.good_table
 
-  pub one-within : (one.nodes ≤ hut.nodes) × (one.servers ≤ hut.servers) × (one.nodes < 4294967296)
-  one-within =
-      let nodes = ap (λ (x : Side). x.nodes) before-is in
-      let servers = ap (λ (x : Side). x.servers) before-is in
-      (omega arith, omega arith, omega (arith, (before-fits w r a.end a.good-table n s fewer within).nodes))
+  pub one_within : (one.nodes ≤ hut.nodes) × (one.servers ≤ hut.servers) × (one.nodes < 4294967296)
+  one_within =
+      let nodes = ap (λ (x : Side). x.nodes) before_is in
+      let servers = ap (λ (x : Side). x.servers) before_is in
+      (omega arith, omega arith, omega (arith, (before_fits w r a.end a.good_table n s fewer within).nodes))
 
-  pub one-fits : SideFits w one
-  one-fits = subst (SideFits w) (sym before-is) (before-fits w r a.end a.good-table n s fewer within)
+  pub one_fits : SideFits w one
+  one_fits = subst (SideFits w) (sym before_is) (before_fits w r a.end a.good_table n s fewer within)
 
   module _ {two : Side} (two_is : two ≡ behind_of hut one) where
-    behind-is : two ≡ side_behind (length w) (at w 0) n s r
-    behind-is = two_is ∙ ap₂ behind_of a.is before-is
+    behind_is : two ≡ side_behind (length w) (at w 0) n s r
+    behind_is = two_is ∙ ap₂ behind_of a.is before_is
         ∙ ap (λ (m : ℕ). record {
           version = at w 0;
           nodes = length r.nodes - n;
@@ -148,46 +148,46 @@ module _ {w : List ℕ} {hut : Hut} (a : HutOf w hut) {n s : ℕ} (some : 1 ≤ 
           start = (side_before (at w 0) n s r).end;
           end = length w;
           down = n;
-        }) (middle-at w r a.end a.good-table)
+        }) (middle_at w r a.end a.good_table)
 
     pub two_fits : SideFits w two
-    two_fits = subst (SideFits w) (sym behind-is) (behind-fits w r a.end a.good-table n s fewer within)
+    two_fits = subst (SideFits w) (sym behind_is) (behind_fits w r a.end a.good_table n s fewer within)
 
     pub crossing_is : {index : ℕ} → index ≡ first_across one two w → index ≡ crossing (at w 0) n s r
-    crossing_is e = e ∙ ap₂ (λ (x y : Side). first_across x y w) before-is behind-is ∙ across-is w r a.end a.good-table n s fewer within
+    crossing_is e = e ∙ ap₂ (λ (x y : Side). first_across x y w) before_is behind_is ∙ across_is w r a.end a.good_table n s fewer within
 
-    first-table : side_table one w ≡ (parts_of (at w 0) n s r).first
-    first-table = ap (λ (x : Side). side_table x w) before-is ∙ table_before w r a.end a.good-table n s fewer within
+    first_table : side_table one w ≡ (parts_of (at w 0) n s r).first
+    first_table = ap (λ (x : Side). side_table x w) before_is ∙ table_before w r a.end a.good_table n s fewer within
 
-    second-table : side_table two w ≡ (parts_of (at w 0) n s r).second
-    second-table = ap (λ (x : Side). side_table x w) behind-is ∙ table-behind w r a.end a.good-table n s fewer within
+    second_table : side_table two w ≡ (parts_of (at w 0) n s r).second
+    second_table = ap (λ (x : Side). side_table x w) behind_is ∙ table_behind w r a.end a.good_table n s fewer within
 
-    pub first-long : {k : ℕ} → k ≡ side_words one → k ≡ length (parts_of (at w 0) n s r).first
-    first-long e = e ∙ sym (side-length w one one-fits) ∙ ap length first-table
+    pub first_long : {k : ℕ} → k ≡ side_words one → k ≡ length (parts_of (at w 0) n s r).first
+    first_long e = e ∙ sym (side_length w one one_fits) ∙ ap length first_table
 
-    pub second-long : {k : ℕ} → k ≡ side_words two → k ≡ length (parts_of (at w 0) n s r).second
-    second-long e = e ∙ sym (side-length w two two_fits) ∙ ap length second-table
+    pub second_long : {k : ℕ} → k ≡ side_words two → k ≡ length (parts_of (at w 0) n s r).second
+    second_long e = e ∙ sym (side_length w two two_fits) ∙ ap length second_table
 
     -- A cut that passes every check.
     pub halved : (first second : ℕ) {index before behind : ℕ} → index ≡ first_across one two w → index ≡ 0 → before ≡ side_words one → before ≤ first
         → behind ≡ side_words two → behind ≤ second → Halved w (parting w n s first second) first second one two
     halved first second is none b fits c more = record {
-      is = both-fit w n s first second a some few few_servers (crossing_is is) none (first-long b) fits (second-long c) more
-          ∙ (λ i. accepted (record { first = sym first-table i; second = sym second-table i }));
-      first_fits = one-fits;
+      is = both_fit w n s first second a some few few_servers (crossing_is is) none (first_long b) fits (second_long c) more
+          ∙ (λ i. accepted (record { first = sym first_table i; second = sym second_table i }));
+      first_fits = one_fits;
       second_fits = two_fits;
-      first-space = (subst (λ (x : Side). side_words x ≤ most_words) (sym before-is) (before_small w r a.end a.good-table n s fewer within), omega arith);
-      second-space = (subst (λ (x : Side). side_words x ≤ most_words) (sym behind-is) (behind-small w r a.end a.good-table n s fewer within), omega arith);
+      first_space = (subst (λ (x : Side). side_words x ≤ most_words) (sym before_is) (before_small w r a.end a.good_table n s fewer within), omega arith);
+      second_space = (subst (λ (x : Side). side_words x ≤ most_words) (sym behind_is) (behind_small w r a.end a.good_table n s fewer within), omega arith);
     }
 
 -- ---- The first words of a longer list decide
 
-pub admits-cut : (k : ℕ) (w : List ℕ) (n s first second : ℕ) → suc most_words ≤ k → (a : Admitted)
+pub admits_cut : (k : ℕ) (w : List ℕ) (n s first second : ℕ) → suc most_words ≤ k → (a : Admitted)
     → Admits (take k w) (parting (take k w) n s first second) first second a → Admits w (parting w n s first second) first second a
-admits-cut k w n s first second h a = go (checked w 0) refl a
+admits_cut k w n s first second h a = go (checked w 0) refl a
   where
     go : (t : Step Room) → checked w 0 ≡ t → (a : Admitted)
         → Admits (take k w) (parting (take k w) n s first second) first second a → Admits w (parting w n s first second) first second a
-    go (good r end) e a = subst (λ (l : List ℕ). Admits l (parting l n s first second) first second a) (take_all k w (omega (arith, length-small w r end e)))
-    go (bad q) e (answers.Good one two) = λ d. absurd (accepted≢refused (sym d.is ∙ table-bad (take k w) n s first second (prefix-decides w k h ∙ e)))
-    go (bad q) e (answers.Refused p) = λ d. table-bad w n s first second e ∙ sym (table-bad (take k w) n s first second (prefix-decides w k h ∙ e)) ∙ d
+    go (good r end) e a = subst (λ (l : List ℕ). Admits l (parting l n s first second) first second a) (take_all k w (omega (arith, length_small w r end e)))
+    go (bad q) e (answers.Good one two) = λ d. absurd (accepted≢refused (sym d.is ∙ table_bad (take k w) n s first second (prefix_decides w k h ∙ e)))
+    go (bad q) e (answers.Refused p) = λ d. table_bad w n s first second e ∙ sym (table_bad (take k w) n s first second (prefix_decides w k h ∙ e)) ∙ d

@@ -13,10 +13,10 @@ use Rattle.rooms.specs.Limits.{checked}
 use Rattle.rooms.specs.Words.{row_words, words_of_node, words_of_cord, words_of_server, table_of}
 use Rattle.rooms.specs.Walk.{servers_index}
 use Rattle.rooms.proofs.Accepted as rooms
-use Rattle.rooms.proofs.Reach.{length-small, words_small}
+use Rattle.rooms.proofs.Reach.{length_small, words_small}
 use Rattle.join.specs.Pieces.{renumbered, renumbered_every, renumbered_cords, piece}
-use Rattle.join.proofs.TableWords.{row-append, nodes-length, middle-is, length-are, nodes-piece, servers-piece, behind-middle, moved_node, moved_cord, moved_server, nodes-moved, servers-moved}
-use Rattle.join.proofs.PieceLaws.{every-length, cords-length, piece-length}
+use Rattle.join.proofs.TableWords.{row_append, nodes-length, middle_is, length_are, nodes-piece, servers-piece, behind_middle, moved_node, moved_cord, moved_server, nodes-moved, servers-moved}
+use Rattle.join.proofs.PieceLaws.{every_length, cords-length, piece-length}
 use Rattle.part.specs.Parted.{front, back}
 use Rattle.part.specs.Crossing.{across, or_else, parent_across, cord_across, server_across, nodes_behind, servers_start, servers_behind, crossing}
 use Rattle.part.specs.Sides.{every_across, cords_across, span, side_before, side_behind, side_table, SideFits, side_words, first_across}
@@ -36,13 +36,13 @@ module _ (w : List ℕ) (x y m : ℕ) (a b : List ℕ) (is : piece x y w ≡ a +
 
 -- ---- The words of servers
 
-cords-words : (l : List Cord) → length (row_words words_of_cord l) ≡ 2 * length l
+cords_words : (l : List Cord) → length (row_words words_of_cord l) ≡ 2 * length l
 unfolding row_words
-cords-words [] = refl
-cords-words (c ∷ l) = omega (arith, cords-words l)
+cords_words [] = refl
+cords_words (c ∷ l) = omega (arith, cords_words l)
 
 server-words : (s : Server) → length (words_of_server s) ≡ 4 + 2 * cord_count s
-server-words s = omega (arith, cords-words s.cords)
+server-words s = omega (arith, cords_words s.cords)
 
 span_none : (k : ℕ) → span k [] ≡ 0
 unfolding span
@@ -64,16 +64,16 @@ span-servers (suc k) (s ∷ l) =
 
 -- ---- Links across, by rows and by words
 
-parents-are : (n k : ℕ) (p : Bool) (l : List Node) → every_across n (node_words p - 1) 0 k (row_words (words_of_node p) l) ≡ parent_across n (node_words p) k l
+parents_are : (n k : ℕ) (p : Bool) (l : List Node) → every_across n (node_words p - 1) 0 k (row_words (words_of_node p) l) ≡ parent_across n (node_words p) k l
 unfolding row_words every_across parent_across
-parents-are n k true [] = refl
-parents-are n k false [] = refl
-parents-are n k true (x ∷ l) =
+parents_are n k true [] = refl
+parents_are n k false [] = refl
+parents_are n k true (x ∷ l) =
     ap (cond (across n false x.parent) k)
-    (ap (λ (i : ℕ). every_across n 2 0 i (row_words (words_of_node true) l)) (let q : k + 1 + 1 + 1 ≡ k + 3 = omega arith in q) ∙ parents-are n (k + 3) true l)
-parents-are n k false (x ∷ l) =
+    (ap (λ (i : ℕ). every_across n 2 0 i (row_words (words_of_node true) l)) (let q : k + 1 + 1 + 1 ≡ k + 3 = omega arith in q) ∙ parents_are n (k + 3) true l)
+parents_are n k false (x ∷ l) =
     ap (cond (across n false x.parent) k)
-    (ap (λ (i : ℕ). every_across n 1 0 i (row_words (words_of_node false) l)) (let q : k + 1 + 1 ≡ k + 2 = omega arith in q) ∙ parents-are n (k + 2) false l)
+    (ap (λ (i : ℕ). every_across n 1 0 i (row_words (words_of_node false) l)) (let q : k + 1 + 1 ≡ k + 2 = omega arith in q) ∙ parents_are n (k + 2) false l)
 
 -- An index that is not 0 stands.
 or-else : (t : Bool) (k a b c : ℕ) → 1 ≤ k → a ≡ or_else b c → cond t k a ≡ or_else (cond t k b) c
@@ -82,38 +82,38 @@ or-else true (suc k) a b c h e = refl
 or-else false k a b c h e = e
 
 module _ (n : ℕ) (before : Bool) where
-  cords-are : (l : List Cord) (rest : List ℕ) (k : ℕ) → 1 ≤ k
+  cords_are : (l : List Cord) (rest : List ℕ) (k : ℕ) → 1 ≤ k
       → cords_across n before (length l) k (row_words words_of_cord l ++ rest) ≡ or_else (cord_across n before k l) (cords_across n before 0 (k + 2 * length l) rest)
   unfolding row_words cords_across cord_across
-  cords-are [] rest k h = ap (λ (i : ℕ). cords_across n before 0 i rest) (let q : k ≡ k + 2 * 0 = omega arith in q)
-  cords-are (c ∷ l) rest k h =
+  cords_are [] rest k h = ap (λ (i : ℕ). cords_across n before 0 i rest) (let q : k ≡ k + 2 * 0 = omega arith in q)
+  cords_are (c ∷ l) rest k h =
       or-else (across n before c.node) k _ _ _ h
-      (cords-are l rest (k + 2) (omega arith)
+      (cords_are l rest (k + 2) (omega arith)
       ∙ ap (λ (i : ℕ). or_else (cord_across n before (k + 2) l) (cords_across n before 0 i rest)) (let q : k + 2 + 2 * length l ≡ k + 2 * suc (length l) = omega arith in q))
 
-  servers-are : (l : List Server) (k : ℕ) → 1 ≤ k → cords_across n before 0 k (row_words words_of_server l) ≡ server_across n before k l
+  servers_are : (l : List Server) (k : ℕ) → 1 ≤ k → cords_across n before 0 k (row_words words_of_server l) ≡ server_across n before k l
   unfolding row_words cords_across server_across
-  servers-are [] k h = refl
-  servers-are (s ∷ l) k h =
-      cords-are s.cords (row_words words_of_server l) (k + 4) (omega arith)
+  servers_are [] k h = refl
+  servers_are (s ∷ l) k h =
+      cords_are s.cords (row_words words_of_server l) (k + 4) (omega arith)
       ∙ ap (or_else (cord_across n before (k + 4) s.cords))
       (ap (λ (i : ℕ). cords_across n before 0 i (row_words words_of_server l)) (let q : k + 4 + 2 * cord_count s ≡ k + length (words_of_server s) = omega (arith, server-words s) in q)
-      ∙ servers-are l (k + length (words_of_server s)) (omega arith))
+      ∙ servers_are l (k + length (words_of_server s)) (omega arith))
 
 -- ---- How long a side's table is
 
-pub side-length : (w : List ℕ) (side : Side) → SideFits w side → length (side_table side w) ≡ side_words side
-side-length w side fits =
+pub side_length : (w : List ℕ) (side : Side) → SideFits w side → length (side_table side w) ≡ side_words side
+side_length w side fits =
     let gap = node_words (form_of side.version).percents - 1 in
     let nodes = piece side.top side.bottom w in
     let servers = piece side.start side.end w in
     omega (
       arith,
       length-append (renumbered_every gap 0 side.down 0 nodes) (side.servers ∷ renumbered_cords 0 side.down 0 servers),
-      every-length gap 0 side.down 0 nodes,
+      every_length gap 0 side.down 0 nodes,
       cords-length 0 side.down 0 servers,
-      piece-length w side.top side.bottom fits.node_words-there.1,
-      piece-length w side.start side.end fits.server_words-there.1,
+      piece-length w side.top side.bottom fits.node_words_there.1,
+      piece-length w side.start side.end fits.server_words_there.1,
     )
 
 -- ---- A cut of a good table
@@ -127,13 +127,13 @@ lowers n zero = omega arith
 lowers n (suc m) = omega arith
 
 module _ (w : List ℕ) (r : Room) (end : ℕ) (e : checked w 0 ≡ good r end) where
-  pub middle-at : servers_index w ≡ nodes_behind (at w 0) (length r.nodes)
-  middle-at = middle-is w r end e ∙ ap (λ (k : ℕ). 2 + k) (nodes-length (form_of (at w 0)).percents r.nodes)
+  pub middle_at : servers_index w ≡ nodes_behind (at w 0) (length r.nodes)
+  middle_at = middle_is w r end e ∙ ap (λ (k : ℕ). 2 + k) (nodes-length (form_of (at w 0)).percents r.nodes)
 
   -- Where so many servers end.
   pub servers-end-at : (s : ℕ) → servers_start (at w 0) r + span s (drop (servers_start (at w 0) r) w) ≡ servers_behind (at w 0) s r
   servers-end-at s = ap (λ (k : ℕ). servers_start (at w 0) r + k)
-      (ap (span s) (ap (λ (k : ℕ). drop (k + 1) w) (sym middle-at) ∙ behind-middle w r end e) ∙ span-servers s r.servers)
+      (ap (span s) (ap (λ (k : ℕ). drop (k + 1) w) (sym middle_at) ∙ behind_middle w r end e) ∙ span-servers s r.servers)
 
 module _ (w : List ℕ) (r : Room) (end : ℕ) (e : checked w 0 ≡ good r end) (n s : ℕ) (few : n ≤ length r.nodes) (few_servers : s ≤ length r.servers) where
   abbrev version : ℕ
@@ -155,10 +155,10 @@ module _ (w : List ℕ) (r : Room) (end : ℕ) (e : checked w 0 ≡ good r end) 
   servers_two = row_words words_of_server (drop s r.servers)
 
   nodes-split : row_words (words_of_node percents) r.nodes ≡ nodes_one ++ nodes_two
-  nodes-split = ap (row_words (words_of_node percents)) (sym (take-append-drop n r.nodes)) ∙ row-append (words_of_node percents) (take n r.nodes) (drop n r.nodes)
+  nodes-split = ap (row_words (words_of_node percents)) (sym (take-append-drop n r.nodes)) ∙ row_append (words_of_node percents) (take n r.nodes) (drop n r.nodes)
 
   servers-split : row_words words_of_server r.servers ≡ servers_one ++ servers_two
-  servers-split = ap (row_words words_of_server) (sym (take-append-drop s r.servers)) ∙ row-append words_of_server (take s r.servers) (drop s r.servers)
+  servers-split = ap (row_words words_of_server) (sym (take-append-drop s r.servers)) ∙ row_append words_of_server (take s r.servers) (drop s r.servers)
 
   nodes-before : length (take n r.nodes) ≡ n
   nodes-before = length-take-le n r.nodes few
@@ -172,34 +172,34 @@ module _ (w : List ℕ) (r : Room) (end : ℕ) (e : checked w 0 ≡ good r end) 
   row_ends : nodes_behind version (length r.nodes) ≡ 2 + (length nodes_one + length nodes_two)
   row_ends = ap (λ (k : ℕ). 2 + k) (sym (nodes-length percents r.nodes) ∙ ap length nodes-split ∙ length-append nodes_one nodes_two)
 
-  words-length : length w ≡ 3 + (length nodes_one + length nodes_two) + (length servers_one + length servers_two)
-  words-length = length-are w r end e
+  words_length : length w ≡ 3 + (length nodes_one + length nodes_two) + (length servers_one + length servers_two)
+  words_length = length_are w r end e
       ∙ ap₂ (λ (x y : ℕ). 3 + x + y) (ap length nodes-split ∙ length-append nodes_one nodes_two) (ap length servers-split ∙ length-append servers_one servers_two)
 
   -- ---- The pieces
 
-  all-nodes : piece 2 (nodes_behind version (length r.nodes)) w ≡ nodes_one ++ nodes_two
-  all-nodes = ap (λ (k : ℕ). piece 2 k w) (sym (middle-at w r end e)) ∙ nodes-piece w r end e ∙ nodes-split
+  all_nodes : piece 2 (nodes_behind version (length r.nodes)) w ≡ nodes_one ++ nodes_two
+  all_nodes = ap (λ (k : ℕ). piece 2 k w) (sym (middle_at w r end e)) ∙ nodes-piece w r end e ∙ nodes-split
 
-  all-servers : piece (servers_start version r) (length w) w ≡ servers_one ++ servers_two
-  all-servers = ap (λ (k : ℕ). piece (k + 1) (length w) w) (sym (middle-at w r end e)) ∙ servers-piece w r end e ∙ servers-split
+  all_servers : piece (servers_start version r) (length w) w ≡ servers_one ++ servers_two
+  all_servers = ap (λ (k : ℕ). piece (k + 1) (length w) w) (sym (middle_at w r end e)) ∙ servers-piece w r end e ∙ servers-split
 
-  piece-nodes-one : piece 2 (nodes_behind version n) w ≡ nodes_one
-  piece-nodes-one = piece-front w 2 (nodes_behind version (length r.nodes)) (nodes_behind version n) nodes_one nodes_two all-nodes seam (omega (arith, seam, row_ends))
+  piece-nodes_one : piece 2 (nodes_behind version n) w ≡ nodes_one
+  piece-nodes_one = piece-front w 2 (nodes_behind version (length r.nodes)) (nodes_behind version n) nodes_one nodes_two all_nodes seam (omega (arith, seam, row_ends))
 
-  piece-nodes-two : piece (nodes_behind version n) (nodes_behind version (length r.nodes)) w ≡ nodes_two
-  piece-nodes-two = piece_back w 2 (nodes_behind version (length r.nodes)) (nodes_behind version n) nodes_one nodes_two all-nodes seam
+  piece-nodes_two : piece (nodes_behind version n) (nodes_behind version (length r.nodes)) w ≡ nodes_two
+  piece-nodes_two = piece_back w 2 (nodes_behind version (length r.nodes)) (nodes_behind version n) nodes_one nodes_two all_nodes seam
 
-  piece-servers-one : piece (servers_start version r) (servers_behind version s r) w ≡ servers_one
-  piece-servers-one = piece-front w (servers_start version r) (length w) (servers_behind version s r) servers_one servers_two all-servers refl (omega (arith, row_ends, words-length))
+  piece-servers_one : piece (servers_start version r) (servers_behind version s r) w ≡ servers_one
+  piece-servers_one = piece-front w (servers_start version r) (length w) (servers_behind version s r) servers_one servers_two all_servers refl (omega (arith, row_ends, words_length))
 
-  piece-servers-two : piece (servers_behind version s r) (length w) w ≡ servers_two
-  piece-servers-two = piece_back w (servers_start version r) (length w) (servers_behind version s r) servers_one servers_two all-servers refl
+  piece-servers_two : piece (servers_behind version s r) (length w) w ≡ servers_two
+  piece-servers_two = piece_back w (servers_start version r) (length w) (servers_behind version s r) servers_one servers_two all_servers refl
 
   -- ---- Their tables
 
-  nodes-stay : renumbered_every (node_words percents - 1) 0 0 0 nodes_one ≡ nodes_one
-  nodes-stay = sym (nodes-moved 0 0 (λ x. x) stays percents (take n r.nodes))
+  nodes_stay : renumbered_every (node_words percents - 1) 0 0 0 nodes_one ≡ nodes_one
+  nodes_stay = sym (nodes-moved 0 0 (λ x. x) stays percents (take n r.nodes))
       ∙ ap (row_words (words_of_node percents)) (map_same (moved_node 0 0 (λ x. x) stays) (λ _. refl) (take n r.nodes))
 
   same-server : (x : Server) → moved_server 0 0 (λ v. v) stays x ≡ x
@@ -210,16 +210,16 @@ module _ (w : List ℕ) (r : Room) (end : ℕ) (e : checked w 0 ≡ good r end) 
     cords = map_same (moved_cord 0 0 (λ v. v) stays) (λ _. refl) x.cords i;
   }
 
-  servers-stay : renumbered_cords 0 0 0 servers_one ≡ servers_one
-  servers-stay = sym (servers-moved 0 0 (λ x. x) stays (take s r.servers))
+  servers_stay : renumbered_cords 0 0 0 servers_one ≡ servers_one
+  servers_stay = sym (servers-moved 0 0 (λ x. x) stays (take s r.servers))
       ∙ ap (row_words words_of_server) (map_same (moved_server 0 0 (λ x. x) stays) same-server (take s r.servers))
 
   -- The table of the side before the cut is that of the first part.
   pub table_before : side_table (side_before version n s r) w ≡ table_of version (front n s r)
   table_before =
       ap₂ (λ (k : ℕ) (z : List ℕ). version ∷ k ∷ z) (sym nodes-before)
-      (ap₂ (λ (x y : List ℕ). x ++ y) (ap (renumbered_every (node_words percents - 1) 0 0 0) piece-nodes-one ∙ nodes-stay)
-      (ap₂ (λ (k : ℕ) (z : List ℕ). k ∷ z) (sym servers-before) (ap (renumbered_cords 0 0 0) piece-servers-one ∙ servers-stay)))
+      (ap₂ (λ (x y : List ℕ). x ++ y) (ap (renumbered_every (node_words percents - 1) 0 0 0) piece-nodes_one ∙ nodes_stay)
+      (ap₂ (λ (k : ℕ) (z : List ℕ). k ∷ z) (sym servers-before) (ap (renumbered_cords 0 0 0) piece-servers_one ∙ servers_stay)))
 
   nodes-behind : length (back n s r).nodes ≡ length r.nodes - n
   nodes-behind = length-map (drop n r.nodes) _ ∙ length-drop n r.nodes
@@ -228,54 +228,54 @@ module _ (w : List ℕ) (r : Room) (end : ℕ) (e : checked w 0 ≡ good r end) 
   servers-behind = length-map (drop s r.servers) _ ∙ length-drop s r.servers
 
   -- And that of the side behind it that of the second.
-  pub table-behind : side_table (side_behind (length w) version n s r) w ≡ table_of version (back n s r)
-  table-behind =
+  pub table_behind : side_table (side_behind (length w) version n s r) w ≡ table_of version (back n s r)
+  table_behind =
       ap₂ (λ (k : ℕ) (z : List ℕ). version ∷ k ∷ z) (sym nodes-behind)
       (ap₂ (λ (x y : List ℕ). x ++ y)
-      (ap (renumbered_every (node_words percents - 1) 0 n 0) piece-nodes-two ∙ sym (nodes-moved 0 n (λ x. x - n) (lowers n) percents (drop n r.nodes)))
+      (ap (renumbered_every (node_words percents - 1) 0 n 0) piece-nodes_two ∙ sym (nodes-moved 0 n (λ x. x - n) (lowers n) percents (drop n r.nodes)))
       (ap₂ (λ (k : ℕ) (z : List ℕ). k ∷ z) (sym servers-behind)
-      (ap (renumbered_cords 0 n 0) piece-servers-two ∙ sym (servers-moved 0 n (λ x. x - n) (lowers n) (drop s r.servers)))))
+      (ap (renumbered_cords 0 n 0) piece-servers_two ∙ sym (servers-moved 0 n (λ x. x - n) (lowers n) (drop s r.servers)))))
 
   -- ---- Where they stand
 
-  words-below : (i : ℕ) → get_or w i 0 < 2147483648
-  words-below i = omega (arith, words_small w r end e i)
+  words_below : (i : ℕ) → get_or w i 0 < 2147483648
+  words_below i = omega (arith, words_small w r end e i)
 
-  pub before-fits : SideFits w (side_before version n s r)
-  before-fits =
+  pub before_fits : SideFits w (side_before version n s r)
+  before_fits =
       let ok = rooms.accepted w r end e in
       record {
         nodes = omega (arith, ok.few_nodes);
         servers = omega (arith, ok.few_servers);
-        node_words-there = (omega (arith, seam), omega (arith, seam, words-length));
-        server_words-there = (omega arith, omega (arith, row_ends, words-length));
-        long = omega (arith, length-small w r end e);
-        below = words-below;
+        node_words_there = (omega (arith, seam), omega (arith, seam, words_length));
+        server_words_there = (omega arith, omega (arith, row_ends, words_length));
+        long = omega (arith, length_small w r end e);
+        below = words_below;
       }
 
-  pub behind-fits : SideFits w (side_behind (length w) version n s r)
-  behind-fits =
+  pub behind_fits : SideFits w (side_behind (length w) version n s r)
+  behind_fits =
       let ok = rooms.accepted w r end e in
       record {
         nodes = omega (arith, ok.few_nodes);
         servers = omega (arith, ok.few_servers);
-        node_words-there = (omega (arith, seam, row_ends), omega (arith, row_ends, words-length));
-        server_words-there = (omega (arith, row_ends, words-length), omega arith);
-        long = omega (arith, length-small w r end e);
-        below = words-below;
+        node_words_there = (omega (arith, seam, row_ends), omega (arith, row_ends, words_length));
+        server_words_there = (omega (arith, row_ends, words_length), omega arith);
+        long = omega (arith, length_small w r end e);
+        below = words_below;
       }
 
   pub before_small : side_words (side_before version n s r) ≤ most_words
-  before_small = omega (arith, seam, row_ends, words-length, length-small w r end e)
+  before_small = omega (arith, seam, row_ends, words_length, length_small w r end e)
 
-  pub behind-small : side_words (side_behind (length w) version n s r) ≤ most_words
-  behind-small = omega (arith, seam, row_ends, words-length, length-small w r end e)
+  pub behind_small : side_words (side_behind (length w) version n s r) ≤ most_words
+  behind_small = omega (arith, seam, row_ends, words_length, length_small w r end e)
 
   -- ---- Links across
 
-  pub across-is : first_across (side_before version n s r) (side_behind (length w) version n s r) w ≡ crossing version n s r
+  pub across_is : first_across (side_before version n s r) (side_behind (length w) version n s r) w ≡ crossing version n s r
   unfolding crossing
-  across-is =
-      ap₂ or_else (ap (every_across n (node_words percents - 1) 0 (nodes_behind version n)) piece-nodes-two ∙ parents-are n (nodes_behind version n) percents (drop n r.nodes))
-      (ap₂ or_else (ap (cords_across n true 0 (servers_start version r)) piece-servers-one ∙ servers-are n true (take s r.servers) (servers_start version r) (omega arith))
-      (ap (cords_across n false 0 (servers_behind version s r)) piece-servers-two ∙ servers-are n false (drop s r.servers) (servers_behind version s r) (omega arith)))
+  across_is =
+      ap₂ or_else (ap (every_across n (node_words percents - 1) 0 (nodes_behind version n)) piece-nodes_two ∙ parents_are n (nodes_behind version n) percents (drop n r.nodes))
+      (ap₂ or_else (ap (cords_across n true 0 (servers_start version r)) piece-servers_one ∙ servers_are n true (take s r.servers) (servers_start version r) (omega arith))
+      (ap (cords_across n false 0 (servers_behind version s r)) piece-servers_two ∙ servers_are n false (drop s r.servers) (servers_behind version s r) (omega arith)))

@@ -9,8 +9,8 @@ use Rattle.part.specs.Outcome.{PartOutcome, parting, part_numbers}
 
 -- Both outputs after an outcome: a part stands at the front of each; bytes past it, and all where refused, are unchanged.
 pub record PartsLeft (outcome : PartOutcome) (first second first' second' : List ℕ) (stored : Bool) : Type 0 where
-  pub first-after : Left (after (λ parts. bytes_of parts.first) outcome first) first first' stored
-  pub second-after : Left (after (λ parts. bytes_of parts.second) outcome second) second second' stored
+  pub first_after : Left (after (λ parts. bytes_of parts.first) outcome first) first first' stored
+  pub second_after : Left (after (λ parts. bytes_of parts.second) outcome second) second second' stored
 
 -- The call that comes to an outcome, with an answer of up to three numbers.
 abbrev pub OutcomeCall : PartOutcome → (first second answer : List ℕ) (r : ℕ) (first' second' answer' : List ℕ) → Type 0

@@ -1,4 +1,4 @@
--- What is promised of a room parted in two. proofs/Promises.antt proves each: `JoinedParts` as `joined-parts`, and so on.
+-- What is promised of a room parted in two. proofs/Promises.antt proves each: `JoinedParts` as `joined_parts`, and so on.
 use Rattle.std.specs.Prelude.{◌≡◌, List, ◌++◌, ℕ, ◌≤◌, ◌<◌, length, take, drop}
 use Rattle.outcomes.specs.Outcome.{accepted}
 use Rattle.figures.specs.Figures.{at}

@@ -93,8 +93,8 @@ side_table side w =
 pub record SideFits (w : List ℕ) (side : Side) : Type 0 where
   pub nodes : side.nodes < 2 ^ 32
   pub servers : side.servers < 2 ^ 32
-  pub node_words-there : (side.top ≤ side.bottom) × (side.bottom ≤ length w)
-  pub server_words-there : (side.start ≤ side.end) × (side.end ≤ length w)
+  pub node_words_there : (side.top ≤ side.bottom) × (side.bottom ≤ length w)
+  pub server_words_there : (side.start ≤ side.end) × (side.end ≤ length w)
   pub long : length w < 2 ^ 32
   pub below : AllBelow (2 ^ 31) w
 
@@ -114,8 +114,8 @@ pub record Halved (w : List ℕ) (outcome : PartOutcome) (first second : ℕ) (o
   pub is : outcome ≡ accepted (record { first = side_table one w; second = side_table two w })
   pub first_fits : SideFits w one
   pub second_fits : SideFits w two
-  pub first-space : (side_words one ≤ most_words) × (side_words one ≤ first)
-  pub second-space : (side_words two ≤ most_words) × (side_words two ≤ second)
+  pub first_space : (side_words one ≤ most_words) × (side_words one ≤ first)
+  pub second_space : (side_words two ≤ most_words) × (side_words two ≤ second)
 
 abbrev pub Admits : List ℕ → PartOutcome → (first second : ℕ) → Admitted → Type 0
 Admits w outcome first second (answers.Good one two) = Halved w outcome first second one two

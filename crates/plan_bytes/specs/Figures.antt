@@ -13,5 +13,5 @@ pub record Front (n : ℕ) (list output : List ℕ) : Type 0 where
 
 -- The answer to an outcome, and what it writes at the fronts of the lists.
 pub record FiguresLeft (outcome : PlanOutcome) (figures : PlannedFigures) (words : Lists) : Type 0 where
-  pub answer-is : figures.answer ≡ answer_of outcome
-  pub lists-are : (list : PlanList) → Front (count figures.cords figures.servers list) (words list) (written (output list) outcome)
+  pub answer_is : figures.answer ≡ answer_of outcome
+  pub lists_are : (list : PlanList) → Front (count figures.cords figures.servers list) (words list) (written (output list) outcome)

@@ -9,13 +9,13 @@ use lib.ListN.{length, take}
 use lib.Seq.{get_or-take, length-take-le}
 use Rattle.figures.specs.Sums.{on, sum}
 use Rattle.figures.specs.Figures.{at}
-use Rattle.figures.proofs.Sums.{sum-cong}
+use Rattle.figures.proofs.Sums.{sum_cong}
 use Rattle.rooms.specs.Table.{most_cords, most_watts}
 use Rattle.rooms.specs.Credits.{tree_sum}
-use Rattle.rooms.proofs.Trees.{child_sum-cong, child_sum-le, down}
-use Rattle.rooms.proofs.Credits.{tree_sum-most, tree_sum-step}
+use Rattle.rooms.proofs.Trees.{child_sum_cong, child_sum_le, down}
+use Rattle.rooms.proofs.Credits.{tree_sum_most, tree_sum_step}
 use Rattle.splits.specs.Split.{part}
-use Rattle.deals.proofs.Amounts.{child_cords-most}
+use Rattle.deals.proofs.Amounts.{child_cords_most}
 use Rattle.figures.specs.Places.{Absent, Present}
 use Rattle.deals.specs.Levels.{ActiveNodes}
 use Rattle.deals.specs.Passes.{LevelCords, listed_before, over_listed, cord_weight, weight_of, WeightsListed, Weighed, NodesDealt, CordsDealt}
@@ -31,8 +31,8 @@ module _ {parents nodes wants ceilings all : List ℕ} (lists : LendLists parent
   node_stands : (n : ℕ) → n < length parents → at all n ≡ n
   node_stands n l = places.own n (omega (arith, lists.few-nodes))
 
-  all-nodes : ActiveNodes parents all (length parents)
-  all-nodes = record {
+  all_nodes : ActiveNodes parents all (length parents)
+  all_nodes = record {
     few = omega (arith, lists.few-nodes, places.size);
     within = λ i h. omega (arith, node_stands i h);
     rises = λ i k h l. omega (arith, node_stands i (omega arith), node_stands k l);
@@ -48,26 +48,26 @@ module _ {parents nodes wants ceilings all : List ℕ} (lists : LendLists parent
   abbrev listed : List ℕ
   listed = take (length nodes) all
 
-  pub listed-length : length listed ≡ length nodes
-  listed-length = length-take-le (length nodes) all (omega (arith, lists.few, places.size))
+  pub listed_length : length listed ≡ length nodes
+  listed_length = length-take-le (length nodes) all (omega (arith, lists.few, places.size))
 
   listed_at : (i : ℕ) → i < length nodes → at listed i ≡ i
   listed_at i h = get_or-take (length nodes) all i 0 h ∙ places.own i (omega (arith, lists.few))
 
-  listed-within : (i : ℕ) → i < length listed → i < length nodes
-  listed-within i h = omega (arith, listed-length)
+  listed_within : (i : ℕ) → i < length listed → i < length nodes
+  listed_within i h = omega (arith, listed_length)
 
   -- What holds of every cord holds of every listed one.
   each : (P : ℕ → Type 0) → ((c : ℕ) → c < length nodes → P c) → (i : ℕ) → i < length listed → P (at listed i)
-  each P p i h = subst P (sym (listed_at i (listed-within i h))) (p i (listed-within i h))
+  each P p i h = subst P (sym (listed_at i (listed_within i h))) (p i (listed_within i h))
 
-  all-cords : {count : ℕ} → length parents ≤ count → LevelCords count listed nodes wants ceilings
-  all-cords {count} e = record {
-    few = omega (arith, listed-length, lists.few);
-    starts-size = lists.wants-size;
-    wants-size = lists.ceilings-size;
+  all_cords : {count : ℕ} → length parents ≤ count → LevelCords count listed nodes wants ceilings
+  all_cords {count} e = record {
+    few = omega (arith, listed_length, lists.few);
+    starts_size = lists.wants_size;
+    wants_size = lists.ceilings_size;
     within = each (λ c. c < length nodes) (λ c l. l);
-    rises = λ i k h l. omega (arith, listed_at i (listed-within i (omega arith)), listed_at k (listed-within k l));
+    rises = λ i k h l. omega (arith, listed_at i (listed_within i (omega arith)), listed_at k (listed_within k l));
     hangs = each (λ c. 1 ≤ at nodes c) lists.hangs;
     there = each (λ c. at nodes c ≤ count) (λ c l. omega (arith, lists.within c l));
     ordered = each (λ c. at wants c ≤ at ceilings c) lists.wanted;
@@ -76,82 +76,82 @@ module _ {parents nodes wants ceilings all : List ℕ} (lists : LendLists parent
 
   -- Sums over the list are sums over the cords.
   listed-before : (n i : ℕ) → i ≤ length nodes → listed_before listed nodes weight n i ≡ cords_before nodes wants ceilings n i
-  listed-before n i h = sum-cong i _ _ (λ c l. ap (λ (z : ℕ). on (eqb (at nodes z) (suc n)) (weight z)) (listed_at c (omega arith)))
+  listed-before n i h = sum_cong i _ _ (λ c l. ap (λ (z : ℕ). on (eqb (at nodes z) (suc n)) (weight z)) (listed_at c (omega arith)))
 
-  listed-all : (n : ℕ) → over_listed listed nodes weight n ≡ cords_before nodes wants ceilings n (length nodes)
-  listed-all n = ap (listed_before listed nodes weight n) listed-length ∙ listed-before n (length nodes) (le_refl (length nodes))
+  listed_all : (n : ℕ) → over_listed listed nodes weight n ≡ cords_before nodes wants ceilings n (length nodes)
+  listed_all n = ap (listed_before listed nodes weight n) listed_length ∙ listed-before n (length nodes) (le_refl (length nodes))
 
   -- ---- The weights
 
-  pub sum-weights-asks : {wholes-length : ℕ} → length parents ≤ wholes-length → LevelCords (length parents) listed nodes wants ceilings × (length parents ≤ wholes-length)
-  sum-weights-asks enough = (all-cords (le_refl (length parents)), enough)
+  pub sum_weights_asks : {wholes_length : ℕ} → length parents ≤ wholes_length → LevelCords (length parents) listed nodes wants ceilings × (length parents ≤ wholes_length)
+  sum_weights_asks enough = (all_cords (le_refl (length parents)), enough)
 
   -- What is summed on the nodes are the weights of all cords.
   abbrev pub OnNodes : List ℕ → Type 0
   OnNodes sums = (n : ℕ) → n < length parents → at sums n ≡ over_listed listed nodes weight n
 
-  sums-most : (sums : List ℕ) → OnNodes sums → sum (length parents) (at sums) ≤ most_cords * most_watts
-  sums-most sums on-nodes =
-      le_trans (le_of_eq (sum-cong (length parents) _ _ (λ n l. on-nodes n l ∙ listed-all n)))
-      (le_trans (child_cords-most (length parents) (length nodes) (at nodes) lists.hangs lists.within weight most_watts (λ c l. omega (arith, lists.most c l)))
+  sums_most : (sums : List ℕ) → OnNodes sums → sum (length parents) (at sums) ≤ most_cords * most_watts
+  sums_most sums on-nodes =
+      le_trans (le_of_eq (sum_cong (length parents) _ _ (λ n l. on-nodes n l ∙ listed_all n)))
+      (le_trans (child_cords_most (length parents) (length nodes) (at nodes) lists.hangs lists.within weight most_watts (λ c l. omega (arith, lists.most c l)))
       (mul-le-mul_right most_watts lists.few))
 
-  pub weigh-asks : (left sums : List ℕ) {weights-length : ℕ} → length left ≡ length parents → OnNodes sums → length parents ≤ length sums → length parents ≤ weights-length
+  pub weigh_asks : (left sums : List ℕ) {weights_length : ℕ} → length left ≡ length parents → OnNodes sums → length parents ≤ length sums → length parents ≤ weights_length
       → (ActiveNodes parents all (length parents) × ParentsFirst (length parents) (at parents))
-      × (((length left ≡ length parents) × (length parents ≤ length sums) × (length parents ≤ weights-length))
+      × (((length left ≡ length parents) × (length parents ≤ length sums) × (length parents ≤ weights_length))
       × ((sum (length parents) (at sums) ≤ most_cords * most_watts) × ((n : ℕ) → n < length parents → Absent all (length parents) n → at sums n ≡ 0)))
-  weigh-asks left sums left-size on-nodes sums-size weights-size = (
-    (all-nodes, lists.rises),
-    ((left-size, sums-size, weights-size), (sums-most sums on-nodes, λ n l none. absurd (here n l none))),
+  weigh_asks left sums left_size on-nodes sums_size weights_size = (
+    (all_nodes, lists.rises),
+    ((left_size, sums_size, weights_size), (sums_most sums on-nodes, λ n l none. absurd (here n l none))),
   )
 
   module _ {left sums left' wholes weights : List ℕ} (g : Weighed parents all (length parents) left sums left' wholes weights)
-      (left-most : (n : ℕ) → n < length parents → at left n ≤ most_watts) (on-nodes : OnNodes sums) where
-    children-are : (n : ℕ) → n < length parents → at wholes n ≡ child_sum (length parents) (at parents) n (weight_of weights wholes) + at sums n
-    children-are n l =
+      (left_most : (n : ℕ) → n < length parents → at left n ≤ most_watts) (on-nodes : OnNodes sums) where
+    children_are : (n : ℕ) → n < length parents → at wholes n ≡ child_sum (length parents) (at parents) n (weight_of weights wholes) + at sums n
+    children_are n l =
         omega (
           arith,
           g.children n l,
-          child_sum-cong (length parents) (at parents) n (weight_of left wholes) (weight_of weights wholes) (λ m lm q. sym (g.weights-are m lm)),
+          child_sum_cong (length parents) (at parents) n (weight_of left wholes) (weight_of weights wholes) (λ m lm q. sym (g.weights_are m lm)),
         )
 
     -- No node's children weight more than all cords beneath it.
-    wholes-beneath : (n : ℕ) → n < length parents → at wholes n ≤ tree_sum (at parents) (length parents) (at sums) n
-    wholes-beneath = down (length parents) (λ n. at wholes n ≤ tree_sum (at parents) (length parents) (at sums) n) (λ n l ih.
+    wholes_beneath : (n : ℕ) → n < length parents → at wholes n ≤ tree_sum (at parents) (length parents) (at sums) n
+    wholes_beneath = down (length parents) (λ n. at wholes n ≤ tree_sum (at parents) (length parents) (at sums) n) (λ n l ih.
         omega (
           arith,
-          children-are n l,
-          child_sum-le (length parents) (at parents) n (weight_of weights wholes) (tree_sum (at parents) (length parents) (at sums)) (λ m lm q.
+          children_are n l,
+          child_sum_le (length parents) (at parents) n (weight_of weights wholes) (tree_sum (at parents) (length parents) (at sums)) (λ m lm q.
               omega (arith, ih m lm (subst (λ (z : ℕ). z ≤ m) q (lists.rises m lm)))),
-          tree_sum-step (length parents) (at parents) lists.rises (at sums) n l,
+          tree_sum_step (length parents) (at parents) lists.rises (at sums) n l,
         ))
 
-    pub lend-weights : LendWeights parents nodes wants ceilings weights wholes
-    lend-weights = record {
-      whole = λ n l. omega (arith, children-are n l, on-nodes n l, listed-all n);
+    pub lend_weights : LendWeights parents nodes wants ceilings weights wholes
+    lend_weights = record {
+      whole = λ n l. omega (arith, children_are n l, on-nodes n l, listed_all n);
       enough = λ n l. g.listed.within n l (here n l);
-      most = λ n l. omega (arith, g.weights-are n l, left-most n l);
-      wholes-most = λ n l. omega (arith, wholes-beneath n l, tree_sum-most (length parents) (at parents) (at sums) n, sums-most sums on-nodes);
+      most = λ n l. omega (arith, g.weights_are n l, left_most n l);
+      wholes_most = λ n l. omega (arith, wholes_beneath n l, tree_sum_most (length parents) (at parents) (at sums) n, sums_most sums on-nodes);
     }
 
   -- ---- What is dealt by them
 
   module _ {weights wholes : List ℕ} (weighed : LendWeights parents nodes wants ceilings weights wholes) where
-    pub deal-nodes-asks : length parents ≤ length weights → length wholes ≡ length weights → {size-e size-d : ℕ} → size-e ≡ length weights → size-d ≡ length weights
-        → ((length parents ≤ size-e) × (size-d ≡ size-e) × ParentsFirst (length parents) (at parents))
+    pub deal_nodes_asks : length parents ≤ length weights → length wholes ≡ length weights → {size_e size_d : ℕ} → size_e ≡ length weights → size_d ≡ length weights
+        → ((length parents ≤ size_e) × (size_d ≡ size_e) × ParentsFirst (length parents) (at parents))
         × (WeightsListed parents all (length parents) wholes weights
         × ((n : ℕ) → n < length parents → (weight_of weights wholes n ≤ most_watts) × (at wholes n ≤ most_cords * most_watts) × (child_sum (length parents) (at parents) n (weight_of weights wholes) ≤ at wholes n)))
-    deal-nodes-asks sa sw se sd = (
+    deal_nodes_asks sa sw se sd = (
       (omega arith, sd ∙ sym se, lists.rises),
       (
         record {
-          nodes = all-nodes;
-          wholes-size = omega arith;
-          weights-size = sa;
+          nodes = all_nodes;
+          wholes_size = omega arith;
+          weights_size = sa;
           within = λ n l some. weighed.enough n l;
           idle = λ n l none. absurd (here n l none);
         },
-        λ n l. (weighed.most n l, weighed.wholes-most n l, omega (arith, weighed.whole n l)),
+        λ n l. (weighed.most n l, weighed.wholes_most n l, omega (arith, weighed.whole n l)),
       ),
     )
 
@@ -159,15 +159,15 @@ module _ {parents nodes wants ceilings all : List ℕ} (lists : LendLists parent
       there : (i n : ℕ) → i < length listed → at nodes (at listed i) ≡ suc n → n < length parents
       there i n h e = omega (arith, each (λ c. at nodes c ≤ length parents) lists.within i h)
 
-      pub deal-cords-asks : {size-t : ℕ} → length parents ≤ length amounts → length wholes ≡ length amounts → length before ≡ length amounts → length dealt ≡ length amounts
-          → size-t ≡ length nodes
+      pub deal_cords_asks : {size_t : ℕ} → length parents ≤ length amounts → length wholes ≡ length amounts → length before ≡ length amounts → length dealt ≡ length amounts
+          → size_t ≡ length nodes
           → LevelCords (length amounts) listed nodes wants ceilings
-          × (((length wholes ≡ length amounts) × (length before ≡ length amounts) × (length dealt ≡ length amounts) × (size-t ≡ length nodes))
+          × (((length wholes ≡ length amounts) × (length before ≡ length amounts) × (length dealt ≡ length amounts) × (size_t ≡ length nodes))
           × ((i n : ℕ) → i < length listed → at nodes (at listed i) ≡ suc n → (at amounts n ≤ most_watts) × (at amounts n ≤ at wholes n) × (at wholes n ≤ most_cords * most_watts)
           × (at dealt n ≡ at amounts n * at before n / at wholes n)
           × (at before n + over_listed listed nodes weight n ≤ at wholes n)))
-      deal-cords-asks sa sw se sd st = (
-        all-cords sa,
+      deal_cords_asks sa sw se sd st = (
+        all_cords sa,
         (
           (sw, se, sd, st),
           λ i n h e.
@@ -175,24 +175,24 @@ module _ {parents nodes wants ceilings all : List ℕ} (lists : LendLists parent
               let most = nd.most n l (here n l) in (
                 omega (arith, most, weighed.most n l),
                 omega (arith, most),
-                weighed.wholes-most n l,
-                nd.dealt-is n l (here n l),
-                omega (arith, nd.served n l (here n l), weighed.whole n l, listed-all n),
+                weighed.wholes_most n l,
+                nd.dealt_is n l (here n l),
+                omega (arith, nd.served n l (here n l), weighed.whole n l, listed_all n),
               ),
         ),
       )
 
       module _ {tops tops' : List ℕ} (cd : CordsDealt listed nodes wants ceilings wholes amounts before tops tops') where
         -- A cord's top is its want and its part.
-        top-is : (c n : ℕ) → c < length nodes → at nodes c ≡ suc n
+        top_is : (c n : ℕ) → c < length nodes → at nodes c ≡ suc n
             → at tops' c ≡ at wants c + part (at amounts n) (at wholes n) (child_sum (length parents) (at parents) n (weight_of weights wholes) + cords_before nodes wants ceilings n c) (weight c)
-        top-is c n l e =
+        top_is c n l e =
             let q : n < length parents = omega (arith, lists.within c l) in
             let s : at listed c ≡ c = listed_at c l in
             let b : at before n ≡ child_sum (length parents) (at parents) n (weight_of weights wholes) = nd.served n q (here n q) in
             subst
             (λ (h : ℕ). at tops' h ≡ at wants h + part (at amounts n) (at wholes n) (child_sum (length parents) (at parents) n (weight_of weights wholes) + cords_before nodes wants ceilings n c) (weight h)) s
-            (cd.ours c n (omega (arith, listed-length)) (ap (at nodes) s ∙ e)
+            (cd.ours c n (omega (arith, listed_length)) (ap (at nodes) s ∙ e)
             ∙ ap₂ (λ (a b : ℕ). at wants (at listed c) + part (at amounts n) (at wholes n) (a + b) (weight (at listed c))) b (listed-before n c (omega arith)))
 
         -- Every cord hangs on some node.
@@ -203,12 +203,12 @@ module _ {parents nodes wants ceilings all : List ℕ} (lists : LendLists parent
             go zero e = absurd (omega (arith, lists.hangs c l))
             go (suc n) e = f n e
 
-        pub take-wants-asks : {size : ℕ} → size ≡ length nodes → length tops' ≡ length nodes
+        pub take_wants_asks : {size : ℕ} → size ≡ length nodes → length tops' ≡ length nodes
             → (length wants ≡ size) × (length tops' ≡ size) × ((c : ℕ) → c < size → at wants c ≤ at tops' c)
-        take-wants-asks e st = (
-          lists.wants-size ∙ sym e,
+        take_wants_asks e st = (
+          lists.wants_size ∙ sym e,
           st ∙ sym e,
-          λ c h. let l : c < length nodes = omega arith in on-node c l (at wants c ≤ at tops' c) (λ n q. omega (arith, top-is c n l q)),
+          λ c h. let l : c < length nodes = omega arith in on-node c l (at wants c ≤ at tops' c) (λ n q. omega (arith, top_is c n l q)),
         )
 
         pub shared : {headroom : List ℕ} {size : ℕ} → size ≡ length nodes → ((c : ℕ) → c < size → at headroom c ≡ at tops' c - at wants c)
@@ -217,5 +217,5 @@ module _ {parents nodes wants ceilings all : List ℕ} (lists : LendLists parent
           lends = at amounts;
           root = λ m l r. nd.root m l (here m l) r;
           inner = λ m n l q. nd.inner m n l (here m l) q;
-          leaf = λ c n l q. taken c (omega arith) ∙ omega (arith, top-is c n l q);
+          leaf = λ c n l q. taken c (omega arith) ∙ omega (arith, top_is c n l q);
         }

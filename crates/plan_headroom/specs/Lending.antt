@@ -10,10 +10,10 @@ use Rattle.deals.specs.Ranks.{DealLists}
 -- and the cords' ceilings, none below its cord's want.
 pub record LendGiven (parents nodes wants left ceilings limits levels lows starts : List ℕ) : Type 0 where
   pub lists : DealLists parents limits nodes levels lows starts wants
-  pub left-size : length left ≡ length parents
+  pub left_size : length left ≡ length parents
   pub left_is : (n : ℕ) → n < length parents
       → at left n + requests_at (metrics (deal_from parents limits nodes levels lows starts wants)) n ≡ at limits n
-  pub ceilings-size : length ceilings ≡ length nodes
+  pub ceilings_size : length ceilings ≡ length nodes
   pub wanted : (c : ℕ) → c < length nodes → at wants c ≤ at ceilings c
   pub most : (c : ℕ) → c < length nodes → at ceilings c ≤ most_watts
 

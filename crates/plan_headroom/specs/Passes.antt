@@ -16,8 +16,8 @@ pub record AllPlaces (list : List ℕ) : Type 0 where
 pub record LendLists (parents nodes wants ceilings : List ℕ) : Type 0 where
   pub few-nodes : length parents ≤ most_nodes
   pub few : length nodes ≤ most_cords
-  pub wants-size : length wants ≡ length nodes
-  pub ceilings-size : length ceilings ≡ length nodes
+  pub wants_size : length wants ≡ length nodes
+  pub ceilings_size : length ceilings ≡ length nodes
   pub rises : ParentsFirst (length parents) (at parents)
   pub hangs : (c : ℕ) → c < length nodes → 1 ≤ at nodes c
   pub within : (c : ℕ) → c < length nodes → at nodes c ≤ length parents
@@ -34,7 +34,7 @@ pub record LendWeights (parents nodes wants ceilings weights wholes : List ℕ) 
       → at wholes n ≡ child_sum (length parents) (at parents) n (weight_of weights wholes) + cords_before nodes wants ceilings n (length nodes)
   pub enough : (n : ℕ) → n < length parents → at weights n ≤ at wholes n
   pub most : (n : ℕ) → n < length parents → weight_of weights wholes n ≤ most_watts
-  pub wholes-most : (n : ℕ) → n < length parents → at wholes n ≤ most_cords * most_watts
+  pub wholes_most : (n : ℕ) → n < length parents → at wholes n ≤ most_cords * most_watts
 
 -- The headroom is dealt by these weights, from what each node has to lend: a root all of its weight, any other its part of its parent's.
 pub record DealtOut (parents nodes wants ceilings weights wholes headroom : List ℕ) : Type 0 where

@@ -24,18 +24,18 @@ use Rattle.plan_holders.proofs.Rows.{held_at}
 use Rattle.rooms.specs.Trees.{ParentsFirst}
 
 -- Two tests that agree on every node name the same one.
-nearest-cong : (nodes : ℕ) (parent : ℕ → ℕ) → ParentsFirst nodes parent → (test other : ℕ → Bool) → ((n : ℕ) → n < nodes → test n ≡ other n)
+nearest_cong : (nodes : ℕ) (parent : ℕ → ℕ) → ParentsFirst nodes parent → (test other : ℕ → Bool) → ((n : ℕ) → n < nodes → test n ≡ other n)
     → (k v : ℕ) → v ≤ nodes → nearest_root parent test k v ≡ nearest_root parent other k v
 unfolding nearest_root
-nearest-cong nodes parent rises test other e zero v h = refl
-nearest-cong nodes parent rises test other e (suc k) zero h = refl
-nearest-cong nodes parent rises test other e (suc k) (suc m) h =
+nearest_cong nodes parent rises test other e zero v h = refl
+nearest_cong nodes parent rises test other e (suc k) zero h = refl
+nearest_cong nodes parent rises test other e (suc k) (suc m) h =
     ap₂ (λ (t : Bool) (above : ℕ). cond (eqb above 0) (on t (suc m)) above) (e m h)
-    (nearest-cong nodes parent rises test other e k (parent m) (omega (arith, rises m h)))
+    (nearest_cong nodes parent rises test other e k (parent m) (omega (arith, rises m h)))
 
 -- Lists of equal figures are equal.
-figures-cong : (k : ℕ) (g h : ℕ → ℕ) → ((i : ℕ) → i < k → g i ≡ h i) → figures k g ≡ figures k h
-figures-cong k g h e =
+figures_cong : (k : ℕ) (g h : ℕ → ℕ) → ((i : ℕ) → i < k → g i ≡ h i) → figures k g ≡ figures k h
+figures_cong k g h e =
     ext_get_or 0 (figures k g) (figures k h) (figures-length k g ∙ sym (figures-length k h))
     (λ i q. let l : i < k = omega (arith, figures-length k g) in figures-at k i g l ∙ e i l ∙ sym (figures-at k i h l))
 
@@ -54,11 +54,11 @@ module _ (parents limits nodes levels lows starts wants : List ℕ) where
     unfolding holder deal_from
     held_one n l marked c h =
         let d = deal_from parents limits nodes levels lows starts wants in
-        let node-is : cell cords c node_column ≡ at nodes c = sym (column-at node_column cords c) ∙ ap (λ (z : List ℕ). at z c) n in
-        let level-is : cell cords c level_column ≡ at levels c = sym (column-at level_column cords c) ∙ ap (λ (z : List ℕ). at z c) l in
-        ap₂ (holder_from parents cuts) level-is node-is
-        ∙ sym (nearest-cong (length parents) (at parents) lists.of-nodes.rises (cut_from d (metrics d) (at levels c)) (λ i. ltb (at levels c) (at cuts i))
-        (λ i q. marked i (at levels c) q (omega (arith, level-is, lists.ranked c h))) (length parents) (at nodes c) (omega (arith, node-is, lists.within c h)))
+        let node_is : cell cords c node_column ≡ at nodes c = sym (column-at node_column cords c) ∙ ap (λ (z : List ℕ). at z c) n in
+        let level_is : cell cords c level_column ≡ at levels c = sym (column-at level_column cords c) ∙ ap (λ (z : List ℕ). at z c) l in
+        ap₂ (holder_from parents cuts) level_is node_is
+        ∙ sym (nearest_cong (length parents) (at parents) lists.of_nodes.rises (cut_from d (metrics d) (at levels c)) (λ i. ltb (at levels c) (at cuts i))
+        (λ i q. marked i (at levels c) q (omega (arith, level_is, lists.ranked c h))) (length parents) (at nodes c) (omega (arith, node_is, lists.within c h)))
 
     pub held-over : column node_column cords ≡ nodes → column level_column cords ≡ levels → grants ≡ granted (deal_from parents limits nodes levels lows starts wants)
         → CutsMarked cuts → held_from parents cuts cords wants grants ≡ held_over (deal_from parents limits nodes levels lows starts wants)
@@ -66,16 +66,16 @@ module _ (parents limits nodes levels lows starts wants : List ℕ) where
     held-over n l g marked =
         let d = deal_from parents limits nodes levels lows starts wants in
         let size : length cords ≡ length nodes = sym (column-length node_column cords) ∙ ap length n in
-        figures-cong (length cords) (held_at parents cuts cords wants grants) (λ c. cond (eqb (at (granted d) c) (at wants c)) 0 (holder d (metrics d) c))
+        figures_cong (length cords) (held_at parents cuts cords wants grants) (λ c. cond (eqb (at (granted d) c) (at wants c)) 0 (holder d (metrics d) c))
         (λ c h. ap₂ (λ (got : List ℕ) (by : ℕ). cond (eqb (at got c) (at wants c)) 0 by) g (held_one n l marked c h))
         ∙ ap (λ (k : ℕ). figures k (λ c. cond (eqb (at (granted d) c) (at wants c)) 0 (holder d (metrics d) c))) size
 
 -- Of the second deal of a room with given demands.
-pub held-second : (r : Room) (demands : List ℕ) {cuts : List ℕ} {cords : List (List ℕ)} {grants : List ℕ}
+pub held_second : (r : Room) (demands : List ℕ) {cuts : List ℕ} {cords : List (List ℕ)} {grants : List ℕ}
     → HeldLists (parents_of r) cuts cords (second_wants r demands) grants → CordRows r cords → grants ≡ second_grants r demands
     → ((n j : ℕ) → n < (second_deal r demands).nodes → j < highest_rank → cut_from (second_deal r demands) (metrics (second_deal r demands)) j n ≡ ltb j (at cuts n))
     → held_from (parents_of r) cuts cords (second_wants r demands) grants ≡ held r demands
 unfolding held second_grants second_deal deal_of
-held-second r demands lists rows g marked =
+held_second r demands lists rows g marked =
     held-over (parents_of r) (limits_of r) (nodes_of r) (levels_of r) (lows_of r) (first_used r demands) (second_wants r demands) lists rows.nodes rows.levels g
     marked

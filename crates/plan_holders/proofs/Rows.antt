@@ -25,17 +25,17 @@ use Rattle.rooms.specs.Trees.{ParentsFirst}
 
 -- A parent's number is below its child's: steps beyond a node's number change nothing.
 module _ (nodes : ℕ) (parent : ℕ → ℕ) (rises : ParentsFirst nodes parent) (test : ℕ → Bool) where
-  nearest-steps : (k l v : ℕ) → v ≤ k → v ≤ l → v ≤ nodes → nearest_root parent test k v ≡ nearest_root parent test l v
+  nearest_steps : (k l v : ℕ) → v ≤ k → v ≤ l → v ≤ nodes → nearest_root parent test k v ≡ nearest_root parent test l v
   unfolding nearest_root
-  nearest-steps zero zero v a b h = refl
-  nearest-steps zero (suc l) zero a b h = refl
-  nearest-steps zero (suc l) (suc m) a b h = absurd (omega arith)
-  nearest-steps (suc k) zero zero a b h = refl
-  nearest-steps (suc k) zero (suc m) a b h = absurd (omega arith)
-  nearest-steps (suc k) (suc l) zero a b h = refl
-  nearest-steps (suc k) (suc l) (suc m) a b h =
+  nearest_steps zero zero v a b h = refl
+  nearest_steps zero (suc l) zero a b h = refl
+  nearest_steps zero (suc l) (suc m) a b h = absurd (omega arith)
+  nearest_steps (suc k) zero zero a b h = refl
+  nearest_steps (suc k) zero (suc m) a b h = absurd (omega arith)
+  nearest_steps (suc k) (suc l) zero a b h = refl
+  nearest_steps (suc k) (suc l) (suc m) a b h =
       ap (λ (above : ℕ). cond (eqb above 0) (on (test m) (suc m)) above)
-      (nearest-steps k l (parent m) (omega (arith, rises m h)) (omega (arith, rises m h)) (omega (arith, rises m h)))
+      (nearest_steps k l (parent m) (omega (arith, rises m h)) (omega (arith, rises m h)) (omega (arith, rises m h)))
 
   nearest_zero : (k : ℕ) → nearest_root parent test k 0 ≡ 0
   unfolding nearest_root
@@ -43,12 +43,12 @@ module _ (nodes : ℕ) (parent : ℕ → ℕ) (rises : ParentsFirst nodes parent
   nearest_zero (suc k) = refl
 
   -- That of a node, from its parent's.
-  nearest-suc : (m : ℕ) → m < nodes
+  nearest_suc : (m : ℕ) → m < nodes
       → nearest_root parent test nodes (suc m)
       ≡ cond (eqb (nearest_root parent test nodes (parent m)) 0) (on (test m) (suc m)) (nearest_root parent test nodes (parent m))
   unfolding nearest_root
-  nearest-suc m h =
-      nearest-steps nodes (suc nodes) (suc m) h (omega arith) h
+  nearest_suc m h =
+      nearest_steps nodes (suc nodes) (suc m) h (omega arith) h
 
 -- ---- One row
 
@@ -59,12 +59,12 @@ pub record Turning (above : List ℕ) (cut number i : ℕ) (row : List ℕ) : Ty
   pub left : (j : ℕ) → i ≤ j → at row j ≡ at above j
 
 module _ {above : List ℕ} {cut number : ℕ} where
-  pub turning-start : length above ≡ highest_rank → Turning above cut number 0 above
-  turning-start e = record { size = e; done = λ j h. absurd (omega arith); left = λ j h. refl }
+  pub turning_start : length above ≡ highest_rank → Turning above cut number 0 above
+  turning_start e = record { size = e; done = λ j h. absurd (omega arith); left = λ j h. refl }
 
-  pub turning-next : {i rank own x : ℕ} {row : List ℕ} → Turning above cut number i row → i < highest_rank → rank ≡ i + 1
+  pub turning_next : {i rank own x : ℕ} {row : List ℕ} → Turning above cut number i row → i < highest_rank → rank ≡ i + 1
       → own ≡ on (leb rank cut) number → x ≡ cond (eqb (at row i) 0) own (at row i) → Turning above cut number (i + 1) (set row i x)
-  turning-next {i} {rank} {own} {x} {row} t h r o e =
+  turning_next {i} {rank} {own} {x} {row} t h r o e =
       rw add-one
       (record {
         size = length-set row i x ∙ t.size;
@@ -82,8 +82,8 @@ module _ {above : List ℕ} {cut number : ℕ} where
       go j (inl q) = rw q (get_or-set_same row i x 0 (omega (arith, t.size)) ∙ here)
       go j (inr q) = get_or-set_other row i j x 0 (λ z. omega arith) ∙ t.done j q
 
-  pub turning-end : {i : ℕ} {row : List ℕ} → Turning above cut number i row → highest_rank ≤ i → row ≡ next_row above cut number
-  turning-end {i} {row} t h =
+  pub turning_end : {i : ℕ} {row : List ℕ} → Turning above cut number i row → highest_rank ≤ i → row ≡ next_row above cut number
+  turning_end {i} {row} t h =
       ext_get_or 0 row (next_row above cut number) (t.size ∙ sym (figures-length highest_rank _))
       (λ j q. let m : j < highest_rank = omega (arith, t.size) in t.done j (omega arith) ∙ sym (figures-at highest_rank j _ m))
 
@@ -95,17 +95,17 @@ pub record Filling (parents cuts : List ℕ) (n : ℕ) (rows : List (List ℕ)) 
   pub named : (v j : ℕ) → v ≤ n → j < highest_rank → cell rows v j ≡ holder_from parents cuts j v
 
 module _ {parents cuts : List ℕ} where
-  pub filling-start : {rows : List (List ℕ)} → CutNodes parents cuts → ZeroRows (suc most_nodes) highest_rank rows → Filling parents cuts 0 rows
-  filling-start {rows} ok none = record { full = none.full; named = go }
+  pub filling_start : {rows : List (List ℕ)} → CutNodes parents cuts → ZeroRows (suc most_nodes) highest_rank rows → Filling parents cuts 0 rows
+  filling_start {rows} ok none = record { full = none.full; named = go }
     where
       go : (v j : ℕ) → v ≤ 0 → j < highest_rank → cell rows v j ≡ holder_from parents cuts j v
       go zero j a h = none.none 0 j ∙ sym (nearest_zero (length parents) (at parents) ok.rises (λ n. ltb j (at cuts n)) (length parents))
       go (suc v) j a h = absurd (omega arith)
 
-  pub filling-next : {n : ℕ} {above row : List ℕ} {cut number : ℕ} {rows : List (List ℕ)} → CutNodes parents cuts → Filling parents cuts n rows → n < length parents
+  pub filling_next : {n : ℕ} {above row : List ℕ} {cut number : ℕ} {rows : List (List ℕ)} → CutNodes parents cuts → Filling parents cuts n rows → n < length parents
       → above ≡ get_or rows (at parents n) [] → cut ≡ at cuts n → number ≡ n + 1 → row ≡ next_row above cut number
       → Filling parents cuts (n + 1) (set rows (n + 1) row)
-  filling-next {n} {above} {row} {cut} {number} {rows} ok f l a c m e = record {
+  filling_next {n} {above} {row} {cut} {number} {rows} ok f l a c m e = record {
     full = (length-set rows (n + 1) row ∙ f.full.0, λ v. wide v (eqb v (n + 1)) refl);
     named = λ v j q h. go v j h (eq-or-lt_of_le q);
   }
@@ -132,7 +132,7 @@ module _ {parents cuts : List ℕ} where
           ap (λ (r : List ℕ). at r j) e
           ∙ figures-at highest_rank j (λ j. cond (eqb (at above j) 0) (on (ltb j cut) number) (at above j)) h
           ∙ ap₂ (λ (o : ℕ) (x : ℕ). cond (eqb x 0) o x) (own j) (parent j h)
-          ∙ sym (nearest-suc (length parents) (at parents) ok.rises (λ i. ltb j (at cuts i)) n l)
+          ∙ sym (nearest_suc (length parents) (at parents) ok.rises (λ i. ltb j (at cuts i)) n l)
 
       go : (v j : ℕ) → j < highest_rank → (v ≡ n + 1) ⊎ (v < n + 1) → cell (set rows (n + 1) row) v j ≡ holder_from parents cuts j v
       go v j h (inl q) =
@@ -143,8 +143,8 @@ module _ {parents cuts : List ℕ} where
       go v j h (inr q) =
           ap (λ (r : List ℕ). at r j) (get_or-set_other rows (n + 1) v row [] (λ z. omega arith)) ∙ f.named v j (omega arith) h
 
-  pub filling-end : {n : ℕ} {rows : List (List ℕ)} → Filling parents cuts n rows → length parents ≤ n → HolderRows parents cuts rows
-  filling-end f h = record { full = f.full; named = λ v j q. f.named v j (omega arith) }
+  pub filling_end : {n : ℕ} {rows : List (List ℕ)} → Filling parents cuts n rows → length parents ≤ n → HolderRows parents cuts rows
+  filling_end f h = record { full = f.full; named = λ v j q. f.named v j (omega arith) }
 
 -- ---- The cords
 
@@ -154,10 +154,10 @@ held_at parents cuts cords wants grants c =
     cond (eqb (at grants c) (at wants c)) 0 (holder_from parents cuts (cell cords c level_column) (cell cords c node_column))
 
 -- By the row of its node, at its level.
-pub held-is : {parents cuts : List ℕ} {cords rows : List (List ℕ)} {wants grants : List ℕ} {c node level x : ℕ} → HeldLists parents cuts cords wants grants
+pub held_is : {parents cuts : List ℕ} {cords rows : List (List ℕ)} {wants grants : List ℕ} {c node level x : ℕ} → HeldLists parents cuts cords wants grants
     → HolderRows parents cuts rows → c < length cords → node ≡ cell cords c node_column → level ≡ cell cords c level_column
     → x ≡ cond (eqb (at grants c) (at wants c)) 0 (cell rows node level) → x ≡ held_at parents cuts cords wants grants c
-held-is {parents} {cuts} {cords} {rows} {wants} {grants} {c} {node} {level} h r l n j e =
+held_is {parents} {cuts} {cords} {rows} {wants} {grants} {c} {node} {level} h r l n j e =
     e
     ∙ ap (λ (k : ℕ). cond (eqb (at grants c) (at wants c)) 0 k)
     (ap₂ (cell rows) n j ∙ r.named (cell cords c node_column) (cell cords c level_column) (h.within c l) (h.ranked c l))

@@ -12,14 +12,14 @@ use Rattle.rooms.specs.Trees.{ParentsFirst}
 pub record CutNodes (parents cuts : List ℕ) : Type 0 where
   pub few : length parents ≤ most_nodes
   pub rises : ParentsFirst (length parents) (at parents)
-  pub cuts-size : length cuts ≡ length parents
+  pub cuts_size : length cuts ≡ length parents
 
 -- The lists after a deal: the nodes' parents and the highest rank at which each is cut, and the cords' rows, wants and grants.
 pub record HeldLists (parents cuts : List ℕ) (cords : List (List ℕ)) (wants grants : List ℕ) : Type 0 where
-  pub of-nodes : CutNodes parents cuts
+  pub of_nodes : CutNodes parents cuts
   pub few : length cords ≤ most_cords
-  pub wants-size : length wants ≡ length cords
-  pub grants-size : length grants ≡ length cords
+  pub wants_size : length wants ≡ length cords
+  pub grants_size : length grants ≡ length cords
   pub hangs : (c : ℕ) → c < length cords → 1 ≤ cell cords c node_column
   pub within : (c : ℕ) → c < length cords → cell cords c node_column ≤ length parents
   pub ranked : (c : ℕ) → c < length cords → cell cords c level_column < highest_rank

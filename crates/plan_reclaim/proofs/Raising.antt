@@ -12,14 +12,14 @@ use lib.ListN.{length, get_or, set, take, replicate, length-set}
 use lib.Seq.{get_or-set_same, get_or-set_other}
 use Rattle.figures.specs.Figures.{at}
 use Rattle.figures.specs.Sums.{on, sum}
-use Rattle.figures.proofs.Sums.{on-add, sum-suc, sum-none}
+use Rattle.figures.proofs.Sums.{on_add, sum_suc, sum_none}
 use Rattle.rooms.specs.Table.{most_cords, most_watts}
 use Rattle.rooms.specs.Trees.{beneath, ParentsFirst, sum_beneath}
 use Rattle.rooms.specs.Credits.{tree_sum}
 use Rattle.figures.specs.Credits.{credited}
-use Rattle.figures.proofs.Credits.{credited-length, figure-in-sum, sum_zeros, sum-credited}
-use Rattle.rooms.proofs.Credits.{tree_sum-zero, tree_sum-credited}
-use Rattle.deals.proofs.NodeSums.{Summing, summing_start, summing-at, whole-at}
+use Rattle.figures.proofs.Credits.{credited-length, figure_in_sum, sum_zeros, sum-credited}
+use Rattle.rooms.proofs.Credits.{tree_sum_zero, tree_sum-credited}
+use Rattle.deals.proofs.NodeSums.{Summing, summing_start, summing_at, whole_at}
 use Rattle.plan_reclaim.specs.Raising.{Raisable}
 use Rattle.deals.specs.Ranks.{list_beneath}
 
@@ -36,29 +36,29 @@ pub record RisesCredited (nodes lows starts : List ℕ) (count c : ℕ) (raised 
   pub risen : (parent : ℕ → ℕ) (n : ℕ) → tree_sum parent count (at raised) n + watts_before parent count nodes lows c n ≡ watts_before parent count nodes starts c n
 
 module _ {nodes lows starts : List ℕ} where
-  pub rises-start : {raised : List ℕ} → ((n : ℕ) → at raised n ≡ 0) → RisesCredited nodes lows starts (length raised) 0 raised
+  pub rises_start : {raised : List ℕ} → ((n : ℕ) → at raised n ≡ 0) → RisesCredited nodes lows starts (length raised) 0 raised
   unfolding sum_beneath
-  rises-start {raised} zeros = record {
+  rises_start {raised} zeros = record {
     size = refl;
     most = omega (arith, sum_zeros (length raised) raised zeros);
     risen = λ parent n.
         let low : ℕ → ℕ = λ h. on (beneath parent (length raised) n (at nodes h)) (at lows h) in
         let start : ℕ → ℕ = λ h. on (beneath parent (length raised) n (at nodes h)) (at starts h) in
-        omega (arith, tree_sum-zero (length raised) parent (at raised) n zeros, sum-none low, sum-none start);
+        omega (arith, tree_sum_zero (length raised) parent (at raised) n zeros, sum_none low, sum_none start);
   }
 
-  module _ {count c node rise : ℕ} {raised : List ℕ} (inv : RisesCredited nodes lows starts count c raised) (node-is : node ≡ at nodes c) (rise-is : rise ≡ at starts c - at lows c)
+  module _ {count c node rise : ℕ} {raised : List ℕ} (inv : RisesCredited nodes lows starts count c raised) (node_is : node ≡ at nodes c) (rise_is : rise ≡ at starts c - at lows c)
       (hangs : (1 ≤ at nodes c) × (at nodes c ≤ count) × (at lows c ≤ at starts c) × (at starts c ≤ most_watts)) where
     -- A cord's rise does not overflow its node's figure.
-    pub rise-fits : c < most_cords → (node ≤ length raised) × (at raised (node - 1) + rise < 2 ^ 64)
-    rise-fits few = (
+    pub rise_fits : c < most_cords → (node ≤ length raised) × (at raised (node - 1) + rise < 2 ^ 64)
+    rise_fits few = (
       omega (arith, inv.size, hangs.1),
-      omega (arith, figure-in-sum count (node - 1) raised (omega (arith, hangs.0, hangs.1)), inv.most, hangs.3),
+      omega (arith, figure_in_sum count (node - 1) raised (omega (arith, hangs.0, hangs.1)), inv.most, hangs.3),
     )
 
-    pub rises-turn : {raised' : List ℕ} → raised' ≡ credited node rise raised → RisesCredited nodes lows starts count (c + 1) raised'
+    pub rises_turn : {raised' : List ℕ} → raised' ≡ credited node rise raised → RisesCredited nodes lows starts count (c + 1) raised'
     unfolding sum_beneath
-    rises-turn is =
+    rises_turn is =
         let some : 1 ≤ node = omega (arith, hangs.0) in
         let there : node ≤ count = omega (arith, hangs.1) in
         let long : count ≤ length raised = omega (arith, inv.size) in
@@ -70,20 +70,20 @@ module _ {nodes lows starts : List ℕ} where
               let here : Bool = beneath parent count n (at nodes c) in
               let low : ℕ → ℕ = λ h. on (beneath parent count n (at nodes h)) (at lows h) in
               let start : ℕ → ℕ = λ h. on (beneath parent count n (at nodes h)) (at starts h) in
-              let more : on (beneath parent count n node) rise ≡ on here rise = ap (λ (v : ℕ). on (beneath parent count n v) rise) node-is in
+              let more : on (beneath parent count n node) rise ≡ on here rise = ap (λ (v : ℕ). on (beneath parent count n v) rise) node_is in
               let up_to : rise + at lows c ≡ at starts c = omega (arith, hangs.2) in
-              let whole : on here rise + on here (at lows c) ≡ on here (at starts c) = sym (on-add here rise (at lows c)) ∙ ap (on here) up_to in
-              omega (arith, tree_sum-credited count parent node rise raised n some there long, inv.risen parent n, sum-suc c low, sum-suc c start);
+              let whole : on here rise + on here (at lows c) ≡ on here (at starts c) = sym (on_add here rise (at lows c)) ∙ ap (on here) up_to in
+              omega (arith, tree_sum-credited count parent node rise raised n some there long, inv.risen parent n, sum_suc c low, sum_suc c start);
         })
 
   -- After the last cord.
   module _ {count c : ℕ} {raised : List ℕ} (inv : RisesCredited nodes lows starts count c raised) (all : c ≡ length nodes) where
-    pub rises-most : length nodes ≤ most_cords → sum count (at raised) ≤ most_cords * most_watts
-    rises-most few = omega (arith, inv.most)
+    pub rises_most : length nodes ≤ most_cords → sum count (at raised) ≤ most_cords * most_watts
+    rises_most few = omega (arith, inv.most)
 
-    pub rises-end : (parents : List ℕ) (n : ℕ) → length parents ≡ count
+    pub rises_end : (parents : List ℕ) (n : ℕ) → length parents ≡ count
         → tree_sum (at parents) (length parents) (at raised) n + list_beneath parents nodes lows n ≡ list_beneath parents nodes starts n
-    rises-end parents n is = rw (is, ← all) (inv.risen (at parents) n)
+    rises_end parents n is = rw (is, ← all) (inv.risen (at parents) n)
 
 -- ---- The loop over the nodes
 
@@ -103,29 +103,29 @@ pub taken_next : {parents raised₀ left₀ raised left : List ℕ} {n : ℕ} �
 taken_next {n = n} more inv = let e : suc (n - 1) ≡ n = omega arith in rw e inv
 
 module _ {parents raised₀ left₀ : List ℕ} {m : ℕ} {raised left : List ℕ} (inv : RisesTaken parents raised₀ left₀ (suc m) raised left) where
-  pub node-there : m < length parents
-  node-there = omega (arith, inv.summed.all)
+  pub node_there : m < length parents
+  node_there = omega (arith, inv.summed.all)
 
   module _ (rises : ParentsFirst (length parents) (at parents)) (enough : (n : ℕ) → n < length parents → tree_sum (at parents) (length parents) (at raised₀) n ≤ at left₀ n) where
     -- What stands on the node is no more than what its limit has left.
-    pub taken-fits : at raised m ≤ at left m
-    taken-fits = omega (arith, whole-at rises inv.summed, enough m node-there, inv.rest m (omega arith))
+    pub taken_fits : at raised m ≤ at left m
+    taken_fits = omega (arith, whole_at rises inv.summed, enough m node_there, inv.rest m (omega arith))
 
-    pub taken-turn : length raised₀ ≡ length parents → length left₀ ≡ length parents → {parent over : ℕ} {raised' : List ℕ}
+    pub taken_turn : length raised₀ ≡ length parents → length left₀ ≡ length parents → {parent over : ℕ} {raised' : List ℕ}
         → over ≡ at left m - at raised m → parent ≡ at parents m → raised' ≡ credited parent (at raised m) raised
         → RisesTaken parents raised₀ left₀ m raised' (set left m over)
-    taken-turn raised-size left-size {over = over} over-is parent_is is = record {
-      summed = summing-at rises (le_of_eq (sym raised-size)) inv.summed parent_is is;
+    taken_turn raised_size left_size {over = over} over_is parent_is is = record {
+      summed = summing_at rises (le_of_eq (sym raised_size)) inv.summed parent_is is;
       size = length-set left m over ∙ inv.size;
       taken = λ i h l. go i l (eq-or-lt_of_le h);
       rest = λ i l. get_or-set_other left m i over 0 (λ e. omega arith) ∙ inv.rest i (omega arith);
     }
       where
         here : over + tree_sum (at parents) (length parents) (at raised₀) m ≡ at left₀ m
-        here = omega (arith, whole-at rises inv.summed, taken-fits, inv.rest m (omega arith))
+        here = omega (arith, whole_at rises inv.summed, taken_fits, inv.rest m (omega arith))
 
         go : (i : ℕ) → i < length parents → (m ≡ i) ⊎ (m < i) → at (set left m over) i + tree_sum (at parents) (length parents) (at raised₀) i ≡ at left₀ i
-        go i l (inl e) = rw (← e) (omega (arith, get_or-set_same left m over 0 (omega (arith, inv.size, node-there)), here))
+        go i l (inl e) = rw (← e) (omega (arith, get_or-set_same left m over 0 (omega (arith, inv.size, node_there)), here))
         go i l (inr later) = omega (arith, get_or-set_other left m i over 0 (λ e. omega arith), inv.taken i later l)
 
 -- ---- Both loops
@@ -145,28 +145,28 @@ pub record Raised (parents nodes lows starts raised : List ℕ) : Type 0 where
 
 module _ {parents nodes lows starts left : List ℕ} (ok : Raisable parents nodes lows starts left) where
   -- What `credit_rises` asks of its lists.
-  pub credit-asks : (raised : List ℕ) → length raised ≡ length parents → ((n : ℕ) → at raised n ≡ 0)
+  pub credit_asks : (raised : List ℕ) → length raised ≡ length parents → ((n : ℕ) → at raised n ≡ 0)
       → ((length nodes ≤ most_cords) × (length lows ≡ length nodes) × (length starts ≡ length nodes))
       × (((c : ℕ) → c < length nodes → (1 ≤ at nodes c) × (at nodes c ≤ length raised) × (at lows c ≤ at starts c) × (at starts c ≤ most_watts))
       × ((n : ℕ) → at raised n ≡ 0))
-  credit-asks raised size zeros = (
-    (ok.few, ok.lows-size, ok.starts-size),
+  credit_asks raised size zeros = (
+    (ok.few, ok.lows_size, ok.starts_size),
     (λ c l. (ok.hangs c l, omega (arith, ok.within c l), ok.least c l, ok.most c l), zeros),
   )
 
   -- What it leaves in the list that it was lent, which is lent again.
-  pub raised-again : (lent : List ℕ) {back again : List ℕ} → length lent ≡ length parents → length back ≡ length lent → again ≡ back
+  pub raised_again : (lent : List ℕ) {back again : List ℕ} → length lent ≡ length parents → length back ≡ length lent → again ≡ back
       → sum (length lent) (at back) ≤ most_cords * most_watts
       → ((parents' : List ℕ) (n : ℕ) → length parents' ≡ length lent → tree_sum (at parents') (length parents') (at back) n + list_beneath parents' nodes lows n ≡ list_beneath parents' nodes starts n)
       → Raised parents nodes lows starts again
-  raised-again lent size kept again most risen =
+  raised_again lent size kept again most risen =
       rw again (record { size = kept ∙ size; most = rw (← size) most; risen = λ n. risen parents n (sym size) })
 
   module _ {raised : List ℕ} (done : Raised parents nodes lows starts raised) where
     -- What `take_rises` asks of its lists.
-    pub take-asks : ((length raised ≡ length parents) × (length left ≡ length parents) × (sum (length parents) (at raised) ≤ most_cords * most_watts))
+    pub take_asks : ((length raised ≡ length parents) × (length left ≡ length parents) × (sum (length parents) (at raised) ≤ most_cords * most_watts))
         × (ParentsFirst (length parents) (at parents) × ((n : ℕ) → n < length parents → tree_sum (at parents) (length parents) (at raised) n ≤ at left n))
-    take-asks = ((done.size, ok.left-size, done.most), (ok.rises, λ n l. omega (arith, done.risen n, ok.enough n l)))
+    take_asks = ((done.size, ok.left_size, done.most), (ok.rises, λ n l. omega (arith, done.risen n, ok.enough n l)))
 
     pub raised-end : (left' : List ℕ) → ((n : ℕ) → n < length parents → at left' n + tree_sum (at parents) (length parents) (at raised) n ≡ at left n)
         → (n : ℕ) → n < length parents → at left' n + list_beneath parents nodes starts n ≡ at left n + list_beneath parents nodes lows n

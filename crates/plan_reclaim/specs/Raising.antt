@@ -9,9 +9,9 @@ use Rattle.rooms.specs.Trees.{ParentsFirst}
 pub record Raisable (parents nodes lows starts left : List ℕ) : Type 0 where
   pub few-nodes : length parents ≤ most_nodes
   pub few : length nodes ≤ most_cords
-  pub left-size : length left ≡ length parents
-  pub lows-size : length lows ≡ length nodes
-  pub starts-size : length starts ≡ length nodes
+  pub left_size : length left ≡ length parents
+  pub lows_size : length lows ≡ length nodes
+  pub starts_size : length starts ≡ length nodes
   pub rises : ParentsFirst (length parents) (at parents)
   pub hangs : (c : ℕ) → c < length nodes → 1 ≤ at nodes c
   pub within : (c : ℕ) → c < length nodes → at nodes c ≤ length parents

@@ -10,7 +10,7 @@ use Rattle.deals.specs.SecondDeal.{least_over}
 pub record ServerLists (scale : ℕ) (cords : List (List ℕ)) (watts : List ℕ) (grant_count : ℕ) : Type 0 where
   pub scaled : IsScale scale
   pub few : length cords ≤ most_cords
-  pub grants-size : grant_count ≡ length cords
+  pub grants_size : grant_count ≡ length cords
   pub within : (c : ℕ) → c < length cords → cell cords c server_column < length watts
   pub parts : (c : ℕ) → c < length cords → cell cords c share_column ≤ scale
   pub most : (v : ℕ) → v < length watts → at watts v ≤ most_watts

@@ -18,7 +18,7 @@ use Rattle.deals.specs.Wants.{needs, first_wants}
 use Rattle.deals.specs.Headroom.{ceilings_of}
 use Rattle.deals.proofs.RoomDeals.{parents_of-length}
 use Rattle.deals.proofs.BothDeals.{lows_of-length, carried_by-length}
-use Rattle.deals.proofs.RoomHeadroom.{ceilings-count}
+use Rattle.deals.proofs.RoomHeadroom.{ceilings_count}
 use Rattle.layout.specs.Room.{RoomLists}
 use Rattle.layout.specs.declared.room.Counts.{Counts}
 use Rattle.layout.proofs.Rows.{cords-count}
@@ -35,23 +35,23 @@ front_long {n = n} list size is = go (leb n (length list)) refl
 
 module _ {table demands : List ℕ} {r : Room} {counts : Counts} {parents spare : List ℕ} {cords : List (List ℕ)} {lows wants headroom caps : List ℕ}
     (g : PlanGiven table demands r counts parents spare cords lows wants headroom caps) where
-  pub given-ok : Accepted r
-  given-ok = accepted table r g.end g.is
+  pub given_ok : Accepted r
+  given_ok = accepted table r g.end g.is
 
-  nodes-are : counts.nodes ≡ length r.nodes
-  nodes-are = ap (λ (c : Counts). c.nodes) g.counted
+  nodes_are : counts.nodes ≡ length r.nodes
+  nodes_are = ap (λ (c : Counts). c.nodes) g.counted
 
-  servers-are : counts.servers ≡ length r.servers
-  servers-are = ap (λ (c : Counts). c.servers) g.counted
+  servers_are : counts.servers ≡ length r.servers
+  servers_are = ap (λ (c : Counts). c.servers) g.counted
 
-  cords-are : counts.cords ≡ room_cords r
-  cords-are = ap (λ (c : Counts). c.cords) g.counted
+  cords_are : counts.cords ≡ room_cords r
+  cords_are = ap (λ (c : Counts). c.cords) g.counted
 
-  pub nodes-few : counts.nodes ≤ most_nodes
-  nodes-few = omega (arith, nodes-are, given-ok.few_nodes)
+  pub nodes_few : counts.nodes ≤ most_nodes
+  nodes_few = omega (arith, nodes_are, given_ok.few_nodes)
 
-  pub cords-few : counts.cords ≤ most_cords
-  cords-few = omega (arith, cords-are, given-ok.few_cords)
+  pub cords_few : counts.cords ≤ most_cords
+  cords_few = omega (arith, cords_are, given_ok.few_cords)
 
   -- The fronts are the room's lists.
   pub given-lists : RoomLists r demands (take counts.nodes parents) (take counts.nodes spare) (take counts.cords cords)
@@ -59,54 +59,54 @@ module _ {table demands : List ℕ} {r : Room} {counts : Counts} {parents spare 
   given-lists = rw g.counted g.loaded
 
   -- Every list is long enough.
-  pub parents-long : counts.nodes ≤ length parents
-  parents-long = front_long parents (ap length given-lists.parents-are ∙ parents_of-length r) nodes-are
+  pub parents_long : counts.nodes ≤ length parents
+  parents_long = front_long parents (ap length given-lists.parents_are ∙ parents_of-length r) nodes_are
 
-  pub spare-long : counts.nodes ≤ length spare
-  spare-long = front_long spare (given-lists.spare-size ∙ ap length given-lists.parents-are ∙ parents_of-length r) nodes-are
+  pub spare_long : counts.nodes ≤ length spare
+  spare_long = front_long spare (given-lists.spare_size ∙ ap length given-lists.parents_are ∙ parents_of-length r) nodes_are
 
-  pub cords-long : counts.cords ≤ length cords
-  cords-long = front_long cords (cords-count given-lists.cords-are.rows_are) cords-are
+  pub cords_long : counts.cords ≤ length cords
+  cords_long = front_long cords (cords-count given-lists.cords_are.rows_are) cords_are
 
-  pub lows-long : counts.cords ≤ length lows
-  lows-long = front_long lows (ap length given-lists.cords-are.lows-are ∙ lows_of-length r) cords-are
+  pub lows_long : counts.cords ≤ length lows
+  lows_long = front_long lows (ap length given-lists.cords_are.lows_are ∙ lows_of-length r) cords_are
 
-  pub wants-long : counts.cords ≤ length wants
+  pub wants_long : counts.cords ≤ length wants
   unfolding first_wants
-  wants-long = front_long wants (ap length given-lists.cords-are.wants-are ∙ carried_by-length r (needs r demands)) cords-are
+  wants_long = front_long wants (ap length given-lists.cords_are.wants_are ∙ carried_by-length r (needs r demands)) cords_are
 
-  pub headroom-long : counts.cords ≤ length headroom
-  headroom-long = front_long headroom (ap length given-lists.cords-are.ceilings-are ∙ ceilings-count r given-ok demands) cords-are
+  pub headroom_long : counts.cords ≤ length headroom
+  headroom_long = front_long headroom (ap length given-lists.cords_are.ceilings_are ∙ ceilings_count r given_ok demands) cords_are
 
-  pub caps-long : counts.servers ≤ length caps
+  pub caps_long : counts.servers ≤ length caps
   unfolding needs
-  caps-long = front_long caps (ap length given-lists.cords-are.needs-are ∙ figures-length (length r.servers) _) servers-are
+  caps_long = front_long caps (ap length given-lists.cords_are.needs_are ∙ figures-length (length r.servers) _) servers_are
 
   -- With the cords' nodes they are what both deals ask.
-  pub to-deal : {nodes : List ℕ} → nodes ≡ column node_column (take counts.cords cords)
+  pub to_deal : {nodes : List ℕ} → nodes ≡ column node_column (take counts.cords cords)
       → RoomToDeal r demands (take counts.nodes parents) (take counts.nodes spare) (take counts.cords cords) nodes
       (take counts.cords lows) (take counts.cords wants) (take counts.servers caps) counts.scale
-  to-deal listed =
-      let laid = given-lists.cords-are in
+  to_deal listed =
+      let laid = given-lists.cords_are in
       record {
         lists = record {
-          parents-are = given-lists.parents-are;
-          spare-size = given-lists.spare-size;
-          spare-is = given-lists.spare-is;
-          cords-are = record {
+          parents_are = given-lists.parents_are;
+          spare_size = given-lists.spare_size;
+          spare_is = given-lists.spare_is;
+          cords_are = record {
             rows_are = laid.rows_are;
-            lows-are = laid.lows-are;
-            wants-are = laid.wants-are;
-            ceilings-are = refl;
-            needs-are = laid.needs-are;
+            lows_are = laid.lows_are;
+            wants_are = laid.wants_are;
+            ceilings_are = refl;
+            needs_are = laid.needs_are;
           };
         };
-        nodes-are = listed ∙ laid.rows_are.nodes;
-        scale-is = ap (λ (c : Counts). c.scale) g.counted;
+        nodes_are = listed ∙ laid.rows_are.nodes;
+        scale_is = ap (λ (c : Counts). c.scale) g.counted;
       }
 
-  pub ceilings-given : take counts.cords headroom ≡ ceilings_of r
-  ceilings-given = given-lists.cords-are.ceilings-are
+  pub ceilings_given : take counts.cords headroom ≡ ceilings_of r
+  ceilings_given = given-lists.cords_are.ceilings_are
 
 -- What came back for a front stands before the rest.
 pub stands : {n : ℕ} {list back : List ℕ} → Lent n list back → (out : List ℕ) → back ≡ out → rejoined n list back ≡ sets list 0 out

@@ -21,8 +21,8 @@ use Rattle.layout.specs.declared.room.Counts.{Counts}
 pub record RoomToDeal (r : Room) (demands parents spare : List ℕ) (cords : List (List ℕ)) (nodes lows wants needed : List ℕ)
     (scale : ℕ) : Type 0 where
   pub lists : RoomLists r demands parents spare cords lows wants (lending.ceilings_of r) needed
-  pub nodes-are : nodes ≡ nodes_of r
-  pub scale-is : scale ≡ r.scale
+  pub nodes_are : nodes ≡ nodes_of r
+  pub scale_is : scale ≡ r.scale
 
 -- They are those of the room of some good table with some demands.
 pub record SomeRoom (parents spare : List ℕ) (cords : List (List ℕ)) (nodes lows wants needed : List ℕ) (scale : ℕ) : Type 0 where
@@ -35,10 +35,10 @@ pub record SomeRoom (parents spare : List ℕ) (cords : List (List ℕ)) (nodes 
 
 -- Both deals of a room are made: the freed watts, the second wants, what the second deal leaves in its lists, and the caps.
 pub record DealtTwice (r : Room) (demands : List ℕ) (watts : ℕ) (wants left cuts grants caps : List ℕ) : Type 0 where
-  pub freed-is : watts ≡ freed r demands
-  pub wants-are : wants ≡ second_wants r demands
+  pub freed_is : watts ≡ freed r demands
+  pub wants_are : wants ≡ second_wants r demands
   pub made : DealMade (second_deal r demands) left cuts grants
-  pub caps-are : caps ≡ second.caps r demands
+  pub caps_are : caps ≡ second.caps r demands
 
 -- ---- The plan
 
@@ -59,5 +59,5 @@ pub record SomePlan (counts : Counts) (parents spare : List ℕ) (cords : List (
 
 -- The plan of a room stands at the fronts of its lists; what is past it is unchanged.
 pub record PlanLeft (r : Room) (demands : List ℕ) (watts : ℕ) (before after : Lists) : Type 0 where
-  pub freed-is : watts ≡ freed r demands
-  pub lists-are : (list : PlanList) → after list ≡ sets (before list) 0 (output list (plan_of r demands))
+  pub freed_is : watts ≡ freed r demands
+  pub lists_are : (list : PlanList) → after list ≡ sets (before list) 0 (output list (plan_of r demands))

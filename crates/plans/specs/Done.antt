@@ -12,5 +12,5 @@ plan_in table demands given = plan table demands (lent given)
 
 -- The answer is that to the outcome, and every list has what the outcome writes at its front; entries past that are unchanged.
 pub record PlanDone (table demands : List ℕ) (lent : Lists) (answer : Planned) (left : Lists) : Type 0 where
-  pub answer-is : answer ≡ answer_of (plan_in table demands lent)
-  pub lists-are : (list : PlanList) → left list ≡ after (output list) (plan_in table demands lent) (lent list)
+  pub answer_is : answer ≡ answer_of (plan_in table demands lent)
+  pub lists_are : (list : PlanList) → left list ≡ after (output list) (plan_in table demands lent) (lent list)

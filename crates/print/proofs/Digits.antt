@@ -15,14 +15,14 @@ ten j n h =
     let q : 10 * 10 ^ j ≤ n = rw pow-succ' at h in
     omega arith
 
-last-digit : (n : ℕ) → hex_digit_ascii (n % 10) ≡ 48 + n % 10
-last-digit n =
+last_digit : (n : ℕ) → hex_digit_ascii (n % 10) ≡ 48 + n % 10
+last_digit n =
     let h : n % 10 < 10 = omega arith in
     rw (lt-ltb _ _ h)
 
 -- Without its last digit a number has one digit fewer.
-fewest-rest : (n j : ℕ) → IsDigitCount 10 1 n (suc (suc j)) → IsDigitCount 10 1 (n / 10) (suc j)
-fewest-rest n j h = (
+fewest_rest : (n j : ℕ) → IsDigitCount 10 1 n (suc (suc j)) → IsDigitCount 10 1 (n / 10) (suc j)
+fewest_rest n j h = (
   omega arith,
   (div-lt_iff_lt-mul (zero-lt-suc 9)).1 (rw (pow-suc 10 (suc j)) at h.1),
   λ k. (le-div_iff_mul-le (zero-lt-suc 9)).1 (less k),
@@ -39,13 +39,13 @@ digits-numeral : (k most n : ℕ) → k ≤ most → IsDigitCount 10 1 n k → l
 unfolding numeral
 digits-numeral zero most n l h = let z = h.0 in absurd (omega arith)
 digits-numeral (suc k) zero n l h = absurd (omega arith)
-digits-numeral (suc zero) (suc most) n l h = rw (last-digit n, mod-eq_of_lt h.1, lt-ltb _ _ h.1)
+digits-numeral (suc zero) (suc most) n l h = rw (last_digit n, mod-eq_of_lt h.1, lt-ltb _ _ h.1)
 digits-numeral (suc (suc j)) (suc most) n l h =
     let m : suc j ≤ most = omega arith in
     let e : suc (suc j) - 1 ≡ suc j = omega arith in
     let big : 10 ≤ n = ten j n (rw e at (h.2 (omega arith))) in
-    rw (last-digit n, le-ltb _ _ big)
-    (ap (λ (s : List ℕ). s ++ ((48 + n % 10) ∷ [])) (digits-numeral (suc j) most (n / 10) m (fewest-rest n j h)))
+    rw (last_digit n, le-ltb _ _ big)
+    (ap (λ (s : List ℕ). s ++ ((48 + n % 10) ∷ [])) (digits-numeral (suc j) most (n / 10) m (fewest_rest n j h)))
 
 -- A number of 64 bits has at most 20 digits.
 twenty : (n k : ℕ) → IsDigitCount 10 1 n k → n < 2 ^ 64 → k ≤ 20

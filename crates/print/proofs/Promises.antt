@@ -8,7 +8,7 @@ use lib.ListN.{length}
 use Rattle.figures.proofs.Columns.{column-length}
 use Rattle.figures.proofs.Lists.{figures-length}
 use Rattle.rooms.specs.Table.{most_servers, room_cords}
-use Rattle.rooms.proofs.All.{all-at}
+use Rattle.rooms.proofs.All.{all_at}
 use Rattle.rooms.proofs.Accepted.{ServerAccepted, accepted}
 use Rattle.rooms.specs.Rows.{rank_column}
 use Rattle.print.specs.Line.{freed_line}
@@ -17,9 +17,9 @@ use Rattle.print.specs.Walk.{plan_print}
 use Rattle.print.specs.Promises.{PrintsRoom}
 use Rattle.print.proofs.Room.{servers_at-servers}
 
-pub prints-room : PrintsRoom
+pub prints_room : PrintsRoom
 unfolding plan_print print_of
-prints-room table room end freed servers cords caps grants headroom held e sr cr =
+prints_room table room end freed servers cords caps grants headroom held e sr cr =
     let ok = accepted table room end e in
     let size : length servers ≡ length room.servers
     = sym (column-length rank_column servers) ∙ ap length sr.ranks ∙ figures-length (length room.servers) _ in
@@ -27,5 +27,5 @@ prints-room table room end freed servers cords caps grants headroom held e sr cr
     rw all
     (ap (λ (l : List ℕ). freed_line freed ++ l)
     (servers_at-servers room servers caps (plan_line grants headroom held) sr cr
-    (λ v h. (all-at (ServerAccepted room.scale (length room.nodes)) room.servers ok.servers v _ h).few_cords)
+    (λ v h. (all_at (ServerAccepted room.scale (length room.nodes)) room.servers ok.servers v _ h).few_cords)
     (length room.servers) 0 0 room.servers (zero-add (length room.servers)) refl refl refl (zero-add (room_cords room))))

@@ -16,9 +16,9 @@ use Rattle.print.specs.Line.{Put}
 -- ---- a run of stores
 
 -- A run past the end changes nothing.
-sets-past : (l : List ℕ) (i : ℕ) (t : List ℕ) → length l ≤ i → sets l i t ≡ l
-sets-past l i [] h = refl
-sets-past l i (a ∷ t) h = rw (set_out l i a h) (sets-past l (suc i) t (omega arith))
+sets_past : (l : List ℕ) (i : ℕ) (t : List ℕ) → length l ≤ i → sets l i t ≡ l
+sets_past l i [] h = refl
+sets_past l i (a ∷ t) h = rw (set_out l i a h) (sets_past l (suc i) t (omega arith))
 
 -- A run that starts where the one before it ends, or at the buffer's end if that comes first, goes on with it.
 sets-on : (l : List ℕ) (i : ℕ) (s t : List ℕ) → sets (sets l i s) (min (i + length s) (length l)) t ≡ sets l i (s ++ t)
@@ -35,20 +35,20 @@ sets-on l i s t = go (leb (i + length s) (length l)) refl
         rw next (sym (sets-append l i s t))
     go false e =
         let over : length l < i + length s = leb-false _ _ e in
-        sets-past (sets l i s) (min (i + length s) (length l)) t (omega (arith, size))
-        ∙ sym (sets-past (sets l i s) (i + length s) t (omega (arith, size)))
+        sets_past (sets l i s) (min (i + length s) (length l)) t (omega (arith, size))
+        ∙ sym (sets_past (sets l i s) (i + length s) t (omega (arith, size)))
         ∙ sym (sets-append l i s t)
 
 -- ---- one text after another
 
 -- The buffer keeps its length.
-pub put-size : {a b : List ℕ} {i n : ℕ} {s : List ℕ} → Put a i b n s → length b ≡ length a
-put-size {a} {b} {i} {n} {s} p = ap length p.bytes ∙ length-sets a i s
+pub put_size : {a b : List ℕ} {i n : ℕ} {s : List ℕ} → Put a i b n s → length b ≡ length a
+put_size {a} {b} {i} {n} {s} p = ap length p.bytes ∙ length-sets a i s
 
 module _ {a b c : List ℕ} {i j k : ℕ} {s t : List ℕ} where
   pub then : Put a i b j s → Put b j c k t → Put a i c k (s ++ t)
   then p q =
-      let size = put-size p in
+      let size = put_size p in
       record {
         bytes = q.bytes ∙ ap (λ (l : List ℕ). sets l j t) p.bytes ∙ rw p.past (sets-on a i s t);
         past = omega (arith, p.past, q.past, length-append s t);
@@ -59,13 +59,13 @@ pub put_as : {a b : List ℕ} {i n : ℕ} {s t : List ℕ} → s ≡ t → Put a
 put_as e p = rw (← e) p
 
 -- No text.
-pub put-none : (a : List ℕ) (i : ℕ) → i ≤ length a → Put a i a i []
-put-none a i h = record { bytes = refl; past = omega arith }
+pub put_none : (a : List ℕ) (i : ℕ) → i ≤ length a → Put a i a i []
+put_none a i h = record { bytes = refl; past = omega arith }
 
 -- What is put can be lent.
 pub counts : {a b : List ℕ} {i n : ℕ} {s : List ℕ} → Put a i b n s → IsPrefixLen n b
 counts {a} {b} {i} {n} {s} p =
-    let size = put-size p in
+    let size = put_size p in
     let inside : n ≤ length b = omega (arith, p.past) in
     (inside, sym (length-take-le n b inside))
 
@@ -84,12 +84,12 @@ pub record Copying (text a : List ℕ) (at : ℕ) (b : List ℕ) (i : ℕ) : Typ
   pub bytes : b ≡ sets a at (take i text)
   pub size : length b ≡ length a
 
-pub copying-first : (text a : List ℕ) (at : ℕ) → at ≤ length a → Copying text a at a 0
-copying-first text a at h = record { within = omega arith; bound = omega arith; bytes = refl; size = refl }
+pub copying_first : (text a : List ℕ) (at : ℕ) → at ≤ length a → Copying text a at a 0
+copying_first text a at h = record { within = omega arith; bound = omega arith; bytes = refl; size = refl }
 
-pub copying-next : (text a : List ℕ) (at : ℕ) (b : List ℕ) (i : ℕ) → Copying text a at b i → i < length text → at + i < length a
+pub copying_next : (text a : List ℕ) (at : ℕ) (b : List ℕ) (i : ℕ) → Copying text a at b i → i < length text → at + i < length a
     → Copying text a at (set b (at + i) (get_or text i 0)) (i + 1)
-copying-next text a at b i g h k =
+copying_next text a at b i g h k =
     let n : length (take i text) ≡ i = length-take-le i text (omega arith) in
     let more : sets a at (take (i + 1) text) ≡ set (sets a at (take i text)) (at + i) (get_or text i 0) =
     rw (add-one, take-suc text i 0 h, sets-append, n) in
@@ -100,9 +100,9 @@ copying-next text a at b i g h k =
       size = length-set b (at + i) (get_or text i 0) ∙ g.size;
     }
 
-pub copying-last : (text a : List ℕ) (at : ℕ) (b : List ℕ) (i r : ℕ) → Copying text a at b i
+pub copying_last : (text a : List ℕ) (at : ℕ) (b : List ℕ) (i r : ℕ) → Copying text a at b i
     → min (length text) (length a - at) ≤ i → r ≡ at + i → Put a at b r text
-copying-last text a at b i r g h e =
+copying_last text a at b i r g h e =
     record {
       bytes = g.bytes ∙ rest (leb (length text) i) refl;
       past = omega (arith, g.within, g.bound);
@@ -114,7 +114,7 @@ copying-last text a at b i r g h e =
         let over = leb-false (length text) i e in
         let n : length (take i text) ≡ i = length-take-le i text g.bound in
         sym
-        (sets-past (sets a at (take i text)) (at + length (take i text)) (drop i text)
+        (sets_past (sets a at (take i text)) (at + length (take i text)) (drop i text)
         (omega (arith, length-sets a at (take i text), g.within)))
         ∙ sym (sets-append a at (take i text) (drop i text)) ∙ ap (sets a at) (take-append-drop i text)
 
@@ -126,17 +126,17 @@ pub record Putting (a : List ℕ) (start : ℕ) (b : List ℕ) (next : ℕ) (res
   pub put : Put a start b next so_far
   pub is : so_far ++ rest ≡ whole
 
-pub putting-first : (a : List ℕ) (start : ℕ) (whole : List ℕ) → start ≤ length a → Putting a start a start whole whole
-putting-first a start whole h = record { so_far = []; put = put-none a start h; is = refl }
+pub putting_first : (a : List ℕ) (start : ℕ) (whole : List ℕ) → start ≤ length a → Putting a start a start whole whole
+putting_first a start whole h = record { so_far = []; put = put_none a start h; is = refl }
 
-pub putting-next : {a b c : List ℕ} {start i j : ℕ} {piece rest whole : List ℕ}
+pub putting_next : {a b c : List ℕ} {start i j : ℕ} {piece rest whole : List ℕ}
     → Putting a start b i (piece ++ rest) whole → Put b i c j piece → Putting a start c j rest whole
-putting-next {piece = piece} {rest = rest} g p =
+putting_next {piece = piece} {rest = rest} g p =
     record { so_far = g.so_far ++ piece; put = then g.put p; is = append_assoc g.so_far piece rest ∙ g.is }
 
-pub putting-last : {a b : List ℕ} {start i : ℕ} {whole : List ℕ} → Putting a start b i [] whole → Put a start b i whole
-putting-last g = rw (sym (append-nil g.so_far) ∙ g.is) at g.put
+pub putting_last : {a b : List ℕ} {start i : ℕ} {whole : List ℕ} → Putting a start b i [] whole → Put a start b i whole
+putting_last g = rw (sym (append-nil g.so_far) ∙ g.is) at g.put
 
 -- The place is never past the buffer's end.
-pub putting-within : {a b : List ℕ} {start i : ℕ} {rest whole : List ℕ} → Putting a start b i rest whole → i ≤ length b
-putting-within g = (counts g.put).0
+pub putting_within : {a b : List ℕ} {start i : ℕ} {rest whole : List ℕ} → Putting a start b i rest whole → i ≤ length b
+putting_within g = (counts g.put).0

@@ -51,7 +51,7 @@ module _ (r : Room) (servers : List (List ℕ)) {cords : List (List ℕ)} (caps 
   node_stands c h = sym (column-at node_column cords c) ∙ ap (λ (l : List ℕ). at l c) cr.nodes ∙ figures-at (room_cords r) c _ h
 
   -- One server and its cords, at place c of the room's.
-  module _ (v c : ℕ) (s : Server) (rest : List Server) (split : drop v r.servers ≡ s ∷ rest) (cords-are : drop c (cords_of r) ≡ cords_from v (s ∷ rest))
+  module _ (v c : ℕ) (s : Server) (rest : List Server) (split : drop v r.servers ≡ s ∷ rest) (cords_are : drop c (cords_of r) ≡ cords_from v (s ∷ rest))
       (first : v < length r.servers) (left : c + total cord_count (s ∷ rest) ≡ room_cords r) where
     here : (server_at r v ≡ s) × (drop (suc v) r.servers ≡ rest)
     here =
@@ -62,23 +62,23 @@ module _ (r : Room) (servers : List (List ℕ)) {cords : List (List ℕ)} (caps 
 
     after : drop c (cords_of r) ≡ server_cords v s.cords ++ cords_from (suc v) rest
     unfolding cords_from
-    after = cords-are
+    after = cords_are
 
-    total-is : c + (cord_count s + total cord_count rest) ≡ room_cords r
+    total_is : c + (cord_count s + total cord_count rest) ≡ room_cords r
     unfolding total
-    total-is = left
+    total_is = left
 
     node-of : (k : ℕ) → k < cord_count s → cell cords (c + k) node_column ≡ node_at s.cords k
     node-of k h =
-        node_stands (c + k) (omega (arith, total-is))
+        node_stands (c + k) (omega (arith, total_is))
         ∙ ap (λ (x : RoomCord). x.node)
         (sym (get_or-drop c (cords_of r) k no_room_cord)
         ∙ ap (λ (l : List RoomCord). get_or l k no_room_cord) after
         ∙ get_or-append (server_cords v s.cords) (cords_from (suc v) rest) no_room_cord k (omega (arith, server_cords-length v s.cords))
         ∙ server_cords-at v s.cords k h)
 
-    cords-next : drop (c + cord_count s) (cords_of r) ≡ cords_from (suc v) rest
-    cords-next =
+    cords_next : drop (c + cord_count s) (cords_of r) ≡ cords_from (suc v) rest
+    cords_next =
         sym (drop-drop (cord_count s) c (cords_of r))
         ∙ ap (drop (cord_count s)) after
         ∙ drop_at (server_cords v s.cords) (cords_from (suc v) rest) (cord_count s) (server_cords-length v s.cords)
@@ -100,7 +100,7 @@ module _ (r : Room) (servers : List (List ℕ)) {cords : List (List ℕ)} (caps 
         server_print-same (v + 1) (at caps v) (cord_count s) (cord_line_at cords line c) (λ k. line (k + 1) (node_at s.cords k) (c + k))
             (λ k h. ap (λ (n : ℕ). line (k + 1) n (c + k)) (node-of v c s rest d e first t k h)),
         servers_at-servers left (v + 1) (c + cord_count s) rest (omega arith) (rw next (here v c s rest d e first t).1) (omega arith)
-            (rw next (cords-next v c s rest d e first t)) (omega (arith, total-is v c s rest d e first t)),
+            (rw next (cords_next v c s rest d e first t)) (omega (arith, total_is v c s rest d e first t)),
       )
 
 -- ---- figures past those of the room make no difference

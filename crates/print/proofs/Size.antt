@@ -11,7 +11,7 @@ use lib.ListN.{length, length-append}
 use Rattle.figures.specs.Bounds.{AllBelow}
 use Rattle.figures.specs.Figures.{total}
 use Rattle.rooms.specs.Table.{Server, Room, most_servers, most_nodes, most_cords, cord_count}
-use Rattle.rooms.proofs.All.{All, all_head, all_tail, all-at}
+use Rattle.rooms.proofs.All.{All, all_head, all_tail, all_at}
 use Rattle.rooms.proofs.Accepted.{ServerAccepted, Accepted}
 use Rattle.print.specs.Line.{numeral, labelled, freed_line, server_line, cord_line, refused_line}
 use Rattle.print.specs.Print.{lines_from, at, node_at, server_print, servers_print, plan_line, print_of}
@@ -75,11 +75,11 @@ length-lines_from most line zero k h = omega arith
 length-lines_from most line (suc count) k h =
     let one = h k (omega arith) in
     let rest = length-lines_from most line count (k + 1) (λ m l. h m (omega arith)) in
-    let n : most * suc count ≡ most + most * count = mul-suc' in
+    let n : most * suc count ≡ most + most * count = mul_suc' in
     simp length-append (omega arith)
   where
-    mul-suc' : most * suc count ≡ most + most * count
-    mul-suc' = omega arith
+    mul_suc' : most * suc count ≡ most + most * count
+    mul_suc' = omega arith
 
 -- ---- the servers
 
@@ -98,7 +98,7 @@ module _
       cord : (k : ℕ) → k < 0 + cord_count s → length (line (k + 1) (node_at s.cords k) (c + k)) ≤ most_line
       cord k h =
           let there : k < cord_count s = omega arith in
-          let is = all-at _ s.cords a.cords k (record { node = 0; share = 0 }) there in
+          let is = all_at _ s.cords a.cords k (record { node = 0; share = 0 }) there in
           short (k + 1) (node_at s.cords k) (c + k) (omega (arith, a.few_cords)) (omega (arith, is.node_to))
 
   length-servers_print : (v c : ℕ) (ss : List Server) → v + length ss ≤ most_servers → All (ServerAccepted scale node_count) ss

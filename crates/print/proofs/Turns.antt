@@ -8,15 +8,15 @@ use Rattle.rooms.specs.Table.{most_servers}
 use Rattle.print.specs.Line.{server_line, Put}
 use Rattle.print.specs.Print.{lines_from, at, server_print}
 use Rattle.print.specs.Walk.{cord_line_at, cords_at, servers_at, walk_print}
-use Rattle.print.proofs.Putting.{then, put-size, Putting, putting-first, putting-next, putting-last}
+use Rattle.print.proofs.Putting.{then, put_size, Putting, putting_first, putting_next, putting_last}
 
 -- ---- lines by place
 
 module _ (line : ℕ → List ℕ) where
   -- One line more.
-  lines_from-turn : (count k : ℕ) → k < count → lines_from (count - k) k line ≡ line k ++ lines_from (count - (k + 1)) (k + 1) line
+  lines_from_turn : (count k : ℕ) → k < count → lines_from (count - k) k line ≡ line k ++ lines_from (count - (k + 1)) (k + 1) line
   unfolding lines_from
-  lines_from-turn count k h =
+  lines_from_turn count k h =
       let left : count - k ≡ suc (count - (k + 1)) = omega arith in
       rw left
 
@@ -30,11 +30,11 @@ module _ (line : ℕ → List ℕ) where
   pub lines_next : {a b c : List ℕ} {start next past : ℕ} {whole : List ℕ} (count k : ℕ) → k < count
       → Putting a start b next (lines_from (count - k) k line) whole → Put b next c past (line k)
       → Putting a start c past (lines_from (count - (k + 1)) (k + 1) line) whole
-  lines_next count k h g p = putting-next (rw (lines_from-turn count k h) at g) p
+  lines_next count k h g p = putting_next (rw (lines_from_turn count k h) at g) p
 
-  pub lines-last : {a b : List ℕ} {start next : ℕ} {whole : List ℕ} (count k : ℕ) → count ≤ k
+  pub lines_last : {a b : List ℕ} {start next : ℕ} {whole : List ℕ} (count k : ℕ) → count ≤ k
       → Putting a start b next (lines_from (count - k) k line) whole → Put a start b next whole
-  lines-last count k h g = putting-last (rw (lines_from-end count k h) at g)
+  lines_last count k h g = putting_last (rw (lines_from-end count k h) at g)
 
 -- ---- servers
 
@@ -43,39 +43,39 @@ module _ (line : ℕ → List ℕ) where
 pub record Walking (servers cords : List (List ℕ)) (caps : List ℕ) (line : ℕ → ℕ → ℕ → List ℕ) (a : List ℕ) (start count : ℕ) (b : List ℕ) (first next v : ℕ) : Type 0 where
   pub bound : v ≤ count
   pub most : count ≤ most_servers
-  pub first-bound : first ≤ 4 * v
+  pub first_bound : first ≤ 4 * v
   pub put : Putting a start b next (servers_at servers cords caps line (count - v) v first) (servers_at servers cords caps line count 0 0)
   pub size : length b ≡ length a
 
 module _ (servers cords : List (List ℕ)) (caps : List ℕ) (line : ℕ → ℕ → ℕ → List ℕ) (a : List ℕ) (start count : ℕ) where
-  pub walking-first : start ≤ length a → count ≤ most_servers → Walking servers cords caps line a start count a 0 start 0
-  walking-first h k =
+  pub walking_first : start ≤ length a → count ≤ most_servers → Walking servers cords caps line a start count a 0 start 0
+  walking_first h k =
       let all : count - 0 ≡ count = omega arith in
       record {
         bound = omega arith;
         most = k;
-        first-bound = omega arith;
-        put = rw all (putting-first a start (servers_at servers cords caps line count 0 0) h);
+        first_bound = omega arith;
+        put = rw all (putting_first a start (servers_at servers cords caps line count 0 0) h);
         size = refl;
       }
 
   -- One server more.
-  pub walking-next : (b : List ℕ) (first next v : ℕ) {b' b'' : List ℕ} {at-line past cap few : ℕ}
+  pub walking_next : (b : List ℕ) (first next v : ℕ) {b' b'' : List ℕ} {at-line past cap few : ℕ}
       → Walking servers cords caps line a start count b first next v → v < count
       → cap ≡ at caps v → few ≡ cords_at servers v
       → Put b next b' at-line (server_line (v + 1) cap)
       → Put b' at-line b'' past (lines_from few 0 (cord_line_at cords line first))
       → Walking servers cords caps line a start count b'' (first + few) past (v + 1)
   unfolding servers_at server_print
-  walking-next b first next v {b'} {b''} {at-line} {past} {cap} {few} g h ec es p q =
+  walking_next b first next v {b'} {b''} {at-line} {past} {cap} {few} g h ec es p q =
       let left : count - v ≡ suc (count - (v + 1)) = omega arith in
       let both = then p q in
       record {
         bound = omega arith;
         most = g.most;
-        first-bound = omega (arith, g.first-bound);
-        put = rw es (putting-next (rw left at g.put) (rw (ec, es) at both));
-        size = put-size both ∙ g.size;
+        first_bound = omega (arith, g.first_bound);
+        put = rw es (putting_next (rw left at g.put) (rw (ec, es) at both));
+        size = put_size both ∙ g.size;
       }
 
 -- No server is left.
@@ -85,4 +85,4 @@ pub walked : {servers cords : List (List ℕ)} {caps : List ℕ} {line : ℕ →
 unfolding servers_at
 walked {count = count} {v = v} g h ec =
     let none : count - v ≡ 0 = omega arith in
-    rw (← ec) (putting-last (rw none at g.put))
+    rw (← ec) (putting_last (rw none at g.put))

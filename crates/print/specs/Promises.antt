@@ -1,4 +1,4 @@
--- What the contract of `plan` comes to. A statement; proofs/Promises.antt proves it, as `prints-room`.
+-- What the contract of `plan` comes to. A statement; proofs/Promises.antt proves it, as `prints_room`.
 use Rattle.std.specs.Prelude.{◌≡◌, List, ℕ}
 use Rattle.rooms.specs.Part.{good}
 use Rattle.rooms.specs.Table.{Room}

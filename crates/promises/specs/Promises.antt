@@ -19,107 +19,107 @@ pub record Promises : Type 0 where
   -- ---- Document 01
 
   -- Demand 2: a written sheet reads back as its table, and a sheet that was read is written back, byte for byte.
-  pub table-reads-back : rooms.TableReadsBack
-  pub sheet-writes-back : rooms.SheetWritesBack
+  pub table_reads_back : rooms.TableReadsBack
+  pub sheet_writes_back : rooms.SheetWritesBack
   -- "Dealing": the first deal in the document's own words, by excesses.
-  pub first-by-excess : deals.FirstByExcess
+  pub first_by_excess : deals.FirstByExcess
   -- "Second deal": the answer is that of both deals.
-  pub answer-of-both-deals : deals.AnswerOfBothDeals
+  pub answer_of_both_deals : deals.AnswerOfBothDeals
   -- Demand 3, of each deal: every cord from low to want, every breaker within its limit.
-  pub first-kept : deals.FirstKept
-  pub second-kept : deals.SecondKept
+  pub first_kept : deals.FirstKept
+  pub second_kept : deals.SecondKept
   -- Demand 3, of each deal: no other way of dealing a tree gives its cords of rank r and above more.
-  pub first-greatest : deals.FirstGreatest
-  pub second-greatest : deals.SecondGreatest
+  pub first_greatest : deals.FirstGreatest
+  pub second_greatest : deals.SecondGreatest
   -- Demand 3: lower ranks' demands change nothing at a rank and above.
-  pub settled-from-rank : deals.SettledFromRank
+  pub settled_from_rank : deals.SettledFromRank
   -- Demand 3: refusal 9 exactly where the lows exceed a limit, at the lowest such node: of Read and Write, and of Plan.
-  pub refusal-nine : rooms.RefusalNine
-  pub plan-refusal-nine : deals.RefusalNine
+  pub refusal_nine : rooms.RefusalNine
+  pub plan-refusal_nine : deals.RefusalNine
   -- ---- Document 02
 
   -- A.1: grants and headroom beneath a node pass no limit.
-  pub headroom-within-limits : deals.HeadroomWithinLimits
+  pub headroom-within_limits : deals.HeadroomWithinLimits
   -- A.1: a cord's grant and headroom pass no ceiling.
-  pub headroom-within-ceilings : deals.HeadroomWithinCeilings
+  pub headroom-within_ceilings : deals.HeadroomWithinCeilings
   -- A.1: a root lends all that it has.
-  pub headroom-all-lent : deals.HeadroomAllLent
+  pub headroom_all_lent : deals.HeadroomAllLent
   -- A.2: the second deal in the request's own words.
-  pub second-passes-first : deals.SecondPassesFirst
+  pub second_passes_first : deals.SecondPassesFirst
   -- A.2: no cap falls below what its server could use, and no grant below what was used.
-  pub caps-keep-usable : deals.CapsKeepUsable
-  pub grants-keep-used : deals.GrantsKeepUsed
+  pub caps_keep_usable : deals.CapsKeepUsable
+  pub grants_keep_used : deals.GrantsKeepUsed
   -- A.3: equal plans of version 1 and of version 2 with 80 throughout.
-  pub eighty-throughout : deals.EightyThroughout
+  pub eighty_throughout : deals.EightyThroughout
   -- A.4: the short way of a split gives its parts, for every short amount and weights.
-  pub short-way-splits : splits.ShortWaySplits
+  pub short_way_splits : splits.ShortWaySplits
   -- A.4: so does the long one.
-  pub long-way-splits : splits.LongWaySplits
+  pub long_way_splits : splits.LongWaySplits
   -- A.5: the node that is named holds the cord down.
-  pub held-named : deals.HeldNamed
+  pub held_named : deals.HeldNamed
   -- A.5: none is named for a cord with its want.
   pub held_none : deals.HeldNone
   -- A.5: which node it is.
-  pub held-nearest : deals.HeldNearest
+  pub held_nearest : deals.HeldNearest
   -- A.6: the error is the least of the working cords', and the first of equals.
-  pub least-error : control.LeastError
+  pub least_error : control.LeastError
   -- A.6: the mark alone says which cords work.
-  pub mark-decides : control.MarkDecides
+  pub mark_decides : control.MarkDecides
   -- A.6: a step with no working cord keeps the whole controller.
-  pub none-working-keeps-cap : control.NoneWorkingKeepsCap
+  pub none_working_keeps_cap : control.NoneWorkingKeepsCap
   -- A.6: a step keeps k and the range, and its new cap is in it.
-  pub range-stays : control.RangeStays
-  pub cap-in-range : control.CapInRange
+  pub range_stays : control.RangeStays
+  pub cap_in_range : control.CapInRange
   -- A.6: where the error is zero, the cap stays.
-  pub zero-error-keeps-cap : control.ZeroErrorKeepsCap
+  pub zero_error_keeps_cap : control.ZeroErrorKeepsCap
   -- A.6: 16 and 17 exactly where they are due; a refused step changes nothing.
-  pub step-refusals : control.Refusals
-  pub refused-unchanged : control.RefusedUnchanged
+  pub step_refusals : control.Refusals
+  pub refused_unchanged : control.RefusedUnchanged
   -- A.7: each controller is left as its single step leaves it.
-  pub each-as-single : control_all.EachAsSingle
+  pub each_as_single : control_all.EachAsSingle
   -- A.7: 18 exactly where the lists do not fit, before any is stepped.
-  pub refusal-eighteen : control_all.RefusalEighteen
+  pub refusal_eighteen : control_all.RefusalEighteen
   -- A.8: the joined table passes every check, as the room of both.
-  pub join-gives-room : join.JoinGivesRoom
+  pub join_gives_room : join.JoinGivesRoom
   -- A.8: its plan has the first's lists followed by the second's, and tells the refusals of demands.
-  pub join-plans-both : join.JoinPlansBoth
+  pub join_plans_both : join.JoinPlansBoth
   -- A.8: so do the first deal's grants.
-  pub first-grants-join : join.FirstGrantsJoin
+  pub first_grants_join : join.FirstGrantsJoin
   -- A.9: each verdict exactly where what it says is so.
-  pub judged-exactly : deals.JudgedExactly
+  pub judged_exactly : deals.JudgedExactly
   -- A.9: our own first grants pass.
-  pub first-grants-pass : deals.FirstGrantsPass
+  pub first_grants_pass : deals.FirstGrantsPass
   -- A.10: a joined room, parted at its first half's counts, gives both halves.
-  pub joined-parts : part.JoinedParts
+  pub joined_parts : part.JoinedParts
   -- A.10: both parts of a good room pass every check, and joined they are the whole.
-  pub parts-are-good : part.PartsAreGood
+  pub parts_are_good : part.PartsAreGood
   -- A.10, of the operation: the parts that it gives pass every check, and joined are the table, word for word.
-  pub part-gives-parts : part.PartGivesParts
+  pub part_gives_parts : part.PartGivesParts
   -- A.10, of the operation: a joined table, parted at its first half's counts, gives both tables.
-  pub parts-joined : part.PartsJoined
+  pub parts_joined : part.PartsJoined
   -- A.10: the plans of the parts are the parts of the plan: theirs make up a plan of the whole, and every plan of the whole is made up so.
-  pub part-plans-both : part.PartPlansBoth
-  pub plan-of-parts : part.PlanOfParts
+  pub part_plans_both : part.PartPlansBoth
+  pub plan_of_parts : part.PlanOfParts
   -- A.11, over the scale: used is never above the grant.
-  pub used-granted : deals.UsedGranted
+  pub used_granted : deals.UsedGranted
   -- A.11: usable is never below the server's least, and so no cap is.
-  pub usable-in-range : deals.UsableInRange
-  pub caps-in-range : deals.CapsInRange
+  pub usable_in_range : deals.UsableInRange
+  pub caps_in_range : deals.CapsInRange
   -- A.11: equal plans with every share tenfold.
   pub shares-tenfold : deals.SharesTenfold
   -- A.12: the sizes rise, and amperes are a size exactly where they stand among them.
-  pub sizes-rise : schedules.SizesRise
-  pub sizes-are-the-table : schedules.SizesAreTheTable
+  pub sizes_rise : schedules.SizesRise
+  pub sizes_are_the_table : schedules.SizesAreTheTable
   -- A.12: each answer exactly where the text is due it.
-  pub schedule-answered-exactly : schedules.AnsweredExactly
+  pub schedule_answered_exactly : schedules.AnsweredExactly
   -- A.12: what is accepted is just what lines in decimal make up.
-  pub accepted-is-written : schedules.AcceptedIsWritten
-  pub written-is-read : schedules.WrittenIsRead
+  pub accepted_is_written : schedules.AcceptedIsWritten
+  pub written_is_read : schedules.WrittenIsRead
   -- A.12: it gives a room that passes every check, with a node for each line.
-  pub schedule-gives-room : schedules.ScheduleGivesRoom
+  pub schedule_gives_room : schedules.ScheduleGivesRoom
   -- A.13: each answer exactly where it is due.
-  pub send-answered-exactly : sender.AnsweredExactly
+  pub send_answered_exactly : sender.AnsweredExactly
   -- A.13: a period names the next servers, none twice.
-  pub period-kept : sender.PeriodKept
+  pub period_kept : sender.PeriodKept
   -- A.13: every server is named within ceil(count / m) periods.
   pub each_within : sender.EachWithin

@@ -12,14 +12,14 @@ abbrev pub Others : ℕ → ℕ → Type 0
 Others x zero = Unit {0}
 Others x (suc n) = Others x n × (x ≡ n → ⊥)
 
-pub others-past : (x n : ℕ) → Others x n → n ≤ x
-others-past x zero o = omega arith
-others-past x (suc n) o = omega (arith, others-past x n o.0, o.1)
+pub others_past : (x n : ℕ) → Others x n → n ≤ x
+others_past x zero o = omega arith
+others_past x (suc n) o = omega (arith, others_past x n o.0, o.1)
 
 -- A text that shows so much of another has its entries.
-pub shown-at : (text whole : List ℕ) (seen i : ℕ) {text' : List ℕ} → seen ≤ length whole → seen ≤ length text → i < seen → text' ≡ sets text 0 (take seen whole)
+pub shown_at : (text whole : List ℕ) (seen i : ℕ) {text' : List ℕ} → seen ≤ length whole → seen ≤ length text → i < seen → text' ≡ sets text 0 (take seen whole)
     → get_or text' i 0 ≡ get_or whole i 0
-shown-at text whole seen i {text'} h k below e =
+shown_at text whole seen i {text'} h k below e =
     let size : length (take seen whole) ≡ seen = length-take-le seen whole h in
     sym (get_or-take seen text' i 0 below) ∙ ap (λ (l : List ℕ). get_or (take seen l) i 0) e
     ∙ ap (λ (l : List ℕ). get_or l i 0) (take-sets seen text (take seen whole) k (omega arith)) ∙ get_or-take seen (take seen whole) i 0 below

@@ -10,11 +10,11 @@ use Rattle.figures.specs.Figures.{total}
 use Rattle.rooms.specs.Table.{Node, Cord, Server, Room, IsScale, most_watts, most_nodes, most_servers, most_cords, most_server_cords, highest_rank, nodes, cord, server, servers, cord_count, room_cords, share_sum}
 use Rattle.rooms.specs.Limits.{limit, node_at, lows_beneath, overloaded, checked}
 use Rattle.rooms.proofs.NodeWords.{percent-to}
-use Rattle.rooms.proofs.Inversion.{cord-is, server-is, server-few, many_is}
-use Rattle.rooms.proofs.Whole.{form-scale, table_is, checked-is}
+use Rattle.rooms.proofs.Inversion.{cord_is, server_is, server_few, many_is}
+use Rattle.rooms.proofs.Whole.{form_scale, table_is, checked_is}
 use Rattle.rooms.proofs.All.{All}
-use Rattle.rooms.proofs.Rows.{many-all, nodes-at}
-use Rattle.rooms.proofs.Overloaded.{overloaded-none}
+use Rattle.rooms.proofs.Rows.{many_all, nodes-at}
+use Rattle.rooms.proofs.Overloaded.{overloaded_none}
 
 -- ---- The facts
 
@@ -54,14 +54,14 @@ pub record Accepted (r : Room) : Type 0 where
 
 -- ---- Why they hold
 
-cord-accepted : (scale node_count : ℕ) (w : List ℕ) (i : ℕ) (c : Cord) (j : ℕ) → cord scale node_count w i ≡ good c j → CordAccepted scale node_count c
-cord-accepted scale node_count w i c j e =
-    let a = cord-is scale node_count w i c j e in
+cord_accepted : (scale node_count : ℕ) (w : List ℕ) (i : ℕ) (c : Cord) (j : ℕ) → cord scale node_count w i ≡ good c j → CordAccepted scale node_count c
+cord_accepted scale node_count w i c j e =
+    let a = cord_is scale node_count w i c j e in
     record { node_from = a.first; node_to = a.last; share_to = a.share }
 
-pub server-accepted : (scale node_count before : ℕ) (w : List ℕ) (i : ℕ) (s : Server) (j : ℕ) → server scale node_count before w i ≡ good s j → ServerAccepted scale node_count s
-server-accepted scale node_count before w i s j e =
-    let a = server-is scale node_count before w i s j e in
+pub server_accepted : (scale node_count before : ℕ) (w : List ℕ) (i : ℕ) (s : Server) (j : ℕ) → server scale node_count before w i ≡ good s j → ServerAccepted scale node_count s
+server_accepted scale node_count before w i s j e =
+    let a = server_is scale node_count before w i s j e in
     record {
       rank_from = a.lowest;
       rank_to = a.highest;
@@ -70,23 +70,23 @@ server-accepted scale node_count before w i s j e =
       some_cords = a.load.some;
       few_cords = omega (arith, a.load.few);
       shares = a.load.whole;
-      cords = many-all _ _ w (CordAccepted scale node_count) (λ _ i c j d. cord-accepted scale node_count w i c j d) _ 0 _ s.cords j a.load.are;
+      cords = many_all _ _ w (CordAccepted scale node_count) (λ _ i c j d. cord_accepted scale node_count w i c j d) _ 0 _ s.cords j a.load.are;
     }
 
 -- Servers after `before` cords leave the room with no more than it may have.
-servers-few : (scale node_count left before : ℕ) (w : List ℕ) (i : ℕ) (l : List Server) (j : ℕ) → before ≤ most_cords → servers scale node_count left before w i ≡ good l j
+servers_few : (scale node_count left before : ℕ) (w : List ℕ) (i : ℕ) (l : List Server) (j : ℕ) → before ≤ most_cords → servers scale node_count left before w i ≡ good l j
     → before + total cord_count l ≤ most_cords
 unfolding many total
-servers-few scale node_count zero before w i l j h e = let x : [] ≡ l = cc in rw (← x) (omega arith)
-servers-few scale node_count (suc left) before w i l j h e =
+servers_few scale node_count zero before w i l j h e = let x : [] ≡ l = cc in rw (← x) (omega arith)
+servers_few scale node_count (suc left) before w i l j h e =
     let m = many_is left (server scale node_count) (λ before s. before + cord_count s) before w i l j e in
-    let few : before + cord_count m.got ≤ most_cords = server-few scale node_count before w i m.got m.at h m.first in
-    rw m.is (omega (arith, servers-few scale node_count left (before + cord_count m.got) w m.at m.rest j few m.others))
+    let few : before + cord_count m.got ≤ most_cords = server_few scale node_count before w i m.got m.at h m.first in
+    rw m.is (omega (arith, servers_few scale node_count left (before + cord_count m.got) w m.at m.rest j few m.others))
 
 -- The node at a place: its own number is one more.
-nodes-accepted : (percents : Bool) (count : ℕ) (w : List ℕ) (i : ℕ) (l : List Node) (j : ℕ) → nodes percents count 1 w i ≡ good l j
+nodes_accepted : (percents : Bool) (count : ℕ) (w : List ℕ) (i : ℕ) (l : List Node) (j : ℕ) → nodes percents count 1 w i ≡ good l j
     → (m : ℕ) (d : Node) → m < count → NodeAccepted m (get_or l m d)
-nodes-accepted percents count w i l j e m d h =
+nodes_accepted percents count w i l j e m d h =
     let n = nodes-at percents count 1 w i l j d m h e in
     record { parent_to = omega (arith, n.parent); rating_to = n.rating; percent_to = percent-to percents _ n.percent }
 
@@ -94,19 +94,19 @@ nodes-accepted percents count w i l j e m d h =
 lows-within : (r : Room) → overloaded r ≡ 0 → (m : ℕ) → m < length r.nodes → lows_beneath r m ≤ limit (node_at r m)
 lows-within r e m h =
     let place : suc m - 1 ≡ m = omega arith in
-    rw place at ((overloaded-none r).0 e (suc m) (omega arith, h))
+    rw place at ((overloaded_none r).0 e (suc m) (omega arith, h))
 
 pub accepted : (w : List ℕ) (r : Room) (j : ℕ) → checked w 0 ≡ good r j → Accepted r
 accepted w r j e =
-    let c = checked-is w r j e in
+    let c = checked_is w r j e in
     let t = table_is w r j c.0 in
     record {
-      scaled = rw t.scale-is (form-scale _);
+      scaled = rw t.scale_is (form_scale _);
       some_nodes = t.some_nodes;
       few_nodes = t.few_nodes;
-      nodes = λ m h. nodes-accepted _ _ w 2 r.nodes t.middle t.nodes_read m _ h;
+      nodes = λ m h. nodes_accepted _ _ w 2 r.nodes t.middle t.nodes_read m _ h;
       few_servers = t.few_servers;
-      servers = many-all _ _ w (ServerAccepted r.scale (length r.nodes)) (λ before i s j d. server-accepted _ _ before w i s j d) _ 0 _ r.servers j t.servers_read;
-      few_cords = omega (arith, servers-few _ _ _ 0 w _ r.servers j (omega arith) t.servers_read);
+      servers = many_all _ _ w (ServerAccepted r.scale (length r.nodes)) (λ before i s j d. server_accepted _ _ before w i s j d) _ 0 _ r.servers j t.servers_read;
+      few_cords = omega (arith, servers_few _ _ _ 0 w _ r.servers j (omega arith) t.servers_read);
       lows = lows-within r c.1;
     }

@@ -25,11 +25,11 @@ module _ {A : Type 0} (P : A → Type 0) where
   unfolding All
   all_tail a l ps = ps.1
 
-  pub all-at : (l : List A) → All P l → (i : ℕ) (d : A) → i < length l → P (get_or l i d)
+  pub all_at : (l : List A) → All P l → (i : ℕ) (d : A) → i < length l → P (get_or l i d)
   unfolding All
-  all-at [] ps i d h = absurd (not-suc-le-zero h)
-  all-at (a ∷ l) ps zero d h = ps.0
-  all-at (a ∷ l) ps (suc i) d h = all-at l ps.1 i d (le_of_suc-le-suc h)
+  all_at [] ps i d h = absurd (not-suc-le-zero h)
+  all_at (a ∷ l) ps zero d h = ps.0
+  all_at (a ∷ l) ps (suc i) d h = all_at l ps.1 i d (le_of_suc-le-suc h)
 
   pub all_from : (l : List A) (d : A) → ((i : ℕ) → i < length l → P (get_or l i d)) → All P l
   unfolding All

@@ -47,20 +47,20 @@ cords_of-length r = cords_from-length 0 r.servers
 -- ---- What holds of each server's cords holds of the room's
 
 module _ (p : RoomCord → Type 0) where
-  server_cords-all : (v : ℕ) (l : List Cord) → ((k : ℕ) → k < length l → p (placed v (get_or l k no_cord)))
+  server_cords_all : (v : ℕ) (l : List Cord) → ((k : ℕ) → k < length l → p (placed v (get_or l k no_cord)))
       → (c : ℕ) → c < length l → p (get_or (server_cords v l) c no_room_cord)
   unfolding server_cords
-  server_cords-all v [] h c q = absurd (not-suc-le-zero q)
-  server_cords-all v (x ∷ rest) h zero q = h zero q
-  server_cords-all v (x ∷ rest) h (suc c) q = server_cords-all v rest (λ k lk. h (suc k) (omega arith)) c (le_of_suc-le-suc q)
+  server_cords_all v [] h c q = absurd (not-suc-le-zero q)
+  server_cords_all v (x ∷ rest) h zero q = h zero q
+  server_cords_all v (x ∷ rest) h (suc c) q = server_cords_all v rest (λ k lk. h (suc k) (omega arith)) c (le_of_suc-le-suc q)
 
-  pub cords_from-all : (v : ℕ) (l : List Server)
+  pub cords_from_all : (v : ℕ) (l : List Server)
       → ((i k : ℕ) → i < length l → k < length (get_or l i no_server).cords → p (placed (v + i) (get_or (get_or l i no_server).cords k no_cord)))
       → (c : ℕ) → c < length (cords_from v l) → p (get_or (cords_from v l) c no_room_cord)
   unfolding cords_from
-  cords_from-all v [] h c q = absurd (not-suc-le-zero q)
-  cords_from-all v (s ∷ rest) h c q =
-      go (dec_le (suc c) (length first)) (λ e. cords_from-all (suc v) rest
+  cords_from_all v [] h c q = absurd (not-suc-le-zero q)
+  cords_from_all v (s ∷ rest) h c q =
+      go (dec_le (suc c) (length first)) (λ e. cords_from_all (suc v) rest
       (λ i k li lk. subst (λ (z : ℕ). p (placed z (get_or (get_or rest i no_server).cords k no_cord))) (let z : v + suc i ≡ suc v + i = omega arith in z) (h (suc i) k (omega arith) lk)) e)
     where
       first : List RoomCord
@@ -70,7 +70,7 @@ module _ (p : RoomCord → Type 0) where
           → p (get_or (first ++ cords_from (suc v) rest) c no_room_cord)
       go (yes l) ih =
           subst p (sym (get_or-append first (cords_from (suc v) rest) no_room_cord c l))
-          (server_cords-all v s.cords
+          (server_cords_all v s.cords
           (λ k lk. subst (λ (z : ℕ). p (placed z (get_or s.cords k no_cord))) (add-zero v) (h 0 k (omega arith) lk))
           c (omega (arith, server_cords-length v s.cords)))
       go (no n) ih =
@@ -80,11 +80,11 @@ module _ (p : RoomCord → Type 0) where
           (subst p (sym (get_or-append-add first (cords_from (suc v) rest) e no_room_cord))
           (ih e (omega (arith, length-append first (cords_from (suc v) rest)))))
 
-  pub cords_of-all : (r : Room)
+  pub cords_of_all : (r : Room)
       → ((v k : ℕ) → v < length r.servers → k < length (server_at r v).cords → p (placed v (get_or (server_at r v).cords k no_cord)))
       → (c : ℕ) → c < room_cords r → p (cord_at r c)
-  cords_of-all r h c l =
-      cords_from-all 0 r.servers
+  cords_of_all r h c l =
+      cords_from_all 0 r.servers
       (λ i k li lk. subst (λ (z : ℕ). p (placed z (get_or (server_at r i).cords k no_cord))) (sym (zero-add i)) (h i k li lk))
       c (omega (arith, cords_of-length r))
 

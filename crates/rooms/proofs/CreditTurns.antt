@@ -16,26 +16,26 @@ use Rattle.rooms.specs.Told.{told}
 use Rattle.rooms.specs.declared.SheetRefusal.{SheetRefusal}
 use Rattle.rooms.specs.declared.Checked.{Checked}
 use Rattle.rooms.specs.declared.Checked.TheVariants.{Good, Refused}
-use Rattle.rooms.proofs.Inversion.{took, said, cord-is, load_is}
+use Rattle.rooms.proofs.Inversion.{took, said, cord_is, load_is}
 use Rattle.rooms.proofs.Steps.{known}
-use Rattle.rooms.proofs.Carried.{carried-most}
-use Rattle.figures.proofs.Credits.{credited-length, sum-credited, figure-in-sum}
+use Rattle.rooms.proofs.Carried.{carried_most}
+use Rattle.figures.proofs.Credits.{credited-length, sum-credited, figure_in_sum}
 
 -- Where a part is refused, nothing is claimed of the sums.
-pub credits-refused : {A : Type 0} (f : A → ℕ) (s : Step A) {credit : A → List ℕ → List ℕ} {node_count most : ℕ} {sums sums' : List ℕ} {r : Checked} {q : SheetRefusal}
+pub credits_refused : {A : Type 0} (f : A → ℕ) (s : Step A) {credit : A → List ℕ → List ℕ} {node_count most : ℕ} {sums sums' : List ℕ} {r : Checked} {q : SheetRefusal}
     → r ≡ told f s → r ≡ Refused q → LowsCredited s credit node_count most sums sums'
 unfolding told
-credits-refused f (good a j) d e = absurd (suc-ne-zero 0 (cc))
-credits-refused f (bad m) d e = record { are = λ a j is. absurd (suc-ne-zero 0 (cc)); grow = λ a j is. absurd (suc-ne-zero 0 (cc)) }
+credits_refused f (good a j) d e = absurd (suc-ne-zero 0 (cc))
+credits_refused f (bad m) d e = record { are = λ a j is. absurd (suc-ne-zero 0 (cc)); grow = λ a j is. absurd (suc-ne-zero 0 (cc)) }
 
 pub stopped : {A : Type 0} (f : A → ℕ) (s : Step A) {credit : A → List ℕ → List ℕ} {node_count most : ℕ} {sums sums' : List ℕ} {r : Checked} {q : SheetRefusal}
     → r ≡ told f s → r ≡ Refused q → (r ≡ told f s) × LowsCredited s credit node_count most sums sums'
-stopped f s d e = (d, credits-refused f s d e)
+stopped f s d e = (d, credits_refused f s d e)
 
 -- The sums before are known by another name.
-pub credits-from : {A : Type 0} {s : Step A} {credit : A → List ℕ → List ℕ} {node_count most : ℕ} {sums start sums' : List ℕ} → sums ≡ start
+pub credits_from : {A : Type 0} {s : Step A} {credit : A → List ℕ → List ℕ} {node_count most : ℕ} {sums start sums' : List ℕ} → sums ≡ start
     → LowsCredited s credit node_count most sums sums' → LowsCredited s credit node_count most start sums'
-credits-from {s = s} {credit = credit} {node_count = node_count} {most = most} {sums' = sums'} e = subst (λ (l : List ℕ). LowsCredited s credit node_count most l sums') e
+credits_from {s = s} {credit = credit} {node_count = node_count} {most = most} {sums' = sums'} e = subst (λ (l : List ℕ). LowsCredited s credit node_count most l sums') e
 
 -- ---- A row of any parts
 
@@ -49,33 +49,33 @@ row_of (bad refusal) = []
 pub record Crediting {A : Type 0} (part : ℕ → Part A) (next : ℕ → A → ℕ) (credits : List A → List ℕ → List ℕ) (node_count most : ℕ) (w goal : List ℕ)
     (size bound left given j : ℕ) (sums : List ℕ) : Type 0 where
   pub same : (rest : List A) (end : ℕ) → many left part next given w j ≡ good rest end → credits rest sums ≡ goal
-  pub length-is : length sums ≡ size
+  pub length_is : length sums ≡ size
   pub sum_is : sum node_count (at sums) + most * left ≤ bound
 
-pub crediting-start : {A : Type 0} {part : ℕ → Part A} {next : ℕ → A → ℕ} (credits : List A → List ℕ → List ℕ) (node_count most : ℕ) {w : List ℕ} {count i : ℕ} (given : ℕ) (sums : List ℕ)
+pub crediting_start : {A : Type 0} {part : ℕ → Part A} {next : ℕ → A → ℕ} (credits : List A → List ℕ → List ℕ) (node_count most : ℕ) {w : List ℕ} {count i : ℕ} (given : ℕ) (sums : List ℕ)
     → Crediting part next credits node_count most w (credits (row_of (many count part next given w i)) sums) (length sums) (sum node_count (at sums) + most * count) count given i sums
-crediting-start {A} credits node_count most given sums =
-    record { same = λ rest end e. sym (ap (λ (s : Step (List A)). credits (row_of s) sums) e); length-is = refl; sum_is = omega arith }
+crediting_start {A} credits node_count most given sums =
+    record { same = λ rest end e. sym (ap (λ (s : Step (List A)). credits (row_of s) sums) e); length_is = refl; sum_is = omega arith }
 
 module _ {A : Type 0} {part : ℕ → Part A} {next : ℕ → A → ℕ} {credits : List A → List ℕ → List ℕ} {node_count most : ℕ} {w : List ℕ} where
-  crediting-end : ((l : List ℕ) → credits [] l ≡ l) → (count given₀ i : ℕ) (sums₀ : List ℕ) {size left given j : ℕ} {sums : List ℕ}
+  crediting_end : ((l : List ℕ) → credits [] l ≡ l) → (count given₀ i : ℕ) (sums₀ : List ℕ) {size left given j : ℕ} {sums : List ℕ}
       → Crediting part next credits node_count most w (credits (row_of (many count part next given₀ w i)) sums₀) size (sum node_count (at sums₀) + most * count) left given j sums
       → left ≤ 0 → LowsCredited (many count part next given₀ w i) credits node_count (most * count) sums₀ sums
   unfolding many
-  crediting-end none count given₀ i sums₀ {left = zero} {j = j} {sums = sums} c z = record {
+  crediting_end none count given₀ i sums₀ {left = zero} {j = j} {sums = sums} c z = record {
     are = λ a k e. sym (none sums) ∙ c.same [] j refl ∙ ap (λ (s : Step (List A)). credits (row_of s) sums₀) e;
     grow = λ a k e. omega (arith, c.sum_is);
   }
-  crediting-end none count given₀ i sums₀ {left = suc l} c z = absurd (omega arith)
+  crediting_end none count given₀ i sums₀ {left = suc l} c z = absurd (omega arith)
 
-  crediting-turn : (credit : A → List ℕ → List ℕ) → ((a : A) (rest : List A) (l : List ℕ) → credits (a ∷ rest) l ≡ credits rest (credit a l))
+  crediting_turn : (credit : A → List ℕ → List ℕ) → ((a : A) (rest : List A) (l : List ℕ) → credits (a ∷ rest) l ≡ credits rest (credit a l))
       → {goal : List ℕ} {size bound left given j : ℕ} {sums : List ℕ} → Crediting part next credits node_count most w goal size bound left given j sums → 0 < left
       → {value : A} {after given' : ℕ} {sums' : List ℕ} → part given w j ≡ good value after → next given value ≡ given'
       → sums' ≡ credit value sums → length sums' ≡ length sums → sum node_count (at sums') ≤ sum node_count (at sums) + most
       → Crediting part next credits node_count most w goal size bound (left - 1) given' after sums'
   unfolding many follow
-  crediting-turn credit some {left = zero} c z is en es el em = absurd (omega arith)
-  crediting-turn credit some {left = suc l} {given = given} {j = j} {sums = sums} c z {value} {after} {given'} {sums'} is en es el em =
+  crediting_turn credit some {left = zero} c z is en es el em = absurd (omega arith)
+  crediting_turn credit some {left = suc l} {given = given} {j = j} {sums = sums} c z {value} {after} {given'} {sums'} is en es el em =
       let e : suc l - 1 ≡ l = omega arith in
       let m : most * suc l ≡ most * l + most = mul-suc most l in
       let whole : (rest : List A) (end : ℕ) → many l part next given' w after ≡ good rest end → many (suc l) part next given w j ≡ good (value ∷ rest) end
@@ -83,7 +83,7 @@ module _ {A : Type 0} {part : ℕ → Part A} {next : ℕ → A → ℕ} {credit
       rw e
       (record {
         same = λ rest end q. ap (credits rest) es ∙ sym (some value rest sums) ∙ c.same (value ∷ rest) end (whole rest end q);
-        length-is = el ∙ c.length-is;
+        length_is = el ∙ c.length_is;
         sum_is = omega (arith, c.sum_is);
       })
 
@@ -96,8 +96,8 @@ CordsCrediting scale node_count least w goal size bound left j =
 -- The cord that is found good, in the terms of the code.
 pub record NextCord (scale node_count least : ℕ) (w goal : List ℕ) (size bound left j : ℕ) (sums : List ℕ) (share after : ℕ) : Type 0 where
   pub there : j < length w
-  pub node-most : get_or w j 0 ≤ node_count
-  pub share-most : share ≤ scale
+  pub node_most : get_or w j 0 ≤ node_count
+  pub share_most : share ≤ scale
   pub fits : IsScale scale → least ≤ most_watts → bound < 2 ^ 63
       → (node figure : ℕ) → node ≡ get_or w j 0 → figure ≡ carried scale share least → get_or sums (node - 1) 0 + figure < 2 ^ 64
   pub turn : IsScale scale → least ≤ most_watts → node_count ≤ size
@@ -109,43 +109,43 @@ module _ {node_count : ℕ} (scale least : ℕ) {w : List ℕ} where
       → CordsCrediting scale node_count least w (credited_cords scale least (row_of (cords scale node_count count w i)) sums₀) size (sum node_count (at sums₀) + most_watts * count) left j sums → left ≤ 0
       → LowsCredited (cords scale node_count count w i) (credited_cords scale least) node_count (most_watts * count) sums₀ sums
   unfolding credited_cords
-  cords-end count i sums₀ = crediting-end (λ l. refl) count 0 i sums₀
+  cords-end count i sums₀ = crediting_end (λ l. refl) count 0 i sums₀
 
-  pub next-cord : {goal : List ℕ} {size bound left j : ℕ} {sums : List ℕ} → CordsCrediting scale node_count least w goal size bound left j sums → 0 < left
+  pub next_cord : {goal : List ℕ} {size bound left j : ℕ} {sums : List ℕ} → CordsCrediting scale node_count least w goal size bound left j sums → 0 < left
       → {r : Checked} {share after : ℕ} → r ≡ told share_of (cord scale node_count w j) → r ≡ Good share after → NextCord scale node_count least w goal size bound left j sums share after
   unfolding credited_cords
-  next-cord {j = j} {sums = sums} t z {share = share} {after = after} d e =
+  next_cord {j = j} {sums = sums} t z {share = share} {after = after} d e =
       let a = known share_of (cord scale node_count w j) d e in
-      let c = cord-is scale node_count w j a.got after a.is in
+      let c = cord_is scale node_count w j a.got after a.is in
       let n : get_or w j 0 ≡ a.got.node = sym (ap (λ (x : Cord). x.node) c.is) in
       let m : IsScale scale → least ≤ most_watts → carried scale share least ≤ most_watts
-      = λ s k. omega (arith, carried-most scale share least s.0 (omega (arith, c.share, a.figure))) in
+      = λ s k. omega (arith, carried_most scale share least s.0 (omega (arith, c.share, a.figure))) in
       record {
         there = omega (arith, c.there);
-        node-most = omega (arith, c.last);
-        share-most = omega (arith, c.share, a.figure);
-        fits = λ s k b node figure en ef. omega (arith, m s k, figure-in-sum node_count (node - 1) sums (omega (arith, c.first, c.last)), t.sum_is);
-        turn = λ s k h node figure sums' en ef es. crediting-turn (λ c. credited c.node (low scale least c)) (λ a rest l. refl) t z a.is refl
+        node_most = omega (arith, c.last);
+        share_most = omega (arith, c.share, a.figure);
+        fits = λ s k b node figure en ef. omega (arith, m s k, figure_in_sum node_count (node - 1) sums (omega (arith, c.first, c.last)), t.sum_is);
+        turn = λ s k h node figure sums' en ef es. crediting_turn (λ c. credited c.node (low scale least c)) (λ a rest l. refl) t z a.is refl
             (es ∙ ap₂ (λ (x y : ℕ). credited x y sums) (en ∙ n) (ef ∙ ap (λ (x : ℕ). carried scale x least) (sym a.figure)))
             (ap length es ∙ credited-length node figure sums)
             (omega (
               arith,
               m s k,
               ap (λ (l : List ℕ). sum node_count (at l)) es,
-              sum-credited node_count node figure sums (omega (arith, c.first)) (omega (arith, c.last)) (omega (arith, t.length-is)),
+              sum-credited node_count node figure sums (omega (arith, c.first)) (omega (arith, c.last)) (omega (arith, t.length_is)),
             ));
       }
 
 -- A server's load credits what its cords do.
-pub load-credits : (scale node_count before start : ℕ) (w : List ℕ) (i least : ℕ) {count at-cords : ℕ} {sums sums' : List ℕ} → count ≡ get_or w i 0 → at-cords ≡ suc i → count ≤ most_server_cords
+pub load_credits : (scale node_count before start : ℕ) (w : List ℕ) (i least : ℕ) {count at-cords : ℕ} {sums sums' : List ℕ} → count ≡ get_or w i 0 → at-cords ≡ suc i → count ≤ most_server_cords
     → LowsCredited (cords scale node_count count w at-cords) (credited_cords scale least) node_count (most_watts * count) sums sums'
     → LowsCredited (load scale node_count before start w i) (credited_cords scale least) node_count (most_server_cords * most_watts) sums sums'
-load-credits scale node_count before start w i least counted begun few credits =
-    let cords-are : (a : List Cord) (j : ℕ) → load scale node_count before start w i ≡ good a j → cords scale node_count _ w _ ≡ good a j
+load_credits scale node_count before start w i least counted begun few credits =
+    let cords_are : (a : List Cord) (j : ℕ) → load scale node_count before start w i ≡ good a j → cords scale node_count _ w _ ≡ good a j
     = λ a j e. ap₂ (λ (k h : ℕ). cords scale node_count k w h) counted begun ∙ (load_is scale node_count before start w i a j e).are in
     record {
-      are = λ a j e. credits.are a j (cords-are a j e);
-      grow = λ a j e. omega (arith, credits.grow a j (cords-are a j e));
+      are = λ a j e. credits.are a j (cords_are a j e);
+      grow = λ a j e. omega (arith, credits.grow a j (cords_are a j e));
     }
 
 -- ---- The servers of a room
@@ -169,11 +169,11 @@ server-load scale node_count before w i {at-range = at-range} {ends = ends} {at_
     )
 
 -- A server credits what its load does, by its least.
-pub server-credits : (scale node_count before : ℕ) (w : List ℕ) (i : ℕ) {rank at-range : ℕ} {ends : Range} {at_load least : ℕ} {sums sums' : List ℕ}
+pub server_credits : (scale node_count before : ℕ) (w : List ℕ) (i : ℕ) {rank at-range : ℕ} {ends : Range} {at_load least : ℕ} {sums sums' : List ℕ}
     → word (within 1 highest_rank) w i ≡ good rank at-range → range w at-range ≡ good ends at_load → ends.least ≡ least
     → LowsCredited (load scale node_count before i w at_load) (credited_cords scale least) node_count (most_server_cords * most_watts) sums sums'
     → LowsCredited (server scale node_count before w i) (credited_server scale) node_count (most_server_cords * most_watts) sums sums'
-server-credits scale node_count before w i {sums = sums} ranked ranged lowest credits =
+server_credits scale node_count before w i {sums = sums} ranked ranged lowest credits =
     record {
       are = λ s j e.
           let l = server-load scale node_count before w i ranked ranged s j e in
@@ -189,13 +189,13 @@ module _ {node_count : ℕ} (scale : ℕ) {w : List ℕ} where
       → ServersCrediting scale node_count w (credited_servers scale (row_of (servers scale node_count count 0 w i)) sums₀) size (sum node_count (at sums₀) + most_server_cords * most_watts * count) left before j sums
       → left ≤ 0 → LowsCredited (servers scale node_count count 0 w i) (credited_servers scale) node_count (most_server_cords * most_watts * count) sums₀ sums
   unfolding credited_servers
-  servers-end count i sums₀ = crediting-end (λ l. refl) count 0 i sums₀
+  servers-end count i sums₀ = crediting_end (λ l. refl) count 0 i sums₀
 
-  pub servers-turn : {goal : List ℕ} {size bound left before j : ℕ} {sums : List ℕ} → ServersCrediting scale node_count w goal size bound left before j sums → 0 < left
+  pub servers_turn : {goal : List ℕ} {size bound left before j : ℕ} {sums : List ℕ} → ServersCrediting scale node_count w goal size bound left before j sums → 0 < left
       → {r : Checked} {count after : ℕ} {sums' : List ℕ} → r ≡ told cord_count (server scale node_count before w j) → r ≡ Good count after
       → LowsCredited (server scale node_count before w j) (credited_server scale) node_count (most_server_cords * most_watts) sums sums' → length sums' ≡ length sums
       → ServersCrediting scale node_count w goal size bound (left - 1) (before + count) after sums'
   unfolding credited_servers
-  servers-turn {before = before} {j = j} t z d e credits el =
+  servers_turn {before = before} {j = j} t z d e credits el =
       let a = known cord_count (server scale node_count before w j) d e in
-      crediting-turn (credited_server scale) (λ a rest l. refl) t z a.is (ap (λ (n : ℕ). before + n) a.figure) (credits.are a.got _ a.is) el (credits.grow a.got _ a.is)
+      crediting_turn (credited_server scale) (λ a rest l. refl) t z a.is (ap (λ (n : ℕ). before + n) a.figure) (credits.are a.got _ a.is) el (credits.grow a.got _ a.is)

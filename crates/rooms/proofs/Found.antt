@@ -19,12 +19,12 @@ use Rattle.rooms.specs.Told.{told}
 use Rattle.rooms.specs.declared.SheetRefusal.{SheetRefusal}
 use Rattle.rooms.specs.declared.Checked.{Checked}
 use Rattle.rooms.specs.declared.Checked.TheVariants.{Refused}
-use Rattle.rooms.proofs.Places.{Layout, layout, same-parent, same-limit, table-rises, node-count}
+use Rattle.rooms.proofs.Places.{Layout, layout, same_parent, same-limit, table_rises, node-count}
 use Rattle.rooms.proofs.Whole.{percents_of}
-use Rattle.rooms.proofs.Rows.{servers-hang}
+use Rattle.rooms.proofs.Rows.{servers_hang}
 use Rattle.figures.proofs.Filled.{zeros-at}
-use Rattle.rooms.proofs.Credits.{tree_sum-cong, tree_sum-zero, tree_sum-past, tree_sum-servers, credited_servers-length, credited_servers-past}
-use Rattle.rooms.proofs.Search.{first_node-cong}
+use Rattle.rooms.proofs.Credits.{tree_sum_cong, tree_sum_zero, tree_sum_past, tree_sum-servers, credited_servers-length, credited_servers_past}
+use Rattle.rooms.proofs.Search.{first_node_cong}
 
 -- ---- The lows beneath each place, as a list
 
@@ -57,14 +57,14 @@ module _ (w : List ℕ) (r : Room) (j n count_at : ℕ) (is : Layout w r j n cou
   module _ (l : List ℕ) (zeros : (i : ℕ) → get_or l i 0 ≡ 0) (size : n ≤ length l) where
     credited-lows : (m : ℕ) → tree_sum parent n (at (credited_servers r.scale r.servers l)) m ≡ lows_beneath r m
     credited-lows m =
-        tree_sum-cong n parent (parent_of r) (at (credited_servers r.scale r.servers l)) (same-parent w r j n count_at is) (table-rises w r j n count_at is) m
-        ∙ tree_sum-servers r.scale n (parent_of r) m r.servers l size (servers-hang r.scale n (get_or w count_at 0) 0 w (count_at + 1) r.servers j is.servers-are)
-        ∙ ap (λ (x : ℕ). x + lows r.scale (beneath (parent_of r) n m) r.servers) (tree_sum-zero n (parent_of r) (at l) m zeros)
+        tree_sum_cong n parent (parent_of r) (at (credited_servers r.scale r.servers l)) (same_parent w r j n count_at is) (table_rises w r j n count_at is) m
+        ∙ tree_sum-servers r.scale n (parent_of r) m r.servers l size (servers_hang r.scale n (get_or w count_at 0) 0 w (count_at + 1) r.servers j is.servers_are)
+        ∙ ap (λ (x : ℕ). x + lows r.scale (beneath (parent_of r) n m) r.servers) (tree_sum_zero n (parent_of r) (at l) m zeros)
         ∙ rw (← (node-count w r j n count_at is)) (omega arith)
 
     -- Gathered, the credited lows are those beneath each place.
-    gathered-lows : {sums : List ℕ} → length l ≡ most_nodes → SumsGathered parent n (credited_servers r.scale r.servers l) sums → sums ≡ node_lows r
-    gathered-lows {sums} full g =
+    gathered_lows : {sums : List ℕ} → length l ≡ most_nodes → SumsGathered parent n (credited_servers r.scale r.servers l) sums → sums ≡ node_lows r
+    gathered_lows {sums} full g =
         ext_get_or 0 sums (node_lows r) (g.size ∙ credited_servers-length r.scale r.servers l ∙ full ∙ sym (lows_from-length most_nodes 0 r))
         (λ i h. at_place i (ltb i n) refl
         ∙ sym (node_lows-at r i (omega (arith, g.size, credited_servers-length r.scale r.servers l))))
@@ -74,66 +74,66 @@ module _ (w : List ℕ) (r : Room) (j n count_at : ℕ) (is : Layout w r j n cou
         at_place i false e =
             let past : n ≤ i = ltb-false i n e in
             g.past i past
-            ∙ credited_servers-past r.scale n i past r.servers l (servers-hang r.scale n (get_or w count_at 0) 0 w (count_at + 1) r.servers j is.servers-are)
+            ∙ credited_servers_past r.scale n i past r.servers l (servers_hang r.scale n (get_or w count_at 0) 0 w (count_at + 1) r.servers j is.servers_are)
             ∙ zeros i
-            ∙ sym (tree_sum-past n parent (at (credited_servers r.scale r.servers l)) (table-rises w r j n count_at is) i past)
+            ∙ sym (tree_sum_past n parent (at (credited_servers r.scale r.servers l)) (table_rises w r j n count_at is) i past)
             ∙ credited-lows i
 
-    pub overloaded-found : first_node n 0 (exceeds parent (limit_at (percents_of w) w) n (credited_servers r.scale r.servers l)) ≡ overloaded r
+    pub overloaded_found : first_node n 0 (exceeds parent (limit_at (percents_of w) w) n (credited_servers r.scale r.servers l)) ≡ overloaded r
     unfolding overloaded
-    overloaded-found =
+    overloaded_found =
         let over : ℕ → Bool = λ m. ltb (limit (node_at r m)) (lows_beneath r m) in
         let same : (m : ℕ) → m < 0 + n → exceeds parent (limit_at (percents_of w) w) n (credited_servers r.scale r.servers l) m ≡ over m
         = λ m g. ap₂ ltb ((same-limit w r j n count_at is) m (omega arith)) (credited-lows m) in
-        first_node-cong n 0 (exceeds parent (limit_at (percents_of w) w) n (credited_servers r.scale r.servers l)) over same ∙ ap (λ (k : ℕ). first_node k 0 over) (sym (node-count w r j n count_at is))
+        first_node_cong n 0 (exceeds parent (limit_at (percents_of w) w) n (credited_servers r.scale r.servers l)) over same ∙ ap (λ (k : ℕ). first_node k 0 over) (sym (node-count w r j n count_at is))
 
 -- A table credits what its servers do.
-pub table-credits : (w : List ℕ) {percents : Bool} {scale node_count at-node : ℕ} {read : List Node} {at-servers server_count at-server : ℕ} {sums sums' : List ℕ}
+pub table_credits : (w : List ℕ) {percents : Bool} {scale node_count at-node : ℕ} {read : List Node} {at-servers server_count at-server : ℕ} {sums sums' : List ℕ}
     → percents ≡ percents_of w → scale ≡ (form_of (get_or w 0 0)).scale
     → node_count ≡ get_or w 1 0 → at-node ≡ 2 → nodes percents node_count 1 w at-node ≡ good read at-servers
     → server_count ≡ get_or w at-servers 0 → at-server ≡ suc at-servers → server_count ≤ most_servers
     → LowsCredited (servers scale node_count server_count 0 w at-server) (credited_servers scale) node_count (most_server_cords * most_watts * server_count) sums sums'
     → LowsCredited (table w 0) credited_room (get_or w 1 0) (most_server_cords * most_watts * most_servers) sums sums'
-table-credits w {percents} {scale} {node_count} {at-node} {read} {at-servers} {server_count} {at-server} {sums = sums} formed scaled counted begun nodes-read told after few credits =
+table_credits w {percents} {scale} {node_count} {at-node} {read} {at-servers} {server_count} {at-server} {sums = sums} formed scaled counted begun nodes-read told after few credits =
     record {
-      are = λ r j e. credits.are r.servers j (servers-are r j e) ∙ ap (λ (x : ℕ). credited_servers x r.servers sums) (same_scale r j e);
-      grow = λ r j e. rw (← counted) (omega (arith, credits.grow r.servers j (servers-are r j e)));
+      are = λ r j e. credits.are r.servers j (servers_are r j e) ∙ ap (λ (x : ℕ). credited_servers x r.servers sums) (same_scale r j e);
+      grow = λ r j e. rw (← counted) (omega (arith, credits.grow r.servers j (servers_are r j e)));
     }
   where
     is : (r : Room) (j : ℕ) → table w 0 ≡ good r j → Layout w r j node_count (node_index (percents_of w) node_count)
     is r j e = layout w r j node_count counted e
 
     same_scale : (r : Room) (j : ℕ) → table w 0 ≡ good r j → scale ≡ r.scale
-    same_scale r j e = scaled ∙ sym (is r j e).scale-is
+    same_scale r j e = scaled ∙ sym (is r j e).scale_is
 
-    at-is : (r : Room) (j : ℕ) → table w 0 ≡ good r j → at-servers ≡ node_index (percents_of w) node_count
-    at-is r j e =
+    at_is : (r : Room) (j : ℕ) → table w 0 ≡ good r j → at-servers ≡ node_index (percents_of w) node_count
+    at_is r j e =
         let d : good read at-servers ≡ good r.nodes (node_index (percents_of w) node_count)
-        = sym nodes-read ∙ ap₂ (λ (b : Bool) (i : ℕ). nodes b node_count 1 w i) formed begun ∙ (is r j e).nodes-are in
+        = sym nodes-read ∙ ap₂ (λ (b : Bool) (i : ℕ). nodes b node_count 1 w i) formed begun ∙ (is r j e).nodes_are in
         cc
 
-    servers-are : (r : Room) (j : ℕ) → table w 0 ≡ good r j → servers scale node_count server_count 0 w at-server ≡ good r.servers j
-    servers-are r j e =
+    servers_are : (r : Room) (j : ℕ) → table w 0 ≡ good r j → servers scale node_count server_count 0 w at-server ≡ good r.servers j
+    servers_are r j e =
         ap (λ (x : ℕ). servers x node_count server_count 0 w at-server) (same_scale r j e)
-        ∙ ap₂ (λ (k i : ℕ). servers r.scale node_count k 0 w i) (told ∙ ap (λ (k : ℕ). get_or w k 0) (at-is r j e)) (omega (arith, at-is r j e))
-        ∙ (is r j e).servers-are
+        ∙ ap₂ (λ (k i : ℕ). servers r.scale node_count k 0 w i) (told ∙ ap (λ (k : ℕ). get_or w k 0) (at_is r j e)) (omega (arith, at_is r j e))
+        ∙ (is r j e).servers_are
 
 -- The same in the terms of the code: the search, over sums that have the lows on each node.
-pub overloaded-from : (w : List ℕ) {percents : Bool} (n : ℕ) (sums : List ℕ) (found : ℕ) → percents ≡ percents_of w → n ≡ get_or w 1 0 → (r : Room) (j : ℕ) → table w 0 ≡ good r j
+pub overloaded_from : (w : List ℕ) {percents : Bool} (n : ℕ) (sums : List ℕ) (found : ℕ) → percents ≡ percents_of w → n ≡ get_or w 1 0 → (r : Room) (j : ℕ) → table w 0 ≡ good r j
     → sums ≡ credited_room r (replicate most_nodes 0) → found ≡ first_node n 0 (exceeds (parent_at percents w) (limit_at percents w) n sums) → found ≡ overloaded r
-overloaded-from w n sums found formed count r j e es ef =
+overloaded_from w n sums found formed count r j e es ef =
     let is = layout w r j n count e in
     ef
     ∙ ap (λ (b : Bool). first_node n 0 (exceeds (parent_at b w) (limit_at b w) n sums)) formed
     ∙ ap (λ (l : List ℕ). first_node n 0 (exceeds (parent_at (percents_of w) w) (limit_at (percents_of w) w) n l)) es
-    ∙ overloaded-found w r j n _ is (replicate most_nodes 0) (zeros-at most_nodes) (omega (arith, is.most, length-replicate {A = ℕ} most_nodes 0))
+    ∙ overloaded_found w r j n _ is (replicate most_nodes 0) (zeros-at most_nodes) (omega (arith, is.most, length-replicate {A = ℕ} most_nodes 0))
 
 pub lows-from : (w : List ℕ) {percents : Bool} (n : ℕ) (sums : List ℕ) {sums' : List ℕ} → percents ≡ percents_of w → n ≡ get_or w 1 0 → (r : Room) (j : ℕ) → table w 0 ≡ good r j
     → sums ≡ credited_room r (replicate most_nodes 0) → SumsGathered (parent_at percents w) n sums sums' → sums' ≡ node_lows r
 lows-from w n sums {sums'} formed count r j e es g =
     let is = layout w r j n count e in
     let size : length {A = ℕ} (replicate most_nodes 0) ≡ most_nodes = length-replicate {A = ℕ} most_nodes 0 in
-    gathered-lows w r j n _ is (replicate most_nodes 0) (zeros-at most_nodes) (omega (arith, is.most, size)) size
+    gathered_lows w r j n _ is (replicate most_nodes 0) (zeros-at most_nodes) (omega (arith, is.most, size)) size
     (subst (λ (l : List ℕ). SumsGathered (parent_at (percents_of w) w) n l sums') es (subst (λ (b : Bool). SumsGathered (parent_at b w) n sums sums') formed g))
 
 -- Of a refused table nothing is claimed but the refusal.

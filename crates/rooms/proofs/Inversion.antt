@@ -14,7 +14,7 @@ use Rattle.rooms.specs.declared.SheetRefusal.TheVariants.{WordMissing, WordOutOf
 use Rattle.rooms.specs.Table.{Node, Cord, Server, Range, most_watts, most_cords, most_server_cords, highest_rank, node_words, percent, node, cord, cords, range, load, server, cord_count, share_sum}
 use Rattle.rooms.specs.Credits.{node_from}
 use Rattle.rooms.specs.Words.{PercentFits}
-use Rattle.rooms.proofs.NodeWords.{percent-words}
+use Rattle.rooms.proofs.NodeWords.{percent_words}
 
 -- ---- One part after another
 
@@ -59,10 +59,10 @@ pub record Word {B : Type 0} (w : List ℕ) (i low high : ℕ) (k : ℕ → ℕ 
   pub most : get_or w i 0 ≤ high
   pub rest : k (get_or w i 0) (suc i) ≡ good b j
 
-pub word-is : {B : Type 0} (w : List ℕ) (i low high : ℕ) (k : ℕ → ℕ → Step B) (b : B) (j : ℕ)
+pub word_is : {B : Type 0} (w : List ℕ) (i low high : ℕ) (k : ℕ → ℕ → Step B) (b : B) (j : ℕ)
     → follow (word (within low high) w i) k ≡ good b j → Word w i low high k b j
 unfolding word follow
-word-is {B} w i low high k b j e = go (leb (length w) i) refl (leb low (get_or w i 0)) refl (leb (get_or w i 0) high) refl e
+word_is {B} w i low high k b j e = go (leb (length w) i) refl (leb low (get_or w i 0)) refl (leb (get_or w i 0) high) refl e
   where
     go : (x : Bool) → leb (length w) i ≡ x → (y : Bool) → leb low (get_or w i 0) ≡ y → (z : Bool) → leb (get_or w i 0) high ≡ z
         → follow (cond x (bad (WordMissing (length w))) (cond (y && z) (good (get_or w i 0) (suc i)) (bad (WordOutOfRange i)))) k ≡ good b j
@@ -117,14 +117,14 @@ record PercentIs (percents : Bool) (w : List ℕ) (i p j : ℕ) : Type 0 where
   next : j ≡ i + cond percents 1 0
   fits : PercentFits percents p
 
-percent-is : (percents : Bool) (w : List ℕ) (i p j : ℕ) → percent percents w i ≡ good p j → PercentIs percents w i p j
+percent_is : (percents : Bool) (w : List ℕ) (i p j : ℕ) → percent percents w i ≡ good p j → PercentIs percents w i p j
 unfolding percent
-percent-is false w i p j e =
+percent_is false w i p j e =
     let x : 80 ≡ p = cc in
     let y : i ≡ j = cc in
     rw (← x, ← y) (record { there = λ h. h; is = refl; next = omega arith; fits = refl })
-percent-is true w i p j e =
-    let a = word-is _ _ _ _ _ _ _ (said _ _ _ _ _ e) in
+percent_is true w i p j e =
+    let a = word_is _ _ _ _ _ _ _ (said _ _ _ _ _ e) in
     let t = passed _ _ _ _ _ _ _ a.rest in
     let x : get_or w i 0 ≡ p = cc in
     let y : suc i ≡ j = cc in
@@ -138,13 +138,13 @@ pub record NodeIs (percents : Bool) (own : ℕ) (w : List ℕ) (i : ℕ) (n : No
   pub rating : n.rating ≤ most_watts
   pub percent : PercentFits percents n.percent
 
-pub node-is : (percents : Bool) (own : ℕ) (w : List ℕ) (i : ℕ) (n : Node) (j : ℕ) → node percents own w i ≡ good n j → NodeIs percents own w i n j
+pub node_is : (percents : Bool) (own : ℕ) (w : List ℕ) (i : ℕ) (n : Node) (j : ℕ) → node percents own w i ≡ good n j → NodeIs percents own w i n j
 unfolding node
-node-is percents own w i n j e =
-    let a = word-is _ _ _ _ _ _ _ e in
-    let b = word-is _ _ _ _ _ _ _ a.rest in
+node_is percents own w i n j e =
+    let a = word_is _ _ _ _ _ _ _ e in
+    let b = word_is _ _ _ _ _ _ _ a.rest in
     let t = took _ _ _ _ b.rest in
-    let p = percent-is percents w (suc (suc i)) t.got t.at t.first in
+    let p = percent_is percents w (suc (suc i)) t.got t.at t.first in
     let x : record { parent = get_or w i 0; rating = get_or w (suc i) 0; percent = t.got } ≡ n = cc in
     let y : t.at ≡ j = cc in
     placed t.got t.at p b.there a.most b.most x y
@@ -152,7 +152,7 @@ node-is percents own w i n j e =
     placed : (q k : ℕ) → PercentIs percents w (suc (suc i)) q k → suc i < length w → get_or w i 0 ≤ own - 1 → get_or w (suc i) 0 ≤ most_watts
         → record { parent = get_or w i 0; rating = get_or w (suc i) 0; percent = q } ≡ n → k ≡ j → NodeIs percents own w i n j
     placed q k p there parent rating x y =
-        let next : k ≡ i + node_words percents = p.next ∙ percent-words percents i in
+        let next : k ≡ i + node_words percents = p.next ∙ percent_words percents i in
         rw (← x, ← y)
         (record {
           there = omega (arith, p.there there);
@@ -175,11 +175,11 @@ pub record CordIs (scale nodes : ℕ) (w : List ℕ) (i : ℕ) (c : Cord) (j : �
   pub last : c.node ≤ nodes
   pub share : c.share ≤ scale
 
-pub cord-is : (scale nodes : ℕ) (w : List ℕ) (i : ℕ) (c : Cord) (j : ℕ) → cord scale nodes w i ≡ good c j → CordIs scale nodes w i c j
+pub cord_is : (scale nodes : ℕ) (w : List ℕ) (i : ℕ) (c : Cord) (j : ℕ) → cord scale nodes w i ≡ good c j → CordIs scale nodes w i c j
 unfolding cord
-cord-is scale nodes w i c j e =
-    let a = word-is _ _ _ _ _ _ _ e in
-    let b = word-is _ _ _ _ _ _ _ a.rest in
+cord_is scale nodes w i c j e =
+    let a = word_is _ _ _ _ _ _ _ e in
+    let b = word_is _ _ _ _ _ _ _ a.rest in
     let x : cord_from w i ≡ c = cc in
     let y : suc (suc i) ≡ j = cc in
     record {
@@ -203,11 +203,11 @@ pub record RangeIs (w : List ℕ) (i : ℕ) (r : Range) (j : ℕ) : Type 0 where
   pub ordered : r.least ≤ r.greatest
   pub greatest : r.greatest ≤ most_watts
 
-pub range-is : (w : List ℕ) (i : ℕ) (r : Range) (j : ℕ) → range w i ≡ good r j → RangeIs w i r j
+pub range_is : (w : List ℕ) (i : ℕ) (r : Range) (j : ℕ) → range w i ≡ good r j → RangeIs w i r j
 unfolding range
-range-is w i r j e =
-    let a = word-is _ _ _ _ _ _ _ e in
-    let b = word-is _ _ _ _ _ _ _ (said _ _ _ _ _ a.rest) in
+range_is w i r j e =
+    let a = word_is _ _ _ _ _ _ _ e in
+    let b = word_is _ _ _ _ _ _ _ (said _ _ _ _ _ a.rest) in
     let t = passed _ _ _ _ _ _ _ b.rest in
     let x : range_from w i ≡ r = cc in
     let y : suc (suc i) ≡ j = cc in
@@ -232,7 +232,7 @@ pub load_is : (scale node_count before start : ℕ) (w : List ℕ) (i : ℕ) (l 
     → LoadIs scale node_count before w i l j
 unfolding load
 load_is scale node_count before start w i l j e =
-    let a = word-is _ _ _ _ _ _ _ e in
+    let a = word_is _ _ _ _ _ _ _ e in
     let r = took _ _ _ _ a.rest in
     let t = passed _ _ _ _ _ _ _ r.rest in
     let x : r.got ≡ l = cc in
@@ -259,12 +259,12 @@ pub record ServerIs (scale node_count before : ℕ) (w : List ℕ) (i : ℕ) (s 
   pub greatest : s.greatest ≤ most_watts
   pub load : LoadIs scale node_count before w (suc (suc (suc i))) s.cords j
 
-pub server-is : (scale node_count before : ℕ) (w : List ℕ) (i : ℕ) (s : Server) (j : ℕ) → server scale node_count before w i ≡ good s j → ServerIs scale node_count before w i s j
+pub server_is : (scale node_count before : ℕ) (w : List ℕ) (i : ℕ) (s : Server) (j : ℕ) → server scale node_count before w i ≡ good s j → ServerIs scale node_count before w i s j
 unfolding server
-server-is scale node_count before w i s j e =
-    let a = word-is _ _ _ _ _ _ _ (said _ _ _ _ _ e) in
+server_is scale node_count before w i s j e =
+    let a = word_is _ _ _ _ _ _ _ (said _ _ _ _ _ e) in
     let b = took _ _ _ _ a.rest in
-    let r = range-is w (suc i) b.got b.at b.first in
+    let r = range_is w (suc i) b.got b.at b.first in
     let c = took _ _ _ _ b.rest in
     let d = load_is scale node_count before i w b.at c.got c.at c.first in
     let x : record { rank = get_or w i 0; least = b.got.least; greatest = b.got.greatest; cords = c.got } ≡ s = cc in
@@ -287,6 +287,6 @@ server-is scale node_count before w i s j e =
         })
 
 -- With a good server the room still has no more than 1,024 cords.
-pub server-few : (scale nodes before : ℕ) (w : List ℕ) (i : ℕ) (s : Server) (j : ℕ) → before ≤ most_cords → server scale nodes before w i ≡ good s j
+pub server_few : (scale nodes before : ℕ) (w : List ℕ) (i : ℕ) (s : Server) (j : ℕ) → before ≤ most_cords → server scale nodes before w i ≡ good s j
     → before + cord_count s ≤ most_cords
-server-few scale nodes before w i s j h e = omega (arith, (server-is scale nodes before w i s j e).load.few)
+server_few scale nodes before w i s j h e = omega (arith, (server_is scale nodes before w i s j e).load.few)

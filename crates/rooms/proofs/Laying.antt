@@ -10,7 +10,7 @@ use lib.Dec.{eqb}
 use borrow.Author.Tests.{eqb-true, eqb-false}
 use Rattle.figures.specs.Figures.{at, column}
 use Rattle.figures.proofs.Columns.{column-length, column-set}
-use Rattle.figures.proofs.Filled.{Filled, filled_none, filled-one, filled-all}
+use Rattle.figures.proofs.Filled.{Filled, filled_none, filled_one, filled_all}
 use Rattle.rooms.specs.Part.{good, Good}
 use Rattle.rooms.specs.Table.{Room, most_servers, most_cords, highest_rank, cord_count, room_cords}
 use Rattle.rooms.specs.Limits.{checked}
@@ -19,20 +19,20 @@ use Rattle.rooms.specs.Lists.{nodes_of, levels_of}
 use Rattle.rooms.proofs.Accepted.{accepted}
 use Rattle.rooms.specs.Rows.{ServersFit, CordsFit, rank_column, least_column, greatest_column, cord_count_column, node_column, server_column, level_column, share_column, row_width, ServerRows, CordRows}
 use Rattle.rooms.specs.Walk.{servers_index}
-use Rattle.rooms.proofs.Walk.{begun, Walk, CordHere, ServerHere, walk_start, walk-server, walk_end}
+use Rattle.rooms.proofs.Walk.{begun, Walk, CordHere, ServerHere, walk_start, walk_server, walk_end}
 
 -- A row that is stored, with a figure of one of its columns, fills that column by one more.
-column-filled : {g : ℕ → ℕ} {size c : ℕ} (rows : List (List ℕ)) (k : ℕ) (row : List ℕ) → Filled g size c (column k rows) → c < size → at row k ≡ g c
+column_filled : {g : ℕ → ℕ} {size c : ℕ} (rows : List (List ℕ)) (k : ℕ) (row : List ℕ) → Filled g size c (column k rows) → c < size → at row k ≡ g c
     → Filled g size (c + 1) (column k (set rows c row))
-column-filled rows k row f h e = rw (column-set k rows _ row) (filled-one (at row k) f h e)
+column_filled rows k row f h e = rw (column-set k rows _ row) (filled_one (at row k) f h e)
 
 -- The rows before place c have their width.
 abbrev Wide : ℕ → List (List ℕ) → Type 0
 Wide c rows = (h : ℕ) → h < c → length (get_or rows h []) ≡ row_width
 
 -- One more row of that width.
-wide-one : (rows : List (List ℕ)) (c : ℕ) (row : List ℕ) → Wide c rows → c < length rows → length row ≡ row_width → Wide (c + 1) (set rows c row)
-wide-one rows c row wide here e h l = go (eqb c h) refl
+wide_one : (rows : List (List ℕ)) (c : ℕ) (row : List ℕ) → Wide c rows → c < length rows → length row ≡ row_width → Wide (c + 1) (set rows c row)
+wide_one rows c row wide here e h l = go (eqb c h) refl
   where
     go : (t : Bool) → eqb c h ≡ t → length (get_or (set rows c row) h []) ≡ row_width
     go true q =
@@ -53,12 +53,12 @@ pub record Laying (table : List ℕ) (v start first c : ℕ) (servers cords : Li
   pub leasts : Filled (λ h. (server_at room h).least) (length room.servers) v (column least_column servers)
   pub greatests : Filled (λ h. (server_at room h).greatest) (length room.servers) v (column greatest_column servers)
   pub counts : Filled (λ h. cord_count (server_at room h)) (length room.servers) v (column cord_count_column servers)
-  pub servers-wide : Wide v servers
+  pub servers_wide : Wide v servers
   pub nodes : Filled (λ h. (cord_at room h).node) (room_cords room) c (column node_column cords)
   pub places : Filled (λ h. (cord_at room h).server) (room_cords room) c (column server_column cords)
   pub levels : Filled (λ h. rank_of room h - 1) (room_cords room) c (column level_column cords)
   pub shares : Filled (λ h. (cord_at room h).share) (room_cords room) c (column share_column cords)
-  pub cords-wide : Wide c cords
+  pub cords_wide : Wide c cords
 
 -- Within that server: the words of the cord at place c start at index `word`.
 pub record LayingServer (table : List ℕ) (v start first count c word : ℕ) (servers cords : List (List ℕ)) : Type 0 where
@@ -72,9 +72,9 @@ pub record LayingServer (table : List ℕ) (v start first count c word : ℕ) (s
 none_filled : {n : ℕ} (g : ℕ → ℕ) (k : ℕ) (rows : List (List ℕ)) → length rows ≡ n → Filled g n 0 (column k rows)
 none_filled g k rows e = rw (← e, ← column-length k rows) (filled_none g (column k rows))
 
-pub laying-start : {table : List ℕ} {servers cords : List (List ℕ)} → (g : Good (checked table 0)) → ServersFit table (length servers) → CordsFit table (length cords)
+pub laying_start : {table : List ℕ} {servers cords : List (List ℕ)} → (g : Good (checked table 0)) → ServersFit table (length servers) → CordsFit table (length cords)
     → {i : ℕ} → i ≡ servers_index table + 1 → Laying table 0 i 0 0 servers cords
-laying-start {servers = servers} {cords = cords} g sf cf e =
+laying_start {servers = servers} {cords = cords} g sf cf e =
     let s = sf g.value g.next g.is in
     let k = cf g.value g.next g.is in
     rw e
@@ -87,12 +87,12 @@ laying-start {servers = servers} {cords = cords} g sf cf e =
       leasts = none_filled _ least_column servers s;
       greatests = none_filled _ greatest_column servers s;
       counts = none_filled _ cord_count_column servers s;
-      servers-wide = λ h l. absurd (omega arith);
+      servers_wide = λ h l. absurd (omega arith);
       nodes = none_filled _ node_column cords k;
       places = none_filled _ server_column cords k;
       levels = none_filled _ level_column cords k;
       shares = none_filled _ share_column cords k;
-      cords-wide = λ h l. absurd (omega arith);
+      cords_wide = λ h l. absurd (omega arith);
     })
 
 module _ {table : List ℕ} {v start first c : ℕ} {servers cords : List (List ℕ)}
@@ -103,27 +103,27 @@ module _ {table : List ℕ} {v start first c : ℕ} {servers cords : List (List 
   pub corded : length cords ≡ room_cords laying.room
   corded = sym (column-length node_column cords) ∙ laying.nodes.size_is
 
-  pub laying-end : length servers ≤ v → first ≤ c → (r : Room) (end : ℕ) → checked table 0 ≡ good r end → ServerRows r servers × CordRows r cords
+  pub laying_end : length servers ≤ v → first ≤ c → (r : Room) (end : ℕ) → checked table 0 ≡ good r end → ServerRows r servers × CordRows r cords
   unfolding nodes_of levels_of
-  laying-end h f r end e =
+  laying_end h f r end e =
       let read = laying.read in
       let same : laying.room ≡ r = cc in
       let s : length laying.room.servers ≤ v = omega (arith, served) in
       let n : room_cords laying.room ≤ c = omega (arith, walk_end laying.walk s) in
       rw (← same) (
         record {
-          ranks = filled-all _ _ laying.ranks refl s (λ i l. refl);
-          leasts = filled-all _ _ laying.leasts refl s (λ i l. refl);
-          greatests = filled-all _ _ laying.greatests refl s (λ i l. refl);
-          counts = filled-all _ _ laying.counts refl s (λ i l. refl);
-          widths = λ i l. laying.servers-wide i (omega arith);
+          ranks = filled_all _ _ laying.ranks refl s (λ i l. refl);
+          leasts = filled_all _ _ laying.leasts refl s (λ i l. refl);
+          greatests = filled_all _ _ laying.greatests refl s (λ i l. refl);
+          counts = filled_all _ _ laying.counts refl s (λ i l. refl);
+          widths = λ i l. laying.servers_wide i (omega arith);
         },
         record {
-          nodes = filled-all _ _ laying.nodes refl n (λ i l. refl);
-          servers = filled-all _ _ laying.places refl n (λ i l. refl);
-          levels = filled-all _ _ laying.levels refl n (λ i l. refl);
-          shares = filled-all _ _ laying.shares refl n (λ i l. refl);
-          widths = λ i l. laying.cords-wide i (omega (arith, corded));
+          nodes = filled_all _ _ laying.nodes refl n (λ i l. refl);
+          servers = filled_all _ _ laying.places refl n (λ i l. refl);
+          levels = filled_all _ _ laying.levels refl n (λ i l. refl);
+          shares = filled_all _ _ laying.shares refl n (λ i l. refl);
+          widths = λ i l. laying.cords_wide i (omega (arith, corded));
         },
       )
 
@@ -131,26 +131,26 @@ module _ {table : List ℕ} {v start first c : ℕ} {servers cords : List (List 
     here : v < length laying.room.servers
     here = omega (arith, served)
 
-    pub laying-server : ServerHere table laying.room v start first
-    laying-server = walk-server laying.walk here
+    pub laying_server : ServerHere table laying.room v start first
+    laying_server = walk_server laying.walk here
 
     pub few-cords : first + at table (start + 3) ≤ most_cords
-    few-cords = omega (arith, laying-server.cords-within, (begun laying.read).cords-most)
+    few-cords = omega (arith, laying_server.cords-within, (begun laying.read).cords_most)
 
-pub server-begin : {table : List ℕ} {v start first count : ℕ} {servers cords : List (List ℕ)}
+pub server_begin : {table : List ℕ} {v start first count : ℕ} {servers cords : List (List ℕ)}
     → Laying table v start first first servers cords → v < length servers → count ≡ at table (start + 3)
     → LayingServer table v start first count first (start + 4) servers cords
-server-begin laying more e =
+server_begin laying more e =
     record { laying = laying; more = more; counted = e; from = omega arith; to = omega arith; next = omega arith }
 
 -- What code relies on at a cord.
 pub record CordFits (table : List ℕ) (v c word : ℕ) (cords : List (List ℕ)) : Type 0 where
   pub there : word + 1 < length table
-  pub cord-few : c < most_cords
-  pub in-cords : c < length cords
+  pub cord_few : c < most_cords
+  pub in_cords : c < length cords
 
-walk-to : {table : List ℕ} {r : Room} {v i j c d : ℕ} → i ≡ j → c ≡ d → Walk table r v j d → Walk table r v i c
-walk-to e f walk = rw (e, f) walk
+walk_to : {table : List ℕ} {r : Room} {v i j c d : ℕ} → i ≡ j → c ≡ d → Walk table r v j d → Walk table r v i c
+walk_to e f walk = rw (e, f) walk
 
 module _ {table : List ℕ} {v start first count c word : ℕ} {servers cords : List (List ℕ)}
     (server : LayingServer table v start first count c word servers cords) where
@@ -165,7 +165,7 @@ module _ {table : List ℕ} {v start first count c word : ℕ} {servers cords : 
 
   module _ (short : c < first + count) where
     cord-here : CordHere table r v start first (c - first)
-    cord-here = (laying-server laying server.more).cord (c - first) (omega (arith, server.counted, server.from))
+    cord-here = (laying_server laying server.more).cord (c - first) (omega (arith, server.counted, server.from))
 
     at_c : first + (c - first) ≡ c
     at_c = omega (arith, server.from)
@@ -182,20 +182,20 @@ module _ {table : List ℕ} {v start first count c word : ℕ} {servers cords : 
     within : c < room_cords r
     within = rw at_c at cord-here.within
 
-    pub cord-fits : CordFits table v c word cords
-    cord-fits =
+    pub cord_fits : CordFits table v c word cords
+    cord_fits =
         record {
           there = omega (arith, cord-here.there, at-share);
-          cord-few = omega (arith, within, (begun laying.read).cords-most);
-          in-cords = omega (arith, within, corded laying);
+          cord_few = omega (arith, within, (begun laying.read).cords_most);
+          in_cords = omega (arith, within, corded laying);
         }
 
     -- The figures of its row fit their entries.
     pub row_fits : (at table word < 2 ^ 16) × (v < 2 ^ 16) × (1 ≤ at table start) × (at table start ≤ highest_rank) × (at table (word + 1) < 2 ^ 16)
     row_fits =
-        let standing = laying-server laying server.more in
-        let node : at table word ≤ length r.nodes = rw at-word at cord-here.node-most in
-        let share : at table (word + 1) ≤ r.scale = rw at-share at cord-here.share-most in (
+        let standing = laying_server laying server.more in
+        let node : at table word ≤ length r.nodes = rw at-word at cord-here.node_most in
+        let share : at table (word + 1) ≤ r.scale = rw at-share at cord-here.share_most in (
           omega (arith, node, (begun laying.read).most),
           omega (arith, few-servers),
           standing.lowest,
@@ -207,7 +207,7 @@ module _ {table : List ℕ} {v start first count c word : ℕ} {servers cords : 
     pub server-cord : {row : List ℕ} → row ≡ at table word ∷ v ∷ (at table start - 1) ∷ at table (word + 1) ∷ []
         → LayingServer table v start first count (c + 1) (word + 2) servers (set cords c row)
     server-cord {row} e =
-        let standing = laying-server laying server.more in
+        let standing = laying_server laying server.more in
         let cell : (k : ℕ) → at row k ≡ at (at table word ∷ v ∷ (at table start - 1) ∷ at table (word + 1) ∷ []) k = λ k. ap (λ (l : List ℕ). at l k) e in
         record {
           laying = record {
@@ -219,14 +219,14 @@ module _ {table : List ℕ} {v start first count c word : ℕ} {servers cords : 
             leasts = laying.leasts;
             greatests = laying.greatests;
             counts = laying.counts;
-            servers-wide = laying.servers-wide;
-            nodes = column-filled cords node_column row laying.nodes within (cell node_column ∙ ap (λ (x : RoomCord). x.node) is);
-            places = column-filled cords server_column row laying.places within (cell server_column ∙ ap (λ (x : RoomCord). x.server) is);
+            servers_wide = laying.servers_wide;
+            nodes = column_filled cords node_column row laying.nodes within (cell node_column ∙ ap (λ (x : RoomCord). x.node) is);
+            places = column_filled cords server_column row laying.places within (cell server_column ∙ ap (λ (x : RoomCord). x.server) is);
             levels =
-                column-filled cords level_column row laying.levels within
+                column_filled cords level_column row laying.levels within
                 (cell level_column ∙ ap (λ (x : ℕ). x - 1) (sym standing.rank) ∙ ap (λ (x : RoomCord). (server_at r x.server).rank - 1) is);
-            shares = column-filled cords share_column row laying.shares within (cell share_column ∙ ap (λ (x : RoomCord). x.share) is);
-            cords-wide = wide-one cords c row laying.cords-wide (omega (arith, within, corded laying)) (ap length e);
+            shares = column_filled cords share_column row laying.shares within (cell share_column ∙ ap (λ (x : RoomCord). x.share) is);
+            cords_wide = wide_one cords c row laying.cords_wide (omega (arith, within, corded laying)) (ap length e);
           };
           more = server.more;
           counted = server.counted;
@@ -243,23 +243,23 @@ module _ {table : List ℕ} {v start first count c word : ℕ} {servers cords : 
   server-end h =
       let all : first + count ≡ c = omega (arith, server.to) in
       let w : word ≡ start + (4 + 2 * at table (start + 3)) = omega (arith, server.counted, server.next) in
-      let standing = laying-server laying server.more in
+      let standing = laying_server laying server.more in
       let place = here laying server.more in (
         length-set servers v row,
         record {
           room = r;
           end = laying.end;
           read = laying.read;
-          walk = walk-to w (ap (λ (k : ℕ). first + k) server.counted) standing.next;
-          ranks = column-filled servers rank_column row laying.ranks place (sym standing.rank);
-          leasts = column-filled servers least_column row laying.leasts place (sym standing.least);
-          greatests = column-filled servers greatest_column row laying.greatests place (sym standing.greatest);
-          counts = column-filled servers cord_count_column row laying.counts place (sym standing.count);
-          servers-wide = wide-one servers v row laying.servers-wide server.more refl;
+          walk = walk_to w (ap (λ (k : ℕ). first + k) server.counted) standing.next;
+          ranks = column_filled servers rank_column row laying.ranks place (sym standing.rank);
+          leasts = column_filled servers least_column row laying.leasts place (sym standing.least);
+          greatests = column_filled servers greatest_column row laying.greatests place (sym standing.greatest);
+          counts = column_filled servers cord_count_column row laying.counts place (sym standing.count);
+          servers_wide = wide_one servers v row laying.servers_wide server.more refl;
           nodes = rw all laying.nodes;
           places = rw all laying.places;
           levels = rw all laying.levels;
           shares = rw all laying.shares;
-          cords-wide = rw all laying.cords-wide;
+          cords_wide = rw all laying.cords_wide;
         },
       )

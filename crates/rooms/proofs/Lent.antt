@@ -7,8 +7,8 @@ use native.Mathlib.Omega.{arith}
 use lib.ListN.{length, take}
 use lib.Seq.{sets, length-sets, length-take-le, take_all}
 use Rattle.outcomes.specs.Outcome.{accepted, fitting}
-use Rattle.outcomes.proofs.Outcomes.{fitting-fits}
-use Rattle.outcomes.proofs.Parts.{accepted-went}
+use Rattle.outcomes.proofs.Outcomes.{fitting_fits}
+use Rattle.outcomes.proofs.Parts.{accepted_went}
 use Rattle.numbers.specs.Sheet.{SheetEnding, whole, sheet_of, bytes_of}
 use Rattle.numbers.specs.Sheet as sheet
 use Rattle.rooms.specs.Part.{Step, good, bad}
@@ -18,16 +18,16 @@ use Rattle.rooms.specs.declared.SheetRefusal.TheVariants.{OutputTooShort}
 use Rattle.rooms.specs.declared.SheetAnswer.{SheetAnswer}
 use Rattle.rooms.specs.declared.SheetAnswer.TheVariants.{Accepted}
 use Rattle.rooms.specs.Outcome.{answer_of, if_good, read_words, reading, reading_first, writing}
-use Rattle.rooms.proofs.Reach.{prefix-decides, length-small}
-use Rattle.rooms.proofs.Outcomes.{accepted-told, accepted-is, front-sets, front-size}
+use Rattle.rooms.proofs.Reach.{prefix_decides, length_small}
+use Rattle.rooms.proofs.Outcomes.{accepted_told, accepted_is, front-sets, front_size}
 
 -- A table that is cut comes to the same, if it is cut no shorter than decides its check.
 table-cut : (output : List ℕ → List ℕ) (table : List ℕ) (entries k : ℕ) → suc most_words ≤ k
     → if_good (checked (take k table) 0) (output (take k table)) entries ≡ if_good (checked table 0) (output table) entries
-table-cut output table entries k h = rw (prefix-decides table k h) (go (checked table 0) refl)
+table-cut output table entries k h = rw (prefix_decides table k h) (go (checked table 0) refl)
   where
     go : (s : Step Room) → checked table 0 ≡ s → if_good s (output (take k table)) entries ≡ if_good s (output table) entries
-    go (good r j) e = rw (take_all k table (omega (arith, length-small table r j e)))
+    go (good r j) e = rw (take_all k table (omega (arith, length_small table r j e)))
     go (bad q) e = refl
 
 -- ---- Read
@@ -46,14 +46,14 @@ module _ (bytes : List ℕ) (entries : ℕ) where
       ending (sheet.refused fault place) = refl
 
   -- What is read fits the output,
-  pub reading-fits : {written : List ℕ} → reading bytes entries ≡ accepted written → length written ≤ entries
+  pub reading_fits : {written : List ℕ} → reading bytes entries ≡ accepted written → length written ≤ entries
   unfolding reading
-  reading-fits {written = written} e = ending (sheet_of bytes).ending e
+  reading_fits {written = written} e = ending (sheet_of bytes).ending e
     where
       ending : (end : SheetEnding) → read_words words end entries ≡ accepted written → length written ≤ entries
       ending whole e =
-          let went = accepted-went (λ q. q) (λ room. fitting OutputTooShort words entries) (checked words 0) e in
-          fitting-fits OutputTooShort words entries went.is
+          let went = accepted_went (λ q. q) (λ room. fitting OutputTooShort words entries) (checked words 0) e in
+          fitting_fits OutputTooShort words entries went.is
       ending (sheet.refused fault place) e = let z : ◌≡◌ {A = ℕ} 0 1 = cc in absurd (omega arith)
 
   -- and stands at the front of the list by way of which it is read.
@@ -62,20 +62,20 @@ module _ (bytes : List ℕ) (entries : ℕ) where
     pub counted : length (take count list') ≡ count
     pub is : reading_first (length list) bytes entries ≡ accepted (take count list')
 
-  first-is : (taken : ℕ) {output : List ℕ} → reading_first taken bytes entries ≡ accepted output → take taken words ≡ output
+  first_is : (taken : ℕ) {output : List ℕ} → reading_first taken bytes entries ≡ accepted output → take taken words ≡ output
   unfolding reading_first
-  first-is taken {output = output} e = ending (sheet_of bytes).ending e
+  first_is taken {output = output} e = ending (sheet_of bytes).ending e
     where
       ending : (end : SheetEnding) → read_words (take taken words) end entries ≡ accepted output → take taken words ≡ output
-      ending whole e = (accepted-is (checked (take taken words) 0) (take taken words) entries e).1
+      ending whole e = (accepted_is (checked (take taken words) 0) (take taken words) entries e).1
       ending (sheet.refused fault place) e = let z : ◌≡◌ {A = ℕ} 0 1 = cc in absurd (omega arith)
 
-  pub first-stands : (list : List ℕ) {list' : List ℕ} {told : SheetAnswer} {count : ℕ} → told ≡ answer_of (reading_first (length list) bytes entries) → told ≡ Accepted count
+  pub first_stands : (list : List ℕ) {list' : List ℕ} {told : SheetAnswer} {count : ℕ} → told ≡ answer_of (reading_first (length list) bytes entries) → told ≡ Accepted count
       → list' ≡ sets list 0 words → Stands list list' count
-  first-stands list {list' = list'} {count = count} d e s =
-      let o = accepted-told _ d e in
-      let first : take (length list) words ≡ o.output = first-is (length list) o.is in
-      let n : count ≡ min (length words) (length list) = sym (front-size list words refl ∙ ap length first ∙ o.counted) in
+  first_stands list {list' = list'} {count = count} d e s =
+      let o = accepted_told _ d e in
+      let first : take (length list) words ≡ o.output = first_is (length list) o.is in
+      let n : count ≡ min (length words) (length list) = sym (front_size list words refl ∙ ap length first ∙ o.counted) in
       let fits : count ≤ length list' = omega (arith, n, ap length s ∙ length-sets list 0 words) in
       record {
         fits = fits;

@@ -18,62 +18,62 @@ use Rattle.rooms.specs.Credits.{node_from, node_index, NodesRead, parent_at, lim
 -- ---- One node
 
 -- The words of a node after its first two are those of its percent.
-pub percent-words : (percents : Bool) (i : ℕ) → suc (suc i) + cond percents 1 0 ≡ i + node_words percents
-percent-words true i = omega arith
-percent-words false i = omega arith
+pub percent_words : (percents : Bool) (i : ℕ) → suc (suc i) + cond percents 1 0 ≡ i + node_words percents
+percent_words true i = omega arith
+percent_words false i = omega arith
 
-pub words-two : (percents : Bool) → 2 ≤ node_words percents
-words-two true = omega arith
-words-two false = omega arith
+pub words_two : (percents : Bool) → 2 ≤ node_words percents
+words_two true = omega arith
+words_two false = omega arith
 
 -- A percent is 80 or 100.
-pub is-eighty : (v : ℕ) → v ≡ 80 → eqb v 80 || eqb v 100 ≡ true
-is-eighty v e = rw (eq-eqb v 80 e)
+pub is_eighty : (v : ℕ) → v ≡ 80 → eqb v 80 || eqb v 100 ≡ true
+is_eighty v e = rw (eq-eqb v 80 e)
 
-pub is-hundred : (v : ℕ) → (v ≡ 80 → ⊥) → v ≡ 100 → eqb v 80 || eqb v 100 ≡ true
-is-hundred v n e = rw (ne_eqb v 80 n, eq-eqb v 100 e)
+pub is_hundred : (v : ℕ) → (v ≡ 80 → ⊥) → v ≡ 100 → eqb v 80 || eqb v 100 ≡ true
+is_hundred v n e = rw (ne_eqb v 80 n, eq-eqb v 100 e)
 
-pub is-neither : (v : ℕ) → (v ≡ 80 → ⊥) → (v ≡ 100 → ⊥) → eqb v 80 || eqb v 100 ≡ false
-is-neither v n m = rw (ne_eqb v 80 n, ne_eqb v 100 m)
+pub is_neither : (v : ℕ) → (v ≡ 80 → ⊥) → (v ≡ 100 → ⊥) → eqb v 80 || eqb v 100 ≡ false
+is_neither v n m = rw (ne_eqb v 80 n, ne_eqb v 100 m)
 
-pub percent-is : (p : ℕ) → eqb p 80 || eqb p 100 ≡ true → (p ≡ 80) ⊎ (p ≡ 100)
-percent-is p e = go (eqb p 80) refl e
+pub percent_is : (p : ℕ) → eqb p 80 || eqb p 100 ≡ true → (p ≡ 80) ⊎ (p ≡ 100)
+percent_is p e = go (eqb p 80) refl e
   where
     go : (t : Bool) → eqb p 80 ≡ t → t || eqb p 100 ≡ true → (p ≡ 80) ⊎ (p ≡ 100)
     go true d e = inl (eqb-true p 80 d)
     go false d e = inr (eqb-true p 100 e)
 
-pub percent-in : (p : ℕ) → eqb p 80 || eqb p 100 ≡ true → (80 ≤ p) × (p ≤ 100)
-percent-in p e = ⊎_elim (λ (d : p ≡ 80). (omega arith, omega arith)) (λ (d : p ≡ 100). (omega arith, omega arith)) (percent-is p e)
+pub percent_in : (p : ℕ) → eqb p 80 || eqb p 100 ≡ true → (80 ≤ p) × (p ≤ 100)
+percent_in p e = ⊎_elim (λ (d : p ≡ 80). (omega arith, omega arith)) (λ (d : p ≡ 100). (omega arith, omega arith)) (percent_is p e)
 
 pub percent-to : (percents : Bool) (p : ℕ) → PercentFits percents p → p ≤ 100
-percent-to true p f = (percent-in p f).1
+percent-to true p f = (percent_in p f).1
 percent-to false p f = omega (arith, eqb-true p 80 f)
 
 module _ (percents : Bool) (w : List ℕ) (i : ℕ) where
   third : i + 2 ≡ suc (suc i)
   third = omega arith
 
-  pub percent-most : percents ≡ true → (node_from percents w i).percent ≤ 100 → get_or w (i + 2) 0 ≤ 100
-  percent-most e h = rw third (rw e at h)
+  pub percent_most : percents ≡ true → (node_from percents w i).percent ≤ 100 → get_or w (i + 2) 0 ≤ 100
+  percent_most e h = rw third (rw e at h)
 
-  pub limit-by-word : {x : ℕ} → percents ≡ true → x ≡ get_or w (i + 1) 0 * get_or w (i + 2) 0 / 100 → x ≡ limit (node_from percents w i)
-  limit-by-word e h = rw e (rw (add-one, third) at h)
+  pub limit_by_word : {x : ℕ} → percents ≡ true → x ≡ get_or w (i + 1) 0 * get_or w (i + 2) 0 / 100 → x ≡ limit (node_from percents w i)
+  limit_by_word e h = rw e (rw (add-one, third) at h)
 
-  pub limit-by-eighty : {x : ℕ} → percents ≡ false → x ≡ get_or w (i + 1) 0 * 80 / 100 → x ≡ limit (node_from percents w i)
-  limit-by-eighty e h = rw e (rw add-one at h)
+  pub limit_by_eighty : {x : ℕ} → percents ≡ false → x ≡ get_or w (i + 1) 0 * 80 / 100 → x ≡ limit (node_from percents w i)
+  limit_by_eighty e h = rw e (rw add-one at h)
 
 -- ---- The node at a place
 
 module _ (percents : Bool) (w : List ℕ) {i : ℕ} (m : ℕ) (here : i ≡ node_index percents m) where
-  pub node-fits : {count : ℕ} → NodesRead percents w count → m < count → (i + node_words percents ≤ length w) × ((node_from percents w i).percent ≤ 100)
-  node-fits {count} read h = (
+  pub node_fits : {count : ℕ} → NodesRead percents w count → m < count → (i + node_words percents ≤ length w) × ((node_from percents w i).percent ≤ 100)
+  node_fits {count} read h = (
     omega (arith, here, read.there, mul-suc (node_words percents) m, mul-le-mul_left (node_words percents) h),
     rw here (read.part m h),
   )
 
-  pub parent-here : {x : ℕ} → x ≡ get_or w i 0 → x ≡ parent_at percents w m
-  parent-here e = e ∙ ap (λ (k : ℕ). get_or w k 0) here
+  pub parent_here : {x : ℕ} → x ≡ get_or w i 0 → x ≡ parent_at percents w m
+  parent_here e = e ∙ ap (λ (k : ℕ). get_or w k 0) here
 
   pub limit-here : {x : ℕ} → x ≡ limit (node_from percents w i) → x ≡ limit_at percents w m
   limit-here e = e ∙ ap (λ (k : ℕ). limit (node_from percents w k)) here

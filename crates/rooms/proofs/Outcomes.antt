@@ -10,8 +10,8 @@ use lib.Seq.{sets, length-sets, length-take-le}
 use lib.Dec.{leb}
 use borrow.Author.Tests.{leb-true, leb-false}
 use Rattle.outcomes.specs.Outcome.{accepted, refused, fitting, after}
-use Rattle.outcomes.proofs.Outcomes.{fitting-short, fitting-whole, fitting-is}
-use Rattle.outcomes.proofs.Parts.{accepted-went}
+use Rattle.outcomes.proofs.Outcomes.{fitting_short, fitting_whole, fitting_is}
+use Rattle.outcomes.proofs.Parts.{accepted_went}
 use Rattle.figures.proofs.Stores.{take-sets, take_min}
 use Rattle.numbers.specs.Sheet.{SheetEnding, whole, sheet_of, judged, answer, bytes_of, written, fitted}
 use Rattle.numbers.specs.Sheet as sheet
@@ -21,7 +21,7 @@ use Rattle.numbers.specs.declared.JudgedSheet.TheVariants.{Words}
 use Rattle.numbers.specs.declared.JudgedSheet.TheVariants as judge
 use Rattle.numbers.specs.declared.Written.{Written}
 use Rattle.numbers.specs.declared.Written.TheVariants.{Bytes, TooLarge, TooShort}
-use Rattle.numbers.proofs.SheetLaws.{written-forms}
+use Rattle.numbers.proofs.SheetLaws.{written_forms}
 use Rattle.rooms.specs.Part.{Step, good, bad}
 use Rattle.rooms.specs.Part as part
 use Rattle.rooms.specs.Table.{Room}
@@ -38,40 +38,40 @@ use Rattle.rooms.specs.declared.Checked.{Checked}
 use Rattle.rooms.specs.declared.Checked.TheVariants.{Refused}
 
 -- A step that is told as refused is refused so.
-pub refused-so : {A : Type 0} (f : A → ℕ) (s : Step A) {r : Checked} {q : SheetRefusal} → r ≡ told f s → r ≡ Refused q → s ≡ bad q
+pub refused_so : {A : Type 0} (f : A → ℕ) (s : Step A) {r : Checked} {q : SheetRefusal} → r ≡ told f s → r ≡ Refused q → s ≡ bad q
 unfolding told
-refused-so f (good a j) d e = absurd (suc-ne-zero 0 (cc))
-refused-so f (bad m) {q = q} d e = let z : m ≡ q = cc in ap bad z
+refused_so f (good a j) d e = absurd (suc-ne-zero 0 (cc))
+refused_so f (bad m) {q = q} d e = let z : m ≡ q = cc in ap bad z
 
 -- A refused operation leaves the list; an accepted one has written its output to the front.
-pub refused-done : (outcome : SheetOutcome) (list : List ℕ) {q : SheetRefusal} → outcome ≡ refused q
+pub refused_done : (outcome : SheetOutcome) (list : List ℕ) {q : SheetRefusal} → outcome ≡ refused q
     → (answers.Refused q ≡ answer_of outcome) × (list ≡ after (λ l. l) outcome list)
-refused-done outcome list e = rw e (refl, refl)
+refused_done outcome list e = rw e (refl, refl)
 
-pub accepted-done : (outcome : SheetOutcome) (list list' output : List ℕ) {count : ℕ} → outcome ≡ accepted output → length output ≡ count
+pub accepted_done : (outcome : SheetOutcome) (list list' output : List ℕ) {count : ℕ} → outcome ≡ accepted output → length output ≡ count
     → list' ≡ sets list 0 output
     → (Accepted count ≡ answer_of outcome) × (list' ≡ after (λ l. l) outcome list)
-accepted-done outcome list list' output e n w = rw e (ap Accepted (sym n), w)
+accepted_done outcome list list' output e n w = rw e (ap Accepted (sym n), w)
 
 -- What an answer tells of its outcome: that it is refused so, or accepted with an output of so many entries.
-pub refused-told : (outcome : SheetOutcome) {told : SheetAnswer} {q : SheetRefusal} → told ≡ answer_of outcome → told ≡ answers.Refused q → outcome ≡ refused q
-refused-told (accepted output) d e = absurd (suc-ne-zero 0 (cc))
-refused-told (refused r) {q = q} d e = let z : r ≡ q = cc in ap refused z
+pub refused_told : (outcome : SheetOutcome) {told : SheetAnswer} {q : SheetRefusal} → told ≡ answer_of outcome → told ≡ answers.Refused q → outcome ≡ refused q
+refused_told (accepted output) d e = absurd (suc-ne-zero 0 (cc))
+refused_told (refused r) {q = q} d e = let z : r ≡ q = cc in ap refused z
 
 pub record Output (outcome : SheetOutcome) (count : ℕ) : Type 0 where
   pub output : List ℕ
   pub is : outcome ≡ accepted output
   pub counted : length output ≡ count
 
-pub accepted-told : (outcome : SheetOutcome) {told : SheetAnswer} {count : ℕ} → told ≡ answer_of outcome → told ≡ Accepted count → Output outcome count
-accepted-told (accepted output) d e = record { output = output; is = refl; counted = cc }
-accepted-told (refused refusal) d e = absurd (suc-ne-zero 0 (cc))
+pub accepted_told : (outcome : SheetOutcome) {told : SheetAnswer} {count : ℕ} → told ≡ answer_of outcome → told ≡ Accepted count → Output outcome count
+accepted_told (accepted output) d e = record { output = output; is = refl; counted = cc }
+accepted_told (refused refusal) d e = absurd (suc-ne-zero 0 (cc))
 
 -- What is accepted after the check of a table: the table is good, and the output is what was due.
-pub accepted-is : (step : Step Room) (output : List ℕ) (entries : ℕ) {given : List ℕ} → if_good step output entries ≡ accepted given → part.Good step × (output ≡ given)
-accepted-is step output entries e =
-    let went = accepted-went (λ q. q) (λ room. fitting OutputTooShort output entries) step e in
-    (went.good-step, fitting-is OutputTooShort output entries went.is)
+pub accepted_is : (step : Step Room) (output : List ℕ) (entries : ℕ) {given : List ℕ} → if_good step output entries ≡ accepted given → part.Good step × (output ≡ given)
+accepted_is step output entries e =
+    let went = accepted_went (λ q. q) (λ room. fitting OutputTooShort output entries) step e in
+    (went.good_step, fitting_is OutputTooShort output entries went.is)
 
 -- ---- Read
 
@@ -84,8 +84,8 @@ module _ (list words : List ℕ) {front : ℕ} (e : front ≡ min (length words)
   pub front-sets : take front (sets list 0 words) ≡ take (length list) words
   front-sets = take-sets front list words (omega arith) (omega arith) ∙ ap (λ (m : ℕ). take m words) e ∙ take_min (length list) words
 
-  pub front-size : front ≡ length (take (length list) words)
-  front-size = sym (ap length (sym front-sets) ∙ length-take-le front (sets list 0 words) (omega (arith, length-sets list 0 words)))
+  pub front_size : front ≡ length (take (length list) words)
+  front_size = sym (ap length (sym front-sets) ∙ length-take-le front (sets list 0 words) (omega (arith, length-sets list 0 words)))
 
 -- A sheet of so many good numbers.
 pub record Whole (bytes : List ℕ) (count : ℕ) : Type 0 where
@@ -96,8 +96,8 @@ module _ (bytes : List ℕ) where
   abbrev words : List ℕ
   words = (sheet_of bytes).words
 
-  pub whole-so : {r : JudgedSheet} {count : ℕ} → r ≡ judged (sheet_of bytes) → r ≡ Words count → Whole bytes count
-  whole-so {r = r} {count = count} d e = go (sheet_of bytes).ending refl d
+  pub whole_so : {r : JudgedSheet} {count : ℕ} → r ≡ judged (sheet_of bytes) → r ≡ Words count → Whole bytes count
+  whole_so {r = r} {count = count} d e = go (sheet_of bytes).ending refl d
     where
       go : (ending : SheetEnding) → (sheet_of bytes).ending ≡ ending → r ≡ answer (length words) ending → Whole bytes count
       go whole is d = let n : length words ≡ count = cc in record { ends = is; counted = n }
@@ -110,13 +110,13 @@ module _ (bytes : List ℕ) where
     pub checks : part.Good (checked table 0)
 
   module _ (entries : ℕ) where
-    pub reading-is : {table : List ℕ} → reading bytes entries ≡ accepted table → Read table
+    pub reading_is : {table : List ℕ} → reading bytes entries ≡ accepted table → Read table
     unfolding reading
-    reading-is {table = table} e = go (sheet_of bytes).ending refl e
+    reading_is {table = table} e = go (sheet_of bytes).ending refl e
       where
         go : (ending : SheetEnding) → (sheet_of bytes).ending ≡ ending → read_words words ending entries ≡ accepted table → Read table
         go whole is e =
-            let a = accepted-is (checked words 0) words entries e in
+            let a = accepted_is (checked words 0) words entries e in
             record { ends = is; words_are = a.1; checks = rw a.1 at a.0 }
         go (sheet.refused f p) is e = absurd (suc-ne-zero 0 (cc))
 
@@ -125,21 +125,21 @@ module _ (table : List ℕ) (entries : ℕ) where
   abbrev outcome : SheetOutcome
   outcome = if_good (checked table 0) table entries
 
-  pub table-refused : {q : SheetRefusal} → checked table 0 ≡ bad q → answers.Refused q ≡ answer_of outcome
-  table-refused c = rw c refl
+  pub table_refused : {q : SheetRefusal} → checked table 0 ≡ bad q → answers.Refused q ≡ answer_of outcome
+  table_refused c = rw c refl
 
-  pub table-short : {r : Room} {j : ℕ} → checked table 0 ≡ good r j → entries < length table → answers.Refused (OutputTooShort (length table)) ≡ answer_of outcome
-  table-short c h = rw (c, fitting-short OutputTooShort table entries h) refl
+  pub table_short : {r : Room} {j : ℕ} → checked table 0 ≡ good r j → entries < length table → answers.Refused (OutputTooShort (length table)) ≡ answer_of outcome
+  table_short c h = rw (c, fitting_short OutputTooShort table entries h) refl
 
-  pub table-accepted : {r : Room} {j : ℕ} → checked table 0 ≡ good r j → length table ≤ entries → Accepted (length table) ≡ answer_of outcome
-  table-accepted c h = rw (c, fitting-whole OutputTooShort table entries h) refl
+  pub table_accepted : {r : Room} {j : ℕ} → checked table 0 ≡ good r j → length table ≤ entries → Accepted (length table) ≡ answer_of outcome
+  table_accepted c h = rw (c, fitting_whole OutputTooShort table entries h) refl
 
 -- Read by way of a list, which becomes `list'`.
 module _ (bytes list : List ℕ) (entries : ℕ) where
-  pub first-bad-number : {r : JudgedSheet} {f : Fault} {p : ℕ} → r ≡ judged (sheet_of bytes) → r ≡ judge.Refused f p
+  pub first_bad_number : {r : JudgedSheet} {f : Fault} {p : ℕ} → r ≡ judged (sheet_of bytes) → r ≡ judge.Refused f p
       → answers.Refused (BadNumber f p) ≡ answer_of (reading_first (length list) bytes entries)
   unfolding reading_first
-  first-bad-number {r = r} {f = f} {p = p} d e = go (sheet_of bytes).ending d
+  first_bad_number {r = r} {f = f} {p = p} d e = go (sheet_of bytes).ending d
     where
       go : (ending : SheetEnding) → r ≡ answer (length (words bytes)) ending
           → answers.Refused (BadNumber f p) ≡ answer_of (read_words (take (length list) (words bytes)) ending entries)
@@ -149,10 +149,10 @@ module _ (bytes list : List ℕ) (entries : ℕ) where
           let b : q ≡ p = cc in
           rw (a, b)
 
-  pub first-answered : {count front : ℕ} {list' : List ℕ} {told : SheetAnswer} → Whole bytes count → list' ≡ sets list 0 (words bytes) → front ≡ min count (length list')
+  pub first_answered : {count front : ℕ} {list' : List ℕ} {told : SheetAnswer} → Whole bytes count → list' ≡ sets list 0 (words bytes) → front ≡ min count (length list')
       → told ≡ answer_of (outcome (take front list') entries) → told ≡ answer_of (reading_first (length list) bytes entries)
   unfolding reading_first
-  first-answered {front = front} {list' = list'} is e f a =
+  first_answered {front = front} {list' = list'} is e f a =
       let n : front ≡ min (length (words bytes)) (length list) = omega (arith, is.counted, ap length e ∙ length-sets list 0 (words bytes)) in
       let taken : take front list' ≡ take (length list) (words bytes) = rw e (front-sets list (words bytes) n) in
       a ∙ ap (λ (l : List ℕ). answer_of (outcome l entries)) taken ∙ rw is.ends
@@ -160,45 +160,45 @@ module _ (bytes list : List ℕ) (entries : ℕ) where
 -- ---- Write
 
 module _ (table : List ℕ) (entries : ℕ) where
-  pub writing-refused : {q : SheetRefusal} → checked table 0 ≡ bad q → writing table entries ≡ refused q
+  pub writing_refused : {q : SheetRefusal} → checked table 0 ≡ bad q → writing table entries ≡ refused q
   unfolding writing
-  writing-refused c = rw c
+  writing_refused c = rw c
 
-  pub writing-is : {output : List ℕ} → writing table entries ≡ accepted output → part.Good (checked table 0) × (bytes_of table ≡ output)
+  pub writing_is : {output : List ℕ} → writing table entries ≡ accepted output → part.Good (checked table 0) × (bytes_of table ≡ output)
   unfolding writing
-  writing-is = accepted-is (checked table 0) (bytes_of table) entries
+  writing_is = accepted_is (checked table 0) (bytes_of table) entries
 
   module _ {r : Room} {j : ℕ} (c : checked table 0 ≡ good r j) where
-    pub writing-good : writing table entries ≡ fitting OutputTooShort (bytes_of table) entries
+    pub writing_good : writing table entries ≡ fitting OutputTooShort (bytes_of table) entries
     unfolding writing
-    writing-good = rw c
+    writing_good = rw c
 
     -- No word of a good table is too large, so that only the sheet's length decides.
     fits : {answer : Written} → answer ≡ written table entries → answer ≡ fitted (length (bytes_of table)) entries
-    fits e = e ∙ written-forms table entries (λ i. omega (arith, words_small table r j c i))
+    fits e = e ∙ written_forms table entries (λ i. omega (arith, words_small table r j c i))
 
-    pub writing-bytes : {answer : Written} {count : ℕ} → answer ≡ written table entries → answer ≡ Bytes count
+    pub writing_bytes : {answer : Written} {count : ℕ} → answer ≡ written table entries → answer ≡ Bytes count
         → (writing table entries ≡ accepted (bytes_of table)) × (length (bytes_of table) ≡ count)
-    writing-bytes {answer = answer} {count = count} e f = go (leb (length (bytes_of table)) entries) refl (fits e)
+    writing_bytes {answer = answer} {count = count} e f = go (leb (length (bytes_of table)) entries) refl (fits e)
       where
         go : (t : Bool) → leb (length (bytes_of table)) entries ≡ t → answer ≡ cond t (Bytes (length (bytes_of table))) (TooShort (length (bytes_of table)))
             → (writing table entries ≡ accepted (bytes_of table)) × (length (bytes_of table) ≡ count)
-        go true t a = (writing-good ∙ fitting-whole OutputTooShort (bytes_of table) entries (leb-true (length (bytes_of table)) entries t), cc)
+        go true t a = (writing_good ∙ fitting_whole OutputTooShort (bytes_of table) entries (leb-true (length (bytes_of table)) entries t), cc)
         go false t a = absurd (suc-ne-zero 0 (cc))
 
-    pub writing-short : {answer : Written} {needed : ℕ} → answer ≡ written table entries → answer ≡ TooShort needed
+    pub writing_short : {answer : Written} {needed : ℕ} → answer ≡ written table entries → answer ≡ TooShort needed
         → writing table entries ≡ refused (OutputTooShort needed)
-    writing-short {answer = answer} {needed = needed} e f = go (leb (length (bytes_of table)) entries) refl (fits e)
+    writing_short {answer = answer} {needed = needed} e f = go (leb (length (bytes_of table)) entries) refl (fits e)
       where
         go : (t : Bool) → leb (length (bytes_of table)) entries ≡ t → answer ≡ cond t (Bytes (length (bytes_of table))) (TooShort (length (bytes_of table)))
             → writing table entries ≡ refused (OutputTooShort needed)
         go true t a = absurd (suc-ne-zero 0 (cc))
         go false t a =
             let n : length (bytes_of table) ≡ needed = cc in
-            writing-good ∙ fitting-short OutputTooShort (bytes_of table) entries (leb-false (length (bytes_of table)) entries t) ∙ ap (λ (k : ℕ). refused (OutputTooShort k)) n
+            writing_good ∙ fitting_short OutputTooShort (bytes_of table) entries (leb-false (length (bytes_of table)) entries t) ∙ ap (λ (k : ℕ). refused (OutputTooShort k)) n
 
-    pub writing-large : {answer : Written} {index : ℕ} → answer ≡ written table entries → answer ≡ TooLarge index → ⊥
-    writing-large {answer = answer} e f = go (leb (length (bytes_of table)) entries) (fits e)
+    pub writing_large : {answer : Written} {index : ℕ} → answer ≡ written table entries → answer ≡ TooLarge index → ⊥
+    writing_large {answer = answer} e f = go (leb (length (bytes_of table)) entries) (fits e)
       where
         go : (t : Bool) → answer ≡ cond t (Bytes (length (bytes_of table))) (TooShort (length (bytes_of table))) → ⊥
         go true a = suc-ne-zero 0 (cc)

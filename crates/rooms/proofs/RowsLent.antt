@@ -17,21 +17,21 @@ front most n row h = length-take-le n (replicate most row) (omega (arith, length
 
 module _ (table : List ℕ) (g : Good (checked table 0)) {n : ℕ} where
   module _ (fit : ServersFit table n) where
-    pub servers-few : n ≤ most_servers
-    servers-few = omega (arith, fit g.value g.next g.is, (accepted table g.value g.next g.is).few_servers)
+    pub servers_few : n ≤ most_servers
+    servers_few = omega (arith, fit g.value g.next g.is, (accepted table g.value g.next g.is).few_servers)
 
     pub servers-front : (row : List ℕ) → n ≡ length (take n (replicate most_servers row))
-    servers-front row = sym (front most_servers n row servers-few)
+    servers-front row = sym (front most_servers n row servers_few)
 
     pub servers-lent : (row : List ℕ) → ServersFit table (length (take n (replicate most_servers row)))
     servers-lent row r end is = sym (servers-front row) ∙ fit r end is
 
   module _ (fit : CordsFit table n) where
-    pub cords-few : n ≤ most_cords
-    cords-few = omega (arith, fit g.value g.next g.is, (accepted table g.value g.next g.is).few_cords)
+    pub cords_few : n ≤ most_cords
+    cords_few = omega (arith, fit g.value g.next g.is, (accepted table g.value g.next g.is).few_cords)
 
     pub cords-front : (row : List ℕ) → n ≡ length (take n (replicate most_cords row))
-    cords-front row = sym (front most_cords n row cords-few)
+    cords-front row = sym (front most_cords n row cords_few)
 
     pub cords-lent : (row : List ℕ) → CordsFit table (length (take n (replicate most_cords row)))
     cords-lent row r end is = sym (cords-front row) ∙ fit r end is

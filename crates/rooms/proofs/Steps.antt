@@ -11,7 +11,7 @@ use borrow.Author.Tests.{le-leb, lt-leb, lt-ltb, le-ltb}
 use Rattle.rooms.specs.Part.{Step, good, bad, Part, follow, word, ensure, end, many, within}
 use Rattle.figures.specs.Figures.{total}
 use Rattle.rooms.specs.Table.{percent, cord, server, share_of, cord_count, most_cords}
-use Rattle.rooms.proofs.Inversion.{word-is, cord-is, server-few}
+use Rattle.rooms.proofs.Inversion.{word_is, cord_is, server_few}
 use Rattle.rooms.specs.Told.{told, nothing, itself}
 use Rattle.rooms.specs.declared.SheetRefusal.{SheetRefusal}
 use Rattle.rooms.specs.declared.SheetRefusal.TheVariants.{WordMissing, WordOutOfRange, WordsLeftOver}
@@ -58,25 +58,25 @@ known f (good a i) {v = v} {j = j} d e = let x : f a ≡ v = cc in let y : i ≡
 known f (bad m) d e = absurd (suc-ne-zero 0 (cc))
 
 -- After a good part what follows decides.
-pub pass-known : {A B : Type 0} (f : A → ℕ) (g : B → ℕ) (s : Step A) (k : A → ℕ → Step B) {x : Checked} {v j : ℕ}
+pub pass_known : {A B : Type 0} (f : A → ℕ) (g : B → ℕ) (s : Step A) (k : A → ℕ → Step B) {x : Checked} {v j : ℕ}
     → (a : Known f s v j) → x ≡ told g (k a.got j) → x ≡ told g (follow s k)
 unfolding follow
-pass-known f g s k a h = rw a.is h
+pass_known f g s k a h = rw a.is h
 
 -- The same, for whatever part has the figure that was told.
 pub pass : {A B : Type 0} (f : A → ℕ) (g : B → ℕ) (s : Step A) (k : A → ℕ → Step B) {r x : Checked} {v j : ℕ}
     → r ≡ told f s → r ≡ Good v j → ((a : A) → s ≡ good a j → f a ≡ v → x ≡ told g (k a j)) → x ≡ told g (follow s k)
-pass f g s k d e h = let a = known f s d e in pass-known f g s k a (h a.got a.is a.figure)
+pass f g s k d e h = let a = known f s d e in pass_known f g s k a (h a.got a.is a.figure)
 
 -- After a good word, which was told whole, what follows it decides.
-pub pass-word : {B : Type 0} (g : B → ℕ) (s : Step ℕ) (k : ℕ → ℕ → Step B) {r x : Checked} {v j : ℕ}
+pub pass_word : {B : Type 0} (g : B → ℕ) (s : Step ℕ) (k : ℕ → ℕ → Step B) {r x : Checked} {v j : ℕ}
     → r ≡ told itself s → r ≡ Good v j → x ≡ told g (k v j) → x ≡ told g (follow s k)
-pass-word g s k {v = v} d e h = pass itself g s k d e (λ a is y. rw y h)
+pass_word g s k {v = v} d e h = pass itself g s k d e (λ a is y. rw y h)
 
 -- A value that takes no word.
-pub pass-value : {A B : Type 0} (g : B → ℕ) (a : A) (i : ℕ) (k : A → ℕ → Step B) {x : Checked} → x ≡ told g (k a i) → x ≡ told g (follow (good a i) k)
+pub pass_value : {A B : Type 0} (g : B → ℕ) (a : A) (i : ℕ) (k : A → ℕ → Step B) {x : Checked} → x ≡ told g (k a i) → x ≡ told g (follow (good a i) k)
 unfolding follow
-pass-value g a i k h = h
+pass_value g a i k h = h
 
 -- A test that holds, and one that fails.
 pub ensured : {B : Type 0} (g : B → ℕ) (t : Bool) (q : SheetRefusal) (w : List ℕ) (i : ℕ) (k : Bool → ℕ → Step B) {x : Checked}
@@ -112,14 +112,14 @@ last f g (good a j) whole same d = d ∙ ap (λ (v : ℕ). Good v j) (same a)
 last f g (bad q) whole same d = d
 
 -- A percent that ends the whole: its word, or none.
-pub percent-last : {B : Type 0} (percents : Bool) (w : List ℕ) (i : ℕ) (whole : ℕ → B) {r : Checked} → percents ≡ true → r ≡ told nothing (percent true w i)
+pub percent_last : {B : Type 0} (percents : Bool) (w : List ℕ) (i : ℕ) (whole : ℕ → B) {r : Checked} → percents ≡ true → r ≡ told nothing (percent true w i)
     → r ≡ told nothing (follow (percent percents w i) (λ p j. good (whole p) j))
-percent-last percents w i whole e d = rw e (last nothing nothing (percent true w i) whole (λ _. refl) d)
+percent_last percents w i whole e d = rw e (last nothing nothing (percent true w i) whole (λ _. refl) d)
 
-pub percent-none : {B : Type 0} (percents : Bool) (w : List ℕ) (i : ℕ) (whole : ℕ → B) → percents ≡ false
+pub percent_none : {B : Type 0} (percents : Bool) (w : List ℕ) (i : ℕ) (whole : ℕ → B) → percents ≡ false
     → Good 0 i ≡ told nothing (follow (percent percents w i) (λ p j. good (whole p) j))
 unfolding follow told percent
-percent-none percents w i whole e = rw e
+percent_none percents w i whole e = rw e
 
 -- How far a check has come: what is left to read decides the whole. A function's later returns start from here.
 pub record Reached {B : Type 0} (g : B → ℕ) (goal : Checked) : Type 0 where
@@ -136,32 +136,32 @@ pub record Row {A : Type 0} (f : A → ℕ) (part : ℕ → Part A) (next : ℕ 
   pub same : told (plus acc f) (many left part next given w j) ≡ told (total f) (many count part next given₀ w i)
 
 module _ {A : Type 0} (f : A → ℕ) (part : ℕ → Part A) (next : ℕ → A → ℕ) (w : List ℕ) (count given₀ i : ℕ) where
-  pub row-start : Row f part next w count given₀ i 0 count given₀ i
+  pub row_start : Row f part next w count given₀ i 0 count given₀ i
   unfolding told
-  row-start = record { same = go (many count part next given₀ w i) }
+  row_start = record { same = go (many count part next given₀ w i) }
     where
       go : (s : Step (List A)) → told (plus 0 f) s ≡ told (total f) s
       go (good a j) = ap (λ (x : ℕ). Good x j) (omega arith)
       go (bad q) = refl
 
-  pub row-end : {acc left given j : ℕ} → left ≤ 0 → Row f part next w count given₀ i acc left given j
+  pub row_end : {acc left given j : ℕ} → left ≤ 0 → Row f part next w count given₀ i acc left given j
       → Good acc j ≡ told (total f) (many count part next given₀ w i)
   unfolding many total told
-  row-end {left = zero} {j = j} z r = ap (λ (x : ℕ). Good x j) (omega arith) ∙ r.same
-  row-end {left = suc l} z r = absurd (omega arith)
+  row_end {left = zero} {j = j} z r = ap (λ (x : ℕ). Good x j) (omega arith) ∙ r.same
+  row_end {left = suc l} z r = absurd (omega arith)
 
-  pub row-stop : {acc left given j : ℕ} {r : Checked} {q : SheetRefusal} → 0 < left → Row f part next w count given₀ i acc left given j
+  pub row_stop : {acc left given j : ℕ} {r : Checked} {q : SheetRefusal} → 0 < left → Row f part next w count given₀ i acc left given j
       → r ≡ told f (part given w j) → r ≡ Refused q → r ≡ told (total f) (many count part next given₀ w i)
   unfolding many
-  row-stop {left = zero} z row d e = absurd (omega arith)
-  row-stop {acc = acc} {left = suc l} {given = given} {j = j} z row d e = stop f (plus acc f) (part given w j) _ d e ∙ row.same
+  row_stop {left = zero} z row d e = absurd (omega arith)
+  row_stop {acc = acc} {left = suc l} {given = given} {j = j} z row d e = stop f (plus acc f) (part given w j) _ d e ∙ row.same
 
-  pub row-turn : {acc left given j : ℕ} {r : Checked} {v k given' : ℕ} → 0 < left → Row f part next w count given₀ i acc left given j
+  pub row_turn : {acc left given j : ℕ} {r : Checked} {v k given' : ℕ} → 0 < left → Row f part next w count given₀ i acc left given j
       → r ≡ told f (part given w j) → r ≡ Good v k → ((a : A) → f a ≡ v → next given a ≡ given')
       → Row f part next w count given₀ i (acc + v) (left - 1) given' k
   unfolding many total follow told
-  row-turn {left = zero} z row d e t = absurd (omega arith)
-  row-turn {acc = acc} {left = suc l} {given = given} {j = j} {v = v} {k = k} {given' = given'} z row d e t =
+  row_turn {left = zero} z row d e t = absurd (omega arith)
+  row_turn {acc = acc} {left = suc l} {given = given} {j = j} {v = v} {k = k} {given' = given'} z row d e t =
       let a = known f (part given w j) d e in
       let l' : suc l - 1 ≡ l = omega arith in
       rw l' (finish a.got a.is v a.figure given' (t a.got a.figure))
@@ -189,41 +189,41 @@ pub row_next : {A : Type 0} (part : ℕ → Part A) (next : ℕ → A → ℕ) (
 row_next part next w count given₀ i {given = given} {j = j} {v = v} z row d e t =
     let a = known nothing (part given w j) d e in
     let s : 0 + v ≡ 0 = omega (arith, a.figure) in
-    rw s at (row-turn nothing part next w count given₀ i z row d e (λ a _. t a))
+    rw s at (row_turn nothing part next w count given₀ i z row d e (λ a _. t a))
 
 -- ---- Bounds of the figures told
 
-follow-good : {A : Type 0} (s : Step A) → follow s (λ x y. good x y) ≡ s
+follow_good : {A : Type 0} (s : Step A) → follow s (λ x y. good x y) ≡ s
 unfolding follow
-follow-good (good a j) = refl
-follow-good (bad q) = refl
+follow_good (good a j) = refl
+follow_good (bad q) = refl
 
 -- A word that is told is the one that stands there.
 pub word-told : (w : List ℕ) (i low high : ℕ) {r : Checked} {v j : ℕ} → r ≡ told itself (word (within low high) w i) → r ≡ Good v j → (v ≡ get_or w i 0) × (j ≡ suc i)
 word-told w i low high {j = j} d e =
     let a = known itself (word (within low high) w i) d e in
-    let f : follow (word (within low high) w i) (λ x y. good x y) ≡ good a.got j = follow-good (word (within low high) w i) ∙ a.is in
-    let b = word-is w i low high (λ x y. good x y) a.got j f in
+    let f : follow (word (within low high) w i) (λ x y. good x y) ≡ good a.got j = follow_good (word (within low high) w i) ∙ a.is in
+    let b = word_is w i low high (λ x y. good x y) a.got j f in
     let x : get_or w i 0 ≡ a.got = cc in
     let y : suc i ≡ j = cc in
     (sym a.figure ∙ sym x, sym y)
 
-pub word-most : (w : List ℕ) (i low high : ℕ) {r : Checked} {v j : ℕ} → r ≡ told itself (word (within low high) w i) → r ≡ Good v j → v ≤ high
-word-most w i low high {j = j} d e =
+pub word_most : (w : List ℕ) (i low high : ℕ) {r : Checked} {v j : ℕ} → r ≡ told itself (word (within low high) w i) → r ≡ Good v j → v ≤ high
+word_most w i low high {j = j} d e =
     let a = known itself (word (within low high) w i) d e in
-    let f : follow (word (within low high) w i) (λ x y. good x y) ≡ good a.got j = follow-good (word (within low high) w i) ∙ a.is in
-    let b = word-is w i low high (λ x y. good x y) a.got j f in
+    let f : follow (word (within low high) w i) (λ x y. good x y) ≡ good a.got j = follow_good (word (within low high) w i) ∙ a.is in
+    let b = word_is w i low high (λ x y. good x y) a.got j f in
     let x : get_or w i 0 ≡ a.got = cc in
     omega (arith, b.most, a.figure)
 
-pub cord-most : (scale node_count : ℕ) (w : List ℕ) (i : ℕ) {r : Checked} {v j : ℕ} → r ≡ told share_of (cord scale node_count w i) → r ≡ Good v j → v ≤ scale
-cord-most scale node_count w i {j = j} d e =
+pub cord_most : (scale node_count : ℕ) (w : List ℕ) (i : ℕ) {r : Checked} {v j : ℕ} → r ≡ told share_of (cord scale node_count w i) → r ≡ Good v j → v ≤ scale
+cord_most scale node_count w i {j = j} d e =
     let a = known share_of (cord scale node_count w i) d e in
-    omega (arith, a.figure, (cord-is scale node_count w i a.got j a.is).share)
+    omega (arith, a.figure, (cord_is scale node_count w i a.got j a.is).share)
 
-pub server-most : (scale node_count before : ℕ) (w : List ℕ) (i : ℕ) {r : Checked} {v j : ℕ} → before ≤ most_cords
+pub server_most : (scale node_count before : ℕ) (w : List ℕ) (i : ℕ) {r : Checked} {v j : ℕ} → before ≤ most_cords
     → r ≡ told cord_count (server scale node_count before w i) → r ≡ Good v j
     → before + v ≤ most_cords
-server-most scale node_count before w i {j = j} h d e =
+server_most scale node_count before w i {j = j} h d e =
     let a = known cord_count (server scale node_count before w i) d e in
-    omega (arith, a.figure, server-few scale node_count before w i a.got j h a.is)
+    omega (arith, a.figure, server_few scale node_count before w i a.got j h a.is)

@@ -11,9 +11,9 @@ use Rattle.rooms.specs.Part.{good}
 use Rattle.figures.specs.Figures.{total}
 use Rattle.rooms.specs.Table.{Cord, Server, Room, most_nodes, most_cords, most_watts, highest_rank, cord, cords, server, servers, cord_count, room_cords}
 use Rattle.rooms.specs.Limits.{checked}
-use Rattle.rooms.proofs.Inversion.{many_is, CordIs, cord-is, server-is}
-use Rattle.rooms.proofs.Rows.{nodes-words, cords-words}
-use Rattle.rooms.proofs.Whole.{percents_of, table_is, checked-is}
+use Rattle.rooms.proofs.Inversion.{many_is, CordIs, cord_is, server_is}
+use Rattle.rooms.proofs.Rows.{nodes_words, cords_words}
+use Rattle.rooms.proofs.Whole.{percents_of, table_is, checked_is}
 use Rattle.rooms.proofs.Accepted.{accepted}
 use Rattle.rooms.specs.Cords.{RoomCord, server_cords, cords_from, cords_of, cord_at, server_at}
 use Rattle.rooms.specs.Credits.{node_index}
@@ -27,13 +27,13 @@ pub record Begun (table : List ℕ) (r : Room) : Type 0 where
   pub there : 1 < length table
   pub count : get_or table 1 0 ≡ length r.nodes
   pub most : length r.nodes ≤ most_nodes
-  pub cords-most : room_cords r ≤ most_cords
+  pub cords_most : room_cords r ≤ most_cords
 
 module _ {table : List ℕ} {r : Room} {end : ℕ} (e : checked table 0 ≡ good r end) where
   pub begun : Begun table r
   begun =
-      let t = table_is table r end (checked-is table r end e).0 in
-      record { there = t.begun; count = t.node_count; most = t.few_nodes; cords-most = (accepted table r end e).few_cords }
+      let t = table_is table r end (checked_is table r end e).0 in
+      record { there = t.begun; count = t.node_count; most = t.few_nodes; cords_most = (accepted table r end e).few_cords }
 
 -- ---- The cords of a server
 
@@ -43,12 +43,12 @@ cords-at : (scale node_count count : ℕ) (w : List ℕ) (i : ℕ) (l : List Cor
 cords-at scale node_count zero w i l j d k h e = absurd (omega arith)
 cords-at scale node_count (suc count) w i l j d zero h e =
     let a = many_is count (λ _. cord scale node_count) (λ given _. given) 0 w i l j e in
-    let n = cord-is scale node_count w i a.got a.at a.first in
+    let n = cord_is scale node_count w i a.got a.at a.first in
     let z : i + 2 * 0 ≡ i = omega arith in
     rw (a.is, z, ← n.next) n
 cords-at scale node_count (suc count) w i l j d (suc k) h e =
     let a = many_is count (λ _. cord scale node_count) (λ given _. given) 0 w i l j e in
-    let n = cord-is scale node_count w i a.got a.at a.first in
+    let n = cord_is scale node_count w i a.got a.at a.first in
     let z : i + 2 * suc k ≡ a.at + 2 * k = omega (arith, n.next) in
     rw (a.is, z) (cords-at scale node_count count w a.at a.rest j d k (omega arith) a.others)
 
@@ -66,18 +66,18 @@ pub record Walk (table : List ℕ) (r : Room) (v index c : ℕ) : Type 0 where
   pub before : ℕ
   pub left : ℕ
   pub end : ℕ
-  pub servers-left : v + left ≡ length r.servers
+  pub servers_left : v + left ≡ length r.servers
   pub is : servers r.scale (length r.nodes) left before table index ≡ good (drop v r.servers) end
   pub there : index ≤ length table
-  pub cords-are : drop c (cords_of r) ≡ cords_from v (drop v r.servers)
+  pub cords_are : drop c (cords_of r) ≡ cords_from v (drop v r.servers)
   pub cords-left : c + total cord_count (drop v r.servers) ≡ room_cords r
 
 -- The k-th cord of the server that stands next.
 pub record CordHere (table : List ℕ) (r : Room) (v index c k : ℕ) : Type 0 where
   pub there : index + 5 + 2 * k < length table
   pub is : cord_at r (c + k) ≡ record { server = v; node = get_or table (index + 4 + 2 * k) 0; share = get_or table (index + 5 + 2 * k) 0 }
-  pub node-most : get_or table (index + 4 + 2 * k) 0 ≤ length r.nodes
-  pub share-most : get_or table (index + 5 + 2 * k) 0 ≤ r.scale
+  pub node_most : get_or table (index + 4 + 2 * k) 0 ≤ length r.nodes
+  pub share_most : get_or table (index + 5 + 2 * k) 0 ≤ r.scale
   pub within : c + k < room_cords r
 
 -- The server that stands next, at place v, and the walk after it.
@@ -97,8 +97,8 @@ pub record ServerHere (table : List ℕ) (r : Room) (v index c : ℕ) : Type 0 w
 
 pub walk_start : {table : List ℕ} {r : Room} {end : ℕ} → checked table 0 ≡ good r end → Walk table r 0 (servers_index table + 1) 0
 walk_start {table} {r} {end} e =
-    let t = table_is table r end (checked-is table r end e).0 in
-    let m = (nodes-words (percents_of table) (length r.nodes) 1 table 2 r.nodes t.middle t.begun t.nodes_read).0 in
+    let t = table_is table r end (checked_is table r end e).0 in
+    let m = (nodes_words (percents_of table) (length r.nodes) 1 table 2 r.nodes t.middle t.begun t.nodes_read).0 in
     let i : servers_index table + 1 ≡ suc t.middle
     = add-one (servers_index table) ∙ ap (λ (k : ℕ). suc (node_index (percents_of table) k)) t.node_count ∙ ap suc (sym m) in
     rw i
@@ -106,10 +106,10 @@ walk_start {table} {r} {end} e =
       before = 0;
       left = length r.servers;
       end = end;
-      servers-left = zero-add (length r.servers);
+      servers_left = zero-add (length r.servers);
       is = t.servers_read;
       there = t.there;
-      cords-are = refl;
+      cords_are = refl;
       cords-left = zero-add (room_cords r);
     })
 
@@ -129,21 +129,21 @@ module _ (table : List ℕ) (r : Room) (v index c before left end after : ℕ) (
 
   words : (index + 3 < length table) × (get_or table (index + 3) 0 ≡ cord_count s) × (after ≡ index + (4 + 2 * cord_count s)) × (after ≤ length table)
   words =
-      let l = (server-is r.scale (length r.nodes) before table index s after first).load in
-      let c = cords-words r.scale (length r.nodes) (get_or table (suc (suc (suc index))) 0) table (suc (suc (suc (suc index)))) s.cords after l.there l.are in
+      let l = (server_is r.scale (length r.nodes) before table index s after first).load in
+      let c = cords_words r.scale (length r.nodes) (get_or table (suc (suc (suc index))) 0) table (suc (suc (suc (suc index)))) s.cords after l.there l.are in
       let e : index + 3 ≡ suc (suc (suc index)) = omega arith in
       (omega (arith, l.there), rw e (sym l.count), omega (arith, c.0, l.count), c.1)
 
   cords-after : drop c (cords_of r) ≡ server_cords v s.cords ++ cords_from (suc v) rest
   unfolding cords_from
-  cords-after = walk.cords-are ∙ ap (cords_from v) split
+  cords-after = walk.cords_are ∙ ap (cords_from v) split
 
   count-after : c + (cord_count s + total cord_count rest) ≡ room_cords r
   unfolding total
   count-after = ap (λ (l : List Server). c + total cord_count l) (sym split) ∙ walk.cords-left
 
-  cord-placed : (k : ℕ) → k < cord_count s → cord_at r (c + k) ≡ placed v (get_or s.cords k no_cord)
-  cord-placed k h =
+  cord_placed : (k : ℕ) → k < cord_count s → cord_at r (c + k) ≡ placed v (get_or s.cords k no_cord)
+  cord_placed k h =
       sym (get_or-drop c (cords_of r) k no_room_cord)
       ∙ ap (λ (l : List RoomCord). get_or l k no_room_cord) cords-after
       ∙ get_or-append (server_cords v s.cords) (cords_from (suc v) rest) no_room_cord k (omega (arith, server_cords-length v s.cords))
@@ -151,7 +151,7 @@ module _ (table : List ℕ) (r : Room) (v index c before left end after : ℕ) (
 
   cord-here : (k : ℕ) → k < cord_count s → CordHere table r v index c k
   cord-here k h =
-      let l = (server-is r.scale (length r.nodes) before table index s after first).load in
+      let l = (server_is r.scale (length r.nodes) before table index s after first).load in
       let i = cords-at r.scale (length r.nodes) (get_or table (suc (suc (suc index))) 0) table (suc (suc (suc (suc index)))) s.cords after no_cord k (omega (arith, l.count)) l.are in
       let e4 : index + 4 + 2 * k ≡ suc (suc (suc (suc index))) + 2 * k = omega arith in
       let e5 : index + 5 + 2 * k ≡ suc (suc (suc (suc (suc index))) + 2 * k) = omega arith in
@@ -159,22 +159,22 @@ module _ (table : List ℕ) (r : Room) (v index c before left end after : ℕ) (
       let m : (get_or s.cords k no_cord).share ≡ get_or table (index + 5 + 2 * k) 0 = rw e5 (ap (λ (x : Cord). x.share) i.is) in
       record {
         there = omega (arith, i.there);
-        is = cord-placed k h ∙ ap₂ (λ (x y : ℕ). record { server = v; node = x; share = y }) n m;
-        node-most = rw (← n) i.last;
-        share-most = rw (← m) i.share;
+        is = cord_placed k h ∙ ap₂ (λ (x y : ℕ). record { server = v; node = x; share = y }) n m;
+        node_most = rw (← n) i.last;
+        share_most = rw (← m) i.share;
         within = omega (arith, count-after);
       }
 
-  walk-on : Walk table r (suc v) after (c + cord_count s)
-  walk-on =
+  walk_on : Walk table r (suc v) after (c + cord_count s)
+  walk_on =
       record {
         before = before + cord_count s;
         left = left;
         end = end;
-        servers-left = omega arith;
+        servers_left = omega arith;
         is = rw here.1 others;
         there = words.3;
-        cords-are =
+        cords_are =
             sym (drop-drop (cord_count s) c (cords_of r))
             ∙ ap (drop (cord_count s)) cords-after
             ∙ drop_at (server_cords v s.cords) (cords_from (suc v) rest) (cord_count s) (server_cords-length v s.cords)
@@ -184,7 +184,7 @@ module _ (table : List ℕ) (r : Room) (v index c before left end after : ℕ) (
 
   server-here : ServerHere table r v index c
   server-here =
-      let i = server-is r.scale (length r.nodes) before table index s after first in
+      let i = server_is r.scale (length r.nodes) before table index s after first in
       let e1 : index + 1 ≡ suc index = omega arith in
       let e2 : index + 2 ≡ suc (suc index) = omega arith in
       let a : s.rank ≡ get_or table index 0 = ap (λ (x : Server). x.rank) i.is in
@@ -204,12 +204,12 @@ module _ (table : List ℕ) (r : Room) (v index c before left end after : ℕ) (
         count = ap cord_count here.0 ∙ sym n;
         cords-within = omega (arith, count-after);
         cord = λ k l. cord-here k (rw n at l);
-        next = rw (add-one, w, n) walk-on;
+        next = rw (add-one, w, n) walk_on;
       }
 
 -- Before the last server is passed, the walk stands before one.
-pub walk-server : {table : List ℕ} {r : Room} {v index c : ℕ} → Walk table r v index c → v < length r.servers → ServerHere table r v index c
-walk-server {table} {r} {v} {index} {c} walk h = go walk.left walk.servers-left walk.is
+pub walk_server : {table : List ℕ} {r : Room} {v index c : ℕ} → Walk table r v index c → v < length r.servers → ServerHere table r v index c
+walk_server {table} {r} {v} {index} {c} walk h = go walk.left walk.servers_left walk.is
   where
     go : (left : ℕ) → v + left ≡ length r.servers → servers r.scale (length r.nodes) left walk.before table index ≡ good (drop v r.servers) walk.end
         → ServerHere table r v index c

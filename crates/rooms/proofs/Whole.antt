@@ -10,20 +10,20 @@ use borrow.Author.Tests.{eqb-true}
 use Rattle.rooms.specs.Part.{good}
 use Rattle.rooms.specs.Table.{Node, Server, Room, most_nodes, most_servers, most_node_words, newest_version, IsScale, form_of, node_words, nodes, servers, table}
 use Rattle.rooms.specs.Limits.{overloaded, checked}
-use Rattle.rooms.proofs.Inversion.{took, passed, ended, word-is, many-length}
+use Rattle.rooms.proofs.Inversion.{took, passed, ended, word_is, many-length}
 
 -- What holds of every version.
-pub form-scale : (version : ℕ) → IsScale (form_of version).scale
+pub form_scale : (version : ℕ) → IsScale (form_of version).scale
 unfolding form_of
-form-scale version = fits (ltb 2 version)
+form_scale version = fits (ltb 2 version)
   where
     fits : (fine : Bool) → IsScale (cond fine 10000 1000)
     fits true = (omega arith, omega arith)
     fits false = (omega arith, omega arith)
 
-pub form-words : (version : ℕ) → node_words (form_of version).percents ≤ most_node_words
+pub form_words : (version : ℕ) → node_words (form_of version).percents ≤ most_node_words
 unfolding form_of
-form-words version = few (ltb 1 version)
+form_words version = few (ltb 1 version)
   where
     few : (percents : Bool) → node_words percents ≤ most_node_words
     few true = omega arith
@@ -38,7 +38,7 @@ pub record TableIs (w : List ℕ) (r : Room) (j : ℕ) : Type 0 where
   pub begun : 1 < length w
   pub first : 1 ≤ get_or w 0 0
   pub newest : get_or w 0 0 ≤ newest_version
-  pub scale-is : r.scale ≡ (form_of (get_or w 0 0)).scale
+  pub scale_is : r.scale ≡ (form_of (get_or w 0 0)).scale
   pub node_count : get_or w 1 0 ≡ length r.nodes
   pub some_nodes : 1 ≤ length r.nodes
   pub few_nodes : length r.nodes ≤ most_nodes
@@ -53,10 +53,10 @@ pub record TableIs (w : List ℕ) (r : Room) (j : ℕ) : Type 0 where
 pub table_is : (w : List ℕ) (r : Room) (j : ℕ) → table w 0 ≡ good r j → TableIs w r j
 unfolding table
 table_is w r j e =
-    let a = word-is _ _ _ _ _ _ _ e in
-    let b = word-is _ _ _ _ _ _ _ a.rest in
+    let a = word_is _ _ _ _ _ _ _ e in
+    let b = word_is _ _ _ _ _ _ _ a.rest in
     let n = took _ _ _ _ b.rest in
-    let c = word-is _ _ _ _ _ _ _ n.rest in
+    let c = word_is _ _ _ _ _ _ _ n.rest in
     let s = took _ _ _ _ c.rest in
     let d = ended _ _ _ _ _ s.rest in
     let x : record { scale = (form_of (get_or w 0 0)).scale; nodes = n.got; servers = s.got } ≡ r = cc in
@@ -75,7 +75,7 @@ table_is w r j e =
           begun = begun;
           first = first;
           newest = newest;
-          scale-is = refl;
+          scale_is = refl;
           node_count = c ∙ sym k;
           some_nodes = rw k some;
           few_nodes = rw k few;
@@ -89,9 +89,9 @@ table_is w r j e =
         })
 
 -- A good whole check: a good table, and no node that is overloaded.
-pub checked-is : (w : List ℕ) (r : Room) (j : ℕ) → checked w 0 ≡ good r j → (table w 0 ≡ good r j) × (overloaded r ≡ 0)
+pub checked_is : (w : List ℕ) (r : Room) (j : ℕ) → checked w 0 ≡ good r j → (table w 0 ≡ good r j) × (overloaded r ≡ 0)
 unfolding checked
-checked-is w r j e =
+checked_is w r j e =
     let t = took _ _ _ _ e in
     let p = passed _ _ _ _ _ _ _ t.rest in
     let x : t.got ≡ r = cc in

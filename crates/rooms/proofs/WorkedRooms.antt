@@ -24,32 +24,32 @@ sheet_h =
 abbrev numbered : SheetOutcome → ℕ × ℕ
 numbered outcome = (sheet_number (answer_of outcome), sheet_figure (answer_of outcome))
 
-pub turned-back : (numbered (reading sheet_h 20) ≡ (12, 21)) × (numbered (reading [] 0) ≡ (4, 0))
+pub turned_back : (numbered (reading sheet_h 20) ≡ (12, 21)) × (numbered (reading [] 0) ≡ (4, 0))
 unfolding reading number later sheet_from
     checked table form_of percent node cord range load server follow word ensure end many unless total
     overloaded first_node beneath server_lows lows
-turned-back = (refl, refl)
+turned_back = (refl, refl)
 
 -- A version 2 room of one node, rated 100 W at a percent, with a server of 81 W at least: 81 exceeds a limit of 80, not one of 100.
 abbrev sheet_of : ℕ → List ℕ
 sheet_of percent = 2 ∷ 1 ∷ 0 ∷ 100 ∷ percent ∷ 1 ∷ 1 ∷ 81 ∷ 90 ∷ 1 ∷ 1 ∷ 0xe8 ∷ 0x07 ∷ []
 
 -- In version 1 the word after the rating is the count of servers, so that 100 stands for the rank of one of 80, and is out of range.
-pub percents-read : (numbered (reading (sheet_of 100) 12) ≡ (0, 12)) × (numbered (reading (sheet_of 80) 12) ≡ (9, 1)) × (numbered (reading (sheet_of 90) 12) ≡ (5, 4))
+pub percents_read : (numbered (reading (sheet_of 100) 12) ≡ (0, 12)) × (numbered (reading (sheet_of 80) 12) ≡ (9, 1)) × (numbered (reading (sheet_of 90) 12) ≡ (5, 4))
     × (numbered (reading (1 ∷ 1 ∷ 0 ∷ 100 ∷ 80 ∷ 100 ∷ []) 12) ≡ (5, 5)) × (numbered (reading (2 ∷ 1 ∷ 0 ∷ 100 ∷ []) 12) ≡ (4, 4)) × (numbered (reading (4 ∷ []) 12) ≡ (5, 0))
 unfolding reading number later sheet_from
     checked table form_of percent node cord range load server follow word ensure end many unless total
     overloaded first_node beneath server_lows lows
-percents-read = (refl, refl, refl, refl, refl, refl)
+percents_read = (refl, refl, refl, refl, refl, refl)
 
 -- A version 3 room of one node, limited to 80 W, with a server of 80 W at least and two cords; its shares are 1 and 9,999. The lows are
 -- ceil(0.008) = 1 and ceil(79.992) = 80, which exceed the limit by 1; with 0 and 10,000 they do not. And sums that are not 10,000.
 abbrev fine_of : ℕ → ℕ → List ℕ → List ℕ
 fine_of first second rest = 3 ∷ 1 ∷ 0 ∷ 100 ∷ 80 ∷ 1 ∷ 1 ∷ 80 ∷ 90 ∷ 2 ∷ 1 ∷ first ∷ 1 ∷ second ∷ rest
 
-pub fine-shares : (numbered (reading (fine_of 0 0x90 (0x4e ∷ [])) 14) ≡ (0, 14)) × (numbered (reading (fine_of 1 0x8f (0x4e ∷ [])) 14) ≡ (9, 1))
+pub fine_shares : (numbered (reading (fine_of 0 0x90 (0x4e ∷ [])) 14) ≡ (0, 14)) × (numbered (reading (fine_of 1 0x8f (0x4e ∷ [])) 14) ≡ (9, 1))
     × (numbered (reading (fine_of 0 0xe8 (0x07 ∷ [])) 14) ≡ (7, 6)) × (numbered (reading (fine_of 0 0x91 (0x4e ∷ [])) 14) ≡ (5, 13))
 unfolding reading number later sheet_from
     checked table form_of percent node cord range load server follow word ensure end many unless total
     overloaded first_node beneath server_lows lows
-fine-shares = (refl, refl, refl, refl)
+fine_shares = (refl, refl, refl, refl)

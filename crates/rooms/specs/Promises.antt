@@ -1,5 +1,5 @@
 -- What holds of Read, of Write and of the table's check, apart from any code.
--- proofs/Promises.antt proves each: `RefusalNine` as `refusal-nine`, and so on.
+-- proofs/Promises.antt proves each: `RefusalNine` as `refusal_nine`, and so on.
 use Rattle.std.specs.Prelude.{◌≡◌, List, ◌↔◌, ℕ, suc, ◌-◌, ◌≤◌, ◌<◌, length}
 use Rattle.figures.specs.Bounds.{AllBelow}
 use Rattle.numbers.specs.Sheet.{whole, sheet_of}

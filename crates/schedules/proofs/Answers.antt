@@ -12,17 +12,17 @@ use borrow.Author.Tests.{leb-true, leb-false, ne_eqb, eqb-true, eqb-false}
 use Rattle.rooms.specs.Table.{most_nodes}
 use Rattle.schedules.specs.Sizes.{is_size}
 use Rattle.outcomes.specs.Outcome.{accepted, refused, unless, fitting}
-use Rattle.outcomes.proofs.Outcomes.{unless-stop, unless-pass, fitting-short, fitting-whole}
+use Rattle.outcomes.proofs.Outcomes.{unless_stop, unless_pass, fitting_short, fitting_whole}
 use Rattle.schedules.specs.Text.{Step, good, bad, malformed, line}
 use Rattle.schedules.specs.Schedule.{in_range, Judgement, judged, ScheduleEnding, whole, stopped, onto, lines_from, lines_of, table_of, ScheduleOutcome, no_lines, scheduled_lines, scheduling, answer_of, schedule_number, schedule_figure}
 use Rattle.schedules.specs.Written.{Written, LineFirst, LinesFirst}
 use Rattle.schedules.specs.Written as written
 use Rattle.schedules.specs.Promises.{Tells, AllLines, NoLineAt, NoSizeAt, OutOfRangeAt}
 use Rattle.schedules.proofs.LineLaws.{passed_is}
-use Rattle.schedules.proofs.LineLoop.{lines_from-some}
-use Rattle.schedules.proofs.RoomTable.{entries-pass}
-use Rattle.schedules.proofs.ReadsText.{line_read, lines-read}
-use Rattle.schedules.proofs.WritesText.{line-written, line-size, ahead, front-written, lines-written}
+use Rattle.schedules.proofs.LineLoop.{lines_from_some}
+use Rattle.schedules.proofs.RoomTable.{entries_pass}
+use Rattle.schedules.proofs.ReadsText.{line_read, lines_read}
+use Rattle.schedules.proofs.WritesText.{line-written, line_size, ahead, front-written, lines-written}
 use Rattle.schedules.specs.declared.Entry.{Entry}
 use Rattle.schedules.specs.declared.ScheduleRefusal.{ScheduleRefusal}
 use Rattle.schedules.specs.declared.ScheduleRefusal.TheVariants.{NotALine, NotASize, OutOfRange, TableTooShort}
@@ -52,7 +52,7 @@ module _ (text : List ℕ) (at : ℕ) where
   found : {e : Entry} {rest : List ℕ} → drop at text ≡ rest → LineFirst e rest → Found e
   found {e} d l =
       let r = line-written e l.own l.line l.parent_most l.amperes_most l.volts_most text at l.behind (d ∙ l.is) in
-      record { next = r.next; is = r.good-so }
+      record { next = r.next; is = r.good_so }
 
   -- No line was read: the rest begins with none.
   pub none_first : line text at ≡ (bad malformed) → (e : Entry) → LineFirst e (drop at text) → ⊥
@@ -66,8 +66,8 @@ module _ (text : List ℕ) (at : ℕ) where
       go (bad malformed) g = refl
 
 -- What begins with a line is not empty.
-line-some : {e : Entry} {text : List ℕ} → LineFirst e text → 1 ≤ length text
-line-some {e} l = omega (arith, ap length l.is, length-append l.own l.behind, line-size e l.own l.line)
+line_some : {e : Entry} {text : List ℕ} → LineFirst e text → 1 ≤ length text
+line_some {e} l = omega (arith, ap length l.is, length-append l.own l.behind, line_size e l.own l.line)
 
 -- ---- Why a line fails
 
@@ -93,18 +93,18 @@ why place (good e next) q j = size (is_size e.amperes) refl j
     size false a j = no_size e next refl a (cc)
 
 module _ (place : ℕ) (s : Step Entry) where
-  fails-line : s ≡ (bad malformed) → judged place s ≡ bad (NotALine place)
+  fails_line : s ≡ (bad malformed) → judged place s ≡ bad (NotALine place)
   unfolding judged
-  fails-line b = rw b
+  fails_line b = rw b
 
   module _ {e : Entry} {next : ℕ} (g : s ≡ good e next) where
-    fails-size : is_size e.amperes ≡ false → judged place s ≡ bad (NotASize place)
+    fails_size : is_size e.amperes ≡ false → judged place s ≡ bad (NotASize place)
     unfolding judged
-    fails-size a = rw (g, a)
+    fails_size a = rw (g, a)
 
-    fails-range : is_size e.amperes ≡ true → in_range place e ≡ false → judged place s ≡ bad (OutOfRange place)
+    fails_range : is_size e.amperes ≡ true → in_range place e ≡ false → judged place s ≡ bad (OutOfRange place)
     unfolding judged
-    fails-range a b = rw (g, a, b)
+    fails_range a b = rw (g, a, b)
 
 -- ---- Lines that end at a refusal
 
@@ -119,12 +119,12 @@ pub record Stopped (text : List ℕ) (place at : ℕ) (entries : List Entry) (q 
   pub further : place' ≡ place + length entries
   pub fails : judged place' (line text next) ≡ bad q
 
-stopped-is : (most : ℕ) (text : List ℕ) (place at : ℕ) (q : ScheduleRefusal) → (lines_from most text place at).ending ≡ stopped q
+stopped_is : (most : ℕ) (text : List ℕ) (place at : ℕ) (q : ScheduleRefusal) → (lines_from most text place at).ending ≡ stopped q
     → Stopped text place at (lines_from most text place at).entries q
 unfolding lines_from
-stopped-is zero text place at q e = absurd (suc-ne-zero 0 (cc))
-stopped-is (suc most) text place at q e =
-    go (leb (length text) at) refl (judged place (line text at)) refl e (λ next f. stopped-is most text (suc place) next q f)
+stopped_is zero text place at q e = absurd (suc-ne-zero 0 (cc))
+stopped_is (suc most) text place at q e =
+    go (leb (length text) at) refl (judged place (line text at)) refl e (λ next f. stopped_is most text (suc place) next q f)
   where
     go : (t : Bool) → leb (length text) at ≡ t → (j : Judgement) → judged place (line text at) ≡ j
         → (cond t (record { entries = []; ending = whole }) (onto j (λ next. lines_from most text (suc place) next))).ending ≡ stopped q
@@ -171,7 +171,7 @@ ends_so text rest place q f more fails =
     go (suc left) next d place' same some is =
         let there : next < length text = omega (arith, length-drop next text, ap length d) in
         let j : judged place' (line text next) ≡ bad q = rw same (fails next d) in
-        rw (is, lines_from-some left text place' next there, j)
+        rw (is, lines_from_some left text place' next there, j)
 
 -- ---- Outcomes
 
@@ -195,27 +195,27 @@ module _ (text : List ℕ) (words : ℕ) where
   -- The lines end with the text.
   module _ (w : (lines_of text).ending ≡ whole) where
     lines : Written entries text
-    lines = lines-read (suc most_nodes) text 0 0 (omega arith) (omega arith) w
+    lines = lines_read (suc most_nodes) text 0 0 (omega arith) (omega arith) w
 
     all_lines : 1 ≤ length entries → AllLines text (length table)
-    all_lines some = record { entries = entries; lines = lines; pass = entries-pass (suc most_nodes) text 0 0; some = some; needs = refl }
+    all_lines some = record { entries = entries; lines = lines; pass = entries_pass (suc most_nodes) text 0 0; some = some; needs = refl }
 
     fitted : (t : Bool) → leb (length table) words ≡ t → 1 ≤ length entries → outcome ≡ fitting TableTooShort table words → Reason text words
     fitted true q some is =
         let enough = leb-true (length table) words q in
-        fits table (is ∙ fitting-whole TableTooShort table words enough) (all_lines some) enough
+        fits table (is ∙ fitting_whole TableTooShort table words enough) (all_lines some) enough
     fitted false q some is =
         let less = leb-false (length table) words q in
-        short (length table) (is ∙ fitting-short TableTooShort table words less) (all_lines some) less
+        short (length table) (is ∙ fitting_short TableTooShort table words less) (all_lines some) less
 
     counted : (t : Bool) → eqb (length entries) 0 ≡ t → outcome ≡ scheduled_lines entries whole words → Reason text words
-    counted true q is = empty (is ∙ unless-stop (no_lines entries) _ table q) (nothing (eqb-true (length entries) 0 q) lines)
+    counted true q is = empty (is ∙ unless_stop (no_lines entries) _ table q) (nothing (eqb-true (length entries) 0 q) lines)
       where
         nothing : {some : List Entry} {t : List ℕ} → length some ≡ 0 → Written some t → t ≡ []
         nothing z written.none = refl
         nothing z (written.line e rest s t l r) = absurd (omega arith)
     counted false q is =
-        fitted (leb (length table) words) refl (omega (arith, eqb-false (length entries) 0 q)) (is ∙ unless-pass (no_lines entries) _ table q)
+        fitted (leb (length table) words) refl (omega (arith, eqb-false (length entries) 0 q)) (is ∙ unless_pass (no_lines entries) _ table q)
 
   reason : Reason text words
   unfolding scheduling
@@ -223,33 +223,33 @@ module _ (text : List ℕ) (words : ℕ) where
     where
       ended : (ending : ScheduleEnding) → (lines_of text).ending ≡ ending → Reason text words
       ended whole w = counted w (eqb (length entries) 0) refl (rw w)
-      ended (stopped q) w = stops q (rw w) (stopped-is (suc most_nodes) text 0 0 q w)
+      ended (stopped q) w = stops q (rw w) (stopped_is (suc most_nodes) text 0 0 q w)
 
   -- ---- From the text to the outcome
 
   -- Lines that end at a refusal.
-  refused-so : {q : ScheduleRefusal} → (lines_of text).ending ≡ stopped q → outcome ≡ refused q
+  refused_so : {q : ScheduleRefusal} → (lines_of text).ending ≡ stopped q → outcome ≡ refused q
   unfolding scheduling
-  refused-so w = rw w
+  refused_so w = rw w
 
   -- Lines that end with the text.
   module _ {needed : ℕ} (a : AllLines text needed) where
-    fitting-so : outcome ≡ fitting TableTooShort (table_of a.entries) words
+    fitting_so : outcome ≡ fitting TableTooShort (table_of a.entries) words
     unfolding scheduling
-    fitting-so =
+    fitting_so =
         rw (lines-written a.lines a.pass)
-        (unless-pass (no_lines a.entries) _ (table_of a.entries) (ne_eqb (length a.entries) 0 (λ z. omega (arith, a.some))))
+        (unless_pass (no_lines a.entries) _ (table_of a.entries) (ne_eqb (length a.entries) 0 (λ z. omega (arith, a.some))))
 
-    short-so : words < needed → outcome ≡ refused (TableTooShort needed)
-    short-so h =
-        fitting-so ∙ fitting-short TableTooShort (table_of a.entries) words (omega (arith, a.needs)) ∙ ap (λ (k : ℕ). refused (TableTooShort k)) a.needs
+    short_so : words < needed → outcome ≡ refused (TableTooShort needed)
+    short_so h =
+        fitting_so ∙ fitting_short TableTooShort (table_of a.entries) words (omega (arith, a.needs)) ∙ ap (λ (k : ℕ). refused (TableTooShort k)) a.needs
 
-    fits-so : needed ≤ words → outcome ≡ accepted (table_of a.entries)
-    fits-so h = fitting-so ∙ fitting-whole TableTooShort (table_of a.entries) words (omega (arith, a.needs))
+    fits_so : needed ≤ words → outcome ≡ accepted (table_of a.entries)
+    fits_so h = fitting_so ∙ fitting_whole TableTooShort (table_of a.entries) words (omega (arith, a.needs))
 
-  empty-so : text ≡ [] → outcome ≡ refused (OutOfRange 0)
+  empty_so : text ≡ [] → outcome ≡ refused (OutOfRange 0)
   unfolding scheduling lines_from unless
-  empty-so e = rw e
+  empty_so e = rw e
 
   -- ---- The answers, one by one
 
@@ -265,12 +265,12 @@ module _ (text : List ℕ) (words : ℕ) where
         own = s.own;
         is = s.bytes;
         lines = s.lines;
-        pass = entries-pass (suc most_nodes) text 0 0;
+        pass = entries_pass (suc most_nodes) text 0 0;
         counted = omega (arith, s.further, same);
       }
 
-  pub tells-24 : (place : ℕ) → Tells outcome 24 place ↔ NoLineAt text place
-  tells-24 place = (λ t. go t reason, λ n. tells (refused-so (ends_so text n.rest place (NotALine place) n.front n.more (λ next d. fails-line place (line text next) (none_found text next d n.none)))))
+  pub tells_24 : (place : ℕ) → Tells outcome 24 place ↔ NoLineAt text place
+  tells_24 place = (λ t. go t reason, λ n. tells (refused_so (ends_so text n.rest place (NotALine place) n.front n.more (λ next d. fails_line place (line text next) (none_found text next d n.none)))))
     where
       stop : {q : ScheduleRefusal} → Tells outcome 24 place → outcome ≡ refused q → (s : Stopped text 0 0 entries q) → Why s.place' (line text s.next) q → NoLineAt text place
       stop t is s (no_line b r) =
@@ -285,10 +285,10 @@ module _ (text : List ℕ) (words : ℕ) where
       go t (short needed is a h) = absurd (omega (arith, t.0, (tells is).0))
       go t (fits table is a h) = absurd (omega (arith, t.0, (tells is).0))
 
-  pub tells-25 : (place : ℕ) → Tells outcome 25 place ↔ NoSizeAt text place
-  tells-25 place = (
+  pub tells_25 : (place : ℕ) → Tells outcome 25 place ↔ NoSizeAt text place
+  tells_25 place = (
     λ t. go t reason,
-    λ n. tells (refused-so (ends_so text n.rest place (NotASize place) n.front (line-some n.line) (λ next d. fails-size place (line text next) (found text next d n.line).is n.other))),
+    λ n. tells (refused_so (ends_so text n.rest place (NotASize place) n.front (line_some n.line) (λ next d. fails_size place (line text next) (found text next d n.line).is n.other))),
   )
     where
       stop : {q : ScheduleRefusal} → Tells outcome 25 place → outcome ≡ refused q → (s : Stopped text 0 0 entries q) → Why s.place' (line text s.next) q → NoSizeAt text place
@@ -304,12 +304,12 @@ module _ (text : List ℕ) (words : ℕ) where
       go t (short needed is a h) = absurd (omega (arith, t.0, (tells is).0))
       go t (fits table is a h) = absurd (omega (arith, t.0, (tells is).0))
 
-  pub tells-26 : (place : ℕ) → Tells outcome 26 place ↔ (OutOfRangeAt text place ⊎ ((text ≡ []) × (place ≡ 0)))
-  tells-26 place = (λ t. go t reason, back)
+  pub tells_26 : (place : ℕ) → Tells outcome 26 place ↔ (OutOfRangeAt text place ⊎ ((text ≡ []) × (place ≡ 0)))
+  tells_26 place = (λ t. go t reason, back)
     where
       back : OutOfRangeAt text place ⊎ ((text ≡ []) × (place ≡ 0)) → Tells outcome 26 place
-      back (inl n) = tells (refused-so (ends_so text n.rest place (OutOfRange place) n.front (line-some n.line) (λ next d. fails-range place (line text next) (found text next d n.line).is n.size n.out)))
-      back (inr e) = rw e.1 (tells (empty-so e.0))
+      back (inl n) = tells (refused_so (ends_so text n.rest place (OutOfRange place) n.front (line_some n.line) (λ next d. fails_range place (line text next) (found text next d n.line).is n.size n.out)))
+      back (inr e) = rw e.1 (tells (empty_so e.0))
 
       stop : {q : ScheduleRefusal} → Tells outcome 26 place → outcome ≡ refused q → (s : Stopped text 0 0 entries q) → Why s.place' (line text s.next) q → OutOfRangeAt text place
       stop t is s (no_line b r) = absurd (omega (arith, t.0, (tells (is ∙ ap refused r)).0))
@@ -325,25 +325,25 @@ module _ (text : List ℕ) (words : ℕ) where
       go t (fits table is a h) = absurd (omega (arith, t.0, (tells is).0))
 
   -- A refusal of a line is none of the table's, and is no acceptance.
-  stops-over : {q : ScheduleRefusal} {place : ℕ} {s : Step Entry} → outcome ≡ refused q → Why place s q → 24 ≤ schedule_number (answer_of outcome)
-  stops-over is (no_line b r) = omega (arith, (tells (is ∙ ap refused r)).0)
-  stops-over is (no_size e next g a r) = omega (arith, (tells (is ∙ ap refused r)).0)
-  stops-over is (out e next g a b r) = omega (arith, (tells (is ∙ ap refused r)).0)
+  stops_over : {q : ScheduleRefusal} {place : ℕ} {s : Step Entry} → outcome ≡ refused q → Why place s q → 24 ≤ schedule_number (answer_of outcome)
+  stops_over is (no_line b r) = omega (arith, (tells (is ∙ ap refused r)).0)
+  stops_over is (no_size e next g a r) = omega (arith, (tells (is ∙ ap refused r)).0)
+  stops_over is (out e next g a b r) = omega (arith, (tells (is ∙ ap refused r)).0)
 
-  pub tells-12 : (needed : ℕ) → Tells outcome 12 needed ↔ (AllLines text needed × (words < needed))
-  tells-12 needed = (λ t. go t reason, λ h. tells (short-so h.0 h.1))
+  pub tells_12 : (needed : ℕ) → Tells outcome 12 needed ↔ (AllLines text needed × (words < needed))
+  tells_12 needed = (λ t. go t reason, λ h. tells (short_so h.0 h.1))
     where
       go : Tells outcome 12 needed → Reason text words → AllLines text needed × (words < needed)
-      go t (stops q is s) = absurd (omega (arith, t.0, stops-over is (why s.place' (line text s.next) q s.fails)))
+      go t (stops q is s) = absurd (omega (arith, t.0, stops_over is (why s.place' (line text s.next) q s.fails)))
       go t (empty is e) = absurd (omega (arith, t.0, (tells is).0))
       go t (short n is a h) = let same : n ≡ needed = sym (tells is).1 ∙ t.1 in rw (← same) (a, h)
       go t (fits table is a h) = absurd (omega (arith, t.0, (tells is).0))
 
-  pub tells-0 : (needed : ℕ) → Tells outcome 0 needed ↔ (AllLines text needed × (needed ≤ words))
-  tells-0 needed = (λ t. go t reason, λ h. let t = tells (fits-so h.0 h.1) in (t.0, t.1 ∙ h.0.needs))
+  pub tells_0 : (needed : ℕ) → Tells outcome 0 needed ↔ (AllLines text needed × (needed ≤ words))
+  tells_0 needed = (λ t. go t reason, λ h. let t = tells (fits_so h.0 h.1) in (t.0, t.1 ∙ h.0.needs))
     where
       go : Tells outcome 0 needed → Reason text words → AllLines text needed × (needed ≤ words)
-      go t (stops q is s) = absurd (omega (arith, t.0, stops-over is (why s.place' (line text s.next) q s.fails)))
+      go t (stops q is s) = absurd (omega (arith, t.0, stops_over is (why s.place' (line text s.next) q s.fails)))
       go t (empty is e) = absurd (omega (arith, t.0, (tells is).0))
       go t (short n is a h) = absurd (omega (arith, t.0, (tells is).0))
       go t (fits table is a h) = let same : length table ≡ needed = sym (tells is).1 ∙ t.1 in rw (← same) (a, h)

@@ -24,16 +24,16 @@ pub record Takes {A : Type 0} (part : Part A) (most : ℕ) : Type 0 where
   pub same : (a b : List ℕ) (at : ℕ) → Agree a b (at + most) → part a at ≡ part b at
   pub next : (a : List ℕ) (at : ℕ) (value : A) (next : ℕ) → part a at ≡ good value next → next ≤ at + most
 
-give-takes : {A : Type 0} (a : A) → Takes (give a) 0
-give-takes a =
+give_takes : {A : Type 0} (a : A) → Takes (give a) 0
+give_takes a =
     record {
       same = λ s t at h. refl;
       next = λ s at v n e. let z : at ≡ n = cc in omega arith;
     }
 
-then-takes : {A B : Type 0} (p : Part A) (q : A → Part B) (k m : ℕ) → Takes p k → ((a : A) → Takes (q a) m) → Takes (◌>>=◌ p q) (k + m)
+then_takes : {A B : Type 0} (p : Part A) (q : A → Part B) (k m : ℕ) → Takes p k → ((a : A) → Takes (q a) m) → Takes (◌>>=◌ p q) (k + m)
 unfolding follow
-then-takes {A} {B} p q k m first second =
+then_takes {A} {B} p q k m first second =
     record {
       same = λ s t at h. rw (← first.same s t at (λ j l. h j (omega arith))) (go s t at h (p s at) refl);
       next = λ s at v n e. reach s at v n (p s at) refl e;
@@ -49,9 +49,9 @@ then-takes {A} {B} p q k m first second =
     reach s at v n (good a i) e f = omega (arith, first.next s at a i e, (second a).next s i v n f)
     reach s at v n (bad malformed) e f = absurd (suc-ne-zero 0 (cc))
 
-byte-takes : (b : ℕ) → Takes (byte b) 1
+byte_takes : (b : ℕ) → Takes (byte b) 1
 unfolding byte
-byte-takes b =
+byte_takes b =
     record {
       same = λ s t at h. rw (h at (omega arith));
       next = λ s at v n e. go at v n (eqb (byte_at s at) b) e;
@@ -61,13 +61,13 @@ byte-takes b =
     go at v n true e = let z : suc at ≡ n = cc in omega arith
     go at v n false e = absurd (suc-ne-zero 0 (cc))
 
-digits-takes : (most value : ℕ) → Takes (digits most value) most
+digits_takes : (most value : ℕ) → Takes (digits most value) most
 unfolding digits
-digits-takes zero value = give-takes value
-digits-takes (suc most) value =
+digits_takes zero value = give_takes value
+digits_takes (suc most) value =
     record {
-      same = λ s t at h. rw (h at (omega arith)) (same s t at h (is_digit (byte_at t at)) _ (digits-takes most (value * 10 + (byte_at t at - digit_zero))));
-      next = λ s at v n e. reach s at v n (is_digit (byte_at s at)) _ e (digits-takes most (value * 10 + (byte_at s at - digit_zero)));
+      same = λ s t at h. rw (h at (omega arith)) (same s t at h (is_digit (byte_at t at)) _ (digits_takes most (value * 10 + (byte_at t at - digit_zero))));
+      next = λ s at v n e. reach s at v n (is_digit (byte_at s at)) _ e (digits_takes most (value * 10 + (byte_at s at - digit_zero)));
     }
   where
     same : (s t : List ℕ) (at : ℕ) → Agree s t (at + suc most) → (test : Bool) (v : ℕ) → Takes (digits most v) most
@@ -79,9 +79,9 @@ digits-takes (suc most) value =
     reach s at v n true w e further = omega (arith, further.next s (suc at) v n e)
     reach s at v n false w e further = let z : at ≡ n = cc in omega arith
 
-number-takes : Takes number 4
+number_takes : Takes number 4
 unfolding number
-number-takes =
+number_takes =
     record {
       same = λ s t at h. rw (h at (omega arith)) (same s t at h (eqb (byte_at t at) digit_zero) (is_digit (byte_at t at)));
       next = λ s at v n e. reach s at v n (eqb (byte_at s at) digit_zero) (is_digit (byte_at s at)) e;
@@ -90,24 +90,24 @@ number-takes =
     same : (s t : List ℕ) (at : ℕ) → Agree s t (at + 4) → (z d : Bool)
         → cond z (good 0 (suc at)) (cond d (digits 4 0 s at) (bad malformed)) ≡ cond z (good 0 (suc at)) (cond d (digits 4 0 t at) (bad malformed))
     same s t at h true d = refl
-    same s t at h false true = (digits-takes 4 0).same s t at h
+    same s t at h false true = (digits_takes 4 0).same s t at h
     same s t at h false false = refl
 
     reach : (s : List ℕ) (at v n : ℕ) (z d : Bool) → cond z (good 0 (suc at)) (cond d (digits 4 0 s at) (bad malformed)) ≡ good v n → n ≤ at + 4
     reach s at v n true d e = let z : suc at ≡ n = cc in omega arith
-    reach s at v n false true e = (digits-takes 4 0).next s at v n e
+    reach s at v n false true e = (digits_takes 4 0).next s at v n e
     reach s at v n false false e = absurd (suc-ne-zero 0 (cc))
 
-field-takes : (end : ℕ) → Takes (field end) 5
+field_takes : (end : ℕ) → Takes (field end) 5
 unfolding field
-field-takes end = then-takes _ _ 4 1 number-takes (λ v. then-takes _ _ 1 0 (byte-takes end) (λ b. give-takes v))
+field_takes end = then_takes _ _ 4 1 number_takes (λ v. then_takes _ _ 1 0 (byte_takes end) (λ b. give_takes v))
 
 -- The longest line has 15 bytes.
-pub line-takes : Takes line 15
+pub line_takes : Takes line 15
 unfolding line
-line-takes =
-    then-takes _ _ 5 10 (field-takes space)
-    (λ p. then-takes _ _ 5 5 (field-takes space) (λ a. then-takes _ _ 5 0 (field-takes newline) (λ v. give-takes (record { parent = p; amperes = a; volts = v }))))
+line_takes =
+    then_takes _ _ 5 10 (field_takes space)
+    (λ p. then_takes _ _ 5 5 (field_takes space) (λ a. then_takes _ _ 5 0 (field_takes newline) (λ v. give_takes (record { parent = p; amperes = a; volts = v }))))
 
 -- ---- All lines
 
@@ -117,7 +117,7 @@ pub lines_from-cut : (taken : ℕ) (text : List ℕ) (most place at : ℕ) → a
 unfolding lines_from
 lines_from-cut taken text zero place at h = refl
 lines_from-cut taken text (suc most) place at h =
-    let same : line (take taken text) at ≡ line text at = line-takes.same (take taken text) text at (λ j l. get_or-take taken text j 0 (omega arith)) in
+    let same : line (take taken text) at ≡ line text at = line_takes.same (take taken text) text at (λ j l. get_or-take taken text j 0 (omega arith)) in
     rw (shorter (leb (length text) at) refl, same)
     (ap (cond (leb (length text) at) (record { entries = []; ending = whole }))
     (go (judged place (line text at)) refl (λ next l. lines_from-cut taken text most (suc place) next l)))
@@ -130,7 +130,7 @@ lines_from-cut taken text (suc most) place at h =
         → ((next : ℕ) → next + 15 * most ≤ taken → lines_from most (take taken text) (suc place) next ≡ lines_from most text (suc place) next)
         → onto j (λ next. lines_from most (take taken text) (suc place) next) ≡ onto j (λ next. lines_from most text (suc place) next)
     go (good e next) j further =
-        let l = line-takes.next text at e next (passed_is place (line text at) e next j).is in
+        let l = line_takes.next text at e next (passed_is place (line text at) e next j).is in
         rw (further next (omega arith))
     go (bad q) j further = refl
 

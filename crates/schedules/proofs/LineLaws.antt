@@ -13,7 +13,7 @@ use Rattle.schedules.specs.Sizes.{is_size}
 use Rattle.schedules.specs.Text.{Step, good, bad, malformed, follow, byte_at, space, newline, byte, number, field, line}
 use Rattle.schedules.specs.Schedule.{least_volts, most_volts, rating, in_range, Judgement, judged}
 use Rattle.schedules.specs.Told.{told_number, told_line, told_node}
-use Rattle.schedules.proofs.SizeLaws.{and_left, and_right, size-most}
+use Rattle.schedules.proofs.SizeLaws.{and_left, and_right, size_most}
 use Rattle.schedules.specs.declared.Entry.{Entry}
 use Rattle.schedules.specs.declared.ScheduleRefusal.{ScheduleRefusal}
 use Rattle.schedules.specs.declared.ScheduleRefusal.TheVariants.{NotALine, NotASize, OutOfRange}
@@ -26,43 +26,43 @@ use Rattle.schedules.specs.declared.lines.JudgedLine.TheVariants.{Node, Refused}
 
 -- ---- A number and a line, told
 
-pub number-good : (s : Step ℕ) {r : Number} {value next : ℕ} → r ≡ told_number s → r ≡ Value value next → s ≡ good value next
+pub number_good : (s : Step ℕ) {r : Number} {value next : ℕ} → r ≡ told_number s → r ≡ Value value next → s ≡ good value next
 unfolding told_number
-number-good (good v n) {value = value} {next = next} d e =
+number_good (good v n) {value = value} {next = next} d e =
     let a : v ≡ value = cc in
     let b : n ≡ next = cc in
     rw (a, b)
-number-good (bad malformed) d e = absurd (suc-ne-zero 0 (cc))
+number_good (bad malformed) d e = absurd (suc-ne-zero 0 (cc))
 
-pub number-bad : (s : Step ℕ) {r : Number} → r ≡ told_number s → r ≡ Nothing → s ≡ (bad malformed)
+pub number_bad : (s : Step ℕ) {r : Number} → r ≡ told_number s → r ≡ Nothing → s ≡ (bad malformed)
 unfolding told_number
-number-bad (good v n) d e = absurd (suc-ne-zero 0 (cc))
-number-bad (bad malformed) d e = refl
+number_bad (good v n) d e = absurd (suc-ne-zero 0 (cc))
+number_bad (bad malformed) d e = refl
 
-pub line-good : (s : Step Entry) {r : ScheduleLine} {entry : Entry} {next : ℕ} → r ≡ told_line s → r ≡ lines.Of entry next → s ≡ good entry next
+pub line_good : (s : Step Entry) {r : ScheduleLine} {entry : Entry} {next : ℕ} → r ≡ told_line s → r ≡ lines.Of entry next → s ≡ good entry next
 unfolding told_line
-line-good (good x n) {entry = entry} {next = next} d e =
+line_good (good x n) {entry = entry} {next = next} d e =
     let a : x ≡ entry = cc in
     let b : n ≡ next = cc in
     rw (a, b)
-line-good (bad malformed) d e = absurd (suc-ne-zero 0 (cc))
+line_good (bad malformed) d e = absurd (suc-ne-zero 0 (cc))
 
-pub line-bad : (s : Step Entry) {r : ScheduleLine} → r ≡ told_line s → r ≡ lines.Nothing → s ≡ (bad malformed)
+pub line_bad : (s : Step Entry) {r : ScheduleLine} → r ≡ told_line s → r ≡ lines.Nothing → s ≡ (bad malformed)
 unfolding told_line
-line-bad (good x n) d e = absurd (suc-ne-zero 0 (cc))
-line-bad (bad malformed) d e = refl
+line_bad (good x n) d e = absurd (suc-ne-zero 0 (cc))
+line_bad (bad malformed) d e = refl
 
 -- ---- A field
 
 module _ (text : List ℕ) (at end : ℕ) where
-  pub field-none : number text at ≡ (bad malformed) → Nothing ≡ told_number (field end text at)
+  pub field_none : number text at ≡ (bad malformed) → Nothing ≡ told_number (field end text at)
   unfolding field follow told_number
-  field-none n = rw n
+  field_none n = rw n
 
   module _ {value next : ℕ} (n : number text at ≡ good value next) where
-    pub field-other : (byte_at text next ≡ end → ⊥) → Nothing ≡ told_number (field end text at)
+    pub field_other : (byte_at text next ≡ end → ⊥) → Nothing ≡ told_number (field end text at)
     unfolding field follow byte told_number
-    field-other b = rw (n, ne_eqb (byte_at text next) end b)
+    field_other b = rw (n, ne_eqb (byte_at text next) end b)
 
     pub field_found : byte_at text next ≡ end → Value value (next + 1) ≡ told_number (field end text at)
     unfolding field follow byte told_number
@@ -81,24 +81,24 @@ module _ (text : List ℕ) (at : ℕ) where
     line_second b = rw (a, b)
 
     module _ {amperes at₂ : ℕ} (b : field space text at₁ ≡ good amperes at₂) where
-      pub line-third : field newline text at₂ ≡ (bad malformed) → lines.Nothing ≡ told_line (line text at)
+      pub line_third : field newline text at₂ ≡ (bad malformed) → lines.Nothing ≡ told_line (line text at)
       unfolding line follow told_line
-      line-third v = rw (a, b, v)
+      line_third v = rw (a, b, v)
 
-      pub line-whole : {volts next : ℕ} → field newline text at₂ ≡ good volts next
+      pub line_whole : {volts next : ℕ} → field newline text at₂ ≡ good volts next
           → lines.Of (record { parent = parent; amperes = amperes; volts = volts }) next ≡ told_line (line text at)
       unfolding line follow told_line
-      line-whole v = rw (a, b, v)
+      line_whole v = rw (a, b, v)
 
 -- ---- A line, judged
 
-pub and-true : (t : Bool) → t && true ≡ t
-and-true true = refl
-and-true false = refl
+pub and_true : (t : Bool) → t && true ≡ t
+and_true true = refl
+and_true false = refl
 
 -- A parent is below a node's own number exactly when it is at most the place, one less.
-pub below-own : (parent place : ℕ) → ltb parent (suc place) ≡ leb parent place
-below-own parent place = go (leb parent place) refl
+pub below_own : (parent place : ℕ) → ltb parent (suc place) ≡ leb parent place
+below_own parent place = go (leb parent place) refl
   where
     go : (t : Bool) → leb parent place ≡ t → ltb parent (suc place) ≡ t
     go true e = lt-ltb parent (suc place) (omega (arith, leb-true parent place e))
@@ -111,9 +111,9 @@ pub record InRange (place : ℕ) (e : Entry) : Type 0 where
   pub parent : e.parent ≤ place
   pub few : place < most_nodes
 
-pub range-is : (place : ℕ) (e : Entry) → in_range place e ≡ true → InRange place e
+pub range_is : (place : ℕ) (e : Entry) → in_range place e ≡ true → InRange place e
 unfolding in_range
-range-is place e t =
+range_is place e t =
     let volts : leb least_volts e.volts && leb e.volts most_volts ≡ true = and_left _ _ t in
     let rest : leb e.parent place && ltb place most_nodes ≡ true = and_right (leb least_volts e.volts && leb e.volts most_volts) _ t in
     record {
@@ -124,26 +124,26 @@ range-is place e t =
     }
 
 -- A line that passes has a rating of at most 6,000 A × 480 V.
-pub rating-most : (place : ℕ) (e : Entry) → is_size e.amperes ≡ true → in_range place e ≡ true → rating e ≤ 2880000
-rating-most place e s t = mul-le-mul (size-most e.amperes s) (range-is place e t).most
+pub rating_most : (place : ℕ) (e : Entry) → is_size e.amperes ≡ true → in_range place e ≡ true → rating e ≤ 2880000
+rating_most place e s t = mul-le-mul (size_most e.amperes s) (range_is place e t).most
 
 module _ (place : ℕ) (s : Step Entry) where
-  pub not-a-line : s ≡ (bad malformed) → Refused (NotALine place) ≡ told_node (judged place s)
+  pub not_a_line : s ≡ (bad malformed) → Refused (NotALine place) ≡ told_node (judged place s)
   unfolding judged told_node
-  not-a-line n = rw n
+  not_a_line n = rw n
 
   module _ {e : Entry} {next : ℕ} (n : s ≡ good e next) where
-    pub not-a-size : is_size e.amperes ≡ false → Refused (NotASize place) ≡ told_node (judged place s)
+    pub not_a_size : is_size e.amperes ≡ false → Refused (NotASize place) ≡ told_node (judged place s)
     unfolding judged told_node
-    not-a-size a = rw (n, a)
+    not_a_size a = rw (n, a)
 
     pub out_of_range : is_size e.amperes ≡ true → in_range place e ≡ false → Refused (OutOfRange place) ≡ told_node (judged place s)
     unfolding judged told_node
     out_of_range a b = rw (n, a, b)
 
-    pub a-node : is_size e.amperes ≡ true → in_range place e ≡ true → Node e.parent (rating e) next ≡ told_node (judged place s)
+    pub a_node : is_size e.amperes ≡ true → in_range place e ≡ true → Node e.parent (rating e) next ≡ told_node (judged place s)
     unfolding judged told_node
-    a-node a b = rw (n, a, b)
+    a_node a b = rw (n, a, b)
 
 -- What a line that passes is.
 pub record Passed (place : ℕ) (s : Step Entry) (e : Entry) (next : ℕ) : Type 0 where
@@ -175,13 +175,13 @@ pub record Told (j : Judgement) (parent watts next : ℕ) : Type 0 where
   pub entry : Entry
   pub is : j ≡ good entry next
   pub parent_is : entry.parent ≡ parent
-  pub rating-is : rating entry ≡ watts
+  pub rating_is : rating entry ≡ watts
 
 pub node-told : (j : Judgement) {r : JudgedLine} {parent watts next : ℕ} → r ≡ told_node j → r ≡ Node parent watts next → Told j parent watts next
 unfolding told_node
 node-told (good x n) {next = next} d e =
     let b : n ≡ next = cc in
-    record { entry = x; is = rw b; parent_is = cc; rating-is = cc }
+    record { entry = x; is = rw b; parent_is = cc; rating_is = cc }
 node-told (bad q) d e = absurd (suc-ne-zero 0 (cc))
 
 pub refusal-told : (j : Judgement) {r : JudgedLine} {refusal : ScheduleRefusal} → r ≡ told_node j → r ≡ Refused refusal → j ≡ bad refusal

@@ -13,7 +13,7 @@ use Rattle.schedules.specs.Text.{good, bad}
 use Rattle.schedules.specs.Schedule.{rating, Judgement, judged, whole, onto, lines_from, lines_of}
 use Rattle.schedules.specs.Nodes.{entry_words}
 use Rattle.schedules.specs.Told.{told_node, counted, told_lines}
-use Rattle.schedules.proofs.LineLaws.{passed_is, range-is, node-told, refusal-told}
+use Rattle.schedules.proofs.LineLaws.{passed_is, range_is, node-told, refusal-told}
 use Rattle.schedules.specs.declared.Entry.{Entry}
 use Rattle.schedules.specs.declared.ScheduleRefusal.{ScheduleRefusal}
 use Rattle.schedules.specs.declared.lines.JudgedLine.{JudgedLine}
@@ -26,16 +26,16 @@ unfolding lines_from
 lines_from-end zero text place at h = refl
 lines_from-end (suc most) text place at h = rw (le-leb (length text) at h)
 
-pub lines_from-some : (most : ℕ) (text : List ℕ) (place at : ℕ) → at < length text
+pub lines_from_some : (most : ℕ) (text : List ℕ) (place at : ℕ) → at < length text
     → lines_from (suc most) text place at ≡ onto (judged place (line text at)) (λ next. lines_from most text (suc place) next)
 unfolding lines_from
-lines_from-some most text place at h = rw (lt-leb (length text) at h)
+lines_from_some most text place at h = rw (lt-leb (length text) at h)
 
 -- A node's two words, stored one after the other, and then those of the nodes after it.
-node-stored : (words : List ℕ) (index next parent watts : ℕ) (e : Entry) (rest : List Entry) → e.parent ≡ parent → rating e ≡ watts → next ≡ suc index
+node_stored : (words : List ℕ) (index next parent watts : ℕ) (e : Entry) (rest : List Entry) → e.parent ≡ parent → rating e ≡ watts → next ≡ suc index
     → sets (set (set words index parent) next watts) (suc (suc index)) (entry_words rest) ≡ sets words index (entry_words (e ∷ rest))
 unfolding entry_words
-node-stored words index next parent watts e rest p w n = rw (n, ← p, ← w)
+node_stored words index next parent watts e rest p w n = rw (n, ← p, ← w)
 
 pub record ReadingLines (text words₀ words : List ℕ) (at count : ℕ) : Type 0 where
   pub few : count ≤ most_nodes
@@ -68,7 +68,7 @@ module _ (text words₀ words : List ℕ) (at count : ℕ) (inv : ReadingLines t
         → lines_from (suc most_nodes - count) text count at ≡ onto j (λ next. lines_from (most_nodes - count) text (suc count) next)
     rest j e =
         let l : suc most_nodes - count ≡ suc (most_nodes - count) = omega (arith, inv.few) in
-        rw (l, ← e) (lines_from-some (most_nodes - count) text count at h)
+        rw (l, ← e) (lines_from_some (most_nodes - count) text count at h)
 
     pub stop : {r : JudgedLine} {refusal : ScheduleRefusal} → r ≡ told_node (judged count (line text at)) → r ≡ Refused refusal
         → (counts.Refused refusal ≡ told_lines (lines_of text)) × (words ≡ sets words₀ 2 (entry_words (lines_of text).entries))
@@ -79,10 +79,10 @@ module _ (text words₀ words : List ℕ) (at count : ℕ) (inv : ReadingLines t
 
     module _ {r : JudgedLine} {parent watts next : ℕ} (d : r ≡ told_node (judged count (line text at))) (q : r ≡ Node parent watts next) where
       -- A line that passes is none past the 512th.
-      pub few-lines : count < most_nodes
-      few-lines =
+      pub few_lines : count < most_nodes
+      few_lines =
           let told = node-told (judged count (line text at)) d q in
-          (range-is count told.entry (passed_is count (line text at) told.entry next told.is).range).few
+          (range_is count told.entry (passed_is count (line text at) told.entry next told.is).range).few
 
       pub again : ReadingLines text words₀ (set (set words (2 + 2 * count) parent) (2 + 2 * count + 1) watts) next (count + 1)
       unfolding entry_words
@@ -90,15 +90,15 @@ module _ (text words₀ words : List ℕ) (at count : ℕ) (inv : ReadingLines t
           let told = node-told (judged count (line text at)) d q in
           let e = rest (good told.entry next) told.is in
           let after = lines_from (most_nodes - count) text (suc count) next in
-          let left : suc most_nodes - suc count ≡ most_nodes - count = omega (arith, few-lines) in
+          let left : suc most_nodes - suc count ≡ most_nodes - count = omega (arith, few_lines) in
           let k : suc count + length after.entries ≡ count + suc (length after.entries) = omega arith in
           let i : 2 + 2 * suc count ≡ suc (suc (2 + 2 * count)) = omega arith in
           let j : 2 + 2 * count + 1 ≡ suc (2 + 2 * count) = omega arith in
           let one = set words (2 + 2 * count) parent in
           rw (add-one count)
           (record {
-            few = few-lines;
+            few = few_lines;
             size = length-set one (2 + 2 * count + 1) watts ∙ length-set words (2 + 2 * count) parent ∙ inv.size;
             answered = rw (left, k) (rw e at inv.answered);
-            stored = rw (left, i) (node-stored words (2 + 2 * count) (2 + 2 * count + 1) parent watts told.entry after.entries told.parent_is told.rating-is j ∙ (rw e at inv.stored));
+            stored = rw (left, i) (node_stored words (2 + 2 * count) (2 + 2 * count + 1) parent watts told.entry after.entries told.parent_is told.rating_is j ∙ (rw e at inv.stored));
           })

@@ -13,17 +13,17 @@ use Rattle.schedules.specs.Told.{told_number}
 use Rattle.schedules.specs.declared.text.Number.TheVariants.{Value, Nothing}
 
 -- A digit is a byte from `0` to `9`.
-pub digit-range : (byte : ℕ) → is_digit byte ≡ true → (48 ≤ byte) × (byte ≤ 57)
-digit-range byte e = go (leb 48 byte) refl e
+pub digit_range : (byte : ℕ) → is_digit byte ≡ true → (48 ≤ byte) × (byte ≤ 57)
+digit_range byte e = go (leb 48 byte) refl e
   where
     go : (test : Bool) → leb 48 byte ≡ test → test && leb byte 57 ≡ true → (48 ≤ byte) × (byte ≤ 57)
     go true q e = (leb-true 48 byte q, leb-true byte 57 e)
     go false q e = absurd (let z : ◌≡◌ {A = ℕ} 0 1 = cc in omega arith)
 
 module _ (text : List ℕ) (at : ℕ) where
-  pub zero-read : (byte : ℕ) → byte ≡ byte_at text at → byte ≡ 48 → Value 0 (at + 1) ≡ told_number (number text at)
+  pub zero_read : (byte : ℕ) → byte ≡ byte_at text at → byte ≡ 48 → Value 0 (at + 1) ≡ told_number (number text at)
   unfolding number told_number
-  zero-read byte e z = rw (← e, eq-eqb byte 48 z, add-one)
+  zero_read byte e z = rw (← e, eq-eqb byte 48 z, add-one)
 
   pub no_number : (byte : ℕ) → byte ≡ byte_at text at → (byte ≡ 48 → ⊥) → is_digit byte ≡ false → Nothing ≡ told_number (number text at)
   unfolding number told_number
@@ -63,5 +63,5 @@ module _ (text : List ℕ) (at value next : ℕ) where
     again zero p inv d = absurd (omega arith)
     again (suc left) p inv d =
         let l : suc left - 1 ≡ left = omega arith in
-        let r = digit-range byte d in
+        let r = digit_range byte d in
         rw (l, add-one) (record { small = le_trans (mul-le-mul_right (10 ^ left) (omega arith)) (shifted left inv); same = rw (← e, d) at inv.same })

@@ -11,27 +11,27 @@ use Rattle.figures.specs.Figures.{total}
 use Rattle.rooms.specs.Table.{most_nodes, form_of, table}
 use Rattle.rooms.specs.Limits.{lows, node_at, checked}
 use Rattle.rooms.specs.Outcome.{writing}
-use Rattle.rooms.proofs.Reach.{next-is-length}
+use Rattle.rooms.proofs.Reach.{next_is_length}
 use Rattle.rooms.specs.Words.{NodeInRange}
-use Rattle.rooms.proofs.Tables.{Chain, RoomFits, Reads, table-reads}
+use Rattle.rooms.proofs.Tables.{Chain, RoomFits, Reads, table_reads}
 use Rattle.outcomes.specs.Outcome.{accepted}
-use Rattle.outcomes.proofs.Outcomes.{fitting-whole}
+use Rattle.outcomes.proofs.Outcomes.{fitting_whole}
 use Rattle.rooms.specs.declared.SheetRefusal.TheVariants.{OutputTooShort}
-use Rattle.rooms.proofs.Outcomes.{writing-good}
-use Rattle.rooms.proofs.Promises.{refusal-nine}
+use Rattle.rooms.proofs.Outcomes.{writing_good}
+use Rattle.rooms.proofs.Promises.{refusal_nine}
 use Rattle.schedules.specs.Text.{line, good, bad}
 use Rattle.schedules.specs.Schedule.{rating, Judgement, judged, whole, onto, lines_from, node_of, room_of, table_of}
 use Rattle.schedules.specs.Written.{LinesPass, none, more}
-use Rattle.schedules.proofs.LineLaws.{range-is, rating-most, passed_is}
+use Rattle.schedules.proofs.LineLaws.{range_is, rating_most, passed_is}
 use Rattle.schedules.specs.declared.Entry.{Entry}
 
 -- ---- Entries that pass
 
 -- The entries of a text pass.
-pub entries-pass : (most : ℕ) (text : List ℕ) (place at : ℕ) → LinesPass place (lines_from most text place at).entries
+pub entries_pass : (most : ℕ) (text : List ℕ) (place at : ℕ) → LinesPass place (lines_from most text place at).entries
 unfolding lines_from
-entries-pass zero text place at = none
-entries-pass (suc most) text place at = go (leb (length text) at) (judged place (line text at)) refl (λ next. entries-pass most text (suc place) next)
+entries_pass zero text place at = none
+entries_pass (suc most) text place at = go (leb (length text) at) (judged place (line text at)) refl (λ next. entries_pass most text (suc place) next)
   where
     go : (t : Bool) (j : Judgement) → judged place (line text at) ≡ j → ((next : ℕ) → LinesPass (suc place) (lines_from most text (suc place) next).entries)
         → LinesPass place (cond t (record { entries = []; ending = whole }) (onto j (λ next. lines_from most text (suc place) next))).entries
@@ -46,7 +46,7 @@ nodes-fit : {place : ℕ} {entries : List Entry} → LinesPass place entries →
 unfolding Chain
 nodes-fit none = tt
 nodes-fit (more {place} {e} s t p) =
-    (record { parent = omega (arith, (range-is place e t).parent); rating = omega (arith, rating-most place e s t); percent = refl }, nodes-fit p)
+    (record { parent = omega (arith, (range_is place e t).parent); rating = omega (arith, rating_most place e s t); percent = refl }, nodes-fit p)
 
 -- ---- The table
 
@@ -71,12 +71,12 @@ module _ (entries : List Entry) (p : LinesPass 0 entries) (some : 1 ≤ length e
   unfolding lows total
   table-checked =
       let w = table_of entries in
-      let read : Reads table w 0 (room_of entries) [] = table-reads 1 (room_of entries) room_fits in
-      let e = refusal-nine.passed w (room_of entries) read.next read.is (λ n h. omega arith) in
-      e ∙ ap (good (room_of entries)) (next-is-length w (room_of entries) read.next e)
+      let read : Reads table w 0 (room_of entries) [] = table_reads 1 (room_of entries) room_fits in
+      let e = refusal_nine.passed w (room_of entries) read.next read.is (λ n h. omega arith) in
+      e ∙ ap (good (room_of entries)) (next_is_length w (room_of entries) read.next e)
 
   pub table-written : (bytes : ℕ) → length (bytes_of (table_of entries)) ≤ bytes → writing (table_of entries) bytes ≡ accepted (bytes_of (table_of entries))
-  table-written bytes h = writing-good (table_of entries) bytes table-checked ∙ fitting-whole OutputTooShort (bytes_of (table_of entries)) bytes h
+  table-written bytes h = writing_good (table_of entries) bytes table-checked ∙ fitting_whole OutputTooShort (bytes_of (table_of entries)) bytes h
 
 -- The parent and the rating of the node at a place are those of the entry there.
 pub node-of : (entries : List Entry) (place : ℕ)

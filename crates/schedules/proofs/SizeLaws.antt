@@ -32,18 +32,18 @@ none_above bound [] = true
 none_above bound (m ∷ rest) = leb m bound && none_above bound rest
 
 -- What a rising list has above a number, it has at each of its places.
-pub rises_from-at : (n : ℕ) (l : List ℕ) → rises_from n l ≡ true → (i : ℕ) → i < length l → n < get_or l i 0
+pub rises_from_at : (n : ℕ) (l : List ℕ) → rises_from n l ≡ true → (i : ℕ) → i < length l → n < get_or l i 0
 unfolding rises_from
-rises_from-at n [] t i h = absurd (omega arith)
-rises_from-at n (m ∷ rest) t zero h = ltb-true n m (and_left _ _ t)
-rises_from-at n (m ∷ rest) t (suc i) h =
-    omega (arith, ltb-true n m (and_left _ _ t), rises_from-at m rest (and_right (ltb n m) _ t) i (omega arith))
+rises_from_at n [] t i h = absurd (omega arith)
+rises_from_at n (m ∷ rest) t zero h = ltb-true n m (and_left _ _ t)
+rises_from_at n (m ∷ rest) t (suc i) h =
+    omega (arith, ltb-true n m (and_left _ _ t), rises_from_at m rest (and_right (ltb n m) _ t) i (omega arith))
 
 pub rises : (n : ℕ) (l : List ℕ) → rises_from n l ≡ true → (i j : ℕ) → i < j → j < length l → get_or l i 0 < get_or l j 0
 unfolding rises_from
 rises n [] t i j h k = absurd (omega arith)
 rises n (m ∷ rest) t i zero h k = absurd (omega arith)
-rises n (m ∷ rest) t zero (suc j) h k = rises_from-at m rest (and_right (ltb n m) _ t) j (omega arith)
+rises n (m ∷ rest) t zero (suc j) h k = rises_from_at m rest (and_right (ltb n m) _ t) j (omega arith)
 rises n (m ∷ rest) t (suc i) (suc j) h k = rises m rest (and_right (ltb n m) _ t) i j (omega arith) (omega arith)
 
 -- A number that is not above the one from which a list rises is not in the list.
@@ -55,16 +55,16 @@ not_in a n (m ∷ rest) t h =
     rw (ne_eqb a m (λ e. omega arith), not_in a m rest (and_right (ltb n m) _ t) (omega arith))
 
 -- Whatever part of a rising list comes last rises too.
-drop-rises : (n : ℕ) (l : List ℕ) → rises_from n l ≡ true → (i : ℕ) → i < length l → rises_from (get_or l i 0) (drop (suc i) l) ≡ true
+drop_rises : (n : ℕ) (l : List ℕ) → rises_from n l ≡ true → (i : ℕ) → i < length l → rises_from (get_or l i 0) (drop (suc i) l) ≡ true
 unfolding rises_from
-drop-rises n [] t i h = absurd (omega arith)
-drop-rises n (m ∷ rest) t zero h = and_right (ltb n m) _ t
-drop-rises n (m ∷ rest) t (suc i) h = drop-rises m rest (and_right (ltb n m) _ t) i (omega arith)
+drop_rises n [] t i h = absurd (omega arith)
+drop_rises n (m ∷ rest) t zero h = and_right (ltb n m) _ t
+drop_rises n (m ∷ rest) t (suc i) h = drop_rises m rest (and_right (ltb n m) _ t) i (omega arith)
 
-in-below : (bound a : ℕ) (l : List ℕ) → none_above bound l ≡ true → is_in a l ≡ true → a ≤ bound
+in_below : (bound a : ℕ) (l : List ℕ) → none_above bound l ≡ true → is_in a l ≡ true → a ≤ bound
 unfolding none_above is_in
-in-below bound a [] t e = absurd (let z : ◌≡◌ {A = ℕ} 0 1 = cc in omega arith)
-in-below bound a (m ∷ rest) t e = go (eqb a m) refl e (in-below bound a rest (and_right (leb m bound) _ t))
+in_below bound a [] t e = absurd (let z : ◌≡◌ {A = ℕ} 0 1 = cc in omega arith)
+in_below bound a (m ∷ rest) t e = go (eqb a m) refl e (in_below bound a rest (and_right (leb m bound) _ t))
   where
     go : (test : Bool) → eqb a m ≡ test → test || is_in a rest ≡ true → (is_in a rest ≡ true → a ≤ bound) → a ≤ bound
     go true q e further = omega (arith, eqb-true a m q, leb-true m bound (and_left _ _ t))
@@ -73,14 +73,14 @@ in-below bound a (m ∷ rest) t e = go (eqb a m) refl e (in-below bound a rest (
 -- ---- The sizes
 
 -- The sizes rise.
-pub sizes-rise : rises_from 0 sizes ≡ true
+pub sizes_rise : rises_from 0 sizes ≡ true
 unfolding rises_from sizes
-sizes-rise = refl
+sizes_rise = refl
 
 -- No size is above 6,000.
-pub size-most : (a : ℕ) → is_size a ≡ true → a ≤ 6000
+pub size_most : (a : ℕ) → is_size a ≡ true → a ≤ 6000
 unfolding is_size none_above sizes
-size-most a e = in-below 6000 a sizes refl e
+size_most a e = in_below 6000 a sizes refl e
 
 -- ---- The search: the sizes from a place on decide
 
@@ -105,12 +105,12 @@ module _ (amperes i : ℕ) (inv : Searching amperes i) where
     pub stop : amperes ≤ get_or sizes i 0 → eqb amperes (get_or sizes i 0) ≡ is_size amperes
     unfolding is_in
     stop high =
-        let s = rw (drop-cons sizes i 0 h, not_in amperes (get_or sizes i 0) (drop (suc i) sizes) (drop-rises 0 sizes sizes-rise i h) high) at inv.same in
-        sym (or-false (eqb amperes (get_or sizes i 0))) ∙ s
+        let s = rw (drop-cons sizes i 0 h, not_in amperes (get_or sizes i 0) (drop (suc i) sizes) (drop_rises 0 sizes sizes_rise i h) high) at inv.same in
+        sym (or_false (eqb amperes (get_or sizes i 0))) ∙ s
       where
-        or-false : (t : Bool) → t || false ≡ t
-        or-false true = refl
-        or-false false = refl
+        or_false : (t : Bool) → t || false ≡ t
+        or_false true = refl
+        or_false false = refl
 
   pub end : length sizes ≤ i → false ≡ is_size amperes
   unfolding is_in

@@ -12,19 +12,19 @@ use borrow.Author.Tests.{ltb-false, eq-eqb, ne_eqb}
 use Rattle.words.specs.Bytes.{bytes_of}
 use Rattle.figures.proofs.Stores.{take-sets, sets-append}
 use Rattle.calls.specs.Call.{answered, OutcomeCall}
-use Rattle.calls.proofs.Calls.{answer-told, call-done}
+use Rattle.calls.proofs.Calls.{answer-told, call_done}
 use Rattle.calls.proofs.Fronts.{bytes_after}
 use Rattle.rooms.specs.Table.{most_nodes, form_of}
 use Rattle.rooms.specs.Words.{row_words, words_of_node}
 use Rattle.schedules.specs.Text.{line}
 use Rattle.outcomes.specs.Outcome.{accepted, refused, too_short, fitting, after}
-use Rattle.outcomes.proofs.Outcomes.{unless-stop, unless-pass, unless-either, unless-none, fitting-short, fitting-whole}
+use Rattle.outcomes.proofs.Outcomes.{unless_stop, unless_pass, unless_either, unless_none, fitting_short, fitting_whole}
 use Rattle.schedules.specs.Text.{good, bad}
 use Rattle.schedules.specs.Schedule.{Judgement, judged, ScheduleEnding, whole, stopped, onto, lines_from, lines_of, rating, node_of, table_of, ScheduleOutcome, no_lines, scheduled_lines, scheduling, answer_of, schedule_number, schedule_figure, most_schedule_words}
 use Rattle.schedules.specs.Nodes.{entry_words}
 use Rattle.schedules.specs.Call.{numbers_of}
 use Rattle.schedules.specs.Told.{counted, told_lines, written, InFront, written_count}
-use Rattle.schedules.proofs.LineLaws.{passed_is, range-is}
+use Rattle.schedules.proofs.LineLaws.{passed_is, range_is}
 use Rattle.schedules.specs.declared.Entry.{Entry}
 use Rattle.schedules.specs.declared.ScheduleRefusal.{ScheduleRefusal}
 use Rattle.schedules.specs.declared.ScheduleRefusal.TheVariants.{OutOfRange, TableTooShort}
@@ -41,37 +41,37 @@ length-entry_words [] = refl
 length-entry_words (e ∷ rest) = omega (arith, length-entry_words rest)
 
 -- The words of the entries are those of their nodes.
-nodes-words : (entries : List Entry) → entry_words entries ≡ row_words (words_of_node false) (map node_of entries)
+nodes_words : (entries : List Entry) → entry_words entries ≡ row_words (words_of_node false) (map node_of entries)
 unfolding entry_words row_words
-nodes-words [] = refl
-nodes-words (e ∷ rest) = ap (λ (z : List ℕ). e.parent ∷ rating e ∷ z) (nodes-words rest)
+nodes_words [] = refl
+nodes_words (e ∷ rest) = ap (λ (z : List ℕ). e.parent ∷ rating e ∷ z) (nodes_words rest)
 
 -- The table has its nodes' words, with version and counts around them.
-table-words : (entries : List Entry) → table_of entries ≡ 1 ∷ length entries ∷ (entry_words entries ++ (0 ∷ []))
+table_words : (entries : List Entry) → table_of entries ≡ 1 ∷ length entries ∷ (entry_words entries ++ (0 ∷ []))
 unfolding form_of row_words
-table-words entries = rw (nodes-words entries, length-map entries node_of)
+table_words entries = rw (nodes_words entries, length-map entries node_of)
 
 pub length-table_of : (entries : List Entry) → length (table_of entries) ≡ 3 + 2 * length entries
 length-table_of entries =
-    ap length (table-words entries) ∙ omega (arith, length-append (entry_words entries) (0 ∷ []), length-entry_words entries)
+    ap length (table_words entries) ∙ omega (arith, length-append (entry_words entries) (0 ∷ []), length-entry_words entries)
 
 -- No more than 512 lines pass.
-few-from : (most : ℕ) (text : List ℕ) (place at : ℕ) → place ≤ most_nodes → place + length (lines_from most text place at).entries ≤ most_nodes
+few_from : (most : ℕ) (text : List ℕ) (place at : ℕ) → place ≤ most_nodes → place + length (lines_from most text place at).entries ≤ most_nodes
 unfolding lines_from
-few-from zero text place at h = omega arith
-few-from (suc most) text place at h = go (leb (length text) at) (judged place (line text at)) refl (λ next k. few-from most text (suc place) next k)
+few_from zero text place at h = omega arith
+few_from (suc most) text place at h = go (leb (length text) at) (judged place (line text at)) refl (λ next k. few_from most text (suc place) next k)
   where
     go : (t : Bool) (j : Judgement) → judged place (line text at) ≡ j
         → ((next : ℕ) → suc place ≤ most_nodes → suc place + length (lines_from most text (suc place) next).entries ≤ most_nodes)
         → place + length (cond t (record { entries = []; ending = whole }) (onto j (λ next. lines_from most text (suc place) next))).entries ≤ most_nodes
     go true j e further = omega arith
     go false (good x next) e further =
-        let few = (range-is place x (passed_is place (line text at) x next e).range).few in
+        let few = (range_is place x (passed_is place (line text at) x next e).range).few in
         omega (arith, further next few)
     go false (bad q) e further = omega arith
 
-pub few-entries : (text : List ℕ) → length (lines_of text).entries ≤ most_nodes
-few-entries text = omega (arith, few-from (suc most_nodes) text 0 0 (omega arith))
+pub few_entries : (text : List ℕ) → length (lines_of text).entries ≤ most_nodes
+few_entries text = omega (arith, few_from (suc most_nodes) text 0 0 (omega arith))
 
 -- ---- The table, stored
 
@@ -89,7 +89,7 @@ table-sets words entries count n =
     let front : set (set (sets words 2 ns) 0 1) 1 count ≡ sets (set (set words 0 1) 1 count) 2 ns =
     ap (λ (x : List ℕ). set x 1 count) (set_before words 2 ns 0 1 (omega arith)) ∙ set_before (set words 0 1) 2 ns 1 count (omega arith) in
     ap (λ (x : List ℕ). set x (2 + 2 * count) 0) front
-    ∙ sym (rw (table-words entries, n) (sets-append (set (set words 0 1) 1 count) 2 ns (0 ∷ []) ∙ ap (λ (i : ℕ). set (sets (set (set words 0 1) 1 count) 2 ns) i 0) place))
+    ∙ sym (rw (table_words entries, n) (sets-append (set (set words 0 1) 1 count) 2 ns (0 ∷ []) ∙ ap (λ (i : ℕ). set (sets (set (set words 0 1) 1 count) 2 ns) i 0) place))
 
 -- ---- What the answer on the lines says of the outcome
 
@@ -97,15 +97,15 @@ pub record Whole (text : List ℕ) (count : ℕ) : Type 0 where
   pub ends : (lines_of text).ending ≡ whole
   pub counts : length (lines_of text).entries ≡ count
 
-pub whole-so : (text : List ℕ) {r : Counted} {count : ℕ} → r ≡ told_lines (lines_of text) → r ≡ counts.Lines count → Whole text count
-whole-so text {r = r} {count = count} d e = go (lines_of text).ending refl d
+pub whole_so : (text : List ℕ) {r : Counted} {count : ℕ} → r ≡ told_lines (lines_of text) → r ≡ counts.Lines count → Whole text count
+whole_so text {r = r} {count = count} d e = go (lines_of text).ending refl d
   where
     go : (ending : ScheduleEnding) → (lines_of text).ending ≡ ending → r ≡ counted (length (lines_of text).entries) ending → Whole text count
     go whole is d = let n : length (lines_of text).entries ≡ count = cc in record { ends = is; counts = n }
     go (stopped q) is d = absurd (suc-ne-zero 0 (cc))
 
-pub whole-few : {text : List ℕ} {count : ℕ} → Whole text count → count ≤ most_nodes
-whole-few {text = text} w = omega (arith, few-entries text, w.counts)
+pub whole_few : {text : List ℕ} {count : ℕ} → Whole text count → count ≤ most_nodes
+whole_few {text = text} w = omega (arith, few_entries text, w.counts)
 
 module _ (text : List ℕ) (space : ℕ) where
   abbrev outcome : ScheduleOutcome
@@ -115,13 +115,13 @@ module _ (text : List ℕ) (space : ℕ) where
   entries = (lines_of text).entries
 
   -- A refused schedule has nothing in front.
-  refused-done : (words : List ℕ) {q : ScheduleRefusal} → outcome ≡ refused q → (Refused q ≡ answer_of outcome) × InFront outcome words
-  refused-done words e = rw e (refl, record { is = refl })
+  refused_done : (words : List ℕ) {q : ScheduleRefusal} → outcome ≡ refused q → (Refused q ≡ answer_of outcome) × InFront outcome words
+  refused_done words e = rw e (refl, record { is = refl })
 
   pub line_refused : (words : List ℕ) {r : Counted} {q : ScheduleRefusal} → r ≡ told_lines (lines_of text) → r ≡ counts.Refused q
       → (Refused q ≡ answer_of outcome) × InFront outcome words
   unfolding scheduling
-  line_refused words {r = r} {q = q} d e = refused-done words (go (lines_of text).ending d)
+  line_refused words {r = r} {q = q} d e = refused_done words (go (lines_of text).ending d)
     where
       go : (ending : ScheduleEnding) → r ≡ counted (length (lines_of text).entries) ending → scheduled_lines (lines_of text).entries ending space ≡ refused q
       go whole d = absurd (suc-ne-zero 0 (cc))
@@ -130,17 +130,17 @@ module _ (text : List ℕ) (space : ℕ) where
   module _ {count : ℕ} (w : Whole text count) where
     pub lines_none : (words : List ℕ) → count ≡ 0 → (Refused (OutOfRange 0) ≡ answer_of outcome) × InFront outcome words
     unfolding scheduling
-    lines_none words z = refused-done words (rw w.ends (unless-stop (no_lines entries) _ (table_of entries) (eq-eqb (length entries) 0 (w.counts ∙ z))))
+    lines_none words z = refused_done words (rw w.ends (unless_stop (no_lines entries) _ (table_of entries) (eq-eqb (length entries) 0 (w.counts ∙ z))))
 
     module _ (some : count ≡ 0 → ⊥) where
       fitted : outcome ≡ fitting TableTooShort (table_of entries) space
       unfolding scheduling
-      fitted = rw w.ends (unless-pass (no_lines entries) _ (table_of entries) (ne_eqb (length entries) 0 (λ z. some (sym w.counts ∙ z))))
+      fitted = rw w.ends (unless_pass (no_lines entries) _ (table_of entries) (ne_eqb (length entries) 0 (λ z. some (sym w.counts ∙ z))))
 
       pub list_short : (words : List ℕ) → space ≤ 2 + 2 * count → (Refused (TableTooShort (2 + 2 * count + 1)) ≡ answer_of outcome) × InFront outcome words
       list_short words h =
           let n : length (table_of (lines_of text).entries) ≡ 2 + 2 * count + 1 = omega (arith, length-table_of (lines_of text).entries, w.counts) in
-          refused-done words (fitted ∙ fitting-short TableTooShort (table_of entries) space (omega arith) ∙ ap (λ (k : ℕ). refused (TableTooShort k)) n)
+          refused_done words (fitted ∙ fitting_short TableTooShort (table_of entries) space (omega arith) ∙ ap (λ (k : ℕ). refused (TableTooShort k)) n)
 
       -- The words of an accepted table, stored around those of the nodes.
       pub stands : (words words₁ : List ℕ) → most_schedule_words ≤ length words → words₁ ≡ sets words 2 (entry_words (lines_of text).entries) → 2 + 2 * count < space
@@ -148,9 +148,9 @@ module _ (text : List ℕ) (space : ℕ) where
       stands words words₁ long s h =
           let table = table_of (lines_of text).entries in
           let n : length table ≡ 2 + 2 * count + 1 = omega (arith, length-table_of (lines_of text).entries, w.counts) in
-          let is : outcome ≡ accepted table = fitted ∙ fitting-whole TableTooShort table space (omega arith) in
+          let is : outcome ≡ accepted table = fitted ∙ fitting_whole TableTooShort table space (omega arith) in
           let front : take (length table) (sets words 0 table) ≡ table =
-          take-sets (length table) words table (omega (arith, whole-few w)) (omega arith) ∙ take-length table in
+          take-sets (length table) words table (omega (arith, whole_few w)) (omega arith) ∙ take-length table in
           rw (is, s, table-sets words (lines_of text).entries count w.counts) (ap Accepted (sym n), record { is = front })
 
 -- ---- What is written
@@ -159,21 +159,21 @@ module _ (text : List ℕ) (space : ℕ) where
 abbrev Fits : ℕ → ScheduleOutcome → Type 0
 Fits space o = length (written o) ≤ space
 
-pub written-fits : (text : List ℕ) (space : ℕ) → length (written (scheduling text space)) ≤ space
+pub written_fits : (text : List ℕ) (space : ℕ) → length (written (scheduling text space)) ≤ space
 unfolding scheduling
-written-fits text space = go (lines_of text).ending
+written_fits text space = go (lines_of text).ending
   where
     go : (ending : ScheduleEnding) → length (written (scheduled_lines (lines_of text).entries ending space)) ≤ space
     go whole =
         let table = table_of (lines_of text).entries in
-        unless-either (no_lines (lines_of text).entries) _ table (Fits space) (λ _. omega arith) (λ _.
-        unless-either (too_short TableTooShort space (length table)) [] table (Fits space) (λ _. omega arith) (λ h.
-        subst (Fits space) (sym (unless-none table)) (ltb-false space (length table) h)))
+        unless_either (no_lines (lines_of text).entries) _ table (Fits space) (λ _. omega arith) (λ _.
+        unless_either (too_short TableTooShort space (length table)) [] table (Fits space) (λ _. omega arith) (λ h.
+        subst (Fits space) (sym (unless_none table)) (ltb-false space (length table) h)))
     go (stopped q) = omega arith
 
 module _ (outcome : ScheduleOutcome) {told : Scheduled} {count : ℕ} (is : told ≡ answer_of outcome) (n : count ≡ written_count told) where
-  pub count-is : count ≡ length (written outcome)
-  count-is = n ∙ ap written_count is ∙ go outcome
+  pub count_is : count ≡ length (written outcome)
+  count_is = n ∙ ap written_count is ∙ go outcome
     where
       go : (o : ScheduleOutcome) → written_count (answer_of o) ≡ length (written o)
       go (accepted table) = refl
@@ -181,10 +181,10 @@ module _ (outcome : ScheduleOutcome) {told : Scheduled} {count : ℕ} (is : told
 
   module _ {words : List ℕ} (front : InFront outcome words) where
     pub count_fits : count ≤ length words
-    count_fits = omega (arith, count-is, ap length front.is, length-take (length (written outcome)) words)
+    count_fits = omega (arith, count_is, ap length front.is, length-take (length (written outcome)) words)
 
     taken : take count words ≡ written outcome
-    taken = ap (λ (k : ℕ). take k words) count-is ∙ front.is
+    taken = ap (λ (k : ℕ). take k words) count_is ∙ front.is
 
     -- Copied to a list.
     pub copied : (table : List ℕ) {table' : List ℕ} → table' ≡ sets table 0 (take count words) → (told ≡ answer_of outcome) × (table' ≡ after (λ words. words) outcome table)
@@ -197,5 +197,5 @@ module _ (outcome : ScheduleOutcome) {told : Scheduled} {count : ℕ} (is : told
         → OutcomeCall 2 numbers_of bytes_of outcome table answer 1 table' answer'
     stored table answer fits long s k v a =
         let all : take (length table / 4) (take count words) ≡ written outcome = ap (take (length table / 4)) taken ∙ take_all (length table / 4) (written outcome) fits in
-        call-done _ answer _ (omega arith) (s ∙ ap (λ (l : List ℕ). sets table 0 (bytes_of l)) all ∙ bytes_after (λ words. words) outcome table)
+        call_done _ answer _ (omega arith) (s ∙ ap (λ (l : List ℕ). sets table 0 (bytes_of l)) all ∙ bytes_after (λ words. words) outcome table)
         (answer-told answer (k ∙ ap schedule_number is) (v ∙ ap schedule_figure is) a)

@@ -17,9 +17,9 @@ use Rattle.schedules.specs.Schedule.{in_range, judged, whole, Lines, lines_from,
 use Rattle.schedules.specs.Written.{Decimal, digit, LineText, Written, LinesPass}
 use Rattle.schedules.specs.Written as written
 use Rattle.rooms.proofs.Fronts.{stands}
-use Rattle.schedules.proofs.SizeLaws.{size-most}
-use Rattle.schedules.proofs.LineLaws.{range-is}
-use Rattle.schedules.proofs.LineLoop.{lines_from-end, lines_from-some}
+use Rattle.schedules.proofs.SizeLaws.{size_most}
+use Rattle.schedules.proofs.LineLaws.{range_is}
+use Rattle.schedules.proofs.LineLoop.{lines_from-end, lines_from_some}
 use Rattle.schedules.specs.declared.Entry.{Entry}
 
 -- ---- Digits
@@ -28,17 +28,17 @@ use Rattle.schedules.specs.declared.Entry.{Entry}
 behind : (text : List ℕ) (at : ℕ) (s rest : List ℕ) → drop at text ≡ s ++ rest → drop (at + length s) text ≡ rest
 behind text at s rest d = sym (drop-drop (length s) at text) ∙ ap (drop (length s)) d ∙ drop-append_seam s rest
 
-digit-is : (d : ℕ) → d < 10 → is_digit (48 + d) ≡ true
-digit-is d h = rw (le-leb 48 (48 + d) (omega arith), le-leb (48 + d) 57 (omega arith))
+digit_is : (d : ℕ) → d < 10 → is_digit (48 + d) ≡ true
+digit_is d h = rw (le-leb 48 (48 + d) (omega arith), le-leb (48 + d) 57 (omega arith))
 
 -- One digit more is read, and none where the next byte is no digit.
-digits-next : (most value d : ℕ) (text : List ℕ) (at : ℕ) (rest : List ℕ) → d < 10 → drop at text ≡ (48 + d) ∷ rest
+digits_next : (most value d : ℕ) (text : List ℕ) (at : ℕ) (rest : List ℕ) → d < 10 → drop at text ≡ (48 + d) ∷ rest
     → digits (suc most) value text at ≡ digits most (value * 10 + d) text (at + 1)
 unfolding digits
-digits-next most value d text at rest h e =
+digits_next most value d text at rest h e =
     let s = stands text at (48 + d) rest e in
     let v : 48 + d - 48 ≡ d = omega arith in
-    rw (s.is, digit-is d h, v, add-one)
+    rw (s.is, digit_is d h, v, add-one)
 
 digits-end : (most value : ℕ) (text : List ℕ) (at : ℕ) → is_digit (byte_at text at) ≡ false → digits most value text at ≡ good value at
 unfolding digits
@@ -46,17 +46,17 @@ digits-end zero value text at e = refl
 digits-end (suc most) value text at e = rw e
 
 -- All digits of a number are read, where at least so many may come.
-digits-all : {v : ℕ} {s : List ℕ} → Decimal v s → (text : List ℕ) (at most : ℕ) (rest : List ℕ) → drop at text ≡ s ++ rest
+digits_all : {v : ℕ} {s : List ℕ} → Decimal v s → (text : List ℕ) (at most : ℕ) (rest : List ℕ) → drop at text ≡ s ++ rest
     → digits (length s + most) 0 text at ≡ digits most v text (at + length s)
-digits-all (digit d h) text at most rest e =
+digits_all (digit d h) text at most rest e =
     let n : 1 + most ≡ suc most = omega arith in
     let v : 0 * 10 + d ≡ d = omega arith in
-    rw n (digits-next most 0 d text at rest h e ∙ ap (λ (x : ℕ). digits most x text (at + 1)) v)
-digits-all (written.more n d s k some h) text at most rest e =
+    rw n (digits_next most 0 d text at rest h e ∙ ap (λ (x : ℕ). digits most x text (at + 1)) v)
+digits_all (written.more n d s k some h) text at most rest e =
     let front : drop at text ≡ s ++ ((48 + d) ∷ rest) = e ∙ append_snoc s (48 + d) rest in
     let l : length (s ++ ((48 + d) ∷ [])) + most ≡ length s + suc most = omega (arith, length-append s ((48 + d) ∷ [])) in
     let p : at + length (s ++ ((48 + d) ∷ [])) ≡ at + length s + 1 = omega (arith, length-append s ((48 + d) ∷ [])) in
-    rw (l, p) (digits-all k text at (suc most) ((48 + d) ∷ rest) front ∙ digits-next most n d text (at + length s) rest h (behind text at s ((48 + d) ∷ rest) front))
+    rw (l, p) (digits_all k text at (suc most) ((48 + d) ∷ rest) front ∙ digits_next most n d text (at + length s) rest h (behind text at s ((48 + d) ∷ rest) front))
 
 -- ---- Decimals
 
@@ -87,9 +87,9 @@ zero_is (written.more n d s k some h) z = absurd (omega arith)
 -- As many digits as there are need a number as large.
 digits_le : {v : ℕ} {s : List ℕ} → Decimal v s → 1 ≤ v → 10 ^ length s ≤ v * 10
 digits_le (digit d h) some = omega arith
-digits_le (written.more n d s k n-some h) some =
+digits_le (written.more n d s k n_some h) some =
     let l : length (s ++ ((48 + d) ∷ [])) ≡ suc (length s) = omega (arith, length-append s ((48 + d) ∷ [])) in
-    rw (l, pow-suc 10 (length s)) (omega (arith, digits_le k n-some))
+    rw (l, pow-suc 10 (length s)) (omega (arith, digits_le k n_some))
 
 four : {v : ℕ} {s : List ℕ} → Decimal v s → 1 ≤ v → v ≤ 9999 → length s ≤ 4
 four {v} {s} k some h = go (leb (length s) 4) refl
@@ -116,8 +116,8 @@ number-written {v} {s} k h text at c rest e n = go (leb 1 v) refl
         let few = four k some h in
         let m : 4 ≡ length s + (4 - length s) = omega arith in
         let read : digits 4 0 text at ≡ good v (at + length s) =
-        ap (λ (x : ℕ). digits x 0 text at) m ∙ digits-all k text at (4 - length s) (c ∷ rest) e ∙ digits-end (4 - length s) v text (at + length s) ends in
-        rw (st.is, ne_eqb (48 + f.d) 48 (λ z. omega (arith, f.some some)), digit-is f.d f.small) read
+        ap (λ (x : ℕ). digits x 0 text at) m ∙ digits_all k text at (4 - length s) (c ∷ rest) e ∙ digits-end (4 - length s) v text (at + length s) ends in
+        rw (st.is, ne_eqb (48 + f.d) 48 (λ z. omega (arith, f.some some)), digit_is f.d f.small) read
     go false q =
         let z : v ≡ 0 = omega (arith, leb-false 1 v q) in
         let is = zero_is k z in
@@ -126,7 +126,7 @@ number-written {v} {s} k h text at c rest e n = go (leb 1 v) refl
         rw (st.is, z, p)
 
 record Reached (text : List ℕ) (next : ℕ) (rest : List ℕ) {A : Type 0} (step : Step A) (value : A) : Type 0 where
-  good-so : step ≡ good value next
+  good_so : step ≡ good value next
   bytes : drop next text ≡ rest
 
 field-written : (end : ℕ) {v : ℕ} {s : List ℕ} → Decimal v s → v ≤ 9999 → is_digit end ≡ false → (text : List ℕ) (at : ℕ) (rest : List ℕ) → drop at text ≡ s ++ (end ∷ rest)
@@ -134,12 +134,12 @@ field-written : (end : ℕ) {v : ℕ} {s : List ℕ} → Decimal v s → v ≤ 9
 unfolding field follow byte
 field-written end {v} {s} k h n text at rest e =
     let st = stands text (at + length s) end rest (behind text at s (end ∷ rest) e) in
-    record { good-so = rw (number-written k h text at end rest e n, st.is, eq-eqb end end refl); bytes = st.next }
+    record { good_so = rw (number-written k h text at end rest e n, st.is, eq-eqb end end refl); bytes = st.next }
 
 -- A line of numbers that are small enough.
 pub record LineReached (text : List ℕ) (at : ℕ) (e : Entry) (rest : List ℕ) : Type 0 where
   pub next : ℕ
-  pub good-so : line text at ≡ good e next
+  pub good_so : line text at ≡ good e next
   pub bytes : drop next text ≡ rest
 
 pub line-written : (e : Entry) (s : List ℕ) → LineText e s → e.parent ≤ 9999 → e.amperes ≤ 9999 → e.volts ≤ 9999 → (text : List ℕ) (at : ℕ) (rest : List ℕ)
@@ -153,13 +153,13 @@ line-written e s l hp ha hv text at rest d =
     let v = field-written newline l.volts_is hv refl text (suc (suc (at + length l.parent) + length l.amperes)) _ a.bytes in
     record {
       next = suc (suc (suc (at + length l.parent) + length l.amperes) + length l.volts);
-      good-so = rw (p.good-so, a.good-so, v.good-so);
+      good_so = rw (p.good_so, a.good_so, v.good_so);
       bytes = v.bytes;
     }
 
 -- A line has a byte at least.
-pub line-size : (e : Entry) (s : List ℕ) → LineText e s → 1 ≤ length s
-line-size e s l = omega (arith, ap length l.is, length-append l.parent (space ∷ (l.amperes ++ (space ∷ (l.volts ++ (newline ∷ []))))))
+pub line_size : (e : Entry) (s : List ℕ) → LineText e s → 1 ≤ length s
+line_size e s l = omega (arith, ap length l.is, length-append l.parent (space ∷ (l.amperes ++ (space ∷ (l.volts ++ (newline ∷ []))))))
 
 judged-passed : (place : ℕ) (s : Step Entry) (e : Entry) (next : ℕ) → s ≡ good e next → is_size e.amperes ≡ true → in_range place e ≡ true → judged place s ≡ good e next
 unfolding judged
@@ -188,20 +188,20 @@ front-written written.none place p most text at rest d h k =
     record { next = at; bytes = d; left = most; place' = place; further = omega arith; few = h; enough = k; is = refl }
 front-written (written.line e others s t l w) place (written.more a b p) zero text at rest d h k = absurd (omega arith)
 front-written (written.line e others s t l w) place (written.more a b p) (suc most) text at rest d h k =
-    let r = range-is place e b in
+    let r = range_is place e b in
     let front : drop at text ≡ s ++ (t ++ rest) = d ∙ append_assoc s t rest in
-    let one = line-written e s l (omega (arith, r.parent, r.few)) (omega (arith, size-most e.amperes a)) (omega (arith, r.most)) text at (t ++ rest) front in
-    let there : at < length text = omega (arith, length-drop at text, ap length front, length-append s (t ++ rest), line-size e s l) in
-    let behind-it = front-written w (suc place) p most text one.next rest one.bytes r.few (omega arith) in
+    let one = line-written e s l (omega (arith, r.parent, r.few)) (omega (arith, size_most e.amperes a)) (omega (arith, r.most)) text at (t ++ rest) front in
+    let there : at < length text = omega (arith, length-drop at text, ap length front, length-append s (t ++ rest), line_size e s l) in
+    let behind_it = front-written w (suc place) p most text one.next rest one.bytes r.few (omega arith) in
     record {
-      next = behind-it.next;
-      bytes = behind-it.bytes;
-      left = behind-it.left;
-      place' = behind-it.place';
-      further = omega (arith, behind-it.further);
-      few = behind-it.few;
-      enough = behind-it.enough;
-      is = lines_from-some most text place at there ∙ rw (judged-passed place (line text at) e one.next one.good-so a b, behind-it.is);
+      next = behind_it.next;
+      bytes = behind_it.bytes;
+      left = behind_it.left;
+      place' = behind_it.place';
+      further = omega (arith, behind_it.further);
+      few = behind_it.few;
+      enough = behind_it.enough;
+      is = lines_from_some most text place at there ∙ rw (judged-passed place (line text at) e one.next one.good_so a b, behind_it.is);
     }
 
 -- A text that is lines that pass, and nothing else.

@@ -1,5 +1,5 @@
 -- What holds of a schedule, apart from any code.
--- proofs/Promises.antt proves each: `SizesRise` as `sizes-rise`, and so on.
+-- proofs/Promises.antt proves each: `SizesRise` as `sizes_rise`, and so on.
 use Rattle.std.specs.Prelude.{◌≡◌, true, false, List, [], ◌↔◌, ◌⊎◌, ℕ, ◌-◌, ◌≤◌, ◌<◌, length, get_or, take}
 use Rattle.numbers.specs.Sheet.{bytes_of}
 use Rattle.rooms.specs.Part.{good}

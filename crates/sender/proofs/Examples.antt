@@ -8,29 +8,29 @@ use Rattle.sender.specs.Promises.{run, ceil_div}
 use Rattle.sender.specs.declared.SendRefusal.TheVariants.{NoMessages, PositionOutOfRange, ListTooShort}
 
 -- Four of five servers from the one numbered 3 on: the first follows the last.
-pub four-of-five : period 5 3 4 ≡ record { named = 3 ∷ 4 ∷ 0 ∷ 1 ∷ []; next = 2 }
+pub four_of_five : period 5 3 4 ≡ record { named = 3 ∷ 4 ∷ 0 ∷ 1 ∷ []; next = 2 }
 unfolding servers_from position_after
-four-of-five = refl
+four_of_five = refl
 
 -- With more messages than servers each is named once, and the position stays.
-pub more-than-five : period 5 3 9 ≡ record { named = 3 ∷ 4 ∷ 0 ∷ 1 ∷ 2 ∷ []; next = 3 }
+pub more_than_five : period 5 3 9 ≡ record { named = 3 ∷ 4 ∷ 0 ∷ 1 ∷ 2 ∷ []; next = 3 }
 unfolding servers_from position_after
-more-than-five = refl
+more_than_five = refl
 
 -- Two a period: five servers take ceil(5 / 2) = 3 periods.
-pub three-periods : run 5 2 3 (ceil_div 5 2) ≡ (3 ∷ 4 ∷ []) ∷ (0 ∷ 1 ∷ []) ∷ (2 ∷ 3 ∷ []) ∷ []
+pub three_periods : run 5 2 3 (ceil_div 5 2) ≡ (3 ∷ 4 ∷ []) ∷ (0 ∷ 1 ∷ []) ∷ (2 ∷ 3 ∷ []) ∷ []
 unfolding run servers_from position_after
-three-periods = refl
+three_periods = refl
 
 -- 27 comes before 28, and 28 before 12.
-pub no-messages-first : sending 0 0 0 0 ≡ refused NoMessages
+pub no_messages_first : sending 0 0 0 0 ≡ refused NoMessages
 unfolding sending unless
-no-messages-first = refl
+no_messages_first = refl
 
-pub out-of-range-second : sending 513 0 1 0 ≡ refused PositionOutOfRange
+pub out_of_range_second : sending 513 0 1 0 ≡ refused PositionOutOfRange
 unfolding sending unless
-out-of-range-second = refl
+out_of_range_second = refl
 
-pub short-last : sending 5 3 4 3 ≡ refused (ListTooShort 4)
+pub short_last : sending 5 3 4 3 ≡ refused (ListTooShort 4)
 unfolding sending unless
-short-last = refl
+short_last = refl

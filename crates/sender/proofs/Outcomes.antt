@@ -24,11 +24,11 @@ use Rattle.sender.proofs.Periods.{length-servers_from}
 
 module _ (count position : ℕ) where
   -- The test that is computed is true exactly in range.
-  pub in_range-true : InRange count position → in_range count position ≡ true
-  in_range-true h = rw (lt-ltb position count h.below, le-leb 1 count h.some, le-leb count most_servers h.most)
+  pub in_range_true : InRange count position → in_range count position ≡ true
+  in_range_true h = rw (lt-ltb position count h.below, le-leb 1 count h.some, le-leb count most_servers h.most)
 
-  pub in_range-is : in_range count position ≡ true → InRange count position
-  in_range-is e = go (ltb position count) (leb 1 count) (leb count most_servers) refl refl refl e
+  pub in_range_is : in_range count position ≡ true → InRange count position
+  in_range_is e = go (ltb position count) (leb 1 count) (leb count most_servers) refl refl refl e
     where
       go : (a b c : Bool) → ltb position count ≡ a → leb 1 count ≡ b → leb count most_servers ≡ c → (a && (b && c)) ≡ true → InRange count position
       go true true true p q r e = record { below = ltb-true position count p; some = leb-true 1 count q; most = leb-true count most_servers r }
@@ -37,18 +37,18 @@ module _ (count position : ℕ) where
       go false b c p q r e = absurd (false≢true e)
 
   -- The code's two tests, of which the second counts only where the first fails.
-  pub position-outside : count ≤ position → leb count position ≡ not (in_range count position)
-  position-outside h = rw (le-leb count position h, le-ltb position count h)
+  pub position_outside : count ≤ position → leb count position ≡ not (in_range count position)
+  position_outside h = rw (le-leb count position h, le-ltb position count h)
 
-  pub count-outside : position < count → ltb most_servers count ≡ not (in_range count position)
-  count-outside h = go (ltb most_servers count) refl
+  pub count_outside : position < count → ltb most_servers count ≡ not (in_range count position)
+  count_outside h = go (ltb most_servers count) refl
     where
       go : (t : Bool) → ltb most_servers count ≡ t → t ≡ not (in_range count position)
       go true e = rw (lt-ltb position count h, le-leb 1 count (omega arith), lt-leb count most_servers (ltb-true most_servers count e))
-      go false e = rw (in_range-true (record { below = h; some = omega arith; most = ltb-false most_servers count e }))
+      go false e = rw (in_range_true (record { below = h; some = omega arith; most = ltb-false most_servers count e }))
 
   pub inside_is : not (in_range count position) ≡ false → InRange count position
-  inside_is e = in_range-is (go (in_range count position) e)
+  inside_is e = in_range_is (go (in_range count position) e)
     where
       go : (b : Bool) → not b ≡ false → b ≡ true
       go true e = refl
@@ -63,42 +63,42 @@ module _ (count position m space : ℕ) where
   abbrev many : ℕ
   many = named_count count m
 
-  pub sending-no-messages : m ≡ 0 → outcome ≡ refused NoMessages
+  pub sending_no_messages : m ≡ 0 → outcome ≡ refused NoMessages
   unfolding sending unless
-  sending-no-messages e = rw (eq-eqb m 0 e)
+  sending_no_messages e = rw (eq-eqb m 0 e)
 
   module _ (some : 1 ≤ m) where
-    not-zero : eqb m 0 ≡ false
-    not-zero = ne_eqb m 0 (λ e. omega arith)
+    not_zero : eqb m 0 ≡ false
+    not_zero = ne_eqb m 0 (λ e. omega arith)
 
-    pub sending-out-of-range : not (in_range count position) ≡ true → outcome ≡ refused PositionOutOfRange
+    pub sending_out_of_range : not (in_range count position) ≡ true → outcome ≡ refused PositionOutOfRange
     unfolding sending unless
-    sending-out-of-range e = rw (not-zero, e)
+    sending_out_of_range e = rw (not_zero, e)
 
     module _ (inside : not (in_range count position) ≡ false) where
-      pub sending-short : space < many → outcome ≡ refused (ListTooShort many)
+      pub sending_short : space < many → outcome ≡ refused (ListTooShort many)
       unfolding sending unless
-      sending-short h = rw (not-zero, inside, lt-ltb space many h)
+      sending_short h = rw (not_zero, inside, lt-ltb space many h)
 
-      pub sending-whole : many ≤ space → outcome ≡ accepted (period count position m)
+      pub sending_whole : many ≤ space → outcome ≡ accepted (period count position m)
       unfolding sending unless
-      sending-whole h = rw (not-zero, inside, le-ltb space many h)
+      sending_whole h = rw (not_zero, inside, le-ltb space many h)
 
       -- The answers that follow, where so many are to be named.
       module _ {named : ℕ} (is : named ≡ many) where
-        pub answer-short : space < named → Refused (ListTooShort named) ≡ answer_of outcome
-        answer-short h = ap (λ (n : ℕ). Refused (ListTooShort n)) is ∙ sym (ap answer_of (sending-short (omega arith)))
+        pub answer_short : space < named → Refused (ListTooShort named) ≡ answer_of outcome
+        answer_short h = ap (λ (n : ℕ). Refused (ListTooShort n)) is ∙ sym (ap answer_of (sending_short (omega arith)))
 
-        pub answer-whole : {next : ℕ} → named ≤ space → next ≡ position_after count position named → Accepted named next ≡ answer_of outcome
-        answer-whole h e =
+        pub answer_whole : {next : ℕ} → named ≤ space → next ≡ position_after count position named → Accepted named next ≡ answer_of outcome
+        answer_whole h e =
             let size = length-servers_from count position many in
             let after = e ∙ ap (position_after count position) is in
-            cc (ap answer_of (sending-whole (omega arith)))
+            cc (ap answer_of (sending_whole (omega arith)))
 
   -- ---- what an outcome says of the input
 
   pub data Reason : Type 0 where
-    no-messages : outcome ≡ refused NoMessages → m ≡ 0 → Reason
+    no_messages : outcome ≡ refused NoMessages → m ≡ 0 → Reason
     out_of_range : outcome ≡ refused PositionOutOfRange → 1 ≤ m → (InRange count position → ⊥) → Reason
     short : outcome ≡ refused (ListTooShort many) → 1 ≤ m → InRange count position → space < many → Reason
     whole : outcome ≡ accepted (period count position m) → 1 ≤ m → InRange count position → many ≤ space → Reason
@@ -110,27 +110,27 @@ module _ (count position m space : ℕ) where
       some e = omega (arith, eqb-false m 0 e)
 
       go : (a b c : Bool) → eqb m 0 ≡ a → in_range count position ≡ b → ltb space many ≡ c → Reason
-      go true b c p q r = let e = eqb-true m 0 p in no-messages (sending-no-messages e) e
-      go false false c p q r = out_of_range (sending-out-of-range (some p) (ap not q)) (some p) (λ h. false≢true (sym q ∙ in_range-true count position h))
+      go true b c p q r = let e = eqb-true m 0 p in no_messages (sending_no_messages e) e
+      go false false c p q r = out_of_range (sending_out_of_range (some p) (ap not q)) (some p) (λ h. false≢true (sym q ∙ in_range_true count position h))
       go false true true p q r =
           let h = ltb-true space many r in
-          short (sending-short (some p) (ap not q) h) (some p) (in_range-is count position q) h
+          short (sending_short (some p) (ap not q) h) (some p) (in_range_is count position q) h
       go false true false p q r =
           let h = ltb-false space many r in
-          whole (sending-whole (some p) (ap not q) h) (some p) (in_range-is count position q) h
+          whole (sending_whole (some p) (ap not q) h) (some p) (in_range_is count position q) h
 
   -- ---- what an answer tells
 
-  pub refused-told : {told : Sent} {q : SendRefusal} → told ≡ answer_of outcome → told ≡ Refused q → outcome ≡ refused q
-  refused-told {told = told} {q = q} d e = go outcome refl d
+  pub refused_told : {told : Sent} {q : SendRefusal} → told ≡ answer_of outcome → told ≡ Refused q → outcome ≡ refused q
+  refused_told {told = told} {q = q} d e = go outcome refl d
     where
       go : (o : SendOutcome) → outcome ≡ o → told ≡ answer_of o → outcome ≡ refused q
       go (accepted p) is d = absurd (suc-ne-zero 0 (cc))
       go (refused r) is d = let z : r ≡ q = cc in is ∙ ap refused z
 
   -- A refusal leaves the list.
-  pub refused-done : (list : List ℕ) {told : Sent} {q : SendRefusal} → told ≡ answer_of outcome → told ≡ Refused q → list ≡ after (λ p. p.named) outcome list
-  refused-done list d e = rw (refused-told d e) refl
+  pub refused_done : (list : List ℕ) {told : Sent} {q : SendRefusal} → told ≡ answer_of outcome → told ≡ Refused q → list ≡ after (λ p. p.named) outcome list
+  refused_done list d e = rw (refused_told d e) refl
 
   -- What acceptance tells, where so many servers are named.
   pub record Told (named : ℕ) : Type 0 where
@@ -139,14 +139,14 @@ module _ (count position m space : ℕ) where
     pub fits : named ≤ space
     pub is : outcome ≡ accepted (period count position m)
 
-  pub accepted-told : {told : Sent} {named next : ℕ} → told ≡ answer_of outcome → told ≡ Accepted named next → Told named
-  accepted-told {told = told} {named = named} d e = go reason
+  pub accepted_told : {told : Sent} {named next : ℕ} → told ≡ answer_of outcome → told ≡ Accepted named next → Told named
+  accepted_told {told = told} {named = named} d e = go reason
     where
       never : {q : SendRefusal} → outcome ≡ refused q → Told named
       never is = absurd (suc-ne-zero 0 (cc (ap answer_of is)))
 
       go : Reason → Told named
-      go (no-messages is h) = never is
+      go (no_messages is h) = never is
       go (out_of_range is h k) = never is
       go (short is h k l) = never is
       go (whole is h k l) =
@@ -155,9 +155,9 @@ module _ (count position m space : ℕ) where
           record { inside = k; counted = counted; fits = omega arith; is = is }
 
   -- Servers named at the front of a list that has space for them are what the outcome leaves there.
-  pub named-done : (list : List ℕ) {named : ℕ} {front : List ℕ} → space ≡ length list → Told named → front ≡ servers_from count position (length (take named list))
+  pub named_done : (list : List ℕ) {named : ℕ} {front : List ℕ} → space ≡ length list → Told named → front ≡ servers_from count position (length (take named list))
       → front ++ drop named list ≡ after (λ p. p.named) outcome list
-  named-done list {named = named} {front = front} e told f =
+  named_done list {named = named} {front = front} e told f =
       let names = servers_from count position many in
       let size : length names ≡ named = length-servers_from count position many ∙ sym told.counted in
       let same : front ≡ names = f ∙ ap (servers_from count position) (length-take-le named list (omega (arith, told.fits)) ∙ told.counted) in

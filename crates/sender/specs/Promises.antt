@@ -1,5 +1,5 @@
 -- What holds of Send, apart from any code: which answer comes, what a period names, and what a run of periods does.
--- proofs/Promises.antt proves each: `AnsweredExactly` as `answered-exactly`, and so on.
+-- proofs/Promises.antt proves each: `AnsweredExactly` as `answered_exactly`, and so on.
 use Rattle.std.specs.Prelude.{◌≡◌, ◌↔◌, ℕ, zero, suc, ◌+◌, ◌-◌, ◌/◌, ◌≤◌, ◌<◌, length, get_or}
 use mathlib.Core.List.{List, [], ◌∷◌, Memᴰ, flatten}
 use Rattle.sender.specs.Period.{following, position_after, named_count, Period, period}
@@ -22,7 +22,7 @@ Tells outcome number figure = (sent_number (answer_of outcome) ≡ number) × (s
 -- is too short for the servers to be named, at their count; else acceptance, which tells their count and the position after
 -- as many servers.
 pub record AnsweredExactly : Type 0 where
-  pub no-messages : (count position m space : ℕ) → Tells (sending count position m space) 27 0 ↔ (m ≡ 0)
+  pub no_messages : (count position m space : ℕ) → Tells (sending count position m space) 27 0 ↔ (m ≡ 0)
   pub out_of_range : (count position m space : ℕ) → Tells (sending count position m space) 28 1 ↔ ((1 ≤ m) × (InRange count position → ⊥))
   pub list-short : (count position m space needed : ℕ) → Tells (sending count position m space) 12 needed
       ↔ ((1 ≤ m) × InRange count position × (named_count count m ≡ needed) × (space < needed))
@@ -40,7 +40,7 @@ pub record Kept (count position m space : ℕ) (p : Period) : Type 0 where
   pub next : p.next ≡ following count (get_or p.named (length p.named - 1) 0)
   -- Each one named is a server of the count, and none is named twice.
   pub servers : (i : ℕ) → i < length p.named → get_or p.named i 0 < count
-  pub never-twice : (i j : ℕ) → i < j → j < length p.named → get_or p.named i 0 ≡ get_or p.named j 0 → ⊥
+  pub never_twice : (i j : ℕ) → i < j → j < length p.named → get_or p.named i 0 ≡ get_or p.named j 0 → ⊥
   -- Where m is the count or more, each server is named.
   pub each : count ≤ m → (server : ℕ) → server < count → Memᴰ server p.named
   -- With count, m and list unchanged, the period that begins at the new position is accepted too.

@@ -9,26 +9,26 @@ use Rattle.outcomes.specs.Outcome.{after}
 use Rattle.words.specs.Bytes.{words_of, bytes_of}
 use Rattle.words.proofs.Bytes.{take-loaded}
 use Rattle.calls.specs.Call.{answered, OutcomeCall}
-use Rattle.calls.proofs.Calls.{answer-told, call-done}
+use Rattle.calls.proofs.Calls.{answer-told, call_done}
 use Rattle.rooms.specs.Outcome.{SheetOutcome, answer_of, sheet_number, sheet_figure, reading, reading_first, writing}
 use Rattle.rooms.specs.declared.SheetAnswer.{SheetAnswer}
 use Rattle.rooms.specs.declared.SheetAnswer.TheVariants.{Accepted, Refused}
 use Rattle.rooms.specs.Table.{most_words}
-use Rattle.rooms.proofs.Outcomes.{refused-told}
-use Rattle.rooms.proofs.Lent.{reading-first, reading-fits, Stands, writing-cut}
+use Rattle.rooms.proofs.Outcomes.{refused_told}
+use Rattle.rooms.proofs.Lent.{reading-first, reading_fits, Stands, writing-cut}
 use Rattle.sheet_bytes.specs.Call.{numbers_of, ReadCall, WriteCall}
 use Rattle.sheet_bytes.specs.Counts.{written_count}
 
 -- ---- Both calls
 
 -- An operation by way of lists of its own comes to the same outcome.
-pub outcome-done : (output : List ℕ → List ℕ) (buffer answer : List ℕ) {outcome own : SheetOutcome} {told : SheetAnswer} {buffer' answer' : List ℕ} {number figure : ℕ}
+pub outcome_done : (output : List ℕ → List ℕ) (buffer answer : List ℕ) {outcome own : SheetOutcome} {told : SheetAnswer} {buffer' answer' : List ℕ} {number figure : ℕ}
     → own ≡ outcome → 16 ≤ length answer → told ≡ answer_of own → buffer' ≡ after output own buffer
     → number ≡ sheet_number told → figure ≡ sheet_figure told → answer' ≡ answered 2 (number ∷ figure ∷ []) answer
     → OutcomeCall 2 numbers_of output outcome buffer answer 1 buffer' answer'
-outcome-done output buffer answer {outcome = outcome} {told = told} same long is o n f a =
+outcome_done output buffer answer {outcome = outcome} {told = told} same long is o n f a =
     let is' : told ≡ answer_of outcome = is ∙ ap answer_of same in
-    call-done (numbers_of outcome) answer _ (omega arith) (o ∙ ap (λ (x : SheetOutcome). after output x buffer) same)
+    call_done (numbers_of outcome) answer _ (omega arith) (o ∙ ap (λ (x : SheetOutcome). after output x buffer) same)
     (answer-told answer (n ∙ ap sheet_number is') (f ∙ ap sheet_figure is') a)
 
 -- ---- Read
@@ -51,23 +51,23 @@ module _ (sheet words table : List ℕ) {words' : List ℕ} {told : SheetAnswer}
     same-reading = reading-first sheet (length table / 4) (length words) h
 
     -- Just what is accepted is stored.
-    read-stored : {table' : List ℕ} → table' ≡ sets table 0 (bytes_of (take (length table / 4) (take count words'))) → table' ≡ after bytes_of own table
+    read_stored : {table' : List ℕ} → table' ≡ sets table 0 (bytes_of (take (length table / 4) (take count words'))) → table' ≡ after bytes_of own table
     unfolding bytes_of
-    read-stored {table' = table'} t = go told refl
+    read_stored {table' = table'} t = go told refl
       where
         go : (a : SheetAnswer) → told ≡ a → table' ≡ after bytes_of own table
         go (Accepted k) e =
             let c : count ≡ k = n ∙ ap written_count e in
-            let all = take_all (length table / 4) (take k words') (reading-fits sheet (length table / 4) (sym same-reading ∙ (stands k e).is)) in
+            let all = take_all (length table / 4) (take k words') (reading_fits sheet (length table / 4) (sym same-reading ∙ (stands k e).is)) in
             t ∙ rw (c, (stands k e).is, all) refl
         go (Refused q) e =
             let c : count ≡ 0 = n ∙ ap written_count e in
-            t ∙ rw (c, refused-told own is e, take-nil {A = ℕ} (length table / 4)) refl
+            t ∙ rw (c, refused_told own is e, take-nil {A = ℕ} (length table / 4)) refl
 
     pub read_done : (answer : List ℕ) {table' answer' : List ℕ} {number figure : ℕ} → 16 ≤ length answer
         → table' ≡ sets table 0 (bytes_of (take (length table / 4) (take count words')))
         → number ≡ sheet_number told → figure ≡ sheet_figure told → answer' ≡ answered 2 (number ∷ figure ∷ []) answer → ReadCall sheet table answer 1 table' answer'
-    read_done answer long t = outcome-done bytes_of table answer same-reading long is (read-stored t)
+    read_done answer long t = outcome_done bytes_of table answer same-reading long is (read_stored t)
 
 -- ---- Write
 
@@ -79,4 +79,4 @@ module _ (table words : List ℕ) {count : ℕ} {words' : List ℕ} (n : count �
   pub write_done : (sheet answer : List ℕ) {told : SheetAnswer} {sheet' answer' : List ℕ} {number figure : ℕ} → suc most_words ≤ length words → 16 ≤ length answer
       → told ≡ answer_of (writing (take count words') (length sheet)) → sheet' ≡ after (λ bytes. bytes) (writing (take count words') (length sheet)) sheet
       → number ≡ sheet_number told → figure ≡ sheet_figure told → answer' ≡ answered 2 (number ∷ figure ∷ []) answer → WriteCall table sheet answer 1 sheet' answer'
-  write_done sheet answer h = outcome-done (λ bytes. bytes) sheet answer (same-writing (length sheet) h)
+  write_done sheet answer h = outcome_done (λ bytes. bytes) sheet answer (same-writing (length sheet) h)

@@ -13,7 +13,7 @@ use Rattle.words.specs.Bytes.{little_endian, word, words_of, bytes_of}
 use Rattle.figures.proofs.Stores.{sets-front}
 use Rattle.words.proofs.Bytes.{length-little_endian}
 use Rattle.calls.specs.Call.{answer_bytes, holds_answer, answered, OutcomeCall}
-use Rattle.calls.proofs.Calls.{answered-long, holds_answer-short, holds_answer-long}
+use Rattle.calls.proofs.Calls.{answered_long, holds_answer_short, holds_answer_long}
 use Rattle.numbers.specs.declared.Fault.TheVariants.{TooLong, NotShortest, CutShort}
 use Rattle.rooms.specs.declared.SheetRefusal.{SheetRefusal}
 use Rattle.rooms.specs.declared.SheetRefusal.TheVariants.{BadNumber, WordMissing, WordOutOfRange, GreatestBelowLeast, SharesNotWhole, WordsLeftOver, LowsAboveLimit, OutputTooShort}
@@ -36,9 +36,9 @@ number_of-little_endian zero v h = sym h
 number_of-little_endian (suc k) v h = rw (number_of-little_endian k (v / 256) h) (omega arith)
 
 -- Eight bytes carry any count of a room.
-eight-carry : (v : ℕ) → v < 2 ^ 32 → Carry 8 v
+eight_carry : (v : ℕ) → v < 2 ^ 32 → Carry 8 v
 unfolding Carry
-eight-carry v h = omega arith
+eight_carry v h = omega arith
 
 -- One byte, and the bytes of what is above it.
 little_endian-above : (k b v : ℕ) → b < 256 → little_endian (suc k) (b + 256 * v) ≡ b ∷ little_endian k v
@@ -80,7 +80,7 @@ module _ (number figure : ℕ) (answer : List ℕ) (h : 16 ≤ length answer) wh
   laid_out : answered 2 (number ∷ figure ∷ []) answer ≡ both ++ drop 16 answer
   unfolding both answer_bytes
   laid_out =
-      answered-long 2 answer (number ∷ figure ∷ []) (omega arith)
+      answered_long 2 answer (number ∷ figure ∷ []) (omega arith)
       ∙ ap (λ (l : List ℕ). sets answer 0 (little_endian 8 number ++ l)) (append-nil (little_endian 8 figure))
       ∙ sets-front answer both ∙ rw (take_all (length answer) both (omega (arith, sixteen)), sixteen)
 
@@ -89,18 +89,18 @@ module _ (number figure : ℕ) (answer : List ℕ) (h : 16 ≤ length answer) wh
   number-told =
       rw laid_out (take-append-le 8 both (drop 16 answer) (omega (arith, sixteen)) ∙ take_at (little_endian 8 number) (little_endian 8 figure) 8 (length-little_endian 8 number))
 
-  pub figure-told : take 8 (drop 8 (answered 2 (number ∷ figure ∷ []) answer)) ≡ little_endian 8 figure
+  pub figure_told : take 8 (drop 8 (answered 2 (number ∷ figure ∷ []) answer)) ≡ little_endian 8 figure
   unfolding both
-  figure-told =
+  figure_told =
       rw laid_out (rw (drop-append-le 8 both (drop 16 answer) (omega (arith, sixteen)), drop_at (little_endian 8 number) (little_endian 8 figure) 8 (length-little_endian 8 number))
       (take_at (little_endian 8 figure) (drop 16 answer) 8 (length-little_endian 8 figure)))
 
   -- The numbers that a caller reads from there.
-  pub number-of-told : number < 2 ^ 32 → number_of (take 8 (answered 2 (number ∷ figure ∷ []) answer)) ≡ number
-  number-of-told small = rw number-told (number_of-little_endian 8 number (eight-carry number small))
+  pub number_of-told : number < 2 ^ 32 → number_of (take 8 (answered 2 (number ∷ figure ∷ []) answer)) ≡ number
+  number_of-told small = rw number-told (number_of-little_endian 8 number (eight_carry number small))
 
-  pub figure-of-told : figure < 2 ^ 32 → number_of (take 8 (drop 8 (answered 2 (number ∷ figure ∷ []) answer))) ≡ figure
-  figure-of-told small = rw figure-told (number_of-little_endian 8 figure (eight-carry figure small))
+  pub figure_of_told : figure < 2 ^ 32 → number_of (take 8 (drop 8 (answered 2 (number ∷ figure ∷ []) answer))) ≡ figure
+  figure_of_told small = rw figure_told (number_of-little_endian 8 figure (eight_carry figure small))
 
 -- A refusal's number is none of an accepted call.
 refusal-number : (q : SheetRefusal) → (0 < sheet_refusal_number q) × (sheet_refusal_number q ≤ 12)
@@ -118,12 +118,12 @@ refusal-number (OutputTooShort p) = omega arith
 -- ---- Calls that are accepted
 
 -- A call that returned 1 had space for its answer.
-returned-one : (answer : List ℕ) {r : ℕ} → r ≡ cond (holds_answer 2 answer) 1 0 → r ≡ 1 → 16 ≤ length answer
-returned-one answer c e = go (leb 16 (length answer)) refl
+returned_one : (answer : List ℕ) {r : ℕ} → r ≡ cond (holds_answer 2 answer) 1 0 → r ≡ 1 → 16 ≤ length answer
+returned_one answer c e = go (leb 16 (length answer)) refl
   where
     go : (t : Bool) → leb 16 (length answer) ≡ t → 16 ≤ length answer
     go true l = leb-true 16 (length answer) l
-    go false l = let z : ◌≡◌ {A = ℕ} 1 0 = sym e ∙ c ∙ rw (holds_answer-short 2 answer (omega (arith, leb-false 16 (length answer) l))) in absurd (omega arith)
+    go false l = let z : ◌≡◌ {A = ℕ} 1 0 = sym e ∙ c ∙ rw (holds_answer_short 2 answer (omega (arith, leb-false 16 (length answer) l))) in absurd (omega arith)
 
 -- What a call wrote, by its figure, and what it left of its output.
 pub record Wrote (output : List ℕ → List ℕ) (buffer buffer' : List ℕ) (outcome : SheetOutcome) (figure : ℕ) : Type 0 where
@@ -136,32 +136,32 @@ module _ (output : List ℕ → List ℕ) (buffer answer : List ℕ) {r : ℕ} {
   pub wrote : (outcome : SheetOutcome) {figure : ℕ} → OutcomeCall 2 numbers_of output outcome buffer answer r buffer' answer' → Accepted r answer' figure
       → Wrote output buffer buffer' outcome figure
   wrote (accepted written) call a =
-      let long = returned-one answer call.returned a.returned in
+      let long = returned_one answer call.returned a.returned in
       record {
         written = written;
         is = refl;
-        counted = λ h. sym a.figure-is ∙ ap (λ (l : List ℕ). number_of (take 8 (drop 8 l))) call.answer-after ∙ figure-of-told 0 (length written) answer long h;
-        left = call.buffers-after ∙ rw (holds_answer-long 2 answer (omega arith)) refl;
+        counted = λ h. sym a.figure_is ∙ ap (λ (l : List ℕ). number_of (take 8 (drop 8 l))) call.answer-after ∙ figure_of_told 0 (length written) answer long h;
+        left = call.buffers_after ∙ rw (holds_answer_long 2 answer (omega arith)) refl;
       }
   wrote (refused q) call a =
-      let long = returned-one answer call.returned a.returned in
+      let long = returned_one answer call.returned a.returned in
       let n = refusal-number q in
       let z : sheet_refusal_number q ≡ 0 =
-      sym (number-of-told (sheet_refusal_number q) _ answer long (omega arith)) ∙ ap (λ (l : List ℕ). number_of (take 8 l)) (sym call.answer-after) ∙ a.number in
+      sym (number_of-told (sheet_refusal_number q) _ answer long (omega arith)) ∙ ap (λ (l : List ℕ). number_of (take 8 l)) (sym call.answer-after) ∙ a.number in
       absurd (omega arith)
 
   -- And the other way round: of an outcome that is accepted, a call with space for its answer tells so.
-  pub accepted-so : {outcome : SheetOutcome} (written : List ℕ) → outcome ≡ accepted written → length written < 2 ^ 32 → 16 ≤ length answer
+  pub accepted_so : {outcome : SheetOutcome} (written : List ℕ) → outcome ≡ accepted written → length written < 2 ^ 32 → 16 ≤ length answer
       → OutcomeCall 2 numbers_of output outcome buffer answer r buffer' answer'
       → Accepted r answer' (length written) × (buffer' ≡ sets buffer 0 (output written))
-  accepted-so written e h long call = go (rw e at call)
+  accepted_so written e h long call = go (rw e at call)
     where
       go : OutcomeCall 2 numbers_of output (accepted written) buffer answer r buffer' answer' → Accepted r answer' (length written) × (buffer' ≡ sets buffer 0 (output written))
       go call = (
         record {
-          returned = call.returned ∙ rw (holds_answer-long 2 answer (omega arith)) refl;
-          number = rw call.answer-after (number-of-told 0 (length written) answer long (omega arith));
-          figure-is = rw call.answer-after (figure-of-told 0 (length written) answer long h);
+          returned = call.returned ∙ rw (holds_answer_long 2 answer (omega arith)) refl;
+          number = rw call.answer-after (number_of-told 0 (length written) answer long (omega arith));
+          figure_is = rw call.answer-after (figure_of_told 0 (length written) answer long h);
         },
-        call.buffers-after ∙ rw (holds_answer-long 2 answer (omega arith)) refl,
+        call.buffers_after ∙ rw (holds_answer_long 2 answer (omega arith)) refl,
       )

@@ -1,5 +1,5 @@
 -- What the C calls of Read and of Write promise of each other, in bytes. Statements only; proofs/Promises.antt proves each:
--- `SheetWritesBack` as `sheet-writes-back`, and so on.
+-- `SheetWritesBack` as `sheet_writes_back`, and so on.
 use Rattle.std.specs.Prelude.{◌≡◌, List, [], ◌∷◌, ℕ, ◌+◌, ◌*◌, ◌/◌, ◌≤◌, length, take, drop}
 use Rattle.std.proofs.lemmas.List.Edits.{sets}
 use Rattle.figures.specs.Bounds.{AllBelow}
@@ -15,7 +15,7 @@ number_of (byte ∷ bytes) = byte + 256 * number_of bytes
 pub record Accepted (r : ℕ) (answer : List ℕ) (figure : ℕ) : Type 0 where
   pub returned : r ≡ 1
   pub number : number_of (take 8 answer) ≡ 0
-  pub figure-is : number_of (take 8 (drop 8 answer)) ≡ figure
+  pub figure_is : number_of (take 8 (drop 8 answer)) ≡ figure
 
 -- A sheet is read, and the words that were read are written to a copy that is no shorter than the sheet. That is accepted, and
 -- the copy has the sheet at its front; its further bytes are unchanged.

@@ -1,16 +1,16 @@
 -- The promises, each proved under its name.
 use Rattle.splits.specs.Promises.{SplitWhole, SplitWithin, ShortWaySplits, LongWaySplits}
-use Rattle.splits.proofs.Splits.{split-sum, split-le}
-use Rattle.splits.proofs.Ways.{split_in-is, short-fits}
+use Rattle.splits.proofs.Splits.{split-sum, split_le}
+use Rattle.splits.proofs.Ways.{split_in_is, short_fits}
 
-pub split-whole : SplitWhole
-split-whole = split-sum
+pub split_whole : SplitWhole
+split_whole = split-sum
 
 pub split-within : SplitWithin
-split-within = split-le
+split-within = split_le
 
-pub short-way-splits : ShortWaySplits
-short-way-splits amount weights short-amount short-weights = split_in-is 32 amount weights (short-fits amount _ short-amount short-weights)
+pub short_way_splits : ShortWaySplits
+short_way_splits amount weights short_amount short_weights = split_in_is 32 amount weights (short_fits amount _ short_amount short_weights)
 
-pub long-way-splits : LongWaySplits
-long-way-splits = split_in-is 64
+pub long_way_splits : LongWaySplits
+long_way_splits = split_in_is 64

@@ -8,7 +8,7 @@ use native.Mathlib.Nat.{le_trans, le_of_eq, mul-le-mul_left, mul-zero, zero-div,
 use native.Mathlib.Omega.{arith}
 use Rattle.figures.specs.Figures.{total, at, sum_of}
 use Rattle.figures.specs.Sums.{on, sum}
-use Rattle.figures.proofs.Sums.{sum-cong}
+use Rattle.figures.proofs.Sums.{sum_cong}
 use Rattle.splits.specs.Split.{part, parts_after, split}
 
 pub div_mono : (a b e : ℕ) → a ≤ b → a / e ≤ b / e
@@ -20,10 +20,10 @@ div_mono a b e h = go (eq-zero-or-pos e)
 
 -- ---- The parts telescope
 
-telescope-step : (x e c d a : ℕ) (b : Bool) → a ≡ x * c / e → a + on b (part x e c d) ≡ x * (c + on b d) / e
+telescope_step : (x e c d a : ℕ) (b : Bool) → a ≡ x * c / e → a + on b (part x e c d) ≡ x * (c + on b d) / e
 unfolding part
-telescope-step x e c d a true h = omega (arith, div_mono (x * c) (x * (c + d)) e (omega arith))
-telescope-step x e c d a false h = omega (arith, ap (λ (y : ℕ). x * y / e) (add-zero c))
+telescope_step x e c d a true h = omega (arith, div_mono (x * c) (x * (c + d)) e (omega arith))
+telescope_step x e c d a false h = omega (arith, ap (λ (y : ℕ). x * y / e) (add-zero c))
 
 -- The parts of the children before the k-th, of those of which a test holds, make up the part of their sum.
 pub telescope : (x e c : ℕ) (t : ℕ → Bool) (d : ℕ → ℕ) (k : ℕ)
@@ -34,14 +34,14 @@ telescope x e c t d (suc k) =
     let s : ℕ = sum k (λ i. on (t i) (d i)) in
     let o : ℕ = on (t k) (part x e (c + s) (d k)) in
     sym (add_assoc (x * c / e) (sum k (λ i. on (t i) (part x e (c + sum i (λ h. on (t h) (d h))) (d i)))) o)
-    ∙ telescope-step x e (c + s) (d k) _ (t k) (telescope x e c t d k)
+    ∙ telescope_step x e (c + s) (d k) _ (t k) (telescope x e c t d k)
     ∙ ap (λ (y : ℕ). x * y / e) (add_assoc c s (on (t k) (d k)))
 
-pub telescope-all : (x e : ℕ) (t : ℕ → Bool) (d : ℕ → ℕ) (k : ℕ)
+pub telescope_all : (x e : ℕ) (t : ℕ → Bool) (d : ℕ → ℕ) (k : ℕ)
     → sum k (λ i. on (t i) (part x e (sum i (λ h. on (t h) (d h))) (d i))) ≡ x * sum k (λ i. on (t i) (d i)) / e
-telescope-all x e t d k =
+telescope_all x e t d k =
     let a : sum k (λ i. on (t i) (part x e (sum i (λ h. on (t h) (d h))) (d i))) ≡ sum k (λ i. on (t i) (part x e (0 + sum i (λ h. on (t h) (d h))) (d i)))
-    = sum-cong k _ _ (λ i l. ap (λ (z : ℕ). on (t i) (part x e z (d i))) (sym (zero-add (sum i (λ h. on (t h) (d h)))))) in
+    = sum_cong k _ _ (λ i l. ap (λ (z : ℕ). on (t i) (part x e z (d i))) (sym (zero-add (sum i (λ h. on (t h) (d h)))))) in
     omega (
       arith,
       telescope x e 0 t d k,
@@ -53,9 +53,9 @@ telescope-all x e t d k =
 -- ---- One part
 
 -- A child gets no more than its weight where the amount is at most the whole weight.
-pub part-le : (x e c d : ℕ) → x ≤ e → part x e c d ≤ d
+pub part_le : (x e c d : ℕ) → x ≤ e → part x e c d ≤ d
 unfolding part
-part-le x e c d h = go (eq-zero-or-pos e)
+part_le x e c d h = go (eq-zero-or-pos e)
   where
     go : (e ≡ 0) ⊎ (0 < e) → x * (c + d) / e - x * c / e ≤ d
     go (inl z) = rw z (simp div-zero (omega arith))
@@ -68,8 +68,8 @@ unfolding part
 part_none x e c = omega (arith, ap (λ (y : ℕ). x * y / e) (add-zero c))
 
 -- An amount of at most the whole weight is given whole.
-pub part-whole : (x e : ℕ) → x ≤ e → x * e / e ≡ x
-part-whole x e h = go (eq-zero-or-pos e)
+pub part_whole : (x e : ℕ) → x ≤ e → x * e / e ≡ x
+part_whole x e h = go (eq-zero-or-pos e)
   where
     go : (e ≡ 0) ⊎ (0 < e) → x * e / e ≡ x
     go (inl z) = let y : x ≡ 0 = omega arith in rw (z, div-zero, y)
@@ -78,15 +78,15 @@ part-whole x e h = go (eq-zero-or-pos e)
 -- ---- One quotient
 
 -- Nothing is dealt where nothing was served.
-pub quotient-none : (x u e : ℕ) → u ≡ 0 → x * u / e ≡ 0
-quotient-none x u e z = ap (λ (y : ℕ). x * y / e) z ∙ ap (λ (y : ℕ). y / e) (mul-zero x) ∙ zero-div e
+pub quotient_none : (x u e : ℕ) → u ≡ 0 → x * u / e ≡ 0
+quotient_none x u e z = ap (λ (y : ℕ). x * y / e) z ∙ ap (λ (y : ℕ). y / e) (mul-zero x) ∙ zero-div e
 
 -- A quotient of an amount by a sum of the weights is no more than the amount.
-pub quotient-most : (x u e : ℕ) → u ≤ e → x * u / e ≤ x
-quotient-most x u e h = go (eq-zero-or-pos e)
+pub quotient_most : (x u e : ℕ) → u ≤ e → x * u / e ≤ x
+quotient_most x u e h = go (eq-zero-or-pos e)
   where
     go : (e ≡ 0) ⊎ (0 < e) → x * u / e ≤ x
-    go (inl z) = omega (arith, quotient-none x u e (omega arith))
+    go (inl z) = omega (arith, quotient_none x u e (omega arith))
     go (inr q) = le_trans (div_mono (x * u) (x * e) e (mul-le-mul_left x h)) (le_of_eq (mul-div_cancel x q))
 
 -- Where the weights sum to 0, 1 may stand for their sum: what is divided is 0.
@@ -94,7 +94,7 @@ pub quotient_by : (x u e : ℕ) → u ≤ e → x * u / max e 1 ≡ x * u / e
 quotient_by x u e h = go (eq-zero-or-pos e)
   where
     go : (e ≡ 0) ⊎ (0 < e) → x * u / max e 1 ≡ x * u / e
-    go (inl z) = quotient-none x u (max e 1) (omega arith) ∙ sym (quotient-none x u e (omega arith))
+    go (inl z) = quotient_none x u (max e 1) (omega arith) ∙ sym (quotient_none x u e (omega arith))
     go (inr q) = ap (λ (y : ℕ). x * u / y) (max-eq_left q)
 
 -- ---- The split over any list of weights
@@ -123,13 +123,13 @@ split-sum amount weights h =
       mul-div_cancel amount h,
     )
 
-parts_after-le : (x e c : ℕ) (weights : List ℕ) → x ≤ e → (k : ℕ) → at (parts_after x e c weights) k ≤ at weights k
+parts_after_le : (x e c : ℕ) (weights : List ℕ) → x ≤ e → (k : ℕ) → at (parts_after x e c weights) k ≤ at weights k
 unfolding parts_after
-parts_after-le x e c [] h k = omega arith
-parts_after-le x e c (w ∷ rest) h zero = part-le x e c w h
-parts_after-le x e c (w ∷ rest) h (suc k) = parts_after-le x e (c + w) rest h k
+parts_after_le x e c [] h k = omega arith
+parts_after_le x e c (w ∷ rest) h zero = part_le x e c w h
+parts_after_le x e c (w ∷ rest) h (suc k) = parts_after_le x e (c + w) rest h k
 
 -- No child gets more than its weight where the amount is at most their sum.
-pub split-le : (amount : ℕ) (weights : List ℕ) → amount ≤ sum_of weights → (k : ℕ) → at (split amount weights) k ≤ at weights k
+pub split_le : (amount : ℕ) (weights : List ℕ) → amount ≤ sum_of weights → (k : ℕ) → at (split amount weights) k ≤ at weights k
 unfolding split
-split-le amount weights h k = parts_after-le amount (sum_of weights) 0 weights h k
+split_le amount weights h k = parts_after_le amount (sum_of weights) 0 weights h k

@@ -1,4 +1,4 @@
--- What is promised of every split. Statements only; proofs/Promises.antt proves each: `SplitWhole` as `split-whole`, and so on.
+-- What is promised of every split. Statements only; proofs/Promises.antt proves each: `SplitWhole` as `split_whole`, and so on.
 use Rattle.std.specs.Prelude.{◌≡◌, List, ℕ, ◌*◌, ◌^◌, ◌≤◌, ◌<◌}
 use Rattle.figures.specs.Figures.{at, sum_of}
 use Rattle.splits.specs.Split.{split}

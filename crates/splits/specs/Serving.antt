@@ -7,14 +7,14 @@ use Rattle.splits.specs.Split.{part}
 -- A child of some weight may be served by the node at place p, which has an amount for children of weights that sum to `whole`.
 -- The amount may be above that sum.
 pub record MayServe (amount whole weight p : ℕ) (before dealt : List ℕ) : Type 0 where
-  pub before-has : p < length before
-  pub dealt-has : p < length dealt
+  pub before_has : p < length before
+  pub dealt_has : p < length dealt
   pub room : at before p + weight ≤ whole
   pub fits : amount * whole < 2 ^ 64
-  pub dealt-is : at dealt p ≡ amount * at before p / whole
+  pub dealt_is : at dealt p ≡ amount * at before p / whole
 
 -- It was served: its part, and the lists after it.
 pub record HasServed (amount whole weight p : ℕ) (before dealt : List ℕ) (watts : ℕ) (before' dealt' : List ℕ) : Type 0 where
-  pub watts-are : watts ≡ part amount whole (at before p) weight
-  pub before-is : before' ≡ set before p (at before p + weight)
-  pub dealt-is : dealt' ≡ set dealt p (amount * (at before p + weight) / whole)
+  pub watts_are : watts ≡ part amount whole (at before p) weight
+  pub before_is : before' ≡ set before p (at before p + weight)
+  pub dealt_is : dealt' ≡ set dealt p (amount * (at before p + weight) / whole)

@@ -11,7 +11,7 @@ use lib.Seq.{sets, take-suc, length-take-le}
 use Rattle.figures.specs.Bounds.{AllBelow}
 use Rattle.words.specs.Bytes.{little_endian, word, word_at, words_of, bytes_of, number_stored}
 use Rattle.figures.proofs.Stores.{sets-append, take-sets, take_min}
-use Rattle.figures.proofs.Bounds.{nil-below, cons-below}
+use Rattle.figures.proofs.Bounds.{nil_below, cons_below}
 
 -- ---- length
 
@@ -35,14 +35,14 @@ length-bytes_of (w ∷ words) = omega (arith, length-bytes_of words)
 
 -- ---- range
 
-pub below-words_of : (bytes : List ℕ) → AllBelow 256 bytes → AllBelow (2 ^ 32) (words_of bytes)
+pub below_words_of : (bytes : List ℕ) → AllBelow 256 bytes → AllBelow (2 ^ 32) (words_of bytes)
 unfolding words_of
-below-words_of [] h = nil-below (2 ^ 32) (omega arith)
-below-words_of (a ∷ []) h = nil-below (2 ^ 32) (omega arith)
-below-words_of (a ∷ b ∷ []) h = nil-below (2 ^ 32) (omega arith)
-below-words_of (a ∷ b ∷ c ∷ []) h = nil-below (2 ^ 32) (omega arith)
-below-words_of (a ∷ b ∷ c ∷ d ∷ bytes) h =
-    cons-below (2 ^ 32) (word a b c d) (words_of bytes) (omega (arith, h 0, h 1, h 2, h 3)) (below-words_of bytes (λ i. h (suc (suc (suc (suc i))))))
+below_words_of [] h = nil_below (2 ^ 32) (omega arith)
+below_words_of (a ∷ []) h = nil_below (2 ^ 32) (omega arith)
+below_words_of (a ∷ b ∷ []) h = nil_below (2 ^ 32) (omega arith)
+below_words_of (a ∷ b ∷ c ∷ []) h = nil_below (2 ^ 32) (omega arith)
+below_words_of (a ∷ b ∷ c ∷ d ∷ bytes) h =
+    cons_below (2 ^ 32) (word a b c d) (words_of bytes) (omega (arith, h 0, h 1, h 2, h 3)) (below_words_of bytes (λ i. h (suc (suc (suc (suc i))))))
 
 -- ---- one word, and round trip
 
@@ -71,10 +71,10 @@ words_of-bytes_of (w ∷ words) h = rw (word-little_endian w (h 0), words_of-byt
 -- ---- turns of loops
 
 -- A turn of a loop that puts the k bytes of a number: the low byte of what is left, and the bytes above it still to come.
-pub sets-little_endian-turn : (bytes : List ℕ) (at i k v : ℕ) → i < k
+pub sets-little_endian_turn : (bytes : List ℕ) (at i k v : ℕ) → i < k
     → sets (set bytes (at + i) (v % 256)) (at + (i + 1)) (little_endian (k - (i + 1)) (v / 256)) ≡ sets bytes (at + i) (little_endian (k - i) v)
 unfolding little_endian
-sets-little_endian-turn bytes at i k v h =
+sets-little_endian_turn bytes at i k v h =
     let left : k - i ≡ suc (k - (i + 1)) = omega arith in
     let next : at + (i + 1) ≡ suc (at + i) = omega arith in
     rw (left, next)
@@ -85,10 +85,10 @@ bytes_of-append [] w = refl
 bytes_of-append (x ∷ v) w = rw (bytes_of-append v w) (sym (append_assoc (little_endian 4 x) (bytes_of v) (bytes_of w)))
 
 -- A turn of a loop that puts words: one more word behind those that are there.
-pub sets-bytes_of-turn : (bytes words : List ℕ) (i : ℕ) → i < length words
+pub sets-bytes_of_turn : (bytes words : List ℕ) (i : ℕ) → i < length words
     → sets (sets bytes 0 (bytes_of (take i words))) (4 * i) (little_endian 4 (get_or words i 0)) ≡ sets bytes 0 (bytes_of (take (i + 1) words))
 unfolding bytes_of
-sets-bytes_of-turn bytes words i h =
+sets-bytes_of_turn bytes words i h =
     let e : 0 + length (bytes_of (take i words)) ≡ 4 * i = omega (arith, length-bytes_of (take i words), length-take-le i words (omega arith)) in
     sym (rw (add-one, take-suc words i 0, bytes_of-append, sets-append, e, append-nil))
 
@@ -105,10 +105,10 @@ take-loaded k n bytes list list' hk hn hl =
 
 module _ (number : ℕ) (bytes : List ℕ) (at : ℕ) where
   -- Bytes that do not reach so far are left alone.
-  pub number_stored-short : length bytes < at + 8 → number_stored number bytes at ≡ bytes
+  pub number_stored_short : length bytes < at + 8 → number_stored number bytes at ≡ bytes
   unfolding number_stored
-  number_stored-short h = rw (lt-leb (at + 8) (length bytes) h)
+  number_stored_short h = rw (lt-leb (at + 8) (length bytes) h)
 
-  pub number_stored-whole : at + 8 ≤ length bytes → number_stored number bytes at ≡ sets bytes at (little_endian 8 number)
+  pub number_stored_whole : at + 8 ≤ length bytes → number_stored number bytes at ≡ sets bytes at (little_endian 8 number)
   unfolding number_stored
-  number_stored-whole h = rw (le-leb (at + 8) (length bytes) h)
+  number_stored_whole h = rw (le-leb (at + 8) (length bytes) h)

@@ -2,7 +2,7 @@
 use mathlib.Core.Path.{sym}
 use mathlib.Core.List.{[], ◌∷◌}
 use native.Mathlib.Omega.{arith}
-use Rattle.calls.proofs.Calls.{answered-short, three-stored}
+use Rattle.calls.proofs.Calls.{answered_short, three_stored}
 use Rattle.calls.proofs.store_long_answer.Goals as goal
 
 pub returns-then-answer-lt-LONG_ANSWER_BYTES : goal.returns-then-answer-lt-LONG_ANSWER_BYTES
@@ -10,7 +10,7 @@ returns-then-answer-lt-LONG_ANSWER_BYTES c =
     record {
       stored =
           let args = c.args in
-          sym (answered-short 3 args.answer.now (args.number ∷ args.first ∷ args.second ∷ []) (omega arith));
+          sym (answered_short 3 args.answer.now (args.number ∷ args.first ∷ args.second ∷ []) (omega arith));
     }
 
 pub returns : goal.returns
@@ -18,5 +18,5 @@ returns c =
     record {
       stored =
           let args = c.args in
-          three-stored args.number args.first args.second args.answer.now (omega (arith, c)) c.store_answer.ensures.stored c.store_number.ensures.stored;
+          three_stored args.number args.first args.second args.answer.now (omega (arith, c)) c.store_answer.ensures.stored c.store_number.ensures.stored;
     }

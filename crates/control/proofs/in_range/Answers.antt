@@ -2,8 +2,8 @@
 use mathlib.Core.Path.{sym, ap, ◌∙◌}
 use lib.Ieee.{Float, le, of_bits}
 use Rattle.control.specs.Step.{float0, most_watts}
-use Rattle.control.proofs.Tests.{and-true, false-and}
-use Rattle.control.proofs.FloatChoice.{range-of-two}
+use Rattle.control.proofs.Tests.{and_true, false_and}
+use Rattle.control.proofs.FloatChoice.{range_of_two}
 use Rattle.control.proofs.in_range.Goals as goal
 
 pub returns-then-lesser : goal.returns-then-lesser
@@ -11,8 +11,8 @@ unfolding of_bits
 returns-then-lesser c =
     record {
       result =
-          and-true (sym (ap (le float0) c.lesser.ensures.result) ∙ c.if-lesser.true) (ap (λ (x : Float). le x most_watts) c.greater.ensures.result)
-          ∙ range-of-two float0 most_watts c.args.first c.args.second;
+          and_true (sym (ap (le float0) c.lesser.ensures.result) ∙ c.if-lesser.true) (ap (λ (x : Float). le x most_watts) c.greater.ensures.result)
+          ∙ range_of_two float0 most_watts c.args.first c.args.second;
     }
 
 pub returns-else-lesser : goal.returns-else-lesser
@@ -21,6 +21,6 @@ returns-else-lesser c =
     record {
       result =
           c.if-lesser.false
-          ∙ false-and _ (sym (ap (le float0) c.lesser.ensures.result) ∙ c.if-lesser.false)
-          ∙ range-of-two float0 most_watts c.args.first c.args.second;
+          ∙ false_and _ (sym (ap (le float0) c.lesser.ensures.result) ∙ c.if-lesser.false)
+          ∙ range_of_two float0 most_watts c.args.first c.args.second;
     }

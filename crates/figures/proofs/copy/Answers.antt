@@ -2,7 +2,7 @@
 use native.Mathlib.Omega.{arith}
 use mathlib.Core.Path.{refl}
 use lib.ListN.{length-set}
-use Rattle.figures.proofs.Stores.{sets-turn, sets-take}
+use Rattle.figures.proofs.Stores.{sets_turn, sets-take}
 use Rattle.figures.proofs.copy.Goals as goal
 
 pub loop-i-init : goal.loop-i-init
@@ -10,7 +10,7 @@ loop-i-init c = (omega arith, refl, refl)
 
 pub loop-i-preserved : goal.loop-i-preserved
 loop-i-preserved c = let args = c.args in
-    let turn = sets-turn args.to.now args.from.now c.loop-i.i 0 (omega arith) in
+    let turn = sets_turn args.to.now args.from.now c.loop-i.i 0 (omega arith) in
     (omega arith, (cc), simp length-set (omega arith))
 
 pub returns : goal.returns

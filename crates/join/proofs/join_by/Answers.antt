@@ -2,12 +2,12 @@
 use mathlib.Core.Path.{refl, sym}
 use native.Mathlib.Omega.{arith}
 use lib.Seq.{length-take-le}
-use Rattle.calls.proofs.Calls.{call-short}
-use Rattle.join.proofs.Together.{written-fits, count_fits, stored}
+use Rattle.calls.proofs.Calls.{call_short}
+use Rattle.join.proofs.Together.{written_fits, count_fits, stored}
 use Rattle.join.proofs.join_by.Goals as goal
 
 pub returns-then-answer-lt-ANSWER_BYTES : goal.returns-then-answer-lt-ANSWER_BYTES
-returns-then-answer-lt-ANSWER_BYTES c = record { call = call-short _ _ _ (omega arith) refl }
+returns-then-answer-lt-ANSWER_BYTES c = record { call = call_short _ _ _ (omega arith) refl }
 
 pub slice_bounds-store-end : goal.slice_bounds-store-end
 slice_bounds-store-end c = count_fits _ c.join_words-told.ensures.answers c.written_count-count.ensures.is c.join_words-told.ensures.writes
@@ -19,6 +19,6 @@ pub returns : goal.returns
 returns c =
     record {
       call =
-          stored _ c.join_words-told.ensures.answers c.written_count-count.ensures.is c.join_words-told.ensures.writes _ _ (written-fits _ _ _) (omega (arith, c.if-answer-lt-ANSWER_BYTES.false))
+          stored _ c.join_words-told.ensures.answers c.written_count-count.ensures.is c.join_words-told.ensures.writes _ _ (written_fits _ _ _) (omega (arith, c.if-answer-lt-ANSWER_BYTES.false))
           c.store.ensures.stored c.tell.ensures.told;
     }

@@ -3,21 +3,21 @@ use mathlib.Core.Path.{◌∙◌}
 use native.Mathlib.Omega.{arith}
 use Rattle.words.specs.Bytes.{words_of}
 use Rattle.words.proofs.Bytes.{length-words_of}
-use Rattle.rooms.proofs.Counts.{index-told}
-use Rattle.join.proofs.HutLaws.{counts-in, middle-there}
+use Rattle.rooms.proofs.Counts.{index_told}
+use Rattle.join.proofs.HutLaws.{counts_in, middle_there}
 use Rattle.join.proofs.middle_in.Goals as goal
 
 pub word_in-requires : goal.word_in-requires
-word_in-requires c = record { there = omega (arith, counts-in c.args.bytes.now c.requires.good) }
+word_in-requires c = record { there = omega (arith, counts_in c.args.bytes.now c.requires.good) }
 
 pub word_in-requires-2 : goal.word_in-requires-2
-word_in-requires-2 c = record { there = omega (arith, counts-in c.args.bytes.now c.requires.good) }
+word_in-requires-2 c = record { there = omega (arith, counts_in c.args.bytes.now c.requires.good) }
 
 pub returns : goal.returns
 returns c =
     record {
       is =
-          let is = index-told (words_of c.args.bytes.now) c.word_in.ensures.is c.has_percents-percents.ensures.result
+          let is = index_told (words_of c.args.bytes.now) c.word_in.ensures.is c.has_percents-percents.ensures.result
           (c.word_index.ensures.result.0 ∙ c.word_in-2.ensures.is) c.word_index.ensures.result.1 c.node_index.ensures.result in
-          (is.0, omega (arith, is.0, length-words_of c.args.bytes.now, middle-there (words_of c.args.bytes.now) c.requires.good));
+          (is.0, omega (arith, is.0, length-words_of c.args.bytes.now, middle_there (words_of c.args.bytes.now) c.requires.good));
     }

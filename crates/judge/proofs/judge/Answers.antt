@@ -3,8 +3,8 @@ use mathlib.Core.List.{List}
 use Prim.Native.Nat.{ℕ}
 use native.Mathlib.Omega.{arith}
 use Rattle.layout.specs.declared.room.Counts.{Counts}
-use Rattle.layout.proofs.Loads.{RoomFound, found, lows-long}
-use Rattle.judge.proofs.Admitting.{load_told, count-told, scale-fits, servers-fit, nodes-given, grants-fit, verdict-told}
+use Rattle.layout.proofs.Loads.{RoomFound, found, lows_long}
+use Rattle.judge.proofs.Admitting.{load_told, count-told, scale_fits, servers-fit, nodes-given, grants_fit, verdict-told}
 use Rattle.judge.proofs.judge.Goals as goal
 
 pub returns-then-grants-cords : goal.returns-then-grants-cords
@@ -19,7 +19,7 @@ returns-then-grants-cords c =
 pub slice_bounds-judge_room-end : goal.slice_bounds-judge_room-end
 slice_bounds-judge_room-end c =
     let table : List ℕ = c.args.table.now in
-    lows-long table _ c.admit-loaded.ensures.lows
+    lows_long table _ c.admit-loaded.ensures.lows
 
 pub judge_room-requires : goal.judge_room-requires
 judge_room-requires c =
@@ -29,8 +29,8 @@ judge_room-requires c =
     let counts : Counts = c.in-Good.counts in
     let room : RoomFound table demands counts = found c.admit-loaded.ensures.answer c.in-Good.is in
     record {
-      table = (nodes-given table demands grants room c.admit-loaded.ensures.lows, scale-fits table demands grants room);
-      sizes = (servers-fit table demands grants room, grants-fit table demands grants room (omega (arith, c.if-grants-cords.false)));
+      table = (nodes-given table demands grants room c.admit-loaded.ensures.lows, scale_fits table demands grants room);
+      sizes = (servers-fit table demands grants room, grants_fit table demands grants room (omega (arith, c.if-grants-cords.false)));
     }
 
 pub returns-else-grants-cords : goal.returns-else-grants-cords

@@ -1,5 +1,5 @@
 -- `tell` meets its contract: the numbers are stored one behind the other.
-use Rattle.judge.proofs.Calling.{refused-numbers, accepted-numbers}
+use Rattle.judge.proofs.Calling.{refused_numbers, accepted_numbers}
 use Rattle.judge.proofs.tell.Goals as goal
 
 pub returns-in-Accepted : goal.returns-in-Accepted
@@ -7,7 +7,7 @@ returns-in-Accepted c =
     record {
       told =
           rw c.in-Accepted.is
-          (accepted-numbers c.args.answer.now c.requires.long c.in-Accepted.verdict c.number.ensures.result c.names.ensures.result c.rank.ensures.result
+          (accepted_numbers c.args.answer.now c.requires.long c.in-Accepted.verdict c.number.ensures.result c.names.ensures.result c.rank.ensures.result
           c.store_long_answer.ensures.stored c.store_number.ensures.stored);
     }
 
@@ -16,5 +16,5 @@ returns-in-Refused c =
     record {
       told =
           rw c.in-Refused.is
-          (refused-numbers c.args.answer.now c.requires.long c.in-Refused.refusal c.number-in-Refused.ensures.result c.place.ensures.result c.store_answer.ensures.stored);
+          (refused_numbers c.args.answer.now c.requires.long c.in-Refused.refusal c.number-in-Refused.ensures.result c.place.ensures.result c.store_answer.ensures.stored);
     }

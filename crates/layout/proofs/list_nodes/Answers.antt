@@ -4,7 +4,7 @@ use native.Mathlib.Omega.{arith}
 use lib.Seq.{ext_get_or}
 use Rattle.figures.specs.Figures.{column}
 use Rattle.figures.proofs.Columns.{column-length, column-at}
-use Rattle.figures.proofs.Filled.{filled_none, filled-one}
+use Rattle.figures.proofs.Filled.{filled_none, filled_one}
 use Rattle.rooms.specs.Rows.{node_column}
 use Rattle.layout.proofs.list_nodes.Goals as goal
 
@@ -21,7 +21,7 @@ pub loop-c-smaller : goal.loop-c-smaller
 loop-c-smaller c = omega (arith, c.loop-c-test.true)
 
 pub loop-c-preserved : goal.loop-c-preserved
-loop-c-preserved c = (omega (arith, c.loop-c-test.true), filled-one _ c.loop-c.invariant.1 c.loop-c-test.true refl)
+loop-c-preserved c = (omega (arith, c.loop-c-test.true), filled_one _ c.loop-c.invariant.1 c.loop-c-test.true refl)
 
 pub shape_of-nodes : goal.shape_of-nodes
 shape_of-nodes c = omega (arith, c.loop-c.invariant.1.size_is)

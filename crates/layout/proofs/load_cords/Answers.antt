@@ -8,11 +8,11 @@ use Prim.Native.Nat.{ℕ, ◌+◌}
 use native.Mathlib.Omega.{arith}
 use lib.ListN.{get_or}
 use Rattle.rooms.proofs.Walk.{ServerHere}
-use Rattle.layout.proofs.Loading.{CordFits, loading-start, loading-end, cords-kept, lows-kept, wants-kept, ceilings-kept, needs-kept, server-here, few-cords, few-servers, server-begin, in-needs, server-end, cord-fits, server-cord}
+use Rattle.layout.proofs.Loading.{CordFits, loading_start, loading-end, cords_kept, lows_kept, wants_kept, ceilings_kept, needs_kept, server-here, few-cords, few-servers, server_begin, in_needs, server-end, cord_fits, server-cord}
 use Rattle.layout.proofs.load_cords.Goals as goal
 
 pub loop-v-init : goal.loop-v-init
-loop-v-init c = loading-start c.requires.lists c.table_scale-scale.ensures.scale c.first_server-start.ensures.result.0
+loop-v-init c = loading_start c.requires.lists c.table_scale-scale.ensures.scale c.first_server-start.ensures.result.0
 
 pub offset_bounds-table-start : goal.offset_bounds-table-start
 offset_bounds-table-start c =
@@ -108,14 +108,14 @@ pub overflow_add-c-end : goal.overflow_add-c-end
 overflow_add-c-end c = omega (arith, few-cords c.loop-v.invariant c.loop-v-test.true, c.word_index-count.ensures.result.0)
 
 pub loop-c-init : goal.loop-c-init
-loop-c-init c = server-begin c.loop-v.invariant c.loop-v-test.true refl c.short-level.ensures.result refl refl c.need_of-need.ensures.need c.word_index-count.ensures.result.0
+loop-c-init c = server_begin c.loop-v.invariant c.loop-v-test.true refl c.short-level.ensures.result refl refl c.need_of-need.ensures.need c.word_index-count.ensures.result.0
 
 pub offset_bounds-table-word : goal.offset_bounds-table-word
 offset_bounds-table-word c =
     let table : List ℕ = c.args.table.now in
     let FitsAt : Type 0 = CordFits table c.table_scale-scale.result c.loop-v.v (get_or table (c.loop-v.start + 1) 0) (get_or table (c.loop-v.start + 2) 0) c.need_of-need.result
     c.loop-c.c c.loop-c.word c.loop-c.cords c.loop-c.lows c.loop-c.wants c.loop-c.ceilings in
-    let fits : FitsAt = cord-fits c.loop-c.invariant c.loop-c-test.true in
+    let fits : FitsAt = cord_fits c.loop-c.invariant c.loop-c-test.true in
     omega (arith, fits.there)
 
 pub bounds-table-word : goal.bounds-table-word
@@ -123,7 +123,7 @@ bounds-table-word c =
     let table : List ℕ = c.args.table.now in
     let FitsAt : Type 0 = CordFits table c.table_scale-scale.result c.loop-v.v (get_or table (c.loop-v.start + 1) 0) (get_or table (c.loop-v.start + 2) 0) c.need_of-need.result
     c.loop-c.c c.loop-c.word c.loop-c.cords c.loop-c.lows c.loop-c.wants c.loop-c.ceilings in
-    let fits : FitsAt = cord-fits c.loop-c.invariant c.loop-c-test.true in
+    let fits : FitsAt = cord_fits c.loop-c.invariant c.loop-c-test.true in
     omega (arith, fits.there)
 
 pub short-node-requires : goal.short-node-requires
@@ -131,15 +131,15 @@ short-node-requires c =
     let table : List ℕ = c.args.table.now in
     let FitsAt : Type 0 = CordFits table c.table_scale-scale.result c.loop-v.v (get_or table (c.loop-v.start + 1) 0) (get_or table (c.loop-v.start + 2) 0) c.need_of-need.result
     c.loop-c.c c.loop-c.word c.loop-c.cords c.loop-c.lows c.loop-c.wants c.loop-c.ceilings in
-    let fits : FitsAt = cord-fits c.loop-c.invariant c.loop-c-test.true in
-    record { fits = fits.node-short }
+    let fits : FitsAt = cord_fits c.loop-c.invariant c.loop-c-test.true in
+    record { fits = fits.node_short }
 
 pub overflow_add-share : goal.overflow_add-share
 overflow_add-share c =
     let table : List ℕ = c.args.table.now in
     let FitsAt : Type 0 = CordFits table c.table_scale-scale.result c.loop-v.v (get_or table (c.loop-v.start + 1) 0) (get_or table (c.loop-v.start + 2) 0) c.need_of-need.result
     c.loop-c.c c.loop-c.word c.loop-c.cords c.loop-c.lows c.loop-c.wants c.loop-c.ceilings in
-    let fits : FitsAt = cord-fits c.loop-c.invariant c.loop-c-test.true in
+    let fits : FitsAt = cord_fits c.loop-c.invariant c.loop-c-test.true in
     omega (arith, fits.there)
 
 pub offset_bounds-table-word-in-loop-c : goal.offset_bounds-table-word-in-loop-c
@@ -147,7 +147,7 @@ offset_bounds-table-word-in-loop-c c =
     let table : List ℕ = c.args.table.now in
     let FitsAt : Type 0 = CordFits table c.table_scale-scale.result c.loop-v.v (get_or table (c.loop-v.start + 1) 0) (get_or table (c.loop-v.start + 2) 0) c.need_of-need.result
     c.loop-c.c c.loop-c.word c.loop-c.cords c.loop-c.lows c.loop-c.wants c.loop-c.ceilings in
-    let fits : FitsAt = cord-fits c.loop-c.invariant c.loop-c-test.true in
+    let fits : FitsAt = cord_fits c.loop-c.invariant c.loop-c-test.true in
     omega (arith, fits.there)
 
 pub bounds-table-word-in-loop-c : goal.bounds-table-word-in-loop-c
@@ -155,7 +155,7 @@ bounds-table-word-in-loop-c c =
     let table : List ℕ = c.args.table.now in
     let FitsAt : Type 0 = CordFits table c.table_scale-scale.result c.loop-v.v (get_or table (c.loop-v.start + 1) 0) (get_or table (c.loop-v.start + 2) 0) c.need_of-need.result
     c.loop-c.c c.loop-c.word c.loop-c.cords c.loop-c.lows c.loop-c.wants c.loop-c.ceilings in
-    let fits : FitsAt = cord-fits c.loop-c.invariant c.loop-c-test.true in
+    let fits : FitsAt = cord_fits c.loop-c.invariant c.loop-c-test.true in
     fits.there
 
 pub place-requires : goal.place-requires
@@ -163,23 +163,23 @@ place-requires c =
     let table : List ℕ = c.args.table.now in
     let FitsAt : Type 0 = CordFits table c.table_scale-scale.result c.loop-v.v (get_or table (c.loop-v.start + 1) 0) (get_or table (c.loop-v.start + 2) 0) c.need_of-need.result
     c.loop-c.c c.loop-c.word c.loop-c.cords c.loop-c.lows c.loop-c.wants c.loop-c.ceilings in
-    let fits : FitsAt = cord-fits c.loop-c.invariant c.loop-c-test.true in
-    record { fits = fits.server-short }
+    let fits : FitsAt = cord_fits c.loop-c.invariant c.loop-c-test.true in
+    record { fits = fits.server_short }
 
 pub short-requires : goal.short-requires
 short-requires c =
     let table : List ℕ = c.args.table.now in
     let FitsAt : Type 0 = CordFits table c.table_scale-scale.result c.loop-v.v (get_or table (c.loop-v.start + 1) 0) (get_or table (c.loop-v.start + 2) 0) c.need_of-need.result
     c.loop-c.c c.loop-c.word c.loop-c.cords c.loop-c.lows c.loop-c.wants c.loop-c.ceilings in
-    let fits : FitsAt = cord-fits c.loop-c.invariant c.loop-c-test.true in
-    record { fits = fits.share-short }
+    let fits : FitsAt = cord_fits c.loop-c.invariant c.loop-c-test.true in
+    record { fits = fits.share_short }
 
 pub offset_bounds-cords-c : goal.offset_bounds-cords-c
 offset_bounds-cords-c c =
     let table : List ℕ = c.args.table.now in
     let FitsAt : Type 0 = CordFits table c.table_scale-scale.result c.loop-v.v (get_or table (c.loop-v.start + 1) 0) (get_or table (c.loop-v.start + 2) 0) c.need_of-need.result
     c.loop-c.c c.loop-c.word c.loop-c.cords c.loop-c.lows c.loop-c.wants c.loop-c.ceilings in
-    let fits : FitsAt = cord-fits c.loop-c.invariant c.loop-c-test.true in
+    let fits : FitsAt = cord_fits c.loop-c.invariant c.loop-c-test.true in
     omega (arith, fits.few)
 
 pub bounds-cords-c : goal.bounds-cords-c
@@ -187,19 +187,19 @@ bounds-cords-c c =
     let table : List ℕ = c.args.table.now in
     let FitsAt : Type 0 = CordFits table c.table_scale-scale.result c.loop-v.v (get_or table (c.loop-v.start + 1) 0) (get_or table (c.loop-v.start + 2) 0) c.need_of-need.result
     c.loop-c.c c.loop-c.word c.loop-c.cords c.loop-c.lows c.loop-c.wants c.loop-c.ceilings in
-    let fits : FitsAt = cord-fits c.loop-c.invariant c.loop-c-test.true in
-    fits.in-cords
+    let fits : FitsAt = cord_fits c.loop-c.invariant c.loop-c-test.true in
+    fits.in_cords
 
 pub load_cord-requires : goal.load_cord-requires
 load_cord-requires c =
     let table : List ℕ = c.args.table.now in
     let FitsAt : Type 0 = CordFits table c.table_scale-scale.result c.loop-v.v (get_or table (c.loop-v.start + 1) 0) (get_or table (c.loop-v.start + 2) 0) c.need_of-need.result
     c.loop-c.c c.loop-c.word c.loop-c.cords c.loop-c.lows c.loop-c.wants c.loop-c.ceilings in
-    let fits : FitsAt = cord-fits c.loop-c.invariant c.loop-c-test.true in
+    let fits : FitsAt = cord_fits c.loop-c.invariant c.loop-c-test.true in
     let f = fits in
     record {
-      place = (f.in-lows, f.in-wants, f.in-ceilings);
-      in_range = (f.scaled, f.share-most, f.least-most, f.need-most, f.greatest-most);
+      place = (f.in_lows, f.in_wants, f.in_ceilings);
+      in_range = (f.scaled, f.share_most, f.least_most, f.need_most, f.greatest_most);
     }
 
 pub overflow_add-word-in-loop-c : goal.overflow_add-word-in-loop-c
@@ -207,7 +207,7 @@ overflow_add-word-in-loop-c c =
     let table : List ℕ = c.args.table.now in
     let FitsAt : Type 0 = CordFits table c.table_scale-scale.result c.loop-v.v (get_or table (c.loop-v.start + 1) 0) (get_or table (c.loop-v.start + 2) 0) c.need_of-need.result
     c.loop-c.c c.loop-c.word c.loop-c.cords c.loop-c.lows c.loop-c.wants c.loop-c.ceilings in
-    let fits : FitsAt = cord-fits c.loop-c.invariant c.loop-c-test.true in
+    let fits : FitsAt = cord_fits c.loop-c.invariant c.loop-c-test.true in
     omega (arith, fits.there)
 
 pub overflow_step-c : goal.overflow_step-c
@@ -215,7 +215,7 @@ overflow_step-c c =
     let table : List ℕ = c.args.table.now in
     let FitsAt : Type 0 = CordFits table c.table_scale-scale.result c.loop-v.v (get_or table (c.loop-v.start + 1) 0) (get_or table (c.loop-v.start + 2) 0) c.need_of-need.result
     c.loop-c.c c.loop-c.word c.loop-c.cords c.loop-c.lows c.loop-c.wants c.loop-c.ceilings in
-    let fits : FitsAt = cord-fits c.loop-c.invariant c.loop-c-test.true in
+    let fits : FitsAt = cord_fits c.loop-c.invariant c.loop-c-test.true in
     omega (arith, fits.few)
 
 pub loop-c-smaller : goal.loop-c-smaller
@@ -230,7 +230,7 @@ pub offset_bounds-needs-v : goal.offset_bounds-needs-v
 offset_bounds-needs-v c = omega (arith, few-servers c.loop-v.invariant c.loop-v-test.true)
 
 pub bounds-needs-v : goal.bounds-needs-v
-bounds-needs-v c = in-needs c.loop-c.invariant
+bounds-needs-v c = in_needs c.loop-c.invariant
 
 pub overflow_add-first : goal.overflow_add-first
 overflow_add-first c = omega (arith, few-cords c.loop-v.invariant c.loop-v-test.true, c.word_index-count.ensures.result.0)
@@ -245,19 +245,19 @@ pub loop-v-preserved : goal.loop-v-preserved
 loop-v-preserved c = server-end c.loop-c.invariant (omega (arith, c.loop-c-test.false))
 
 pub shape_of-cords : goal.shape_of-cords
-shape_of-cords c = cords-kept c.loop-v.invariant c.requires.lists
+shape_of-cords c = cords_kept c.loop-v.invariant c.requires.lists
 
 pub shape_of-lows : goal.shape_of-lows
-shape_of-lows c = lows-kept c.loop-v.invariant c.requires.lists
+shape_of-lows c = lows_kept c.loop-v.invariant c.requires.lists
 
 pub shape_of-wants : goal.shape_of-wants
-shape_of-wants c = wants-kept c.loop-v.invariant c.requires.lists
+shape_of-wants c = wants_kept c.loop-v.invariant c.requires.lists
 
 pub shape_of-ceilings : goal.shape_of-ceilings
-shape_of-ceilings c = ceilings-kept c.loop-v.invariant c.requires.lists
+shape_of-ceilings c = ceilings_kept c.loop-v.invariant c.requires.lists
 
 pub shape_of-needs : goal.shape_of-needs
-shape_of-needs c = needs-kept c.loop-v.invariant c.requires.lists
+shape_of-needs c = needs_kept c.loop-v.invariant c.requires.lists
 
 pub returns : goal.returns
 returns c = record { laid_out = loading-end c.loop-v.invariant c.loop-v-test.false (omega arith) }

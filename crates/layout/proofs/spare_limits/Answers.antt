@@ -3,11 +3,11 @@ use mathlib.Core.Path.{ap, ◌∙◌}
 use Prim.Native.Nat.{ℕ, ◌-◌}
 use native.Mathlib.Omega.{arith}
 use Rattle.figures.specs.Figures.{at}
-use Rattle.layout.proofs.Spare.{spare-start, spare-turn}
+use Rattle.layout.proofs.Spare.{spare_start, spare_turn}
 use Rattle.layout.proofs.spare_limits.Goals as goal
 
 pub loop-n-init : goal.loop-n-init
-loop-n-init c = spare-start
+loop-n-init c = spare_start
 
 pub bounds-limits-n : goal.bounds-limits-n
 bounds-limits-n c = omega (arith, c.loop-n.invariant.found.size_is, c.loop-n-test.true)
@@ -26,7 +26,7 @@ bounds-limits-n-in-loop-n c = omega (arith, c.loop-n.invariant.found.size_is, c.
 
 pub loop-n-preserved : goal.loop-n-preserved
 loop-n-preserved c =
-    spare-turn c.loop-n.invariant c.loop-n-test.true
+    spare_turn c.loop-n.invariant c.loop-n-test.true
     (c.narrow.ensures.result ∙ ap (λ (x : ℕ). x - at c.args.beneath.now c.loop-n.n) c.wide.ensures.result.0)
 
 pub shape_of-limits : goal.shape_of-limits

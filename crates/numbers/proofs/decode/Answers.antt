@@ -10,15 +10,15 @@ overflow_mul-second c = omega (arith, second_fits _ _ c.wide-first.ensures.resul
 
 pub overflow_mul-value : goal.overflow_mul-value
 overflow_mul-value c =
-    let second-low : c.wide-first.result / 128 * c.wide.result < 128 = c.if-second-lt128.true in
-    omega (arith, second-low)
+    let second_low : c.wide-first.result / 128 * c.wide.result < 128 = c.if-second-lt128.true in
+    omega (arith, second_low)
 
 pub overflow_add-value : goal.overflow_add-value
 overflow_add-value c =
-    let second-low : c.wide-first.result / 128 * c.wide.result < 128 = c.if-second-lt128.true in
-    omega (arith, second-low)
+    let second_low : c.wide-first.result / 128 * c.wide.result < 128 = c.if-second-lt128.true in
+    omega (arith, second_low)
 
 pub returns-then-second-lt128 : goal.returns-then-second-lt128
 returns-then-second-lt128 c =
-    let second-low : c.wide-first.result / 128 * c.wide.result < 128 = c.if-second-lt128.true in
-    record { result = paired _ _ c.wide-first.ensures.result.1 _ _ c.wide-first.ensures.result.0 c.wide.ensures.result.0 (search rules) c.if-another-second.true second-low }
+    let second_low : c.wide-first.result / 128 * c.wide.result < 128 = c.if-second-lt128.true in
+    record { result = paired _ _ c.wide-first.ensures.result.1 _ _ c.wide-first.ensures.result.0 c.wide.ensures.result.0 (search rules) c.if-another-second.true second_low }

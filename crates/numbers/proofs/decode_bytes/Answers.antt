@@ -2,7 +2,7 @@
 use borrow.Author.Rules.{rules}
 use Prim.Native.Nat.{ℕ, ◌+◌, ◌-◌, ◌*◌, ◌^◌, ◌≤◌, ◌<◌}
 use native.Mathlib.Omega.{arith}
-use Rattle.numbers.proofs.DecodeLoop.{empty, single, begin, exhausted, ended, fits, not-shortest, last, again}
+use Rattle.numbers.proofs.DecodeLoop.{empty, single, begin, exhausted, ended, fits, not_shortest, last, again}
 use Rattle.numbers.proofs.decode_bytes.Goals as goal
 
 pub returns-then-sheet-at : goal.returns-then-sheet-at
@@ -18,7 +18,7 @@ pub returns-then-sheet-next : goal.returns-then-sheet-next
 returns-then-sheet-next c = record { result = ended _ _ _ _ _ _ (search rules) c.loop-left.invariant (search rules) }
 
 pub returns-then-byte-eq0 : goal.returns-then-byte-eq0
-returns-then-byte-eq0 c = record { result = not-shortest _ _ _ _ _ _ c.wide-byte.ensures.result.0 (search rules) _ (search rules) c.loop-left.invariant (search rules) }
+returns-then-byte-eq0 c = record { result = not_shortest _ _ _ _ _ _ c.wide-byte.ensures.result.0 (search rules) _ (search rules) c.loop-left.invariant (search rules) }
 
 pub overflow_mul-result : goal.overflow_mul-result
 overflow_mul-result c =

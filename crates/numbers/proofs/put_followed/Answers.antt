@@ -2,7 +2,7 @@
 use borrow.Author.Rules.{rules}
 use native.Mathlib.Omega.{arith}
 use lib.ListN.{length-set}
-use Rattle.numbers.proofs.NumberLaws.{1≤length-form}
+use Rattle.numbers.proofs.NumberLaws.{1≤length_form}
 use Rattle.numbers.proofs.PutFollowed.{long, short}
 use Rattle.numbers.proofs.put_followed.Goals as goal
 
@@ -14,7 +14,7 @@ returns-then-value-ge16384 c =
     }
 
 pub bounds-sheet-at-2 : goal.bounds-sheet-at-2
-bounds-sheet-at-2 c = simp length-set (omega (arith, 1≤length-form c.args.value))
+bounds-sheet-at-2 c = simp length-set (omega (arith, 1≤length_form c.args.value))
 
 pub returns : goal.returns
 returns c =

@@ -1,18 +1,18 @@
 -- `admit` meets its contract: one law for each of its answers.
 use native.Mathlib.Omega.{arith}
 use Rattle.join.proofs.HutLaws.{hut-of}
-use Rattle.part.proofs.OutcomeLaws.{table-refused, no-nodes, many-nodes, many-servers}
+use Rattle.part.proofs.OutcomeLaws.{table_refused, no_nodes, many-nodes, many-servers}
 use Rattle.part.proofs.admit.Goals as goal
 
 pub returns-in-Refused : goal.returns-in-Refused
-returns-in-Refused c = record { admits = table-refused c.args.table.now c.args.nodes c.args.servers c.args.first c.args.second c.examine-examined.ensures.is c.in-Refused.is }
+returns-in-Refused c = record { admits = table_refused c.args.table.now c.args.nodes c.args.servers c.args.first c.args.second c.examine-examined.ensures.is c.in-Refused.is }
 
 pub returns-then-nodes-eq0 : goal.returns-then-nodes-eq0
 returns-then-nodes-eq0 c =
     record {
       admits =
           let hut = hut-of c.args.table.now c.examine-examined.ensures.is c.in-Good.is in
-          no-nodes c.args.table.now c.args.nodes c.args.servers c.args.first c.args.second hut c.if-nodes-eq0.true;
+          no_nodes c.args.table.now c.args.nodes c.args.servers c.args.first c.args.second hut c.if-nodes-eq0.true;
     }
 
 pub returns-then-hut-nodes : goal.returns-then-hut-nodes

@@ -3,7 +3,7 @@ use mathlib.Core.Path.{◌≡◌, ◌∙◌}
 use native.Mathlib.Omega.{arith}
 use lib.ListN.{length}
 use Rattle.rooms.specs.Table.{most_cords}
-use Rattle.figures.proofs.Filled.{filled_none, filled-one}
+use Rattle.figures.proofs.Filled.{filled_none, filled_one}
 use Rattle.plan_headroom.proofs.list_all.Goals as goal
 
 pub loop-i-init : goal.loop-i-init
@@ -16,7 +16,7 @@ pub bounds-all-i : goal.bounds-all-i
 bounds-all-i c = omega (arith, c.loop-i.invariant.size_is, c.loop-i-test.true)
 
 pub loop-i-preserved : goal.loop-i-preserved
-loop-i-preserved c = filled-one _ c.loop-i.invariant c.loop-i-test.true c.place.ensures.result
+loop-i-preserved c = filled_one _ c.loop-i.invariant c.loop-i-test.true c.place.ensures.result
 
 pub shape_of-all : goal.shape_of-all
 shape_of-all c = c.loop-i.invariant.size_is

@@ -1,7 +1,7 @@
 -- `take_wants` meets its contract: before each turn the cords passed have what they have over their wants.
 use mathlib.Core.Path.{refl}
 use native.Mathlib.Omega.{arith}
-use Rattle.figures.proofs.Filled.{filled_none, filled-one}
+use Rattle.figures.proofs.Filled.{filled_none, filled_one}
 use Rattle.plan_headroom.proofs.take_wants.Goals as goal
 
 pub loop-c-init : goal.loop-c-init
@@ -14,7 +14,7 @@ pub bounds-headroom-c : goal.bounds-headroom-c
 bounds-headroom-c c = omega (arith, c.loop-c.invariant.size_is, c.loop-c-test.true)
 
 pub loop-c-preserved : goal.loop-c-preserved
-loop-c-preserved c = filled-one _ c.loop-c.invariant c.loop-c-test.true refl
+loop-c-preserved c = filled_one _ c.loop-c.invariant c.loop-c-test.true refl
 
 pub shape_of-headroom : goal.shape_of-headroom
 shape_of-headroom c = c.loop-c.invariant.size_is

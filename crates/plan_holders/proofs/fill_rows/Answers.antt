@@ -6,11 +6,11 @@ use native.Mathlib.Omega.{arith}
 use lib.ListN.{get_or}
 use Rattle.rooms.specs.Table.{most_nodes}
 use Rattle.plan_holders.specs.Holding.{CutNodes}
-use Rattle.plan_holders.proofs.Rows.{filling-start, filling-next, filling-end}
+use Rattle.plan_holders.proofs.Rows.{filling_start, filling_next, filling_end}
 use Rattle.plan_holders.proofs.fill_rows.Goals as goal
 
 pub loop-n-init : goal.loop-n-init
-loop-n-init c = filling-start c.requires.nodes.0 c.requires.nodes.1
+loop-n-init c = filling_start c.requires.nodes.0 c.requires.nodes.1
 
 pub offset_bounds-parents-n : goal.offset_bounds-parents-n
 offset_bounds-parents-n c =
@@ -39,7 +39,7 @@ offset_bounds-cuts-n c =
 pub bounds-cuts-n : goal.bounds-cuts-n
 bounds-cuts-n c =
     let nodes : CutNodes c.args.parents.now c.args.cuts.now = c.requires.nodes.0 in
-    omega (arith, nodes.cuts-size, c.loop-n-test.true)
+    omega (arith, nodes.cuts_size, c.loop-n-test.true)
 
 pub overflow_add-n : goal.overflow_add-n
 overflow_add-n c =
@@ -83,8 +83,8 @@ loop-n-smaller c = omega (arith, c.loop-n-test.true)
 pub loop-n-preserved : goal.loop-n-preserved
 loop-n-preserved c =
     let nodes : CutNodes c.args.parents.now c.args.cuts.now = c.requires.nodes.0 in
-    filling-next nodes c.loop-n.invariant c.loop-n-test.true
+    filling_next nodes c.loop-n.invariant c.loop-n-test.true
     (ap (λ (k : ℕ). get_or c.loop-n.rows k []) c.index.ensures.result.0) refl c.place.ensures.result c.next_row.ensures.result
 
 pub returns : goal.returns
-returns c = record { holders = filling-end c.loop-n.invariant c.loop-n-test.false }
+returns c = record { holders = filling_end c.loop-n.invariant c.loop-n-test.false }

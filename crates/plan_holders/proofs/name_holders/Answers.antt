@@ -4,13 +4,13 @@ use Prim.Native.Nat.{◌≤◌, ◌<◌}
 use native.Mathlib.Omega.{arith}
 use Rattle.rooms.specs.Table.{most_nodes, most_cords, highest_rank}
 use Rattle.plan_holders.specs.Holding.{HeldLists}
-use Rattle.figures.proofs.Filled.{filled_none, filled-one, filled-all}
+use Rattle.figures.proofs.Filled.{filled_none, filled_one, filled_all}
 use Rattle.figures.proofs.Cells.{zero_rows}
-use Rattle.plan_holders.proofs.Rows.{held-is}
+use Rattle.plan_holders.proofs.Rows.{held_is}
 use Rattle.plan_holders.proofs.name_holders.Goals as goal
 
 pub fill_rows-requires : goal.fill_rows-requires
-fill_rows-requires c = record { nodes = (c.requires.lists.0.of-nodes, zero_rows 513 16) }
+fill_rows-requires c = record { nodes = (c.requires.lists.0.of_nodes, zero_rows 513 16) }
 
 pub loop-c-init : goal.loop-c-init
 loop-c-init c = filled_none _ _
@@ -42,7 +42,7 @@ offset_bounds-grants-c c =
 pub bounds-grants-c : goal.bounds-grants-c
 bounds-grants-c c =
     let lists : HeldLists c.args.parents.now c.args.cuts.now c.args.cords.now c.args.wants.now c.args.grants.now = c.requires.lists.0 in
-    omega (arith, lists.grants-size, c.loop-c-test.true)
+    omega (arith, lists.grants_size, c.loop-c-test.true)
 
 pub offset_bounds-wants-c : goal.offset_bounds-wants-c
 offset_bounds-wants-c c =
@@ -53,31 +53,31 @@ offset_bounds-wants-c c =
 pub bounds-wants-c : goal.bounds-wants-c
 bounds-wants-c c =
     let lists : HeldLists c.args.parents.now c.args.cuts.now c.args.cords.now c.args.wants.now c.args.grants.now = c.requires.lists.0 in
-    omega (arith, lists.wants-size, c.loop-c-test.true)
+    omega (arith, lists.wants_size, c.loop-c-test.true)
 
 pub offset_bounds-rows-node : goal.offset_bounds-rows-node
 offset_bounds-rows-node c =
     let lists : HeldLists c.args.parents.now c.args.cuts.now c.args.cords.now c.args.wants.now c.args.grants.now = c.requires.lists.0 in
-    let node-fits : c.index-node.result ≤ most_nodes = omega (arith, c.index-node.ensures.result.0, lists.within c.loop-c.c c.loop-c-test.true, lists.of-nodes.few) in
-    omega (arith, node-fits)
+    let node_fits : c.index-node.result ≤ most_nodes = omega (arith, c.index-node.ensures.result.0, lists.within c.loop-c.c c.loop-c-test.true, lists.of_nodes.few) in
+    omega (arith, node_fits)
 
 pub offset_bounds-rows-level : goal.offset_bounds-rows-level
 offset_bounds-rows-level c =
     let lists : HeldLists c.args.parents.now c.args.cuts.now c.args.cords.now c.args.wants.now c.args.grants.now = c.requires.lists.0 in
-    let level-fits : c.index-level.result < highest_rank = omega (arith, c.index-level.ensures.result.0, lists.ranked c.loop-c.c c.loop-c-test.true) in
-    omega (arith, level-fits)
+    let level_fits : c.index-level.result < highest_rank = omega (arith, c.index-level.ensures.result.0, lists.ranked c.loop-c.c c.loop-c-test.true) in
+    omega (arith, level_fits)
 
 pub bounds-rows-node : goal.bounds-rows-node
 bounds-rows-node c =
     let lists : HeldLists c.args.parents.now c.args.cuts.now c.args.cords.now c.args.wants.now c.args.grants.now = c.requires.lists.0 in
-    let node-fits : c.index-node.result ≤ most_nodes = omega (arith, c.index-node.ensures.result.0, lists.within c.loop-c.c c.loop-c-test.true, lists.of-nodes.few) in
-    omega (arith, node-fits)
+    let node_fits : c.index-node.result ≤ most_nodes = omega (arith, c.index-node.ensures.result.0, lists.within c.loop-c.c c.loop-c-test.true, lists.of_nodes.few) in
+    omega (arith, node_fits)
 
 pub bounds-rows-level : goal.bounds-rows-level
 bounds-rows-level c =
     let lists : HeldLists c.args.parents.now c.args.cuts.now c.args.cords.now c.args.wants.now c.args.grants.now = c.requires.lists.0 in
-    let level-fits : c.index-level.result < highest_rank = omega (arith, c.index-level.ensures.result.0, lists.ranked c.loop-c.c c.loop-c-test.true) in
-    omega (arith, level-fits)
+    let level_fits : c.index-level.result < highest_rank = omega (arith, c.index-level.ensures.result.0, lists.ranked c.loop-c.c c.loop-c-test.true) in
+    omega (arith, level_fits)
 
 pub offset_bounds-held-c : goal.offset_bounds-held-c
 offset_bounds-held-c c =
@@ -100,14 +100,14 @@ loop-c-smaller c = omega (arith, c.loop-c-test.true)
 pub loop-c-preserved : goal.loop-c-preserved
 loop-c-preserved c =
     let lists : HeldLists c.args.parents.now c.args.cuts.now c.args.cords.now c.args.wants.now c.args.grants.now = c.requires.lists.0 in
-    filled-one _ c.loop-c.invariant (omega (arith, c.requires.lists.1, c.loop-c-test.true))
-    (held-is lists c.fill_rows.ensures.holders c.loop-c-test.true c.index-node.ensures.result.0 c.index-level.ensures.result.0 c.held_by.ensures.result)
+    filled_one _ c.loop-c.invariant (omega (arith, c.requires.lists.1, c.loop-c-test.true))
+    (held_is lists c.fill_rows.ensures.holders c.loop-c-test.true c.index-node.ensures.result.0 c.index-level.ensures.result.0 c.held_by.ensures.result)
 
 pub shape_of-held : goal.shape_of-held
 shape_of-held c = c.loop-c.invariant.size_is
 
 pub returns : goal.returns
-returns c = record { named = filled-all _ _ c.loop-c.invariant c.requires.lists.1 c.loop-c-test.false (λ i l. refl) }
+returns c = record { named = filled_all _ _ c.loop-c.invariant c.requires.lists.1 c.loop-c-test.false (λ i l. refl) }
 
 pub bounds-cords-0 : goal.bounds-cords-0
 bounds-cords-0 c = omega arith

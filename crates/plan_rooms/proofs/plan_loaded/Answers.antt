@@ -15,61 +15,61 @@ use Rattle.rooms.specs.Lists.{limits_of, levels_of, lows_of}
 use Rattle.rooms.specs.Rows.{node_column}
 use Rattle.deals.specs.SecondDeal.{first_used}
 use Rattle.figures.proofs.Cells.{zeros-front}
-use Rattle.figures.proofs.Fronts.{equal-length, front_length, Lent, lent, lent-zeros, rejoined, lent_length, lent_again, lent-few, lent-front}
+use Rattle.figures.proofs.Fronts.{equal_length, front_length, Lent, lent, lent-zeros, rejoined, lent_length, lent_again, lent_few, lent-front}
 use Rattle.plan_headroom.specs.Lending.{LendGiven}
 use Rattle.plan_holders.specs.Holding.{HeldLists}
 use Rattle.plan_rooms.specs.Planning.{RoomToDeal, DealtTwice, PlanGiven}
 use Rattle.deals.proofs.Plans.{each}
-use Rattle.plan_rooms.proofs.Planning.{blank-marks, second-dealt}
-use Rattle.plan_rooms.proofs.Following.{held-lists, lend-given, held-made, headroom-made}
-use Rattle.plan_rooms.proofs.Given.{given-ok, nodes-few, cords-few, parents-long, spare-long, cords-long, lows-long, wants-long, headroom-long, caps-long, to-deal, ceilings-given, stands}
+use Rattle.plan_rooms.proofs.Planning.{blank_marks, second_dealt}
+use Rattle.plan_rooms.proofs.Following.{held-lists, lend_given, held_made, headroom_made}
+use Rattle.plan_rooms.proofs.Given.{given_ok, nodes_few, cords_few, parents_long, spare_long, cords_long, lows_long, wants_long, headroom_long, caps_long, to_deal, ceilings_given, stands}
 use Rattle.plan_rooms.proofs.plan_loaded.Goals as goal
 
 -- A list of zeros is long enough.
 blank-long : {n most : ℕ} → n ≤ most → n ≤ length {A = ℕ} (replicate most 0)
-blank-long {most = most} few = omega (arith, equal-length {A = ℕ} most 0)
+blank-long {most = most} few = omega (arith, equal_length {A = ℕ} most 0)
 
 pub slice_bounds-list_nodes-end : goal.slice_bounds-list_nodes-end
 slice_bounds-list_nodes-end c =
     let GivenAt : (table demands : List ℕ) → Room → Type 0 = λ table demands r. PlanGiven table demands r c.args.counts c.args.parents.now c.args.left.now c.args.cords.now c.args.lows.now c.args.wants.now
     c.args.headroom.now c.args.caps.now in
     let some : GivenAt c.requires.room.table c.requires.room.demands c.requires.room.room = c.requires.room.given in
-    front_length _ _ (cords-long some)
+    front_length _ _ (cords_long some)
 
 pub slice_bounds-nodes-end : goal.slice_bounds-nodes-end
 slice_bounds-nodes-end c =
     let GivenAt : (table demands : List ℕ) → Room → Type 0 = λ table demands r. PlanGiven table demands r c.args.counts c.args.parents.now c.args.left.now c.args.cords.now c.args.lows.now c.args.wants.now
     c.args.headroom.now c.args.caps.now in
     let some : GivenAt c.requires.room.table c.requires.room.demands c.requires.room.room = c.requires.room.given in
-    blank-long (cords-few some)
+    blank-long (cords_few some)
 
 pub slice_bounds-list_nodes-end-2 : goal.slice_bounds-list_nodes-end-2
 slice_bounds-list_nodes-end-2 c =
     let GivenAt : (table demands : List ℕ) → Room → Type 0 = λ table demands r. PlanGiven table demands r c.args.counts c.args.parents.now c.args.left.now c.args.cords.now c.args.lows.now c.args.wants.now
     c.args.headroom.now c.args.caps.now in
     let some : GivenAt c.requires.room.table c.requires.room.demands c.requires.room.room = c.requires.room.given in
-    sym (zeros-front most_cords _ (cords-few some))
+    sym (zeros-front most_cords _ (cords_few some))
 
 pub list_nodes-requires : goal.list_nodes-requires
 list_nodes-requires c =
     let GivenAt : (table demands : List ℕ) → Room → Type 0 = λ table demands r. PlanGiven table demands r c.args.counts c.args.parents.now c.args.left.now c.args.cords.now c.args.lows.now c.args.wants.now
     c.args.headroom.now c.args.caps.now in
     let some : GivenAt c.requires.room.table c.requires.room.demands c.requires.room.room = c.requires.room.given in
-    record { size = zeros-front most_cords _ (cords-few some) ∙ front_length _ _ (cords-long some) }
+    record { size = zeros-front most_cords _ (cords_few some) ∙ front_length _ _ (cords_long some) }
 
 pub slice_bounds-deal_twice-end : goal.slice_bounds-deal_twice-end
 slice_bounds-deal_twice-end c =
     let GivenAt : (table demands : List ℕ) → Room → Type 0 = λ table demands r. PlanGiven table demands r c.args.counts c.args.parents.now c.args.left.now c.args.cords.now c.args.lows.now c.args.wants.now
     c.args.headroom.now c.args.caps.now in
     let some : GivenAt c.requires.room.table c.requires.room.demands c.requires.room.room = c.requires.room.given in
-    front_length _ _ (parents-long some)
+    front_length _ _ (parents_long some)
 
 pub slice_bounds-deal_twice-end-2 : goal.slice_bounds-deal_twice-end-2
 slice_bounds-deal_twice-end-2 c =
     let GivenAt : (table demands : List ℕ) → Room → Type 0 = λ table demands r. PlanGiven table demands r c.args.counts c.args.parents.now c.args.left.now c.args.cords.now c.args.lows.now c.args.wants.now
     c.args.headroom.now c.args.caps.now in
     let some : GivenAt c.requires.room.table c.requires.room.demands c.requires.room.room = c.requires.room.given in
-    front_length _ _ (cords-long some)
+    front_length _ _ (cords_long some)
 
 pub slice_bounds-nodes-end-2 : goal.slice_bounds-nodes-end-2
 slice_bounds-nodes-end-2 c =
@@ -78,8 +78,8 @@ slice_bounds-nodes-end-2 c =
     c.args.headroom.now c.args.caps.now in
     let some : GivenAt c.requires.room.table c.requires.room.demands c.requires.room.room = c.requires.room.given in
     let nodes-back : List ℕ = c.list_nodes.new.nodes in
-    let nodes-lent : Lent count-cords (replicate most_cords 0) nodes-back = lent-zeros most_cords (cords-few some) c.list_nodes.auto.nodes in
-    lent-few nodes-lent
+    let nodes-lent : Lent count-cords (replicate most_cords 0) nodes-back = lent-zeros most_cords (cords_few some) c.list_nodes.auto.nodes in
+    lent_few nodes-lent
 
 pub slice_bounds-deal_twice-end-3 : goal.slice_bounds-deal_twice-end-3
 slice_bounds-deal_twice-end-3 c =
@@ -88,7 +88,7 @@ slice_bounds-deal_twice-end-3 c =
     c.args.headroom.now c.args.caps.now in
     let some : GivenAt c.requires.room.table c.requires.room.demands c.requires.room.room = c.requires.room.given in
     let nodes-back : List ℕ = c.list_nodes.new.nodes in
-    let nodes-lent : Lent count-cords (replicate most_cords 0) nodes-back = lent-zeros most_cords (cords-few some) c.list_nodes.auto.nodes in
+    let nodes-lent : Lent count-cords (replicate most_cords 0) nodes-back = lent-zeros most_cords (cords_few some) c.list_nodes.auto.nodes in
     lent-front nodes-lent
 
 pub slice_bounds-deal_twice-end-4 : goal.slice_bounds-deal_twice-end-4
@@ -96,56 +96,56 @@ slice_bounds-deal_twice-end-4 c =
     let GivenAt : (table demands : List ℕ) → Room → Type 0 = λ table demands r. PlanGiven table demands r c.args.counts c.args.parents.now c.args.left.now c.args.cords.now c.args.lows.now c.args.wants.now
     c.args.headroom.now c.args.caps.now in
     let some : GivenAt c.requires.room.table c.requires.room.demands c.requires.room.room = c.requires.room.given in
-    lows-long some
+    lows_long some
 
 pub slice_bounds-deal_twice-end-5 : goal.slice_bounds-deal_twice-end-5
 slice_bounds-deal_twice-end-5 c =
     let GivenAt : (table demands : List ℕ) → Room → Type 0 = λ table demands r. PlanGiven table demands r c.args.counts c.args.parents.now c.args.left.now c.args.cords.now c.args.lows.now c.args.wants.now
     c.args.headroom.now c.args.caps.now in
     let some : GivenAt c.requires.room.table c.requires.room.demands c.requires.room.room = c.requires.room.given in
-    front_length _ _ (lows-long some)
+    front_length _ _ (lows_long some)
 
 pub slice_bounds-deal_twice-end-6 : goal.slice_bounds-deal_twice-end-6
 slice_bounds-deal_twice-end-6 c =
     let GivenAt : (table demands : List ℕ) → Room → Type 0 = λ table demands r. PlanGiven table demands r c.args.counts c.args.parents.now c.args.left.now c.args.cords.now c.args.lows.now c.args.wants.now
     c.args.headroom.now c.args.caps.now in
     let some : GivenAt c.requires.room.table c.requires.room.demands c.requires.room.room = c.requires.room.given in
-    wants-long some
+    wants_long some
 
 pub slice_bounds-deal_twice-end-7 : goal.slice_bounds-deal_twice-end-7
 slice_bounds-deal_twice-end-7 c =
     let GivenAt : (table demands : List ℕ) → Room → Type 0 = λ table demands r. PlanGiven table demands r c.args.counts c.args.parents.now c.args.left.now c.args.cords.now c.args.lows.now c.args.wants.now
     c.args.headroom.now c.args.caps.now in
     let some : GivenAt c.requires.room.table c.requires.room.demands c.requires.room.room = c.requires.room.given in
-    front_length _ _ (wants-long some)
+    front_length _ _ (wants_long some)
 
 pub slice_bounds-deal_twice-end-8 : goal.slice_bounds-deal_twice-end-8
 slice_bounds-deal_twice-end-8 c =
     let GivenAt : (table demands : List ℕ) → Room → Type 0 = λ table demands r. PlanGiven table demands r c.args.counts c.args.parents.now c.args.left.now c.args.cords.now c.args.lows.now c.args.wants.now
     c.args.headroom.now c.args.caps.now in
     let some : GivenAt c.requires.room.table c.requires.room.demands c.requires.room.room = c.requires.room.given in
-    spare-long some
+    spare_long some
 
 pub slice_bounds-deal_twice-end-9 : goal.slice_bounds-deal_twice-end-9
 slice_bounds-deal_twice-end-9 c =
     let GivenAt : (table demands : List ℕ) → Room → Type 0 = λ table demands r. PlanGiven table demands r c.args.counts c.args.parents.now c.args.left.now c.args.cords.now c.args.lows.now c.args.wants.now
     c.args.headroom.now c.args.caps.now in
     let some : GivenAt c.requires.room.table c.requires.room.demands c.requires.room.room = c.requires.room.given in
-    front_length _ _ (spare-long some)
+    front_length _ _ (spare_long some)
 
 pub slice_bounds-cuts-end : goal.slice_bounds-cuts-end
 slice_bounds-cuts-end c =
     let GivenAt : (table demands : List ℕ) → Room → Type 0 = λ table demands r. PlanGiven table demands r c.args.counts c.args.parents.now c.args.left.now c.args.cords.now c.args.lows.now c.args.wants.now
     c.args.headroom.now c.args.caps.now in
     let some : GivenAt c.requires.room.table c.requires.room.demands c.requires.room.room = c.requires.room.given in
-    blank-long (nodes-few some)
+    blank-long (nodes_few some)
 
 pub slice_bounds-deal_twice-end-10 : goal.slice_bounds-deal_twice-end-10
 slice_bounds-deal_twice-end-10 c =
     let GivenAt : (table demands : List ℕ) → Room → Type 0 = λ table demands r. PlanGiven table demands r c.args.counts c.args.parents.now c.args.left.now c.args.cords.now c.args.lows.now c.args.wants.now
     c.args.headroom.now c.args.caps.now in
     let some : GivenAt c.requires.room.table c.requires.room.demands c.requires.room.room = c.requires.room.given in
-    sym (zeros-front most_nodes _ (nodes-few some))
+    sym (zeros-front most_nodes _ (nodes_few some))
 
 pub slice_bounds-deal_twice-end-11 : goal.slice_bounds-deal_twice-end-11
 slice_bounds-deal_twice-end-11 c = c.requires.space.0
@@ -158,14 +158,14 @@ slice_bounds-deal_twice-end-13 c =
     let GivenAt : (table demands : List ℕ) → Room → Type 0 = λ table demands r. PlanGiven table demands r c.args.counts c.args.parents.now c.args.left.now c.args.cords.now c.args.lows.now c.args.wants.now
     c.args.headroom.now c.args.caps.now in
     let some : GivenAt c.requires.room.table c.requires.room.demands c.requires.room.room = c.requires.room.given in
-    caps-long some
+    caps_long some
 
 pub slice_bounds-deal_twice-end-14 : goal.slice_bounds-deal_twice-end-14
 slice_bounds-deal_twice-end-14 c =
     let GivenAt : (table demands : List ℕ) → Room → Type 0 = λ table demands r. PlanGiven table demands r c.args.counts c.args.parents.now c.args.left.now c.args.cords.now c.args.lows.now c.args.wants.now
     c.args.headroom.now c.args.caps.now in
     let some : GivenAt c.requires.room.table c.requires.room.demands c.requires.room.room = c.requires.room.given in
-    front_length _ _ (caps-long some)
+    front_length _ _ (caps_long some)
 
 pub deal_twice-freed-requires : goal.deal_twice-freed-requires
 deal_twice-freed-requires c =
@@ -175,13 +175,13 @@ deal_twice-freed-requires c =
     let some : GivenAt c.requires.room.table c.requires.room.demands c.requires.room.room = c.requires.room.given in
     let nodes-back : List ℕ = c.list_nodes.new.nodes in
     let nodes-after : List ℕ = rejoined count-cords (replicate most_cords 0) nodes-back in
-    let nodes-lent : Lent count-cords (replicate most_cords 0) nodes-back = lent-zeros most_cords (cords-few some) c.list_nodes.auto.nodes in
-    let nodes-listed : take count-cords nodes-after ≡ column node_column (take count-cords c.args.cords.now) = lent_again nodes-lent ∙ c.list_nodes.ensures.listed in
+    let nodes-lent : Lent count-cords (replicate most_cords 0) nodes-back = lent-zeros most_cords (cords_few some) c.list_nodes.auto.nodes in
+    let nodes_listed : take count-cords nodes-after ≡ column node_column (take count-cords c.args.cords.now) = lent_again nodes-lent ∙ c.list_nodes.ensures.listed in
     let g = some in
     record {
-      room = record { table = c.requires.room.table; demands = c.requires.room.demands; room = c.requires.room.room; end = g.end; is = g.is; lists = to-deal g nodes-listed };
+      room = record { table = c.requires.room.table; demands = c.requires.room.demands; room = c.requires.room.room; end = g.end; is = g.is; lists = to_deal g nodes_listed };
       blank = (
-        blank-marks (nodes-few g) (front_length _ _ (parents-long g)),
+        blank_marks (nodes_few g) (front_length _ _ (parents_long g)),
         sym (front_length _ _ c.requires.space.0) ∙ lent-front nodes-lent,
       );
     }
@@ -191,7 +191,7 @@ slice_bounds-name_holders-end c =
     let GivenAt : (table demands : List ℕ) → Room → Type 0 = λ table demands r. PlanGiven table demands r c.args.counts c.args.parents.now c.args.left.now c.args.cords.now c.args.lows.now c.args.wants.now
     c.args.headroom.now c.args.caps.now in
     let some : GivenAt c.requires.room.table c.requires.room.demands c.requires.room.room = c.requires.room.given in
-    front_length _ _ (parents-long some)
+    front_length _ _ (parents_long some)
 
 pub slice_bounds-cuts-end-2 : goal.slice_bounds-cuts-end-2
 slice_bounds-cuts-end-2 c =
@@ -200,8 +200,8 @@ slice_bounds-cuts-end-2 c =
     c.args.headroom.now c.args.caps.now in
     let some : GivenAt c.requires.room.table c.requires.room.demands c.requires.room.room = c.requires.room.given in
     let cuts_back : List ℕ = c.deal_twice-freed.new.cuts in
-    let cuts-lent : Lent count-nodes (replicate most_nodes 0) cuts_back = lent-zeros most_nodes (nodes-few some) c.deal_twice-freed.auto.cuts in
-    lent-few cuts-lent
+    let cuts_lent : Lent count-nodes (replicate most_nodes 0) cuts_back = lent-zeros most_nodes (nodes_few some) c.deal_twice-freed.auto.cuts in
+    lent_few cuts_lent
 
 pub slice_bounds-name_holders-end-2 : goal.slice_bounds-name_holders-end-2
 slice_bounds-name_holders-end-2 c =
@@ -210,15 +210,15 @@ slice_bounds-name_holders-end-2 c =
     c.args.headroom.now c.args.caps.now in
     let some : GivenAt c.requires.room.table c.requires.room.demands c.requires.room.room = c.requires.room.given in
     let cuts_back : List ℕ = c.deal_twice-freed.new.cuts in
-    let cuts-lent : Lent count-nodes (replicate most_nodes 0) cuts_back = lent-zeros most_nodes (nodes-few some) c.deal_twice-freed.auto.cuts in
-    lent-front cuts-lent
+    let cuts_lent : Lent count-nodes (replicate most_nodes 0) cuts_back = lent-zeros most_nodes (nodes_few some) c.deal_twice-freed.auto.cuts in
+    lent-front cuts_lent
 
 pub slice_bounds-name_holders-end-3 : goal.slice_bounds-name_holders-end-3
 slice_bounds-name_holders-end-3 c =
     let GivenAt : (table demands : List ℕ) → Room → Type 0 = λ table demands r. PlanGiven table demands r c.args.counts c.args.parents.now c.args.left.now c.args.cords.now c.args.lows.now c.args.wants.now
     c.args.headroom.now c.args.caps.now in
     let some : GivenAt c.requires.room.table c.requires.room.demands c.requires.room.room = c.requires.room.given in
-    front_length _ _ (cords-long some)
+    front_length _ _ (cords_long some)
 
 pub slice_bounds-name_holders-end-4 : goal.slice_bounds-name_holders-end-4
 slice_bounds-name_holders-end-4 c =
@@ -226,9 +226,9 @@ slice_bounds-name_holders-end-4 c =
     let GivenAt : (table demands : List ℕ) → Room → Type 0 = λ table demands r. PlanGiven table demands r c.args.counts c.args.parents.now c.args.left.now c.args.cords.now c.args.lows.now c.args.wants.now
     c.args.headroom.now c.args.caps.now in
     let some : GivenAt c.requires.room.table c.requires.room.demands c.requires.room.room = c.requires.room.given in
-    let wants-back : List ℕ = c.deal_twice-freed.new.wants in
-    let wants-lent : Lent count-cords c.args.wants.now wants-back = lent (wants-long some) c.deal_twice-freed.auto.wants in
-    lent-few wants-lent
+    let wants_back : List ℕ = c.deal_twice-freed.new.wants in
+    let wants_lent : Lent count-cords c.args.wants.now wants_back = lent (wants_long some) c.deal_twice-freed.auto.wants in
+    lent_few wants_lent
 
 pub slice_bounds-name_holders-end-5 : goal.slice_bounds-name_holders-end-5
 slice_bounds-name_holders-end-5 c =
@@ -236,23 +236,23 @@ slice_bounds-name_holders-end-5 c =
     let GivenAt : (table demands : List ℕ) → Room → Type 0 = λ table demands r. PlanGiven table demands r c.args.counts c.args.parents.now c.args.left.now c.args.cords.now c.args.lows.now c.args.wants.now
     c.args.headroom.now c.args.caps.now in
     let some : GivenAt c.requires.room.table c.requires.room.demands c.requires.room.room = c.requires.room.given in
-    let wants-back : List ℕ = c.deal_twice-freed.new.wants in
-    let wants-lent : Lent count-cords c.args.wants.now wants-back = lent (wants-long some) c.deal_twice-freed.auto.wants in
-    lent-front wants-lent
+    let wants_back : List ℕ = c.deal_twice-freed.new.wants in
+    let wants_lent : Lent count-cords c.args.wants.now wants_back = lent (wants_long some) c.deal_twice-freed.auto.wants in
+    lent-front wants_lent
 
 pub slice_bounds-name_holders-end-6 : goal.slice_bounds-name_holders-end-6
 slice_bounds-name_holders-end-6 c =
     let count-cords : ℕ = c.args.counts.cords in
-    let grants-back : List ℕ = c.deal_twice-freed.new.grants in
-    let grants-lent : Lent count-cords c.args.grants.now grants-back = lent c.requires.space.0 c.deal_twice-freed.auto.grants in
-    lent-few grants-lent
+    let grants_back : List ℕ = c.deal_twice-freed.new.grants in
+    let grants_lent : Lent count-cords c.args.grants.now grants_back = lent c.requires.space.0 c.deal_twice-freed.auto.grants in
+    lent_few grants_lent
 
 pub slice_bounds-name_holders-end-7 : goal.slice_bounds-name_holders-end-7
 slice_bounds-name_holders-end-7 c =
     let count-cords : ℕ = c.args.counts.cords in
-    let grants-back : List ℕ = c.deal_twice-freed.new.grants in
-    let grants-lent : Lent count-cords c.args.grants.now grants-back = lent c.requires.space.0 c.deal_twice-freed.auto.grants in
-    lent-front grants-lent
+    let grants_back : List ℕ = c.deal_twice-freed.new.grants in
+    let grants_lent : Lent count-cords c.args.grants.now grants_back = lent c.requires.space.0 c.deal_twice-freed.auto.grants in
+    lent-front grants_lent
 
 pub slice_bounds-name_holders-end-8 : goal.slice_bounds-name_holders-end-8
 slice_bounds-name_holders-end-8 c = c.requires.space.1
@@ -270,35 +270,35 @@ name_holders-requires c =
     let some : GivenAt c.requires.room.table c.requires.room.demands c.requires.room.room = c.requires.room.given in
     let nodes-back : List ℕ = c.list_nodes.new.nodes in
     let nodes-after : List ℕ = rejoined count-cords (replicate most_cords 0) nodes-back in
-    let nodes-lent : Lent count-cords (replicate most_cords 0) nodes-back = lent-zeros most_cords (cords-few some) c.list_nodes.auto.nodes in
-    let nodes-listed : take count-cords nodes-after ≡ column node_column (take count-cords c.args.cords.now) = lent_again nodes-lent ∙ c.list_nodes.ensures.listed in
-    let wants-back : List ℕ = c.deal_twice-freed.new.wants in
-    let wants-after : List ℕ = rejoined count-cords c.args.wants.now wants-back in
-    let wants-lent : Lent count-cords c.args.wants.now wants-back = lent (wants-long some) c.deal_twice-freed.auto.wants in
+    let nodes-lent : Lent count-cords (replicate most_cords 0) nodes-back = lent-zeros most_cords (cords_few some) c.list_nodes.auto.nodes in
+    let nodes_listed : take count-cords nodes-after ≡ column node_column (take count-cords c.args.cords.now) = lent_again nodes-lent ∙ c.list_nodes.ensures.listed in
+    let wants_back : List ℕ = c.deal_twice-freed.new.wants in
+    let wants-after : List ℕ = rejoined count-cords c.args.wants.now wants_back in
+    let wants_lent : Lent count-cords c.args.wants.now wants_back = lent (wants_long some) c.deal_twice-freed.auto.wants in
     let left_back : List ℕ = c.deal_twice-freed.new.left in
     let left_after : List ℕ = rejoined count-nodes c.args.left.now left_back in
-    let left-lent : Lent count-nodes c.args.left.now left_back = lent (spare-long some) c.deal_twice-freed.auto.left in
-    let grants-back : List ℕ = c.deal_twice-freed.new.grants in
-    let grants-after : List ℕ = rejoined count-cords c.args.grants.now grants-back in
-    let grants-lent : Lent count-cords c.args.grants.now grants-back = lent c.requires.space.0 c.deal_twice-freed.auto.grants in
+    let left_lent : Lent count-nodes c.args.left.now left_back = lent (spare_long some) c.deal_twice-freed.auto.left in
+    let grants_back : List ℕ = c.deal_twice-freed.new.grants in
+    let grants_after : List ℕ = rejoined count-cords c.args.grants.now grants_back in
+    let grants_lent : Lent count-cords c.args.grants.now grants_back = lent c.requires.space.0 c.deal_twice-freed.auto.grants in
     let caps-back : List ℕ = c.deal_twice-freed.new.caps in
     let caps-after : List ℕ = rejoined count-servers c.args.caps.now caps-back in
-    let caps-lent : Lent count-servers c.args.caps.now caps-back = lent (caps-long some) c.deal_twice-freed.auto.caps in
+    let caps-lent : Lent count-servers c.args.caps.now caps-back = lent (caps_long some) c.deal_twice-freed.auto.caps in
     let cuts_back : List ℕ = c.deal_twice-freed.new.cuts in
-    let cuts-after : List ℕ = rejoined count-nodes (replicate most_nodes 0) cuts_back in
-    let cuts-lent : Lent count-nodes (replicate most_nodes 0) cuts_back = lent-zeros most_nodes (nodes-few some) c.deal_twice-freed.auto.cuts in
-    let lists-z : (table demands : List ℕ) (r : Room) → GivenAt table demands r → RoomToDeal r demands (take count-nodes c.args.parents.now) (take count-nodes c.args.left.now) (take count-cords c.args.cords.now) (take count-cords nodes-after) (take count-cords c.args.lows.now) (take count-cords c.args.wants.now) (take count-servers c.args.caps.now) c.args.counts.scale = λ table demands r g. to-deal g nodes-listed in
-    let dealt-z : (table demands : List ℕ) (r : Room) → GivenAt table demands r → DealtTwice r demands c.deal_twice-freed.result (take count-cords wants-after) (take count-nodes left_after) (take count-nodes cuts-after) (take count-cords grants-after) (take count-servers caps-after) = λ table demands r g. rw (lent_again wants-lent, lent_again left-lent, lent_again cuts-lent, lent_again grants-lent, lent_again caps-lent)
-    (c.deal_twice-freed.ensures.dealt table demands r g.end g.is (lists-z table demands r g)) in
-    let held-z : (table demands : List ℕ) (r : Room) → GivenAt table demands r → HeldLists (take count-nodes c.args.parents.now) (take count-nodes cuts-after) (take count-cords c.args.cords.now) (take count-cords wants-after) (take count-cords grants-after) = λ table demands r g. held-lists (given-ok g) (lists-z table demands r g) (dealt-z table demands r g) (sym (lent-front cuts-lent) ∙ front_length _ _ (parents-long g)) in
-    record { lists = (held-z _ _ _ some, sym (front_length _ _ c.requires.space.1) ∙ front_length _ _ (cords-long some)) }
+    let cuts_after : List ℕ = rejoined count-nodes (replicate most_nodes 0) cuts_back in
+    let cuts_lent : Lent count-nodes (replicate most_nodes 0) cuts_back = lent-zeros most_nodes (nodes_few some) c.deal_twice-freed.auto.cuts in
+    let lists_z : (table demands : List ℕ) (r : Room) → GivenAt table demands r → RoomToDeal r demands (take count-nodes c.args.parents.now) (take count-nodes c.args.left.now) (take count-cords c.args.cords.now) (take count-cords nodes-after) (take count-cords c.args.lows.now) (take count-cords c.args.wants.now) (take count-servers c.args.caps.now) c.args.counts.scale = λ table demands r g. to_deal g nodes_listed in
+    let dealt_z : (table demands : List ℕ) (r : Room) → GivenAt table demands r → DealtTwice r demands c.deal_twice-freed.result (take count-cords wants-after) (take count-nodes left_after) (take count-nodes cuts_after) (take count-cords grants_after) (take count-servers caps-after) = λ table demands r g. rw (lent_again wants_lent, lent_again left_lent, lent_again cuts_lent, lent_again grants_lent, lent_again caps-lent)
+    (c.deal_twice-freed.ensures.dealt table demands r g.end g.is (lists_z table demands r g)) in
+    let held_z : (table demands : List ℕ) (r : Room) → GivenAt table demands r → HeldLists (take count-nodes c.args.parents.now) (take count-nodes cuts_after) (take count-cords c.args.cords.now) (take count-cords wants-after) (take count-cords grants_after) = λ table demands r g. held-lists (given_ok g) (lists_z table demands r g) (dealt_z table demands r g) (sym (lent-front cuts_lent) ∙ front_length _ _ (parents_long g)) in
+    record { lists = (held_z _ _ _ some, sym (front_length _ _ c.requires.space.1) ∙ front_length _ _ (cords_long some)) }
 
 pub slice_bounds-lend-end : goal.slice_bounds-lend-end
 slice_bounds-lend-end c =
     let GivenAt : (table demands : List ℕ) → Room → Type 0 = λ table demands r. PlanGiven table demands r c.args.counts c.args.parents.now c.args.left.now c.args.cords.now c.args.lows.now c.args.wants.now
     c.args.headroom.now c.args.caps.now in
     let some : GivenAt c.requires.room.table c.requires.room.demands c.requires.room.room = c.requires.room.given in
-    front_length _ _ (parents-long some)
+    front_length _ _ (parents_long some)
 
 pub slice_bounds-nodes-end-3 : goal.slice_bounds-nodes-end-3
 slice_bounds-nodes-end-3 c =
@@ -307,8 +307,8 @@ slice_bounds-nodes-end-3 c =
     c.args.headroom.now c.args.caps.now in
     let some : GivenAt c.requires.room.table c.requires.room.demands c.requires.room.room = c.requires.room.given in
     let nodes-back : List ℕ = c.list_nodes.new.nodes in
-    let nodes-lent : Lent count-cords (replicate most_cords 0) nodes-back = lent-zeros most_cords (cords-few some) c.list_nodes.auto.nodes in
-    lent-few nodes-lent
+    let nodes-lent : Lent count-cords (replicate most_cords 0) nodes-back = lent-zeros most_cords (cords_few some) c.list_nodes.auto.nodes in
+    lent_few nodes-lent
 
 pub slice_bounds-lend-end-2 : goal.slice_bounds-lend-end-2
 slice_bounds-lend-end-2 c =
@@ -317,7 +317,7 @@ slice_bounds-lend-end-2 c =
     c.args.headroom.now c.args.caps.now in
     let some : GivenAt c.requires.room.table c.requires.room.demands c.requires.room.room = c.requires.room.given in
     let nodes-back : List ℕ = c.list_nodes.new.nodes in
-    let nodes-lent : Lent count-cords (replicate most_cords 0) nodes-back = lent-zeros most_cords (cords-few some) c.list_nodes.auto.nodes in
+    let nodes-lent : Lent count-cords (replicate most_cords 0) nodes-back = lent-zeros most_cords (cords_few some) c.list_nodes.auto.nodes in
     lent-front nodes-lent
 
 pub slice_bounds-lend-end-3 : goal.slice_bounds-lend-end-3
@@ -326,9 +326,9 @@ slice_bounds-lend-end-3 c =
     let GivenAt : (table demands : List ℕ) → Room → Type 0 = λ table demands r. PlanGiven table demands r c.args.counts c.args.parents.now c.args.left.now c.args.cords.now c.args.lows.now c.args.wants.now
     c.args.headroom.now c.args.caps.now in
     let some : GivenAt c.requires.room.table c.requires.room.demands c.requires.room.room = c.requires.room.given in
-    let wants-back : List ℕ = c.deal_twice-freed.new.wants in
-    let wants-lent : Lent count-cords c.args.wants.now wants-back = lent (wants-long some) c.deal_twice-freed.auto.wants in
-    lent-few wants-lent
+    let wants_back : List ℕ = c.deal_twice-freed.new.wants in
+    let wants_lent : Lent count-cords c.args.wants.now wants_back = lent (wants_long some) c.deal_twice-freed.auto.wants in
+    lent_few wants_lent
 
 pub slice_bounds-lend-end-4 : goal.slice_bounds-lend-end-4
 slice_bounds-lend-end-4 c =
@@ -336,9 +336,9 @@ slice_bounds-lend-end-4 c =
     let GivenAt : (table demands : List ℕ) → Room → Type 0 = λ table demands r. PlanGiven table demands r c.args.counts c.args.parents.now c.args.left.now c.args.cords.now c.args.lows.now c.args.wants.now
     c.args.headroom.now c.args.caps.now in
     let some : GivenAt c.requires.room.table c.requires.room.demands c.requires.room.room = c.requires.room.given in
-    let wants-back : List ℕ = c.deal_twice-freed.new.wants in
-    let wants-lent : Lent count-cords c.args.wants.now wants-back = lent (wants-long some) c.deal_twice-freed.auto.wants in
-    lent-front wants-lent
+    let wants_back : List ℕ = c.deal_twice-freed.new.wants in
+    let wants_lent : Lent count-cords c.args.wants.now wants_back = lent (wants_long some) c.deal_twice-freed.auto.wants in
+    lent-front wants_lent
 
 pub slice_bounds-lend-end-5 : goal.slice_bounds-lend-end-5
 slice_bounds-lend-end-5 c =
@@ -347,8 +347,8 @@ slice_bounds-lend-end-5 c =
     c.args.headroom.now c.args.caps.now in
     let some : GivenAt c.requires.room.table c.requires.room.demands c.requires.room.room = c.requires.room.given in
     let left_back : List ℕ = c.deal_twice-freed.new.left in
-    let left-lent : Lent count-nodes c.args.left.now left_back = lent (spare-long some) c.deal_twice-freed.auto.left in
-    lent-few left-lent
+    let left_lent : Lent count-nodes c.args.left.now left_back = lent (spare_long some) c.deal_twice-freed.auto.left in
+    lent_few left_lent
 
 pub slice_bounds-lend-end-6 : goal.slice_bounds-lend-end-6
 slice_bounds-lend-end-6 c =
@@ -357,36 +357,36 @@ slice_bounds-lend-end-6 c =
     c.args.headroom.now c.args.caps.now in
     let some : GivenAt c.requires.room.table c.requires.room.demands c.requires.room.room = c.requires.room.given in
     let left_back : List ℕ = c.deal_twice-freed.new.left in
-    let left-lent : Lent count-nodes c.args.left.now left_back = lent (spare-long some) c.deal_twice-freed.auto.left in
-    lent-front left-lent
+    let left_lent : Lent count-nodes c.args.left.now left_back = lent (spare_long some) c.deal_twice-freed.auto.left in
+    lent-front left_lent
 
 pub slice_bounds-lend-end-7 : goal.slice_bounds-lend-end-7
 slice_bounds-lend-end-7 c =
     let GivenAt : (table demands : List ℕ) → Room → Type 0 = λ table demands r. PlanGiven table demands r c.args.counts c.args.parents.now c.args.left.now c.args.cords.now c.args.lows.now c.args.wants.now
     c.args.headroom.now c.args.caps.now in
     let some : GivenAt c.requires.room.table c.requires.room.demands c.requires.room.room = c.requires.room.given in
-    lows-long some
+    lows_long some
 
 pub slice_bounds-lend-end-8 : goal.slice_bounds-lend-end-8
 slice_bounds-lend-end-8 c =
     let GivenAt : (table demands : List ℕ) → Room → Type 0 = λ table demands r. PlanGiven table demands r c.args.counts c.args.parents.now c.args.left.now c.args.cords.now c.args.lows.now c.args.wants.now
     c.args.headroom.now c.args.caps.now in
     let some : GivenAt c.requires.room.table c.requires.room.demands c.requires.room.room = c.requires.room.given in
-    front_length _ _ (lows-long some)
+    front_length _ _ (lows_long some)
 
 pub slice_bounds-lend-end-9 : goal.slice_bounds-lend-end-9
 slice_bounds-lend-end-9 c =
     let GivenAt : (table demands : List ℕ) → Room → Type 0 = λ table demands r. PlanGiven table demands r c.args.counts c.args.parents.now c.args.left.now c.args.cords.now c.args.lows.now c.args.wants.now
     c.args.headroom.now c.args.caps.now in
     let some : GivenAt c.requires.room.table c.requires.room.demands c.requires.room.room = c.requires.room.given in
-    headroom-long some
+    headroom_long some
 
 pub slice_bounds-lend-end-10 : goal.slice_bounds-lend-end-10
 slice_bounds-lend-end-10 c =
     let GivenAt : (table demands : List ℕ) → Room → Type 0 = λ table demands r. PlanGiven table demands r c.args.counts c.args.parents.now c.args.left.now c.args.cords.now c.args.lows.now c.args.wants.now
     c.args.headroom.now c.args.caps.now in
     let some : GivenAt c.requires.room.table c.requires.room.demands c.requires.room.room = c.requires.room.given in
-    front_length _ _ (headroom-long some)
+    front_length _ _ (headroom_long some)
 
 pub lend-requires : goal.lend-requires
 lend-requires c =
@@ -398,31 +398,31 @@ lend-requires c =
     let some : GivenAt c.requires.room.table c.requires.room.demands c.requires.room.room = c.requires.room.given in
     let nodes-back : List ℕ = c.list_nodes.new.nodes in
     let nodes-after : List ℕ = rejoined count-cords (replicate most_cords 0) nodes-back in
-    let nodes-lent : Lent count-cords (replicate most_cords 0) nodes-back = lent-zeros most_cords (cords-few some) c.list_nodes.auto.nodes in
-    let nodes-listed : take count-cords nodes-after ≡ column node_column (take count-cords c.args.cords.now) = lent_again nodes-lent ∙ c.list_nodes.ensures.listed in
-    let wants-back : List ℕ = c.deal_twice-freed.new.wants in
-    let wants-after : List ℕ = rejoined count-cords c.args.wants.now wants-back in
-    let wants-lent : Lent count-cords c.args.wants.now wants-back = lent (wants-long some) c.deal_twice-freed.auto.wants in
+    let nodes-lent : Lent count-cords (replicate most_cords 0) nodes-back = lent-zeros most_cords (cords_few some) c.list_nodes.auto.nodes in
+    let nodes_listed : take count-cords nodes-after ≡ column node_column (take count-cords c.args.cords.now) = lent_again nodes-lent ∙ c.list_nodes.ensures.listed in
+    let wants_back : List ℕ = c.deal_twice-freed.new.wants in
+    let wants-after : List ℕ = rejoined count-cords c.args.wants.now wants_back in
+    let wants_lent : Lent count-cords c.args.wants.now wants_back = lent (wants_long some) c.deal_twice-freed.auto.wants in
     let left_back : List ℕ = c.deal_twice-freed.new.left in
     let left_after : List ℕ = rejoined count-nodes c.args.left.now left_back in
-    let left-lent : Lent count-nodes c.args.left.now left_back = lent (spare-long some) c.deal_twice-freed.auto.left in
-    let grants-back : List ℕ = c.deal_twice-freed.new.grants in
-    let grants-after : List ℕ = rejoined count-cords c.args.grants.now grants-back in
-    let grants-lent : Lent count-cords c.args.grants.now grants-back = lent c.requires.space.0 c.deal_twice-freed.auto.grants in
+    let left_lent : Lent count-nodes c.args.left.now left_back = lent (spare_long some) c.deal_twice-freed.auto.left in
+    let grants_back : List ℕ = c.deal_twice-freed.new.grants in
+    let grants_after : List ℕ = rejoined count-cords c.args.grants.now grants_back in
+    let grants_lent : Lent count-cords c.args.grants.now grants_back = lent c.requires.space.0 c.deal_twice-freed.auto.grants in
     let caps-back : List ℕ = c.deal_twice-freed.new.caps in
     let caps-after : List ℕ = rejoined count-servers c.args.caps.now caps-back in
-    let caps-lent : Lent count-servers c.args.caps.now caps-back = lent (caps-long some) c.deal_twice-freed.auto.caps in
+    let caps-lent : Lent count-servers c.args.caps.now caps-back = lent (caps_long some) c.deal_twice-freed.auto.caps in
     let cuts_back : List ℕ = c.deal_twice-freed.new.cuts in
-    let cuts-after : List ℕ = rejoined count-nodes (replicate most_nodes 0) cuts_back in
-    let cuts-lent : Lent count-nodes (replicate most_nodes 0) cuts_back = lent-zeros most_nodes (nodes-few some) c.deal_twice-freed.auto.cuts in
-    let lists-z : (table demands : List ℕ) (r : Room) → GivenAt table demands r → RoomToDeal r demands (take count-nodes c.args.parents.now) (take count-nodes c.args.left.now) (take count-cords c.args.cords.now) (take count-cords nodes-after) (take count-cords c.args.lows.now) (take count-cords c.args.wants.now) (take count-servers c.args.caps.now) c.args.counts.scale = λ table demands r g. to-deal g nodes-listed in
-    let dealt-z : (table demands : List ℕ) (r : Room) → GivenAt table demands r → DealtTwice r demands c.deal_twice-freed.result (take count-cords wants-after) (take count-nodes left_after) (take count-nodes cuts-after) (take count-cords grants-after) (take count-servers caps-after) = λ table demands r g. rw (lent_again wants-lent, lent_again left-lent, lent_again cuts-lent, lent_again grants-lent, lent_again caps-lent)
-    (c.deal_twice-freed.ensures.dealt table demands r g.end g.is (lists-z table demands r g)) in
-    let lend-z : (table demands : List ℕ) (r : Room) → GivenAt table demands r → LendGiven (take count-nodes c.args.parents.now) (take count-cords nodes-after) (take count-cords wants-after) (take count-nodes left_after) (take count-cords c.args.headroom.now) (limits_of r) (levels_of r) (lows_of r) (first_used r demands) = λ table demands r g. lend-given (given-ok g) (lists-z table demands r g) (dealt-z table demands r g) (ceilings-given g) (sym (lent-front left-lent) ∙ front_length _ _ (parents-long g)) in
+    let cuts_after : List ℕ = rejoined count-nodes (replicate most_nodes 0) cuts_back in
+    let cuts_lent : Lent count-nodes (replicate most_nodes 0) cuts_back = lent-zeros most_nodes (nodes_few some) c.deal_twice-freed.auto.cuts in
+    let lists_z : (table demands : List ℕ) (r : Room) → GivenAt table demands r → RoomToDeal r demands (take count-nodes c.args.parents.now) (take count-nodes c.args.left.now) (take count-cords c.args.cords.now) (take count-cords nodes-after) (take count-cords c.args.lows.now) (take count-cords c.args.wants.now) (take count-servers c.args.caps.now) c.args.counts.scale = λ table demands r g. to_deal g nodes_listed in
+    let dealt_z : (table demands : List ℕ) (r : Room) → GivenAt table demands r → DealtTwice r demands c.deal_twice-freed.result (take count-cords wants-after) (take count-nodes left_after) (take count-nodes cuts_after) (take count-cords grants_after) (take count-servers caps-after) = λ table demands r g. rw (lent_again wants_lent, lent_again left_lent, lent_again cuts_lent, lent_again grants_lent, lent_again caps-lent)
+    (c.deal_twice-freed.ensures.dealt table demands r g.end g.is (lists_z table demands r g)) in
+    let lend_z : (table demands : List ℕ) (r : Room) → GivenAt table demands r → LendGiven (take count-nodes c.args.parents.now) (take count-cords nodes-after) (take count-cords wants-after) (take count-nodes left_after) (take count-cords c.args.headroom.now) (limits_of r) (levels_of r) (lows_of r) (first_used r demands) = λ table demands r g. lend_given (given_ok g) (lists_z table demands r g) (dealt_z table demands r g) (ceilings_given g) (sym (lent-front left_lent) ∙ front_length _ _ (parents_long g)) in
     record {
       lists = (
-        record { limits = limits_of c.requires.room.room; levels = levels_of c.requires.room.room; lows = lows_of c.requires.room.room; starts = first_used c.requires.room.room c.requires.room.demands; given = lend-z _ _ _ some },
-        sym (front_length _ _ (lows-long some)) ∙ lent-front nodes-lent,
+        record { limits = limits_of c.requires.room.room; levels = levels_of c.requires.room.room; lows = lows_of c.requires.room.room; starts = first_used c.requires.room.room c.requires.room.demands; given = lend_z _ _ _ some },
+        sym (front_length _ _ (lows_long some)) ∙ lent-front nodes-lent,
       );
     }
 
@@ -433,8 +433,8 @@ shape_of-left c =
     c.args.headroom.now c.args.caps.now in
     let some : GivenAt c.requires.room.table c.requires.room.demands c.requires.room.room = c.requires.room.given in
     let left_back : List ℕ = c.deal_twice-freed.new.left in
-    let left-lent : Lent count-nodes c.args.left.now left_back = lent (spare-long some) c.deal_twice-freed.auto.left in
-    lent_length {back = c.lend.new.left} (lent (lent-few left-lent) c.lend.auto.left) ∙ lent_length left-lent
+    let left_lent : Lent count-nodes c.args.left.now left_back = lent (spare_long some) c.deal_twice-freed.auto.left in
+    lent_length {back = c.lend.new.left} (lent (lent_few left_lent) c.lend.auto.left) ∙ lent_length left_lent
 
 pub returns : goal.returns
 returns c =
@@ -446,40 +446,40 @@ returns c =
     let some : GivenAt c.requires.room.table c.requires.room.demands c.requires.room.room = c.requires.room.given in
     let nodes-back : List ℕ = c.list_nodes.new.nodes in
     let nodes-after : List ℕ = rejoined count-cords (replicate most_cords 0) nodes-back in
-    let nodes-lent : Lent count-cords (replicate most_cords 0) nodes-back = lent-zeros most_cords (cords-few some) c.list_nodes.auto.nodes in
-    let nodes-listed : take count-cords nodes-after ≡ column node_column (take count-cords c.args.cords.now) = lent_again nodes-lent ∙ c.list_nodes.ensures.listed in
-    let wants-back : List ℕ = c.deal_twice-freed.new.wants in
-    let wants-after : List ℕ = rejoined count-cords c.args.wants.now wants-back in
-    let wants-lent : Lent count-cords c.args.wants.now wants-back = lent (wants-long some) c.deal_twice-freed.auto.wants in
+    let nodes-lent : Lent count-cords (replicate most_cords 0) nodes-back = lent-zeros most_cords (cords_few some) c.list_nodes.auto.nodes in
+    let nodes_listed : take count-cords nodes-after ≡ column node_column (take count-cords c.args.cords.now) = lent_again nodes-lent ∙ c.list_nodes.ensures.listed in
+    let wants_back : List ℕ = c.deal_twice-freed.new.wants in
+    let wants-after : List ℕ = rejoined count-cords c.args.wants.now wants_back in
+    let wants_lent : Lent count-cords c.args.wants.now wants_back = lent (wants_long some) c.deal_twice-freed.auto.wants in
     let left_back : List ℕ = c.deal_twice-freed.new.left in
     let left_after : List ℕ = rejoined count-nodes c.args.left.now left_back in
-    let left-lent : Lent count-nodes c.args.left.now left_back = lent (spare-long some) c.deal_twice-freed.auto.left in
-    let grants-back : List ℕ = c.deal_twice-freed.new.grants in
-    let grants-after : List ℕ = rejoined count-cords c.args.grants.now grants-back in
-    let grants-lent : Lent count-cords c.args.grants.now grants-back = lent c.requires.space.0 c.deal_twice-freed.auto.grants in
+    let left_lent : Lent count-nodes c.args.left.now left_back = lent (spare_long some) c.deal_twice-freed.auto.left in
+    let grants_back : List ℕ = c.deal_twice-freed.new.grants in
+    let grants_after : List ℕ = rejoined count-cords c.args.grants.now grants_back in
+    let grants_lent : Lent count-cords c.args.grants.now grants_back = lent c.requires.space.0 c.deal_twice-freed.auto.grants in
     let caps-back : List ℕ = c.deal_twice-freed.new.caps in
     let caps-after : List ℕ = rejoined count-servers c.args.caps.now caps-back in
-    let caps-lent : Lent count-servers c.args.caps.now caps-back = lent (caps-long some) c.deal_twice-freed.auto.caps in
+    let caps-lent : Lent count-servers c.args.caps.now caps-back = lent (caps_long some) c.deal_twice-freed.auto.caps in
     let cuts_back : List ℕ = c.deal_twice-freed.new.cuts in
-    let cuts-after : List ℕ = rejoined count-nodes (replicate most_nodes 0) cuts_back in
-    let cuts-lent : Lent count-nodes (replicate most_nodes 0) cuts_back = lent-zeros most_nodes (nodes-few some) c.deal_twice-freed.auto.cuts in
-    let lists-z : (table demands : List ℕ) (r : Room) → GivenAt table demands r → RoomToDeal r demands (take count-nodes c.args.parents.now) (take count-nodes c.args.left.now) (take count-cords c.args.cords.now) (take count-cords nodes-after) (take count-cords c.args.lows.now) (take count-cords c.args.wants.now) (take count-servers c.args.caps.now) c.args.counts.scale = λ table demands r g. to-deal g nodes-listed in
-    let dealt-z : (table demands : List ℕ) (r : Room) → GivenAt table demands r → DealtTwice r demands c.deal_twice-freed.result (take count-cords wants-after) (take count-nodes left_after) (take count-nodes cuts-after) (take count-cords grants-after) (take count-servers caps-after) = λ table demands r g. rw (lent_again wants-lent, lent_again left-lent, lent_again cuts-lent, lent_again grants-lent, lent_again caps-lent)
-    (c.deal_twice-freed.ensures.dealt table demands r g.end g.is (lists-z table demands r g)) in
-    let held-z : (table demands : List ℕ) (r : Room) → GivenAt table demands r → HeldLists (take count-nodes c.args.parents.now) (take count-nodes cuts-after) (take count-cords c.args.cords.now) (take count-cords wants-after) (take count-cords grants-after) = λ table demands r g. held-lists (given-ok g) (lists-z table demands r g) (dealt-z table demands r g) (sym (lent-front cuts-lent) ∙ front_length _ _ (parents-long g)) in
-    let lend-z : (table demands : List ℕ) (r : Room) → GivenAt table demands r → LendGiven (take count-nodes c.args.parents.now) (take count-cords nodes-after) (take count-cords wants-after) (take count-nodes left_after) (take count-cords c.args.headroom.now) (limits_of r) (levels_of r) (lows_of r) (first_used r demands) = λ table demands r g. lend-given (given-ok g) (lists-z table demands r g) (dealt-z table demands r g) (ceilings-given g) (sym (lent-front left-lent) ∙ front_length _ _ (parents-long g)) in
+    let cuts_after : List ℕ = rejoined count-nodes (replicate most_nodes 0) cuts_back in
+    let cuts_lent : Lent count-nodes (replicate most_nodes 0) cuts_back = lent-zeros most_nodes (nodes_few some) c.deal_twice-freed.auto.cuts in
+    let lists_z : (table demands : List ℕ) (r : Room) → GivenAt table demands r → RoomToDeal r demands (take count-nodes c.args.parents.now) (take count-nodes c.args.left.now) (take count-cords c.args.cords.now) (take count-cords nodes-after) (take count-cords c.args.lows.now) (take count-cords c.args.wants.now) (take count-servers c.args.caps.now) c.args.counts.scale = λ table demands r g. to_deal g nodes_listed in
+    let dealt_z : (table demands : List ℕ) (r : Room) → GivenAt table demands r → DealtTwice r demands c.deal_twice-freed.result (take count-cords wants-after) (take count-nodes left_after) (take count-nodes cuts_after) (take count-cords grants_after) (take count-servers caps-after) = λ table demands r g. rw (lent_again wants_lent, lent_again left_lent, lent_again cuts_lent, lent_again grants_lent, lent_again caps-lent)
+    (c.deal_twice-freed.ensures.dealt table demands r g.end g.is (lists_z table demands r g)) in
+    let held_z : (table demands : List ℕ) (r : Room) → GivenAt table demands r → HeldLists (take count-nodes c.args.parents.now) (take count-nodes cuts_after) (take count-cords c.args.cords.now) (take count-cords wants-after) (take count-cords grants_after) = λ table demands r g. held-lists (given_ok g) (lists_z table demands r g) (dealt_z table demands r g) (sym (lent-front cuts_lent) ∙ front_length _ _ (parents_long g)) in
+    let lend_z : (table demands : List ℕ) (r : Room) → GivenAt table demands r → LendGiven (take count-nodes c.args.parents.now) (take count-cords nodes-after) (take count-cords wants-after) (take count-nodes left_after) (take count-cords c.args.headroom.now) (limits_of r) (levels_of r) (lows_of r) (first_used r demands) = λ table demands r g. lend_given (given_ok g) (lists_z table demands r g) (dealt_z table demands r g) (ceilings_given g) (sym (lent-front left_lent) ∙ front_length _ _ (parents_long g)) in
     record {
       planned =
           λ table demands r g.
-          let ok = given-ok g in
-          let of = lists-z _ _ _ g in
-          let dealt = dealt-z _ _ _ g in
-          let lent_out = c.lend.ensures.lent (limits_of r) (levels_of r) (lows_of r) (first_used r demands) (lend-z _ _ _ g) in
+          let ok = given_ok g in
+          let of = lists_z _ _ _ g in
+          let dealt = dealt_z _ _ _ g in
+          let lent_out = c.lend.ensures.lent (limits_of r) (levels_of r) (lows_of r) (first_used r demands) (lend_z _ _ _ g) in
           record {
-            freed-is = dealt.freed-is;
-            lists-are = each _ (stands grants-lent _ (sym (lent_again grants-lent) ∙ second-dealt ok of dealt.made))
-                (stands caps-lent _ (sym (lent_again caps-lent) ∙ dealt.caps-are))
-                (stands (lent (headroom-long some) c.lend.auto.headroom) _ (headroom-made ok of dealt (ceilings-given g) lent_out))
-                (stands (lent c.requires.space.1 c.name_holders.auto.held) _ (held-made ok of dealt (held-z _ _ _ g) c.name_holders.ensures.named));
+            freed_is = dealt.freed_is;
+            lists_are = each _ (stands grants_lent _ (sym (lent_again grants_lent) ∙ second_dealt ok of dealt.made))
+                (stands caps-lent _ (sym (lent_again caps-lent) ∙ dealt.caps_are))
+                (stands (lent (headroom_long some) c.lend.auto.headroom) _ (headroom_made ok of dealt (ceilings_given g) lent_out))
+                (stands (lent c.requires.space.1 c.name_holders.auto.held) _ (held_made ok of dealt (held_z _ _ _ g) c.name_holders.ensures.named));
           };
     }

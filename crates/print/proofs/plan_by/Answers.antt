@@ -1,6 +1,6 @@
 -- `plan_by` meets its contract: the rows are the room's, and so the print of the rows is the room's.
 use Rattle.print.proofs.Putting.{put_as}
-use Rattle.print.proofs.Promises.{prints-room}
+use Rattle.print.proofs.Promises.{prints_room}
 use Rattle.print.proofs.plan_by.Goals as goal
 
 pub lay_out_servers-requires : goal.lay_out_servers-requires
@@ -15,6 +15,6 @@ returns c =
     record {
       put = λ room end is.
           let rows = c.lay_out_servers.ensures.laid_out room end is in
-          put_as (prints-room _ room end _ _ _ _ _ _ _ is rows.0 rows.1) c.put_plan.ensures.put;
+          put_as (prints_room _ room end _ _ _ _ _ _ _ is rows.0 rows.1) c.put_plan.ensures.put;
       counts = c.put_plan.ensures.counts;
     }

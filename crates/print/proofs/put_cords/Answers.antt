@@ -5,17 +5,17 @@ use mathlib.Core.Path.{◌≡◌, refl}
 use Prim.Native.Nat.{◌-◌}
 use Rattle.print.specs.Print.{plan_line}
 use Rattle.print.specs.Walk.{cord_line_at}
-use Rattle.print.proofs.Putting.{putting-first, putting-within}
-use Rattle.print.proofs.Turns.{lines_next, lines-last}
+use Rattle.print.proofs.Putting.{putting_first, putting_within}
+use Rattle.print.proofs.Turns.{lines_next, lines_last}
 use Rattle.print.proofs.put_cords.Goals as goal
 
 pub loop-k-init : goal.loop-k-init
 loop-k-init c =
     let all : c.args.count - 0 ≡ c.args.count = omega arith in
-    (omega arith, rw all (putting-first _ _ _ (search rules)), refl)
+    (omega arith, rw all (putting_first _ _ _ (search rules)), refl)
 
 pub put_cord-past-requires : goal.put_cord-past-requires
-put_cord-past-requires c = record { start = putting-within c.loop-k.invariant.1 }
+put_cord-past-requires c = record { start = putting_within c.loop-k.invariant.1 }
 
 pub loop-k-preserved : goal.loop-k-preserved
 loop-k-preserved c =
@@ -24,4 +24,4 @@ loop-k-preserved c =
     (omega arith, lines_next line c.args.count c.loop-k.k (omega (arith, c)) c.loop-k.invariant.1 cord, search rules)
 
 pub returns : goal.returns
-returns c = record { put = lines-last _ _ _ (omega arith) c.loop-k.invariant.1 }
+returns c = record { put = lines_last _ _ _ (omega arith) c.loop-k.invariant.1 }

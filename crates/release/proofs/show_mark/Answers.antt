@@ -2,7 +2,7 @@
 use mathlib.Core.Path.{◌≡◌, refl}
 use native.Mathlib.Omega.{arith}
 use lib.ListN.{length-set}
-use Rattle.figures.proofs.Stores.{sets-turn}
+use Rattle.figures.proofs.Stores.{sets_turn}
 use Rattle.release.specs.Release.{mark}
 use Rattle.release.proofs.show_mark.Goals as goal
 
@@ -11,7 +11,7 @@ loop-i-init c = (omega arith, refl, refl)
 
 pub loop-i-preserved : goal.loop-i-preserved
 loop-i-preserved c =
-    let turn = sets-turn c.args.text.now mark c.loop-i.i 0 (omega arith) in
+    let turn = sets_turn c.args.text.now mark c.loop-i.i 0 (omega arith) in
     (omega arith, (cc), simp length-set (omega arith))
 
 pub returns : goal.returns

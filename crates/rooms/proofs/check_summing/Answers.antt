@@ -5,16 +5,16 @@ use borrow.Author.Tests.{eq-eqb, ne_eqb}
 use Rattle.rooms.specs.Limits.{checked}
 use Rattle.rooms.specs.declared.SheetRefusal.TheVariants.{LowsAboveLimit}
 use Rattle.rooms.specs.declared.Checked.TheVariants.{Refused}
-use Rattle.rooms.proofs.Whole.{checked-is}
-use Rattle.figures.proofs.Credits.{all-zeros}
-use Rattle.rooms.proofs.CreditTurns.{credits-from}
+use Rattle.rooms.proofs.Whole.{checked_is}
+use Rattle.figures.proofs.Credits.{all_zeros}
+use Rattle.rooms.proofs.CreditTurns.{credits_from}
 use Rattle.rooms.proofs.Found.{unclaimed}
 use Rattle.rooms.proofs.Steps.{known, stop, pass, ensured, denied, gives}
 use borrow.Author.Rules.{rules}
 use Rattle.rooms.proofs.check_summing.Goals as goal
 
 pub check_table-words-requires : goal.check_table-words-requires
-check_table-words-requires c = record { zeros = all-zeros _ _ c.requires.zeros }
+check_table-words-requires c = record { zeros = all_zeros _ _ c.requires.zeros }
 
 pub returns-in_default : goal.returns-in_default
 unfolding checked
@@ -27,7 +27,7 @@ overloaded-node-requires c =
     let words = known _ _ c.check_table-words.ensures.result c.in-Good.is in
     record {
       good = (record { value = words.got; next = _; is = words.is }, search rules);
-      credited = credits-from c.requires.zeros c.check_table-words.ensures.credited;
+      credited = credits_from c.requires.zeros c.check_table-words.ensures.credited;
     }
 
 pub returns-then-node-ne0 : goal.returns-then-node-ne0
@@ -47,5 +47,5 @@ returns c =
       result = pass _ _ _ _ c.check_table-words.ensures.result c.in-Good.is (λ room is cords.
           let found = c.overloaded-node.ensures.result room _ is in
           ensured _ _ _ _ _ _ (eq-eqb _ _ (sym found ∙ c.if-node-ne0.false)) (gives _ _ _ (sym cords)));
-      lows = λ room j is. c.overloaded-node.ensures.sums room j (checked-is _ room j is).0;
+      lows = λ room j is. c.overloaded-node.ensures.sums room j (checked_is _ room j is).0;
     }

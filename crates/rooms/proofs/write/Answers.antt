@@ -2,28 +2,28 @@
 use Rattle.rooms.specs.Table.{room_cords}
 use Rattle.rooms.specs.Limits.{checked}
 use Rattle.rooms.proofs.Steps.{Known, known}
-use Rattle.rooms.proofs.Outcomes.{refused-so, refused-done, accepted-done, writing-refused, writing-bytes, writing-short, writing-large}
+use Rattle.rooms.proofs.Outcomes.{refused_so, refused_done, accepted_done, writing_refused, writing_bytes, writing_short, writing_large}
 use mathlib.Core.Path.{◌∙◌}
 use Rattle.rooms.proofs.write.Goals as goal
 
 pub returns-in-Refused : goal.returns-in-Refused
 returns-in-Refused c =
-    let both = refused-done _ _ (writing-refused _ _ (refused-so _ _ c.check-checked.ensures.result c.in-Refused.is)) in
+    let both = refused_done _ _ (writing_refused _ _ (refused_so _ _ c.check-checked.ensures.result c.in-Refused.is)) in
     record { result = both.0; sheet = both.1 }
 
 pub returns-in-Bytes : goal.returns-in-Bytes
 returns-in-Bytes c =
     let good : Known room_cords (checked c.args.table.now 0) c.in_default.field-0 c.in_default.field-1 = known _ _ c.check-checked.ensures.result c.in_default.is in
     let table = good in
-    let done = writing-bytes _ _ table.is c.encode_sheet.ensures.result c.in-Bytes.is in
-    let both = accepted-done _ _ _ _ done.0 done.1 (rw c.in-Bytes.is at c.encode_sheet.ensures.sheet) in
+    let done = writing_bytes _ _ table.is c.encode_sheet.ensures.result c.in-Bytes.is in
+    let both = accepted_done _ _ _ _ done.0 done.1 (rw c.in-Bytes.is at c.encode_sheet.ensures.sheet) in
     record { result = both.0; sheet = both.1 }
 
 pub returns-in-TooShort : goal.returns-in-TooShort
 returns-in-TooShort c =
     let good : Known room_cords (checked c.args.table.now 0) c.in_default.field-0 c.in_default.field-1 = known _ _ c.check-checked.ensures.result c.in_default.is in
     let table = good in
-    let done = refused-done _ _ (writing-short _ _ table.is c.encode_sheet.ensures.result c.in-TooShort.is) in
+    let done = refused_done _ _ (writing_short _ _ table.is c.encode_sheet.ensures.result c.in-TooShort.is) in
     record {
       result = done.0;
       sheet = (rw c.in-TooShort.is at c.encode_sheet.ensures.sheet) ∙ done.1;
@@ -33,4 +33,4 @@ pub returns-in-TooLarge : goal.returns-in-TooLarge
 returns-in-TooLarge c =
     let good : Known room_cords (checked c.args.table.now 0) c.in_default.field-0 c.in_default.field-1 = known _ _ c.check-checked.ensures.result c.in_default.is in
     let table = good in
-    absurd (writing-large _ _ table.is c.encode_sheet.ensures.result c.in-TooLarge.is)
+    absurd (writing_large _ _ table.is c.encode_sheet.ensures.result c.in-TooLarge.is)

@@ -3,7 +3,7 @@ use mathlib.Core.Path.{◌≡◌, sym, ap, ◌∙◌}
 use native.Mathlib.Omega.{arith}
 use mathlib.Core.Bool.{false, not}
 use Rattle.sender.specs.Outcome.{in_range, answer_of}
-use Rattle.sender.proofs.Outcomes.{sending-no-messages, sending-out-of-range, answer-short, answer-whole, inside_is}
+use Rattle.sender.proofs.Outcomes.{sending_no_messages, sending_out_of_range, answer_short, answer_whole, inside_is}
 use Rattle.sender.proofs.answer_for.Goals as goal
 
 pub returns-then-m-eq0 : goal.returns-then-m-eq0
@@ -11,7 +11,7 @@ returns-then-m-eq0 c =
     record {
       answer =
           let args = c.args in
-          sym (ap answer_of (sending-no-messages args.count args.position args.m args.space (omega arith)));
+          sym (ap answer_of (sending_no_messages args.count args.position args.m args.space (omega arith)));
     }
 
 pub returns-then-outside : goal.returns-then-outside
@@ -19,7 +19,7 @@ returns-then-outside c =
     record {
       answer =
           let args = c.args in
-          sym (ap answer_of (sending-out-of-range args.count args.position args.m args.space (omega arith) (sym c.out_of_range-outside.ensures.result ∙ c.if-outside.true)));
+          sym (ap answer_of (sending_out_of_range args.count args.position args.m args.space (omega arith) (sym c.out_of_range-outside.ensures.result ∙ c.if-outside.true)));
     }
 
 pub returns-then-space-named : goal.returns-then-space-named
@@ -28,7 +28,7 @@ returns-then-space-named c =
     record {
       answer =
           let args = c.args in
-          answer-short args.count args.position args.m args.space (omega arith) inside c.least-named.ensures.result (omega arith);
+          answer_short args.count args.position args.m args.space (omega arith) inside c.least-named.ensures.result (omega arith);
     }
 
 pub position_after-requires : goal.position_after-requires
@@ -47,5 +47,5 @@ returns c =
     record {
       answer =
           let args = c.args in
-          answer-whole args.count args.position args.m args.space (omega arith) inside c.least-named.ensures.result (omega arith) c.position_after.ensures.result;
+          answer_whole args.count args.position args.m args.space (omega arith) inside c.least-named.ensures.result (omega arith) c.position_after.ensures.result;
     }

@@ -3,7 +3,7 @@ use native.Mathlib.Omega.{arith}
 use mathlib.Core.Path.{◌≡◌, refl}
 use lib.ListN.{length, length-set}
 use Rattle.sender.specs.Period.{position_after}
-use Rattle.sender.proofs.Periods.{position_after-suc, name-turn, name-end}
+use Rattle.sender.proofs.Periods.{position_after_suc, name_turn, name_end}
 use Rattle.sender.proofs.name_servers.Goals as goal
 
 pub loop-i-init : goal.loop-i-init
@@ -13,8 +13,8 @@ loop-i-init c = (omega arith, refl, refl, omega arith, refl, refl)
 pub loop-i-preserved : goal.loop-i-preserved
 loop-i-preserved c =
     let args = c.args in
-    let turn = name-turn args.count args.position args.list.now c.loop-i.i (omega arith) in
-    let moved = position_after-suc args.count args.position c.loop-i.i in
+    let turn = name_turn args.count args.position args.list.now c.loop-i.i (omega arith) in
+    let moved = position_after_suc args.count args.position c.loop-i.i in
     (omega arith, refl, simp length-set (omega arith), c.follow-server.ensures.result.1, (cc), (cc))
 
 pub returns : goal.returns
@@ -23,5 +23,5 @@ returns c =
       list =
           let args = c.args in
           let all : c.loop-i.i ≡ length args.list.now = omega arith in
-          cc (name-end args.count args.position args.list.now);
+          cc (name_end args.count args.position args.list.now);
     }

@@ -1,7 +1,7 @@
 -- `position_after` meets its contract: the position counts on up to the last server, and from the first on past it.
 use mathlib.Core.Path.{sym}
 use native.Mathlib.Omega.{arith}
-use Rattle.sender.proofs.Periods.{position_after-on, position_after-round}
+use Rattle.sender.proofs.Periods.{position_after-on, position_after_round}
 use Rattle.sender.proofs.position_after.Goals as goal
 
 pub returns-then-named-left : goal.returns-then-named-left
@@ -17,5 +17,5 @@ returns-else-named-left c =
     record {
       result =
           let args = c.args in
-          sym (position_after-round args.count args.position args.named (omega arith) (omega arith) (omega arith));
+          sym (position_after_round args.count args.position args.named (omega arith) (omega arith) (omega arith));
     }

@@ -2,7 +2,7 @@
 use mathlib.Core.Path.{refl, sym, ◌∙◌}
 use lib.ListN.{length}
 use lib.Seq.{length-take-le}
-use Rattle.sender.proofs.Outcomes.{Told, refused-done, accepted-told, named-done}
+use Rattle.sender.proofs.Outcomes.{Told, refused_done, accepted_told, named_done}
 use Rattle.sender.proofs.send.Goals as goal
 
 pub returns-in_default : goal.returns-in_default
@@ -10,28 +10,28 @@ returns-in_default c =
     let args = c.args in
     record {
       answer = c.answer_for-sent.ensures.answer;
-      list = refused-done args.count args.position args.m _ args.list.now c.answer_for-sent.ensures.answer c.in_default.is;
+      list = refused_done args.count args.position args.m _ args.list.now c.answer_for-sent.ensures.answer c.in_default.is;
     }
 
 pub slice_bounds-name_servers-end : goal.slice_bounds-name_servers-end
 slice_bounds-name_servers-end c =
     let accepting : Type 0 = let args = c.args in
     Told args.count args.position args.m (length args.list.now) c.in-Accepted.many in
-    let told : accepting = accepted-told _ _ _ _ c.answer_for-sent.ensures.answer c.in-Accepted.is in
+    let told : accepting = accepted_told _ _ _ _ c.answer_for-sent.ensures.answer c.in-Accepted.is in
     told.fits
 
 pub slice_bounds-name_servers-end-2 : goal.slice_bounds-name_servers-end-2
 slice_bounds-name_servers-end-2 c =
     let accepting : Type 0 = let args = c.args in
     Told args.count args.position args.m (length args.list.now) c.in-Accepted.many in
-    let told : accepting = accepted-told _ _ _ _ c.answer_for-sent.ensures.answer c.in-Accepted.is in
+    let told : accepting = accepted_told _ _ _ _ c.answer_for-sent.ensures.answer c.in-Accepted.is in
     sym (length-take-le _ _ told.fits)
 
 pub name_servers-requires : goal.name_servers-requires
 name_servers-requires c =
     let accepting : Type 0 = let args = c.args in
     Told args.count args.position args.m (length args.list.now) c.in-Accepted.many in
-    let told : accepting = accepted-told _ _ _ _ c.answer_for-sent.ensures.answer c.in-Accepted.is in
+    let told : accepting = accepted_told _ _ _ _ c.answer_for-sent.ensures.answer c.in-Accepted.is in
     record {
       position_bounded = told.inside.below;
       count_bounded = told.inside.most;
@@ -41,9 +41,9 @@ pub returns : goal.returns
 returns c =
     let accepting : Type 0 = let args = c.args in
     Told args.count args.position args.m (length args.list.now) c.in-Accepted.many in
-    let told : accepting = accepted-told _ _ _ _ c.answer_for-sent.ensures.answer c.in-Accepted.is in
+    let told : accepting = accepted_told _ _ _ _ c.answer_for-sent.ensures.answer c.in-Accepted.is in
     let args = c.args in
     record {
       answer = sym c.in-Accepted.is ∙ c.answer_for-sent.ensures.answer;
-      list = named-done args.count args.position args.m _ args.list.now refl told c.name_servers.ensures.list;
+      list = named_done args.count args.position args.m _ args.list.now refl told c.name_servers.ensures.list;
     }

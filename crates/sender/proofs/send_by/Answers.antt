@@ -4,27 +4,27 @@ use Prim.Native.Nat.{◌/◌, ◌≤◌}
 use native.Mathlib.Omega.{arith}
 use lib.ListN.{length}
 use lib.Seq.{length-take-le}
-use Rattle.sender.proofs.Outcomes.{Told, accepted-told}
-use Rattle.calls.proofs.Calls.{call-short}
-use Rattle.sender.proofs.Calls.{named-fits, call-refused, call-accepted}
+use Rattle.sender.proofs.Outcomes.{Told, accepted_told}
+use Rattle.calls.proofs.Calls.{call_short}
+use Rattle.sender.proofs.Calls.{named_fits, call_refused, call_accepted}
 use Rattle.sender.proofs.send_by.Goals as goal
 
 pub returns-then-answer-lt-LONG_ANSWER_BYTES : goal.returns-then-answer-lt-LONG_ANSWER_BYTES
-returns-then-answer-lt-LONG_ANSWER_BYTES c = record { called = call-short _ _ _ (omega arith) refl }
+returns-then-answer-lt-LONG_ANSWER_BYTES c = record { called = call_short _ _ _ (omega arith) refl }
 
 pub returns-in_default : goal.returns-in_default
 returns-in_default c =
     record {
       called =
           let args = c.args in
-          call-refused args.count args.position args.m args.list.now args.answer.now (omega (arith, c.if-answer-lt-LONG_ANSWER_BYTES.false)) c.answer_for-sent.ensures.answer c.tell.ensures.told c.in_default.is;
+          call_refused args.count args.position args.m args.list.now args.answer.now (omega (arith, c.if-answer-lt-LONG_ANSWER_BYTES.false)) c.answer_for-sent.ensures.answer c.tell.ensures.told c.in_default.is;
     }
 
 pub slice_bounds-name_servers-end : goal.slice_bounds-name_servers-end
 slice_bounds-name_servers-end c =
     let args = c.args in
     let told : Told args.count args.position args.m (length args.list.now / 4) c.in-Accepted.many =
-    accepted-told _ _ _ _ c.answer_for-sent.ensures.answer c.in-Accepted.is in
+    accepted_told _ _ _ _ c.answer_for-sent.ensures.answer c.in-Accepted.is in
     let fits : c.in-Accepted.many ≤ length c.args.servers.now = omega (arith, told.counted, told.inside.most, c.requires.servers_long) in
     fits
 
@@ -32,7 +32,7 @@ pub slice_bounds-name_servers-end-2 : goal.slice_bounds-name_servers-end-2
 slice_bounds-name_servers-end-2 c =
     let args = c.args in
     let told : Told args.count args.position args.m (length args.list.now / 4) c.in-Accepted.many =
-    accepted-told _ _ _ _ c.answer_for-sent.ensures.answer c.in-Accepted.is in
+    accepted_told _ _ _ _ c.answer_for-sent.ensures.answer c.in-Accepted.is in
     let fits : c.in-Accepted.many ≤ length c.args.servers.now = omega (arith, told.counted, told.inside.most, c.requires.servers_long) in
     sym (length-take-le _ _ fits)
 
@@ -40,7 +40,7 @@ pub name_servers-requires : goal.name_servers-requires
 name_servers-requires c =
     let args = c.args in
     let told : Told args.count args.position args.m (length args.list.now / 4) c.in-Accepted.many =
-    accepted-told _ _ _ _ c.answer_for-sent.ensures.answer c.in-Accepted.is in
+    accepted_told _ _ _ _ c.answer_for-sent.ensures.answer c.in-Accepted.is in
     record {
       position_bounded = told.inside.below;
       count_bounded = told.inside.most;
@@ -50,26 +50,26 @@ pub slice_bounds-store-end : goal.slice_bounds-store-end
 slice_bounds-store-end c =
     let args = c.args in
     let told : Told args.count args.position args.m (length args.list.now / 4) c.in-Accepted.many =
-    accepted-told _ _ _ _ c.answer_for-sent.ensures.answer c.in-Accepted.is in
+    accepted_told _ _ _ _ c.answer_for-sent.ensures.answer c.in-Accepted.is in
     let fits : c.in-Accepted.many ≤ length c.args.servers.now = omega (arith, told.counted, told.inside.most, c.requires.servers_long) in
-    named-fits args.count args.position args.servers.now fits c.name_servers.ensures.list
+    named_fits args.count args.position args.servers.now fits c.name_servers.ensures.list
 
 pub slice_bounds-store-end-2 : goal.slice_bounds-store-end-2
 slice_bounds-store-end-2 c =
     let args = c.args in
     let told : Told args.count args.position args.m (length args.list.now / 4) c.in-Accepted.many =
-    accepted-told _ _ _ _ c.answer_for-sent.ensures.answer c.in-Accepted.is in
+    accepted_told _ _ _ _ c.answer_for-sent.ensures.answer c.in-Accepted.is in
     let fits : c.in-Accepted.many ≤ length c.args.servers.now = omega (arith, told.counted, told.inside.most, c.requires.servers_long) in
-    sym (length-take-le _ _ (named-fits args.count args.position args.servers.now fits c.name_servers.ensures.list))
+    sym (length-take-le _ _ (named_fits args.count args.position args.servers.now fits c.name_servers.ensures.list))
 
 pub returns : goal.returns
 returns c =
     let args = c.args in
     let told : Told args.count args.position args.m (length args.list.now / 4) c.in-Accepted.many =
-    accepted-told _ _ _ _ c.answer_for-sent.ensures.answer c.in-Accepted.is in
+    accepted_told _ _ _ _ c.answer_for-sent.ensures.answer c.in-Accepted.is in
     let fits : c.in-Accepted.many ≤ length c.args.servers.now = omega (arith, told.counted, told.inside.most, c.requires.servers_long) in
     record {
       called =
-          call-accepted args.count args.position args.m args.list.now args.answer.now (omega (arith, c.if-answer-lt-LONG_ANSWER_BYTES.false)) c.answer_for-sent.ensures.answer c.tell.ensures.told
+          call_accepted args.count args.position args.m args.list.now args.answer.now (omega (arith, c.if-answer-lt-LONG_ANSWER_BYTES.false)) c.answer_for-sent.ensures.answer c.tell.ensures.told
           args.servers.now told fits c.name_servers.ensures.list c.store.ensures.stored;
     }

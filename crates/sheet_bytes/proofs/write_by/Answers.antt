@@ -1,13 +1,13 @@
 -- `write_by` meets its contract: the words that are loaded decide, and the rest is what `rooms::write` ensures.
 use native.Mathlib.Omega.{arith}
 use mathlib.Core.Path.{refl}
-use Rattle.calls.proofs.Calls.{call-short}
+use Rattle.calls.proofs.Calls.{call_short}
 use Rattle.calls.proofs.Fronts.{loaded-length}
 use Rattle.sheet_bytes.proofs.CallLaws.{write_done}
 use Rattle.sheet_bytes.proofs.write_by.Goals as goal
 
 pub returns-then-answer-lt-ANSWER_BYTES : goal.returns-then-answer-lt-ANSWER_BYTES
-returns-then-answer-lt-ANSWER_BYTES c = record { called = call-short _ _ _ (omega arith) refl }
+returns-then-answer-lt-ANSWER_BYTES c = record { called = call_short _ _ _ (omega arith) refl }
 
 pub slice_bounds-write-end-2 : goal.slice_bounds-write-end-2
 slice_bounds-write-end-2 c = loaded-length _ _ c.load-count.ensures.count c.load-count.ensures.loaded

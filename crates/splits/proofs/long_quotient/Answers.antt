@@ -2,8 +2,8 @@
 use mathlib.Core.Path.{◌≡◌, ap, ap₂, sym, subst, ◌∙◌}
 use Prim.Native.Nat.{ℕ, ◌*◌, ◌/◌, ◌≤◌}
 use native.Mathlib.Nat.{mul-le-mul_left, lt_of_le_of_lt}
-use Rattle.splits.proofs.Splits.{quotient_by, quotient-most}
-use Rattle.splits.proofs.Ways.{quotient_in-is}
+use Rattle.splits.proofs.Splits.{quotient_by, quotient_most}
+use Rattle.splits.proofs.Ways.{quotient_in_is}
 use Rattle.splits.proofs.long_quotient.Goals as goal
 
 pub overflow_mul-wide : goal.overflow_mul-wide
@@ -16,7 +16,7 @@ narrow-requires c =
           let args = c.args in
           let by : c.wide.result * args.upto / c.greater.result ≡ c.wide.result * args.upto / args.whole
           = ap (λ (d : ℕ). c.wide.result * args.upto / d) c.greater.ensures.result ∙ quotient_by c.wide.result args.upto args.whole c.requires.in_range.0 in
-          lt_of_le_of_lt (subst (λ (q : ℕ). q ≤ c.wide.result) (sym by) (quotient-most c.wide.result args.upto args.whole c.requires.in_range.0)) c.wide.ensures.result.1;
+          lt_of_le_of_lt (subst (λ (q : ℕ). q ≤ c.wide.result) (sym by) (quotient_most c.wide.result args.upto args.whole c.requires.in_range.0)) c.wide.ensures.result.1;
     }
 
 pub returns : goal.returns
@@ -28,5 +28,5 @@ returns c =
           c.narrow.ensures.result
           ∙ ap₂ (λ (x d : ℕ). x * args.upto / d) c.wide.ensures.result.0 c.greater.ensures.result
           ∙ quotient_by args.amount args.upto args.whole pre.0
-          ∙ sym (quotient_in-is 64 args.amount args.upto args.whole pre.0 pre.1);
+          ∙ sym (quotient_in_is 64 args.amount args.upto args.whole pre.0 pre.1);
     }

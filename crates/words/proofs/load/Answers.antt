@@ -4,7 +4,7 @@ use native.Mathlib.Omega.{arith}
 use mathlib.Core.Path.{refl}
 use lib.ListN.{length-set}
 use Rattle.words.specs.Bytes.{words_of}
-use Rattle.figures.proofs.Stores.{sets-turn, sets-take}
+use Rattle.figures.proofs.Stores.{sets_turn, sets-take}
 use Rattle.words.proofs.Bytes.{length-words_of, get_or-words_of}
 use Rattle.words.proofs.load.Goals as goal
 
@@ -15,7 +15,7 @@ pub loop-i-preserved : goal.loop-i-preserved
 loop-i-preserved c =
     let args = c.args in
     let read = get_or-words_of args.bytes.now c.loop-i.i (omega arith) in
-    let turn = sets-turn args.list.now (words_of args.bytes.now) c.loop-i.i 0 (omega (arith, length-words_of args.bytes.now)) in
+    let turn = sets_turn args.list.now (words_of args.bytes.now) c.loop-i.i 0 (omega (arith, length-words_of args.bytes.now)) in
     (omega arith, (cc), simp length-set (omega arith))
 
 pub returns : goal.returns

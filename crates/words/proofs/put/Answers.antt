@@ -4,7 +4,7 @@ use Prim.Native.Nat.{◌+◌, ◌-◌}
 use mathlib.Core.Path.{◌≡◌, refl}
 use lib.ListN.{length-set}
 use Rattle.words.specs.Bytes.{little_endian}
-use Rattle.words.proofs.Bytes.{sets-little_endian-turn}
+use Rattle.words.proofs.Bytes.{sets-little_endian_turn}
 use Rattle.words.proofs.put.Goals as goal
 
 pub loop-i-init : goal.loop-i-init
@@ -16,7 +16,7 @@ loop-i-init c =
 pub loop-i-preserved : goal.loop-i-preserved
 loop-i-preserved c =
     let args = c.args in
-    let turn = sets-little_endian-turn c.loop-i.bytes args.at c.loop-i.i args.count c.loop-i.rest (omega arith) in
+    let turn = sets-little_endian_turn c.loop-i.bytes args.at c.loop-i.i args.count c.loop-i.rest (omega arith) in
     (omega arith, (cc), simp length-set (omega arith))
 
 pub returns : goal.returns

@@ -5,7 +5,7 @@ use mathlib.Core.Path.{◌≡◌, refl}
 use lib.ListN.{length}
 use Rattle.words.specs.Bytes.{bytes_of}
 use Rattle.figures.proofs.Stores.{take_min}
-use Rattle.words.proofs.Bytes.{sets-bytes_of-turn}
+use Rattle.words.proofs.Bytes.{sets-bytes_of_turn}
 use Rattle.words.proofs.store.Goals as goal
 
 pub loop-i-init : goal.loop-i-init
@@ -15,7 +15,7 @@ loop-i-init c = (omega arith, refl, refl)
 pub loop-i-preserved : goal.loop-i-preserved
 loop-i-preserved c =
     let args = c.args in
-    let turn = sets-bytes_of-turn args.bytes.now args.list.now c.loop-i.i (omega (arith, c)) in
+    let turn = sets-bytes_of_turn args.bytes.now args.list.now c.loop-i.i (omega (arith, c)) in
     let size : length c.put.new.bytes ≡ length c.loop-i.bytes = c.put.auto.bytes in
     (omega (arith, c), (cc), (cc))
 

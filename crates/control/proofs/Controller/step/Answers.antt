@@ -3,7 +3,7 @@ use borrow.Author.Rules.{rules}
 use mathlib.Core.Path.{◌≡◌, ap, ◌∙◌}
 use lib.ListN.{length}
 use Rattle.control.specs.Step.{stepped}
-use Rattle.control.proofs.Cords.{stepped_by-four, four-readings}
+use Rattle.control.proofs.Cords.{stepped_by_four, four_readings}
 use Rattle.control.proofs.Controller.step.Goals as goal
 
 pub returns : goal.returns
@@ -12,5 +12,5 @@ returns c =
     record {
       result =
           rw (c.step_by.ensures.result, c.with-four.ensures.result, c.with-three.ensures.result, c.with-two.ensures.result, c.with-one.ensures.result, c.judged-none.ensures.result)
-          (stepped_by-four c.args.self _ _ _ _ ∙ ap (stepped c.args.self) (four-readings c.args.readings _ four));
+          (stepped_by_four c.args.self _ _ _ _ ∙ ap (stepped c.args.self) (four_readings c.args.readings _ four));
     }

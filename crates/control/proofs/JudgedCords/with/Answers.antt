@@ -2,16 +2,16 @@
 use mathlib.Core.Path.{refl, sym, ap, ◌∙◌}
 use Rattle.control.specs.declared.JudgedCords.TheVariants.{Good}
 use Rattle.control.specs.Judged.{judged_with}
-use Rattle.control.proofs.Tests.{cond-true, cond-false}
+use Rattle.control.proofs.Tests.{cond_true, cond_false}
 use Rattle.control.proofs.JudgedCords.with.Goals as goal
 
 pub returns-then-not-is_good : goal.returns-then-not-is_good
 unfolding judged_with
-returns-then-not-is_good c = record { result = rw c.in-Good.is (c.refused.ensures.result ∙ cond-false _ _ (sym c.is_good.ensures.result ∙ c.if-not-is_good.true)) }
+returns-then-not-is_good c = record { result = rw c.in-Good.is (c.refused.ensures.result ∙ cond_false _ _ (sym c.is_good.ensures.result ∙ c.if-not-is_good.true)) }
 
 pub returns-else-not-is_good : goal.returns-else-not-is_good
 unfolding judged_with
-returns-else-not-is_good c = record { result = rw c.in-Good.is (ap Good c.with.ensures.result ∙ cond-true _ _ (sym c.is_good.ensures.result ∙ c.if-not-is_good.false)) }
+returns-else-not-is_good c = record { result = rw c.in-Good.is (ap Good c.with.ensures.result ∙ cond_true _ _ (sym c.is_good.ensures.result ∙ c.if-not-is_good.false)) }
 
 pub returns-in-Bad : goal.returns-in-Bad
 unfolding judged_with

@@ -1,17 +1,17 @@
 -- `step_in_place` meets its contract: the step of what the lists hold, its cap kept and its answer told.
 use native.Mathlib.Omega.{arith}
 use mathlib.Core.Path.{refl}
-use Rattle.calls.proofs.Calls.{call-short}
-use Rattle.control.proofs.Calls.{call-done}
+use Rattle.calls.proofs.Calls.{call_short}
+use Rattle.control.proofs.Calls.{call_done}
 use Rattle.control.proofs.call.step_in_place.Goals as goal
 
 pub returns-then-answer-lt-ANSWER_BYTES : goal.returns-then-answer-lt-ANSWER_BYTES
-returns-then-answer-lt-ANSWER_BYTES c = record { called = call-short _ _ _ (omega arith) refl }
+returns-then-answer-lt-ANSWER_BYTES c = record { called = call_short _ _ _ (omega arith) refl }
 
 pub returns : goal.returns
 returns c =
     record {
       called =
-          call-done _ _ (omega (arith, c.if-answer-lt-ANSWER_BYTES.false)) c.of-before.ensures.result c.readings.ensures.result c.step-stepped.ensures.result
+          call_done _ _ (omega (arith, c.if-answer-lt-ANSWER_BYTES.false)) c.of-before.ensures.result c.readings.ensures.result c.step-stepped.ensures.result
           c.keep_cap.ensures.controller c.number.ensures.result c.place.ensures.result c.store_answer.ensures.stored;
     }

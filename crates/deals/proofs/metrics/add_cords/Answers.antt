@@ -5,55 +5,55 @@ use native.Mathlib.Omega.{arith}
 use lib.ListN.{length}
 use Rattle.figures.specs.Figures.{at}
 use Rattle.rooms.specs.Table.{most_watts}
-use Rattle.deals.proofs.CordSums.{cord-within, cord-bounds, sums-start, sums-end, start_fits, weight-fits, sums_next}
+use Rattle.deals.proofs.CordSums.{cord-within, cord_bounds, sums_start, sums_end, start_fits, weight_fits, sums_next}
 use Rattle.deals.proofs.metrics.add_cords.Goals as goal
 
 pub loop-i-init : goal.loop-i-init
-loop-i-init c = sums-start c.requires.cords refl refl c.requires.sizes.0 (omega (arith, c.requires.sizes.1, c.clear.auto.list)) c.requires.zeros c.clear.ensures.zeros
+loop-i-init c = sums_start c.requires.cords refl refl c.requires.sizes.0 (omega (arith, c.requires.sizes.1, c.clear.auto.list)) c.requires.zeros c.clear.ensures.zeros
 
 pub bounds-nodes-c : goal.bounds-nodes-c
 bounds-nodes-c c =
-    let cord-there : (c.index-c.result < length c.args.nodes.now) × (c.index-c.result < length c.args.starts.now) × (c.index-c.result < length c.args.wants.now) = let here = cord-within c.requires.cords c.loop-i-test.true c.index-c.ensures.result.0 in (
+    let cord_there : (c.index-c.result < length c.args.nodes.now) × (c.index-c.result < length c.args.starts.now) × (c.index-c.result < length c.args.wants.now) = let here = cord-within c.requires.cords c.loop-i-test.true c.index-c.ensures.result.0 in (
       here,
-      omega (arith, here, c.requires.cords.starts-size),
-      omega (arith, here, c.requires.cords.wants-size),
+      omega (arith, here, c.requires.cords.starts_size),
+      omega (arith, here, c.requires.cords.wants_size),
     ) in
-    cord-there.0
+    cord_there.0
 
 pub bounds-starts-c : goal.bounds-starts-c
 bounds-starts-c c =
-    let cord-there : (c.index-c.result < length c.args.nodes.now) × (c.index-c.result < length c.args.starts.now) × (c.index-c.result < length c.args.wants.now) = let here = cord-within c.requires.cords c.loop-i-test.true c.index-c.ensures.result.0 in (
+    let cord_there : (c.index-c.result < length c.args.nodes.now) × (c.index-c.result < length c.args.starts.now) × (c.index-c.result < length c.args.wants.now) = let here = cord-within c.requires.cords c.loop-i-test.true c.index-c.ensures.result.0 in (
       here,
-      omega (arith, here, c.requires.cords.starts-size),
-      omega (arith, here, c.requires.cords.wants-size),
+      omega (arith, here, c.requires.cords.starts_size),
+      omega (arith, here, c.requires.cords.wants_size),
     ) in
-    omega (arith, cord-there)
+    omega (arith, cord_there)
 
 pub credit-requires : goal.credit-requires
 credit-requires c =
-    let bounds : (at c.args.starts.now c.index-c.result ≤ at c.args.wants.now c.index-c.result) × (at c.args.wants.now c.index-c.result ≤ most_watts) = cord-bounds c.requires.cords c.loop-i-test.true c.index-c.ensures.result.0 in
+    let bounds : (at c.args.starts.now c.index-c.result ≤ at c.args.wants.now c.index-c.result) × (at c.args.wants.now c.index-c.result ≤ most_watts) = cord_bounds c.requires.cords c.loop-i-test.true c.index-c.ensures.result.0 in
     let both = start_fits c.loop-i.invariant c.loop-i-test.true c.index-c.ensures.result.0 c.index-node.ensures.result.0
     (omega (arith, c.wide.ensures.result.0, bounds)) in
     record { node = both.0; no_overflow = both.1 }
 
 pub bounds-wants-c : goal.bounds-wants-c
 bounds-wants-c c =
-    let cord-there : (c.index-c.result < length c.args.nodes.now) × (c.index-c.result < length c.args.starts.now) × (c.index-c.result < length c.args.wants.now) = let here = cord-within c.requires.cords c.loop-i-test.true c.index-c.ensures.result.0 in (
+    let cord_there : (c.index-c.result < length c.args.nodes.now) × (c.index-c.result < length c.args.starts.now) × (c.index-c.result < length c.args.wants.now) = let here = cord-within c.requires.cords c.loop-i-test.true c.index-c.ensures.result.0 in (
       here,
-      omega (arith, here, c.requires.cords.starts-size),
-      omega (arith, here, c.requires.cords.wants-size),
+      omega (arith, here, c.requires.cords.starts_size),
+      omega (arith, here, c.requires.cords.wants_size),
     ) in
-    omega (arith, cord-there)
+    omega (arith, cord_there)
 
 pub overflow_sub-wants : goal.overflow_sub-wants
 overflow_sub-wants c =
-    let bounds : (at c.args.starts.now c.index-c.result ≤ at c.args.wants.now c.index-c.result) × (at c.args.wants.now c.index-c.result ≤ most_watts) = cord-bounds c.requires.cords c.loop-i-test.true c.index-c.ensures.result.0 in
+    let bounds : (at c.args.starts.now c.index-c.result ≤ at c.args.wants.now c.index-c.result) × (at c.args.wants.now c.index-c.result ≤ most_watts) = cord_bounds c.requires.cords c.loop-i-test.true c.index-c.ensures.result.0 in
     omega (arith, bounds)
 
 pub credit-requires-in-loop-i : goal.credit-requires-in-loop-i
 credit-requires-in-loop-i c =
-    let bounds : (at c.args.starts.now c.index-c.result ≤ at c.args.wants.now c.index-c.result) × (at c.args.wants.now c.index-c.result ≤ most_watts) = cord-bounds c.requires.cords c.loop-i-test.true c.index-c.ensures.result.0 in
-    let both = weight-fits c.loop-i.invariant.weights c.loop-i-test.true c.index-c.ensures.result.0 c.index-node.ensures.result.0
+    let bounds : (at c.args.starts.now c.index-c.result ≤ at c.args.wants.now c.index-c.result) × (at c.args.wants.now c.index-c.result ≤ most_watts) = cord_bounds c.requires.cords c.loop-i-test.true c.index-c.ensures.result.0 in
+    let both = weight_fits c.loop-i.invariant.weights c.loop-i-test.true c.index-c.ensures.result.0 c.index-node.ensures.result.0
     (omega (arith, c.wide-in-loop-i.ensures.result.0, bounds)) in
     record { node = both.0; no_overflow = both.1 }
 
@@ -64,15 +64,15 @@ loop-i-preserved c =
     c.credit.ensures.credited c.credit-in-loop-i.ensures.credited
 
 pub shape_of-bases : goal.shape_of-bases
-shape_of-bases c = c.loop-i.invariant.bases-size
+shape_of-bases c = c.loop-i.invariant.bases_size
 
 pub shape_of-wholes : goal.shape_of-wholes
-shape_of-wholes c = c.loop-i.invariant.weights.wholes-size ∙ c.clear.auto.list
+shape_of-wholes c = c.loop-i.invariant.weights.wholes_size ∙ c.clear.auto.list
 
 pub returns : goal.returns
 returns c =
     record {
       summed =
-          let all = sums-end c.loop-i.invariant c.loop-i-test.false in
-          record { on-starts = λ n l. (all n l).0; on-weights = λ n l. (all n l).1 };
+          let all = sums_end c.loop-i.invariant c.loop-i-test.false in
+          record { on_starts = λ n l. (all n l).0; on_weights = λ n l. (all n l).1 };
     }

@@ -1,14 +1,14 @@
 -- `clear` meets its contract: before each turn the places passed hold 0.
 use mathlib.Core.Path.{refl}
 use borrow.Author.Rules.{rules}
-use Rattle.figures.proofs.Filled.{filled_none, filled-one}
+use Rattle.figures.proofs.Filled.{filled_none, filled_one}
 use Rattle.deals.proofs.metrics.clear.Goals as goal
 
 pub loop-i-init : goal.loop-i-init
 loop-i-init c = filled_none _ _
 
 pub loop-i-preserved : goal.loop-i-preserved
-loop-i-preserved c = filled-one 0 c.loop-i.invariant (search rules) refl
+loop-i-preserved c = filled_one 0 c.loop-i.invariant (search rules) refl
 
 pub shape_of-list : goal.shape_of-list
 shape_of-list c = c.loop-i.invariant.size_is

@@ -1,6 +1,6 @@
 -- `DemandReading::close` meets its contract: the line's demand is stored where there is space.
 use mathlib.Core.Path.{sym}
-use Rattle.demands.proofs.Bytes.{closed-stores, closed-full}
+use Rattle.demands.proofs.Bytes.{closed_stores, closed_full}
 use borrow.Author.Rules.{rules}
 use Rattle.demands.proofs.DemandReading.close.Goals as goal
 
@@ -9,7 +9,7 @@ returns-then-count-least c =
     record {
       closed =
           let args = c.args in
-          rw c.demand.ensures.result (sym (closed-stores args.self args.list.now (search rules)));
+          rw c.demand.ensures.result (sym (closed_stores args.self args.list.now (search rules)));
     }
 
 pub returns : goal.returns
@@ -17,5 +17,5 @@ returns c =
     record {
       closed =
           let args = c.args in
-          sym (closed-full args.self args.list.now (search rules));
+          sym (closed_full args.self args.list.now (search rules));
     }

@@ -6,7 +6,7 @@ use lib.ListN.{length, drop}
 use Rattle.rooms.specs.Part.{Good}
 use Rattle.rooms.specs.Limits.{checked, lows_told}
 use Rattle.layout.specs.Outcome.{load_reasons}
-use Rattle.layout.proofs.Loads.{table-good, cords-told, Left, table-told, count-told, count-passed, large-told, all-passed, room-told}
+use Rattle.layout.proofs.Loads.{table_good, cords-told, Left, table-told, count-told, count-passed, large_told, all_passed, room_told}
 use Rattle.layout.proofs.room.admit.Goals as goal
 
 pub returns-in-Refused : goal.returns-in-Refused
@@ -20,7 +20,7 @@ pub returns-then-demands-servers : goal.returns-then-demands-servers
 returns-then-demands-servers c =
     let table : List ℕ = c.args.table.now in
     let demands : List ℕ = c.args.demands.now in
-    let room : Good (checked table 0) = table-good table c.check_lows-checked.ensures.result c.in-Good.is in
+    let room : Good (checked table 0) = table_good table c.check_lows-checked.ensures.result c.in-Good.is in
     let lows : c.check_lows-checked.new.lows ≡ lows_told (checked table 0) = c.check_lows-checked.ensures.lows in
     let server-count : c.server_count-servers.result ≡ length room.value.servers = c.server_count-servers.ensures.count room.value room.next room.is in
     record {
@@ -32,12 +32,12 @@ pub returns-then-large-demands : goal.returns-then-large-demands
 returns-then-large-demands c =
     let table : List ℕ = c.args.table.now in
     let demands : List ℕ = c.args.demands.now in
-    let room : Good (checked table 0) = table-good table c.check_lows-checked.ensures.result c.in-Good.is in
+    let room : Good (checked table 0) = table_good table c.check_lows-checked.ensures.result c.in-Good.is in
     let lows : c.check_lows-checked.new.lows ≡ lows_told (checked table 0) = c.check_lows-checked.ensures.lows in
     let server-count : c.server_count-servers.result ≡ length room.value.servers = c.server_count-servers.ensures.count room.value room.next room.is in
     let counted : Left table demands room.value (drop 1 (load_reasons room.value demands)) = count-passed table demands room _ server-count c.if-demands-servers.false in
     record {
-      answer = large-told table demands room counted _ c.first_not_below-large.ensures.result c.if-large-demands.true;
+      answer = large_told table demands room counted _ c.first_not_below-large.ensures.result c.if-large-demands.true;
       lows = lows;
     }
 
@@ -45,7 +45,7 @@ pub returns : goal.returns
 returns c =
     let table : List ℕ = c.args.table.now in
     let demands : List ℕ = c.args.demands.now in
-    let room : Good (checked table 0) = table-good table c.check_lows-checked.ensures.result c.in-Good.is in
+    let room : Good (checked table 0) = table_good table c.check_lows-checked.ensures.result c.in-Good.is in
     let lows : c.check_lows-checked.new.lows ≡ lows_told (checked table 0) = c.check_lows-checked.ensures.lows in
     let server-count : c.server_count-servers.result ≡ length room.value.servers = c.server_count-servers.ensures.count room.value room.next room.is in
     let counted : Left table demands room.value (drop 1 (load_reasons room.value demands)) = count-passed table demands room _ server-count c.if-demands-servers.false in
@@ -55,8 +55,8 @@ returns c =
     let cords = c.word_index.ensures.result.0 ∙ cords-told table c.check_lows-checked.ensures.result c.in-Good.is g.value g.next g.is in
     let scale = c.table_scale.ensures.scale g.value g.next g.is in
     record {
-      answer = room-told table demands g
-          (all-passed table demands g counted _ c.first_not_below-large.ensures.result c.if-large-demands.false)
+      answer = room_told table demands g
+          (all_passed table demands g counted _ c.first_not_below-large.ensures.result c.if-large-demands.false)
           (rw (nodes, servers, cords, scale) refl);
       lows = lows;
     }

@@ -6,7 +6,7 @@ use lib.ListN.{length, replicate, length-replicate}
 use lib.Seq.{length-take-le}
 use Rattle.rooms.specs.Table.{most_servers, most_words}
 use Rattle.layout.specs.Outcome.{loaded_of}
-use Rattle.layout.proofs.Loads.{bytes-loading, bytes-demands}
+use Rattle.layout.proofs.Loads.{bytes_loading, bytes_demands}
 use Rattle.layout.proofs.room.load_bytes.Goals as goal
 
 -- How many words the lists take, which is enough.
@@ -24,29 +24,29 @@ figures-long = omega (arith, length-replicate {A = ℕ} deciding_demands 0)
 
 pub slice_bounds-words-end : goal.slice_bounds-words-end
 slice_bounds-words-end c =
-    let words-few : c.load-word_count.result ≤ length c.load-word_count.new.list = omega (arith, c.load-word_count.ensures.count, c.load-word_count.auto.list) in
-    words-few
+    let words_few : c.load-word_count.result ≤ length c.load-word_count.new.list = omega (arith, c.load-word_count.ensures.count, c.load-word_count.auto.list) in
+    words_few
 
 pub slice_bounds-load_room-end : goal.slice_bounds-load_room-end
 slice_bounds-load_room-end c =
-    let words-few : c.load-word_count.result ≤ length c.load-word_count.new.list = omega (arith, c.load-word_count.ensures.count, c.load-word_count.auto.list) in
-    sym (length-take-le _ _ words-few)
+    let words_few : c.load-word_count.result ≤ length c.load-word_count.new.list = omega (arith, c.load-word_count.ensures.count, c.load-word_count.auto.list) in
+    sym (length-take-le _ _ words_few)
 
 pub slice_bounds-figures-end : goal.slice_bounds-figures-end
 slice_bounds-figures-end c =
-    let figures-few : c.load-figure_count.result ≤ length c.load-figure_count.new.list = omega (arith, c.load-figure_count.ensures.count, c.load-figure_count.auto.list) in
-    figures-few
+    let figures_few : c.load-figure_count.result ≤ length c.load-figure_count.new.list = omega (arith, c.load-figure_count.ensures.count, c.load-figure_count.auto.list) in
+    figures_few
 
 pub slice_bounds-load_room-end-2 : goal.slice_bounds-load_room-end-2
 slice_bounds-load_room-end-2 c =
-    let figures-few : c.load-figure_count.result ≤ length c.load-figure_count.new.list = omega (arith, c.load-figure_count.ensures.count, c.load-figure_count.auto.list) in
-    sym (length-take-le _ _ figures-few)
+    let figures_few : c.load-figure_count.result ≤ length c.load-figure_count.new.list = omega (arith, c.load-figure_count.ensures.count, c.load-figure_count.auto.list) in
+    sym (length-take-le _ _ figures_few)
 
 pub returns : goal.returns
 returns c =
-    let cut = bytes-loading c.args.table.now c.args.demands.now (replicate deciding_words 0) (replicate deciding_demands 0) words_long figures-long
+    let cut = bytes_loading c.args.table.now c.args.demands.now (replicate deciding_words 0) (replicate deciding_demands 0) words_long figures-long
     c.load-word_count.ensures.count c.load-word_count.ensures.loaded c.load-figure_count.ensures.count c.load-figure_count.ensures.loaded in
-    let all = bytes-demands c.args.table.now c.args.demands.now (replicate deciding_words 0) (replicate deciding_demands 0) words_long figures-long
+    let all = bytes_demands c.args.table.now c.args.demands.now (replicate deciding_words 0) (replicate deciding_demands 0) words_long figures-long
     c.load-word_count.ensures.count c.load-word_count.ensures.loaded c.load-figure_count.ensures.count c.load-figure_count.ensures.loaded in
     record {
       answer = c.load_room.ensures.answer ∙ ap loaded_of cut;

@@ -8,7 +8,7 @@ use lib.ListN.{length, take}
 use lib.Seq.{length-take-le, get_or-take}
 use Rattle.layout.specs.Room.{LoadSpace}
 use Rattle.layout.specs.declared.room.Counts.{Counts}
-use Rattle.layout.proofs.Loads.{lows-long, lows-told, RoomFound, found, found-good, nodes-fit, nodes-lent, servers-lent, cords-lent, demands-fit, lists-loaded, none-loaded}
+use Rattle.layout.proofs.Loads.{lows_long, lows-told, RoomFound, found, found_good, nodes-fit, nodes-lent, servers-lent, cords-lent, demands_fit, lists-loaded, none_loaded}
 use Rattle.layout.proofs.Loads as counted
 use Rattle.layout.proofs.room.load_room.Goals as goal
 
@@ -21,8 +21,8 @@ slice_bounds-beneath-end c =
     let beneath : List ℕ = c.admit-loaded.new.beneath in
     let counts : Counts = c.in-Good.counts in
     let room : RoomFound table c.args.demands.now counts = found c.admit-loaded.ensures.answer c.in-Good.is in
-    let beneath-few : counts.nodes ≤ length beneath = omega (arith, counted.nodes-few room, lows-long table beneath c.admit-loaded.ensures.lows) in
-    beneath-few
+    let beneath_few : counts.nodes ≤ length beneath = omega (arith, counted.nodes_few room, lows_long table beneath c.admit-loaded.ensures.lows) in
+    beneath_few
 
 pub slice_bounds-load_nodes-end : goal.slice_bounds-load_nodes-end
 slice_bounds-load_nodes-end c =
@@ -30,8 +30,8 @@ slice_bounds-load_nodes-end c =
     let beneath : List ℕ = c.admit-loaded.new.beneath in
     let counts : Counts = c.in-Good.counts in
     let room : RoomFound table c.args.demands.now counts = found c.admit-loaded.ensures.answer c.in-Good.is in
-    let beneath-few : counts.nodes ≤ length beneath = omega (arith, counted.nodes-few room, lows-long table beneath c.admit-loaded.ensures.lows) in
-    front _ beneath-few
+    let beneath_few : counts.nodes ≤ length beneath = omega (arith, counted.nodes_few room, lows_long table beneath c.admit-loaded.ensures.lows) in
+    front _ beneath_few
 
 pub slice_bounds-load_nodes-end-in-Good : goal.slice_bounds-load_nodes-end-in-Good
 slice_bounds-load_nodes-end-in-Good c =
@@ -39,8 +39,8 @@ slice_bounds-load_nodes-end-in-Good c =
     let counts : Counts = c.in-Good.counts in
     let space : LoadSpace (length c.args.parents.now) (length c.args.spare.now) (length c.args.cords.now) (length c.args.lows.now) (length c.args.wants.now) (length c.args.ceilings.now) (length c.args.needs.now) = c.requires.space in
     let room : RoomFound table c.args.demands.now counts = found c.admit-loaded.ensures.answer c.in-Good.is in
-    let parents-few : counts.nodes ≤ length c.args.parents.now = omega (arith, space.for-parents, counted.nodes-few room) in
-    parents-few
+    let parents_few : counts.nodes ≤ length c.args.parents.now = omega (arith, space.for_parents, counted.nodes_few room) in
+    parents_few
 
 pub slice_bounds-load_nodes-end-in-Good-2 : goal.slice_bounds-load_nodes-end-in-Good-2
 slice_bounds-load_nodes-end-in-Good-2 c =
@@ -48,8 +48,8 @@ slice_bounds-load_nodes-end-in-Good-2 c =
     let counts : Counts = c.in-Good.counts in
     let space : LoadSpace (length c.args.parents.now) (length c.args.spare.now) (length c.args.cords.now) (length c.args.lows.now) (length c.args.wants.now) (length c.args.ceilings.now) (length c.args.needs.now) = c.requires.space in
     let room : RoomFound table c.args.demands.now counts = found c.admit-loaded.ensures.answer c.in-Good.is in
-    let parents-few : counts.nodes ≤ length c.args.parents.now = omega (arith, space.for-parents, counted.nodes-few room) in
-    front _ parents-few
+    let parents_few : counts.nodes ≤ length c.args.parents.now = omega (arith, space.for_parents, counted.nodes_few room) in
+    front _ parents_few
 
 pub slice_bounds-load_nodes-end-in-Good-3 : goal.slice_bounds-load_nodes-end-in-Good-3
 slice_bounds-load_nodes-end-in-Good-3 c =
@@ -57,8 +57,8 @@ slice_bounds-load_nodes-end-in-Good-3 c =
     let counts : Counts = c.in-Good.counts in
     let space : LoadSpace (length c.args.parents.now) (length c.args.spare.now) (length c.args.cords.now) (length c.args.lows.now) (length c.args.wants.now) (length c.args.ceilings.now) (length c.args.needs.now) = c.requires.space in
     let room : RoomFound table c.args.demands.now counts = found c.admit-loaded.ensures.answer c.in-Good.is in
-    let spare-few : counts.nodes ≤ length c.args.spare.now = omega (arith, space.for-spare, counted.nodes-few room) in
-    spare-few
+    let spare_few : counts.nodes ≤ length c.args.spare.now = omega (arith, space.for_spare, counted.nodes_few room) in
+    spare_few
 
 pub slice_bounds-load_nodes-end-in-Good-4 : goal.slice_bounds-load_nodes-end-in-Good-4
 slice_bounds-load_nodes-end-in-Good-4 c =
@@ -66,8 +66,8 @@ slice_bounds-load_nodes-end-in-Good-4 c =
     let counts : Counts = c.in-Good.counts in
     let space : LoadSpace (length c.args.parents.now) (length c.args.spare.now) (length c.args.cords.now) (length c.args.lows.now) (length c.args.wants.now) (length c.args.ceilings.now) (length c.args.needs.now) = c.requires.space in
     let room : RoomFound table c.args.demands.now counts = found c.admit-loaded.ensures.answer c.in-Good.is in
-    let spare-few : counts.nodes ≤ length c.args.spare.now = omega (arith, space.for-spare, counted.nodes-few room) in
-    front _ spare-few
+    let spare_few : counts.nodes ≤ length c.args.spare.now = omega (arith, space.for_spare, counted.nodes_few room) in
+    front _ spare_few
 
 pub load_nodes-requires : goal.load_nodes-requires
 load_nodes-requires c =
@@ -78,11 +78,11 @@ load_nodes-requires c =
     let room : RoomFound table c.args.demands.now counts = found c.admit-loaded.ensures.answer c.in-Good.is in
     let f = room in
     record {
-      good = found-good f;
+      good = found_good f;
       lists = (
-        nodes-lent f beneath (le_of_eq (lows-long table beneath c.admit-loaded.ensures.lows)),
-        nodes-lent f _ space.for-parents,
-        nodes-lent f _ space.for-spare,
+        nodes-lent f beneath (le_of_eq (lows_long table beneath c.admit-loaded.ensures.lows)),
+        nodes-lent f _ space.for_parents,
+        nodes-lent f _ space.for_spare,
         λ r end is n l. get_or-take counts.nodes beneath n 0 (omega (arith, nodes-fit f r end is)) ∙ lows-told table beneath c.admit-loaded.ensures.lows r end is n l,
       );
     }
@@ -93,8 +93,8 @@ slice_bounds-load_cords-end c =
     let counts : Counts = c.in-Good.counts in
     let space : LoadSpace (length c.args.parents.now) (length c.args.spare.now) (length c.args.cords.now) (length c.args.lows.now) (length c.args.wants.now) (length c.args.ceilings.now) (length c.args.needs.now) = c.requires.space in
     let room : RoomFound table c.args.demands.now counts = found c.admit-loaded.ensures.answer c.in-Good.is in
-    let cords-few : counts.cords ≤ length c.args.cords.now = omega (arith, space.for-cords, counted.cords-few room) in
-    cords-few
+    let cords_few : counts.cords ≤ length c.args.cords.now = omega (arith, space.for_cords, counted.cords_few room) in
+    cords_few
 
 pub slice_bounds-load_cords-end-in-Good : goal.slice_bounds-load_cords-end-in-Good
 slice_bounds-load_cords-end-in-Good c =
@@ -102,8 +102,8 @@ slice_bounds-load_cords-end-in-Good c =
     let counts : Counts = c.in-Good.counts in
     let space : LoadSpace (length c.args.parents.now) (length c.args.spare.now) (length c.args.cords.now) (length c.args.lows.now) (length c.args.wants.now) (length c.args.ceilings.now) (length c.args.needs.now) = c.requires.space in
     let room : RoomFound table c.args.demands.now counts = found c.admit-loaded.ensures.answer c.in-Good.is in
-    let cords-few : counts.cords ≤ length c.args.cords.now = omega (arith, space.for-cords, counted.cords-few room) in
-    front _ cords-few
+    let cords_few : counts.cords ≤ length c.args.cords.now = omega (arith, space.for_cords, counted.cords_few room) in
+    front _ cords_few
 
 pub slice_bounds-load_cords-end-in-Good-2 : goal.slice_bounds-load_cords-end-in-Good-2
 slice_bounds-load_cords-end-in-Good-2 c =
@@ -111,8 +111,8 @@ slice_bounds-load_cords-end-in-Good-2 c =
     let counts : Counts = c.in-Good.counts in
     let space : LoadSpace (length c.args.parents.now) (length c.args.spare.now) (length c.args.cords.now) (length c.args.lows.now) (length c.args.wants.now) (length c.args.ceilings.now) (length c.args.needs.now) = c.requires.space in
     let room : RoomFound table c.args.demands.now counts = found c.admit-loaded.ensures.answer c.in-Good.is in
-    let lows-few : counts.cords ≤ length c.args.lows.now = omega (arith, space.for-lows, counted.cords-few room) in
-    lows-few
+    let lows_few : counts.cords ≤ length c.args.lows.now = omega (arith, space.for_lows, counted.cords_few room) in
+    lows_few
 
 pub slice_bounds-load_cords-end-in-Good-3 : goal.slice_bounds-load_cords-end-in-Good-3
 slice_bounds-load_cords-end-in-Good-3 c =
@@ -120,8 +120,8 @@ slice_bounds-load_cords-end-in-Good-3 c =
     let counts : Counts = c.in-Good.counts in
     let space : LoadSpace (length c.args.parents.now) (length c.args.spare.now) (length c.args.cords.now) (length c.args.lows.now) (length c.args.wants.now) (length c.args.ceilings.now) (length c.args.needs.now) = c.requires.space in
     let room : RoomFound table c.args.demands.now counts = found c.admit-loaded.ensures.answer c.in-Good.is in
-    let lows-few : counts.cords ≤ length c.args.lows.now = omega (arith, space.for-lows, counted.cords-few room) in
-    front _ lows-few
+    let lows_few : counts.cords ≤ length c.args.lows.now = omega (arith, space.for_lows, counted.cords_few room) in
+    front _ lows_few
 
 pub slice_bounds-load_cords-end-in-Good-4 : goal.slice_bounds-load_cords-end-in-Good-4
 slice_bounds-load_cords-end-in-Good-4 c =
@@ -129,8 +129,8 @@ slice_bounds-load_cords-end-in-Good-4 c =
     let counts : Counts = c.in-Good.counts in
     let space : LoadSpace (length c.args.parents.now) (length c.args.spare.now) (length c.args.cords.now) (length c.args.lows.now) (length c.args.wants.now) (length c.args.ceilings.now) (length c.args.needs.now) = c.requires.space in
     let room : RoomFound table c.args.demands.now counts = found c.admit-loaded.ensures.answer c.in-Good.is in
-    let wants-few : counts.cords ≤ length c.args.wants.now = omega (arith, space.for-wants, counted.cords-few room) in
-    wants-few
+    let wants_few : counts.cords ≤ length c.args.wants.now = omega (arith, space.for_wants, counted.cords_few room) in
+    wants_few
 
 pub slice_bounds-load_cords-end-in-Good-5 : goal.slice_bounds-load_cords-end-in-Good-5
 slice_bounds-load_cords-end-in-Good-5 c =
@@ -138,8 +138,8 @@ slice_bounds-load_cords-end-in-Good-5 c =
     let counts : Counts = c.in-Good.counts in
     let space : LoadSpace (length c.args.parents.now) (length c.args.spare.now) (length c.args.cords.now) (length c.args.lows.now) (length c.args.wants.now) (length c.args.ceilings.now) (length c.args.needs.now) = c.requires.space in
     let room : RoomFound table c.args.demands.now counts = found c.admit-loaded.ensures.answer c.in-Good.is in
-    let wants-few : counts.cords ≤ length c.args.wants.now = omega (arith, space.for-wants, counted.cords-few room) in
-    front _ wants-few
+    let wants_few : counts.cords ≤ length c.args.wants.now = omega (arith, space.for_wants, counted.cords_few room) in
+    front _ wants_few
 
 pub slice_bounds-load_cords-end-in-Good-6 : goal.slice_bounds-load_cords-end-in-Good-6
 slice_bounds-load_cords-end-in-Good-6 c =
@@ -147,8 +147,8 @@ slice_bounds-load_cords-end-in-Good-6 c =
     let counts : Counts = c.in-Good.counts in
     let space : LoadSpace (length c.args.parents.now) (length c.args.spare.now) (length c.args.cords.now) (length c.args.lows.now) (length c.args.wants.now) (length c.args.ceilings.now) (length c.args.needs.now) = c.requires.space in
     let room : RoomFound table c.args.demands.now counts = found c.admit-loaded.ensures.answer c.in-Good.is in
-    let ceilings-few : counts.cords ≤ length c.args.ceilings.now = omega (arith, space.for-ceilings, counted.cords-few room) in
-    ceilings-few
+    let ceilings_few : counts.cords ≤ length c.args.ceilings.now = omega (arith, space.for_ceilings, counted.cords_few room) in
+    ceilings_few
 
 pub slice_bounds-load_cords-end-in-Good-7 : goal.slice_bounds-load_cords-end-in-Good-7
 slice_bounds-load_cords-end-in-Good-7 c =
@@ -156,8 +156,8 @@ slice_bounds-load_cords-end-in-Good-7 c =
     let counts : Counts = c.in-Good.counts in
     let space : LoadSpace (length c.args.parents.now) (length c.args.spare.now) (length c.args.cords.now) (length c.args.lows.now) (length c.args.wants.now) (length c.args.ceilings.now) (length c.args.needs.now) = c.requires.space in
     let room : RoomFound table c.args.demands.now counts = found c.admit-loaded.ensures.answer c.in-Good.is in
-    let ceilings-few : counts.cords ≤ length c.args.ceilings.now = omega (arith, space.for-ceilings, counted.cords-few room) in
-    front _ ceilings-few
+    let ceilings_few : counts.cords ≤ length c.args.ceilings.now = omega (arith, space.for_ceilings, counted.cords_few room) in
+    front _ ceilings_few
 
 pub slice_bounds-load_cords-end-in-Good-8 : goal.slice_bounds-load_cords-end-in-Good-8
 slice_bounds-load_cords-end-in-Good-8 c =
@@ -165,8 +165,8 @@ slice_bounds-load_cords-end-in-Good-8 c =
     let counts : Counts = c.in-Good.counts in
     let space : LoadSpace (length c.args.parents.now) (length c.args.spare.now) (length c.args.cords.now) (length c.args.lows.now) (length c.args.wants.now) (length c.args.ceilings.now) (length c.args.needs.now) = c.requires.space in
     let room : RoomFound table c.args.demands.now counts = found c.admit-loaded.ensures.answer c.in-Good.is in
-    let needs-few : counts.servers ≤ length c.args.needs.now = omega (arith, space.for-needs, counted.servers-few room) in
-    needs-few
+    let needs_few : counts.servers ≤ length c.args.needs.now = omega (arith, space.for_needs, counted.servers_few room) in
+    needs_few
 
 pub slice_bounds-load_cords-end-in-Good-9 : goal.slice_bounds-load_cords-end-in-Good-9
 slice_bounds-load_cords-end-in-Good-9 c =
@@ -174,8 +174,8 @@ slice_bounds-load_cords-end-in-Good-9 c =
     let counts : Counts = c.in-Good.counts in
     let space : LoadSpace (length c.args.parents.now) (length c.args.spare.now) (length c.args.cords.now) (length c.args.lows.now) (length c.args.wants.now) (length c.args.ceilings.now) (length c.args.needs.now) = c.requires.space in
     let room : RoomFound table c.args.demands.now counts = found c.admit-loaded.ensures.answer c.in-Good.is in
-    let needs-few : counts.servers ≤ length c.args.needs.now = omega (arith, space.for-needs, counted.servers-few room) in
-    front _ needs-few
+    let needs_few : counts.servers ≤ length c.args.needs.now = omega (arith, space.for_needs, counted.servers_few room) in
+    front _ needs_few
 
 pub load_cords-requires : goal.load_cords-requires
 load_cords-requires c =
@@ -187,13 +187,13 @@ load_cords-requires c =
       lists =
           let f = room in
           record {
-            good-table = found-good f;
-            demands-fit = demands-fit f;
-            cords-fit = cords-lent f _ space.for-cords;
-            lows-fit = cords-lent f _ space.for-lows;
-            wants-fit = cords-lent f _ space.for-wants;
-            ceilings-fit = cords-lent f _ space.for-ceilings;
-            needs-fit = servers-lent f _ space.for-needs;
+            good_table = found_good f;
+            demands_fit = demands_fit f;
+            cords-fit = cords-lent f _ space.for_cords;
+            lows_fit = cords-lent f _ space.for_lows;
+            wants_fit = cords-lent f _ space.for_wants;
+            ceilings_fit = cords-lent f _ space.for_ceilings;
+            needs_fit = servers-lent f _ space.for_needs;
           };
     }
 
@@ -203,24 +203,24 @@ returns-in-Good c =
     let counts : Counts = c.in-Good.counts in
     let space : LoadSpace (length c.args.parents.now) (length c.args.spare.now) (length c.args.cords.now) (length c.args.lows.now) (length c.args.wants.now) (length c.args.ceilings.now) (length c.args.needs.now) = c.requires.space in
     let room : RoomFound table c.args.demands.now counts = found c.admit-loaded.ensures.answer c.in-Good.is in
-    let parents-few : counts.nodes ≤ length c.args.parents.now = omega (arith, space.for-parents, counted.nodes-few room) in
-    let spare-few : counts.nodes ≤ length c.args.spare.now = omega (arith, space.for-spare, counted.nodes-few room) in
-    let cords-few : counts.cords ≤ length c.args.cords.now = omega (arith, space.for-cords, counted.cords-few room) in
-    let lows-few : counts.cords ≤ length c.args.lows.now = omega (arith, space.for-lows, counted.cords-few room) in
-    let wants-few : counts.cords ≤ length c.args.wants.now = omega (arith, space.for-wants, counted.cords-few room) in
-    let ceilings-few : counts.cords ≤ length c.args.ceilings.now = omega (arith, space.for-ceilings, counted.cords-few room) in
-    let needs-few : counts.servers ≤ length c.args.needs.now = omega (arith, space.for-needs, counted.servers-few room) in
+    let parents_few : counts.nodes ≤ length c.args.parents.now = omega (arith, space.for_parents, counted.nodes_few room) in
+    let spare_few : counts.nodes ≤ length c.args.spare.now = omega (arith, space.for_spare, counted.nodes_few room) in
+    let cords_few : counts.cords ≤ length c.args.cords.now = omega (arith, space.for_cords, counted.cords_few room) in
+    let lows_few : counts.cords ≤ length c.args.lows.now = omega (arith, space.for_lows, counted.cords_few room) in
+    let wants_few : counts.cords ≤ length c.args.wants.now = omega (arith, space.for_wants, counted.cords_few room) in
+    let ceilings_few : counts.cords ≤ length c.args.ceilings.now = omega (arith, space.for_ceilings, counted.cords_few room) in
+    let needs_few : counts.servers ≤ length c.args.needs.now = omega (arith, space.for_needs, counted.servers_few room) in
     let f = room in
     record {
       answer = sym c.in-Good.is ∙ c.admit-loaded.ensures.answer;
       lists = lists-loaded f {spare' = c.load_nodes.new.spare} c.load_nodes.ensures.laid_out c.load_cords.ensures.laid_out
-          (record { few = parents-few; kept = c.load_nodes.auto.parents })
-          (record { few = spare-few; kept = c.load_nodes.auto.spare })
-          (record { few = cords-few; kept = c.load_cords.auto.cords })
-          (record { few = lows-few; kept = c.load_cords.auto.lows })
-          (record { few = wants-few; kept = c.load_cords.auto.wants })
-          (record { few = ceilings-few; kept = c.load_cords.auto.ceilings })
-          (record { few = needs-few; kept = c.load_cords.auto.needs });
+          (record { few = parents_few; kept = c.load_nodes.auto.parents })
+          (record { few = spare_few; kept = c.load_nodes.auto.spare })
+          (record { few = cords_few; kept = c.load_cords.auto.cords })
+          (record { few = lows_few; kept = c.load_cords.auto.lows })
+          (record { few = wants_few; kept = c.load_cords.auto.wants })
+          (record { few = ceilings_few; kept = c.load_cords.auto.ceilings })
+          (record { few = needs_few; kept = c.load_cords.auto.needs });
     }
 
 pub returns-in-Refused : goal.returns-in-Refused
@@ -228,5 +228,5 @@ returns-in-Refused c =
     let told = sym c.in-Refused.is ∙ c.admit-loaded.ensures.answer in
     record {
       answer = told;
-      lists = λ r e. absurd (none-loaded c.args.table.now c.args.demands.now told r e);
+      lists = λ r e. absurd (none_loaded c.args.table.now c.args.demands.now told r e);
     }

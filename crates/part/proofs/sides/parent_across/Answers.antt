@@ -1,20 +1,20 @@
 -- `parent_across` meets its contract: no parent before i is across.
 use mathlib.Core.Path.{refl, ◌∙◌}
 use native.Mathlib.Omega.{arith}
-use Rattle.part.proofs.AcrossLaws.{parent-found, parents-end, parents-again}
+use Rattle.part.proofs.AcrossLaws.{parent_found, parents_end, parents_again}
 use Rattle.part.proofs.sides.parent_across.Goals as goal
 
 pub loop-i-init : goal.loop-i-init
 loop-i-init c = refl
 
 pub returns-then-across : goal.returns-then-across
-returns-then-across c = record { is = parent-found _ _ _ _ _ c.loop-i-test.true c.requires.there c.across.ensures.is c.if-across.true ∙ c.loop-i.invariant }
+returns-then-across c = record { is = parent_found _ _ _ _ _ c.loop-i-test.true c.requires.there c.across.ensures.is c.if-across.true ∙ c.loop-i.invariant }
 
 pub loop-i-smaller : goal.loop-i-smaller
 loop-i-smaller c = omega (arith, c.loop-i-test.true, c.requires.width)
 
 pub loop-i-preserved : goal.loop-i-preserved
-loop-i-preserved c = parents-again _ _ _ _ _ c.requires.width.0 c.loop-i-test.true c.requires.there c.across.ensures.is c.if-across.false c.loop-i.invariant
+loop-i-preserved c = parents_again _ _ _ _ _ c.requires.width.0 c.loop-i-test.true c.requires.there c.across.ensures.is c.if-across.false c.loop-i.invariant
 
 pub returns : goal.returns
-returns c = record { is = parents-end _ _ _ _ _ (omega (arith, c.loop-i-test.false)) ∙ c.loop-i.invariant }
+returns c = record { is = parents_end _ _ _ _ _ (omega (arith, c.loop-i-test.false)) ∙ c.loop-i.invariant }

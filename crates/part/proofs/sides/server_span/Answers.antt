@@ -2,13 +2,13 @@
 use mathlib.Core.Path.{refl}
 use Prim.Native.Nat.{◌+◌, ◌<◌}
 use native.Mathlib.Omega.{arith}
-use Rattle.part.proofs.AcrossLaws.{span-past, span-here}
+use Rattle.part.proofs.AcrossLaws.{span_past, span-here}
 use Rattle.part.proofs.sides.server_span.Goals as goal
 
 pub returns-then-words-i : goal.returns-then-words-i
 returns-then-words-i c =
     record {
-      is = span-past c.args.words.now c.args.i (omega arith);
+      is = span_past c.args.words.now c.args.i (omega arith);
       small = omega arith;
       none = λ _. refl;
     }

@@ -1,10 +1,10 @@
 -- `servers_end` meets its contract: what is left of the servers starts at i.
 use native.Mathlib.Omega.{arith}
-use Rattle.part.proofs.AcrossLaws.{span-begin, span-near, span_more, span-done}
+use Rattle.part.proofs.AcrossLaws.{span_begin, span_near, span_more, span_done}
 use Rattle.part.proofs.sides.servers_end.Goals as goal
 
 pub loop-init : goal.loop-init
-loop-init c = (span-begin c.args.table.now c.args.start c.args.servers, omega (arith, c.requires.there))
+loop-init c = (span_begin c.args.table.now c.args.start c.args.servers, omega (arith, c.requires.there))
 
 pub server_span-i-requires : goal.server_span-i-requires
 server_span-i-requires c = record { below = c.requires.below }
@@ -13,7 +13,7 @@ pub overflow_add-i : goal.overflow_add-i
 overflow_add-i c = omega (arith, c.loop.invariant.1, c.server_span-i.ensures.small)
 
 pub loop-preserved : goal.loop-preserved
-loop-preserved c = (span_more _ _ c.server_span-i.ensures.is (omega (arith, c.loop-test.true)) c.loop.invariant.0, span-near _ _ _ _ c.server_span-i.ensures.none c.server_span-i.ensures.small c.loop.invariant.1)
+loop-preserved c = (span_more _ _ c.server_span-i.ensures.is (omega (arith, c.loop-test.true)) c.loop.invariant.0, span_near _ _ _ _ c.server_span-i.ensures.none c.server_span-i.ensures.small c.loop.invariant.1)
 
 pub returns : goal.returns
-returns c = record { is = span-done _ _ (omega (arith, c.loop-test.false)) c.loop.invariant.0 }
+returns c = record { is = span_done _ _ (omega (arith, c.loop-test.false)) c.loop.invariant.0 }

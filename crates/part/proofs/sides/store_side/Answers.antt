@@ -1,7 +1,7 @@
 -- `store_side` meets its contract: the table is put together whole, and stored whole.
 use mathlib.Core.Path.{sym}
 use lib.Seq.{length-take-le}
-use Rattle.part.proofs.SidesMade.{side-stored}
+use Rattle.part.proofs.SidesMade.{side_stored}
 use borrow.Author.Rules.{rules}
 use Rattle.part.proofs.sides.store_side.Goals as goal
 
@@ -10,5 +10,5 @@ slice_bounds-store-end-2 c = sym (length-take-le _ _ (search rules))
 
 pub returns : goal.returns
 returns c =
-    let both = side-stored c.args.table.now c.args.side c.requires.fits c.args.words.now c.args.output.now c.put_side-count.ensures.put c.requires.space.1 c.store.ensures.stored in
+    let both = side_stored c.args.table.now c.args.side c.requires.fits c.args.words.now c.args.output.now c.put_side-count.ensures.put c.requires.space.1 c.store.ensures.stored in
     record { count = both.0; stored = both.1 }

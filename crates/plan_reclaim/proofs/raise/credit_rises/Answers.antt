@@ -2,11 +2,11 @@
 use mathlib.Core.Path.{◌≡◌}
 use native.Mathlib.Omega.{arith}
 use lib.ListN.{length}
-use Rattle.plan_reclaim.proofs.Raising.{rises-start, rise-fits, rises-turn, rises-most, rises-end}
+use Rattle.plan_reclaim.proofs.Raising.{rises_start, rise_fits, rises_turn, rises_most, rises_end}
 use Rattle.plan_reclaim.proofs.raise.credit_rises.Goals as goal
 
 pub loop-c-init : goal.loop-c-init
-loop-c-init c = (omega arith, rises-start c.requires.zeros)
+loop-c-init c = (omega arith, rises_start c.requires.zeros)
 
 pub bounds-starts-c : goal.bounds-starts-c
 bounds-starts-c c = omega (arith, c.requires.sizes.2, c.loop-c-test.true)
@@ -19,11 +19,11 @@ overflow_sub-starts c = (c.requires.cords _ c.loop-c-test.true).2
 
 pub credit-requires : goal.credit-requires
 credit-requires c =
-    let both = rise-fits c.loop-c.invariant.1 c.index.ensures.result.0 c.wide.ensures.result.0 (c.requires.cords _ c.loop-c-test.true) (omega (arith, c.requires.sizes.0, c.loop-c-test.true)) in
+    let both = rise_fits c.loop-c.invariant.1 c.index.ensures.result.0 c.wide.ensures.result.0 (c.requires.cords _ c.loop-c-test.true) (omega (arith, c.requires.sizes.0, c.loop-c-test.true)) in
     record { node = both.0; no_overflow = both.1 }
 
 pub loop-c-preserved : goal.loop-c-preserved
-loop-c-preserved c = (omega (arith, c.loop-c-test.true), rises-turn c.loop-c.invariant.1 c.index.ensures.result.0 c.wide.ensures.result.0 (c.requires.cords _ c.loop-c-test.true) c.credit.ensures.credited)
+loop-c-preserved c = (omega (arith, c.loop-c-test.true), rises_turn c.loop-c.invariant.1 c.index.ensures.result.0 c.wide.ensures.result.0 (c.requires.cords _ c.loop-c-test.true) c.credit.ensures.credited)
 
 pub shape_of-raised : goal.shape_of-raised
 shape_of-raised c = c.loop-c.invariant.1.size
@@ -32,6 +32,6 @@ pub returns : goal.returns
 returns c =
     let all : c.loop-c.c ≡ length c.args.nodes.now = omega (arith, c.loop-c.invariant.0, c.loop-c-test.false) in
     record {
-      in_range = rises-most c.loop-c.invariant.1 all c.requires.sizes.0;
-      raised = rises-end c.loop-c.invariant.1 all;
+      in_range = rises_most c.loop-c.invariant.1 all c.requires.sizes.0;
+      raised = rises_end c.loop-c.invariant.1 all;
     }

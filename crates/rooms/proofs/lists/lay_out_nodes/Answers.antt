@@ -7,13 +7,13 @@ use mathlib.Core.List.{List}
 use Prim.Native.Nat.{ℕ, ◌+◌, ◌≤◌, ◌<◌}
 use native.Mathlib.Omega.{arith}
 use lib.ListN.{length}
-use Rattle.figures.proofs.Filled.{filled_none, filled-one, filled-all}
+use Rattle.figures.proofs.Filled.{filled_none, filled_one, filled_all}
 use Rattle.rooms.specs.Limits.{limit, node_at, parent_of}
 use Rattle.rooms.specs.Lists.{parents_of, limits_of}
 use Rattle.rooms.specs.Table.{most_nodes, node_words}
 use Rattle.rooms.specs.Credits.{node_from, NodesRead}
-use Rattle.rooms.proofs.NodeWords.{words-two, node-fits, parent-here, limit-here}
-use Rattle.rooms.proofs.Counts.{nodes-there, parents-are, limits-are, alike}
+use Rattle.rooms.proofs.NodeWords.{words_two, node_fits, parent_here, limit-here}
+use Rattle.rooms.proofs.Counts.{nodes_there, parents_are, limits_are, alike}
 use Rattle.rooms.proofs.lists.lay_out_nodes.Goals as goal
 
 pub loop-m-init : goal.loop-m-init
@@ -23,7 +23,7 @@ pub node_index-i-requires : goal.node_index-i-requires
 node_index-i-requires c =
     let table : List ℕ = c.args.table.now in
     let percents : Bool = c.has_percents-percents.result in
-    let nodes : NodesRead percents table (length c.args.parents.now) = nodes-there table c.word.ensures.result c.has_percents-percents.ensures.result c.requires.sizes.0 c.requires.good in
+    let nodes : NodesRead percents table (length c.args.parents.now) = nodes_there table c.word.ensures.result c.has_percents-percents.ensures.result c.requires.sizes.0 c.requires.good in
     let few : c.loop-m.m < most_nodes = omega (arith, nodes.few, c.loop-m-test.true) in
     record { place = omega (arith, few) }
 
@@ -31,31 +31,31 @@ pub offset_bounds-table-i : goal.offset_bounds-table-i
 offset_bounds-table-i c =
     let table : List ℕ = c.args.table.now in
     let percents : Bool = c.has_percents-percents.result in
-    let nodes : NodesRead percents table (length c.args.parents.now) = nodes-there table c.word.ensures.result c.has_percents-percents.ensures.result c.requires.sizes.0 c.requires.good in
-    let fits : (c.node_index-i.result + node_words percents ≤ length table) × ((node_from percents table c.node_index-i.result).percent ≤ 100) = node-fits _ _ _ c.node_index-i.ensures.result nodes c.loop-m-test.true in
+    let nodes : NodesRead percents table (length c.args.parents.now) = nodes_there table c.word.ensures.result c.has_percents-percents.ensures.result c.requires.sizes.0 c.requires.good in
+    let fits : (c.node_index-i.result + node_words percents ≤ length table) × ((node_from percents table c.node_index-i.result).percent ≤ 100) = node_fits _ _ _ c.node_index-i.ensures.result nodes c.loop-m-test.true in
     omega (arith, fits.0)
 
 pub bounds-table-i : goal.bounds-table-i
 bounds-table-i c =
     let table : List ℕ = c.args.table.now in
     let percents : Bool = c.has_percents-percents.result in
-    let nodes : NodesRead percents table (length c.args.parents.now) = nodes-there table c.word.ensures.result c.has_percents-percents.ensures.result c.requires.sizes.0 c.requires.good in
-    let fits : (c.node_index-i.result + node_words percents ≤ length table) × ((node_from percents table c.node_index-i.result).percent ≤ 100) = node-fits _ _ _ c.node_index-i.ensures.result nodes c.loop-m-test.true in
-    omega (arith, fits.0, words-two percents)
+    let nodes : NodesRead percents table (length c.args.parents.now) = nodes_there table c.word.ensures.result c.has_percents-percents.ensures.result c.requires.sizes.0 c.requires.good in
+    let fits : (c.node_index-i.result + node_words percents ≤ length table) × ((node_from percents table c.node_index-i.result).percent ≤ 100) = node_fits _ _ _ c.node_index-i.ensures.result nodes c.loop-m-test.true in
+    omega (arith, fits.0, words_two percents)
 
 pub short-requires : goal.short-requires
 short-requires c =
     let table : List ℕ = c.args.table.now in
     let percents : Bool = c.has_percents-percents.result in
-    let nodes : NodesRead percents table (length c.args.parents.now) = nodes-there table c.word.ensures.result c.has_percents-percents.ensures.result c.requires.sizes.0 c.requires.good in
+    let nodes : NodesRead percents table (length c.args.parents.now) = nodes_there table c.word.ensures.result c.has_percents-percents.ensures.result c.requires.sizes.0 c.requires.good in
     let few : c.loop-m.m < most_nodes = omega (arith, nodes.few, c.loop-m-test.true) in
-    record { fits = omega (arith, parent-here percents table _ c.node_index-i.ensures.result refl, nodes.rises _ c.loop-m-test.true, few) }
+    record { fits = omega (arith, parent_here percents table _ c.node_index-i.ensures.result refl, nodes.rises _ c.loop-m-test.true, few) }
 
 pub offset_bounds-parents-m : goal.offset_bounds-parents-m
 offset_bounds-parents-m c =
     let table : List ℕ = c.args.table.now in
     let percents : Bool = c.has_percents-percents.result in
-    let nodes : NodesRead percents table (length c.args.parents.now) = nodes-there table c.word.ensures.result c.has_percents-percents.ensures.result c.requires.sizes.0 c.requires.good in
+    let nodes : NodesRead percents table (length c.args.parents.now) = nodes_there table c.word.ensures.result c.has_percents-percents.ensures.result c.requires.sizes.0 c.requires.good in
     let few : c.loop-m.m < most_nodes = omega (arith, nodes.few, c.loop-m-test.true) in
     omega (arith, few)
 
@@ -66,15 +66,15 @@ pub limit_at-requires : goal.limit_at-requires
 limit_at-requires c =
     let table : List ℕ = c.args.table.now in
     let percents : Bool = c.has_percents-percents.result in
-    let nodes : NodesRead percents table (length c.args.parents.now) = nodes-there table c.word.ensures.result c.has_percents-percents.ensures.result c.requires.sizes.0 c.requires.good in
-    let fits : (c.node_index-i.result + node_words percents ≤ length table) × ((node_from percents table c.node_index-i.result).percent ≤ 100) = node-fits _ _ _ c.node_index-i.ensures.result nodes c.loop-m-test.true in
+    let nodes : NodesRead percents table (length c.args.parents.now) = nodes_there table c.word.ensures.result c.has_percents-percents.ensures.result c.requires.sizes.0 c.requires.good in
+    let fits : (c.node_index-i.result + node_words percents ≤ length table) × ((node_from percents table c.node_index-i.result).percent ≤ 100) = node_fits _ _ _ c.node_index-i.ensures.result nodes c.loop-m-test.true in
     record { there = fits }
 
 pub offset_bounds-limits-m : goal.offset_bounds-limits-m
 offset_bounds-limits-m c =
     let table : List ℕ = c.args.table.now in
     let percents : Bool = c.has_percents-percents.result in
-    let nodes : NodesRead percents table (length c.args.parents.now) = nodes-there table c.word.ensures.result c.has_percents-percents.ensures.result c.requires.sizes.0 c.requires.good in
+    let nodes : NodesRead percents table (length c.args.parents.now) = nodes_there table c.word.ensures.result c.has_percents-percents.ensures.result c.requires.sizes.0 c.requires.good in
     let few : c.loop-m.m < most_nodes = omega (arith, nodes.few, c.loop-m-test.true) in
     omega (arith, few)
 
@@ -88,7 +88,7 @@ pub overflow_step-m : goal.overflow_step-m
 overflow_step-m c =
     let table : List ℕ = c.args.table.now in
     let percents : Bool = c.has_percents-percents.result in
-    let nodes : NodesRead percents table (length c.args.parents.now) = nodes-there table c.word.ensures.result c.has_percents-percents.ensures.result c.requires.sizes.0 c.requires.good in
+    let nodes : NodesRead percents table (length c.args.parents.now) = nodes_there table c.word.ensures.result c.has_percents-percents.ensures.result c.requires.sizes.0 c.requires.good in
     let few : c.loop-m.m < most_nodes = omega (arith, nodes.few, c.loop-m-test.true) in
     omega (arith, few)
 
@@ -101,8 +101,8 @@ loop-m-preserved c =
     let percents : Bool = c.has_percents-percents.result in
     let sizes : length c.args.parents.now ≡ length c.args.limits.now = alike table c.requires.good c.requires.sizes.0 c.requires.sizes.1 in (
       omega (arith, c.loop-m-test.true),
-      filled-one _ c.loop-m.invariant.1 c.loop-m-test.true (c.short.ensures.result ∙ parent-here percents table _ c.node_index-i.ensures.result refl),
-      filled-one _ c.loop-m.invariant.2 (omega (arith, c.loop-m-test.true, sizes)) (limit-here percents table _ c.node_index-i.ensures.result c.limit_at.ensures.result),
+      filled_one _ c.loop-m.invariant.1 c.loop-m-test.true (c.short.ensures.result ∙ parent_here percents table _ c.node_index-i.ensures.result refl),
+      filled_one _ c.loop-m.invariant.2 (omega (arith, c.loop-m-test.true, sizes)) (limit-here percents table _ c.node_index-i.ensures.result c.limit_at.ensures.result),
     )
 
 pub shape_of-parents : goal.shape_of-parents
@@ -118,9 +118,9 @@ returns c =
     record {
       laid_out =
           λ r end e. (
-            filled-all (length r.nodes) (parent_of r) c.loop-m.invariant.1 (c.requires.sizes.0 r end e) (omega (arith, c.requires.sizes.0 r end e))
-                (λ i h. parents-are table c.word.ensures.result c.has_percents-percents.ensures.result c.requires.sizes.0 r end e i (omega (arith, c.requires.sizes.0 r end e))),
-            filled-all (length r.nodes) (λ m. limit (node_at r m)) c.loop-m.invariant.2 (c.requires.sizes.1 r end e) (omega (arith, c.requires.sizes.0 r end e))
-                (λ i h. limits-are table c.word.ensures.result c.has_percents-percents.ensures.result c.requires.sizes.0 r end e i (omega (arith, c.requires.sizes.0 r end e))),
+            filled_all (length r.nodes) (parent_of r) c.loop-m.invariant.1 (c.requires.sizes.0 r end e) (omega (arith, c.requires.sizes.0 r end e))
+                (λ i h. parents_are table c.word.ensures.result c.has_percents-percents.ensures.result c.requires.sizes.0 r end e i (omega (arith, c.requires.sizes.0 r end e))),
+            filled_all (length r.nodes) (λ m. limit (node_at r m)) c.loop-m.invariant.2 (c.requires.sizes.1 r end e) (omega (arith, c.requires.sizes.0 r end e))
+                (λ i h. limits_are table c.word.ensures.result c.has_percents-percents.ensures.result c.requires.sizes.0 r end e i (omega (arith, c.requires.sizes.0 r end e))),
           );
     }

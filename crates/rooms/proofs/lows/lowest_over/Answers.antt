@@ -3,12 +3,12 @@ use Prim.Native.Nat.{◌-◌, ◌<◌}
 use mathlib.Core.Path.{refl, ◌∙◌}
 use native.Mathlib.Omega.{arith}
 use borrow.Author.Rules.{rules}
-use Rattle.rooms.proofs.NodeWords.{words-two, node-fits, parent-here, limit-here}
-use Rattle.rooms.proofs.Gather.{gathered-start, gathered-end, gathered-sums, gathered-most, gathered-turn}
+use Rattle.rooms.proofs.NodeWords.{words_two, node_fits, parent_here, limit-here}
+use Rattle.rooms.proofs.Gather.{gathered_start, gathered_end, gathered_sums, gathered_most, gathered_turn}
 use Rattle.rooms.proofs.lows.lowest_over.Goals as goal
 
 pub loop-n-init : goal.loop-n-init
-loop-n-init c = gathered-start _ _ _ _
+loop-n-init c = gathered_start _ _ _ _
 
 pub offset_bounds-sums-n : goal.offset_bounds-sums-n
 offset_bounds-sums-n c = omega (arith, c.loop-n.invariant.all, c.requires.nodes.0.few)
@@ -20,23 +20,23 @@ pub node_index-i-requires : goal.node_index-i-requires
 node_index-i-requires c = record { place = omega (arith, c.loop-n.invariant.all, c.requires.nodes.0.few) }
 
 pub limit_at-requires : goal.limit_at-requires
-limit_at-requires c = record { there = node-fits _ _ _ c.node_index-i.ensures.result c.requires.nodes.0 (omega (arith, c.loop-n.invariant.all, c.loop-n-test.true)) }
+limit_at-requires c = record { there = node_fits _ _ _ c.node_index-i.ensures.result c.requires.nodes.0 (omega (arith, c.loop-n.invariant.all, c.loop-n-test.true)) }
 
 pub noted-found-requires : goal.noted-found-requires
 noted-found-requires c = record { place = omega (arith, c.loop-n.invariant.all, c.requires.nodes.0.few, c.loop-n-test.true) }
 
 pub offset_bounds-w-i : goal.offset_bounds-w-i
-offset_bounds-w-i c = omega (arith, (node-fits _ _ _ c.node_index-i.ensures.result c.requires.nodes.0 (omega (arith, c.loop-n.invariant.all, c.loop-n-test.true))).0)
+offset_bounds-w-i c = omega (arith, (node_fits _ _ _ c.node_index-i.ensures.result c.requires.nodes.0 (omega (arith, c.loop-n.invariant.all, c.loop-n-test.true))).0)
 
 pub bounds-w-i : goal.bounds-w-i
-bounds-w-i c = omega (arith, (node-fits _ _ _ c.node_index-i.ensures.result c.requires.nodes.0 (omega (arith, c.loop-n.invariant.all, c.loop-n-test.true))).0, words-two c.args.percents)
+bounds-w-i c = omega (arith, (node_fits _ _ _ c.node_index-i.ensures.result c.requires.nodes.0 (omega (arith, c.loop-n.invariant.all, c.loop-n-test.true))).0, words_two c.args.percents)
 
 pub credit-requires : goal.credit-requires
 credit-requires c =
     let inside : c.loop-n.n - 1 < c.args.node_count = omega (arith, c.loop-n.invariant.all, c.loop-n-test.true) in
-    let above = parent-here c.args.percents c.args.w.now _ c.node_index-i.ensures.result c.word_index.ensures.result.0 in
+    let above = parent_here c.args.percents c.args.w.now _ c.node_index-i.ensures.result c.word_index.ensures.result.0 in
     let rise = c.requires.nodes.0.rises (c.loop-n.n - 1) inside in
-    let most = gathered-most c.requires.nodes.0.rises c.loop-n.invariant in
+    let most = gathered_most c.requires.nodes.0.rises c.loop-n.invariant in
     record {
       node = omega (arith, c.loop-n.invariant.all, c.loop-n.invariant.size, c.requires.nodes.1, above, rise);
       no_overflow = omega (arith, most (c.loop-n.n - 1) inside, most (c.word_index.result - 1) (omega (arith, c.loop-n.invariant.all, above, rise)), c.requires.sums_fit);
@@ -45,8 +45,8 @@ credit-requires c =
 pub loop-n-preserved : goal.loop-n-preserved
 loop-n-preserved c =
     let limit = limit-here c.args.percents c.args.w.now _ c.node_index-i.ensures.result (c.wide.ensures.result.0 ∙ c.limit_at.ensures.result) in
-    let above = parent-here c.args.percents c.args.w.now _ c.node_index-i.ensures.result c.word_index.ensures.result.0 in
-    gathered-turn c.requires.nodes.0.rises c.loop-n.invariant c.loop-n-test.true c.requires.nodes.1 limit refl above c.noted-found.ensures.result c.credit.ensures.credited
+    let above = parent_here c.args.percents c.args.w.now _ c.node_index-i.ensures.result c.word_index.ensures.result.0 in
+    gathered_turn c.requires.nodes.0.rises c.loop-n.invariant c.loop-n-test.true c.requires.nodes.1 limit refl above c.noted-found.ensures.result c.credit.ensures.credited
 
 pub shape_of-sums : goal.shape_of-sums
 shape_of-sums c = c.loop-n.invariant.size
@@ -54,6 +54,6 @@ shape_of-sums c = c.loop-n.invariant.size
 pub returns : goal.returns
 returns c =
     record {
-      result = gathered-end c.loop-n.invariant (search rules);
-      gathered = gathered-sums c.requires.nodes.0.rises c.loop-n.invariant (search rules);
+      result = gathered_end c.loop-n.invariant (search rules);
+      gathered = gathered_sums c.requires.nodes.0.rises c.loop-n.invariant (search rules);
     }

@@ -6,7 +6,7 @@ use Rattle.rooms.specs.Table.{most_nodes}
 use Rattle.figures.proofs.Filled.{zeros-at}
 use Rattle.figures.proofs.Credits.{sum_zeros}
 use Rattle.rooms.proofs.Places.{layout, nodes-read}
-use Rattle.rooms.proofs.Found.{overloaded-from, lows-from}
+use Rattle.rooms.proofs.Found.{overloaded_from, lows-from}
 use Rattle.rooms.proofs.lows.overloaded.Goals as goal
 
 pub bounds-w-0 : goal.bounds-w-0
@@ -27,6 +27,6 @@ lowest_over-requires c =
 pub returns : goal.returns
 returns c =
     record {
-      result = λ q j e. overloaded-from _ _ _ _ c.has_percents-percents.ensures.result c.word_index-n.ensures.result.0 q j e (c.requires.credited.are q j e) c.lowest_over.ensures.result;
+      result = λ q j e. overloaded_from _ _ _ _ c.has_percents-percents.ensures.result c.word_index-n.ensures.result.0 q j e (c.requires.credited.are q j e) c.lowest_over.ensures.result;
       sums = λ q j e. lows-from _ _ _ c.has_percents-percents.ensures.result c.word_index-n.ensures.result.0 q j e (c.requires.credited.are q j e) c.lowest_over.ensures.gathered;
     }

@@ -2,7 +2,7 @@
 use mathlib.Core.Path.{sym, ap, ◌∙◌}
 use Rattle.rooms.specs.Limits.{lows_told}
 use Rattle.rooms.proofs.Steps.{known}
-use Rattle.rooms.proofs.Outcomes.{refused-so}
+use Rattle.rooms.proofs.Outcomes.{refused_so}
 use Rattle.rooms.proofs.parts.check_lows.Goals as goal
 
 pub returns-in-Refused : goal.returns-in-Refused
@@ -10,7 +10,7 @@ unfolding lows_told
 returns-in-Refused c =
     record {
       result = c.check_summing-checked.ensures.result;
-      lows = c.clear-in-Refused.ensures.zeros ∙ sym (ap lows_told (refused-so _ _ c.check_summing-checked.ensures.result c.in-Refused.is));
+      lows = c.clear-in-Refused.ensures.zeros ∙ sym (ap lows_told (refused_so _ _ c.check_summing-checked.ensures.result c.in-Refused.is));
     }
 
 pub returns : goal.returns

@@ -1,12 +1,12 @@
 -- `read_words` meets its contract: the words that the list takes are at its front, and are answered for.
-use Rattle.rooms.proofs.Outcomes.{whole-so, front_length, first-bad-number, first-answered}
+use Rattle.rooms.proofs.Outcomes.{whole_so, front_length, first_bad_number, first_answered}
 use Rattle.rooms.proofs.parts.read_words.Goals as goal
 
 pub returns-in-Refused : goal.returns-in-Refused
 returns-in-Refused c =
     let args = c.args in
     record {
-      result = first-bad-number args.sheet.now args.words.now args.space c.decode_sheet-judged.ensures.result c.in-Refused.is;
+      result = first_bad_number args.sheet.now args.words.now args.space c.decode_sheet-judged.ensures.result c.in-Refused.is;
       words = c.decode_sheet-judged.ensures.words;
     }
 
@@ -17,6 +17,6 @@ pub returns : goal.returns
 returns c =
     let args = c.args in
     record {
-      result = first-answered args.sheet.now args.words.now args.space (whole-so _ c.decode_sheet-judged.ensures.result c.in-Words.is) c.decode_sheet-judged.ensures.words c.least-front.ensures.result c.answer_for.ensures.result;
+      result = first_answered args.sheet.now args.words.now args.space (whole_so _ c.decode_sheet-judged.ensures.result c.in-Words.is) c.decode_sheet-judged.ensures.words c.least-front.ensures.result c.answer_for.ensures.result;
       words = c.decode_sheet-judged.ensures.words;
     }

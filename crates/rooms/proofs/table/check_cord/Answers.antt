@@ -1,6 +1,6 @@
 -- `check_cord` tells a cord: its two words in order.
 use Rattle.rooms.specs.Table.{cord}
-use Rattle.rooms.proofs.Steps.{stop, pass-word, last}
+use Rattle.rooms.proofs.Steps.{stop, pass_word, last}
 use mathlib.Core.Path.{refl}
 use Rattle.rooms.proofs.table.check_cord.Goals as goal
 
@@ -13,6 +13,6 @@ unfolding cord
 returns c =
     record {
       result =
-          pass-word _ _ _ c.check_word-node.ensures.result c.in-Good.is
+          pass_word _ _ _ c.check_word-node.ensures.result c.in-Good.is
           (last _ _ _ _ (λ _. refl) c.check_word.ensures.result);
     }

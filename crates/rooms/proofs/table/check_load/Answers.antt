@@ -9,8 +9,8 @@ use Rattle.rooms.specs.Table.{Cord, most_server_cords, load}
 use Rattle.rooms.specs.Told.{told}
 use Rattle.rooms.specs.declared.Checked.{Checked}
 use Rattle.rooms.proofs.Inversion.{many-length}
-use Rattle.rooms.proofs.Steps.{Reached, stop, pass, pass-word, ensured, denied, gives, word-told, word-most}
-use Rattle.rooms.proofs.CreditTurns.{stopped, load-credits}
+use Rattle.rooms.proofs.Steps.{Reached, stop, pass, pass_word, ensured, denied, gives, word-told, word_most}
+use Rattle.rooms.proofs.CreditTurns.{stopped, load_credits}
 use Rattle.rooms.proofs.table.check_load.Goals as goal
 
 pub returns-in_default : goal.returns-in_default
@@ -21,8 +21,8 @@ returns-in_default c =
 
 pub check_cords-cords-requires : goal.check_cords-cords-requires
 check_cords-cords-requires c =
-    let count-few : c.in-Good.count ≤ most_server_cords = omega (arith, word-most _ _ _ _ c.check_word-first.ensures.result c.in-Good.is, c.lesser.ensures.result) in
-    let few = count-few in
+    let count_few : c.in-Good.count ≤ most_server_cords = omega (arith, word_most _ _ _ _ c.check_word-first.ensures.result c.in-Good.is, c.lesser.ensures.result) in
+    let few = count_few in
     record {
       in_range = (c.requires.in_range.0, omega (arith, few), c.requires.in_range.2);
       sums_fit = (c.requires.sums_fit.0, omega (arith, few, c.requires.sums_fit.1));
@@ -34,7 +34,7 @@ returns-in_default-cords c =
     let goal : Checked = let given = c.args in told length (load given.scale given.node_count given.before given.start given.w.now given.i) in
     let count-passed : Reached (length {A = Cord}) goal = record {
       left = _;
-      decides = λ h. pass-word _ _ _ (rw c.lesser.ensures.result at c.check_word-first.ensures.result) c.in-Good.is h;
+      decides = λ h. pass_word _ _ _ (rw c.lesser.ensures.result at c.check_word-first.ensures.result) c.in-Good.is h;
     } in
     let both = stopped _ _ (count-passed.decides (stop _ _ _ _ c.check_cords-cords.ensures.result c.in_default-cords.is)) c.in_default-cords.is in
     record { result = both.0; credited = both.1 }
@@ -45,7 +45,7 @@ returns-then-shares-scale c =
     let goal : Checked = let given = c.args in told length (load given.scale given.node_count given.before given.start given.w.now given.i) in
     let count-passed : Reached (length {A = Cord}) goal = record {
       left = _;
-      decides = λ h. pass-word _ _ _ (rw c.lesser.ensures.result at c.check_word-first.ensures.result) c.in-Good.is h;
+      decides = λ h. pass_word _ _ _ (rw c.lesser.ensures.result at c.check_word-first.ensures.result) c.in-Good.is h;
     } in
     let both = stopped _ _
     (count-passed.decides
@@ -60,13 +60,13 @@ returns c =
     let goal : Checked = let given = c.args in told length (load given.scale given.node_count given.before given.start given.w.now given.i) in
     let count-passed : Reached (length {A = Cord}) goal = record {
       left = _;
-      decides = λ h. pass-word _ _ _ (rw c.lesser.ensures.result at c.check_word-first.ensures.result) c.in-Good.is h;
+      decides = λ h. pass_word _ _ _ (rw c.lesser.ensures.result at c.check_word-first.ensures.result) c.in-Good.is h;
     } in
-    let count-few : c.in-Good.count ≤ most_server_cords = omega (arith, word-most _ _ _ _ c.check_word-first.ensures.result c.in-Good.is, c.lesser.ensures.result) in
+    let count_few : c.in-Good.count ≤ most_server_cords = omega (arith, word_most _ _ _ _ c.check_word-first.ensures.result c.in-Good.is, c.lesser.ensures.result) in
     let word = word-told _ _ _ _ c.check_word-first.ensures.result c.in-Good.is in
     record {
       result = count-passed.decides
           (pass _ _ _ _ c.check_cords-cords.ensures.result c.in-Good-cords.is (λ l is sum.
           ensured _ _ _ _ _ _ (eq-eqb _ _ (sum ∙ c.if-shares-scale.false)) (gives _ _ _ (sym (many-length _ _ _ _ _ _ _ _ is)))));
-      credited = load-credits _ _ _ _ _ _ _ word.0 word.1 count-few c.check_cords-cords.ensures.credited;
+      credited = load_credits _ _ _ _ _ _ _ word.0 word.1 count_few c.check_cords-cords.ensures.credited;
     }

@@ -1,22 +1,22 @@
 -- `check_percent` tells a percent: a word from 80 to 100 that is one of the two.
 use mathlib.Core.Path.{refl}
 use Rattle.rooms.specs.Table.{percent}
-use Rattle.rooms.proofs.NodeWords.{is-eighty, is-hundred, is-neither}
-use Rattle.rooms.proofs.Steps.{stop, pass-word, pass-value, ensured, denied, gives}
+use Rattle.rooms.proofs.NodeWords.{is_eighty, is_hundred, is_neither}
+use Rattle.rooms.proofs.Steps.{stop, pass_word, pass_value, ensured, denied, gives}
 use Rattle.rooms.proofs.table.check_percent.Goals as goal
 
 pub returns-in_default : goal.returns-in_default
 unfolding percent
-returns-in_default c = record { result = pass-value _ _ _ _ (stop _ _ _ _ c.check_word-percent.ensures.result c.in_default.is) }
+returns-in_default c = record { result = pass_value _ _ _ _ (stop _ _ _ _ c.check_word-percent.ensures.result c.in_default.is) }
 
 pub returns-then-v-eq80 : goal.returns-then-v-eq80
 unfolding percent
 returns-then-v-eq80 c =
     record {
       result =
-          pass-value _ _ _ _
-          (pass-word _ _ _ c.check_word-percent.ensures.result c.in-Good.is
-          (ensured _ _ _ _ _ _ (is-eighty _ c.if-v-eq80.true) (gives _ _ _ refl)));
+          pass_value _ _ _ _
+          (pass_word _ _ _ c.check_word-percent.ensures.result c.in-Good.is
+          (ensured _ _ _ _ _ _ (is_eighty _ c.if-v-eq80.true) (gives _ _ _ refl)));
     }
 
 pub returns-then-v-eq100 : goal.returns-then-v-eq100
@@ -24,9 +24,9 @@ unfolding percent
 returns-then-v-eq100 c =
     record {
       result =
-          pass-value _ _ _ _
-          (pass-word _ _ _ c.check_word-percent.ensures.result c.in-Good.is
-          (ensured _ _ _ _ _ _ (is-hundred _ c.if-v-eq80.false c.if-v-eq100.true) (gives _ _ _ refl)));
+          pass_value _ _ _ _
+          (pass_word _ _ _ c.check_word-percent.ensures.result c.in-Good.is
+          (ensured _ _ _ _ _ _ (is_hundred _ c.if-v-eq80.false c.if-v-eq100.true) (gives _ _ _ refl)));
     }
 
 pub returns : goal.returns
@@ -34,7 +34,7 @@ unfolding percent
 returns c =
     record {
       result =
-          pass-value _ _ _ _
-          (pass-word _ _ _ c.check_word-percent.ensures.result c.in-Good.is
-          (denied _ _ _ _ _ _ (is-neither _ c.if-v-eq80.false c.if-v-eq100.false)));
+          pass_value _ _ _ _
+          (pass_word _ _ _ c.check_word-percent.ensures.result c.in-Good.is
+          (denied _ _ _ _ _ _ (is_neither _ c.if-v-eq80.false c.if-v-eq100.false)));
     }

@@ -2,7 +2,7 @@
 use Rattle.rooms.specs.Table.{least_of, range}
 use Rattle.rooms.specs.Told.{told}
 use Rattle.rooms.specs.declared.Checked.{Checked}
-use Rattle.rooms.proofs.Steps.{Reached, stop, pass-word, pass-value, ensured, denied, gives}
+use Rattle.rooms.proofs.Steps.{Reached, stop, pass_word, pass_value, ensured, denied, gives}
 use borrow.Author.Tests.{le-leb, lt-leb}
 use mathlib.Core.Path.{refl}
 use Rattle.rooms.proofs.table.check_range.Goals as goal
@@ -18,7 +18,7 @@ returns-in_default-second c =
     told least_of (range given.w.now given.i) in
     let least-passed : Reached least_of goal = record {
       left = _;
-      decides = λ h. pass-word _ _ _ c.check_word-first.ensures.result c.in-Good.is (pass-value _ _ _ _ h);
+      decides = λ h. pass_word _ _ _ c.check_word-first.ensures.result c.in-Good.is (pass_value _ _ _ _ h);
     } in
     record { result = least-passed.decides (stop _ _ _ _ c.check_word-second.ensures.result c.in_default-second.is) }
 
@@ -29,13 +29,13 @@ returns-then-greatest-least c =
     told least_of (range given.w.now given.i) in
     let least-passed : Reached least_of goal = record {
       left = _;
-      decides = λ h. pass-word _ _ _ c.check_word-first.ensures.result c.in-Good.is (pass-value _ _ _ _ h);
+      decides = λ h. pass_word _ _ _ c.check_word-first.ensures.result c.in-Good.is (pass_value _ _ _ _ h);
     } in
-    let greatest-passed : Reached least_of goal = record {
+    let greatest_passed : Reached least_of goal = record {
       left = _;
-      decides = λ h. least-passed.decides (pass-word _ _ _ c.check_word-second.ensures.result c.in-Good-second.is h);
+      decides = λ h. least-passed.decides (pass_word _ _ _ c.check_word-second.ensures.result c.in-Good-second.is h);
     } in
-    record { result = greatest-passed.decides (denied _ _ _ _ _ _ (lt-leb _ _ c.if-greatest-least.true)) }
+    record { result = greatest_passed.decides (denied _ _ _ _ _ _ (lt-leb _ _ c.if-greatest-least.true)) }
 
 pub returns : goal.returns
 unfolding range
@@ -44,10 +44,10 @@ returns c =
     told least_of (range given.w.now given.i) in
     let least-passed : Reached least_of goal = record {
       left = _;
-      decides = λ h. pass-word _ _ _ c.check_word-first.ensures.result c.in-Good.is (pass-value _ _ _ _ h);
+      decides = λ h. pass_word _ _ _ c.check_word-first.ensures.result c.in-Good.is (pass_value _ _ _ _ h);
     } in
-    let greatest-passed : Reached least_of goal = record {
+    let greatest_passed : Reached least_of goal = record {
       left = _;
-      decides = λ h. least-passed.decides (pass-word _ _ _ c.check_word-second.ensures.result c.in-Good-second.is h);
+      decides = λ h. least-passed.decides (pass_word _ _ _ c.check_word-second.ensures.result c.in-Good-second.is h);
     } in
-    record { result = greatest-passed.decides (ensured _ _ _ _ _ _ (le-leb _ _ c.if-greatest-least.false) (gives _ _ _ refl)) }
+    record { result = greatest_passed.decides (ensured _ _ _ _ _ _ (le-leb _ _ c.if-greatest-least.false) (gives _ _ _ refl)) }

@@ -2,8 +2,8 @@
 use native.Mathlib.Numerals.{add-one}
 use borrow.Author.Tests.{le-leb, lt-leb, le-ltb, lt-ltb}
 use Rattle.schedules.specs.Schedule.{in_range}
-use Rattle.figures.proofs.Tests.{and-false}
-use Rattle.schedules.proofs.LineLaws.{and-true, below-own}
+use Rattle.figures.proofs.Tests.{and_false}
+use Rattle.schedules.proofs.LineLaws.{and_true, below_own}
 use Rattle.schedules.proofs.lines.in_range.Goals as goal
 
 pub returns-then-volts-lt-LEAST_VOLTS : goal.returns-then-volts-lt-LEAST_VOLTS
@@ -16,8 +16,8 @@ returns-then-volts-gt-MOST_VOLTS c = record { result = rw (le-leb 100 _ c.if-vol
 
 pub returns-then-place-ge-MOST_NODES : goal.returns-then-place-ge-MOST_NODES
 unfolding in_range
-returns-then-place-ge-MOST_NODES c = record { result = rw (le-leb 100 _ c.if-volts-lt-LEAST_VOLTS.false, le-leb _ 480 c.if-volts-gt-MOST_VOLTS.false, le-ltb _ 512 c.if-place-ge-MOST_NODES.true, and-false) }
+returns-then-place-ge-MOST_NODES c = record { result = rw (le-leb 100 _ c.if-volts-lt-LEAST_VOLTS.false, le-leb _ 480 c.if-volts-gt-MOST_VOLTS.false, le-ltb _ 512 c.if-place-ge-MOST_NODES.true, and_false) }
 
 pub returns : goal.returns
 unfolding in_range
-returns c = record { result = rw (le-leb 100 _ c.if-volts-lt-LEAST_VOLTS.false, le-leb _ 480 c.if-volts-gt-MOST_VOLTS.false, lt-ltb _ 512 c.if-place-ge-MOST_NODES.false, and-true, add-one, below-own) }
+returns c = record { result = rw (le-leb 100 _ c.if-volts-lt-LEAST_VOLTS.false, le-leb _ 480 c.if-volts-gt-MOST_VOLTS.false, lt-ltb _ 512 c.if-place-ge-MOST_NODES.false, and_true, add-one, below_own) }

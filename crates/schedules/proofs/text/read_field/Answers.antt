@@ -1,17 +1,17 @@
 -- `read_field` meets its contract: the number, and then the byte.
 use mathlib.Core.Path.{sym, ◌∙◌}
 use native.Mathlib.Omega.{arith}
-use Rattle.schedules.proofs.LineLaws.{number-good, number-bad, field-none, field-other, field_found}
+use Rattle.schedules.proofs.LineLaws.{number_good, number_bad, field_none, field_other, field_found}
 use Rattle.schedules.proofs.text.read_field.Goals as goal
 
 pub returns-in_default : goal.returns-in_default
-returns-in_default c = record { result = c.in_default.is ∙ field-none _ _ _ (number-bad _ c.read_number-read.ensures.result c.in_default.is) }
+returns-in_default c = record { result = c.in_default.is ∙ field_none _ _ _ (number_bad _ c.read_number-read.ensures.result c.in_default.is) }
 
 pub returns-then-byte_at-end : goal.returns-then-byte_at-end
 returns-then-byte_at-end c =
     record {
       result =
-          field-other _ _ _ (number-good _ c.read_number-read.ensures.result c.in-Value.is)
+          field_other _ _ _ (number_good _ c.read_number-read.ensures.result c.in-Value.is)
           (λ e. c.if-byte_at-end.true (c.byte_at.ensures.result ∙ e));
     }
 
@@ -22,6 +22,6 @@ pub returns : goal.returns
 returns c =
     record {
       result =
-          field_found _ _ _ (number-good _ c.read_number-read.ensures.result c.in-Value.is)
+          field_found _ _ _ (number_good _ c.read_number-read.ensures.result c.in-Value.is)
           (sym c.byte_at.ensures.result ∙ c.if-byte_at-end.false);
     }

@@ -35,7 +35,7 @@ use Rattle.hutplan.specs.Printed.{table_text, sheet_text, printed}
 abbrev sheet_h : ℕ → ℕ → List ℕ
 sheet_h low high =
     0x01 ∷ 0x02 ∷ 0x00 ∷ 0x96 ∷ 0x01 ∷ 0x00 ∷ low ∷ high ∷ 0x02 ∷ 0x01 ∷ 0x64 ∷ 0x90 ∷ 0x03 ∷ 0x02
-    ∷ 0x01 ∷ 0xf4 ∷ 0x03 ∷ 0x02 ∷ 0xf4 ∷ 0x03 ∷ 0x01 ∷ 0x64 ∷ 0x90 ∷ 0x03 ∷ 0x01 ∷ 0x02 ∷ 0xe8 ∷ 0x07 ∷ []
+    ∷ 0x01 ∷ 0xF4 ∷ 0x03 ∷ 0x02 ∷ 0xF4 ∷ 0x03 ∷ 0x01 ∷ 0x64 ∷ 0x90 ∷ 0x03 ∷ 0x01 ∷ 0x02 ∷ 0xE8 ∷ 0x07 ∷ []
 
 -- Its words, with node 2's rating given.
 abbrev table_h : ℕ → List ℕ
@@ -123,14 +123,14 @@ grants_of (outcomes.refused refusal) = []
 
 -- The starred items, in their order.
 pub record Starred : Type 0 where
-  pub words_h : reading (sheet_h 0xf4 0x03) 21 ≡ outcomes.accepted (table_h 500)
+  pub words_h : reading (sheet_h 0xF4 0x03) 21 ≡ outcomes.accepted (table_h 500)
   pub count_h : length (table_h 500) ≡ 21
   pub first_grants_h : of_room (checked (table_h 500) 0) (λ r. first_grants r (400 ∷ 400 ∷ [])) ≡ 120 ∷ 133 ∷ 267 ∷ []
   pub first_usable_h : of_room (checked (table_h 500) 0) (λ r. first_usable r (400 ∷ 400 ∷ [])) ≡ 240 ∷ 267 ∷ []
-  pub print_h : printed (sheet_h 0xf4 0x03) twice400 ≡ print400
-  pub rated188 : reading (sheet_h 0xbc 0x01) 21 ≡ outcomes.accepted (table_h 188)
-  pub rated187 : numbered (reading (sheet_h 0xbb 0x01) 21) ≡ (9, 2)
-  pub print187 : printed (sheet_h 0xbb 0x01) twice400 ≡ nine_at_two
+  pub print_h : printed (sheet_h 0xF4 0x03) twice400 ≡ print400
+  pub rated188 : reading (sheet_h 0xBC 0x01) 21 ≡ outcomes.accepted (table_h 188)
+  pub rated187 : numbered (reading (sheet_h 0xBB 0x01) 21) ≡ (9, 2)
+  pub print187 : printed (sheet_h 0xBB 0x01) twice400 ≡ nine_at_two
   pub root1550 : grants_of (plan (table_s 1550) demands_s most_lent) ≡ 430 ∷ 270 ∷ 270 ∷ 270 ∷ []
   pub root1625 : grants_of (plan (table_s 1625) demands_s most_lent) ≡ 430 ∷ 281 ∷ 294 ∷ 295 ∷ []
   pub byte80 : numbered (reading (0x80 ∷ []) 1) ≡ (3, 0)
@@ -188,7 +188,7 @@ starred =
 
 -- Room H with demands 100 and 100, by hand: node 1 has 120 − 50 = 70 W to lend, and node 2 400 − 150 = 250, which it splits by
 -- 200 − 50 and 400 − 100.
-pub headroom_printed : printed (sheet_h 0xf4 0x03) twice100 ≡ print100
+pub headroom_printed : printed (sheet_h 0xF4 0x03) twice100 ≡ print100
 unfolding printed sheet_text table_text reading number later sheet_from
     follow word ensure end many total form_of percent node cord range load server table beneath server_lows lows first_node overloaded
     demands_of lines before demand_of are_digits number_after plan

@@ -6,7 +6,7 @@ use Rattle.numbers.specs.Sheet.{whole, refused, sheet_from, sheet_of}
 use Rattle.numbers.specs.declared.Fault.TheVariants.{TooLong, NotShortest, CutShort}
 
 -- Zero, 127, 128 and 16,777,215.
-pub forms : map form (0 ∷ 127 ∷ 128 ∷ 16777215 ∷ []) ≡ (0x00 ∷ []) ∷ (0x7f ∷ []) ∷ (0x80 ∷ 0x01 ∷ []) ∷ (0xff ∷ 0xff ∷ 0xff ∷ 0x07 ∷ []) ∷ []
+pub forms : map form (0 ∷ 127 ∷ 128 ∷ 16777215 ∷ []) ≡ (0x00 ∷ []) ∷ (0x7F ∷ []) ∷ (0x80 ∷ 0x01 ∷ []) ∷ (0xFF ∷ 0xFF ∷ 0xFF ∷ 0x07 ∷ []) ∷ []
 unfolding groups
 forms = refl
 

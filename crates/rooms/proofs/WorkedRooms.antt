@@ -17,8 +17,8 @@ use Rattle.rooms.specs.Outcome.{SheetOutcome, answer_of, sheet_number, sheet_fig
 -- Room H's 28 bytes.
 abbrev sheet_h : List ℕ
 sheet_h =
-    0x01 ∷ 0x02 ∷ 0x00 ∷ 0x96 ∷ 0x01 ∷ 0x00 ∷ 0xf4 ∷ 0x03 ∷ 0x02 ∷ 0x01 ∷ 0x64 ∷ 0x90 ∷ 0x03 ∷ 0x02
-    ∷ 0x01 ∷ 0xf4 ∷ 0x03 ∷ 0x02 ∷ 0xf4 ∷ 0x03 ∷ 0x01 ∷ 0x64 ∷ 0x90 ∷ 0x03 ∷ 0x01 ∷ 0x02 ∷ 0xe8 ∷ 0x07 ∷ []
+    0x01 ∷ 0x02 ∷ 0x00 ∷ 0x96 ∷ 0x01 ∷ 0x00 ∷ 0xF4 ∷ 0x03 ∷ 0x02 ∷ 0x01 ∷ 0x64 ∷ 0x90 ∷ 0x03 ∷ 0x02
+    ∷ 0x01 ∷ 0xF4 ∷ 0x03 ∷ 0x02 ∷ 0xF4 ∷ 0x03 ∷ 0x01 ∷ 0x64 ∷ 0x90 ∷ 0x03 ∷ 0x01 ∷ 0x02 ∷ 0xE8 ∷ 0x07 ∷ []
 
 -- The number and the place of the answer to an outcome.
 abbrev numbered : SheetOutcome → ℕ × ℕ
@@ -32,7 +32,7 @@ turned_back = (refl, refl)
 
 -- A version 2 room of one node, rated 100 W at a percent, with a server of 81 W at least: 81 exceeds a limit of 80, not one of 100.
 abbrev sheet_of : ℕ → List ℕ
-sheet_of percent = 2 ∷ 1 ∷ 0 ∷ 100 ∷ percent ∷ 1 ∷ 1 ∷ 81 ∷ 90 ∷ 1 ∷ 1 ∷ 0xe8 ∷ 0x07 ∷ []
+sheet_of percent = 2 ∷ 1 ∷ 0 ∷ 100 ∷ percent ∷ 1 ∷ 1 ∷ 81 ∷ 90 ∷ 1 ∷ 1 ∷ 0xE8 ∷ 0x07 ∷ []
 
 -- In version 1 the word after the rating is the count of servers, so that 100 stands for the rank of one of 80, and is out of range.
 pub percents_read : (numbered (reading (sheet_of 100) 12) ≡ (0, 12)) × (numbered (reading (sheet_of 80) 12) ≡ (9, 1)) × (numbered (reading (sheet_of 90) 12) ≡ (5, 4))
@@ -47,8 +47,8 @@ percents_read = (refl, refl, refl, refl, refl, refl)
 abbrev fine_of : ℕ → ℕ → List ℕ → List ℕ
 fine_of first second rest = 3 ∷ 1 ∷ 0 ∷ 100 ∷ 80 ∷ 1 ∷ 1 ∷ 80 ∷ 90 ∷ 2 ∷ 1 ∷ first ∷ 1 ∷ second ∷ rest
 
-pub fine_shares : (numbered (reading (fine_of 0 0x90 (0x4e ∷ [])) 14) ≡ (0, 14)) × (numbered (reading (fine_of 1 0x8f (0x4e ∷ [])) 14) ≡ (9, 1))
-    × (numbered (reading (fine_of 0 0xe8 (0x07 ∷ [])) 14) ≡ (7, 6)) × (numbered (reading (fine_of 0 0x91 (0x4e ∷ [])) 14) ≡ (5, 13))
+pub fine_shares : (numbered (reading (fine_of 0 0x90 (0x4E ∷ [])) 14) ≡ (0, 14)) × (numbered (reading (fine_of 1 0x8F (0x4E ∷ [])) 14) ≡ (9, 1))
+    × (numbered (reading (fine_of 0 0xE8 (0x07 ∷ [])) 14) ≡ (7, 6)) × (numbered (reading (fine_of 0 0x91 (0x4E ∷ [])) 14) ≡ (5, 13))
 unfolding reading number later sheet_from
     checked table form_of percent node cord range load server follow word ensure end many unless total
     overloaded first_node beneath server_lows lows

@@ -25,7 +25,8 @@ reading_of mark budget measured = cond (eqb mark 0) Failed (Working (ac budget) 
 
 -- The controller whose figures stand in a list from a place on: cap, k, low, high.
 abbrev pub controller_at : List Float → ℕ → Controller
-controller_at figures at = controller_of (get_or figures at nan) (get_or figures (at + 1) nan) (get_or figures (at + 2) nan) (get_or figures (at + 3) nan)
+controller_at figures at =
+    controller_of (get_or figures at nan) (get_or figures (at + 1) nan) (get_or figures (at + 2) nan) (get_or figures (at + 3) nan)
 
 -- The reading of the cord at a place of three lists.
 abbrev pub reading_at : List ℕ → List Float → List Float → ℕ → Reading
